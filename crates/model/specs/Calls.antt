@@ -1,0 +1,239 @@
+-- The thirteen calls: what each asks, what it tests, what it does, what it answers. Document 01, "Calls" and "Refused calls".
+--
+-- In the document's order: the calls by code; the effect of each row as a list of steps; the conditions of "Refused calls" and
+-- which of them each call tests; the refusal; the tables after; the answer. A new call is a row in `rows`, `steps`, `tests`,
+-- `shown`. Assumes nothing.
+use mathlib.Core.Bool.{Bool, true, false, not, _||_, _&&_}
+use mathlib.Core.Option.{Option, none, some}
+use mathlib.Core.List.{List, [], _∷_, _++_}
+use Prim.Native.Nat.{ℕ}
+use lib.ListN.{getD}
+use lib.Dec.{T, eqb, ltb}
+use Rattle.model.specs.Label.{Label, leq, label, highest}
+use Rattle.model.specs.Lists.{In}
+use Rattle.model.specs.Flow.{Thing, subject, object}
+use Rattle.model.specs.Tables.{running, file, pipe, Dir, reading, writing, Entry, entry, Handle, handle, Tables, places, in-range, is-some, used, live, label-of, is-pipe, cell, handles, open-on, needs, safe}
+use Rattle.model.specs.Steps.{outside, blank, copied, reads, writes, runs, Step, enter, leave, hold, holds, mix, applies, reap}
+pub mod Refusals
+pub mod Kept
+
+-- ── the calls ──
+pub data Call : Type 0 where
+  admit register create : ℕ → ℕ → Call
+  make-pipe : ℕ → ℕ → ℕ → ℕ → Call
+  opens : Dir → ℕ → ℕ → ℕ → Call
+  access : Dir → ℕ → ℕ → Call
+  fork exec close : ℕ → ℕ → Call
+  exit retire : ℕ → Call
+  unknown : Call
+
+-- 01, Calls: "A direct call takes a code and four 32-bit numbers and ignores those its code does not use."
+pub record Raw : Type 0 where
+  pub code : ℕ
+  pub numbers : List ℕ
+
+-- a number that is not given is 0
+abbrev pub arg : ℕ → Raw → ℕ
+arg i r = getD (r .numbers) i 0
+
+pub record Row : Type 0 where
+  pub code : ℕ
+  pub call : Call
+
+abbrev pub coded : ℕ → Call → Row
+coded n c = record { code = n; call = c }
+
+-- 01, Calls, columns "Code" and "Call"
+abbrev pub rows : Raw → List Row
+rows r = let a : ℕ = arg 0 r in let b : ℕ = arg 1 r in let c : ℕ = arg 2 r in let d : ℕ = arg 3 r in
+    coded 1 (admit a b)
+    ∷ coded 2 (register a b)
+    ∷ coded 3 (create a b)
+    ∷ coded 4 (make-pipe a b c d)
+    ∷ coded 5 (opens reading a b c)
+    ∷ coded 6 (opens writing a b c)
+    ∷ coded 7 (access reading a b)
+    ∷ coded 8 (access writing a b)
+    ∷ coded 9 (fork a b)
+    ∷ coded 10 (exec a b)
+    ∷ coded 11 (close a b)
+    ∷ coded 12 (exit a)
+    ∷ coded 13 (retire a)
+    ∷ []
+
+abbrev pub lookup : ℕ → List Row → Call
+lookup n [] = unknown
+lookup n (k ∷ ks) = elim (eqb (k .code) n) [ true ↦ k .call | false ↦ lookup n ks ]
+
+unfoldable pub decode : Raw → Call
+decode r = lookup (r .code) (rows r)
+
+-- ── effects ──
+-- the object of the handle at a place; only taken places are asked
+abbrev pub target : Option Handle → Thing
+target none = object 0
+target (some k) = object (k .to)
+
+abbrev pub moves : Dir → Thing → Thing → Thing → Step
+moves reading s c o = mix reads s o c o
+moves writing s c o = mix writes o s o c
+
+-- what an exec drops before it runs: nothing
+unfoldable pub sheds : Tables → ℕ → List Step
+sheds t s = []
+
+-- 01, Calls, column "Effect if allowed", row by row
+abbrev pub steps : Tables → Call → List Step
+steps t (admit s n) = enter (subject s) (entry running (label n)) outside ∷ []
+steps t (register o n) = enter (object o) (entry file (label n)) outside ∷ []
+steps t (create s o) = enter (object o) (entry file (label-of (t .at (cell t s)))) blank ∷ []
+steps t (make-pipe s o r w) = enter (object o) (entry pipe (label-of (t .at (cell t s)))) blank ∷ hold s r (some (handle reading o)) ∷ hold s w (some (handle writing o)) ∷ []
+steps t (opens d s o p) = hold s p (some (handle d o)) ∷ []
+steps t (access d s p) = moves d (subject s) (cell t s) (target (t .hand s p)) ∷ []
+steps t (fork s c) = enter (subject c) (entry running (label-of (t .at (cell t s)))) (copied (cell t s)) ∷ holds c (t .hand s) ∷ []
+steps t (exec s o) = sheds t s ++ (mix runs (subject s) (object o) (cell t s) (object o) ∷ [])
+steps t (close s p) = hold s p none ∷ []
+steps t (exit s) = holds s (λ p. none) ∷ leave (subject s) ∷ []
+steps t (retire o) = leave (object o) ∷ []
+steps t unknown = []
+
+unfoldable pub effect : Tables → Call → Tables
+effect t c = reap (handles t) (applies (steps t c) t)
+
+-- ── refusals ──
+pub data Test : Type 0 where
+  known : Test
+  alive present no-pipe leveled : ℕ → Test
+  new : Thing → Test
+  vacant taken apart : ℕ → ℕ → Test
+  facing : Dir → ℕ → ℕ → Test
+  enough : Call → Test
+  suits : ℕ → ℕ → Test
+  idle : ℕ → Test
+
+-- 01, Refused calls, column "Returned"
+abbrev pub number : Test → ℕ
+number known = 1
+number (alive s) = 2
+number (new x) = 3
+number (present o) = 4
+number (no-pipe o) = 5
+number (leveled n) = 6
+number (vacant s p) = 7
+number (taken s p) = 7
+number (apart r w) = 7
+number (facing d s p) = 8
+number (enough c) = 9
+number (suits s o) = 9
+number (idle o) = 10
+
+abbrev pub faces : Dir → Dir → Bool
+faces reading reading = true
+faces reading writing = false
+faces writing reading = false
+faces writing writing = true
+
+-- a handle for the other direction
+abbrev pub turned : Dir → Option Handle → Bool
+turned d none = false
+turned d (some k) = not (faces d (k .dir))
+
+-- 01, Refused calls, column "Condition": the test fails
+abbrev pub broken : Tables → Test → Bool
+broken t known = true
+broken t (alive s) = not (live t (subject s))
+broken t (new x) = not (in-range x) || used t x
+broken t (present o) = not (live t (object o))
+broken t (no-pipe o) = is-pipe (object o) (t .at (object o))
+broken t (leveled n) = ltb highest n
+broken t (vacant s p) = not (ltb p places) || is-some (t .hand s p)
+broken t (taken s p) = not (ltb p places) || not (is-some (t .hand s p))
+broken t (apart r w) = eqb r w
+broken t (facing d s p) = turned d (t .hand s p)
+broken t (enough c) = not (safe (applies (steps t c) t))
+broken t (suits s o) = not (leq (needs (applies (sheds t s) t) (cell t s)) (label-of (t .at (object o))))
+broken t (idle o) = open-on (handles t) o
+
+-- 01, Refused calls: which conditions speak of which call
+abbrev pub tests : Call → List Test
+tests (admit s n) = new (subject s) ∷ leveled n ∷ []
+tests (register o n) = new (object o) ∷ leveled n ∷ []
+tests (create s o) = alive s ∷ new (object o) ∷ []
+tests (make-pipe s o r w) = alive s ∷ new (object o) ∷ vacant s r ∷ vacant s w ∷ apart r w ∷ []
+tests (opens d s o p) = alive s ∷ present o ∷ vacant s p ∷ enough (opens d s o p) ∷ []
+tests (access d s p) = alive s ∷ taken s p ∷ facing d s p ∷ []
+tests (fork s c) = alive s ∷ new (subject c) ∷ []
+tests (exec s o) = alive s ∷ present o ∷ no-pipe o ∷ suits s o ∷ []
+tests (close s p) = alive s ∷ taken s p ∷ []
+tests (exit s) = alive s ∷ []
+tests (retire o) = present o ∷ no-pipe o ∷ idle o ∷ []
+tests unknown = known ∷ []
+
+-- 01, Refused calls: "Where several conditions hold, the smallest number is given"
+abbrev pub order : List ℕ
+order = 1 ∷ 2 ∷ 3 ∷ 4 ∷ 5 ∷ 6 ∷ 7 ∷ 8 ∷ 9 ∷ 10 ∷ []
+
+-- some test of this number fails
+abbrev pub breaks : Tables → ℕ → List Test → Bool
+breaks t n [] = false
+breaks t n (d ∷ ds) = (elim (eqb (number d) n) as (λ _. Bool) [ true ↦ broken t d | false ↦ false ]) || breaks t n ds
+
+abbrev pub first : Tables → List Test → List ℕ → Option ℕ
+first t ds [] = none
+first t ds (n ∷ ns) = elim (breaks t n ds) [ true ↦ some n | false ↦ first t ds ns ]
+
+-- m stands before n in the order
+abbrev pub earlier : ℕ → ℕ → List ℕ → Bool
+earlier m n [] = false
+earlier m n (k ∷ ks) = not (eqb k n) && (eqb k m || earlier m n ks)
+
+-- all tests of the call that come before number n pass
+abbrev pub In-order : Tables → Call → ℕ → Type 0
+In-order t c n = (e : Test) → In e (tests c) → T (earlier (number e) n order) → T (not (broken t e))
+
+unfoldable pub refusal : Tables → Call → Option ℕ
+refusal t c = first t (tests c) order
+
+-- 01, Refused calls: the monitor is unchanged; else the effect
+abbrev pub next : Tables → Call → Tables
+next t c = elim (refusal t c) [ none ↦ effect t c | some n ↦ t ]
+
+-- ── answers ──
+-- 01, Calls, column "Level in the answer": the thing whose level it is
+abbrev pub shown : Tables → Call → Thing
+shown t (admit s n) = subject s
+shown t (register o n) = object o
+shown t (create s o) = object o
+shown t (make-pipe s o r w) = object o
+shown t (opens d s o p) = object o
+shown t (access reading s p) = cell t s
+shown t (access writing s p) = target (t .hand s p)
+shown t (fork s c) = subject c
+shown t (exec s o) = cell t s
+shown t (close s p) = cell t s
+shown t (exit s) = cell t s
+shown t (retire o) = object o
+shown t unknown = object 0
+
+pub data Answer : Type 0 where
+  allowed lowered : Label → Answer
+  refused : ℕ → Answer
+
+-- 01, Calls: "*lowered* if calls 7, 8 or 10 made a level smaller, otherwise *allowed*", from what the shown thing was and is; no
+-- other call makes a level smaller. A thing that is gone shows its last level.
+abbrev pub outcome : Option Entry → Option Entry → Answer
+outcome b none = allowed (label-of b)
+outcome none (some a) = allowed (a .label)
+outcome (some b) (some a) = elim (leq (b .label) (a .label)) [ true ↦ allowed (a .label) | false ↦ lowered (a .label) ]
+
+unfoldable pub answer : Tables → Call → Answer
+answer t c = elim (refusal t c) [ none ↦ (let x = shown t c in outcome (t .at x) (effect t c .at x)) | some n ↦ refused n ]
+
+-- ── lists of calls ──
+abbrev pub after : Tables → List Raw → Tables
+after t [] = t
+after t (r ∷ rs) = after (next t (decode r)) rs
+
+abbrev pub answers : Tables → List Raw → List Answer
+answers t [] = []
+answers t (r ∷ rs) = answer t (decode r) ∷ answers (next t (decode r)) rs

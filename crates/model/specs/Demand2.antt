@@ -1,0 +1,34 @@
+-- Demand 2, the flow rule both ways. Document 01, "Refused calls", row 9: "flow: after 5 or 6 some thing would have a level below its
+-- need; for 10, o's level is below s's need". What the rule says in terms of chains of flows; `Demand2.Laws` proves that the refusals
+-- of the definitions are exactly these. Assumes nothing.
+use mathlib.Core.Path.{_≡_}
+use mathlib.Core.Bool.{not}
+use mathlib.Core.Option.{some}
+use Prim.Native.Nat.{ℕ}
+use lib.Dec.{T}
+use Rattle.model.specs.Lists.{In}
+use Rattle.model.specs.Label.{Label, leq}
+use Rattle.model.specs.Flow.{Thing, Reaches}
+use Rattle.model.specs.Tables.{Dir, Entry, handle, Tables, label-of, is-file, things, edges}
+use Rattle.model.specs.Steps.{hold, apply}
+pub mod Laws
+
+-- x reaches, through open handles, a file that a thing of label a must not reach: one of a higher level
+-- (of labels that are levels, `not (leq b a)` says that a's level is below b's: `Label.Laws`, `not-least-is-below`)
+pub record Leaks (u : Tables) (a : Label) (x : Thing) : Type 0 where
+  pub high : Thing
+  pub high-entry : Entry
+  pub high-live : u .at high ≡ some high-entry
+  pub high-file : T (is-file high (high-entry .kind))
+  pub higher : T (not (leq (high-entry .label) a))
+  pub reaches : Reaches (edges u) x high
+
+-- some live thing reaches a file of a higher level
+pub record Offends (u : Tables) : Type 0 where
+  pub low : Thing
+  pub low-live : In low (things u)
+  pub leaks : Leaks u (label-of (u .at low)) low
+
+-- the tables after an open
+abbrev pub opened : Tables → Dir → ℕ → ℕ → ℕ → Tables
+opened t d s o p = apply (hold s p (some (handle d o))) t

@@ -1,0 +1,90 @@
+-- Refusal 9, both ways: an open that is otherwise in order is refused with 9 if and only if after it some live thing reaches, through
+-- open handles, a file of a higher level; an exec if and only if the file's level is below the subject's need, that is, if and only if
+-- the subject reaches a file of a higher level than the program's. For every tables, also those that no calls made. Assumes nothing.
+use mathlib.Core.Path.{_≡_, refl, sym, _∙_, ap, subst}
+use mathlib.Core.Bool.{Bool, true, false, not, cond}
+use mathlib.Core.Logic.{inl, inr, _↔_}
+use mathlib.Core.Option.{Option, none, some}
+use mathlib.Core.List.{[], _∷_}
+use Prim.Native.Nat.{ℕ}
+use lib.Dec.{T, T-not, not-T, eqb, eqb-refl}
+use Rattle.model.specs.Bools.{cond-yes}
+use Rattle.model.specs.Lists.{In}
+use Rattle.model.specs.Label.{Label, leq, _⊑_, bot}
+use Rattle.model.specs.Label.Laws.{⊑-trans, bot-least}
+use Rattle.model.specs.Flow.{Thing, object, Reaches}
+use Rattle.model.specs.Flow.Laws.{need-upper, need-over}
+use Rattle.model.specs.Tables.{Dir, Entry, Tables, label-of, is-file, cell, edges, mark, needs, safe}
+use Rattle.model.specs.Tables.Laws.{not-safe}
+use Rattle.model.specs.Steps.{applies}
+use Rattle.model.specs.Calls.{opens, exec, sheds, Test, alive, present, no-pipe, vacant, enough, suits, number, broken, In-order, refusal}
+use Rattle.model.specs.Calls.Refusals.{refused-is, refused-by}
+use Rattle.model.specs.Demand2.{Leaks, Offends, opened}
+
+-- ── a need that a label does not reach up to, as a chain of flows ──
+pub over-leaks : (u : Tables) (a : Label) (x : Thing) → T (not (leq (needs u x) a)) → Leaks u a x
+over-leaks u a x h = let r = need-over (edges u) (λ y. mark y (u .at y)) x a h in found (r .0) (r .1) (u .at (r .0)) refl (r .2)
+  where
+    found : (y : Thing) → Reaches (edges u) x y → (o : Option Entry) → u .at y ≡ o → T (not (leq (mark y o) a)) → Leaks u a x
+    found y c none q n = absurd (T-not (leq bot a) n (bot-least .tested))
+    found y c (some e) q n = kind (is-file y (e .kind)) refl n
+      where
+        kind : (b : Bool) → is-file y (e .kind) ≡ b → T (not (leq (cond b (e .label) bot) a)) → Leaks u a x
+        kind true z m = record { high = y; high-entry = e; high-live = q; high-file = subst T (sym z) tt; higher = m; reaches = c }
+        kind false z m = absurd (T-not (leq bot a) m (bot-least .tested))
+
+pub leaks-over : (u : Tables) (a : Label) (x : Thing) → Leaks u a x → T (not (leq (needs u x) a))
+leaks-over u a x l = not-T (leq (needs u x) a) (λ t. T-not (leq (l .high-entry .label) a) (l .higher) (⊑-trans demanded (record { tested = t }) .tested))
+  where
+    mark-is : mark (l .high) (u .at (l .high)) ≡ l .high-entry .label
+    mark-is = ap (mark (l .high)) (l .high-live) ∙ cond-yes (is-file (l .high) (l .high-entry .kind)) (l .high-entry .label) bot (l .high-file)
+
+    demanded : l .high-entry .label ⊑ needs u x
+    demanded = subst (λ (b : Label). b ⊑ needs u x) mark-is (need-upper (edges u) (λ y. mark y (u .at y)) (l .reaches))
+
+pub unsafe-iff : (u : Tables) → T (not (safe u)) ↔ Offends u
+unsafe-iff u = (
+  λ h. (let r = not-safe u .0 h in record { low = r .0; low-live = r .1; leaks = over-leaks u (label-of (u .at (r .0))) (r .0) (r .2) }),
+  λ o. not-safe u .1 (o .low, o .low-live, leaks-over u (label-of (u .at (o .low))) (o .low) (o .leaks)),
+)
+
+-- ── the test of number 9 is the only one of its call ──
+only-fourth : (t : Tables) (a b c d : Test) → T (not (eqb (number a) (number d))) → T (not (eqb (number b) (number d))) → T (not (eqb (number c) (number d)))
+    → (e : Test) × In e (a ∷ b ∷ c ∷ d ∷ []) × (number e ≡ number d) × T (broken t e) → T (broken t d)
+only-fourth t a b c d na nb nc r = go (r .1)
+  where
+    e : Test
+    e = r .0
+
+    other : (x : Test) → T (not (eqb (number x) (number d))) → x ≡ e → T (broken t d)
+    other x n q = absurd (T-not (eqb (number x) (number d)) n (subst (λ (m : ℕ). T (eqb (number x) m)) (ap number q ∙ r .2) (eqb-refl (number x))))
+
+    go : In e (a ∷ b ∷ c ∷ d ∷ []) → T (broken t d)
+    go (inl q) = other a na q
+    go (inr (inl q)) = other b nb q
+    go (inr (inr (inl q))) = other c nc q
+    go (inr (inr (inr (inl q)))) = subst (λ (z : Test). T (broken t z)) (sym q) (r .3)
+    go (inr (inr (inr (inr q)))) = absurd q
+
+-- ── the flow rule ──
+pub open-refused-iff : (t : Tables) (d : Dir) (s o p : ℕ) → (refusal t (opens d s o p) ≡ some 9) ↔ (In-order t (opens d s o p) 9 × Offends (opened t d s o p))
+open-refused-iff t d s o p = (
+  λ q. (let r = refused-by t (opens d s o p) 9 q in (r .1, unsafe-iff (opened t d s o p) .0 (only-fourth t (alive s) (present o) (vacant s p) (enough (opens d s o p)) tt tt tt (r .0)))),
+  λ r. refused-is t (opens d s o p) (enough (opens d s o p)) (inr (inr (inr (inl refl)))) (unsafe-iff (opened t d s o p) .1 (r .1)) (r .0),
+)
+
+-- the need is taken in the tables that are left once the exec dropped what it drops (in this version nothing)
+pub exec-refused-iff : (t : Tables) (s o : ℕ) → (refusal t (exec s o) ≡ some 9) ↔ (In-order t (exec s o) 9 × T (not (leq (needs (applies (sheds t s) t) (cell t s)) (label-of (t .at (object o))))))
+exec-refused-iff t s o = (
+  λ q. (let r = refused-by t (exec s o) 9 q in (r .1, only-fourth t (alive s) (present o) (no-pipe o) (suits s o) tt tt tt (r .0))),
+  λ r. refused-is t (exec s o) (suits s o) (inr (inr (inr (inl refl)))) (r .1) (r .0),
+)
+
+pub exec-leaks-iff : (t : Tables) (s o : ℕ) → (refusal t (exec s o) ≡ some 9) ↔ (In-order t (exec s o) 9 × Leaks (applies (sheds t s) t) (label-of (t .at (object o))) (cell t s))
+exec-leaks-iff t s o = (λ q. (let r = exec-refused-iff t s o .0 q in (r .0, over-leaks u l (cell t s) (r .1))), λ r. exec-refused-iff t s o .1 (r .0, leaks-over u l (cell t s) (r .1)))
+  where
+    u : Tables
+    u = applies (sheds t s) t
+
+    l : Label
+    l = label-of (t .at (object o))

@@ -1,0 +1,35 @@
+-- What every state from empty tables has. Document 01, "Flow and need": "In every state from empty tables each live thing's level
+-- is at least its need"; "Tables": a handle joins a place of a live subject to a live object; "Calls": "A pipe ends .. when its last
+-- handle goes", so a live pipe has one. Proved of every list of calls in `Calls.Kept`. Assumes nothing.
+use mathlib.Core.Path.{_≡_}
+use mathlib.Core.Option.{some}
+use Prim.Native.Nat.{ℕ, _<_}
+use lib.Dec.{T}
+use Rattle.model.specs.Label.{_⊑_}
+use Rattle.model.specs.Flow.{Thing, subject, object}
+use Rattle.model.specs.Tables.{Entry, Handle, Tables, places, in-range, live, is-pipe, handles, open-on, needs}
+pub mod Laws
+
+-- the handle k at place p of s joins a place in range of a live subject to a live object
+pub record Ends (t : Tables) (s p : ℕ) (k : Handle) : Type 0 where
+  pub from : T (live t (subject s))
+  pub to : T (live t (object (k .to)))
+  pub place : p < places
+
+-- no handle dangles, and what is live has a number in range
+pub record Wf (t : Tables) : Type 0 where
+  pub ends : (s p : ℕ) (k : Handle) → t .hand s p ≡ some k → Ends t s p k
+  pub ranged : (x : Thing) (e : Entry) → t .at x ≡ some e → T (in-range x)
+
+-- each live thing's level is at least its need
+pub record Safe (t : Tables) : Type 0 where
+  pub above : (x : Thing) (e : Entry) → t .at x ≡ some e → needs t x ⊑ e .label
+
+-- a live pipe has a handle
+pub record Piped (t : Tables) : Type 0 where
+  pub joined : (o : ℕ) → T (is-pipe (object o) (t .at (object o))) → T (open-on (handles t) o)
+
+pub record Kept (t : Tables) : Type 0 where
+  pub wf : Wf t
+  pub safe : Safe t
+  pub piped : Piped t

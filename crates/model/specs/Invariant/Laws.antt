@@ -1,0 +1,288 @@
+-- How the invariant is kept, step by step. "Each live thing's level is at least its need" is carried by a *potential*: a label for
+-- each thing that is at least what the thing demands, at most a live thing's label, and falls along every flow. The need is the least
+-- one, so tables with a potential are safe. Each step has one law for `Wf` and one for potentials. Assumes nothing.
+use mathlib.Core.Path.{_≡_, refl, sym, _∙_, ap, subst, subst₂}
+use mathlib.Core.Bool.{Bool, true, false, not, _&&_, cond}
+use mathlib.Core.Logic.{_⊎_, inl, inr}
+use mathlib.Core.Option.{Option, none, some, Option·none-ne-some, Option·some-injective}
+use mathlib.Core.List.{List}
+use Prim.Native.Nat.{ℕ, _<_}
+use lib.Dec.{T, not-T, ltb, ltb→lt}
+use Rattle.model.specs.Bools.{both-of, cond-yes, cond-no, cond-cases}
+use Rattle.model.specs.Lists.{In}
+use Rattle.model.specs.Label.{Label, _⊑_, bot}
+use Rattle.model.specs.Label.Laws.{⊑-trans, bot-least}
+use Rattle.model.specs.Flow.{Thing, subject, object, same, Edge}
+use Rattle.model.specs.Flow.Laws.{same→eq, same-refl, need-self, need-flow, need-below}
+use Rattle.model.specs.Tables.{Dir, reading, writing, Entry, Handle, Tables, empty, with-at, with-hand, subjects, places, in-range, is-some, live, cell, handles, arc, flow, speaks, edges, mark, needs, counted, clean}
+use Rattle.model.specs.Tables.Laws.{some-of, some-is, live-of, speaks-at, speaks-hand, speaks-cell, cell-entry, object-entry, open-here, flow-edge, edge-flow}
+use Rattle.model.specs.Steps.{Origin, Access, enter, hold, holds, mix, put, row, place, fall, apply, ended, reap}
+use Rattle.model.specs.Steps.Laws.{put-cases, row-cases, place-cases, live-hand, live-at, ended-open, ended-subject, fall-some, some-fall, fall-mark, fell}
+use Rattle.model.specs.Invariant.{Ends, Wf, Safe}
+
+pub record Pot (t : Tables) (φ : Thing → Label) : Type 0 where
+  pub low : (x : Thing) → mark x (t .at x) ⊑ φ x
+  pub cap : (x : Thing) (e : Entry) → t .at x ≡ some e → φ x ⊑ e .label
+  pub falls : (s p : ℕ) (x : Thing) (k : Handle) → speaks t s ≡ some x → t .hand s p ≡ some k → φ (flow x k .dst) ⊑ φ (flow x k .src)
+
+-- ── the need is the least potential ──
+pub needs-least : (t : Tables) (φ : Thing → Label) → Pot t φ → (x : Thing) → needs t x ⊑ φ x
+needs-least t φ v x = need-below (edges t) (λ y. mark y (t .at y)) φ (v .low) down x
+  where
+    down : (e : Edge) → In e (edges t) → φ (e .dst) ⊑ φ (e .src)
+    down e i = let r = edge-flow t e i in subst (λ (z : Edge). φ (z .dst) ⊑ φ (z .src)) (r .is) (v .falls (r .s) (r .p) (r .x) (r .k) (r .speaker) (r .holds))
+
+pub pot-safe : {t : Tables} {φ : Thing → Label} → Pot t φ → Safe t
+pot-safe {t} {φ} v = record { above = λ x e q. ⊑-trans (needs-least t φ v x) (v .cap x e q) }
+
+pub row-below : {t : Tables} {s p : ℕ} {k : Handle} → Ends t s p k → s < subjects
+row-below {t} {s} f = ltb→lt s subjects (live-of t (subject s) (f .from) .0)
+
+pub needs-pot : {t : Tables} → Wf t → Safe t → Pot t (needs t)
+needs-pot {t} w v = record {
+  low = λ x. need-self (edges t) (λ y. mark y (t .at y)) x;
+  cap = v .above;
+  falls = λ s p x k z q. let f = w .ends s p k q in need-flow (edges t) (λ y. mark y (t .at y)) (flow x k) (flow-edge t s p x k (row-below f) (f .place) z q);
+}
+
+-- what a flow leads from and to has an entry
+speaker-entry : {t : Tables} {s p : ℕ} {x : Thing} {k : Handle} → Ends t s p k → speaks t s ≡ some x → (e : Entry) × (t .at x ≡ some e)
+speaker-entry {t} {s} {x = x} f z = subst (λ (y : Thing). (e : Entry) × (t .at y ≡ some e)) (Option·some-injective (cell t s) x (sym (speaks-cell t s) ∙ z)) (cell-entry t s (f .from))
+
+-- ── empty tables ──
+pub empty-wf : Wf empty
+empty-wf = record { ends = λ s p k q. absurd (Option·none-ne-some k q); ranged = λ x e q. absurd (Option·none-ne-some e q) }
+
+pub empty-pot : Pot empty (λ x. bot)
+empty-pot = record { low = λ x. bot-least; cap = λ x e q. bot-least; falls = λ s p x k z q. absurd (Option·none-ne-some k q) }
+
+-- ── tables that no calls made ──
+-- once cleaned, nothing dangles in them
+pub clean-wf : (t : Tables) → ((x : Thing) (e : Entry) → t .at x ≡ some e → T (in-range x)) → Wf (clean t)
+unfolding clean
+clean-wf t r = record { ends = λ s p k q. joins s p (t .hand s p) k q; ranged = r }
+  where
+    h : ℕ → ℕ → Option Handle
+    h s p = counted (ltb p places && live t (subject s)) (λ o. live t (object o)) (t .hand s p)
+
+    joins : (s p : ℕ) (o : Option Handle) (k : Handle) → counted (ltb p places && live t (subject s)) (λ o. live t (object o)) o ≡ some k → Ends (with-hand t h) s p k
+    joins s p none k q = absurd (Option·none-ne-some k q)
+    joins s p (some j) k q = elim (cond-cases ((ltb p places && live t (subject s)) && live t (object (j .to))) (some j) none (some k) q) [
+      | inl c ↦ (let a = both-of (ltb p places && live t (subject s)) (live t (object (j .to))) (c .0) in let b = both-of (ltb p places) (live t (subject s)) (a .0) in
+          record { from = live-hand t h (subject s) (b .1); to = live-hand t h (object (k .to)) (subst (λ (z : Handle). T (live t (object (z .to)))) (Option·some-injective j k (c .1)) (a .1)); place = ltb→lt p places (b .0) })
+      | inr c ↦ absurd (Option·none-ne-some k (c .1))
+    ]
+
+-- ── enter ──
+pub wf-enter : (t : Tables) (x : Thing) (e : Entry) (g : Origin) → T (in-range x) → Wf t → Wf (apply (enter x e g) t)
+wf-enter t x e g r w = record {
+  ends = λ s p k q. let f = w .ends s p k q in record { from = live-at t a (subject s) (more (subject s)) (f .from); to = live-at t a (object (k .to)) (more (object (k .to))) (f .to); place = f .place };
+  ranged = λ y d q. elim (put-cases (t .at) x (some e) y (some d) q) [ inl c ↦ subst (λ (z : Thing). T (in-range z)) (c .0) r | inr c ↦ w .ranged y d (c .1) ];
+}
+  where
+    a : Thing → Option Entry
+    a = put (t .at) x (some e)
+
+    more : (y : Thing) → T (is-some (t .at y)) → T (is-some (a y))
+    more y h = go (same x y)
+      where
+        go : (b : Bool) → T (is-some (cond b (some e) (t .at y)))
+        go true = tt
+        go false = h
+
+-- a potential with one label set anew
+abbrev pub raise : (Thing → Label) → Thing → Label → Thing → Label
+raise φ x v y = cond (same x y) v (φ y)
+
+pub raise-same : (φ : Thing → Label) (x : Thing) (v : Label) → raise φ x v x ≡ v
+raise-same φ x v = cond-yes (same x x) v (φ x) (same-refl x)
+
+-- what has an entry is not the thing without one
+apart : (t : Tables) (x y : Thing) (e : Entry) → t .at x ≡ none → t .at y ≡ some e → T (not (same x y))
+apart t x y e n q = not-T (same x y) (λ s. Option·none-ne-some e (sym n ∙ ap (t .at) (same→eq x y s) ∙ q))
+
+pub raise-other : (t : Tables) (φ : Thing → Label) (x : Thing) (v : Label) (y : Thing) → t .at x ≡ none → (e : Entry) × (t .at y ≡ some e) → raise φ x v y ≡ φ y
+raise-other t φ x v y n r = cond-no (same x y) v (φ y) (apart t x y (r .0) n (r .1))
+
+arc-falls : (φ ψ : Thing → Label) (d : Dir) (x y : Thing) → φ x ≡ ψ x → φ y ≡ ψ y → φ (arc d x y .dst) ⊑ φ (arc d x y .src) → ψ (arc d x y .dst) ⊑ ψ (arc d x y .src)
+arc-falls φ ψ reading x y p q h = subst₂ (λ a b. a ⊑ b) p q h
+arc-falls φ ψ writing x y p q h = subst₂ (λ a b. a ⊑ b) q p h
+
+pub pot-enter : (t : Tables) (φ : Thing → Label) (x : Thing) (e : Entry) (g : Origin) (v : Label) → Wf t → Pot t φ → t .at x ≡ none
+    → mark x (some e) ⊑ v → v ⊑ e .label → Pot (apply (enter x e g) t) (raise φ x v)
+pot-enter t φ x e g v w i n lo hi = record { low = λ y. low′ y (same x y) (same→eq x y); cap = λ y d q. cap′ (same x y) y d q; falls = falls′ }
+  where
+    low′ : (y : Thing) (b : Bool) → (T b → x ≡ y) → mark y (cond b (some e) (t .at y)) ⊑ cond b v (φ y)
+    low′ y true s = subst (λ (z : Thing). mark z (some e) ⊑ v) (s tt) lo
+    low′ y false s = i .low y
+
+    cap′ : (b : Bool) (y : Thing) (d : Entry) → cond b (some e) (t .at y) ≡ some d → cond b v (φ y) ⊑ d .label
+    cap′ true y d q = subst (λ (z : Entry). v ⊑ z .label) (Option·some-injective e d q) hi
+    cap′ false y d q = i .cap y d q
+
+    kept : (y : Thing) → (d : Entry) × (t .at y ≡ some d) → φ y ≡ raise φ x v y
+    kept y r = sym (raise-other t φ x v y n r)
+
+    falls′ : (s p : ℕ) (y : Thing) (k : Handle) → speaks (apply (enter x e g) t) s ≡ some y → t .hand s p ≡ some k → raise φ x v (flow y k .dst) ⊑ raise φ x v (flow y k .src)
+    falls′ s p y k z q = let z′ = sym (speaks-at t (put (t .at) x (some e)) s) ∙ z in let f = w .ends s p k q in
+        arc-falls φ (raise φ x v) (k .dir) y (object (k .to)) (kept y (speaker-entry f z′)) (kept (object (k .to)) (object-entry t (k .to) (f .to))) (i .falls s p y k z′ q)
+
+-- ── handles change, entries stay: hold, holds ──
+pub wf-hand : (t : Tables) (h : ℕ → ℕ → Option Handle) → Wf t → ((s p : ℕ) (k : Handle) → h s p ≡ some k → (t .hand s p ≡ some k) ⊎ Ends t s p k) → Wf (with-hand t h)
+wf-hand t h w f = record {
+  ends = λ s p k q. (let g = elim (f s p k q) as (λ _. Ends t s p k) [ inl o ↦ w .ends s p k o | inr n ↦ n ] in
+      record { from = live-hand t h (subject s) (g .from); to = live-hand t h (object (k .to)) (g .to); place = g .place });
+  ranged = w .ranged;
+}
+
+pub pot-hand : (t : Tables) (φ : Thing → Label) (h : ℕ → ℕ → Option Handle) → Pot t φ
+    → ((s p : ℕ) (x : Thing) (k : Handle) → speaks t s ≡ some x → h s p ≡ some k → (t .hand s p ≡ some k) ⊎ (φ (flow x k .dst) ⊑ φ (flow x k .src))) → Pot (with-hand t h) φ
+pot-hand t φ h i f = record {
+  low = i .low;
+  cap = i .cap;
+  falls = λ s p x k z q. (let z′ = sym (speaks-hand t h s) ∙ z in
+      elim (f s p x k z′ q) [ inl o ↦ i .falls s p x k z′ o | inr n ↦ n ]);
+}
+
+-- place p of s takes the handle k
+pub wf-hold : (t : Tables) (s p : ℕ) (k : Handle) → Wf t → Ends t s p k → Wf (apply (hold s p (some k)) t)
+wf-hold t s p k w f = wf-hand t (place (t .hand) s p (some k)) w (λ s′ p′ k′ q. elim (place-cases (t .hand) s p (some k) s′ p′ (some k′) q) [
+  | inl c ↦ inr (subst (λ (z : Handle). Ends t s′ p′ z) (Option·some-injective k k′ (c .2)) (subst₂ (λ a b. Ends t a b k) (c .0) (c .1) f))
+  | inr c ↦ inl c
+])
+
+pub pot-hold : (t : Tables) (φ : Thing → Label) (s p : ℕ) (k : Handle) → Pot t φ → ((x : Thing) → speaks t s ≡ some x → φ (flow x k .dst) ⊑ φ (flow x k .src)) → Pot (apply (hold s p (some k)) t) φ
+pot-hold t φ s p k i f = pot-hand t φ (place (t .hand) s p (some k)) i (λ s′ p′ x k′ z q. elim (place-cases (t .hand) s p (some k) s′ p′ (some k′) q) [
+  | inl c ↦ inr (subst (λ (m : Handle). φ (flow x m .dst) ⊑ φ (flow x m .src)) (Option·some-injective k k′ (c .2)) (f x (ap (speaks t) (c .0) ∙ z)))
+  | inr c ↦ inl c
+])
+
+-- ── fewer handles, same entries ──
+pub record Less (t u : Tables) : Type 0 where
+  pub same-at : (x : Thing) → u .at x ≡ t .at x
+  pub hands : (s p : ℕ) (k : Handle) → u .hand s p ≡ some k → t .hand s p ≡ some k
+  pub ends : (s p : ℕ) (k : Handle) → u .hand s p ≡ some k → Ends t s p k → Ends u s p k
+  pub talks : (s p : ℕ) (x : Thing) (k : Handle) → u .hand s p ≡ some k → speaks u s ≡ some x → speaks t s ≡ some x
+
+pub less-hand : (t : Tables) (h : ℕ → ℕ → Option Handle) → ((s p : ℕ) (k : Handle) → h s p ≡ some k → t .hand s p ≡ some k) → Less t (with-hand t h)
+less-hand t h f = record {
+  same-at = λ x. refl;
+  hands = f;
+  talks = λ s p x k q z. sym (speaks-hand t h s) ∙ z;
+  ends = λ s p k q g. record { from = live-hand t h (subject s) (g .from); to = live-hand t h (object (k .to)) (g .to); place = g .place };
+}
+
+pub less-close : (t : Tables) (s p : ℕ) → Less t (apply (hold s p none) t)
+less-close t s p = less-hand t (place (t .hand) s p none) (λ s′ p′ k q. elim (place-cases (t .hand) s p none s′ p′ (some k) q) [ inl c ↦ absurd (Option·none-ne-some k (c .2)) | inr c ↦ c ])
+
+pub less-row : (t : Tables) (s : ℕ) → Less t (apply (holds s (λ p. none)) t)
+less-row t s = less-hand t (row (t .hand) s (λ p. none)) (λ s′ p k q. elim (row-cases (t .hand) s (λ p. none) s′ p (some k) q) [ inl c ↦ absurd (Option·none-ne-some k (c .1)) | inr c ↦ c .1 ])
+
+pub less-wf : {t u : Tables} → Less t u → Wf t → Wf u
+less-wf l w = record { ends = λ s p k q. l .ends s p k q (w .ends s p k (l .hands s p k q)); ranged = λ x e q. w .ranged x e (sym (l .same-at x) ∙ q) }
+
+pub less-pot : {t u : Tables} (φ : Thing → Label) → Less t u → Pot t φ → Pot u φ
+less-pot φ l i = record {
+  low = λ x. subst (λ (o : Option Entry). mark x o ⊑ φ x) (sym (l .same-at x)) (i .low x);
+  cap = λ x e q. i .cap x e (sym (l .same-at x) ∙ q);
+  falls = λ s p x k z q. i .falls s p x k (l .talks s p x k q z) (l .hands s p k q);
+}
+
+-- ── fewer things, same handles: leave, and the end of a pipe ──
+abbrev pub without : (Thing → Bool) → Tables → Tables
+without gone t = with-at t (λ x. cond (gone x) none (t .at x))
+
+-- no handle joins a thing that goes
+pub wf-without : (gone : Thing → Bool) (t : Tables) → Wf t → ((s p : ℕ) (k : Handle) → t .hand s p ≡ some k → T (not (gone (subject s))) × T (not (gone (object (k .to))))) → Wf (without gone t)
+wf-without gone t w n = record {
+  ends = λ s p k q. (let f = w .ends s p k q in record {
+    from = live-at t a (subject s) (stays (gone (subject s)) (t .at (subject s)) (n s p k q .0)) (f .from);
+    to = live-at t a (object (k .to)) (stays (gone (object (k .to))) (t .at (object (k .to))) (n s p k q .1)) (f .to);
+    place = f .place;
+  });
+  ranged = λ x e q. w .ranged x e (old (gone x) (t .at x) e q);
+}
+  where
+    a : Thing → Option Entry
+    a x = cond (gone x) none (t .at x)
+
+    stays : (b : Bool) (o : Option Entry) → T (not b) → T (is-some o) → T (is-some (cond b none o))
+    stays true o u l = absurd u
+    stays false o u l = l
+
+    old : (b : Bool) (o : Option Entry) (e : Entry) → cond b none o ≡ some e → o ≡ some e
+    old true o e q = absurd (Option·none-ne-some e q)
+    old false o e q = q
+
+pub pot-without : (gone : Thing → Bool) (t : Tables) (φ : Thing → Label) → Pot t φ → Pot (without gone t) φ
+pot-without gone t φ i = record { low = λ y. low′ (gone y) y; cap = λ y d q. cap′ (gone y) y d q; falls = λ s p x k z q. i .falls s p x k (sym (speaks-at t (λ x. cond (gone x) none (t .at x)) s) ∙ z) q }
+  where
+    low′ : (b : Bool) (y : Thing) → mark y (cond b none (t .at y)) ⊑ φ y
+    low′ true y = bot-least
+    low′ false y = i .low y
+
+    cap′ : (b : Bool) (y : Thing) (d : Entry) → cond b none (t .at y) ≡ some d → φ y ⊑ d .label
+    cap′ true y d q = absurd (Option·none-ne-some d q)
+    cap′ false y d q = i .cap y d q
+
+pub wf-reap : (before : List Handle) (t : Tables) → Wf t → Wf (reap before t)
+wf-reap before t w = wf-without (λ x. ended before (handles t) x (t .at x)) t w (λ s p k q. (
+  ended-subject before (handles t) s (t .at (subject s)),
+  ended-open before (handles t) (k .to) (t .at (object (k .to))) (let f = w .ends s p k q in open-here t s p k (row-below f) (f .place) q),
+))
+
+pub pot-reap : (before : List Handle) (t : Tables) (φ : Thing → Label) → Pot t φ → Pot (reap before t) φ
+pot-reap before t φ i = pot-without (λ x. ended before (handles t) x (t .at x)) t φ i
+
+-- ── data moves: mix ──
+pub wf-mix : (t : Tables) (m : Access) (a b y x : Thing) → Wf t → Wf (apply (mix m a b y x) t)
+wf-mix t m a b y x w = record {
+  ends = λ s p k q. (let f = w .ends s p k q in record { from = live-at t c (subject s) (more (subject s)) (f .from); to = live-at t c (object (k .to)) (more (object (k .to))) (f .to); place = f .place });
+  ranged = λ z e q. elim (put-cases (t .at) y (fall y (t .at y) (t .at x)) z (some e) q) [
+    | inl d ↦ (let r = some-of (t .at y) (some-fall y (t .at y) (t .at x) (some-is (d .1))) in subst (λ (v : Thing). T (in-range v)) (d .0) (w .ranged y (r .0) (r .1)))
+    | inr d ↦ w .ranged z e (d .1)
+  ];
+}
+  where
+    c : Thing → Option Entry
+    c = put (t .at) y (fall y (t .at y) (t .at x))
+
+    more : (z : Thing) → T (is-some (t .at z)) → T (is-some (c z))
+    more z h = go (same y z) (same→eq y z)
+      where
+        go : (d : Bool) → (T d → y ≡ z) → T (is-some (cond d (fall y (t .at y) (t .at x)) (t .at z)))
+        go true e = fall-some y (t .at y) (t .at x) (subst (λ (v : Thing). T (is-some (t .at v))) (sym (e tt)) h)
+        go false e = h
+
+-- the condition of every move of data: the source has an entry, and the receiver's potential is at most its label
+pub record Feeds (t : Tables) (φ : Thing → Label) (y x : Thing) : Type 0 where
+  pub source : Entry
+  pub source-is : t .at x ≡ some source
+  pub under : φ y ⊑ source .label
+
+pub pot-mix : (t : Tables) (φ : Thing → Label) (m : Access) (a b y x : Thing) → Pot t φ → Feeds t φ y x → Pot (apply (mix m a b y x) t) φ
+pot-mix t φ m a b y x i v = record { low = λ z. low′ z (same y z) (same→eq y z); cap = cap′; falls = λ s p z k u q. i .falls s p z k (sym (speaks-at t (put (t .at) y new) s) ∙ u) q }
+  where
+    new : Option Entry
+    new = fall y (t .at y) (t .at x)
+
+    low′ : (z : Thing) (b : Bool) → (T b → y ≡ z) → mark z (cond b new (t .at z)) ⊑ φ z
+    low′ z true e = subst (λ (w : Thing). mark w new ⊑ φ w) (e tt) (subst (λ (l : Label). l ⊑ φ y) (sym (fall-mark y (t .at y) (t .at x))) (i .low y))
+    low′ z false e = i .low z
+
+    cap′ : (z : Thing) (r : Entry) → put (t .at) y new z ≡ some r → φ z ⊑ r .label
+    cap′ z r f = elim (put-cases (t .at) y new z (some r) f) [
+      | inl c ↦ (let g = fell y (t .at y) (t .at x) (v .source) r (v .source-is) (c .1) in subst (λ (w : Thing). φ w ⊑ r .label) (c .0) (g .over (φ y) (i .cap y (g .was) (g .was-is)) (v .under)))
+      | inr c ↦ i .cap z r (c .1)
+    ]
+
+-- along a flow data may move
+pub flow-feeds : (t : Tables) (φ : Thing → Label) → Wf t → Pot t φ → (s p : ℕ) (x : Thing) (k : Handle) → speaks t s ≡ some x → t .hand s p ≡ some k → Feeds t φ (flow x k .dst) (flow x k .src)
+flow-feeds t φ w i s p x k z q = go (k .dir) (i .falls s p x k z q)
+  where
+    f : Ends t s p k
+    f = w .ends s p k q
+
+    go : (d : Dir) → φ (arc d x (object (k .to)) .dst) ⊑ φ (arc d x (object (k .to)) .src) → Feeds t φ (arc d x (object (k .to)) .dst) (arc d x (object (k .to)) .src)
+    go reading h = let r = object-entry t (k .to) (f .to) in record { source = r .0; source-is = r .1; under = ⊑-trans h (i .cap (object (k .to)) (r .0) (r .1)) }
+    go writing h = let r = speaker-entry f z in record { source = r .0; source-is = r .1; under = ⊑-trans h (i .cap x (r .0) (r .1)) }

@@ -1,0 +1,58 @@
+-- The laws of labels: `_⊑_` is a partial order with greatest lower bounds `meet`, least upper bounds `join` and least element
+-- `bot`. Nothing else about labels is used elsewhere, but by the table of cases, which computes. Assumes nothing.
+use mathlib.Core.Path.{_≡_}
+use mathlib.Core.Bool.{not}
+use Prim.Native.Nat.{_<_, min, max, zero-le}
+use native.Mathlib.Nat.{le-refl, le-trans, le-antisymm, min-le-left, min-le-right, le-max-left, le-max-right, le-min, max-le}
+use native.Mathlib.Omega.{arith}
+use mathlib.Core.Logic.{_↔_}
+use lib.Dec.{T, leb, leb→le, le→leb, nleb→lt, not-T}
+use Rattle.model.specs.Label.{Label, leq, _⊑_, meet, join, bot, level}
+
+-- ── order ──
+pub ⊑-refl : {a : Label} → a ⊑ a
+unfolding Label leq
+⊑-refl {a} = record { tested = le→leb a a (le-refl a) }
+
+pub ⊑-trans : {a b c : Label} → a ⊑ b → b ⊑ c → a ⊑ c
+unfolding Label leq
+⊑-trans {a} {b} {c} p q = record { tested = le→leb a c (le-trans (leb→le a b (p .tested)) (leb→le b c (q .tested))) }
+
+pub ⊑-antisym : {a b : Label} → a ⊑ b → b ⊑ a → a ≡ b
+unfolding Label leq
+⊑-antisym {a} {b} p q = le-antisymm (leb→le a b (p .tested)) (leb→le b a (q .tested))
+
+-- labels are levels: not at least is below
+pub not-least-is-below : (a b : Label) → T (not (leq a b)) ↔ (level b < level a)
+unfolding Label leq level
+not-least-is-below a b = (nleb→lt a b, λ h. not-T (leb a b) (λ t. let le = leb→le a b t in omega arith))
+
+-- ── meet ──
+pub meet-left : (a b : Label) → meet a b ⊑ a
+unfolding Label leq meet
+meet-left a b = record { tested = le→leb (min a b) a (min-le-left a b) }
+
+pub meet-right : (a b : Label) → meet a b ⊑ b
+unfolding Label leq meet
+meet-right a b = record { tested = le→leb (min a b) b (min-le-right a b) }
+
+pub meet-glb : {a b c : Label} → c ⊑ a → c ⊑ b → c ⊑ meet a b
+unfolding Label leq meet
+meet-glb {a} {b} {c} p q = record { tested = le→leb c (min a b) (le-min (leb→le c a (p .tested)) (leb→le c b (q .tested))) }
+
+-- ── join and bot ──
+pub join-left : (a b : Label) → a ⊑ join a b
+unfolding Label leq join
+join-left a b = record { tested = le→leb a (max a b) (le-max-left a b) }
+
+pub join-right : (a b : Label) → b ⊑ join a b
+unfolding Label leq join
+join-right a b = record { tested = le→leb b (max a b) (le-max-right a b) }
+
+pub join-lub : {a b c : Label} → a ⊑ c → b ⊑ c → join a b ⊑ c
+unfolding Label leq join
+join-lub {a} {b} {c} p q = record { tested = le→leb (max a b) c (max-le (leb→le a c (p .tested)) (leb→le b c (q .tested))) }
+
+pub bot-least : {a : Label} → bot ⊑ a
+unfolding Label leq bot
+bot-least {a} = record { tested = le→leb 0 a zero-le }

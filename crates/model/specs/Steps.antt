@@ -1,0 +1,81 @@
+-- The primitive steps that calls are made of, and what each does to the tables. Document 01, "Calls" and "Contents, in the
+-- model only". What a step does to contents is in `Book`. Assumes nothing.
+use mathlib.Core.Bool.{Bool, true, false, not, _&&_, cond}
+use mathlib.Core.Option.{Option, none, some}
+use mathlib.Core.List.{List, [], _∷_}
+use Prim.Native.Nat.{ℕ}
+use lib.Dec.{eqb}
+use Rattle.model.specs.Label.{Label, meet}
+use Rattle.model.specs.Flow.{Thing, subject, object, same}
+use Rattle.model.specs.Tables.{Kind, running, file, pipe, Entry, entry, Handle, Tables, with-at, with-hand, is-pipe, handles, open-on}
+pub mod Laws
+
+-- 01, Contents: where a new thing's content comes from ("Admit and register bring a content in from outside ..; created files and
+-- new pipes start at 0", "Fork copies")
+pub data Origin : Type 0 where
+  outside blank : Origin
+  copied : Thing → Origin
+
+-- 01, Contents: "whether it reads, writes or runs"
+pub data Access : Type 0 where
+  reads writes runs : Access
+
+pub data Step : Type 0 where
+  -- a thing is new
+  enter : Thing → Entry → Origin → Step
+  -- a thing is gone
+  leave : Thing → Step
+  -- place p of s holds this handle, or is empty
+  hold : ℕ → ℕ → Option Handle → Step
+  -- all places of s at once
+  holds : ℕ → (ℕ → Option Handle) → Step
+  -- data moves: how, the receiver's and the source's name, and where the receiver's and the source's label and content stand
+  mix : Access → Thing → Thing → Thing → Thing → Step
+
+-- ── one part of the tables changed ──
+abbrev pub put : (Thing → Option Entry) → Thing → Option Entry → Thing → Option Entry
+put a x v y = cond (same x y) v (a y)
+
+abbrev pub row : (ℕ → ℕ → Option Handle) → ℕ → (ℕ → Option Handle) → ℕ → ℕ → Option Handle
+row h s r s′ p = cond (eqb s s′) (r p) (h s′ p)
+
+abbrev pub place : (ℕ → ℕ → Option Handle) → ℕ → ℕ → Option Handle → ℕ → ℕ → Option Handle
+place h s p v = row h s (λ q. cond (eqb p q) v (h s q))
+
+-- ── falling ──
+-- 01, Tables: "A file has a level that never changes. A pipe has a level that can fall."
+abbrev pub falls : Thing → Kind → Bool
+falls (subject n) k = true
+falls (object n) running = true
+falls (object n) file = false
+falls (object n) pipe = true
+
+-- 01, Calls, rows 7, 8, 10: a subject and a pipe fall to the label of what they take in, if that is lower; "a file keeps its own"
+abbrev pub sunk : Thing → Kind → Label → Label → Label
+sunk x k a b = cond (falls x k) (meet a b) a
+
+abbrev pub fall : Thing → Option Entry → Option Entry → Option Entry
+fall x none d = none
+fall x (some e) none = some e
+fall x (some e) (some d) = some (entry (e .kind) (sunk x (e .kind) (e .label) (d .label)))
+
+-- ── what a step does to the tables ──
+abbrev pub apply : Step → Tables → Tables
+apply (enter x e g) t = with-at t (put (t .at) x (some e))
+apply (leave x) t = with-at t (put (t .at) x none)
+apply (hold s p v) t = with-hand t (place (t .hand) s p v)
+apply (holds s r) t = with-hand t (row (t .hand) s r)
+apply (mix m a b y x) t = with-at t (put (t .at) y (fall y (t .at y) (t .at x)))
+
+abbrev pub applies : List Step → Tables → Tables
+applies [] t = t
+applies (k ∷ ks) t = applies ks (apply k t)
+
+-- ── a pipe ends ──
+-- 01, Calls: "A pipe ends, and its number is free, when its last handle goes." The handles before and after the steps tell.
+unfoldable pub ended : List Handle → List Handle → Thing → Option Entry → Bool
+ended before after (subject n) o = false
+ended before after (object n) o = elim (is-pipe (object n) o) [ true ↦ open-on before n && not (open-on after n) | false ↦ false ]
+
+abbrev pub reap : List Handle → Tables → Tables
+reap before t = let after : List Handle = handles t in with-at t (λ x. cond (ended before after x (t .at x)) none (t .at x))

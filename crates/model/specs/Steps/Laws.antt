@@ -1,0 +1,143 @@
+-- The laws of `Steps`: a part changed, seen from any thing and any place; what stays in use; lists of steps; how a thing falls.
+-- Assumes nothing.
+use mathlib.Core.Path.{_≡_, refl, sym, _∙_, ap, subst}
+use mathlib.Core.Bool.{Bool, true, false, not, _&&_, cond}
+use mathlib.Core.Logic.{_⊎_, inl, inr}
+use mathlib.Core.Option.{Option, none, some, Option·none-ne-some, Option·some-injective}
+use mathlib.Core.List.{List, [], _∷_, _++_}
+use Prim.Native.Nat.{ℕ}
+use lib.Dec.{T, eqb, eqb→eq, eqb-refl}
+use Rattle.model.specs.Bools.{both, cond-yes, cond-no, cond-cases}
+use Rattle.model.specs.Label.{Label, _⊑_, meet, bot}
+use Rattle.model.specs.Label.Laws.{⊑-refl, meet-left, meet-right, meet-glb}
+use Rattle.model.specs.Flow.{Thing, subject, object, same}
+use Rattle.model.specs.Flow.Laws.{same→eq, same-refl}
+use Rattle.model.specs.Tables.{Kind, running, file, pipe, Entry, Handle, Tables, with-at, with-hand, in-range, is-some, used, live, is-file, is-pipe, open-on, mark}
+use Rattle.model.specs.Tables.Laws.{used-is, live-of}
+use Rattle.model.specs.Steps.{Step, put, row, place, falls, sunk, fall, apply, applies, ended}
+
+-- ── put, row, place ──
+pub put-cases : (a : Thing → Option Entry) (x : Thing) (v : Option Entry) (y : Thing) (e : Option Entry) → put a x v y ≡ e
+    → ((x ≡ y) × (v ≡ e)) ⊎ (T (not (same x y)) × (a y ≡ e))
+put-cases a x v y e q = elim (cond-cases (same x y) v (a y) e q) [ inl p ↦ inl (same→eq x y (p .0), p .1) | inr p ↦ inr p ]
+
+pub put-same : (a : Thing → Option Entry) (x : Thing) (v : Option Entry) → put a x v x ≡ v
+put-same a x v = cond-yes (same x x) v (a x) (same-refl x)
+
+pub row-cases : (h : ℕ → ℕ → Option Handle) (s : ℕ) (r : ℕ → Option Handle) (s′ p : ℕ) (k : Option Handle) → row h s r s′ p ≡ k
+    → ((s ≡ s′) × (r p ≡ k)) ⊎ (T (not (eqb s s′)) × (h s′ p ≡ k))
+row-cases h s r s′ p k q = elim (cond-cases (eqb s s′) (r p) (h s′ p) k q) [ inl c ↦ inl (eqb→eq s s′ (c .0), c .1) | inr c ↦ inr c ]
+
+pub place-cases : (h : ℕ → ℕ → Option Handle) (s p : ℕ) (v : Option Handle) (s′ p′ : ℕ) (k : Option Handle) → place h s p v s′ p′ ≡ k
+    → ((s ≡ s′) × (p ≡ p′) × (v ≡ k)) ⊎ (h s′ p′ ≡ k)
+place-cases h s p v s′ p′ k q = elim (row-cases h s (λ q. cond (eqb p q) v (h s q)) s′ p′ k q) [ inl c ↦ inner (c .0) (cond-cases (eqb p p′) v (h s p′) k (c .1)) | inr c ↦ inr (c .1) ]
+  where
+    inner : s ≡ s′ → (T (eqb p p′) × (v ≡ k)) ⊎ (T (not (eqb p p′)) × (h s p′ ≡ k)) → ((s ≡ s′) × (p ≡ p′) × (v ≡ k)) ⊎ (h s′ p′ ≡ k)
+    inner e (inl c) = inl (e, eqb→eq p p′ (c .0), c .1)
+    inner e (inr c) = inr (subst (λ (z : ℕ). h z p′ ≡ k) e (c .1))
+
+pub place-same : (h : ℕ → ℕ → Option Handle) (s p : ℕ) (v : Option Handle) → place h s p v s p ≡ v
+place-same h s p v = cond-yes (eqb s s) (cond (eqb p p) v (h s p)) (h s p) (eqb-refl s) ∙ cond-yes (eqb p p) v (h s p) (eqb-refl p)
+
+-- ── used and live after a change ──
+pub live-hand : (t : Tables) (h : ℕ → ℕ → Option Handle) (x : Thing) → T (live t x) → T (live (with-hand t h) x)
+live-hand t h x l = let r = live-of t x l in both (in-range x) (used (with-hand t h) x) (r .0) (subst T (used-is t x ∙ sym (used-is (with-hand t h) x)) (r .1))
+
+-- entries that stay where they were leave live what was live
+pub live-at : (t : Tables) (a : Thing → Option Entry) (x : Thing) → (T (is-some (t .at x)) → T (is-some (a x))) → T (live t x) → T (live (with-at t a) x)
+live-at t a x f l = let r = live-of t x l in both (in-range x) (used (with-at t a) x) (r .0) (subst T (sym (used-is (with-at t a) x)) (f (subst T (used-is t x) (r .1))))
+
+-- ── lists of steps ──
+pub applies-append : (xs ys : List Step) (t : Tables) → applies (xs ++ ys) t ≡ applies ys (applies xs t)
+applies-append [] ys t = refl
+applies-append (k ∷ xs) ys t = applies-append xs ys (apply k t)
+
+-- ── a pipe ends with its last handle, and no sooner ──
+pub ended-last : (before after : List Handle) (n : ℕ) (o : Option Entry) → T (is-pipe (object n) o) → T (open-on before n) → T (not (open-on after n)) → T (ended before after (object n) o)
+unfolding ended
+ended-last before after n o p b a = go (is-pipe (object n) o) p (both (open-on before n) (not (open-on after n)) b a)
+  where
+    go : (f : Bool) → T f → T (open-on before n && not (open-on after n)) → T (elim f as (λ _. Bool) [ true ↦ open-on before n && not (open-on after n) | false ↦ false ])
+    go true p h = h
+    go false p h = absurd p
+
+pub ended-open : (before after : List Handle) (n : ℕ) (o : Option Entry) → T (open-on after n) → T (not (ended before after (object n) o))
+unfolding ended
+ended-open before after n o h = go (is-pipe (object n) o) (open-on before n) (open-on after n) h
+  where
+    go : (p a b : Bool) → T b → T (not (elim p as (λ _. Bool) [ true ↦ a && not b | false ↦ false ]))
+    go true true true h = tt
+    go true true false h = absurd h
+    go true false b h = tt
+    go false a b h = tt
+
+pub ended-subject : (before after : List Handle) (n : ℕ) (o : Option Entry) → T (not (ended before after (subject n) o))
+unfolding ended
+ended-subject before after n o = tt
+
+-- ── fall ──
+-- what does not fall is a file, and a file does not
+pub falls-or-file : (x : Thing) (k : Kind) → T (not (falls x k)) → T (is-file x k)
+falls-or-file (subject n) k t = absurd t
+falls-or-file (object n) running t = absurd t
+falls-or-file (object n) file t = tt
+falls-or-file (object n) pipe t = absurd t
+
+file-stays : (x : Thing) (k : Kind) → T (is-file x k) → T (not (falls x k))
+file-stays (subject n) k t = absurd t
+file-stays (object n) running t = absurd t
+file-stays (object n) file t = tt
+file-stays (object n) pipe t = absurd t
+
+pub fall-some : (x : Thing) (a b : Option Entry) → T (is-some a) → T (is-some (fall x a b))
+fall-some x none b t = t
+fall-some x (some e) none t = tt
+fall-some x (some e) (some d) t = tt
+
+pub some-fall : (x : Thing) (a b : Option Entry) → T (is-some (fall x a b)) → T (is-some a)
+some-fall x none b t = t
+some-fall x (some e) b t = tt
+
+pub fall-mark : (x : Thing) (a b : Option Entry) → mark x (fall x a b) ≡ mark x a
+fall-mark x none b = refl
+fall-mark x (some e) none = refl
+fall-mark x (some e) (some d) = go (is-file x (e .kind)) (λ f. cond-no (falls x (e .kind)) (meet (e .label) (d .label)) (e .label) (file-stays x (e .kind) f))
+  where
+    go : (f : Bool) → (T f → sunk x (e .kind) (e .label) (d .label) ≡ e .label) → cond f (sunk x (e .kind) (e .label) (d .label)) bot ≡ cond f (e .label) bot
+    go true s = s tt
+    go false s = refl
+
+-- what a receiver is after it took something in from an entry d: not above what it was, and not above d if d was at least its
+-- demand (a file keeps its label: it is its own demand)
+pub record Fell (x : Thing) (a : Option Entry) (d r : Entry) : Type 0 where
+  pub was : Entry
+  pub was-is : a ≡ some was
+  pub under-was : r .label ⊑ was .label
+  pub under-source : mark x a ⊑ d .label → r .label ⊑ d .label
+  pub over : (v : Label) → v ⊑ was .label → v ⊑ d .label → v ⊑ r .label
+
+pub fell : (x : Thing) (a b : Option Entry) (d r : Entry) → b ≡ some d → fall x a b ≡ some r → Fell x a d r
+fell x none b d r q f = absurd (Option·none-ne-some r f)
+fell x (some e) none d r q f = absurd (Option·none-ne-some d q)
+fell x (some e) (some d′) d r q f = record {
+  was = e;
+  was-is = refl;
+  under-was = subst (λ (z : Label). z ⊑ e .label) l (left (falls x (e .kind)));
+  under-source = λ h. subst (λ (z : Label). z ⊑ d .label) l (right (falls x (e .kind)) (λ n. subst (λ (z : Label). z ⊑ d .label) (cond-yes (is-file x (e .kind)) (e .label) bot (falls-or-file x (e .kind) n)) h));
+  over = λ v p q. subst (λ (z : Label). v ⊑ z) l (least v (falls x (e .kind)) p q);
+}
+  where
+    l : cond (falls x (e .kind)) (meet (e .label) (d .label)) (e .label) ≡ r .label
+    l = subst (λ (z : Entry). sunk x (e .kind) (e .label) (z .label) ≡ r .label) (Option·some-injective d′ d q) (ap (λ (z : Entry). z .label) (Option·some-injective _ r f))
+
+    left : (f : Bool) → cond f (meet (e .label) (d .label)) (e .label) ⊑ e .label
+    left true = meet-left (e .label) (d .label)
+    left false = ⊑-refl
+
+    right : (f : Bool) → (T (not f) → e .label ⊑ d .label) → cond f (meet (e .label) (d .label)) (e .label) ⊑ d .label
+    right true h = meet-right (e .label) (d .label)
+    right false h = h tt
+
+    least : (v : Label) (f : Bool) → v ⊑ e .label → v ⊑ d .label → v ⊑ cond f (meet (e .label) (d .label)) (e .label)
+    least v true p q = meet-glb p q
+    least v false p q = p

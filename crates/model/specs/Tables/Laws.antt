@@ -1,0 +1,142 @@
+-- The laws of `Tables`: what is live, where a subject stands, the lists of handles, flows and live things, what a thing demands,
+-- and the test `safe`. Other files know `used`, `cell`, `speaks`, `things`, `handles`, `edges` and `safe` by these laws. Assumes nothing.
+use mathlib.Core.Path.{_≡_, refl, sym, subst}
+use mathlib.Core.Bool.{Bool, true, false, not, cond}
+use mathlib.Core.Logic.{_⊎_, inl, inr, _↔_}
+use mathlib.Core.Option.{Option, none, some}
+use mathlib.Core.List.{[]}
+use Prim.Native.Nat.{ℕ, _<_}
+use lib.Dec.{T, T-not, eqb, eqb-refl, ltb→lt}
+use Rattle.model.specs.Bools.{test, both-of, not-not}
+use Rattle.model.specs.Lists.{In, each, keep, any}
+use Rattle.model.specs.Lists.Laws.{in-left, in-right, in-cases, in-each, each-in, keep-here, keep-cases, any-of, any-at}
+use Rattle.model.specs.Label.{Label, leq, _⊑_, bot}
+use Rattle.model.specs.Label.Laws.{⊑-refl, bot-least}
+use Rattle.model.specs.Flow.{Thing, subject, object, Edge}
+use Rattle.model.specs.Tables.{Entry, Handle, Tables, with-at, with-hand, subjects, objects, places, in-range, is-some, used, live, label-of, is-file, cell, live-objects, live-subjects, things, one, handles-of, handles, open-on, flow, speaks, flows-of, edges, mark, needs, safe}
+
+-- ── is-some, live ──
+pub some-of : {A : Type 0} (o : Option A) → T (is-some o) → (a : A) × (o ≡ some a)
+some-of none t = absurd t
+some-of (some a) t = (a, refl)
+
+pub some-is : {A : Type 0} {o : Option A} {a : A} → o ≡ some a → T (is-some o)
+some-is q = subst (λ o. T (is-some o)) (sym q) tt
+
+pub live-of : (t : Tables) (x : Thing) → T (live t x) → T (in-range x) × T (used t x)
+live-of t x h = both-of (in-range x) (used t x) h
+
+-- ── used ──
+pub used-is : (t : Tables) (x : Thing) → used t x ≡ is-some (t .at x)
+unfolding used
+used-is t x = refl
+
+-- ── cell and speaks: they go by the entries and handles of no thing ──
+pub speaks-at : (t : Tables) (a : Thing → Option Entry) (s : ℕ) → speaks (with-at t a) s ≡ speaks t s
+unfolding cell speaks
+speaks-at t a s = refl
+
+pub speaks-hand : (t : Tables) (h : ℕ → ℕ → Option Handle) (s : ℕ) → speaks (with-hand t h) s ≡ speaks t s
+unfolding cell speaks
+speaks-hand t h s = refl
+
+-- who speaks, speaks as its cell; in this version everybody does, and the cell is the subject itself
+pub speaks-cell : (t : Tables) (s : ℕ) → speaks t s ≡ some (cell t s)
+unfolding speaks
+speaks-cell t s = refl
+
+pub cell-self : (t : Tables) (s : ℕ) → cell t s ≡ subject s
+unfolding cell
+cell-self t s = refl
+
+-- a live subject's cell and a live object have an entry
+pub cell-entry : (t : Tables) (s : ℕ) → T (live t (subject s)) → (e : Entry) × (t .at (cell t s) ≡ some e)
+cell-entry t s h = subst (λ (x : Thing). (e : Entry) × (t .at x ≡ some e)) (sym (cell-self t s)) (some-of (t .at (subject s)) (subst T (used-is t (subject s)) (live-of t (subject s) h .1)))
+
+pub object-entry : (t : Tables) (o : ℕ) → T (live t (object o)) → (e : Entry) × (t .at (object o) ≡ some e)
+object-entry t o h = some-of (t .at (object o)) (subst T (used-is t (object o)) (live-of t (object o) h .1))
+
+-- ── handles ──
+in-one : {A : Type 0} (o : Option A) (a : A) → o ≡ some a → In a (one o)
+in-one o a q = subst (λ z. In a (one z)) (sym q) (inl refl)
+
+pub handle-in : (t : Tables) (s p : ℕ) (k : Handle) → s < subjects → p < places → t .hand s p ≡ some k → In k (handles t)
+unfolding handles
+handle-in t s p k ls lp q = in-each subjects (handles-of t) k s ls (in-each places (λ p. one (t .hand s p)) k p lp (in-one (t .hand s p) k q))
+
+pub open-here : (t : Tables) (s p : ℕ) (k : Handle) → s < subjects → p < places → t .hand s p ≡ some k → T (open-on (handles t) (k .to))
+open-here t s p k ls lp q = any-of (λ z. eqb (z .to) (k .to)) (handles t) k (handle-in t s p k ls lp q) (eqb-refl (k .to))
+
+-- the handles do not go by the entries
+pub handles-at : (t : Tables) (a : Thing → Option Entry) → handles (with-at t a) ≡ handles t
+unfolding handles
+handles-at t a = refl
+
+-- ── edges ──
+pub flow-edge : (t : Tables) (s p : ℕ) (x : Thing) (k : Handle) → s < subjects → p < places → speaks t s ≡ some x → t .hand s p ≡ some k → In (flow x k) (edges t)
+unfolding edges
+flow-edge t s p x k ls lp z q = in-each subjects (λ s. each places (λ p. flows-of (speaks t s) (t .hand s p))) (flow x k) s ls
+    (in-each places (λ p. flows-of (speaks t s) (t .hand s p)) (flow x k) p lp (subst (λ (v : Option Thing). In (flow x k) (flows-of v (t .hand s p))) (sym z) (subst (λ (v : Option Handle). In (flow x k) (flows-of (some x) v)) (sym q) (inl refl))))
+
+-- an edge is the flow of a handle
+pub record Flows (t : Tables) (e : Edge) : Type 0 where
+  pub s : ℕ
+  pub p : ℕ
+  pub x : Thing
+  pub k : Handle
+  pub speaker : speaks t s ≡ some x
+  pub holds : t .hand s p ≡ some k
+  pub is : flow x k ≡ e
+
+pub edge-flow : (t : Tables) (e : Edge) → In e (edges t) → Flows t e
+unfolding edges
+edge-flow t e i = let r = each-in subjects (λ s. each places (λ p. flows-of (speaks t s) (t .hand s p))) e i in
+    let q = each-in places (λ p. flows-of (speaks t (r .0)) (t .hand (r .0) p)) e (r .2) in
+    at-place (r .0) (q .0) (speaks t (r .0)) (t .hand (r .0) (q .0)) refl refl (q .2)
+  where
+    at-place : (s p : ℕ) (v : Option Thing) (o : Option Handle) → speaks t s ≡ v → t .hand s p ≡ o → In e (flows-of v o) → Flows t e
+    at-place s p none o z q j = absurd j
+    at-place s p (some x) none z q j = absurd j
+    at-place s p (some x) (some k) z q (inl f) = record { s = s; p = p; x = x; k = k; speaker = z; holds = q; is = f }
+    at-place s p (some x) (some k) z q (inr f) = absurd f
+
+-- ── things ──
+pub thing-listed : (t : Tables) (x : Thing) (e : Entry) → T (in-range x) → t .at x ≡ some e → In x (things t)
+unfolding things used cell
+thing-listed t (subject n) e r q = in-left (subject n) (live-subjects t) (live-objects t) (in-each subjects (λ s. keep (used t (subject s)) (cell t s) []) (subject n) n (ltb→lt n subjects r) (keep-here (is-some (t .at (subject n))) (subject n) [] (some-is q)))
+thing-listed t (object n) e r q = in-right (object n) (live-subjects t) (live-objects t) (in-each objects (λ o. keep (used t (object o)) (object o) []) (object n) n (ltb→lt n objects r) (keep-here (is-some (t .at (object n))) (object n) [] (some-is q)))
+
+pub listed-thing : (t : Tables) (x : Thing) → In x (things t) → (e : Entry) × (t .at x ≡ some e)
+unfolding things used cell
+listed-thing t x i = elim (in-cases x (live-subjects t) (live-objects t) i) [
+  | inl j ↦ (let r = each-in subjects (λ s. keep (used t (subject s)) (cell t s) []) x j in kept (subject (r .0)) (keep-cases (is-some (t .at (subject (r .0)))) (subject (r .0)) [] x (r .2)))
+  | inr j ↦ (let r = each-in objects (λ o. keep (used t (object o)) (object o) []) x j in kept (object (r .0)) (keep-cases (is-some (t .at (object (r .0)))) (object (r .0)) [] x (r .2)))
+]
+  where
+    kept : (y : Thing) → (T (is-some (t .at y)) × (y ≡ x)) ⊎ In x [] → (e : Entry) × (t .at x ≡ some e)
+    kept y (inl c) = subst (λ (z : Thing). (e : Entry) × (t .at z ≡ some e)) (c .1) (some-of (t .at y) (c .0))
+    kept y (inr b) = absurd b
+
+-- ── mark ──
+pub mark-label : (x : Thing) (e : Entry) → mark x (some e) ⊑ e .label
+mark-label x e = go (is-file x (e .kind))
+  where
+    go : (b : Bool) → cond b (e .label) bot ⊑ e .label
+    go true = ⊑-refl
+    go false = bot-least
+
+-- ── safe ──
+abbrev short : Tables → Thing → Bool
+short t x = not (leq (needs t x) (label-of (t .at x)))
+
+-- some live thing has a label below its need, exactly where the test fails
+pub not-safe : (t : Tables) → T (not (safe t)) ↔ ((x : Thing) × In x (things t) × T (not (leq (needs t x) (label-of (t .at x)))))
+unfolding safe
+not-safe t = (λ h. any-at (short t) (things t) (not-not (any (short t) (things t)) h), λ r. back (any (short t) (things t)) (any-of (short t) (things t) (r .0) (r .1) (r .2)))
+  where
+    back : (b : Bool) → T b → T (not (not b))
+    back true t = tt
+    back false t = t
+
+pub safe-above : (t : Tables) → T (safe t) → (x : Thing) → In x (things t) → needs t x ⊑ label-of (t .at x)
+safe-above t h x i = record { tested = elim (test (leq (needs t x) (label-of (t .at x)))) [ inl y ↦ y | inr n ↦ absurd (T-not (safe t) (not-safe t .1 (x, i, n)) h) ] }

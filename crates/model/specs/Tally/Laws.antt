@@ -1,0 +1,239 @@
+-- Made minus gone is the number of handles in the tables, modulo 2 to the 64th, after every list of calls (document 01, "Journal"). How
+-- many handles a step places or removes; then call by call; then the list. Assumes nothing.
+use mathlib.Core.Path.{_≡_, refl, sym, _∙_, ap, subst}
+use mathlib.Core.Bool.{Bool, not, cond}
+use mathlib.Core.Logic.{_⊎_, inl, inr}
+use mathlib.Core.Option.{Option, none, some}
+use mathlib.Core.List.{List, [], _∷_, _++_}
+use Prim.Native.Nat.{ℕ, zero, suc, _+_, _^_, _<_}
+use native.Mathlib.Nat.{mod-add-mod, mod-lt}
+use native.Mathlib.Omega.{arith}
+use lib.ListN.{length, length-append}
+use lib.Dec.{T, T-not, not-T, eqb, eqb→eq, eqb-refl, ltb, ltb→lt, lit<}
+use Rattle.model.specs.Bools.{test, neither, not-not, cond-yes, cond-no, is-true, is-false}
+use Rattle.model.specs.Lists.{In, each}
+use Rattle.model.specs.Flow.{Thing, subject, object}
+use Rattle.model.specs.Tables.{running, pipe, Dir, reading, writing, Entry, entry, Handle, handle, Tables, empty, with-at, subjects, places, is-some, label-of, cell, one, handles-of, handles}
+use Rattle.model.specs.Tables.Laws.{some-of, live-of, used-is, handles-at}
+use Rattle.model.specs.Steps.{blank, copied, runs, enter, leave, hold, holds, mix, put, apply, applies}
+use Rattle.model.specs.Steps.Laws.{applies-append}
+use Rattle.model.specs.Invariant.{Kept}
+use Rattle.model.specs.Calls.{Call, admit, register, create, make-pipe, opens, access, fork, exec, close, exit, retire, unknown, Raw, decode, target, moves, sheds, steps, effect, Test, alive, new, vacant, taken, apart, broken, tests, refusal, next, after}
+use Rattle.model.specs.Calls.Refusals.{allowed-iff}
+use Rattle.model.specs.Calls.Kept.{is-alive, is-new, is-place, next-kept, empty-kept}
+use Rattle.model.specs.Tally.{held, makes, removes, wrapped, Tally, zeroed, tallied, tally, difference}
+
+-- ── lengths of lists made for the numbers below a bound ──
+module _ {A : Type 0} where
+  each-same : (n : ℕ) (f g : ℕ → List A) → ((j : ℕ) → j < n → length (g j) ≡ length (f j)) → length (each n g) ≡ length (each n f)
+  each-same zero f g h = refl
+  each-same (suc n) f g h = let a : length (each n g) ≡ length (each n f) = each-same n f g (λ j l. h j (omega arith)) in let b : length (g n) ≡ length (f n) = h n (omega arith) in
+      omega (arith, length-append (each n g) (g n), length-append (each n f) (f n))
+
+  -- one of them changed
+  each-swap : (n i : ℕ) (f g : ℕ → List A) → i < n → ((j : ℕ) → T (not (eqb i j)) → length (g j) ≡ length (f j)) → length (each n g) + length (f i) ≡ length (each n f) + length (g i)
+  each-swap zero i f g lt h = absurd (omega arith)
+  each-swap (suc n) i f g lt h = go (test (eqb i n)) (each-swap n i f g)
+    where
+      ga : length (each n g ++ g n) ≡ length (each n g) + length (g n)
+      ga = length-append (each n g) (g n)
+
+      fa : length (each n f ++ f n) ≡ length (each n f) + length (f n)
+      fa = length-append (each n f) (f n)
+
+      go : T (eqb i n) ⊎ T (not (eqb i n)) → (i < n → ((j : ℕ) → T (not (eqb i j)) → length (g j) ≡ length (f j)) → length (each n g) + length (f i) ≡ length (each n f) + length (g i))
+          → length (each n g ++ g n) + length (f i) ≡ length (each n f ++ f n) + length (g i)
+      go (inl q) ih = let e : i ≡ n = eqb→eq i n q in
+          let a : length (each n g) ≡ length (each n f) = each-same n f g (λ j l. h j (not-T (eqb i j) (λ t. let z : i ≡ j = eqb→eq i j t in omega arith))) in
+          let b : length (f i) ≡ length (f n) = ap (λ (z : ℕ). length (f z)) e in let c : length (g i) ≡ length (g n) = ap (λ (z : ℕ). length (g z)) e in
+          omega (arith, ga, fa)
+      go (inr q) ih = let ne : (i ≡ n → ⊥) = (λ e. T-not (eqb i n) q (subst (λ (z : ℕ). T (eqb i z)) e (eqb-refl i))) in
+          let a : length (each n g) + length (f i) ≡ length (each n f) + length (g i) = ih (omega (arith, ne)) h in let b : length (g n) ≡ length (f n) = h n q in
+          omega (arith, ga, fa)
+
+-- ── steps ──
+abbrev count : Tables → ℕ
+count t = length (handles t)
+
+-- all places of s changed
+count-row : (t : Tables) (s : ℕ) (r : ℕ → Option Handle) → s < subjects → count (apply (holds s r) t) + held t s ≡ count t + length (each places (λ p. one (r p)))
+unfolding handles
+count-row t s r l = each-swap subjects s (handles-of t) (handles-of (apply (holds s r) t)) l (λ j n. ap (λ (b : Bool). length (each places (λ p. one (cond b (r p) (t .hand j p))))) (is-false (eqb s j) n))
+    ∙ ap (λ (m : ℕ). count t + m) (ap (λ (b : Bool). length (each places (λ p. one (cond b (r p) (t .hand s p))))) (is-true (eqb s s) (eqb-refl s)))
+
+-- place p of s changed
+count-hold : (t : Tables) (s p : ℕ) (v : Option Handle) → s < subjects → p < places → count (apply (hold s p v) t) + length (one (t .hand s p)) ≡ count t + length (one v)
+count-hold t s p v ls lp = let a : count (apply (hold s p v) t) + held t s ≡ count t + length (each places (λ q. one (r q))) = count-row t s r ls in
+    let b : length (each places (λ q. one (r q))) + length (one (t .hand s p)) ≡ held t s + length (one (r p)) = each-swap places p (λ q. one (t .hand s q)) (λ q. one (r q)) lp (λ q n. ap (λ (o : Option Handle). length (one o)) (cond-no (eqb p q) v (t .hand s q) n)) in
+    let c : length (one (r p)) ≡ length (one v) = ap (λ (o : Option Handle). length (one o)) (cond-yes (eqb p p) v (t .hand s p) (eqb-refl p)) in
+    omega arith
+  where
+    r : ℕ → Option Handle
+    r q = cond (eqb p q) v (t .hand s q)
+
+count-at : (t : Tables) (a : Thing → Option Entry) → count (with-at t a) ≡ count t
+count-at t a = ap length (handles-at t a)
+
+-- an empty place takes a handle; a taken one is emptied
+count-placed : (t : Tables) (s p : ℕ) (k : Handle) → s < subjects → p < places → t .hand s p ≡ none → count (apply (hold s p (some k)) t) ≡ count t + 1
+count-placed t s p k ls lp q = let a : count (apply (hold s p (some k)) t) + length (one (t .hand s p)) ≡ count t + 1 = count-hold t s p (some k) ls lp in
+    let b : length (one (t .hand s p)) ≡ 0 = ap (λ (o : Option Handle). length (one o)) q in omega arith
+
+count-emptied : (t : Tables) (s p : ℕ) (k : Handle) → s < subjects → p < places → t .hand s p ≡ some k → count (apply (hold s p none) t) + 1 ≡ count t
+count-emptied t s p k ls lp q = let a : count (apply (hold s p none) t) + length (one (t .hand s p)) ≡ count t + 0 = count-hold t s p none ls lp in
+    let b : length (one (t .hand s p)) ≡ 1 = ap (λ (o : Option Handle). length (one o)) q in omega arith
+
+-- what an exec drops: nothing
+count-sheds : (t : Tables) (s : ℕ) → count (applies (sheds t s) t) ≡ count t
+unfolding sheds
+count-sheds t s = refl
+
+-- ── calls ──
+none-of : (o : Option Handle) → T (not (is-some o)) → o ≡ none
+none-of none h = refl
+none-of (some k) h = absurd h
+
+empty-place : (t : Tables) (s p : ℕ) → T (not (broken t (vacant s p))) → t .hand s p ≡ none
+empty-place t s p h = none-of (t .hand s p) (neither (not (ltb p places)) (is-some (t .hand s p)) h .1)
+
+row-of : (t : Tables) (s : ℕ) → T (not (broken t (alive s))) → s < subjects
+row-of t s h = ltb→lt s subjects (live-of t (subject s) (is-alive t s h) .0)
+
+each-none : (n : ℕ) (f : ℕ → List Handle) → ((j : ℕ) → length (f j) ≡ 0) → length (each n f) ≡ 0
+each-none zero f h = refl
+each-none (suc n) f h = let a : length (each n f) ≡ 0 = each-none n f h in let b : length (f n) ≡ 0 = h n in omega (arith, length-append (each n f) (f n))
+
+-- a number not in use holds nothing
+holds-none : (t : Tables) → Kept t → (c : ℕ) → t .at (subject c) ≡ none → held t c ≡ 0
+holds-none t v c n = each-none places (λ p. one (t .hand c p)) (λ p. ap (λ (o : Option Handle). length (one o)) (none-of (t .hand c p) (not-T (is-some (t .hand c p)) (λ h. unheld p (some-of (t .hand c p) h)))))
+  where
+    unheld : (p : ℕ) → (k : Handle) × (t .hand c p ≡ some k) → ⊥
+    unheld p r = subst (λ (o : Option Entry). T (is-some o)) n (subst T (used-is t (subject c)) (live-of t (subject c) (v .wf .ends c p (r .0) (r .1) .from) .1))
+
+-- the handles that an allowed call makes and removes are those placed and emptied
+module _ (t : Tables) (v : Kept t) where
+  entered-count : (a : Thing → Option Entry) → count (with-at t a) + 0 ≡ count t + 0
+  entered-count a = ap (λ (k : ℕ). k + 0) (count-at t a)
+
+  pipe-count : (s o r w : ℕ) → ((e : Test) → In e (tests (make-pipe s o r w)) → T (not (broken t e))) → count (applies (steps t (make-pipe s o r w)) t) + 0 ≡ count t + 2
+  pipe-count s o r w m = let a : count u₁ ≡ count u + 1 = count-placed u s r (handle reading o) ls (is-place t s r hr) (empty-place t s r hr) in
+      let b : count (apply (hold s w (some (handle writing o))) u₁) ≡ count u₁ + 1 = count-placed u₁ s w (handle writing o) ls (is-place t s w hw) still in
+      let c : count u ≡ count t = count-at t (put (t .at) (object o) (some e)) in
+      omega arith
+    where
+      ls : s < subjects
+      ls = row-of t s (m (alive s) (inl refl))
+
+      hr : T (not (broken t (vacant s r)))
+      hr = m (vacant s r) (inr (inr (inl refl)))
+
+      hw : T (not (broken t (vacant s w)))
+      hw = m (vacant s w) (inr (inr (inr (inl refl))))
+
+      e : Entry
+      e = entry pipe (label-of (t .at (cell t s)))
+
+      u : Tables
+      u = apply (enter (object o) e blank) t
+
+      u₁ : Tables
+      u₁ = apply (hold s r (some (handle reading o))) u
+
+      still : u₁ .hand s w ≡ none
+      still = cond-yes (eqb s s) (cond (eqb r w) (some (handle reading o)) (t .hand s w)) (t .hand s w) (eqb-refl s)
+          ∙ cond-no (eqb r w) (some (handle reading o)) (t .hand s w) (m (apart r w) (inr (inr (inr (inr (inl refl)))))) ∙ empty-place t s w hw
+
+  fork-count : (s c : ℕ) → ((e : Test) → In e (tests (fork s c)) → T (not (broken t e))) → count (applies (steps t (fork s c)) t) + 0 ≡ count t + held t s
+  fork-count s c m = let n = is-new t (subject c) (m (new (subject c)) (inr (inl refl))) in
+      let a : count (apply (holds c (t .hand s)) u) + held u c ≡ count u + held t s = count-row u c (t .hand s) (ltb→lt c subjects (n .0)) in
+      let b : held u c ≡ 0 = holds-none t v c (n .1) in
+      let d : count u ≡ count t = count-at t (put (t .at) (subject c) (some e)) in
+      omega arith
+    where
+      e : Entry
+      e = entry running (label-of (t .at (cell t s)))
+
+      u : Tables
+      u = apply (enter (subject c) e (copied (cell t s))) t
+
+  exec-count : (s o : ℕ) → count (applies (steps t (exec s o)) t) + 0 ≡ count t + 0
+  exec-count s o = ap (λ (u : Tables). count u + 0) (applies-append (sheds t s) (mix runs (subject s) (object o) (cell t s) (object o) ∷ []) t)
+      ∙ ap (λ (k : ℕ). k + 0) (count-at (applies (sheds t s) t) _ ∙ count-sheds t s)
+
+  close-count : (s p : ℕ) → ((e : Test) → In e (tests (close s p)) → T (not (broken t e))) → count (applies (steps t (close s p)) t) + 1 ≡ count t + 0
+  close-count s p m = let h = neither (not (ltb p places)) (not (is-some (t .hand s p))) (m (taken s p) (inr (inl refl))) in
+      let r = some-of (t .hand s p) (not-not (is-some (t .hand s p)) (h .1)) in
+      let a = count-emptied t s p (r .0) (row-of t s (m (alive s) (inl refl))) (ltb→lt p places (not-not (ltb p places) (h .0))) (r .1) in
+      omega arith
+
+  exit-count : (s : ℕ) → ((e : Test) → In e (tests (exit s)) → T (not (broken t e))) → count (applies (steps t (exit s)) t) + held t s ≡ count t + 0
+  exit-count s m = let a : count u + held t s ≡ count t + length (each places (λ p. one {A = Handle} none)) = count-row t s (λ p. none) (row-of t s (m (alive s) (inl refl))) in
+      let b : count (apply (leave (subject s)) u) ≡ count u = count-at u (put (u .at) (subject s) none) in
+      let c : length (each places (λ p. one {A = Handle} none)) ≡ 0 = each-none places (λ p. one none) (λ j. refl) in
+      omega arith
+    where
+      u : Tables
+      u = apply (holds s (λ p. none)) t
+
+  access-count : (d : Dir) (x c y : Thing) → count (apply (moves d x c y) t) + 0 ≡ count t + 0
+  access-count reading x c y = entered-count _
+  access-count writing x c y = entered-count _
+
+  stepped-count : (c : Call) → ((e : Test) → In e (tests c) → T (not (broken t e))) → count (applies (steps t c) t) + removes t c ≡ count t + makes t c
+  stepped-count (admit s n) m = entered-count _
+  stepped-count (register o n) m = entered-count _
+  stepped-count (create s o) m = entered-count _
+  stepped-count (make-pipe s o r w) m = pipe-count s o r w m
+  stepped-count (opens d s o p) m = let h = m (vacant s p) (inr (inr (inl refl))) in let a = count-placed t s p (handle d o) (row-of t s (m (alive s) (inl refl))) (is-place t s p h) (empty-place t s p h) in omega arith
+  stepped-count (access d s p) m = access-count d (subject s) (cell t s) (target (t .hand s p))
+  stepped-count (fork s c) m = fork-count s c m
+  stepped-count (exec s o) m = exec-count s o
+  stepped-count (close s p) m = close-count s p m
+  stepped-count (exit s) m = exit-count s m
+  stepped-count (retire o) m = entered-count _
+  stepped-count unknown m = refl
+
+pub effect-count : (t : Tables) (c : Call) → Kept t → refusal t c ≡ none → length (handles (effect t c)) + removes t c ≡ length (handles t) + makes t c
+unfolding effect
+effect-count t c v q = ap (λ (k : ℕ). k + removes t c) (count-at (applies (steps t c) t) _) ∙ stepped-count t v c (allowed-iff t c .0 q)
+
+-- ── lists of calls ──
+-- what was made is what is gone and what is in the tables
+pub record Balanced (t : Tables) (y : Tally) : Type 0 where
+  pub made-is : y .made ≡ wrapped (y .gone + length (handles t))
+  pub gone-wrapped : y .gone < 2 ^ 64
+
+balanced-next : (t : Tables) (c : Call) (y : Tally) → Kept t → Balanced t y → Balanced (next t c) (tallied t c y)
+unfolding tallied
+balanced-next t c y v b = go (refusal t c) refl
+  where
+    go : (o : Option ℕ) → refusal t c ≡ o → Balanced (elim o as (λ _. Tables) [ none ↦ effect t c | some n ↦ t ])
+        (elim o as (λ _. Tally) [ none ↦ record { made = wrapped (y .made + makes t c); gone = wrapped (y .gone + removes t c) } | some n ↦ y ])
+    go none q = record {
+      made-is = ap (λ (m : ℕ). wrapped (m + makes t c)) (b .made-is) ∙ mod-add-mod (y .gone + length (handles t)) (2 ^ 64) (makes t c) ∙ ap wrapped sum ∙ sym (mod-add-mod (y .gone + removes t c) (2 ^ 64) (length (handles (effect t c))));
+      gone-wrapped = mod-lt (y .gone + removes t c) (lit< tt);
+    }
+      where
+        sum : y .gone + length (handles t) + makes t c ≡ y .gone + removes t c + length (handles (effect t c))
+        sum = let e : length (handles (effect t c)) + removes t c ≡ length (handles t) + makes t c = effect-count t c v q in omega arith
+    go (some n) q = b
+
+balanced : (t : Tables) (y : Tally) (rs : List Raw) → Kept t → Balanced t y → Balanced (after t rs) (tally t y rs)
+balanced t y [] v b = b
+balanced t y (r ∷ rs) v b = balanced (next t (decode r)) (tallied t (decode r) y) rs (next-kept t (decode r) v) (balanced-next t (decode r) y v b)
+
+-- 01, Journal: "Made minus gone equals the handles in the table."
+pub made-minus-gone : (rs : List Raw) → difference (tally empty zeroed rs) ≡ wrapped (length (handles (after empty rs)))
+made-minus-gone rs = go (tally empty zeroed rs) (length (handles (after empty rs))) (b .made-is) (b .gone-wrapped)
+  where
+    start : Balanced empty zeroed
+    start = record { made-is = sym (ap (λ (n : ℕ). wrapped (0 + n)) none-open); gone-wrapped = lit< tt }
+      where
+        none-open : length (handles empty) ≡ 0
+        none-open = unfold handles in refl
+
+    b : Balanced (after empty rs) (tally empty zeroed rs)
+    b = balanced empty zeroed rs empty-kept start
+
+    go : (y : Tally) (h : ℕ) → y .made ≡ wrapped (y .gone + h) → y .gone < 2 ^ 64 → difference y ≡ wrapped h
+    go y h m g = omega arith
