@@ -2,14 +2,14 @@
 --
 -- In the document's order: the calls by code; the effect of each row as a list of steps; the conditions of "Refused calls" and
 -- which of them each call tests; the refusal; the tables after; the answer. A new call is a row in `rows`, `steps`, `tests`,
--- `shown`. Assumes nothing.
+-- `shown`, and in `makes` and `removes` of `Tally`. Assumes nothing.
 use mathlib.Core.Bool.{Bool, true, false, not, _||_, _&&_}
 use mathlib.Core.Option.{Option, none, some}
 use mathlib.Core.List.{List, [], _∷_, _++_}
 use Prim.Native.Nat.{ℕ}
 use lib.ListN.{getD}
 use lib.Dec.{T, eqb, ltb}
-use Rattle.model.specs.Label.{Label, leq, label, highest}
+use Rattle.model.specs.Label.{leq, label, level, highest}
 use Rattle.model.specs.Lists.{In}
 use Rattle.model.specs.Flow.{Thing, subject, object}
 use Rattle.model.specs.Tables.{running, file, pipe, Dir, reading, writing, Entry, entry, Handle, handle, Tables, places, in-range, is-some, used, live, label-of, is-pipe, cell, handles, open-on, needs, safe}
@@ -140,6 +140,7 @@ turned d (some k) = not (faces d (k .dir))
 
 -- 01, Refused calls, column "Condition": the test fails
 abbrev pub broken : Tables → Test → Bool
+-- (asked of unknown codes alone)
 broken t known = true
 broken t (alive s) = not (live t (subject s))
 broken t (new x) = not (in-range x) || used t x
@@ -215,16 +216,16 @@ shown t (exit s) = cell t s
 shown t (retire o) = object o
 shown t unknown = object 0
 
+-- the outcome with the level in the answer, or the number of the refusal (whose level is 0)
 pub data Answer : Type 0 where
-  allowed lowered : Label → Answer
-  refused : ℕ → Answer
+  allowed lowered refused : ℕ → Answer
 
 -- 01, Calls: "*lowered* if calls 7, 8 or 10 made a level smaller, otherwise *allowed*", from what the shown thing was and is; no
 -- other call makes a level smaller. A thing that is gone shows its last level.
 abbrev pub outcome : Option Entry → Option Entry → Answer
-outcome b none = allowed (label-of b)
-outcome none (some a) = allowed (a .label)
-outcome (some b) (some a) = elim (leq (b .label) (a .label)) [ true ↦ allowed (a .label) | false ↦ lowered (a .label) ]
+outcome b none = allowed (level (label-of b))
+outcome none (some a) = allowed (level (a .label))
+outcome (some b) (some a) = elim (leq (b .label) (a .label)) [ true ↦ allowed (level (a .label)) | false ↦ lowered (level (a .label)) ]
 
 unfoldable pub answer : Tables → Call → Answer
 answer t c = elim (refusal t c) [ none ↦ (let x = shown t c in outcome (t .at x) (effect t c .at x)) | some n ↦ refused n ]

@@ -31,10 +31,10 @@ abbrev pub case : ℕ → Given → List Answer → Case
 case n g l = record { k = n; given = g; expected = l }
 
 abbrev pub A : ℕ → Answer
-A n = allowed (label n)
+A n = allowed n
 
 abbrev pub L : ℕ → Answer
-L n = lowered (label n)
+L n = lowered n
 
 abbrev pub R : ℕ → Answer
 R n = refused n
@@ -59,11 +59,11 @@ table =
 
 -- ── the table is right ──
 abbrev pub equal : Answer → Answer → Bool
-equal (allowed a) (allowed b) = eqb (level a) (level b)
+equal (allowed a) (allowed b) = eqb a b
 equal (allowed a) (lowered b) = false
 equal (allowed a) (refused b) = false
 equal (lowered a) (allowed b) = false
-equal (lowered a) (lowered b) = eqb (level a) (level b)
+equal (lowered a) (lowered b) = eqb a b
 equal (lowered a) (refused b) = false
 equal (refused a) (allowed b) = false
 equal (refused a) (lowered b) = false

@@ -1,8 +1,7 @@
 -- Labels. Document 01, "Tables": "Levels are 0 (lowest) to 15."
 --
--- The carrier, the order as a test, meet, join, the least label, and the label that a call's number names. In this
--- version a label is a level. Every other file knows labels by these names and by the laws of `Label.Laws` alone, so a
--- label may become more than a level here and nowhere else. Assumes nothing.
+-- The carrier, the order as a test, meet, join, the least label, and the label that a call's number names. In this version
+-- a label is a level. Every other file knows labels by these names and by the laws of `Label.Laws` alone. Assumes nothing.
 use Prim.Native.Nat.{ℕ, min, max}
 use mathlib.Core.Bool.{Bool}
 use lib.Dec.{T, leb}

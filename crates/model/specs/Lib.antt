@@ -13,3 +13,4 @@ pub mod Demand2
 pub mod Tally
 pub mod Book
 pub mod Demand3
+pub mod Rows

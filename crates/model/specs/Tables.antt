@@ -148,16 +148,16 @@ unfoldable pub edges : Tables → List Edge
 edges t = each subjects (λ s. each places (λ p. flows-of (speaks t s) (t .hand s p)))
 
 -- what a thing demands of all that reach it: a file its label, any other thing nothing
-abbrev pub mark : Thing → Option Entry → Label
-mark x none = bot
-mark x (some e) = cond (is-file x (e .kind)) (e .label) bot
+abbrev pub demand : Thing → Option Entry → Label
+demand x none = bot
+demand x (some e) = cond (is-file x (e .kind)) (e .label) bot
 
 abbrev pub needs : Tables → Thing → Label
-needs t x = need (λ y. mark y (t .at y)) (edges t) x
+needs t x = need (λ y. demand y (t .at y)) (edges t) x
 
 -- 01, Flow and need: "each live thing's level is at least its need"
 unfoldable pub safe : Tables → Bool
-safe t = let es : List Edge = edges t in not (any (λ x. not (leq (need (λ y. mark y (t .at y)) es x) (label-of (t .at x)))) (things t))
+safe t = let es : List Edge = edges t in not (any (λ x. not (leq (need (λ y. demand y (t .at y)) es x) (label-of (t .at x)))) (things t))
 
 -- ── tables that no calls made ──
 -- 01, Tables: "in it a handle on an object out of range or not live, or in a place of a subject not live, counts as an empty

@@ -13,8 +13,8 @@ use Rattle.model.specs.Lists.{In}
 use Rattle.model.specs.Label.{Label, leq, _⊑_, label}
 use Rattle.model.specs.Label.Laws.{⊑-refl, bot-least}
 use Rattle.model.specs.Flow.{Thing, subject, object, same}
-use Rattle.model.specs.Tables.{Kind, running, file, pipe, Dir, reading, writing, Entry, entry, Handle, handle, Tables, empty, places, in-range, is-some, used, live, label-of, is-pipe, cell, handles, open-on, arc, flow, speaks, mark, needs, safe}
-use Rattle.model.specs.Tables.Laws.{some-of, used-is, speaks-at, speaks-hand, speaks-cell, cell-self, cell-entry, object-entry, handles-at, open-here, thing-listed, mark-label, safe-above}
+use Rattle.model.specs.Tables.{Kind, running, file, pipe, Dir, reading, writing, Entry, entry, Handle, handle, Tables, empty, places, in-range, is-some, used, live, label-of, is-pipe, cell, handles, open-on, arc, flow, speaks, demand, needs, safe}
+use Rattle.model.specs.Tables.Laws.{some-of, used-is, speaks-at, speaks-hand, speaks-cell, cell-self, cell-entry, object-entry, handles-at, open-here, thing-listed, demand-label, safe-above}
 use Rattle.model.specs.Steps.{Origin, outside, blank, copied, Access, reads, writes, runs, enter, leave, hold, holds, mix, put, row, place, fall, apply, applies, ended, reap}
 use Rattle.model.specs.Steps.Laws.{put-cases, put-same, row-cases, place-same, live-hand, live-at, applies-append, ended-last}
 use Rattle.model.specs.Invariant.{Ends, Wf, Safe, Piped, Kept}
@@ -78,7 +78,7 @@ module _ (t : Tables) (v : Kept t) where
   -- ── admit, register, create ──
   enter-stepped : (x : Thing) (e : Entry) (g : Origin) → T (not (broken t (new x))) → ((o : ℕ) → T (not (is-pipe (object o) (some e)))) → Stepped t (apply (enter x e g) t)
   unfolding pot
-  enter-stepped x e g h n = let f = is-new t x h in stepped (wf-enter t x e g (f .0) (v .wf)) (pot-enter t (needs t) x e g (e .label) (v .wf) pot (f .1) (mark-label x e) ⊑-refl)
+  enter-stepped x e g h n = let f = is-new t x h in stepped (wf-enter t x e g (f .0) (v .wf)) (pot-enter t (needs t) x e g (e .label) (v .wf) pot (f .1) (demand-label x e) ⊑-refl)
       (old-pipes t (apply (enter x e g) t) (v .piped) (λ o p. elim (put-pipes t x (some e) o p) [ inl c ↦ absurd (T-not (is-pipe (object o) (some e)) (n o) (c .1)) | inr c ↦ c ]))
 
   -- ── handles go: close, and what exec drops ──
@@ -191,7 +191,7 @@ module _ (t : Tables) (v : Kept t) where
     unfolding own
     under-own = subst (λ (o : Option Entry). needs t (cell t s) ⊑ label-of o) (sym (own .1)) (v .safe .above (cell t s) (own .0) (own .1))
 
-    entered-pot : (x : Thing) (k : Kind) (g : Origin) → t .at x ≡ none → mark x (some (entry k (label-of (t .at (cell t s))))) ⊑ needs t (cell t s)
+    entered-pot : (x : Thing) (k : Kind) (g : Origin) → t .at x ≡ none → demand x (some (entry k (label-of (t .at (cell t s))))) ⊑ needs t (cell t s)
         → Pot (apply (enter x (entry k (label-of (t .at (cell t s)))) g) t) (raise (needs t) x (needs t (cell t s)))
     entered-pot x k g n lo = pot-enter t (needs t) x (entry k (label-of (t .at (cell t s)))) g (needs t (cell t s)) (v .wf) (pot t v) n lo under-own
 

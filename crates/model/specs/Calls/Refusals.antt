@@ -6,12 +6,14 @@ use mathlib.Core.Logic.{_⊎_, inl, inr, _↔_}
 use mathlib.Core.Option.{Option, none, some, Option·none-ne-some, Option·some-ne-none, Option·some-injective}
 use mathlib.Core.List.{List, [], _∷_}
 use Prim.Native.Nat.{ℕ}
+use native.Mathlib.Omega.{arith}
 use lib.Dec.{T, T-not, eqb, eqb→eq, eqb-refl}
 use Rattle.model.specs.Bools.{test, or-cases, or-left, or-right, both, both-of}
 use Rattle.model.specs.Lists.{In, any}
 use Rattle.model.specs.Lists.Laws.{any-at}
-use Rattle.model.specs.Tables.{Tables}
-use Rattle.model.specs.Calls.{Call, Test, known, alive, present, no-pipe, leveled, new, vacant, taken, apart, facing, enough, suits, idle, number, broken, tests, order, breaks, first, earlier, In-order, refusal, effect, next}
+use Rattle.model.specs.Label.{leq, level}
+use Rattle.model.specs.Tables.{Entry, Tables}
+use Rattle.model.specs.Calls.{Call, Test, known, alive, present, no-pipe, leveled, new, vacant, taken, apart, facing, enough, suits, idle, number, broken, tests, order, breaks, first, earlier, In-order, refusal, effect, next, shown, Answer, allowed, lowered, refused, outcome, answer}
 
 -- ── breaks ──
 breaks-of : (t : Tables) (n : ℕ) (ds : List Test) (d : Test) → In d ds → number d ≡ n → T (broken t d) → T (breaks t n ds)
@@ -133,3 +135,22 @@ next-allowed t c q = ap (λ (o : Option ℕ). elim o as (λ _. Tables) [ none �
 
 pub next-refused : (t : Tables) (c : Call) (n : ℕ) → refusal t c ≡ some n → next t c ≡ t
 next-refused t c n q = ap (λ (o : Option ℕ). elim o as (λ _. Tables) [ none ↦ effect t c | some n ↦ t ]) q
+
+-- ── answers ──
+-- what is answered with a refusal is refused, with that number
+pub answered-refused : (t : Tables) (c : Call) (n : ℕ) → (answer t c ≡ refused n) ↔ (refusal t c ≡ some n)
+unfolding answer
+answered-refused t c n = go (refusal t c)
+  where
+    given : (b a : Option Entry) → outcome b a ≡ refused n → ⊥
+    given b none e = let z : _≡_ {A = ℕ} 0 1 = cc in omega arith
+    given none (some a) e = let z : _≡_ {A = ℕ} 0 1 = cc in omega arith
+    given (some b) (some a) e = by-test (leq (b .label) (a .label)) e
+      where
+        by-test : (f : Bool) → (elim f as (λ _. Answer) [ true ↦ allowed (level (a .label)) | false ↦ lowered (level (a .label)) ]) ≡ refused n → ⊥
+        by-test true e = let z : _≡_ {A = ℕ} 0 1 = cc in omega arith
+        by-test false e = let z : _≡_ {A = ℕ} 0 1 = cc in omega arith
+
+    go : (o : Option ℕ) → ((elim o as (λ _. Answer) [ none ↦ outcome (t .at (shown t c)) (effect t c .at (shown t c)) | some m ↦ refused m ]) ≡ refused n) ↔ (o ≡ some n)
+    go none = (λ e. absurd (given (t .at (shown t c)) (effect t c .at (shown t c)) e), λ e. absurd (Option·none-ne-some n e))
+    go (some m) = (λ e. cc, λ e. cc)

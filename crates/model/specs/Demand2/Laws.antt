@@ -14,7 +14,7 @@ use Rattle.model.specs.Label.{Label, leq, _⊑_, bot}
 use Rattle.model.specs.Label.Laws.{⊑-trans, bot-least}
 use Rattle.model.specs.Flow.{Thing, object, Reaches}
 use Rattle.model.specs.Flow.Laws.{need-upper, need-over}
-use Rattle.model.specs.Tables.{Dir, Entry, Tables, label-of, is-file, cell, edges, mark, needs, safe}
+use Rattle.model.specs.Tables.{Dir, Entry, Tables, label-of, is-file, cell, edges, demand, needs, safe}
 use Rattle.model.specs.Tables.Laws.{not-safe}
 use Rattle.model.specs.Steps.{applies}
 use Rattle.model.specs.Calls.{opens, exec, sheds, Test, alive, present, no-pipe, vacant, enough, suits, number, broken, In-order, refusal}
@@ -23,9 +23,9 @@ use Rattle.model.specs.Demand2.{Leaks, Offends, opened}
 
 -- ── a need that a label does not reach up to, as a chain of flows ──
 pub over-leaks : (u : Tables) (a : Label) (x : Thing) → T (not (leq (needs u x) a)) → Leaks u a x
-over-leaks u a x h = let r = need-over (edges u) (λ y. mark y (u .at y)) x a h in found (r .0) (r .1) (u .at (r .0)) refl (r .2)
+over-leaks u a x h = let r = need-over (edges u) (λ y. demand y (u .at y)) x a h in found (r .0) (r .1) (u .at (r .0)) refl (r .2)
   where
-    found : (y : Thing) → Reaches (edges u) x y → (o : Option Entry) → u .at y ≡ o → T (not (leq (mark y o) a)) → Leaks u a x
+    found : (y : Thing) → Reaches (edges u) x y → (o : Option Entry) → u .at y ≡ o → T (not (leq (demand y o) a)) → Leaks u a x
     found y c none q n = absurd (T-not (leq bot a) n (bot-least .tested))
     found y c (some e) q n = kind (is-file y (e .kind)) refl n
       where
@@ -36,11 +36,11 @@ over-leaks u a x h = let r = need-over (edges u) (λ y. mark y (u .at y)) x a h 
 pub leaks-over : (u : Tables) (a : Label) (x : Thing) → Leaks u a x → T (not (leq (needs u x) a))
 leaks-over u a x l = not-T (leq (needs u x) a) (λ t. T-not (leq (l .high-entry .label) a) (l .higher) (⊑-trans demanded (record { tested = t }) .tested))
   where
-    mark-is : mark (l .high) (u .at (l .high)) ≡ l .high-entry .label
-    mark-is = ap (mark (l .high)) (l .high-live) ∙ cond-yes (is-file (l .high) (l .high-entry .kind)) (l .high-entry .label) bot (l .high-file)
+    demand-is : demand (l .high) (u .at (l .high)) ≡ l .high-entry .label
+    demand-is = ap (demand (l .high)) (l .high-live) ∙ cond-yes (is-file (l .high) (l .high-entry .kind)) (l .high-entry .label) bot (l .high-file)
 
     demanded : l .high-entry .label ⊑ needs u x
-    demanded = subst (λ (b : Label). b ⊑ needs u x) mark-is (need-upper (edges u) (λ y. mark y (u .at y)) (l .reaches))
+    demanded = subst (λ (b : Label). b ⊑ needs u x) demand-is (need-upper (edges u) (λ y. demand y (u .at y)) (l .reaches))
 
 pub unsafe-iff : (u : Tables) → T (not (safe u)) ↔ Offends u
 unsafe-iff u = (

@@ -1,22 +1,21 @@
 -- Demand 3 holds of any monitor whose single calls keep their promise towards the rules. First of what the rules say; then of a monitor,
 -- which is any type with a view of it as tables, and calls that are answered and that move it as `Meets` says. Assumes nothing.
 use mathlib.Core.Path.{_≡_, refl, sym, _∙_, ap, ap₂, subst, subst₂, fun-ext}
-use mathlib.Core.Bool.{Bool, true, false, not, _&&_}
+use mathlib.Core.Bool.{not, _&&_}
 use mathlib.Core.Logic.{inl, inr}
-use mathlib.Core.Option.{Option, none, some, Option·some-injective}
+use mathlib.Core.Option.{Option, none, some, Option·none-ne-some, Option·some-injective}
 use mathlib.Core.List.{List, [], _∷_, _++_}
 use Prim.Native.Nat.{ℕ}
 use lib.ListN.{length, getElem?}
 use lib.Dec.{T, ltb, lt→ltb}
 use Rattle.model.specs.Bools.{nor, both, yes-not-not, cond-yes}
 use Rattle.model.specs.Lists.{In}
-use Rattle.model.specs.Label.{leq}
 use Rattle.model.specs.Flow.{subject, object}
-use Rattle.model.specs.Tables.{Dir, reading, writing, Entry, Handle, Tables, empty, with-hand, places, is-some, live, counted, clean}
+use Rattle.model.specs.Tables.{Dir, reading, writing, Handle, Tables, empty, with-hand, places, is-some, live, counted, clean}
 use Rattle.model.specs.Tables.Laws.{some-is}
 use Rattle.model.specs.Invariant.{Ends, Wf, Kept}
-use Rattle.model.specs.Calls.{Call, access, Raw, decode, Test, faces, turned, broken, tests, refusal, effect, next, Answer, allowed, lowered, refused, outcome, answer, answers, after, shown}
-use Rattle.model.specs.Calls.Refusals.{allowed-iff}
+use Rattle.model.specs.Calls.{Call, access, Raw, decode, Test, faces, turned, broken, tests, refusal, effect, next, Answer, refused, answer, answers, after}
+use Rattle.model.specs.Calls.Refusals.{allowed-iff, answered-refused}
 use Rattle.model.specs.Calls.Kept.{next-kept, empty-kept, always-kept}
 use Rattle.model.specs.Book.{Handling, Outside, book}
 use Rattle.model.specs.Book.Laws.{book-tables, book-answered, unmoved}
@@ -40,24 +39,8 @@ held-allowed t w s p k q = allowed-iff t (access (k .dir) s p) .1 each
     each e (inr (inr (inl z))) = subst (λ (x : Test). T (not (broken t x))) z (subst (λ (o : Option Handle). T (not (turned (k .dir) o))) (sym q) (yes-not-not (faces (k .dir) (k .dir)) (faces-self (k .dir))))
     each e (inr (inr (inr z))) = absurd z
 
--- an allowed call is not answered with a refusal
-abbrev granted : Answer → Type 0
-granted (allowed l) = Unit {0}
-granted (lowered l) = Unit {0}
-granted (refused n) = ⊥
-
-outcome-granted : (b a : Option Entry) → granted (outcome b a)
-outcome-granted b none = tt
-outcome-granted none (some a) = tt
-outcome-granted (some b) (some a) = go (leq (b .label) (a .label))
-  where
-    go : (f : Bool) → granted (elim f as (λ _. Answer) [ true ↦ allowed (a .label) | false ↦ lowered (a .label) ])
-    go true = tt
-    go false = tt
-
 not-refused : (t : Tables) (c : Call) (n : ℕ) → refusal t c ≡ none → answer t c ≡ refused n → ⊥
-unfolding answer
-not-refused t c n q e = subst granted (sym (ap (λ (o : Option ℕ). elim o as (λ _. Answer) [ none ↦ outcome (t .at (shown t c)) (effect t c .at (shown t c)) | some m ↦ refused m ]) q) ∙ e) (outcome-granted (t .at (shown t c)) (effect t c .at (shown t c)))
+not-refused t c n q e = Option·none-ne-some n (sym q ∙ answered-refused t c n .0 e)
 
 -- ── the rules ──
 -- the answer at a position is the answer to the call there, in the tables just before

@@ -14,20 +14,20 @@ use Rattle.model.specs.Label.{Label, _⊑_, bot}
 use Rattle.model.specs.Label.Laws.{⊑-trans, bot-least}
 use Rattle.model.specs.Flow.{Thing, subject, object, same, Edge}
 use Rattle.model.specs.Flow.Laws.{same→eq, same-refl, need-self, need-flow, need-below}
-use Rattle.model.specs.Tables.{Dir, reading, writing, Entry, Handle, Tables, empty, with-at, with-hand, subjects, places, in-range, is-some, live, cell, handles, arc, flow, speaks, edges, mark, needs, counted, clean}
+use Rattle.model.specs.Tables.{Dir, reading, writing, Entry, Handle, Tables, empty, with-at, with-hand, subjects, places, in-range, is-some, live, cell, handles, arc, flow, speaks, edges, demand, needs, counted, clean}
 use Rattle.model.specs.Tables.Laws.{some-of, some-is, live-of, speaks-at, speaks-hand, speaks-cell, cell-entry, object-entry, open-here, flow-edge, edge-flow}
 use Rattle.model.specs.Steps.{Origin, Access, enter, hold, holds, mix, put, row, place, fall, apply, ended, reap}
-use Rattle.model.specs.Steps.Laws.{put-cases, row-cases, place-cases, live-hand, live-at, ended-open, ended-subject, fall-some, some-fall, fall-mark, fell}
+use Rattle.model.specs.Steps.Laws.{put-cases, row-cases, place-cases, live-hand, live-at, ended-open, ended-subject, fall-some, some-fall, fall-demand, fell}
 use Rattle.model.specs.Invariant.{Ends, Wf, Safe}
 
 pub record Pot (t : Tables) (φ : Thing → Label) : Type 0 where
-  pub low : (x : Thing) → mark x (t .at x) ⊑ φ x
+  pub low : (x : Thing) → demand x (t .at x) ⊑ φ x
   pub cap : (x : Thing) (e : Entry) → t .at x ≡ some e → φ x ⊑ e .label
   pub falls : (s p : ℕ) (x : Thing) (k : Handle) → speaks t s ≡ some x → t .hand s p ≡ some k → φ (flow x k .dst) ⊑ φ (flow x k .src)
 
 -- ── the need is the least potential ──
 pub needs-least : (t : Tables) (φ : Thing → Label) → Pot t φ → (x : Thing) → needs t x ⊑ φ x
-needs-least t φ v x = need-below (edges t) (λ y. mark y (t .at y)) φ (v .low) down x
+needs-least t φ v x = need-below (edges t) (λ y. demand y (t .at y)) φ (v .low) down x
   where
     down : (e : Edge) → In e (edges t) → φ (e .dst) ⊑ φ (e .src)
     down e i = let r = edge-flow t e i in subst (λ (z : Edge). φ (z .dst) ⊑ φ (z .src)) (r .is) (v .falls (r .s) (r .p) (r .x) (r .k) (r .speaker) (r .holds))
@@ -40,9 +40,9 @@ row-below {t} {s} f = ltb→lt s subjects (live-of t (subject s) (f .from) .0)
 
 pub needs-pot : {t : Tables} → Wf t → Safe t → Pot t (needs t)
 needs-pot {t} w v = record {
-  low = λ x. need-self (edges t) (λ y. mark y (t .at y)) x;
+  low = λ x. need-self (edges t) (λ y. demand y (t .at y)) x;
   cap = v .above;
-  falls = λ s p x k z q. let f = w .ends s p k q in need-flow (edges t) (λ y. mark y (t .at y)) (flow x k) (flow-edge t s p x k (row-below f) (f .place) z q);
+  falls = λ s p x k z q. let f = w .ends s p k q in need-flow (edges t) (λ y. demand y (t .at y)) (flow x k) (flow-edge t s p x k (row-below f) (f .place) z q);
 }
 
 -- what a flow leads from and to has an entry
@@ -109,11 +109,11 @@ arc-falls φ ψ reading x y p q h = subst₂ (λ a b. a ⊑ b) p q h
 arc-falls φ ψ writing x y p q h = subst₂ (λ a b. a ⊑ b) q p h
 
 pub pot-enter : (t : Tables) (φ : Thing → Label) (x : Thing) (e : Entry) (g : Origin) (v : Label) → Wf t → Pot t φ → t .at x ≡ none
-    → mark x (some e) ⊑ v → v ⊑ e .label → Pot (apply (enter x e g) t) (raise φ x v)
+    → demand x (some e) ⊑ v → v ⊑ e .label → Pot (apply (enter x e g) t) (raise φ x v)
 pot-enter t φ x e g v w i n lo hi = record { low = λ y. low′ y (same x y) (same→eq x y); cap = λ y d q. cap′ (same x y) y d q; falls = falls′ }
   where
-    low′ : (y : Thing) (b : Bool) → (T b → x ≡ y) → mark y (cond b (some e) (t .at y)) ⊑ cond b v (φ y)
-    low′ y true s = subst (λ (z : Thing). mark z (some e) ⊑ v) (s tt) lo
+    low′ : (y : Thing) (b : Bool) → (T b → x ≡ y) → demand y (cond b (some e) (t .at y)) ⊑ cond b v (φ y)
+    low′ y true s = subst (λ (z : Thing). demand z (some e) ⊑ v) (s tt) lo
     low′ y false s = i .low y
 
     cap′ : (b : Bool) (y : Thing) (d : Entry) → cond b (some e) (t .at y) ≡ some d → cond b v (φ y) ⊑ d .label
@@ -183,7 +183,7 @@ less-wf l w = record { ends = λ s p k q. l .ends s p k q (w .ends s p k (l .han
 
 pub less-pot : {t u : Tables} (φ : Thing → Label) → Less t u → Pot t φ → Pot u φ
 less-pot φ l i = record {
-  low = λ x. subst (λ (o : Option Entry). mark x o ⊑ φ x) (sym (l .same-at x)) (i .low x);
+  low = λ x. subst (λ (o : Option Entry). demand x o ⊑ φ x) (sym (l .same-at x)) (i .low x);
   cap = λ x e q. i .cap x e (sym (l .same-at x) ∙ q);
   falls = λ s p x k z q. i .falls s p x k (l .talks s p x k q z) (l .hands s p k q);
 }
@@ -217,7 +217,7 @@ wf-without gone t w n = record {
 pub pot-without : (gone : Thing → Bool) (t : Tables) (φ : Thing → Label) → Pot t φ → Pot (without gone t) φ
 pot-without gone t φ i = record { low = λ y. low′ (gone y) y; cap = λ y d q. cap′ (gone y) y d q; falls = λ s p x k z q. i .falls s p x k (sym (speaks-at t (λ x. cond (gone x) none (t .at x)) s) ∙ z) q }
   where
-    low′ : (b : Bool) (y : Thing) → mark y (cond b none (t .at y)) ⊑ φ y
+    low′ : (b : Bool) (y : Thing) → demand y (cond b none (t .at y)) ⊑ φ y
     low′ true y = bot-least
     low′ false y = i .low y
 
@@ -266,8 +266,8 @@ pot-mix t φ m a b y x i v = record { low = λ z. low′ z (same y z) (same→eq
     new : Option Entry
     new = fall y (t .at y) (t .at x)
 
-    low′ : (z : Thing) (b : Bool) → (T b → y ≡ z) → mark z (cond b new (t .at z)) ⊑ φ z
-    low′ z true e = subst (λ (w : Thing). mark w new ⊑ φ w) (e tt) (subst (λ (l : Label). l ⊑ φ y) (sym (fall-mark y (t .at y) (t .at x))) (i .low y))
+    low′ : (z : Thing) (b : Bool) → (T b → y ≡ z) → demand z (cond b new (t .at z)) ⊑ φ z
+    low′ z true e = subst (λ (w : Thing). demand w new ⊑ φ w) (e tt) (subst (λ (l : Label). l ⊑ φ y) (sym (fall-demand y (t .at y) (t .at x))) (i .low y))
     low′ z false e = i .low z
 
     cap′ : (z : Thing) (r : Entry) → put (t .at) y new z ≡ some r → φ z ⊑ r .label

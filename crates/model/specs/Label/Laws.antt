@@ -1,13 +1,13 @@
 -- The laws of labels: `_⊑_` is a partial order with greatest lower bounds `meet`, least upper bounds `join` and least element
 -- `bot`. Nothing else about labels is used elsewhere, but by the table of cases, which computes. Assumes nothing.
-use mathlib.Core.Path.{_≡_}
+use mathlib.Core.Path.{_≡_, refl}
 use mathlib.Core.Bool.{not}
-use Prim.Native.Nat.{_<_, min, max, zero-le}
+use Prim.Native.Nat.{ℕ, _<_, min, max, zero-le}
 use native.Mathlib.Nat.{le-refl, le-trans, le-antisymm, min-le-left, min-le-right, le-max-left, le-max-right, le-min, max-le}
 use native.Mathlib.Omega.{arith}
 use mathlib.Core.Logic.{_↔_}
 use lib.Dec.{T, leb, leb→le, le→leb, nleb→lt, not-T}
-use Rattle.model.specs.Label.{Label, leq, _⊑_, meet, join, bot, level}
+use Rattle.model.specs.Label.{Label, leq, _⊑_, meet, join, bot, label, level}
 
 -- ── order ──
 pub ⊑-refl : {a : Label} → a ⊑ a
@@ -22,7 +22,21 @@ pub ⊑-antisym : {a b : Label} → a ⊑ b → b ⊑ a → a ≡ b
 unfolding Label leq
 ⊑-antisym {a} {b} p q = le-antisymm (leb→le a b (p .tested)) (leb→le b a (q .tested))
 
--- labels are levels: not at least is below
+-- ── levels ──
+pub level-label : (n : ℕ) → level (label n) ≡ n
+unfolding Label level label
+level-label n = refl
+
+pub label-level : (a : Label) → label (level a) ≡ a
+unfolding Label level label
+label-level a = refl
+
+-- the order of labels is that of their levels
+pub leq-levels : (a b : Label) → leq a b ≡ leb (level a) (level b)
+unfolding Label leq level
+leq-levels a b = refl
+
+-- not at least is below
 pub not-least-is-below : (a b : Label) → T (not (leq a b)) ↔ (level b < level a)
 unfolding Label leq level
 not-least-is-below a b = (nleb→lt a b, λ h. not-T (leb a b) (λ t. let le = leb→le a b t in omega arith))

@@ -12,7 +12,7 @@ use Rattle.model.specs.Label.{Label, _⊑_, meet, bot}
 use Rattle.model.specs.Label.Laws.{⊑-refl, meet-left, meet-right, meet-glb}
 use Rattle.model.specs.Flow.{Thing, subject, object, same}
 use Rattle.model.specs.Flow.Laws.{same→eq, same-refl}
-use Rattle.model.specs.Tables.{Kind, running, file, pipe, Entry, Handle, Tables, with-at, with-hand, in-range, is-some, used, live, is-file, is-pipe, open-on, mark}
+use Rattle.model.specs.Tables.{Kind, running, file, pipe, Entry, Handle, Tables, with-at, with-hand, in-range, is-some, used, live, is-file, is-pipe, open-on, demand}
 use Rattle.model.specs.Tables.Laws.{used-is, live-of}
 use Rattle.model.specs.Steps.{Step, put, row, place, falls, sunk, fall, apply, applies, ended}
 
@@ -98,10 +98,10 @@ pub some-fall : (x : Thing) (a b : Option Entry) → T (is-some (fall x a b)) �
 some-fall x none b t = t
 some-fall x (some e) b t = tt
 
-pub fall-mark : (x : Thing) (a b : Option Entry) → mark x (fall x a b) ≡ mark x a
-fall-mark x none b = refl
-fall-mark x (some e) none = refl
-fall-mark x (some e) (some d) = go (is-file x (e .kind)) (λ f. cond-no (falls x (e .kind)) (meet (e .label) (d .label)) (e .label) (file-stays x (e .kind) f))
+pub fall-demand : (x : Thing) (a b : Option Entry) → demand x (fall x a b) ≡ demand x a
+fall-demand x none b = refl
+fall-demand x (some e) none = refl
+fall-demand x (some e) (some d) = go (is-file x (e .kind)) (λ f. cond-no (falls x (e .kind)) (meet (e .label) (d .label)) (e .label) (file-stays x (e .kind) f))
   where
     go : (f : Bool) → (T f → sunk x (e .kind) (e .label) (d .label) ≡ e .label) → cond f (sunk x (e .kind) (e .label) (d .label)) bot ≡ cond f (e .label) bot
     go true s = s tt
@@ -113,7 +113,7 @@ pub record Fell (x : Thing) (a : Option Entry) (d r : Entry) : Type 0 where
   pub was : Entry
   pub was-is : a ≡ some was
   pub under-was : r .label ⊑ was .label
-  pub under-source : mark x a ⊑ d .label → r .label ⊑ d .label
+  pub under-source : demand x a ⊑ d .label → r .label ⊑ d .label
   pub over : (v : Label) → v ⊑ was .label → v ⊑ d .label → v ⊑ r .label
 
 pub fell : (x : Thing) (a b : Option Entry) (d r : Entry) → b ≡ some d → fall x a b ≡ some r → Fell x a d r

@@ -1,19 +1,19 @@
 -- The laws of `Tables`: what is live, where a subject stands, the lists of handles, flows and live things, what a thing demands,
 -- and the test `safe`. Other files know `used`, `cell`, `speaks`, `things`, `handles`, `edges` and `safe` by these laws. Assumes nothing.
-use mathlib.Core.Path.{_≡_, refl, sym, subst}
+use mathlib.Core.Path.{_≡_, refl, sym, ap, subst}
 use mathlib.Core.Bool.{Bool, true, false, not, cond}
 use mathlib.Core.Logic.{_⊎_, inl, inr, _↔_}
 use mathlib.Core.Option.{Option, none, some}
 use mathlib.Core.List.{[]}
 use Prim.Native.Nat.{ℕ, _<_}
-use lib.Dec.{T, T-not, eqb, eqb-refl, ltb→lt}
+use lib.Dec.{T, T-not, eqb, eqb→eq, eqb-refl, ltb→lt}
 use Rattle.model.specs.Bools.{test, both-of, not-not}
 use Rattle.model.specs.Lists.{In, each, keep, any}
 use Rattle.model.specs.Lists.Laws.{in-left, in-right, in-cases, in-each, each-in, keep-here, keep-cases, any-of, any-at}
-use Rattle.model.specs.Label.{Label, leq, _⊑_, bot}
+use Rattle.model.specs.Label.{leq, _⊑_, bot}
 use Rattle.model.specs.Label.Laws.{⊑-refl, bot-least}
 use Rattle.model.specs.Flow.{Thing, subject, object, Edge}
-use Rattle.model.specs.Tables.{Entry, Handle, Tables, with-at, with-hand, subjects, objects, places, in-range, is-some, used, live, label-of, is-file, cell, live-objects, live-subjects, things, one, handles-of, handles, open-on, flow, speaks, flows-of, edges, mark, needs, safe}
+use Rattle.model.specs.Tables.{Entry, Handle, Tables, with-at, with-hand, subjects, objects, places, in-range, is-some, used, live, label-of, is-file, cell, live-objects, live-subjects, things, one, handles-of, handles, open-on, flow, speaks, flows-of, edges, demand, needs, safe}
 
 -- ── is-some, live ──
 pub some-of : {A : Type 0} (o : Option A) → T (is-some o) → (a : A) × (o ≡ some a)
@@ -67,6 +67,16 @@ handle-in t s p k ls lp q = in-each subjects (handles-of t) k s ls (in-each plac
 pub open-here : (t : Tables) (s p : ℕ) (k : Handle) → s < subjects → p < places → t .hand s p ≡ some k → T (open-on (handles t) (k .to))
 open-here t s p k ls lp q = any-of (λ z. eqb (z .to) (k .to)) (handles t) k (handle-in t s p k ls lp q) (eqb-refl (k .to))
 
+pub open-at : (t : Tables) (o : ℕ) → T (open-on (handles t) o) → (s : ℕ) × (p : ℕ) × (k : Handle) × (s < subjects) × (p < places) × (t .hand s p ≡ some k) × (k .to ≡ o)
+unfolding handles
+open-at t o h = let r = any-at (λ z. eqb (z .to) o) (handles t) h in let a = each-in subjects (handles-of t) (r .0) (r .1) in let b = each-in places (λ p. one (t .hand (a .0) p)) (r .0) (a .2) in
+    (a .0, b .0, r .0, a .1, b .1, of-one (t .hand (a .0) (b .0)) (r .0) (b .2), eqb→eq (r .0 .to) o (r .2))
+  where
+    of-one : {A : Type 0} (v : Option A) (k : A) → In k (one v) → v ≡ some k
+    of-one none k i = absurd i
+    of-one (some a) k (inl q) = ap {B = Option _} some q
+    of-one (some a) k (inr i) = absurd i
+
 -- the handles do not go by the entries
 pub handles-at : (t : Tables) (a : Thing → Option Entry) → handles (with-at t a) ≡ handles t
 unfolding handles
@@ -117,9 +127,9 @@ listed-thing t x i = elim (in-cases x (live-subjects t) (live-objects t) i) [
     kept y (inl c) = subst (λ (z : Thing). (e : Entry) × (t .at z ≡ some e)) (c .1) (some-of (t .at y) (c .0))
     kept y (inr b) = absurd b
 
--- ── mark ──
-pub mark-label : (x : Thing) (e : Entry) → mark x (some e) ⊑ e .label
-mark-label x e = go (is-file x (e .kind))
+-- ── demand ──
+pub demand-label : (x : Thing) (e : Entry) → demand x (some e) ⊑ e .label
+demand-label x e = go (is-file x (e .kind))
   where
     go : (b : Bool) → cond b (e .label) bot ⊑ e .label
     go true = ⊑-refl

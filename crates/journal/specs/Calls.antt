@@ -1,0 +1,48 @@
+-- The calls that a journal has, by their codes (document 01, "Calls"). In order: the table of arities; which codes are known;
+-- a call's numbers, filled up. The laws are in Calls/Laws. Assumes nothing.
+use Prim.Native.Nat.{ℕ, zero, suc}
+use mathlib.Core.Bool.{Bool, _&&_}
+use mathlib.Core.List.{List, [], _∷_}
+use lib.Dec.{leb, ltb}
+use lib.ListN.{length, take, getD}
+pub mod Laws
+
+-- "The journal's order of numbers is given": how many the call of each code takes, from code 1 on
+abbrev pub arities : List ℕ
+arities =
+    2  -- admit s, level
+    ∷ 2  -- register o, level
+    ∷ 2  -- create s, o
+    ∷ 4  -- pipe s, o, r, w
+    ∷ 3  -- open for reading s, o, p
+    ∷ 3  -- open for writing s, o, p
+    ∷ 2  -- read s, p
+    ∷ 2  -- write s, p
+    ∷ 2  -- fork s, c
+    ∷ 2  -- exec s, o
+    ∷ 2  -- close s, p
+    ∷ 1  -- exit s
+    ∷ 1  -- retire o
+    ∷ []
+
+-- "A direct call takes a code and four 32-bit numbers"
+abbrev pub most-numbers : ℕ
+most-numbers = 4
+
+-- how many numbers the call of a code takes; 0 where there is no such call
+unfoldable pub arity-of : ℕ → ℕ
+arity-of code = getD (0 ∷ arities) code 0
+
+-- a code "1 to 13"
+unfoldable pub known : ℕ → Bool
+known code = ltb 0 code && leb code (length arities)
+
+-- m numbers: those given, then 0 in the place of those that a call "ignores"
+unfoldable pub filled : ℕ → List ℕ → List ℕ
+filled zero ns = []
+filled (suc m) [] = 0 ∷ filled m []
+filled (suc m) (n ∷ ns) = n ∷ filled m ns
+
+-- a call's numbers, with 0 for those that its code does not use
+abbrev pub arguments-of : ℕ → List ℕ → List ℕ
+arguments-of code ns = filled most-numbers (take (arity-of code) ns)

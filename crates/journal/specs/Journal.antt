@@ -1,0 +1,54 @@
+-- Records as the reader finds them (document 01, "Journal", second paragraph, and rows 1, 11 and 12 of "Refused calls"). In
+-- order: what stands at an offset of a journal; what a body says. The laws are in Journal/Laws. Assumes nothing.
+use Prim.Native.Nat.{ℕ, zero, suc, _+_}
+use mathlib.Core.Bool.{cond}
+use mathlib.Core.List.{List, [], _∷_}
+use mathlib.Core.Option.{Option, none, some, Option·map}
+use lib.Dec.{ltb}
+use lib.ListN.{length, drop}
+use Rattle.number.specs.Leb.{largest, Reading, good, malformed, number}
+use Rattle.journal.specs.Answers.{Answer, answers, refused, Next, body, end, Said, said}
+use Rattle.journal.specs.Calls.{most-numbers, arity-of, known, filled}
+pub mod Laws
+
+-- ---- what stands at an offset
+
+-- 11, "a length is malformed or runs past the end"
+abbrev pub sized : List ℕ → ℕ → Reading → Answer Next
+sized journal at (good len used) =
+    cond (ltb (length journal) (at + used + len)) (refused 11) (answers (body (at + used) len (at + used + len)))
+sized journal at malformed = refused 11
+
+-- the record at an offset; from the end of the journal on there is none
+unfoldable pub entry-at : List ℕ → ℕ → Answer Next
+entry-at journal at = cond (ltb at (length journal)) (sized journal at (number largest (drop at journal))) (answers end)
+
+-- ---- what a body says
+
+-- a number, then what f finds after it; a number that is "missing" is cut off
+abbrev pub and-then : Reading → List ℕ → (List ℕ → Option (List ℕ)) → Option (List ℕ)
+and-then (good n used) bs f = Option·map (λ ns. n ∷ ns) (f (drop used bs))
+and-then malformed bs f = none
+
+-- k numbers; none where "a number is malformed, missing or left over"
+unfoldable pub numbers-in : ℕ → List ℕ → Option (List ℕ)
+numbers-in zero [] = some []
+numbers-in zero (b ∷ bs) = none
+numbers-in (suc k) bs = and-then (number largest bs) bs (numbers-in k)
+
+-- the same as the numbers of a direct call
+unfoldable pub arguments-in : ℕ → List ℕ → Option (List ℕ)
+arguments-in k bs = Option·map (filled most-numbers) (numbers-in k bs)
+
+-- 12 where there are none
+abbrev pub call-with : Option (List ℕ) → Answer (List ℕ)
+call-with none = refused 12
+call-with (some ns) = answers ns
+
+-- "A body without a good code is 12; an unknown code is 1 and its rest is skipped."
+abbrev pub coded : Reading → List ℕ → Said
+coded (good code used) bs = said code (cond (known code) (call-with (arguments-in (arity-of code) (drop used bs))) (refused 1))
+coded malformed bs = said 0 (refused 12)
+
+unfoldable pub body-in : List ℕ → Said
+body-in bs = coded (number largest bs) bs

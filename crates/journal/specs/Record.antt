@@ -1,0 +1,41 @@
+-- Records as the writer makes them (document 01, "Journal", second paragraph). In order: the bytes of a record; what the writer
+-- answers, and what it leaves in the buffer. The laws are in Record/Laws. Assumes nothing.
+use Prim.Native.Nat.{ℕ}
+use mathlib.Core.Bool.{cond}
+use mathlib.Core.List.{List, [], _∷_, _++_}
+use lib.Dec.{ltb}
+use lib.ListN.{length, take}
+use Rattle.number.specs.Leb.{encode}
+use Rattle.number.specs.Put.{put}
+use Rattle.journal.specs.Answers.{Answer, answers, refused}
+use Rattle.journal.specs.Calls.{arity-of, known}
+pub mod Laws
+
+-- "A record it makes has at most 22 bytes"
+abbrev pub longest-record : ℕ
+longest-record = 22
+
+-- numbers, one after the other
+unfoldable pub encodes : List ℕ → List ℕ
+encodes [] = []
+encodes (n ∷ ns) = encode n ++ encodes ns
+
+-- "the body: code, then the call's numbers", the first ones of ns
+unfoldable pub body-of : ℕ → List ℕ → List ℕ
+body-of code ns = encodes (code ∷ take (arity-of code) ns)
+
+-- "A record is the body's length in bytes, then the body"
+unfoldable pub record-of : ℕ → List ℕ → List ℕ
+record-of code ns = encode (length (body-of code ns)) ++ body-of code ns
+
+-- 13, "the record is longer than the buffer"
+unfoldable pub fitting : List ℕ → List ℕ → Answer ℕ
+fitting bytes out = cond (ltb (length out) (length bytes)) (refused 13) (answers (length bytes))
+
+-- "For a code not 1 to 13 it answers 1."
+unfoldable pub recording : ℕ → List ℕ → List ℕ → Answer ℕ
+recording code ns out = cond (known code) (fitting (record-of code ns) out) (refused 1)
+
+-- "the bytes after the record keep their values"; a refusal leaves "every lent buffer unchanged"
+unfoldable pub recorded : ℕ → List ℕ → List ℕ → List ℕ
+recorded code ns out = cond (known code) (put (record-of code ns) out) out

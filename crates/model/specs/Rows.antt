@@ -1,0 +1,92 @@
+-- Every row of document 01's tables "Calls" and "Refused calls", tried once: one list of calls from empty tables with the answer to each, and
+-- the contents and the tally after a few short lists. Not cases of the document: they pin the definitions down where no law does, so that
+-- a slip in a row does not go unseen. Assumes nothing.
+use mathlib.Core.Path.{_≡_, refl}
+use mathlib.Core.Bool.{Bool, true, _&&_}
+use mathlib.Core.List.{List, [], _∷_}
+use Prim.Native.Nat.{ℕ, _+_, _*_}
+use Rattle.model.specs.Label.{Label, label, level, leq, meet, join, bot}
+use Rattle.model.specs.Flow.{Thing, subject, object, need}
+use Rattle.model.specs.Tables.{Tables, empty, used, cell, speaks, things, handles, edges, safe}
+use Rattle.model.specs.Steps.{Access, reads, writes, runs, ended}
+use Rattle.model.specs.Calls.{Raw, decode, sheds, effect, refusal, next, Answer, answer}
+use Rattle.model.specs.Tally.{tally, tallied, zeroed}
+use Rattle.model.specs.Book.{Handling, Outside, book}
+use Rattle.model.specs.Cases.{call, A, L, R, equal}
+
+pub record Line : Type 0 where
+  pub given : Raw
+  pub answered : Answer
+
+abbrev pub line : ℕ → List ℕ → Answer → Line
+line c ns a = record { given = call c ns; answered = a }
+
+-- ── answers ──
+unfoldable pub lines : List Line
+lines =
+    line 0 [] (R 1) ∷ line 14 [] (R 1)
+    ∷ line 1 (31 ∷ 15 ∷ []) (A 15) ∷ line 1 (32 ∷ 0 ∷ []) (R 3) ∷ line 1 (31 ∷ 16 ∷ []) (R 3) ∷ line 1 (30 ∷ 16 ∷ []) (R 6) ∷ line 1 (4 ∷ []) (A 0)
+    ∷ line 2 (63 ∷ 15 ∷ []) (A 15) ∷ line 2 (64 ∷ 0 ∷ []) (R 3) ∷ line 2 (63 ∷ 1 ∷ []) (R 3) ∷ line 2 (0 ∷ 16 ∷ []) (R 6) ∷ line 2 (0 ∷ 2 ∷ []) (A 2)
+    ∷ line 1 (1 ∷ 7 ∷ []) (A 7) ∷ line 3 (1 ∷ 6 ∷ []) (A 7) ∷ line 3 (32 ∷ 64 ∷ []) (R 2) ∷ line 3 (1 ∷ 6 ∷ []) (R 3)
+    ∷ line 4 (1 ∷ 7 ∷ 0 ∷ 15 ∷ []) (A 7) ∷ line 4 (1 ∷ 8 ∷ 0 ∷ 1 ∷ []) (R 7) ∷ line 4 (1 ∷ 8 ∷ 1 ∷ 1 ∷ []) (R 7) ∷ line 4 (1 ∷ 8 ∷ 1 ∷ 16 ∷ []) (R 7) ∷ line 4 (1 ∷ 63 ∷ 16 ∷ 16 ∷ []) (R 3)
+    ∷ line 5 (30 ∷ 62 ∷ 0 ∷ []) (R 2) ∷ line 5 (1 ∷ 62 ∷ 16 ∷ []) (R 4) ∷ line 6 (1 ∷ 63 ∷ 0 ∷ []) (R 7) ∷ line 6 (1 ∷ 63 ∷ 16 ∷ []) (R 7) ∷ line 6 (1 ∷ 63 ∷ 1 ∷ []) (R 9)
+    ∷ line 7 (1 ∷ 1 ∷ []) (R 7) ∷ line 7 (1 ∷ 16 ∷ []) (R 7) ∷ line 7 (1 ∷ 15 ∷ []) (R 8) ∷ line 8 (1 ∷ 0 ∷ []) (R 8) ∷ line 7 (1 ∷ 0 ∷ []) (A 7)
+    ∷ line 5 (1 ∷ 0 ∷ 2 ∷ []) (A 2) ∷ line 7 (1 ∷ 2 ∷ []) (L 2) ∷ line 8 (1 ∷ 15 ∷ []) (L 2) ∷ line 8 (1 ∷ 15 ∷ []) (A 2)
+    ∷ line 1 (2 ∷ 9 ∷ []) (A 9) ∷ line 6 (2 ∷ 6 ∷ 0 ∷ []) (A 7) ∷ line 8 (2 ∷ 0 ∷ []) (A 7) ∷ line 13 (6 ∷ []) (R 10) ∷ line 11 (2 ∷ 0 ∷ []) (A 9) ∷ line 11 (2 ∷ 0 ∷ []) (R 7)
+    ∷ line 10 (2 ∷ 7 ∷ []) (R 5) ∷ line 10 (2 ∷ 64 ∷ []) (R 4) ∷ line 10 (2 ∷ 6 ∷ []) (L 7) ∷ line 10 (2 ∷ 63 ∷ []) (A 7)
+    ∷ line 9 (2 ∷ 2 ∷ []) (R 3) ∷ line 9 (2 ∷ 32 ∷ []) (R 3) ∷ line 9 (1 ∷ 3 ∷ []) (A 2)
+    ∷ line 13 (7 ∷ []) (R 5) ∷ line 12 (1 ∷ []) (A 2) ∷ line 12 (1 ∷ []) (R 2) ∷ line 8 (3 ∷ 15 ∷ []) (A 2) ∷ line 12 (3 ∷ []) (A 2) ∷ line 5 (2 ∷ 7 ∷ 0 ∷ []) (R 4) ∷ line 13 (6 ∷ []) (A 7) ∷ line 13 (6 ∷ []) (R 4)
+    ∷ line 3 (31 ∷ 62 ∷ []) (A 15) ∷ line 13 (62 ∷ []) (A 15) ∷ line 9 (31 ∷ 30 ∷ []) (A 15) ∷ line 12 (31 ∷ []) (A 15)
+    ∷ []
+
+abbrev pub answered-so : Tables → List Line → Bool
+answered-so t [] = true
+answered-so t (l ∷ ls) = equal (answer t (decode (l .given))) (l .answered) && answered-so (next t (decode (l .given))) ls
+
+pub rows-right : answered-so empty lines ≡ true
+unfolding lines Label label level leq meet join bot need used cell speaks things handles edges safe decode sheds ended effect refusal answer
+rows-right = refl
+
+-- ── contents ──
+abbrev way : Access → ℕ
+way reads = 1
+way writes = 2
+way runs = 3
+
+abbrev name : Thing → ℕ
+name (subject n) = n
+name (object n) = 40 + n
+
+-- a handling that tells what it was told, in digits: position, way, receiver, source, receiver's content, source's
+abbrev telling : Handling
+telling i m a b x y = i * 10000000000 + way m * 1000000000 + name a * 10000000 + name b * 100000 + x * 100 + y
+
+abbrev from-10 : Outside
+from-10 i = 10 + i
+
+-- register 1, admit 2 (and again, refused), open for reading, read
+abbrev reading-list : List Raw
+reading-list = call 2 (1 ∷ 2 ∷ []) ∷ call 1 (2 ∷ 9 ∷ []) ∷ call 1 (2 ∷ 9 ∷ []) ∷ call 5 (2 ∷ 1 ∷ 0 ∷ []) ∷ call 7 (2 ∷ 0 ∷ []) ∷ []
+
+-- register 1, admit 2, open for writing, write
+abbrev writing-list : List Raw
+writing-list = call 2 (1 ∷ 2 ∷ []) ∷ call 1 (2 ∷ 9 ∷ []) ∷ call 6 (2 ∷ 1 ∷ 0 ∷ []) ∷ call 8 (2 ∷ 0 ∷ []) ∷ []
+
+-- register 1, admit 2, exec, fork to 3
+abbrev running-list : List Raw
+running-list = call 2 (1 ∷ 2 ∷ []) ∷ call 1 (2 ∷ 9 ∷ []) ∷ call 10 (2 ∷ 1 ∷ []) ∷ call 9 (2 ∷ 3 ∷ []) ∷ []
+
+pub contents-right : (book telling from-10 reading-list .content (subject 2) ≡ 41024101110) × (book telling from-10 reading-list .content (object 1) ≡ 10)
+    × (book telling from-10 writing-list .content (object 1) ≡ 32410201011) × (book telling from-10 writing-list .content (subject 2) ≡ 11)
+    × (book telling from-10 running-list .content (subject 3) ≡ 23024101110)
+unfolding Label label level leq meet join bot need used cell speaks things handles edges safe decode sheds ended effect refusal answer
+contents-right = (refl, refl, refl, refl, refl)
+
+-- ── the tally ──
+-- 01, Journal, the example: `end 1 0 1`; and a pipe, a fork, a close and an exit
+abbrev counting-list : List Raw
+counting-list = call 1 (0 ∷ 9 ∷ []) ∷ call 4 (0 ∷ 5 ∷ 0 ∷ 1 ∷ []) ∷ call 9 (0 ∷ 1 ∷ []) ∷ call 4 (0 ∷ 5 ∷ 2 ∷ 3 ∷ []) ∷ call 11 (0 ∷ 0 ∷ []) ∷ call 12 (1 ∷ []) ∷ []
+
+pub tally-right : (tally empty zeroed reading-list ≡ record { made = 1; gone = 0 }) × (tally empty zeroed counting-list ≡ record { made = 4; gone = 3 })
+unfolding tallied Label label level leq meet join bot need used cell speaks things handles edges safe decode sheds ended effect refusal answer
+tally-right = (refl, refl)

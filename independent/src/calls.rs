@@ -1,0 +1,150 @@
+//! The thirteen calls: 01, "Calls", columns "Code" and "Call".
+//!
+//! Which numbers a call takes and what each of them names. The effects are in `monitor`, the conditions
+//! in `refusals`.
+
+use crate::tables::{Direction, Handle};
+
+/// A call's code, the word it has in assembly text, and the names of its numbers in "the journal's
+/// order of numbers".
+#[derive(Debug)]
+pub struct Shape {
+    pub code: u32,
+    pub word: &'static str,
+    pub numbers: &'static [&'static str],
+}
+
+const fn shape(code: u32, word: &'static str, numbers: &'static [&'static str]) -> Shape {
+    Shape { code, word, numbers }
+}
+
+/// 01, "Calls", in the order of their codes.
+pub const SHAPES: [Shape; 13] = [
+    shape(1, "admit", &["s", "level"]),
+    shape(2, "register", &["o", "level"]),
+    shape(3, "create", &["s", "o"]),
+    shape(4, "pipe", &["s", "o", "r", "w"]),
+    shape(5, "open-read", &["s", "o", "p"]),
+    shape(6, "open-write", &["s", "o", "p"]),
+    shape(7, "read", &["s", "p"]),
+    shape(8, "write", &["s", "p"]),
+    shape(9, "fork", &["s", "c"]),
+    shape(10, "exec", &["s", "o"]),
+    shape(11, "close", &["s", "p"]),
+    shape(12, "exit", &["s"]),
+    shape(13, "retire", &["o"]),
+];
+
+/// The shape of the call with this code; none for a "code not 1 to 13".
+pub fn shape_of_code(code: u32) -> Option<&'static Shape> {
+    SHAPES.iter().find(|shape| shape.code == code)
+}
+
+/// The shape of the call with this word.
+pub fn shape_of_word(word: &str) -> Option<&'static Shape> {
+    SHAPES.iter().find(|shape| shape.word == word)
+}
+
+/// A call with its numbers by name, as document 01 names them.
+#[derive(Clone, Copy, Debug, PartialEq, Eq)]
+pub enum Call {
+    Admit { s: u32, level: u32 },
+    Register { o: u32, level: u32 },
+    Create { s: u32, o: u32 },
+    Pipe { s: u32, o: u32, r: u32, w: u32 },
+    OpenRead { s: u32, o: u32, p: u32 },
+    OpenWrite { s: u32, o: u32, p: u32 },
+    Read { s: u32, p: u32 },
+    Write { s: u32, p: u32 },
+    Fork { s: u32, c: u32 },
+    Exec { s: u32, o: u32 },
+    Close { s: u32, p: u32 },
+    Exit { s: u32 },
+    Retire { o: u32 },
+}
+
+impl Call {
+    /// "A direct call takes a code and four 32-bit numbers and ignores those its code does not use."
+    pub fn new(code: u32, numbers: [u32; 4]) -> Option<Call> {
+        let [a, b, c, d] = numbers;
+        Some(match code {
+            1 => Call::Admit { s: a, level: b },
+            2 => Call::Register { o: a, level: b },
+            3 => Call::Create { s: a, o: b },
+            4 => Call::Pipe { s: a, o: b, r: c, w: d },
+            5 => Call::OpenRead { s: a, o: b, p: c },
+            6 => Call::OpenWrite { s: a, o: b, p: c },
+            7 => Call::Read { s: a, p: b },
+            8 => Call::Write { s: a, p: b },
+            9 => Call::Fork { s: a, c: b },
+            10 => Call::Exec { s: a, o: b },
+            11 => Call::Close { s: a, p: b },
+            12 => Call::Exit { s: a },
+            13 => Call::Retire { o: a },
+            _ => return None,
+        })
+    }
+
+    /// The subject s that asks: "calls 3 to 12".
+    pub fn asker(self) -> Option<u32> {
+        match self {
+            Call::Create { s, .. }
+            | Call::Pipe { s, .. }
+            | Call::OpenRead { s, .. }
+            | Call::OpenWrite { s, .. }
+            | Call::Read { s, .. }
+            | Call::Write { s, .. }
+            | Call::Fork { s, .. }
+            | Call::Exec { s, .. }
+            | Call::Close { s, .. }
+            | Call::Exit { s } => Some(s),
+            Call::Admit { .. } | Call::Register { .. } | Call::Retire { .. } => None,
+        }
+    }
+
+    /// The "number for a new subject".
+    pub fn new_subject(self) -> Option<u32> {
+        match self {
+            Call::Admit { s, .. } => Some(s),
+            Call::Fork { c, .. } => Some(c),
+            _ => None,
+        }
+    }
+
+    /// The "number for a new object".
+    pub fn new_object(self) -> Option<u32> {
+        match self {
+            Call::Register { o, .. } | Call::Create { o, .. } | Call::Pipe { o, .. } => Some(o),
+            _ => None,
+        }
+    }
+
+    /// The "object of calls 5, 6, 10, 13".
+    pub fn named_object(self) -> Option<u32> {
+        match self {
+            Call::OpenRead { o, .. }
+            | Call::OpenWrite { o, .. }
+            | Call::Exec { o, .. }
+            | Call::Retire { o } => Some(o),
+            _ => None,
+        }
+    }
+
+    /// The level that comes with a thing from outside.
+    pub fn level(self) -> Option<u32> {
+        match self {
+            Call::Admit { level, .. } | Call::Register { level, .. } => Some(level),
+            _ => None,
+        }
+    }
+
+    /// The handle that an open asks for, with the subject that asks.
+    pub fn sought(self) -> Option<(u32, Handle)> {
+        let (s, object, direction) = match self {
+            Call::OpenRead { s, o, .. } => (s, o, Direction::Reading),
+            Call::OpenWrite { s, o, .. } => (s, o, Direction::Writing),
+            _ => return None,
+        };
+        Some((s, Handle { object, direction }))
+    }
+}

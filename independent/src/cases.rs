@@ -1,0 +1,260 @@
+//! Worked cases: 01, "Pay-run cases", the example under "Journal", and DWARF's examples of numbers.
+//!
+//! The replies stand here as the document settles them; they are not worked out by this program.
+
+use crate::assembly::assemble;
+
+/// DWARF 5, section 7.6, the examples of unsigned LEB128.
+pub const DWARF_NUMBERS: &[(u32, &[u8])] = &[
+    (2, &[0x02]),
+    (127, &[0x7f]),
+    (128, &[0x80, 0x01]),
+    (129, &[0x81, 0x01]),
+    (130, &[0x82, 0x01]),
+    (12857, &[0xb9, 0x64]),
+];
+
+/// A journal with its replies.
+#[derive(Clone, Debug, PartialEq, Eq)]
+pub struct Case {
+    pub name: String,
+    /// What it shows.
+    pub what: String,
+    pub journal: Vec<u8>,
+    pub replies: String,
+}
+
+/// "File 0 has level 9, file 1 level 2, subject 0 level 9."
+const START: &str = "register 0 9; register 1 2; admit 0 9";
+const START_REPLIES: &str = "1 2 A 9; 2 2 A 2; 3 1 A 9";
+
+/// K6's state before the last open: a pipe (object 5, reading at 0, writing at 1), a fork, file 0 open.
+const K6: &str = "pipe 0 5 0 1; fork 0 1; open-write 0 0 2";
+const K6_REPLIES: &str = "4 4 A 9; 5 9 A 9; 6 6 A 9";
+
+/// K7's state: "with 0's reading end and 1's writing end closed first". The step that writes to file 0 is
+/// then upstream of the one that reads file 1.
+const K7: &str = "pipe 0 5 0 1; fork 0 1; close 0 0; close 1 1; open-write 0 0 2";
+const K7_REPLIES: &str = "4 4 A 9; 5 9 A 9; 6 11 A 9; 7 11 A 9; 8 6 A 9";
+
+/// Name, what it shows, calls after the common start, replies to them and the end line.
+const AFTER_START: &[(&str, &str, &str, &str)] = &[
+    (
+        "K1",
+        "0 opens file 0 for writing, then file 1 for reading: 9",
+        "open-write 0 0 0; open-read 0 1 1",
+        "4 6 A 9; 5 5 R 9; end 1 0 1",
+    ),
+    (
+        "K2",
+        "after closing the first handle: allowed",
+        "open-write 0 0 0; open-read 0 1 1; close 0 0; open-read 0 1 1",
+        "4 6 A 9; 5 5 R 9; 6 11 A 9; 7 5 A 2; end 2 1 1",
+    ),
+    (
+        "K3",
+        "0 opens file 1 for reading, has not read, opens file 0 for writing: 9",
+        "open-read 0 1 0; open-write 0 0 1",
+        "4 5 A 2; 5 6 R 9; end 1 0 1",
+    ),
+    (
+        "K4",
+        "a subject of level 8 opens file 0 for writing: 9",
+        "admit 1 8; open-write 1 0 0",
+        "4 1 A 8; 5 6 R 9; end 0 0 0",
+    ),
+    (
+        "K5",
+        "a subject of level 9 opens file 0 for writing: allowed",
+        "open-write 0 0 0",
+        "4 6 A 9; end 1 0 1",
+    ),
+    (
+        "K9-low",
+        "with file 0 open for writing, exec of file 1: 9",
+        "open-write 0 0 0; exec 0 1",
+        "4 6 A 9; 5 10 R 9; end 1 0 1",
+    ),
+    (
+        "K9-level-9",
+        "with file 0 open for writing, exec of a level 9 file: allowed",
+        "register 2 9; open-write 0 0 0; exec 0 2",
+        "4 2 A 9; 5 6 A 9; 6 10 A 9; end 1 0 1",
+    ),
+    (
+        "place-15",
+        "place 15 is taken",
+        "open-read 0 1 15; read 0 15; close 0 15",
+        "4 5 A 2; 5 7 L 2; 6 11 A 2; end 1 1 0",
+    ),
+    (
+        "place-16",
+        "place 16 gives 7, in every call with a place",
+        "open-read 0 1 16; open-write 0 1 16; pipe 0 2 16 0; pipe 0 2 0 16; read 0 16; write 0 16; close 0 16",
+        "4 5 R 7; 5 6 R 7; 6 4 R 7; 7 4 R 7; 8 7 R 7; 9 8 R 7; 10 11 R 7; end 0 0 0",
+    ),
+    (
+        "subject-32",
+        "subject 32 gives 2",
+        "create 32 2; pipe 32 2 0 1; open-read 32 0 0; open-write 32 0 0; read 32 0; write 32 0; \
+         fork 32 1; exec 32 0; close 32 0; exit 32",
+        "4 3 R 2; 5 4 R 2; 6 5 R 2; 7 6 R 2; 8 7 R 2; 9 8 R 2; 10 9 R 2; 11 10 R 2; 12 11 R 2; \
+         13 12 R 2; end 0 0 0",
+    ),
+    (
+        "subject-32-new",
+        "subject 32 as new gives 3",
+        "admit 32 9; fork 0 32",
+        "4 1 R 3; 5 9 R 3; end 0 0 0",
+    ),
+    (
+        "subject-31-new",
+        "subject 31 is taken, as new",
+        "admit 31 9; exit 31; fork 0 31; exit 31",
+        "4 1 A 9; 5 12 A 9; 6 9 A 9; 7 12 A 9; end 0 0 0",
+    ),
+    (
+        "object-63-and-64",
+        "object 63 is taken, 64 gives 3 as new and 4 as named",
+        "register 63 4; register 64 4; create 0 64; pipe 0 64 0 1; retire 63; retire 64; exec 0 64",
+        "4 2 A 4; 5 2 R 3; 6 3 R 3; 7 4 R 3; 8 13 A 4; 9 13 R 4; 10 10 R 4; end 0 0 0",
+    ),
+    (
+        "fork-own-number",
+        "fork to its own number: 3",
+        "fork 0 0",
+        "4 9 R 3; end 0 0 0",
+    ),
+];
+
+/// Name, what it shows, calls from empty tables, replies.
+const FROM_EMPTY: &[(&str, &str, &str, &str)] = &[
+    ("K10", "a padded length: 11", "bytes 80 00", "1 0 R 11; end 0 0 0"),
+    ("K11", "a record without a body: 12", "bytes 00", "1 0 R 12; end 0 0 0"),
+    (
+        "example",
+        "the input hex of document 01, \"Journal\"",
+        "bytes 03 02 00 02 03 01 00 09 04 05 00 00 00 03 07 00 00",
+        "1 2 A 2; 2 1 A 9; 3 5 A 2; 4 7 L 2; end 1 0 1",
+    ),
+    ("empty", "empty journal: end 0 0 0 alone", "", "end 0 0 0"),
+    ("level-15", "level 15 is taken", "admit 0 15; register 0 15", "1 1 A 15; 2 2 A 15; end 0 0 0"),
+    ("level-16", "level 16 gives 6", "admit 0 16; register 0 16", "1 1 R 6; 2 2 R 6; end 0 0 0"),
+    (
+        "pipe-ends",
+        "a pipe ends when its last handle goes, and its number is free",
+        "admit 0 5; pipe 0 3 0 1; register 3 9; close 0 1; register 3 9; close 0 0; register 3 9",
+        "1 1 A 5; 2 4 A 5; 3 2 R 3; 4 11 A 5; 5 2 R 3; 6 11 A 5; 7 2 A 9; end 2 2 0",
+    ),
+    (
+        "unknown-code-skipped",
+        "an unknown code is 1, whatever follows it; the next record is read",
+        "bytes 03 4d 80 00; call 0; call 4294967295 1 2 3 4 5; admit 0 9",
+        "1 77 R 1; 2 0 R 1; 3 4294967295 R 1; 4 1 A 9; end 0 0 0",
+    ),
+    (
+        "twelve-first",
+        "12 in a record comes before 2 to 10, and the next record is read",
+        "call 12 40 1; call 7 40; bytes 03 0c 80 00; bytes 02 8c 00; admit 0 9",
+        "1 12 R 12; 2 7 R 12; 3 12 R 12; 4 0 R 12; 5 1 A 9; end 0 0 0",
+    ),
+    (
+        "past-the-end",
+        "a length that runs past the end: 11, and the run stops there",
+        "admit 0 9; bytes 04 01 01 09",
+        "1 1 A 9; 2 0 R 11; end 0 0 0",
+    ),
+];
+
+/// Every case.
+pub fn all() -> Vec<Case> {
+    let mut cases = Vec::new();
+    let mut add = |name: &str, what: &str, journal: Vec<u8>, replies: &str| {
+        cases.push(Case {
+            name: name.to_string(),
+            what: what.to_string(),
+            journal,
+            replies: lines(replies),
+        });
+    };
+
+    for &(name, what, calls, replies) in AFTER_START {
+        let journal = journal_of(&format!("{START}; {calls}"));
+        add(name, what, journal, &format!("{START_REPLIES}; {replies}"));
+    }
+    let flow = [
+        (
+            "K6",
+            "0 makes a pipe, forks 1; 0 opens file 0 for writing, 1 opens file 1 for reading: 9, as 1 can \
+             still write to the pipe",
+            format!("{K6}; open-read 1 1 2"),
+            format!("{K6_REPLIES}; 7 5 R 9; end 5 0 5"),
+        ),
+        (
+            "K7",
+            "with 0's reading end and 1's writing end closed first: allowed",
+            format!("{K7}; open-read 1 1 2"),
+            format!("{K7_REPLIES}; 9 5 A 2; end 6 2 4"),
+        ),
+        (
+            "K8",
+            "1 then reads and is lowered to 2; 0 stays at 9",
+            format!("{K7}; open-read 1 1 2; read 1 2; close 0 2"),
+            format!("{K7_REPLIES}; 9 5 A 2; 10 7 L 2; 11 11 A 9; end 6 3 3"),
+        ),
+    ];
+    for (name, what, calls, replies) in &flow {
+        let journal = journal_of(&format!("{START}; {calls}"));
+        add(name, what, journal, &format!("{START_REPLIES}; {replies}"));
+    }
+    for &(name, what, calls, replies) in FROM_EMPTY {
+        add(name, what, journal_of(calls), replies);
+    }
+
+    // The limit of a journal's length: one long record of an unknown code.
+    for (bytes, replies) in [(65_536, "1 14 R 1; end 0 0 0"), (65_537, "1 0 R 14; end 0 0 0")] {
+        let mut body = vec![0; bytes - 3];
+        body[0] = 14;
+        let mut journal = Vec::new();
+        crate::records::write_body(&body, &mut journal);
+        let what = format!("a journal of {bytes} bytes");
+        add(&format!("bytes-{bytes}"), &what, journal, replies);
+    }
+
+    // As many records as a journal can have.
+    let replies: String = (1..=65_536).map(|position| format!("{position} 0 R 12;")).collect();
+    add("records-65536", "65,536 records without a body", vec![0; 65_536], &format!("{replies} end 0 0 0"));
+
+    // DWARF's examples, each as a code and as a length.
+    for &(value, bytes) in DWARF_NUMBERS {
+        let mut journal = vec![bytes.len() as u8];
+        journal.extend_from_slice(bytes);
+        let refusal = if value == 2 { 12 } else { 1 };
+        let what = format!("DWARF's example {value} as the code of a record");
+        let replies = format!("1 {value} R {refusal}; end 0 0 0");
+        add(&format!("dwarf-{value}-code"), &what, journal, &replies);
+
+        let mut journal = bytes.to_vec();
+        journal.push(77);
+        journal.resize(bytes.len() + value as usize, 0);
+        journal.push(0);
+        let what = format!("DWARF's example {value} as the length of a record");
+        let replies = "1 77 R 1; 2 0 R 12; end 0 0 0";
+        add(&format!("dwarf-{value}-length"), &what, journal, replies);
+    }
+    cases
+}
+
+/// The case of this name.
+pub fn named(name: &str) -> Option<Case> {
+    all().into_iter().find(|case| case.name == name)
+}
+
+fn lines(replies: &str) -> String {
+    replies.split(';').map(|line| format!("{}\n", line.trim())).collect()
+}
+
+/// The calls above are assembly text with `;` for line ends.
+fn journal_of(calls: &str) -> Vec<u8> {
+    assemble(calls.replace(';', "\n").as_bytes()).unwrap_or_default()
+}

@@ -1,0 +1,419 @@
+//! The command line. Errors go to standard error; see `help::WHOLE` for the exit statuses.
+
+use std::ffi::{OsStr, OsString};
+use std::fs::File;
+use std::io::{self, Read, Write};
+use std::process::ExitCode;
+use std::time::{Duration, SystemTime, UNIX_EPOCH};
+
+use crate::assembly::{assemble, Fault};
+use crate::bite;
+use crate::cases::{self, Case};
+use crate::compare::{self, Program};
+use crate::disassembly::disassemble;
+use crate::explain::explain;
+use crate::generate::{self, Style, Wish, STYLES};
+use crate::help;
+use crate::replies::{replies_by, LONGEST_JOURNAL};
+use crate::text::indented;
+use crate::variants::{Rules, ALL};
+
+/// Lines of a case that are printed in full.
+const CASE_LINES: usize = 20;
+
+/// Why the program ends with a status other than 0.
+enum Failure {
+    /// The command line is wrong: status 2.
+    Usage(String),
+    /// Something else failed, or a difference was found: status 1.
+    Failed(String),
+}
+
+type Done = Result<(), Failure>;
+
+/// Runs the program with these arguments.
+pub fn main(arguments: Vec<OsString>) -> ExitCode {
+    match dispatch(arguments) {
+        Ok(()) => ExitCode::SUCCESS,
+        Err(failure) => {
+            let (message, status) = match failure {
+                Failure::Usage(message) => (format!("gk: {message}"), 2),
+                Failure::Failed(message) => (format!("gk: {message}"), 1),
+            };
+            // Where standard error cannot be written to, the status still tells.
+            let _ = writeln!(io::stderr(), "{message}");
+            ExitCode::from(status)
+        }
+    }
+}
+
+fn dispatch(arguments: Vec<OsString>) -> Done {
+    let mut arguments = arguments.into_iter();
+    let Some(command) = arguments.next() else {
+        let message = "expected a command. Type: gk --help".to_string();
+        return Err(Failure::Usage(message));
+    };
+    let rest: Vec<OsString> = arguments.collect();
+    let command = command.to_string_lossy().into_owned();
+    if command == "--help" || command == "-h" || command == "help" {
+        let text = match rest.first() {
+            Some(topic) => help_of(&topic.to_string_lossy())?,
+            None => help::WHOLE,
+        };
+        return write_output(text.as_bytes());
+    }
+    let text = help_of(&command)?;
+    let before_dashes = rest.iter().take_while(|argument| *argument != "--");
+    if before_dashes.clone().any(|argument| argument == "--help" || argument == "-h") {
+        return write_output(text.as_bytes());
+    }
+    match command.as_str() {
+        "run" => run(rest),
+        "explain" => through(rest, "explain", |journal| Ok(explain(journal).into_bytes())),
+        "assemble" => assemble_command(rest),
+        "disassemble" => through(rest, "disassemble", |journal| Ok(disassemble(journal).into_bytes())),
+        "cases" => cases_command(rest),
+        "generate" => generate_command(rest),
+        "compare" => compare_command(rest),
+        "variants" => variants_command(rest),
+        _ => bite_command(rest),
+    }
+}
+
+fn help_of(command: &str) -> Result<&'static str, Failure> {
+    match help::COMMANDS.iter().find(|(name, _)| *name == command) {
+        Some((_, text)) => Ok(text),
+        None => {
+            let names: Vec<&str> = help::COMMANDS.iter().map(|(name, _)| *name).collect();
+            Err(Failure::Usage(format!(
+                "there is no command \"{command}\". The commands are: {}",
+                names.join(", ")
+            )))
+        }
+    }
+}
+
+// Arguments.
+
+/// The options and files of a command.
+struct Arguments {
+    command: &'static str,
+    options: Vec<(String, OsString)>,
+    switches: Vec<String>,
+    files: Vec<OsString>,
+    behind_dashes: Vec<OsString>,
+}
+
+impl Arguments {
+    /// Sorts the arguments; `valued` are the options that take a value, `switches` those that do not.
+    fn sort(
+        command: &'static str,
+        arguments: Vec<OsString>,
+        valued: &[&str],
+        switches: &[&str],
+    ) -> Result<Arguments, Failure> {
+        let mut sorted = Arguments {
+            command,
+            options: Vec::new(),
+            switches: Vec::new(),
+            files: Vec::new(),
+            behind_dashes: Vec::new(),
+        };
+        let mut arguments = arguments.into_iter();
+        while let Some(argument) = arguments.next() {
+            let text = argument.to_string_lossy().into_owned();
+            if text == "--" {
+                sorted.behind_dashes = arguments.by_ref().collect();
+            } else if !text.starts_with("--") {
+                sorted.files.push(argument);
+            } else if switches.contains(&text.as_str()) {
+                sorted.switches.push(text);
+            } else if valued.contains(&text.as_str()) {
+                match arguments.next() {
+                    Some(value) => sorted.options.push((text, value)),
+                    None => return Err(sorted.wrong(&format!("{text} needs a value"))),
+                }
+            } else {
+                return Err(sorted.wrong(&format!("there is no option \"{text}\"")));
+            }
+        }
+        Ok(sorted)
+    }
+
+    fn wrong(&self, message: &str) -> Failure {
+        let command = self.command;
+        Failure::Usage(format!("{command}: {message}. Type: gk {command} --help"))
+    }
+
+    /// The value given last for an option.
+    fn value(&self, option: &str) -> Option<&OsString> {
+        let given = self.options.iter().rev().find(|(name, _)| name == option);
+        given.map(|(_, value)| value)
+    }
+
+    fn number(&self, option: &str) -> Result<Option<u64>, Failure> {
+        let Some(value) = self.value(option) else {
+            return Ok(None);
+        };
+        let text = value.to_string_lossy();
+        match text.parse() {
+            Ok(number) => Ok(Some(number)),
+            Err(_) => Err(self.wrong(&format!("{option} needs a number, not \"{text}\""))),
+        }
+    }
+
+    /// The one file, if it is given.
+    fn file(&self) -> Result<Option<&OsStr>, Failure> {
+        match self.files.as_slice() {
+            [] => Ok(None),
+            [file] => Ok(Some(file)),
+            [_, second, ..] => {
+                let second = second.to_string_lossy();
+                Err(self.wrong(&format!("expected one file, found \"{second}\" as well")))
+            }
+        }
+    }
+
+    fn no_files(&self) -> Done {
+        match self.files.first() {
+            None => Ok(()),
+            Some(file) => {
+                let file = file.to_string_lossy();
+                Err(self.wrong(&format!("\"{file}\" is not expected")))
+            }
+        }
+    }
+}
+
+// Reading and writing.
+
+/// The bytes of a file, or of standard input; no more than `most` of them.
+fn read_input(file: Option<&OsStr>, most: u64) -> Result<Vec<u8>, Failure> {
+    let mut bytes = Vec::new();
+    let (name, outcome) = match file {
+        Some(path) if path != "-" => {
+            let opened = File::open(path);
+            let outcome = opened.and_then(|file| file.take(most).read_to_end(&mut bytes));
+            (path.to_string_lossy().into_owned(), outcome)
+        }
+        _ => {
+            let outcome = io::stdin().lock().take(most).read_to_end(&mut bytes);
+            ("standard input".to_string(), outcome)
+        }
+    };
+    match outcome {
+        Ok(_) => Ok(bytes),
+        Err(error) => Err(Failure::Failed(format!("cannot read {name}: {error}"))),
+    }
+}
+
+fn write_output(bytes: &[u8]) -> Done {
+    let mut output = io::stdout().lock();
+    output
+        .write_all(bytes)
+        .and_then(|()| output.flush())
+        .map_err(|error| Failure::Failed(format!("cannot write standard output: {error}")))
+}
+
+/// A command without options that turns its input into its output.
+fn through(
+    arguments: Vec<OsString>,
+    command: &'static str,
+    work: impl Fn(&[u8]) -> Result<Vec<u8>, Failure>,
+) -> Done {
+    let arguments = Arguments::sort(command, arguments, &[], &[])?;
+    let input = read_input(arguments.file()?, u64::MAX)?;
+    write_output(&work(&input)?)
+}
+
+// Commands.
+
+fn run(arguments: Vec<OsString>) -> Done {
+    let arguments = Arguments::sort("run", arguments, &["--variant"], &[])?;
+    let rules = match arguments.value("--variant") {
+        None => Rules::default(),
+        Some(name) => {
+            let name = name.to_string_lossy();
+            let unknown = || Failure::Usage(format!("there is no variant \"{name}\". Type: gk variants"));
+            Rules::named(&name).ok_or_else(unknown)?
+        }
+    };
+    // One byte past the limit is enough to know that the journal is above it.
+    let journal = read_input(arguments.file()?, LONGEST_JOURNAL as u64 + 1)?;
+    write_output(replies_by(&journal, rules).as_bytes())
+}
+
+fn assemble_command(arguments: Vec<OsString>) -> Done {
+    let arguments = Arguments::sort("assemble", arguments, &[], &[])?;
+    let file = arguments.file()?;
+    let text = read_input(file, u64::MAX)?;
+    let name = match file {
+        Some(path) if path != "-" => path.to_string_lossy().into_owned(),
+        _ => "standard input".to_string(),
+    };
+    let journal = assemble(&text).map_err(|fault| Failure::Failed(fault_text(&name, &text, &fault)))?;
+    write_output(&journal)
+}
+
+/// A fault with its line, and a mark under the column.
+fn fault_text(name: &str, text: &[u8], fault: &Fault) -> String {
+    let line = text.split(|&byte| byte == b'\n').nth(fault.line - 1).unwrap_or(&[]);
+    let line = String::from_utf8_lossy(line);
+    // Tabs stay tabs, so that the mark stands under its column.
+    let mark: String = line
+        .chars()
+        .chain(std::iter::repeat(' '))
+        .take(fault.column - 1)
+        .map(|character| if character == '\t' { '\t' } else { ' ' })
+        .collect();
+    format!(
+        "{name}:{}:{}: {}\n    {}\n    {mark}^\n{}",
+        fault.line,
+        fault.column,
+        fault.expected,
+        line.trim_end(),
+        fault.advice
+    )
+}
+
+fn cases_command(arguments: Vec<OsString>) -> Done {
+    let switches = ["--hex", "--replies", "--journal"];
+    let arguments = Arguments::sort("cases", arguments, &[], &switches)?;
+    let name = arguments.file()?.map(|name| name.to_string_lossy().into_owned());
+    let chosen: Vec<Case> = match &name {
+        None => cases::all(),
+        Some(name) => match cases::named(name) {
+            Some(case) => vec![case],
+            None => {
+                let message = format!("there is no case \"{name}\"; gk cases --hex lists them");
+                return Err(arguments.wrong(&message));
+            }
+        },
+    };
+    let mode = match arguments.switches.as_slice() {
+        [] => "",
+        [mode] => mode,
+        _ => return Err(arguments.wrong("expected one of --hex, --replies and --journal")),
+    };
+    let mut output = Vec::new();
+    for case in &chosen {
+        match mode {
+            "--hex" => {
+                let hex: String = case.journal.iter().map(|byte| format!("{byte:02x}")).collect();
+                output.extend(format!("{} {hex}\n", case.name).bytes());
+            }
+            "--replies" if name.is_some() => output.extend(case.replies.bytes()),
+            "--replies" => output.extend(format!("{}\n{}\n", case.name, case.replies).bytes()),
+            "--journal" if name.is_some() => output.extend(&case.journal),
+            "--journal" => return Err(arguments.wrong("--journal needs the name of a case")),
+            _ => output.extend(case_text(case).bytes()),
+        }
+    }
+    write_output(&output)
+}
+
+fn case_text(case: &Case) -> String {
+    format!(
+        "{}: {}\n{}  replies\n{}\n",
+        case.name,
+        case.what,
+        indented(&disassemble(&case.journal), CASE_LINES),
+        indented(&case.replies, CASE_LINES)
+    )
+}
+
+fn generate_command(arguments: Vec<OsString>) -> Done {
+    let valued = ["--seed", "--index", "--calls", "--bytes", "--style"];
+    let arguments = Arguments::sort("generate", arguments, &valued, &[])?;
+    arguments.no_files()?;
+    let seed = arguments.number("--seed")?.ok_or_else(|| arguments.wrong("expected --seed N"))?;
+    let index = arguments.number("--index")?.unwrap_or(0);
+    let most = |option: &str, limit: u64| match arguments.number(option)? {
+        Some(number) if number > limit => Err(arguments.wrong(&format!("{option} may be at most {limit}"))),
+        number => Ok(number),
+    };
+    let wish = Wish {
+        style: style_of(&arguments)?,
+        calls: most("--calls", 1_000_000)?.map(|calls| calls as u32),
+        bytes: most("--bytes", 1_000_000)?.map(|bytes| bytes as usize),
+    };
+    write_output(&generate::journal(seed, index, wish))
+}
+
+fn style_of(arguments: &Arguments) -> Result<Style, Failure> {
+    let Some(name) = arguments.value("--style") else {
+        return Ok(Style::Mixed);
+    };
+    match STYLES.iter().find(|(_, word, _)| name == word) {
+        Some((style, _, _)) => Ok(*style),
+        None => {
+            let names: Vec<&str> = STYLES.iter().map(|(_, word, _)| *word).collect();
+            let name = name.to_string_lossy();
+            let message = format!("there is no style \"{name}\". The styles are: {}", names.join(", "));
+            Err(arguments.wrong(&message))
+        }
+    }
+}
+
+fn variants_command(arguments: Vec<OsString>) -> Done {
+    let arguments = Arguments::sort("variants", arguments, &[], &[])?;
+    arguments.no_files()?;
+    let width = ALL.iter().map(|(_, name, _)| name.len()).max().unwrap_or(0);
+    let lines: String = ALL.iter().map(|(_, name, what)| format!("{name:<width$}  {what}\n")).collect();
+    write_output(lines.as_bytes())
+}
+
+fn bite_command(arguments: Vec<OsString>) -> Done {
+    let arguments = Arguments::sort("bite", arguments, &["--seed", "--journals"], &[])?;
+    arguments.no_files()?;
+    let seed = arguments.number("--seed")?.unwrap_or(1);
+    let journals = arguments.number("--journals")?.unwrap_or(2000);
+    let bites = bite::bite(seed, journals);
+    write_output(bite::table(&bites, journals).as_bytes())?;
+    match bites.iter().filter(|bite| bite.journals.is_none()).count() {
+        0 => Ok(()),
+        missed => Err(Failure::Failed(format!("bite: {missed} variants were not told apart"))),
+    }
+}
+
+fn compare_command(arguments: Vec<OsString>) -> Done {
+    let valued = ["--program", "--seed", "--journals", "--jobs", "--seconds", "--save"];
+    let arguments = Arguments::sort("compare", arguments, &valued, &[])?;
+    arguments.no_files()?;
+    let path = arguments.value("--program").ok_or_else(|| arguments.wrong("expected --program PATH"))?;
+    let program = Program {
+        path: path.clone(),
+        arguments: arguments.behind_dashes.clone(),
+        patience: Duration::from_secs(arguments.number("--seconds")?.unwrap_or(10)),
+    };
+    let seed = arguments.number("--seed")?.unwrap_or_else(clock_seed);
+    let journals = arguments.number("--journals")?.unwrap_or(2000);
+    let jobs = match arguments.number("--jobs")? {
+        Some(jobs) => jobs.clamp(1, 64) as usize,
+        None => std::thread::available_parallelism().map_or(1, |count| count.get().min(2)),
+    };
+    write_output(format!("Seed {seed}; repeat with --seed {seed} --journals {journals}.\n").as_bytes())?;
+    let failed = |message: String| Failure::Failed(format!("compare: {message}"));
+    let outcome = compare::compare(&program, seed, journals, jobs).map_err(failed)?;
+    let count = outcome.count;
+    let Some(difference) = outcome.difference else {
+        let text = format!("The same replies, byte for byte: {count}.\n");
+        return write_output(text.as_bytes());
+    };
+    let origin = &difference.origin;
+    write_output(format!("The replies differ: {origin}. Making the journal shorter.\n").as_bytes())?;
+    let short = compare::shortest(&program, &difference.journal).map_err(failed)?;
+    write_output(compare::report(&program, &short).map_err(failed)?.as_bytes())?;
+    if let Some(path) = arguments.value("--save") {
+        let saved = std::fs::write(path, &short);
+        let name = path.to_string_lossy();
+        saved.map_err(|error| failed(format!("cannot write {name}: {error}")))?;
+    }
+    Err(failed(format!("a difference after {count} ({origin})")))
+}
+
+/// A seed from the clock, short enough to type.
+fn clock_seed() -> u64 {
+    let now = SystemTime::now().duration_since(UNIX_EPOCH);
+    now.map_or(1, |time| u64::from(time.subsec_nanos()) % 1_000_000)
+}

@@ -1,0 +1,218 @@
+//! Refusal 9: the chain of flows from the low thing to the higher file, and what would open the way.
+
+use super::names::{capital, direction_word, name, name_and_level};
+use crate::calls::Call;
+use crate::needs::{level, live_things, Flow, Needs, Thing};
+use crate::refusals::{meaning, sought_flow};
+use crate::tables::{Direction, Handle, Kind, Tables};
+use crate::text::wrapped;
+use crate::variants::Rules;
+
+/// Ways out that are named one by one.
+const MOST_WAYS: usize = 3;
+
+/// The things along a chain of flows.
+struct Chain {
+    things: Vec<Thing>,
+}
+
+/// The refusal with its chain and what would open the way.
+pub fn flow_refusal(call: Call, tables: &Tables) -> String {
+    let mut text = format!("  Refused (9): {}.\n", meaning(9));
+    let Some((chain, sought)) = chain_in_the_way(call, tables) else {
+        return text;
+    };
+    let links = chain.things.iter().enumerate().map(|(index, &thing)| {
+        let arrow = if index == 0 { "" } else { "→ " };
+        format!("{arrow}{}", name_and_level(thing, tables))
+    });
+    text.push_str(&wrapped(links, "    ", "      "));
+    let (Some(&low), Some(&high)) = (chain.things.first(), chain.things.last()) else {
+        return text;
+    };
+    let high_level = level(tables, high).unwrap_or(0);
+    text.push_str(&format!(
+        "  {} has level {}, and {} takes nothing from below level {high_level}.\n",
+        capital(&name(low, tables)),
+        level(tables, low).unwrap_or(0),
+        name(high, tables)
+    ));
+    text.push_str(&advice(call, tables, &chain, sought));
+    text
+}
+
+/// The shortest chain from a thing that would be below its need to a file above its level; and the flow
+/// that the call asks for.
+fn chain_in_the_way(call: Call, tables: &Tables) -> Option<(Chain, Flow)> {
+    let (sought, low): (Flow, Vec<Thing>) = match call {
+        Call::Exec { s, o } => {
+            // Running a file is a flow from it to the subject.
+            let from = Thing::Object(o);
+            let to = Thing::Subject(s);
+            (Flow { from, to }, vec![from])
+        }
+        _ => {
+            let sought = sought_flow(tables, call)?;
+            let needs = needs_with(tables, Some(sought));
+            let low = needs.unmet(tables).collect();
+            (sought, low)
+        }
+    };
+    low.into_iter()
+        .filter_map(|thing| chain_up(thing, tables, sought))
+        .min_by_key(|chain| chain.things.len())
+        .map(|chain| (chain, sought))
+}
+
+fn needs_with(tables: &Tables, sought: Option<Flow>) -> Needs {
+    Needs::work_out(tables, sought, Rules::default(), &Needs::none(tables))
+}
+
+/// The shortest chain of flows from a thing to a file of a higher level.
+fn chain_up(start: Thing, tables: &Tables, sought: Flow) -> Option<Chain> {
+    let own = level(tables, start)?;
+    let mut flows: Vec<Flow> = tables.handles().map(|(s, _, handle)| Flow::of(s, handle)).collect();
+    flows.push(sought);
+    let is_higher_file = |thing| match thing {
+        Thing::Object(o) => {
+            tables.object(o).is_some_and(|object| object.kind == Kind::File && object.level > own)
+        }
+        Thing::Subject(_) => false,
+    };
+    // Breadth first, each thing with the one before it.
+    let mut reached: Vec<(Thing, usize)> = vec![(start, 0)];
+    let mut next = 0;
+    while next < reached.len() {
+        let (thing, _) = reached[next];
+        if is_higher_file(thing) {
+            let mut things = vec![thing];
+            let mut index = next;
+            while index != 0 {
+                index = reached[index].1;
+                things.push(reached[index].0);
+            }
+            things.reverse();
+            return Some(Chain { things });
+        }
+        for flow in flows.iter().filter(|flow| flow.from == thing) {
+            if !reached.iter().any(|&(known, _)| known == flow.to) {
+                reached.push((flow.to, next));
+            }
+        }
+        next += 1;
+    }
+    None
+}
+
+/// The handles that carry the flow from one thing to the next.
+fn carriers(tables: &Tables, from: Thing, to: Thing) -> Vec<(u32, u32, Handle)> {
+    tables.handles().filter(|&(s, _, handle)| Flow::of(s, handle) == Flow { from, to }).collect()
+}
+
+/// Which handles to close so that the call is allowed, or who else could ask.
+fn advice(call: Call, tables: &Tables, chain: &Chain, sought: Flow) -> String {
+    let mut ways = Vec::new();
+    let mut first_link = None;
+    for link in chain.things.windows(2) {
+        let (from, to) = (link[0], link[1]);
+        let handles = carriers(tables, from, to);
+        if (Flow { from, to }) == sought || handles.is_empty() {
+            continue;
+        }
+        let mut without = tables.clone();
+        for &(s, p, _) in &handles {
+            without.set_handle(s, p, None);
+        }
+        let words = close_words(&handles, tables);
+        if is_free(call, &without, sought) {
+            ways.push(words);
+        } else if first_link.is_none() {
+            first_link = Some(words);
+        }
+    }
+    let again = match call {
+        Call::Exec { .. } => "run it",
+        _ => "open it",
+    };
+    let mut lines = Vec::new();
+    if !ways.is_empty() {
+        let more = if ways.len() > MOST_WAYS { ", or break the chain further on" } else { "" };
+        ways.truncate(MOST_WAYS);
+        lines.push(format!("close {}{more}; {again} after that.", ways.join(", or close ")));
+    } else if let Some(words) = first_link {
+        lines.push(format!(
+            "more than one way leads there. Close {words}, then ask again: the next way is shown."
+        ));
+    }
+    lines.push(other_asker(call, tables, chain));
+    lines
+        .iter()
+        .enumerate()
+        .map(|(index, line)| {
+            let start = if index == 0 { "  What to do: " } else { "  Or: " };
+            wrapped(line.split(' ').map(str::to_string), start, "    ")
+        })
+        .collect()
+}
+
+/// Whether the flow that the call asks for offends nothing in these tables.
+fn is_free(call: Call, tables: &Tables, sought: Flow) -> bool {
+    match call {
+        // A pipe without handles has ended.
+        Call::OpenRead { o, .. } | Call::OpenWrite { o, .. }
+            if tables.object(o).is_some_and(|object| object.kind == Kind::Pipe) && !tables.is_held(o) =>
+        {
+            false
+        }
+        Call::Exec { s, o } => {
+            let needs = needs_with(tables, None);
+            tables.object(o).is_some_and(|object| object.level >= needs.of(Thing::Subject(s)))
+        }
+        _ => needs_with(tables, Some(sought)).unmet(tables).next().is_none(),
+    }
+}
+
+fn close_words(handles: &[(u32, u32, Handle)], tables: &Tables) -> String {
+    let words: Vec<String> = handles
+        .iter()
+        .map(|&(s, p, handle)| {
+            format!(
+                "place {p} of subject {s} ({} {})",
+                direction_word(handle.direction),
+                name(Thing::Object(handle.object), tables)
+            )
+        })
+        .collect();
+    words.join(" and ")
+}
+
+/// Who could ask instead.
+fn other_asker(call: Call, tables: &Tables, chain: &Chain) -> String {
+    let high = chain.things.last().copied();
+    let high_name = high.map_or_else(String::new, |thing| name(thing, tables));
+    let high_level = high.and_then(|thing| level(tables, thing)).unwrap_or(0);
+    match call {
+        Call::OpenWrite { s, o, .. } if chain.things.first() == Some(&Thing::Subject(s)) => {
+            let file = name(Thing::Object(o), tables);
+            let fit = live_things(tables).find_map(|thing| match thing {
+                Thing::Subject(other) if other != s => {
+                    let sought = Flow::of(other, Handle { object: o, direction: Direction::Writing });
+                    is_free(call, tables, sought).then_some(other)
+                }
+                _ => None,
+            });
+            match fit {
+                Some(other) => format!("let subject {other} open {file}: it may."),
+                None => format!("let a step of level {high_level} or above open {file}."),
+            }
+        }
+        Call::OpenWrite { s, .. } => format!(
+            "let a step open {high_name} that, unlike subject {s}, takes in nothing from below level \
+             {high_level}."
+        ),
+        Call::Exec { s, .. } => format!(
+            "fork a step from subject {s}, let it close its ways to {high_name}, and let it run the file."
+        ),
+        _ => format!("let another step read it, one with no way to {high_name}."),
+    }
+}

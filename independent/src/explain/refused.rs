@@ -1,0 +1,147 @@
+//! Refusals 2 to 10: the reason in plain words and a way out. Refusal 9 is in `flow`.
+
+use super::flow::flow_refusal;
+use super::names::{at_place, capital, direction_word};
+use crate::calls::Call;
+use crate::refusals::meaning;
+use crate::tables::{Direction, Tables, LIMITS};
+
+/// A refusal 2 to 10 with its reason and a way out.
+pub fn refusal(call: Call, number: u32, tables: &Tables) -> String {
+    let (why, advice) = match number {
+        2 => missing_subject(call),
+        3 => unfit_number(call, tables),
+        4 => missing_object(call),
+        5 => (
+            "Only files can be run or retired.".to_string(),
+            "name a file; a pipe ends by itself when its last handle is closed.".to_string(),
+        ),
+        6 => ("Levels are 0 (lowest) to 15.".to_string(), "give a level from 0 to 15.".to_string()),
+        7 => unfit_place(call, tables),
+        8 => wrong_direction(call, tables),
+        9 => return flow_refusal(call, tables),
+        10 => held_file(call, tables),
+        _ => (String::new(), String::new()),
+    };
+    format!("  Refused ({number}): {}. {why}\n  What to do: {advice}\n", meaning(number))
+}
+
+fn missing_subject(call: Call) -> (String, String) {
+    let s = call.asker().unwrap_or(0);
+    if s >= LIMITS.subjects {
+        (
+            format!("Subjects have numbers 0 to 31, and {s} is none of them."),
+            "use the number under which the step was admitted or forked.".to_string(),
+        )
+    } else {
+        (
+            format!("Subject {s} was not admitted or forked, or it has exited."),
+            format!("admit or fork subject {s} first, or use the number of a running step."),
+        )
+    }
+}
+
+fn unfit_number(call: Call, tables: &Tables) -> (String, String) {
+    let (kind, number, limit, free) = match (call.new_subject(), call.new_object()) {
+        (Some(s), _) => {
+            let free = (0..LIMITS.subjects).find(|&s| tables.subject(s).is_none());
+            ("subject", s, LIMITS.subjects, free)
+        }
+        (None, o) => {
+            let free = (0..LIMITS.objects).find(|&o| tables.object(o).is_none());
+            ("object", o.unwrap_or(0), LIMITS.objects, free)
+        }
+    };
+    let why = if number >= limit {
+        format!("{} numbers are 0 to {}.", capital(kind), limit - 1)
+    } else {
+        format!("{} {number} is in use.", capital(kind))
+    };
+    let advice = match free {
+        Some(free) => format!("use a free number, for example {free}."),
+        None if kind == "subject" => "all 32 are in use: let a step exit first.".to_string(),
+        None => "all 64 are in use: retire a file or close a pipe's handles first.".to_string(),
+    };
+    (why, advice)
+}
+
+fn missing_object(call: Call) -> (String, String) {
+    let o = call.named_object().unwrap_or(0);
+    if o >= LIMITS.objects {
+        (
+            format!("Objects have numbers 0 to 63, and {o} is none of them."),
+            "use the number under which the file or pipe was made.".to_string(),
+        )
+    } else {
+        (
+            format!("There is no file or pipe {o}, or it is gone."),
+            format!("register, create or make object {o} first, or use another number."),
+        )
+    }
+}
+
+fn unfit_place(call: Call, tables: &Tables) -> (String, String) {
+    let (s, places, wants_empty) = match call {
+        Call::Pipe { s, r, w, .. } => (s, vec![r, w], true),
+        Call::OpenRead { s, p, .. } | Call::OpenWrite { s, p, .. } => (s, vec![p], true),
+        Call::Read { s, p } | Call::Write { s, p } | Call::Close { s, p } => (s, vec![p], false),
+        _ => (0, Vec::new(), false),
+    };
+    let above = places.iter().find(|&&p| p >= LIMITS.places);
+    let taken = places.iter().find(|&&p| tables.handle(s, p).is_some());
+    let why = match (above, taken) {
+        (Some(p), _) => format!("Places are 0 to 15, and {p} is none of them."),
+        (None, Some(p)) if wants_empty => {
+            format!("Place {p} of subject {s} is taken by {}.", at_place(s, *p, tables))
+        }
+        _ if wants_empty => "The two ends of a pipe need two places.".to_string(),
+        _ => format!("That place of subject {s} is empty."),
+    };
+    let places: Vec<String> = (0..LIMITS.places)
+        .filter(|&p| tables.handle(s, p).is_none() == wants_empty)
+        .map(|p| p.to_string())
+        .collect();
+    let advice = match (wants_empty, places.is_empty()) {
+        (true, false) => format!("use an empty place of subject {s}: {}.", places.join(", ")),
+        (true, true) => format!("all 16 places of subject {s} are taken: close one first."),
+        (false, false) => format!("use a place that subject {s} holds: {}.", places.join(", ")),
+        (false, true) => format!("subject {s} holds no handle: open something first."),
+    };
+    (why, advice)
+}
+
+fn wrong_direction(call: Call, tables: &Tables) -> (String, String) {
+    let (s, p) = match call {
+        Call::Read { s, p } | Call::Write { s, p } => (s, p),
+        _ => (0, 0),
+    };
+    let wanted = match call {
+        Call::Read { .. } => Direction::Reading,
+        _ => Direction::Writing,
+    };
+    let fitting: Vec<String> = tables
+        .handles_of(s)
+        .filter(|(_, handle)| handle.direction == wanted)
+        .map(|(p, _)| p.to_string())
+        .collect();
+    let word = direction_word(wanted);
+    let advice = if fitting.is_empty() {
+        format!("open it for {word} at another place.")
+    } else {
+        format!("use a {word} handle of subject {s}, at place {}.", fitting.join(" or "))
+    };
+    (format!("Place {p} holds {}.", at_place(s, p, tables)), advice)
+}
+
+fn held_file(call: Call, tables: &Tables) -> (String, String) {
+    let o = call.named_object().unwrap_or(0);
+    let holders: Vec<String> = tables
+        .handles()
+        .filter(|(_, _, handle)| handle.object == o)
+        .map(|(s, p, _)| format!("subject {s} at place {p}"))
+        .collect();
+    (
+        format!("File {o} is held open by {}.", holders.join(", ")),
+        "close these handles first, or let those steps exit.".to_string(),
+    )
+}

@@ -1,0 +1,291 @@
+//! Journals by seed, made to find differences between two programs.
+//!
+//! Most calls are meaningful: a monitor of its own is the generator's picture of what is live, so that it
+//! knows which numbers to draw. Levels come from a few that a journal keeps to, so that tests of level
+//! against need are often close. Then numbers go wrong, records are damaged, tables fill up, pipes form
+//! chains and rings, and journals take every length up to 65,537 bytes, as the style says.
+
+mod arrangements;
+mod damage;
+mod draws;
+
+use crate::monitor::{Answer, Monitor};
+use crate::numbers;
+use crate::random::Random;
+use crate::records;
+use crate::replies::LONGEST_JOURNAL;
+use crate::tables::LIMITS;
+
+/// What kind of journal to make.
+#[derive(Clone, Copy, Debug, PartialEq, Eq)]
+pub enum Style {
+    Mixed,
+    Payrun,
+    Calls,
+    Edges,
+    Full,
+    Rings,
+    Garbled,
+    Bytes,
+    Long,
+}
+
+/// Every style with its name and what it makes.
+pub const STYLES: &[(Style, &str, &str)] = &[
+    (Style::Mixed, "mixed", "one of the others, by turns (the default)"),
+    (Style::Payrun, "payrun", "a shell that joins steps by pipes and forks, then lets them work"),
+    (Style::Calls, "calls", "all thirteen calls, mostly allowed"),
+    (Style::Edges, "edges", "numbers out of range, in use or not live; several faults in one call"),
+    (Style::Full, "full", "32 subjects, 64 objects, 512 handles, then calls on them"),
+    (Style::Rings, "rings", "long chains and rings of pipes, opened and closed"),
+    (Style::Garbled, "garbled", "padded, cut, missing and left-over numbers, unknown codes"),
+    (Style::Bytes, "bytes", "bytes without order"),
+    (Style::Long, "long", "lengths up to 65,537 bytes, most at the limit"),
+];
+
+/// A wish for a journal: where nothing is given, it is drawn.
+#[derive(Clone, Copy, Debug)]
+pub struct Wish {
+    pub style: Style,
+    /// About how many records.
+    pub calls: Option<u32>,
+    /// Exactly how many bytes.
+    pub bytes: Option<usize>,
+}
+
+impl Default for Wish {
+    fn default() -> Wish {
+        Wish { style: Style::Mixed, calls: None, bytes: None }
+    }
+}
+
+/// The journal `index` of a seed.
+pub fn journal(seed: u64, index: u64, wish: Wish) -> Vec<u8> {
+    let mut random = Random::new(seed, index);
+    let style = match wish.style {
+        Style::Mixed => {
+            let weights = [0, 4, 4, 4, 3, 5, 5, 1, 1];
+            STYLES[random.weighted(&weights)].0
+        }
+        style => style,
+    };
+    let mut draft = Draft::new(random);
+    let calls = wish.calls.unwrap_or_else(|| draft.drawn_length(style));
+    draft.fill(style, calls);
+    draft.finish(style, wish)
+}
+
+/// A journal in the making.
+struct Draft {
+    random: Random,
+    /// What is live after the records so far.
+    picture: Monitor,
+    /// The levels that this journal keeps to, rising.
+    levels: Vec<u32>,
+    /// One number in so many is drawn wrong on purpose; 0 for none.
+    odd_numbers: u32,
+    /// One record in so many is damaged; 0 for none.
+    damage: u32,
+    journal: Vec<u8>,
+    records: u32,
+}
+
+impl Draft {
+    fn new(mut random: Random) -> Draft {
+        let count = random.between(2, 4);
+        let mut levels: Vec<u32> = (0..count).map(|_| random.below(LIMITS.levels)).collect();
+        if random.once_in(3) {
+            levels.extend([0, 15]);
+        }
+        levels.sort_unstable();
+        levels.dedup();
+        Draft {
+            random,
+            picture: Monitor::new(),
+            levels,
+            odd_numbers: 0,
+            damage: 0,
+            journal: Vec::new(),
+            records: 0,
+        }
+    }
+
+    fn drawn_length(&mut self, style: Style) -> u32 {
+        match style {
+            Style::Garbled => self.random.between(1, 150),
+            Style::Bytes => self.random.between(0, 60),
+            _ if self.random.once_in(4) => self.random.between(0, 40),
+            Style::Full => self.random.between(150, 900),
+            _ => self.random.between(60, 450),
+        }
+    }
+
+    /// Draws about so many records in this style.
+    fn fill(&mut self, style: Style, calls: u32) {
+        (self.odd_numbers, self.damage) = match style {
+            Style::Edges => (4, 0),
+            Style::Garbled => (60, 4),
+            Style::Rings => (0, 0),
+            Style::Full => (60, 0),
+            _ => (40, 150),
+        };
+        match style {
+            Style::Payrun => self.pipeline(calls),
+            Style::Rings => self.ring(),
+            Style::Full => self.full_tables(),
+            Style::Bytes => {
+                for _ in 0..calls {
+                    self.loose_byte();
+                }
+                return;
+            }
+            Style::Edges => self.starting_things(),
+            _ => {}
+        }
+        while self.records < calls {
+            if style == Style::Rings && self.random.once_in(3) {
+                self.ring_turn();
+            } else {
+                self.any_call();
+            }
+        }
+    }
+
+    /// Brings the journal to its length in bytes.
+    fn finish(mut self, style: Style, wish: Wish) -> Vec<u8> {
+        let bytes = match (wish.bytes, style) {
+            (Some(bytes), _) => bytes,
+            (None, Style::Long) => {
+                let limit = LONGEST_JOURNAL as u32;
+                let near = self.random.between(limit - 1, limit + 1);
+                let any = self.random.between(0, limit + 1);
+                (if self.random.once_in(3) { any } else { near }) as usize
+            }
+            // Now and then a record is cut off at the end.
+            (None, Style::Garbled | Style::Calls) if self.random.once_in(6) => {
+                self.random.below(self.journal.len() as u32 + 1) as usize
+            }
+            (None, _) => return self.journal,
+        };
+        self.journal.truncate(bytes);
+        self.pad_to(bytes);
+        self.journal
+    }
+
+    /// Fills the journal up to exactly this length: with one long record of an unknown code, with records
+    /// without a body, or with more calls.
+    fn pad_to(&mut self, bytes: usize) {
+        let way = self.random.below(8);
+        while self.journal.len() < bytes {
+            let left = bytes - self.journal.len();
+            if way == 0 {
+                self.journal.push(0);
+            } else if way == 1 && left > 40 {
+                self.any_call();
+                self.journal.truncate(bytes);
+            } else {
+                match longest_body(left) {
+                    Some(length) => {
+                        let mut body = Vec::new();
+                        numbers::write(self.unknown_code(), &mut body);
+                        while body.len() < length {
+                            body.push(self.random.below(256) as u8);
+                        }
+                        body.truncate(length);
+                        records::write_body(&body, &mut self.journal);
+                    }
+                    None => self.journal.push(0),
+                }
+            }
+        }
+    }
+
+    /// Adds a record, damaged now and then, and brings the picture up to date.
+    fn record(&mut self, code: u32, numbers: &[u32]) {
+        self.records += 1;
+        if self.random.once_in(self.damage) {
+            self.damaged_record(code, numbers);
+        } else {
+            self.good_record(code, numbers);
+        }
+    }
+
+    fn good_record(&mut self, code: u32, numbers: &[u32]) -> Answer {
+        records::write(code, numbers, &mut self.journal);
+        self.picture.call(code, four(numbers))
+    }
+
+    fn loose_byte(&mut self) {
+        let byte = match self.random.below(4) {
+            0 => self.random.below(256),
+            1 => self.random.between(1, 5),
+            _ => self.random.below(16),
+        };
+        self.journal.push(byte as u8);
+        self.records += 1;
+    }
+}
+
+/// The longest body of a record that fits into so many bytes exactly.
+fn longest_body(bytes: usize) -> Option<usize> {
+    [1, 2, 3]
+        .into_iter()
+        .filter_map(|prefix| bytes.checked_sub(prefix).map(|body| (prefix, body)))
+        .find(|&(prefix, body)| {
+            let mut length = Vec::new();
+            numbers::write(body as u32, &mut length);
+            length.len() == prefix
+        })
+        .map(|(_, body)| body)
+}
+
+fn four(numbers: &[u32]) -> [u32; 4] {
+    let mut four = [0; 4];
+    for (slot, &number) in four.iter_mut().zip(numbers) {
+        *slot = number;
+    }
+    four
+}
+
+#[cfg(test)]
+mod tests {
+    use super::*;
+
+    #[test]
+    fn a_seed_gives_the_same_journal_again() {
+        for index in 0..40 {
+            let wish = Wish::default();
+            assert_eq!(journal(5, index, wish), journal(5, index, wish));
+        }
+        assert_ne!(journal(5, 0, Wish::default()), journal(6, 0, Wish::default()));
+    }
+
+    #[test]
+    fn a_wish_for_bytes_is_met_exactly() {
+        for bytes in [0, 1, 2, 127, 128, 129, 130, 131, 1000, 16_385, 16_387, 65_536, 65_537] {
+            for &(style, _, _) in STYLES {
+                for index in 0..4 {
+                    let wish = Wish { style, calls: Some(20), bytes: Some(bytes) };
+                    assert_eq!(journal(1, index, wish).len(), bytes);
+                }
+            }
+        }
+    }
+
+    #[test]
+    fn full_tables_are_full() {
+        let wish = Wish { style: Style::Full, calls: Some(1), bytes: None };
+        let mut most = (0, 0, 0);
+        for index in 0..30 {
+            let journal = journal(3, index, wish);
+            let mut run = crate::replies::Run::new(&journal, Default::default());
+            while run.next_step().is_some() {
+                let tables = run.monitor().tables();
+                most.0 = most.0.max(tables.live_subjects().count());
+                most.1 = most.1.max(tables.live_objects().count());
+                most.2 = most.2.max(tables.handle_count());
+            }
+        }
+        assert_eq!(most, (32, 64, 512));
+    }
+}

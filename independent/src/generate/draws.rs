@@ -1,0 +1,196 @@
+//! Calls drawn one at a time: which number to name, and which call to make, where things stand.
+
+use super::{four, Draft};
+use crate::calls::SHAPES;
+use crate::monitor::Answer;
+use crate::tables::{Direction, Kind, LIMITS};
+
+impl Draft {
+    // Numbers.
+
+    /// This number, or now and then another one that may not fit.
+    fn maybe_odd(&mut self, number: u32, limit: u32) -> u32 {
+        if !self.random.once_in(self.odd_numbers) {
+            return number;
+        }
+        match self.random.below(12) {
+            0 | 1 => limit,
+            2 => limit + 1,
+            3 => limit - 1,
+            4 => u32::MAX,
+            5 => number.wrapping_add(256),
+            6 => number.wrapping_add(65_536),
+            7 => number.wrapping_add(1 << 31),
+            8 => self.random.between(limit, 4 * limit),
+            _ => self.random.below(limit),
+        }
+    }
+
+    pub(super) fn level(&mut self) -> u32 {
+        let level = self.random.pick(&self.levels).unwrap_or(0);
+        self.maybe_odd(level, LIMITS.levels)
+    }
+
+    pub(super) fn live_subject(&mut self) -> u32 {
+        let live: Vec<u32> = self.picture.tables().live_subjects().collect();
+        let s = self.random.pick(&live).unwrap_or(0);
+        self.maybe_odd(s, LIMITS.subjects)
+    }
+
+    pub(super) fn free_subject(&mut self) -> u32 {
+        let tables = self.picture.tables();
+        let free: Vec<u32> = (0..LIMITS.subjects).filter(|&s| tables.subject(s).is_none()).collect();
+        let s = self.low_or_any(&free);
+        self.maybe_odd(s, LIMITS.subjects)
+    }
+
+    pub(super) fn free_object(&mut self) -> u32 {
+        let tables = self.picture.tables();
+        let free: Vec<u32> = (0..LIMITS.objects).filter(|&o| tables.object(o).is_none()).collect();
+        let o = self.low_or_any(&free);
+        self.maybe_odd(o, LIMITS.objects)
+    }
+
+    /// Often one of the first, so that numbers are used again.
+    fn low_or_any(&mut self, numbers: &[u32]) -> u32 {
+        let low = &numbers[..numbers.len().min(4)];
+        let any = if self.random.once_in(2) { numbers } else { low };
+        self.random.pick(any).unwrap_or(0)
+    }
+
+    pub(super) fn live_object(&mut self, kind: Option<Kind>) -> u32 {
+        let tables = self.picture.tables();
+        let live: Vec<u32> = tables
+            .live_objects()
+            .filter(|&o| kind.is_none() || tables.object(o).map(|object| object.kind) == kind)
+            .collect();
+        let o = self.random.pick(&live).unwrap_or(0);
+        self.maybe_odd(o, LIMITS.objects)
+    }
+
+    pub(super) fn free_place(&mut self, s: u32) -> u32 {
+        let tables = self.picture.tables();
+        let free: Vec<u32> = (0..LIMITS.places).filter(|&p| tables.handle(s, p).is_none()).collect();
+        let p = self.random.pick(&free).unwrap_or(0);
+        self.maybe_odd(p, LIMITS.places)
+    }
+
+    /// A subject and one of its places with a handle of this direction.
+    pub(super) fn held_place(&mut self, direction: Option<Direction>) -> (u32, u32) {
+        let held: Vec<(u32, u32)> = self
+            .picture
+            .tables()
+            .handles()
+            .filter(|(_, _, handle)| direction.is_none_or(|wanted| wanted == handle.direction))
+            .map(|(s, p, _)| (s, p))
+            .collect();
+        let (s, p) = self.random.pick(&held).unwrap_or((0, 0));
+        (self.maybe_odd(s, LIMITS.subjects), self.maybe_odd(p, LIMITS.places))
+    }
+
+    // Calls.
+
+    /// One call, most often one that has a meaning where things stand.
+    pub(super) fn any_call(&mut self) {
+        if self.random.once_in(50) {
+            // Any code with numbers out of a hat.
+            let shape = &SHAPES[self.random.below(SHAPES.len() as u32) as usize];
+            let numbers: Vec<u32> = shape.numbers.iter().map(|_| self.random.below(18)).collect();
+            return self.record(shape.code, &numbers);
+        }
+        let tables = self.picture.tables();
+        let subjects = tables.live_subjects().count() as u32;
+        let objects = tables.live_objects().count() as u32;
+        let handles = tables.handle_count() as u32;
+        let few = |count: u32, wanted: u32| if count < wanted { 10 } else { 1 };
+        let some = |count: u32, weight: u32| if count > 0 { weight } else { 0 };
+        let weights = [
+            2 * few(subjects, 3),
+            2 * few(objects, 4),
+            some(subjects, 3),
+            some(subjects, 8),
+            some(subjects * objects, 14),
+            some(subjects * objects, 14),
+            some(handles, 12),
+            some(handles, 12),
+            some(subjects, if subjects < 12 { 7 } else { 2 }),
+            some(subjects * objects, 5),
+            some(handles, if handles < 60 { 8 } else { 14 }),
+            some(subjects, if subjects < 4 { 1 } else { 5 }),
+            some(objects, if objects < 8 { 2 } else { 6 }),
+        ];
+        let code = self.random.weighted(&weights) as u32 + 1;
+        let numbers = self.numbers_for(code);
+        self.record(code, &numbers);
+    }
+
+    pub(super) fn numbers_for(&mut self, code: u32) -> Vec<u32> {
+        match code {
+            1 => vec![self.free_subject(), self.level()],
+            2 => vec![self.free_object(), self.level()],
+            3 => vec![self.live_subject(), self.free_object()],
+            4 => {
+                let s = self.live_subject();
+                let o = self.free_object();
+                let r = self.free_place(s);
+                let w = self.free_place(s);
+                // Two free places that differ, most of the time.
+                let again = self.free_place(s);
+                let w = if w == r && !self.random.once_in(4) { again } else { w };
+                vec![s, o, r, w]
+            }
+            5 | 6 => self.open_numbers(code),
+            7 | 8 => {
+                let right = if code == 7 { Direction::Reading } else { Direction::Writing };
+                let direction = if self.random.once_in(12) { None } else { Some(right) };
+                let (s, p) = self.held_place(direction);
+                vec![s, p]
+            }
+            9 => {
+                let s = self.live_subject();
+                let c = self.free_subject();
+                vec![s, if self.random.once_in(20) { s } else { c }]
+            }
+            10 => {
+                let pipes = self.random.once_in(8);
+                let kind = if pipes { Kind::Pipe } else { Kind::File };
+                vec![self.live_subject(), self.live_object(Some(kind))]
+            }
+            11 => {
+                let (s, p) = self.held_place(None);
+                vec![s, p]
+            }
+            12 => vec![self.live_subject()],
+            _ => {
+                let pipes = self.random.once_in(8);
+                let kind = if pipes { Kind::Pipe } else { Kind::File };
+                vec![self.live_object(Some(kind))]
+            }
+        }
+    }
+
+    /// An open; every second time one that is allowed is looked for.
+    fn open_numbers(&mut self, code: u32) -> Vec<u32> {
+        let tries = if self.random.once_in(2) { 3 } else { 1 };
+        let mut numbers = Vec::new();
+        for _ in 0..tries {
+            let s = self.live_subject();
+            let kind = match self.random.below(3) {
+                0 => Some(Kind::Pipe),
+                1 => Some(Kind::File),
+                _ => None,
+            };
+            let o = self.live_object(kind);
+            let mut p = self.free_place(s);
+            if self.random.once_in(25) {
+                p = self.random.below(LIMITS.places);
+            }
+            numbers = vec![s, o, p];
+            let answer = self.picture.clone().call(code, four(&numbers));
+            if !matches!(answer, Answer::Refused(_)) {
+                break;
+            }
+        }
+        numbers
+    }
+}

@@ -1,0 +1,48 @@
+//! The pay-run gatekeeper, written a second time from document 01 alone.
+//!
+//! It is compared byte for byte with the proved program, so it shares nothing with it: it is plain Rust,
+//! it keeps no figure from one call to the next, and at each call it works every need out from nothing.
+//! It is written to be read beside the document: over each rule stands the sentence or row it states.
+//!
+//! In the order of document 01:
+//!
+//! | module | states |
+//! |---|---|
+//! | [`tables`] | "Tables": subjects, objects, handles and their limits |
+//! | [`needs`] | "Flow and need" |
+//! | [`calls`] | "Calls": the thirteen codes and what their numbers name |
+//! | [`monitor`] | "Calls": effects and answers; the direct call |
+//! | [`refusals`] | "Refused calls": conditions and which is said |
+//! | [`numbers`], [`records`] | "Journal": numbers and records |
+//! | [`replies`] | "Journal": the program's reply lines |
+//! | [`cases`] | "Pay-run cases", and DWARF's examples of numbers |
+//!
+//! Tools around it: [`assembly`] and [`disassembly`] (journals as text), [`explain`] (replies in plain
+//! words), [`generate`] (journals by seed), [`variants`] and [`bite`] (wrong programs that the generated
+//! journals must tell apart), [`compare`] and [`shrink`] (another program beside this one).
+
+#[doc = include_str!("../README.md")]
+#[cfg(doctest)]
+struct Readme;
+
+pub mod assembly;
+pub mod bite;
+pub mod calls;
+pub mod cases;
+pub mod cli;
+pub mod compare;
+pub mod disassembly;
+pub mod explain;
+pub mod generate;
+pub mod help;
+pub mod monitor;
+pub mod needs;
+pub mod numbers;
+pub mod random;
+pub mod records;
+pub mod refusals;
+pub mod replies;
+pub mod shrink;
+pub mod tables;
+pub mod text;
+pub mod variants;

@@ -1,0 +1,7 @@
+//! The program `gk`. Everything it does is in the library; see `cli`.
+
+use std::process::ExitCode;
+
+fn main() -> ExitCode {
+    gatekeeper_independent::cli::main(std::env::args_os().skip(1).collect())
+}

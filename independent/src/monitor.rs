@@ -1,0 +1,272 @@
+//! The monitor: 01, "Calls", columns "Effect if allowed" and "Level in the answer"; and the counting of
+//! handles from 01, "Journal".
+//!
+//! `Monitor::call` is the direct call: a code and four numbers in, an answer out.
+
+use crate::calls::Call;
+use crate::needs::Needs;
+use crate::refusals;
+use crate::tables::{Direction, Handle, Kind, Object, Subject, Tables, Tally};
+use crate::variants::Rules;
+
+/// What a call is answered with.
+#[derive(Clone, Copy, Debug, PartialEq, Eq)]
+pub enum Answer {
+    /// Allowed, with a level.
+    Allowed(u32),
+    /// "The outcome is lowered if calls 7, 8 or 10 made a level smaller": with the level after.
+    Lowered(u32),
+    /// Refused, with the refusal number.
+    Refused(u32),
+}
+
+impl Answer {
+    /// "A, L or R".
+    pub fn letter(self) -> char {
+        match self {
+            Answer::Allowed(_) => 'A',
+            Answer::Lowered(_) => 'L',
+            Answer::Refused(_) => 'R',
+        }
+    }
+
+    /// "the level or refusal number".
+    pub fn number(self) -> u32 {
+        match self {
+            Answer::Allowed(number) | Answer::Lowered(number) | Answer::Refused(number) => number,
+        }
+    }
+
+    /// The level in the answer: "A refusal answers with its number and level 0."
+    pub fn level(self) -> u32 {
+        match self {
+            Answer::Allowed(level) | Answer::Lowered(level) => level,
+            Answer::Refused(_) => 0,
+        }
+    }
+}
+
+/// The tables and the tally, and the calls on them.
+#[derive(Clone, Debug)]
+pub struct Monitor {
+    pub(crate) tables: Tables,
+    pub(crate) tally: Tally,
+    /// The needs worked out last. No rule looks at them: only the variant that never lets one sink.
+    kept: Needs,
+    rules: Rules,
+}
+
+impl Default for Monitor {
+    fn default() -> Monitor {
+        Monitor::new()
+    }
+}
+
+impl Monitor {
+    /// Empty tables and a tally of 0 and 0, by the rules of document 01.
+    pub fn new() -> Monitor {
+        Monitor::by(Rules::default())
+    }
+
+    /// The same by other rules; see `variants`.
+    pub fn by(rules: Rules) -> Monitor {
+        Monitor::of_tables(Tables::new(rules.limits()), rules)
+    }
+
+    /// A monitor with any tables, those that no calls could have made among them.
+    pub fn of_tables(tables: Tables, rules: Rules) -> Monitor {
+        Monitor { kept: Needs::none(&tables), tables, tally: Tally::default(), rules }
+    }
+
+    pub fn tables(&self) -> &Tables {
+        &self.tables
+    }
+
+    pub fn tally(&self) -> Tally {
+        self.tally
+    }
+
+    /// The direct call. "A direct call takes a code and four 32-bit numbers and ignores those its code
+    /// does not use."
+    pub fn call(&mut self, code: u32, numbers: [u32; 4]) -> Answer {
+        // Row 1: "code not 1 to 13".
+        let Some(call) = Call::new(code, self.rules.bend_numbers(numbers)) else {
+            return Answer::Refused(1);
+        };
+        if self.rules.are_right() {
+            return self.make(call);
+        }
+        let before = self.clone();
+        let answer = self.make(call);
+        self.rules.bend_outcome(&before, self, call, answer)
+    }
+
+    /// Works every need out from nothing, then refuses the call or gives it its effect.
+    fn make(&mut self, call: Call) -> Answer {
+        let sought = refusals::sought_flow(&self.tables, call);
+        let needs = Needs::work_out(&self.tables, sought, self.rules, &self.kept);
+        // "The monitor, the tally and every lent buffer are unchanged."
+        if let Some(number) = refusals::refusal(&self.tables, call, &needs, self.rules) {
+            return Answer::Refused(number);
+        }
+        self.kept = needs;
+        // "and every allowed call empties it".
+        self.tables.empty_uncounted_places();
+        self.effect(call)
+    }
+
+    /// 01, "Calls", row by row, for a call that is not refused.
+    fn effect(&mut self, call: Call) -> Answer {
+        match call {
+            // Row 1: "new subject from outside, no handles"; "its level".
+            Call::Admit { s, level } => {
+                self.tables.set_subject(s, Some(Subject { level }));
+                Answer::Allowed(level)
+            }
+
+            // Row 2: "new file from outside"; "its level".
+            Call::Register { o, level } => {
+                self.new_object(o, Kind::File, level);
+                Answer::Allowed(level)
+            }
+
+            // Row 3: "new empty file at s's level, no handle"; "its level".
+            Call::Create { s, o } => {
+                let level = self.subject_level(s);
+                self.new_object(o, Kind::File, level);
+                Answer::Allowed(level)
+            }
+
+            // Row 4: "new empty pipe at s's level; place r reads, w writes"; "its level".
+            Call::Pipe { s, o, r, w } => {
+                let level = self.subject_level(s);
+                self.new_object(o, Kind::Pipe, level);
+                self.place_handle(s, r, o, Direction::Reading);
+                self.place_handle(s, w, o, Direction::Writing);
+                Answer::Allowed(level)
+            }
+
+            // Row 5: "reading handle; no level falls"; "the object's".
+            Call::OpenRead { s, o, p } => {
+                self.place_handle(s, p, o, Direction::Reading);
+                Answer::Allowed(self.object_level(o))
+            }
+
+            // Row 6: "writing handle; no level falls"; "the object's".
+            Call::OpenWrite { s, o, p } => {
+                self.place_handle(s, p, o, Direction::Writing);
+                Answer::Allowed(self.object_level(o))
+            }
+
+            // Row 7: "s falls to the object's level if that is lower"; "s's after".
+            Call::Read { s, p } => {
+                let level = self.held_object(s, p).map_or(0, |(_, object)| object.level);
+                self.lower_subject(s, level)
+            }
+
+            // Row 8: "a pipe falls to s's level if that is lower; a file keeps its own"; "the object's
+            // after".
+            Call::Write { s, p } => {
+                let level = self.subject_level(s);
+                match self.held_object(s, p) {
+                    Some((o, object)) if object.kind == Kind::Pipe && level < object.level => {
+                        self.new_object(o, Kind::Pipe, level);
+                        Answer::Lowered(level)
+                    }
+                    Some((_, object)) => Answer::Allowed(object.level),
+                    None => Answer::Allowed(0),
+                }
+            }
+
+            // Row 9: "new subject c: s's level, the same handles at the same places"; "c's".
+            Call::Fork { s, c } => {
+                let level = self.subject_level(s);
+                self.tables.set_subject(c, Some(Subject { level }));
+                let handles: Vec<(u32, Handle)> = self.tables.handles_of(s).collect();
+                for (p, handle) in handles {
+                    self.place_handle(c, p, handle.object, handle.direction);
+                }
+                Answer::Allowed(level)
+            }
+
+            // Row 10: "file o is run; s falls to o's level if lower; handles are kept"; "s's after".
+            Call::Exec { s, o } => {
+                let level = self.object_level(o);
+                self.lower_subject(s, level)
+            }
+
+            // Row 11: "the place is empty"; "s's".
+            Call::Close { s, p } => {
+                self.remove_handle(s, p);
+                Answer::Allowed(self.subject_level(s))
+            }
+
+            // Row 12: "all handles closed, number free"; "s's last".
+            Call::Exit { s } => {
+                let level = self.subject_level(s);
+                for p in 0..self.tables.limits().places {
+                    self.remove_handle(s, p);
+                }
+                self.tables.set_subject(s, None);
+                Answer::Allowed(level)
+            }
+
+            // Row 13: "file gone, number free"; "its last".
+            Call::Retire { o } => {
+                let level = self.object_level(o);
+                self.tables.set_object(o, None);
+                Answer::Allowed(level)
+            }
+        }
+    }
+
+    fn new_object(&mut self, o: u32, kind: Kind, level: u32) {
+        self.tables.set_object(o, Some(Object { kind, level }));
+    }
+
+    /// Places a handle. "4 makes two, 5 and 6 one, 9 as many as s held".
+    fn place_handle(&mut self, s: u32, p: u32, object: u32, direction: Direction) {
+        let handle = Handle { object, direction };
+        self.tables.set_handle(s, p, Some(handle));
+        self.tally.count_made(1);
+    }
+
+    /// Empties a place. "11 removes one, 12 as many as s held". "A pipe ends, and its number is free,
+    /// when its last handle goes."
+    fn remove_handle(&mut self, s: u32, p: u32) {
+        let Some((o, object)) = self.held_object(s, p) else {
+            return;
+        };
+        self.tables.set_handle(s, p, None);
+        self.tally.count_gone(1);
+        if object.kind == Kind::Pipe && !self.tables.is_held(o) {
+            self.tables.set_object(o, None);
+        }
+    }
+
+    /// The level that a subject has after falling to `level` "if that is lower".
+    fn lower_subject(&mut self, s: u32, level: u32) -> Answer {
+        let own = self.subject_level(s);
+        if level < own {
+            self.tables.set_subject(s, Some(Subject { level }));
+            Answer::Lowered(level)
+        } else {
+            Answer::Allowed(own)
+        }
+    }
+
+    fn held_object(&self, s: u32, p: u32) -> Option<(u32, Object)> {
+        let o = self.tables.handle(s, p)?.object;
+        Some((o, self.tables.object(o)?))
+    }
+
+    /// The level of a subject that no refusal found missing.
+    fn subject_level(&self, s: u32) -> u32 {
+        self.tables.subject(s).map_or(0, |subject| subject.level)
+    }
+
+    /// The level of an object that no refusal found missing.
+    fn object_level(&self, o: u32) -> u32 {
+        self.tables.object(o).map_or(0, |object| object.level)
+    }
+}

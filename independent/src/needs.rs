@@ -1,0 +1,134 @@
+//! Flow and need: 01, "Flow and need".
+//!
+//! Where data can flow, and the need of every thing, worked out from nothing in passes over all handles
+//! until none changes.
+
+use crate::tables::{Direction, Handle, Kind, Tables};
+use crate::variants::Rules;
+
+/// A subject or an object, by number.
+#[derive(Clone, Copy, Debug, PartialEq, Eq)]
+pub enum Thing {
+    Subject(u32),
+    Object(u32),
+}
+
+/// "Data can flow" from one thing to another.
+#[derive(Clone, Copy, Debug, PartialEq, Eq)]
+pub struct Flow {
+    pub from: Thing,
+    pub to: Thing,
+}
+
+impl Flow {
+    /// "Data can flow from a subject to an object it holds a writing handle on, and from an object to a
+    /// subject that holds a reading handle on it."
+    pub fn of(s: u32, handle: Handle) -> Flow {
+        let (subject, object) = (Thing::Subject(s), Thing::Object(handle.object));
+        match handle.direction {
+            Direction::Writing => Flow { from: subject, to: object },
+            Direction::Reading => Flow { from: object, to: subject },
+        }
+    }
+}
+
+/// The level of a live thing.
+pub fn level(tables: &Tables, thing: Thing) -> Option<u32> {
+    match thing {
+        Thing::Subject(s) => tables.subject(s).map(|subject| subject.level),
+        Thing::Object(o) => tables.object(o).map(|object| object.level),
+    }
+}
+
+/// Every live thing: the subjects, then the objects.
+pub fn live_things(tables: &Tables) -> impl Iterator<Item = Thing> + '_ {
+    let subjects = tables.live_subjects().map(Thing::Subject);
+    subjects.chain(tables.live_objects().map(Thing::Object))
+}
+
+/// A need for every thing; 0 for what is not live.
+#[derive(Clone, Debug, PartialEq, Eq)]
+pub struct Needs {
+    subjects: Vec<u32>,
+    objects: Vec<u32>,
+}
+
+impl Needs {
+    /// "0 if it reaches none".
+    pub fn none(tables: &Tables) -> Needs {
+        Needs {
+            subjects: vec![0; tables.limits().subjects as usize],
+            objects: vec![0; tables.limits().objects as usize],
+        }
+    }
+
+    pub fn of(&self, thing: Thing) -> u32 {
+        let (list, number) = match thing {
+            Thing::Subject(s) => (&self.subjects, s),
+            Thing::Object(o) => (&self.objects, o),
+        };
+        list.get(number as usize).copied().unwrap_or(0)
+    }
+
+    /// Raises the need of a thing to `need` where it is lower; says whether it was.
+    fn raise(&mut self, thing: Thing, need: u32) -> bool {
+        let (list, number) = match thing {
+            Thing::Subject(s) => (&mut self.subjects, s),
+            Thing::Object(o) => (&mut self.objects, o),
+        };
+        match list.get_mut(number as usize) {
+            Some(entry) if *entry < need => {
+                *entry = need;
+                true
+            }
+            _ => false,
+        }
+    }
+
+    /// For a variant: no need of a live thing starts below the one kept.
+    pub(crate) fn start_from(&mut self, tables: &Tables, kept: &Needs) {
+        for thing in live_things(tables) {
+            self.raise(thing, kept.of(thing));
+        }
+    }
+
+    /// "One thing reaches another by a chain of such flows of any length, none included. The need of a
+    /// thing is the highest level among the files it reaches, 0 if it reaches none."
+    ///
+    /// `sought` is a flow that is tried beside those of the handles in the table.
+    pub fn work_out(tables: &Tables, sought: Option<Flow>, rules: Rules, kept: &Needs) -> Needs {
+        // A chain of no flow: a file reaches itself.
+        let mut needs = Needs::none(tables);
+        for o in tables.live_objects() {
+            if let Some(object) = tables.object(o).filter(|object| object.kind == Kind::File) {
+                needs.raise(Thing::Object(o), object.level);
+            }
+        }
+        rules.bend_start(tables, kept, &mut needs);
+
+        // A chain that is one flow longer: what the flow's end reaches, its beginning reaches too.
+        for pass in 0.. {
+            let mut changed = false;
+            let flows = tables.handles().map(|(s, _, handle)| Flow::of(s, handle));
+            for flow in flows.chain(sought).filter(|&flow| rules.carries(tables, flow)) {
+                let beyond = needs.of(flow.to);
+                changed |= needs.raise(flow.from, beyond);
+            }
+            if !changed || rules.gives_up_after(pass) {
+                break;
+            }
+        }
+        needs
+    }
+
+    /// The needs of the tables as they stand, by the rules.
+    pub fn of_tables(tables: &Tables) -> Needs {
+        Needs::work_out(tables, None, Rules::default(), &Needs::none(tables))
+    }
+
+    /// The live things whose level is below their need.
+    pub fn unmet<'a>(&'a self, tables: &'a Tables) -> impl Iterator<Item = Thing> + 'a {
+        live_things(tables)
+            .filter(|&thing| level(tables, thing).is_some_and(|level| level < self.of(thing)))
+    }
+}

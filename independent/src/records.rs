@@ -1,0 +1,202 @@
+//! Records of a journal: 01, "Journal", second paragraph; rows 11 and 12 of "Refused calls".
+//!
+//! `Reader` cuts a journal into records, `read_body` turns a record's body into a call's code and
+//! numbers, `write` makes a record.
+
+use crate::calls::shape_of_code;
+use crate::numbers::{self, Malformed};
+use crate::variants::{Rules, Variant};
+
+/// Row 11: "a length is malformed or runs past the end".
+#[derive(Clone, Copy, Debug, PartialEq, Eq)]
+pub enum LengthFault {
+    Malformed(Malformed),
+    PastEnd { length: u32, left: usize },
+}
+
+/// Where a record lies in its journal.
+#[derive(Clone, Copy, Debug, PartialEq, Eq)]
+pub struct Span {
+    /// Offset of the record's first byte, the first of its length.
+    pub start: usize,
+    /// Offset of the body's first byte.
+    pub body: usize,
+    /// Offset behind the body.
+    pub end: usize,
+}
+
+/// The journal and the offset of the next record.
+#[derive(Clone, Debug)]
+pub struct Reader<'a> {
+    journal: &'a [u8],
+    offset: usize,
+    rules: Rules,
+}
+
+impl<'a> Reader<'a> {
+    pub fn new(journal: &'a [u8], rules: Rules) -> Reader<'a> {
+        Reader { journal, offset: 0, rules }
+    }
+
+    /// The offset of the next record.
+    pub fn offset(&self) -> usize {
+        self.offset
+    }
+
+    /// "A record is the body's length in bytes, then the body". None at the journal's end; after a fault
+    /// there is nothing more to read: "the run stops there".
+    pub fn next_record(&mut self) -> Option<Result<Span, LengthFault>> {
+        let start = self.offset;
+        let rest = self.journal.get(start..).filter(|rest| !rest.is_empty())?;
+        let record = self.cut(start, rest);
+        self.offset = match record {
+            Ok(span) => span.end,
+            Err(_) if self.rules.has(Variant::ElevenGoesOn) => start + 1,
+            Err(_) => self.journal.len(),
+        };
+        Some(record)
+    }
+
+    fn cut(&self, start: usize, rest: &[u8]) -> Result<Span, LengthFault> {
+        let (length, taken) = numbers::read(rest, self.rules).map_err(LengthFault::Malformed)?;
+        let left = rest.len() - taken;
+        let body = start + taken;
+        if length as usize <= left {
+            let end = body + length as usize;
+            Ok(Span { start, body, end })
+        } else if self.rules.has(Variant::PastEndClipped) {
+            let end = body + left;
+            Ok(Span { start, body, end })
+        } else {
+            Err(LengthFault::PastEnd { length, left })
+        }
+    }
+}
+
+/// Row 12: "a number is malformed, missing or left over".
+#[derive(Clone, Copy, Debug, PartialEq, Eq)]
+pub enum BodyFault {
+    /// The body is empty: there is no code.
+    Empty,
+    /// The code itself is malformed.
+    Code(Malformed),
+    /// One of the call's numbers is malformed; they are counted from 0.
+    Number(usize, Malformed),
+    /// The body ends before this number.
+    Missing(usize),
+    /// All numbers are there, and this many bytes behind them.
+    LeftOver { numbers: [u32; 4], bytes: usize },
+}
+
+/// What a body holds.
+#[derive(Clone, Copy, Debug, PartialEq, Eq)]
+pub enum Body {
+    /// A known code and its numbers, 0 for those it does not use.
+    Call { code: u32, numbers: [u32; 4] },
+    /// "an unknown code is 1 and its rest is skipped".
+    UnknownCode { code: u32 },
+    /// Row 12. "code (0 if none was read)".
+    Bad { code: u32, fault: BodyFault },
+}
+
+/// Reads the body of the record at `span`: "code, then the call's numbers".
+pub fn read_body(journal: &[u8], span: Span, rules: Rules) -> Body {
+    let end = if rules.has(Variant::ReadsPastBody) { journal.len() } else { span.end };
+    let body = journal.get(span.body..end).unwrap_or(&[]);
+    let length = span.end - span.body;
+
+    // "A body without a good code is 12".
+    if length == 0 {
+        let fault = BodyFault::Empty;
+        return Body::Bad { code: 0, fault };
+    }
+    let (code, mut taken) = match numbers::read(body, rules) {
+        Ok(read) => read,
+        Err(malformed) => {
+            let fault = BodyFault::Code(malformed);
+            return Body::Bad { code: 0, fault };
+        }
+    };
+
+    // "an unknown code is 1 and its rest is skipped".
+    let Some(shape) = shape_of_code(code) else {
+        return rules.bend_unknown_code(code, &body[taken..]);
+    };
+
+    let mut numbers = [0; 4];
+    for (index, number) in numbers.iter_mut().take(shape.numbers.len()).enumerate() {
+        if taken >= length {
+            if rules.has(Variant::MissingIsZero) {
+                break;
+            }
+            let fault = BodyFault::Missing(index);
+            return Body::Bad { code, fault };
+        }
+        match numbers::read(&body[taken..], rules) {
+            Ok((value, bytes)) => {
+                *number = value;
+                taken += bytes;
+            }
+            Err(malformed) => {
+                let fault = BodyFault::Number(index, malformed);
+                return Body::Bad { code, fault };
+            }
+        }
+    }
+    if taken < length && !rules.has(Variant::LeftOverIgnored) {
+        let bytes = length - taken;
+        let fault = BodyFault::LeftOver { numbers, bytes };
+        return Body::Bad { code, fault };
+    }
+    Body::Call { code, numbers }
+}
+
+/// Writes a record with any code and any numbers at the end of the journal.
+pub fn write(code: u32, numbers: &[u32], journal: &mut Vec<u8>) {
+    let mut body = Vec::new();
+    numbers::write(code, &mut body);
+    for &number in numbers {
+        numbers::write(number, &mut body);
+    }
+    write_body(&body, journal);
+}
+
+/// Writes a record with any body at the end of the journal.
+pub fn write_body(body: &[u8], journal: &mut Vec<u8>) {
+    numbers::write(body.len() as u32, journal);
+    journal.extend_from_slice(body);
+}
+
+#[cfg(test)]
+mod tests {
+    use super::*;
+    use crate::calls::SHAPES;
+
+    #[test]
+    fn a_written_call_is_read_again_and_has_at_most_22_bytes() {
+        for shape in &SHAPES {
+            for value in [0, 127, 128, u32::MAX] {
+                let mut journal = Vec::new();
+                write(shape.code, &vec![value; shape.numbers.len()], &mut journal);
+                assert!(journal.len() <= 22);
+                let mut reader = Reader::new(&journal, Rules::default());
+                let span = reader.next_record().unwrap().unwrap();
+                let mut numbers = [0; 4];
+                numbers[..shape.numbers.len()].fill(value);
+                let code = shape.code;
+                assert_eq!(read_body(&journal, span, Rules::default()), Body::Call { code, numbers });
+                assert_eq!(reader.next_record(), None);
+            }
+        }
+    }
+
+    #[test]
+    fn a_number_does_not_reach_past_its_body() {
+        // The body of the first record ends in the middle of a number.
+        let journal = [0x03, 0x01, 0x00, 0x80, 0x01, 0x0c];
+        let mut reader = Reader::new(&journal, Rules::default());
+        let span = reader.next_record().unwrap().unwrap();
+        let fault = BodyFault::Number(1, Malformed::CutOff);
+        assert_eq!(read_body(&journal, span, Rules::default()), Body::Bad { code: 1, fault });
+    }
+}

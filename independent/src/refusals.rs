@@ -1,0 +1,146 @@
+//! Which calls are refused: 01, "Refused calls", rows 2 to 10.
+//!
+//! Row 1 is in `monitor`, where a code becomes a call. Rows 11, 12 and 14 speak of journals and are in
+//! `records` and `replies`. Row 13 speaks of the writer's buffer; the writer here has no limit.
+
+use crate::calls::Call;
+use crate::needs::{Flow, Needs, Thing};
+use crate::tables::{Direction, Kind, Tables};
+use crate::variants::Rules;
+
+/// What each number says, in a few plain words.
+pub fn meaning(number: u32) -> &'static str {
+    match number {
+        1 => "no call has this code",
+        2 => "the subject that asks is not there",
+        3 => "the number for the new thing cannot be used",
+        4 => "the object is not there",
+        5 => "a pipe cannot be run or retired",
+        6 => "the level is above 15",
+        7 => "the place does not fit",
+        8 => "the handle is for the other direction",
+        9 => "low data could reach a higher file",
+        10 => "a handle is still open on the file",
+        11 => "the journal breaks off here",
+        12 => "the record is not well formed",
+        13 => "the record is longer than the buffer",
+        14 => "the journal is longer than 65,536 bytes",
+        _ => "not a refusal of this document",
+    }
+}
+
+/// A row's number and whether its condition holds.
+pub type Condition = (u32, bool);
+
+/// Rows 2 to 10 for a call. `needs` has been worked out with the flow that an open asks for.
+pub fn conditions(tables: &Tables, call: Call, needs: &Needs) -> [Condition; 9] {
+    [
+        (2, asker_is_missing(tables, call)),
+        (3, new_number_is_unfit(tables, call)),
+        (4, object_is_missing(tables, call)),
+        (5, pipe_is_run_or_retired(tables, call)),
+        (6, level_is_too_high(tables, call)),
+        (7, place_is_unfit(tables, call)),
+        (8, direction_is_wrong(tables, call)),
+        (9, flow_is_unsafe(tables, call, needs)),
+        (10, retired_file_is_held(tables, call)),
+    ]
+}
+
+/// "Where several conditions hold, the smallest number is given".
+pub fn refusal(tables: &Tables, call: Call, needs: &Needs, rules: Rules) -> Option<u32> {
+    let mut conditions = conditions(tables, call, needs);
+    rules.bend_conditions(tables, call, needs, &mut conditions);
+    let holding = conditions.into_iter().filter(|&(_, holds)| holds).map(|(number, _)| number);
+    holding.min_by_key(|&number| rules.rank(number))
+}
+
+/// Row 2: "calls 3 to 12: s not 0 to 31, or not live".
+fn asker_is_missing(tables: &Tables, call: Call) -> bool {
+    call.asker().is_some_and(|s| tables.subject(s).is_none())
+}
+
+/// Row 3: "number for a new subject or object out of range or in use".
+fn new_number_is_unfit(tables: &Tables, call: Call) -> bool {
+    let limits = tables.limits();
+    let subject = call.new_subject();
+    let object = call.new_object();
+    subject.is_some_and(|s| s >= limits.subjects || tables.subject(s).is_some())
+        || object.is_some_and(|o| o >= limits.objects || tables.object(o).is_some())
+}
+
+/// Row 4: "object of calls 5, 6, 10, 13 out of range or not live".
+fn object_is_missing(tables: &Tables, call: Call) -> bool {
+    call.named_object().is_some_and(|o| tables.object(o).is_none())
+}
+
+/// Row 5: "calls 10, 13 name a pipe".
+fn pipe_is_run_or_retired(tables: &Tables, call: Call) -> bool {
+    match call {
+        Call::Exec { o, .. } | Call::Retire { o } => {
+            tables.object(o).is_some_and(|object| object.kind == Kind::Pipe)
+        }
+        _ => false,
+    }
+}
+
+/// Row 6: "level above 15".
+fn level_is_too_high(tables: &Tables, call: Call) -> bool {
+    call.level().is_some_and(|level| level >= tables.limits().levels)
+}
+
+/// Row 7: "place above 15; in 4, 5, 6 taken; in 4 also r = w; in 7, 8, 11 empty".
+fn place_is_unfit(tables: &Tables, call: Call) -> bool {
+    let above = |p: u32| p >= tables.limits().places;
+    let taken = |s: u32, p: u32| tables.handle(s, p).is_some();
+    match call {
+        Call::Pipe { s, r, w, .. } => above(r) || above(w) || taken(s, r) || taken(s, w) || r == w,
+        Call::OpenRead { s, p, .. } | Call::OpenWrite { s, p, .. } => above(p) || taken(s, p),
+        Call::Read { s, p } | Call::Write { s, p } | Call::Close { s, p } => above(p) || !taken(s, p),
+        _ => false,
+    }
+}
+
+/// Row 8: "read on a writing handle, or write on a reading one".
+fn direction_is_wrong(tables: &Tables, call: Call) -> bool {
+    let held = |s: u32, p: u32, direction: Direction| {
+        tables.handle(s, p).is_some_and(|handle| handle.direction == direction)
+    };
+    match call {
+        Call::Read { s, p } => held(s, p, Direction::Writing),
+        Call::Write { s, p } => held(s, p, Direction::Reading),
+        _ => false,
+    }
+}
+
+/// The flow that an open would add, if its subject and its object are there.
+pub fn sought_flow(tables: &Tables, call: Call) -> Option<Flow> {
+    let (s, handle) = call.sought()?;
+    tables.subject(s)?;
+    tables.object(handle.object)?;
+    Some(Flow::of(s, handle))
+}
+
+/// Row 9: "flow: after 5 or 6 some thing would have a level below its need; for 10, o's level is below
+/// s's need".
+fn flow_is_unsafe(tables: &Tables, call: Call, needs: &Needs) -> bool {
+    match call {
+        Call::OpenRead { .. } | Call::OpenWrite { .. } => {
+            sought_flow(tables, call).is_some() && needs.unmet(tables).next().is_some()
+        }
+        Call::Exec { s, o } => {
+            tables.object(o).is_some_and(|object| object.level < needs.of(Thing::Subject(s)))
+        }
+        _ => false,
+    }
+}
+
+/// Row 10: "retire of a file on which a handle is open".
+fn retired_file_is_held(tables: &Tables, call: Call) -> bool {
+    match call {
+        Call::Retire { o } => {
+            tables.object(o).is_some_and(|object| object.kind == Kind::File) && tables.is_held(o)
+        }
+        _ => false,
+    }
+}

@@ -1,0 +1,154 @@
+//! The program's replies: 01, "Journal", third paragraph; row 14 of "Refused calls".
+
+use crate::monitor::{Answer, Monitor};
+use crate::records::{self, Body, BodyFault, LengthFault, Reader, Span};
+use crate::tables::Tally;
+use crate::variants::{Rules, Variant};
+
+/// Row 14: "journal above 65,536 bytes; nothing is run".
+pub const LONGEST_JOURNAL: usize = 65_536;
+
+/// What stood in a record: its call, or why there is none.
+#[derive(Clone, Copy, Debug, PartialEq, Eq)]
+pub enum Content {
+    /// The record lies there and holds this.
+    Body(Span, Body),
+    /// Row 11, with the offset of the length.
+    Stop(usize, LengthFault),
+    /// Row 14.
+    TooLong,
+}
+
+/// One reply and what it replies to.
+#[derive(Clone, Copy, Debug, PartialEq, Eq)]
+pub struct Step {
+    /// The record's "position from 1".
+    pub position: u64,
+    /// "code (0 if none was read)".
+    pub code: u32,
+    pub content: Content,
+    pub answer: Answer,
+}
+
+impl Step {
+    /// "its position from 1, code (0 if none was read), A, L or R, and the level or refusal number".
+    pub fn line(&self) -> String {
+        let Step { position, code, answer, .. } = self;
+        format!("{position} {code} {} {}\n", answer.letter(), answer.number())
+    }
+}
+
+/// A run of a journal from empty tables, record by record.
+#[derive(Clone, Debug)]
+pub struct Run<'a> {
+    journal: &'a [u8],
+    reader: Reader<'a>,
+    monitor: Monitor,
+    position: u64,
+    rules: Rules,
+    over: bool,
+}
+
+impl<'a> Run<'a> {
+    pub fn new(journal: &'a [u8], rules: Rules) -> Run<'a> {
+        Run {
+            journal,
+            reader: Reader::new(journal, rules),
+            monitor: Monitor::by(rules),
+            position: 0,
+            rules,
+            over: false,
+        }
+    }
+
+    /// The monitor as it stands after the steps so far.
+    pub fn monitor(&self) -> &Monitor {
+        &self.monitor
+    }
+
+    pub fn tally(&self) -> Tally {
+        self.monitor.tally()
+    }
+
+    /// The next record's step; none at the end of the run.
+    pub fn next_step(&mut self) -> Option<Step> {
+        if self.over {
+            return None;
+        }
+        let step = self.reply()?;
+        self.over = step.content == Content::TooLong || self.rules.stops_after(&step);
+        Some(self.rules.bend_step(step, &mut self.position))
+    }
+
+    fn reply(&mut self) -> Option<Step> {
+        // "14 is tested before all others".
+        if self.position == 0 && self.journal.len() > self.rules.longest_journal() {
+            return Some(self.refused(1, 0, Content::TooLong, 14));
+        }
+        let start = self.reader.offset();
+        let record = self.reader.next_record()?;
+        self.position += 1;
+        let position = self.position;
+        Some(match record {
+            // Row 11; the reader has stopped.
+            Err(fault) => self.refused(position, 0, Content::Stop(start, fault), 11),
+            Ok(span) => {
+                let body = records::read_body(self.journal, span, self.rules);
+                let content = Content::Body(span, body);
+                match body {
+                    Body::Call { code, numbers } => {
+                        Step { position, code, content, answer: self.monitor.call(code, numbers) }
+                    }
+                    // Row 1.
+                    Body::UnknownCode { code } => self.refused(position, code, content, 1),
+                    // Row 12.
+                    Body::Bad { code, fault } => {
+                        let number = self.twelve_or(code, fault);
+                        self.refused(position, code, content, number)
+                    }
+                }
+            }
+        })
+    }
+
+    fn refused(&self, position: u64, code: u32, content: Content, number: u32) -> Step {
+        let answer = Answer::Refused(number);
+        Step { position, code, content, answer }
+    }
+
+    /// "12 in a record comes before 2 to 10": the call is not looked at.
+    fn twelve_or(&self, code: u32, fault: BodyFault) -> u32 {
+        match fault {
+            BodyFault::LeftOver { numbers, .. } if self.rules.has(Variant::TwelveLast) => {
+                match self.monitor.clone().call(code, numbers) {
+                    Answer::Refused(number) => number,
+                    _ => 12,
+                }
+            }
+            _ => 12,
+        }
+    }
+
+    /// "The last line is `end`, handles made, handles gone, handles open."
+    pub fn end_line(&self) -> String {
+        let tally = self.tally();
+        let open = if self.rules.has(Variant::OpenAsMade) { tally.made } else { tally.open() };
+        format!("end {} {} {}\n", tally.made, tally.gone, open)
+    }
+}
+
+/// The replies to a journal, by the rules of document 01.
+pub fn replies(journal: &[u8]) -> String {
+    replies_by(journal, Rules::default())
+}
+
+/// The replies to a journal by other rules; see `variants`.
+pub fn replies_by(journal: &[u8], rules: Rules) -> String {
+    let mut run = Run::new(journal, rules);
+    let mut lines = String::new();
+    while let Some(step) = run.next_step() {
+        lines.push_str(&step.line());
+    }
+    lines.push_str(&run.end_line());
+    lines
+}

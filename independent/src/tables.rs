@@ -1,0 +1,194 @@
+//! The tables: 01, "Tables".
+//!
+//! Subjects, objects and handles by number, what counts as a handle, and the tally of handles made and
+//! gone. No rule of a call is here; see `monitor` and `refusals`.
+
+/// How many of each there may be. 01, "Tables": "Subjects have numbers 0 to 31. Objects have 0 to 63.
+/// Each subject has handle places 0 to 15. Levels are 0 to 15."
+#[derive(Clone, Copy, Debug, PartialEq, Eq)]
+pub struct Limits {
+    pub subjects: u32,
+    pub objects: u32,
+    pub places: u32,
+    pub levels: u32,
+}
+
+/// The limits of document 01.
+pub const LIMITS: Limits = Limits { subjects: 32, objects: 64, places: 16, levels: 16 };
+
+/// A running step. "A subject has a level."
+#[derive(Clone, Copy, Debug, PartialEq, Eq)]
+pub struct Subject {
+    pub level: u32,
+}
+
+/// "Objects (files and pipes, one number space)".
+#[derive(Clone, Copy, Debug, PartialEq, Eq)]
+pub enum Kind {
+    File,
+    Pipe,
+}
+
+/// "A file has a level that never changes. A pipe has a level that can fall."
+#[derive(Clone, Copy, Debug, PartialEq, Eq)]
+pub struct Object {
+    pub kind: Kind,
+    pub level: u32,
+}
+
+/// "for reading or for writing only".
+#[derive(Clone, Copy, Debug, PartialEq, Eq)]
+pub enum Direction {
+    Reading,
+    Writing,
+}
+
+/// "A handle joins one place of one subject to one object". The place is where it stands in the table.
+#[derive(Clone, Copy, Debug, PartialEq, Eq)]
+pub struct Handle {
+    pub object: u32,
+    pub direction: Direction,
+}
+
+/// The three tables. Every number, in range or not, may be asked for and set: out of range there is
+/// nothing, and setting it changes nothing.
+#[derive(Clone, Debug, PartialEq, Eq)]
+pub struct Tables {
+    limits: Limits,
+    subjects: Vec<Option<Subject>>,
+    objects: Vec<Option<Object>>,
+    handles: Vec<Option<Handle>>,
+}
+
+impl Tables {
+    /// Empty tables.
+    pub fn new(limits: Limits) -> Tables {
+        Tables {
+            limits,
+            subjects: vec![None; limits.subjects as usize],
+            objects: vec![None; limits.objects as usize],
+            handles: vec![None; (limits.subjects * limits.places) as usize],
+        }
+    }
+
+    pub fn limits(&self) -> Limits {
+        self.limits
+    }
+
+    /// The live subject of this number.
+    pub fn subject(&self, s: u32) -> Option<Subject> {
+        *self.subjects.get(s as usize)?
+    }
+
+    /// The live object of this number.
+    pub fn object(&self, o: u32) -> Option<Object> {
+        *self.objects.get(o as usize)?
+    }
+
+    /// The handle at this place. "a handle on an object out of range or not live, or in a place of a
+    /// subject not live, counts as an empty place".
+    pub fn handle(&self, s: u32, p: u32) -> Option<Handle> {
+        self.subject(s)?;
+        let handle = (*self.handles.get(self.index(s, p)?)?)?;
+        self.object(handle.object)?;
+        Some(handle)
+    }
+
+    /// Every handle, with its subject and its place, in rising order of both.
+    pub fn handles(&self) -> impl Iterator<Item = (u32, u32, Handle)> + '_ {
+        let rows = (0..).zip(self.handles.chunks(self.limits.places as usize));
+        rows.filter(|&(s, _)| self.subject(s).is_some()).flat_map(move |(s, row)| {
+            (0..).zip(row).filter_map(move |(p, place)| {
+                let handle = (*place)?;
+                self.object(handle.object)?;
+                Some((s, p, handle))
+            })
+        })
+    }
+
+    /// The handles of one subject, by place.
+    pub fn handles_of(&self, s: u32) -> impl Iterator<Item = (u32, Handle)> + '_ {
+        (0..self.limits.places).filter_map(move |p| Some((p, self.handle(s, p)?)))
+    }
+
+    /// Whether some handle is open on the object.
+    pub fn is_held(&self, o: u32) -> bool {
+        self.handles().any(|(_, _, handle)| handle.object == o)
+    }
+
+    /// How many handles are in the table.
+    pub fn handle_count(&self) -> u64 {
+        self.handles().count() as u64
+    }
+
+    /// The numbers of the live subjects.
+    pub fn live_subjects(&self) -> impl Iterator<Item = u32> + '_ {
+        (0..self.limits.subjects).filter(|&s| self.subject(s).is_some())
+    }
+
+    /// The numbers of the live objects.
+    pub fn live_objects(&self) -> impl Iterator<Item = u32> + '_ {
+        (0..self.limits.objects).filter(|&o| self.object(o).is_some())
+    }
+
+    pub fn set_subject(&mut self, s: u32, subject: Option<Subject>) {
+        if let Some(entry) = self.subjects.get_mut(s as usize) {
+            *entry = subject;
+        }
+    }
+
+    pub fn set_object(&mut self, o: u32, object: Option<Object>) {
+        if let Some(entry) = self.objects.get_mut(o as usize) {
+            *entry = object;
+        }
+    }
+
+    pub fn set_handle(&mut self, s: u32, p: u32, handle: Option<Handle>) {
+        if let Some(index) = self.index(s, p) {
+            if let Some(entry) = self.handles.get_mut(index) {
+                *entry = handle;
+            }
+        }
+    }
+
+    /// "and every allowed call empties it": the places that only count as empty become empty. Tables
+    /// made by calls have no such places.
+    pub fn empty_uncounted_places(&mut self) {
+        let Tables { limits, subjects, objects, handles } = self;
+        for (row, subject) in handles.chunks_mut(limits.places as usize).zip(subjects) {
+            for place in row {
+                let object = place.and_then(|handle| objects.get(handle.object as usize).copied()?);
+                if subject.is_none() || object.is_none() {
+                    *place = None;
+                }
+            }
+        }
+    }
+
+    fn index(&self, s: u32, p: u32) -> Option<usize> {
+        (s < self.limits.subjects && p < self.limits.places).then(|| (s * self.limits.places + p) as usize)
+    }
+}
+
+/// Handles made and gone "over the history of calls". "Both counts are 64 bits wide and start at 0 with
+/// the empty tables; they, and their difference, are taken modulo 2 to the 64th."
+#[derive(Clone, Copy, Debug, Default, PartialEq, Eq)]
+pub struct Tally {
+    pub made: u64,
+    pub gone: u64,
+}
+
+impl Tally {
+    /// "Made minus gone equals the handles in the table."
+    pub fn open(self) -> u64 {
+        self.made.wrapping_sub(self.gone)
+    }
+
+    pub fn count_made(&mut self, handles: u64) {
+        self.made = self.made.wrapping_add(handles);
+    }
+
+    pub fn count_gone(&mut self, handles: u64) {
+        self.gone = self.gone.wrapping_add(handles);
+    }
+}

@@ -1,0 +1,401 @@
+//! Deliberately wrong variants of the program, to show that the generated journals find mistakes.
+//!
+//! `Rules` says which variant is on; by default none is, and then every function here leaves the rules
+//! of document 01 as they are. Each variant is read at exactly one place: here, in `outcomes`, or at the
+//! one place in the reader that it speaks of.
+
+mod outcomes;
+
+use crate::calls::{shape_of_code, Call};
+use crate::monitor::{Answer, Monitor};
+use crate::needs::{level, Flow, Needs, Thing};
+use crate::numbers;
+use crate::records::{Body, BodyFault};
+use crate::refusals::{sought_flow, Condition};
+use crate::replies::{Content, Step, LONGEST_JOURNAL};
+use crate::tables::{Direction, Kind, Limits, Tables, LIMITS};
+use outcomes::{bend_answer, bend_effect, bend_refused};
+
+macro_rules! variants {
+    ($($name:ident $word:literal $what:literal;)*) => {
+        /// One wrong program.
+        #[derive(Clone, Copy, Debug, PartialEq, Eq)]
+        pub enum Variant { $($name),* }
+
+        /// Every variant with its name on the command line and what it does wrong.
+        pub const ALL: &[(Variant, &str, &str)] = &[$((Variant::$name, $word, $what)),*];
+    };
+}
+
+variants! {
+    // Limits.
+    Level16Allowed "level-16-allowed" "takes levels 0 to 16";
+    Level15Refused "level-15-refused" "takes levels 0 to 14";
+    Place16Allowed "place-16-allowed" "has places 0 to 16";
+    Place15Refused "place-15-refused" "has places 0 to 14";
+    Subject32Allowed "subject-32-allowed" "has subjects 0 to 32";
+    Subject31Refused "subject-31-refused" "has subjects 0 to 30";
+    Object64Allowed "object-64-allowed" "has objects 0 to 64";
+    Object63Refused "object-63-refused" "has objects 0 to 62";
+    // Needs.
+    OneFlowFar "one-flow-far" "a need looks one flow far, not along a chain";
+    FourPasses "four-passes" "gives up after four passes over the handles";
+    ThirtyPasses "thirty-passes" "gives up after thirty passes over the handles";
+    RunningMaximum "running-maximum" "keeps a need as a running maximum that never sinks";
+    ReadingNoFlow "reading-no-flow" "reading handles carry no flow";
+    PipesNoFlow "pipes-no-flow" "a need does not pass through pipes";
+    FilesNoFlow "files-no-flow" "a file's need is its own level, whoever reads it";
+    // Flow tests.
+    OpenerOnly "opener-only" "an open tests the level of the opener only";
+    ObjectOnly "object-only" "an open tests the level of the object only";
+    EndsOnly "ends-only" "an open tests opener and object, nothing upstream";
+    SubjectsOnly "subjects-only" "an open tests the levels of subjects only";
+    PipesUntested "pipes-untested" "an open does not test the levels of pipes";
+    FilesUntested "files-untested" "an open does not test the levels of files";
+    OpensUntested "opens-untested" "no open is tested";
+    OpensRefused "opens-refused" "every open is refused with 9";
+    EqualRefused "equal-refused" "an open for writing that needs exactly the opener's level is refused";
+    ExecUntested "exec-untested" "exec is not tested against the need";
+    ExecOwnFiles "exec-own-files" "exec looks only at files that the caller itself writes to";
+    ExecByLevel "exec-by-level" "exec of a file below the caller's level is refused";
+    // Other conditions.
+    Mod256 "mod-256" "takes a call's numbers modulo 256";
+    Mod65536 "mod-65536" "takes a call's numbers modulo 65,536";
+    Mod31Bits "mod-31-bits" "takes a call's numbers modulo 2 to the 31st";
+    RetireHeld "retire-held" "a file with an open handle may be retired";
+    RetirePipe "retire-pipe" "a pipe may be retired";
+    ExecPipe "exec-pipe" "a pipe may be run";
+    PipeNotOpened "pipe-not-opened" "opening a pipe by its number is refused with 5";
+    SameEnds "same-ends" "a pipe may have both ends at one place";
+    TakenPlace "taken-place" "an open may take a place that is in use";
+    ReadOnWriting "read-on-writing" "a read on a writing handle is not refused";
+    WriteOnReading "write-on-reading" "a write on a reading handle is not refused";
+    // Which refusal is said.
+    LargestFirst "largest-first" "gives the largest number that holds";
+    Order23 "order-2-3" "says 3 before 2";
+    Order24 "order-2-4" "says 4 before 2";
+    Order25 "order-2-5" "says 5 before 2";
+    Order27 "order-2-7" "says 7 before 2";
+    Order36 "order-3-6" "says 6 before 3";
+    Order37 "order-3-7" "says 7 before 3";
+    Order47 "order-4-7" "says 7 before 4";
+    Order59 "order-5-9" "says 9 before 5";
+    Order79 "order-7-9" "says 9 before 7";
+    TwelveLast "12-last" "a left-over number is 12 only if 2 to 10 do not hold";
+    // Effects.
+    LowerAtOpen "lower-at-open" "an open for reading lowers the subject at once";
+    LowerPipeAtOpen "lower-pipe-at-open" "an open for writing lowers the pipe at once";
+    ReaderKeepsLevel "reader-keeps-level" "a read does not lower the subject";
+    ReadTakesLevel "read-takes-level" "a read raises the subject, too";
+    PipeKeepsLevel "pipe-keeps-level" "a write from below does not lower the pipe";
+    PipeTakesLevel "pipe-takes-level" "a write from above raises the pipe";
+    ExecKeepsLevel "exec-keeps-level" "exec does not lower the subject";
+    ExecTakesLevel "exec-takes-level" "exec raises the subject, too";
+    ExecCloses "exec-closes" "exec closes the caller's handles";
+    ForkNoHandles "fork-no-handles" "fork copies the level and not the handles";
+    ForkReadingOnly "fork-reading-only" "fork copies reading handles only";
+    ForkTopLevel "fork-top-level" "fork starts the child at level 15";
+    PipeNeverEnds "pipe-never-ends" "a pipe stays when its last handle goes";
+    PipeEndsWithWriter "pipe-ends-with-writer" "a pipe ends when its last writing handle goes";
+    PipeEndsWithReader "pipe-ends-with-reader" "a pipe ends when its last reading handle goes";
+    ExitKeepsPipes "exit-keeps-pipes" "exit does not end the pipes that it leaves without handles";
+    ExitKeepsNumber "exit-keeps-number" "exit closes the handles, but the subject stays";
+    RetireKeepsNumber "retire-keeps-number" "retire leaves the file";
+    CreateAtZero "create-at-zero" "a created file starts at level 0";
+    PipeAtFifteen "pipe-at-fifteen" "a new pipe starts at level 15";
+    PipeEndsSwapped "pipe-ends-swapped" "the pipe's place r writes and w reads";
+    RefusedOpenStays "refused-open-stays" "an open refused with 9 still places its handle";
+    RefusedExecLowers "refused-exec-lowers" "an exec refused with 9 still lowers the subject";
+    OldMonitor "old-monitor" "hands the old monitor back";
+    // Answers.
+    OpenAnswersSubject "open-answers-subject" "an open answers with the subject's level";
+    ReadAnswersObject "read-answers-object" "a read answers with the object's level";
+    WriteAnswersSubject "write-answers-subject" "a write answers with the subject's level";
+    ExecAnswersObject "exec-answers-object" "exec answers with the file's level";
+    ExitAnswersZero "exit-answers-zero" "exit answers with level 0";
+    LoweredAsAllowed "lowered-as-allowed" "lowered is said as allowed";
+    PipeLoweredAsAllowed "pipe-lowered-as-allowed" "a lowered pipe is said as allowed";
+    EqualAsLowered "equal-as-lowered" "a read at the same level is said as lowered";
+    // Tally.
+    PipeCountedOnce "pipe-counted-once" "a new pipe counts one handle made";
+    ForkNotCounted "fork-not-counted" "fork counts nothing";
+    ForkCountedOnce "fork-counted-once" "fork counts one handle made";
+    ExitCountedOnce "exit-counted-once" "exit counts one handle gone";
+    CloseNotCounted "close-not-counted" "close counts nothing";
+    RefusedCounted "refused-counted" "a refused open counts a handle made";
+    RetireCounted "retire-counted" "retire counts a handle gone";
+    OpenAsMade "open-as-made" "the end line gives the handles made as those open";
+    // Numbers and records.
+    PaddedAccepted "padded-accepted" "a number longer than it need be is taken";
+    AboveWrapped "above-wrapped" "a number above 4294967295 is wrapped";
+    ReadsPastBody "reads-past-body" "a number may end behind its record's body";
+    MissingIsZero "missing-is-zero" "a missing number is taken as 0";
+    LeftOverIgnored "left-over-ignored" "what is left over in a record is ignored";
+    UnknownRestRead "unknown-rest-read" "a malformed number behind an unknown code is 12";
+    PastEndClipped "past-end-clipped" "a length past the end takes what is left";
+    ElevenGoesOn "11-goes-on" "goes on at the next byte after 11";
+    TwelveStops "12-stops" "stops after 12";
+    FirstRecordOnly "first-record-only" "stops after the first record";
+    Bytes65536Refused "65536-refused" "a journal of 65,536 bytes is refused";
+    Bytes65537Accepted "65537-accepted" "a journal of 65,537 bytes is run";
+    // Reply lines.
+    PositionFromZero "position-from-0" "counts positions from 0";
+    RefusedNotCounted "refused-not-counted" "refused records do not count for the position";
+    TwelveNotCounted "12-not-counted" "records with 12 do not count for the position";
+    CodeZeroAt12 "code-0-at-12" "writes the code as 0 with 12";
+    UnknownCodeAsZero "unknown-code-as-0" "writes an unknown code as 0";
+    FourteenAtZero "14-at-0" "writes 14 with position 0";
+}
+
+/// Which rules hold: those of document 01, or one variant of them.
+#[derive(Clone, Copy, Debug, Default, PartialEq, Eq)]
+pub struct Rules {
+    variant: Option<Variant>,
+}
+
+impl From<Variant> for Rules {
+    fn from(variant: Variant) -> Rules {
+        Rules { variant: Some(variant) }
+    }
+}
+
+impl Rules {
+    /// The rules of the variant with this name.
+    pub fn named(name: &str) -> Option<Rules> {
+        let (variant, _, _) = ALL.iter().find(|(_, word, _)| *word == name)?;
+        Some(Rules::from(*variant))
+    }
+
+    /// Whether these are the rules of document 01.
+    pub fn are_right(self) -> bool {
+        self.variant.is_none()
+    }
+
+    /// Whether this variant is on.
+    pub fn has(self, variant: Variant) -> bool {
+        self.variant == Some(variant)
+    }
+
+    /// The limits of the tables.
+    pub fn limits(self) -> Limits {
+        let mut limits = LIMITS;
+        match self.variant {
+            Some(Variant::Level16Allowed) => limits.levels += 1,
+            Some(Variant::Level15Refused) => limits.levels -= 1,
+            Some(Variant::Place16Allowed) => limits.places += 1,
+            Some(Variant::Place15Refused) => limits.places -= 1,
+            Some(Variant::Subject32Allowed) => limits.subjects += 1,
+            Some(Variant::Subject31Refused) => limits.subjects -= 1,
+            Some(Variant::Object64Allowed) => limits.objects += 1,
+            Some(Variant::Object63Refused) => limits.objects -= 1,
+            _ => {}
+        }
+        limits
+    }
+
+    /// The numbers that a call is made with.
+    pub fn bend_numbers(self, numbers: [u32; 4]) -> [u32; 4] {
+        match self.variant {
+            Some(Variant::Mod256) => numbers.map(|number| number % 256),
+            Some(Variant::Mod65536) => numbers.map(|number| number % 65_536),
+            Some(Variant::Mod31Bits) => numbers.map(|number| number % (1 << 31)),
+            _ => numbers,
+        }
+    }
+
+    /// The needs from which the passes start.
+    pub fn bend_start(self, tables: &Tables, kept: &Needs, needs: &mut Needs) {
+        if self.has(Variant::RunningMaximum) {
+            needs.start_from(tables, kept);
+        }
+    }
+
+    /// Whether a flow hands on what its end reaches.
+    pub fn carries(self, tables: &Tables, flow: Flow) -> bool {
+        let is_kind = |thing, kind| match thing {
+            Thing::Object(o) => tables.object(o).is_some_and(|object| object.kind == kind),
+            Thing::Subject(_) => false,
+        };
+        match self.variant {
+            Some(Variant::OneFlowFar) => is_kind(flow.to, Kind::File),
+            Some(Variant::ReadingNoFlow) => matches!(flow.from, Thing::Subject(_)),
+            Some(Variant::PipesNoFlow) => !is_kind(flow.to, Kind::Pipe),
+            Some(Variant::FilesNoFlow) => !is_kind(flow.from, Kind::File),
+            _ => true,
+        }
+    }
+
+    /// Whether the passes over the handles end here although a need has changed.
+    pub fn gives_up_after(self, pass: u32) -> bool {
+        match self.variant {
+            Some(Variant::FourPasses) => pass + 1 == 4,
+            Some(Variant::ThirtyPasses) => pass + 1 == 30,
+            _ => false,
+        }
+    }
+
+    /// The conditions of "Refused calls" for one call.
+    pub fn bend_conditions(self, tables: &Tables, call: Call, needs: &Needs, conditions: &mut [Condition]) {
+        let Some(variant) = self.variant else {
+            return;
+        };
+        let mut set = |number: u32, holds: bool| {
+            for condition in conditions.iter_mut().filter(|condition| condition.0 == number) {
+                condition.1 = holds;
+            }
+        };
+        let is_open = sought_flow(tables, call).is_some();
+        let unmet_among = |tested: &dyn Fn(Thing) -> bool| needs.unmet(tables).any(tested);
+        let kind_of = |thing| match thing {
+            Thing::Object(o) => tables.object(o).map(|object| object.kind),
+            Thing::Subject(_) => None,
+        };
+        let asker = call.asker().map(Thing::Subject);
+        let named = call.named_object().map(Thing::Object);
+        let subject_level = |s| tables.subject(s).map_or(0, |subject| subject.level);
+        let object_level = |o| tables.object(o).map_or(0, |object| object.level);
+        match (variant, call) {
+            (Variant::OpenerOnly, _) if is_open => {
+                set(9, unmet_among(&|thing| Some(thing) == asker));
+            }
+            (Variant::ObjectOnly, _) if is_open => {
+                set(9, unmet_among(&|thing| Some(thing) == named));
+            }
+            (Variant::EndsOnly, _) if is_open => {
+                set(9, unmet_among(&|thing| Some(thing) == asker || Some(thing) == named));
+            }
+            (Variant::SubjectsOnly, _) if is_open => {
+                set(9, unmet_among(&|thing| kind_of(thing).is_none()));
+            }
+            (Variant::PipesUntested, _) if is_open => {
+                set(9, unmet_among(&|thing| kind_of(thing) != Some(Kind::Pipe)));
+            }
+            (Variant::FilesUntested, _) if is_open => {
+                set(9, unmet_among(&|thing| kind_of(thing) != Some(Kind::File)));
+            }
+            (Variant::OpensUntested, _) if is_open => set(9, false),
+            (Variant::OpensRefused, _) if is_open => set(9, true),
+            (Variant::EqualRefused, Call::OpenWrite { s, o, .. }) if is_open => {
+                let own = Thing::Subject(s);
+                let equal = level(tables, own) == Some(needs.of(own)) && object_level(o) > 0;
+                set(9, equal || unmet_among(&|_| true));
+            }
+            (Variant::ExecUntested, Call::Exec { .. }) => set(9, false),
+            (Variant::ExecOwnFiles, Call::Exec { s, o }) => {
+                let own = tables
+                    .handles_of(s)
+                    .filter(|(_, handle)| handle.direction == Direction::Writing)
+                    .filter_map(|(_, handle)| tables.object(handle.object))
+                    .filter(|object| object.kind == Kind::File)
+                    .any(|object| object_level(o) < object.level);
+                set(9, own);
+            }
+            (Variant::ExecByLevel, Call::Exec { s, o }) => {
+                set(9, object_level(o) < subject_level(s));
+            }
+            (Variant::RetireHeld, _) => set(10, false),
+            (Variant::RetirePipe, Call::Retire { .. }) => set(5, false),
+            (Variant::ExecPipe, Call::Exec { .. }) => set(5, false),
+            (Variant::PipeNotOpened, Call::OpenRead { o, .. } | Call::OpenWrite { o, .. }) => {
+                set(5, kind_of(Thing::Object(o)) == Some(Kind::Pipe));
+            }
+            (Variant::SameEnds, Call::Pipe { s, r, w, .. }) if r == w => {
+                set(7, w >= tables.limits().places || tables.handle(s, w).is_some());
+            }
+            (Variant::TakenPlace, Call::OpenRead { p, .. } | Call::OpenWrite { p, .. }) => {
+                set(7, p >= tables.limits().places);
+            }
+            (Variant::ReadOnWriting, Call::Read { .. }) => set(8, false),
+            (Variant::WriteOnReading, Call::Write { .. }) => set(8, false),
+            _ => {}
+        }
+    }
+
+    /// Of the numbers whose conditions hold, the one of least rank is given.
+    pub fn rank(self, number: u32) -> u32 {
+        // Says the larger of two numbers just before the smaller.
+        let swapped = |smaller: u32, larger: u32| {
+            if number == larger {
+                2 * smaller - 1
+            } else {
+                2 * number
+            }
+        };
+        match self.variant {
+            Some(Variant::LargestFirst) => u32::MAX - number,
+            Some(Variant::Order23) => swapped(2, 3),
+            Some(Variant::Order24) => swapped(2, 4),
+            Some(Variant::Order25) => swapped(2, 5),
+            Some(Variant::Order27) => swapped(2, 7),
+            Some(Variant::Order36) => swapped(3, 6),
+            Some(Variant::Order37) => swapped(3, 7),
+            Some(Variant::Order47) => swapped(4, 7),
+            Some(Variant::Order59) => swapped(5, 9),
+            Some(Variant::Order79) => swapped(7, 9),
+            _ => number,
+        }
+    }
+
+    /// What a call has done and answered, `before` being the monitor before it.
+    pub fn bend_outcome(self, before: &Monitor, after: &mut Monitor, call: Call, answer: Answer) -> Answer {
+        let Some(variant) = self.variant else {
+            return answer;
+        };
+        match answer {
+            Answer::Refused(number) => bend_refused(variant, after, call, number),
+            _ => bend_effect(variant, before, after, call),
+        }
+        bend_answer(variant, before, call, answer)
+    }
+
+    /// What a body with an unknown code holds.
+    pub fn bend_unknown_code(self, code: u32, rest: &[u8]) -> Body {
+        if self.has(Variant::UnknownRestRead) {
+            let mut taken = 0;
+            while taken < rest.len() {
+                match numbers::read(&rest[taken..], self) {
+                    Ok((_, bytes)) => taken += bytes,
+                    Err(malformed) => {
+                        let fault = BodyFault::Number(0, malformed);
+                        return Body::Bad { code, fault };
+                    }
+                }
+            }
+        }
+        Body::UnknownCode { code }
+    }
+
+    /// The length above which a journal is refused with 14.
+    pub fn longest_journal(self) -> usize {
+        match self.variant {
+            Some(Variant::Bytes65536Refused) => LONGEST_JOURNAL - 1,
+            Some(Variant::Bytes65537Accepted) => LONGEST_JOURNAL + 1,
+            _ => LONGEST_JOURNAL,
+        }
+    }
+
+    /// Whether the run stops although there may be more to read.
+    pub fn stops_after(self, step: &Step) -> bool {
+        match self.variant {
+            Some(Variant::TwelveStops) => step.answer == Answer::Refused(12),
+            Some(Variant::FirstRecordOnly) => true,
+            _ => false,
+        }
+    }
+
+    /// What a reply says, and the position from which the next record counts on.
+    pub fn bend_step(self, mut step: Step, position: &mut u64) -> Step {
+        let refused = matches!(step.answer, Answer::Refused(_));
+        let twelve = step.answer == Answer::Refused(12);
+        match self.variant {
+            Some(Variant::PositionFromZero) => step.position -= 1,
+            Some(Variant::RefusedNotCounted) if refused => *position -= 1,
+            Some(Variant::TwelveNotCounted) if twelve => *position -= 1,
+            Some(Variant::CodeZeroAt12) if twelve => step.code = 0,
+            Some(Variant::UnknownCodeAsZero) if shape_of_code(step.code).is_none() => step.code = 0,
+            Some(Variant::FourteenAtZero) if step.content == Content::TooLong => step.position = 0,
+            _ => {}
+        }
+        step
+    }
+}

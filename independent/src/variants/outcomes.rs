@@ -1,0 +1,200 @@
+//! Variants of what a call does and answers: each is a change to the outcome of the right rules.
+
+use super::Variant;
+use crate::calls::Call;
+use crate::monitor::{Answer, Monitor};
+use crate::tables::{Direction, Kind, Object, Subject, Tables};
+
+/// What a refused call leaves behind.
+pub fn bend_refused(variant: Variant, after: &mut Monitor, call: Call, number: u32) {
+    match (variant, call) {
+        (Variant::RefusedOpenStays, Call::OpenRead { p, .. } | Call::OpenWrite { p, .. })
+            if number == 9 =>
+        {
+            if let Some((s, handle)) = call.sought() {
+                after.tables.set_handle(s, p, Some(handle));
+            }
+        }
+        (Variant::RefusedExecLowers, Call::Exec { s, o }) if number == 9 => {
+            let level = after.tables.object(o).map(|object| object.level);
+            after.tables.set_subject(s, level.map(|level| Subject { level }));
+        }
+        (Variant::RefusedCounted, Call::OpenRead { .. } | Call::OpenWrite { .. }) => {
+            after.tally.count_made(1);
+        }
+        _ => {}
+    }
+}
+
+/// What an allowed call does to the tables and the tally.
+pub fn bend_effect(variant: Variant, before: &Monitor, after: &mut Monitor, call: Call) {
+    let made = after.tally.made.wrapping_sub(before.tally.made);
+    let gone = after.tally.gone.wrapping_sub(before.tally.gone);
+    let old = &before.tables;
+    let tables = &mut after.tables;
+    let object_at = |s, p| {
+        let o = old.handle(s, p)?.object;
+        Some((o, old.object(o)?))
+    };
+    match (variant, call) {
+        (Variant::LowerAtOpen, Call::OpenRead { s, o, .. }) => {
+            if let (Some(subject), Some(object)) = (old.subject(s), old.object(o)) {
+                let level = subject.level.min(object.level);
+                tables.set_subject(s, Some(Subject { level }));
+            }
+        }
+        (Variant::LowerPipeAtOpen, Call::OpenWrite { s, o, .. }) => {
+            if let (Some(subject), Some(object)) = (old.subject(s), old.object(o)) {
+                if object.kind == Kind::Pipe {
+                    let level = subject.level.min(object.level);
+                    tables.set_object(o, Some(Object { level, ..object }));
+                }
+            }
+        }
+        (Variant::ReaderKeepsLevel, Call::Read { s, .. }) => tables.set_subject(s, old.subject(s)),
+        (Variant::ReadTakesLevel, Call::Read { s, p }) => {
+            if let Some((_, Object { level, .. })) = object_at(s, p) {
+                tables.set_subject(s, Some(Subject { level }));
+            }
+        }
+        (Variant::PipeKeepsLevel, Call::Write { s, p }) => {
+            if let Some((o, object)) = object_at(s, p) {
+                tables.set_object(o, Some(object));
+            }
+        }
+        (Variant::PipeTakesLevel, Call::Write { s, p }) => {
+            if let (Some((o, object)), Some(subject)) = (object_at(s, p), old.subject(s)) {
+                if object.kind == Kind::Pipe {
+                    let level = subject.level;
+                    tables.set_object(o, Some(Object { level, ..object }));
+                }
+            }
+        }
+        (Variant::ExecKeepsLevel, Call::Exec { s, .. }) => tables.set_subject(s, old.subject(s)),
+        (Variant::ExecTakesLevel, Call::Exec { s, o }) => {
+            let level = old.object(o).map_or(0, |object| object.level);
+            tables.set_subject(s, Some(Subject { level }));
+        }
+        (Variant::ExecCloses, Call::Exec { s, .. }) => {
+            for (p, _) in old.handles_of(s) {
+                tables.set_handle(s, p, None);
+                after.tally.count_gone(1);
+            }
+        }
+        (Variant::ForkNoHandles, Call::Fork { s, c }) => {
+            for (p, _) in old.handles_of(s) {
+                tables.set_handle(c, p, None);
+            }
+            after.tally.made = before.tally.made;
+        }
+        (Variant::ForkReadingOnly, Call::Fork { s, c }) => {
+            for (p, handle) in old.handles_of(s) {
+                if handle.direction == Direction::Writing {
+                    tables.set_handle(c, p, None);
+                }
+            }
+        }
+        (Variant::ForkTopLevel, Call::Fork { c, .. }) => {
+            tables.set_subject(c, Some(Subject { level: 15 }));
+        }
+        (Variant::PipeNeverEnds, Call::Close { .. } | Call::Exit { .. }) => restore_pipes(old, tables),
+        (Variant::PipeEndsWithWriter, Call::Close { .. } | Call::Exit { .. }) => {
+            end_pipes_without(tables, Direction::Writing);
+        }
+        (Variant::PipeEndsWithReader, Call::Close { .. } | Call::Exit { .. }) => {
+            end_pipes_without(tables, Direction::Reading);
+        }
+        (Variant::ExitKeepsPipes, Call::Exit { .. }) => restore_pipes(old, tables),
+        (Variant::ExitKeepsNumber, Call::Exit { s }) => tables.set_subject(s, old.subject(s)),
+        (Variant::RetireKeepsNumber, Call::Retire { o }) => tables.set_object(o, old.object(o)),
+        (Variant::CreateAtZero, Call::Create { o, .. }) => {
+            let (kind, level) = (Kind::File, 0);
+            tables.set_object(o, Some(Object { kind, level }));
+        }
+        (Variant::PipeAtFifteen, Call::Pipe { o, .. }) => {
+            let (kind, level) = (Kind::Pipe, 15);
+            tables.set_object(o, Some(Object { kind, level }));
+        }
+        (Variant::PipeEndsSwapped, Call::Pipe { s, r, w, .. }) => {
+            let (reading, writing) = (tables.handle(s, r), tables.handle(s, w));
+            tables.set_handle(s, r, writing);
+            tables.set_handle(s, w, reading);
+        }
+        (Variant::OldMonitor, _) => *after = before.clone(),
+        (Variant::PipeCountedOnce, Call::Pipe { .. }) => {
+            after.tally.made = before.tally.made.wrapping_add(1);
+        }
+        (Variant::ForkNotCounted, Call::Fork { .. }) => after.tally.made = before.tally.made,
+        (Variant::ForkCountedOnce, Call::Fork { .. }) if made > 0 => {
+            after.tally.made = before.tally.made.wrapping_add(1);
+        }
+        (Variant::ExitCountedOnce, Call::Exit { .. }) if gone > 0 => {
+            after.tally.gone = before.tally.gone.wrapping_add(1);
+        }
+        (Variant::CloseNotCounted, Call::Close { .. }) => after.tally.gone = before.tally.gone,
+        (Variant::RetireCounted, Call::Retire { .. }) => after.tally.count_gone(1),
+        _ => {}
+    }
+}
+
+/// Brings back the pipes that a call has ended.
+fn restore_pipes(old: &Tables, tables: &mut Tables) {
+    for o in old.live_objects() {
+        if tables.object(o).is_none() {
+            tables.set_object(o, old.object(o));
+        }
+    }
+}
+
+/// Ends every pipe that has no handle of this direction.
+fn end_pipes_without(tables: &mut Tables, direction: Direction) {
+    let pipes: Vec<u32> = tables
+        .live_objects()
+        .filter(|&o| tables.object(o).is_some_and(|object| object.kind == Kind::Pipe))
+        .filter(|&o| {
+            !tables.handles().any(|(_, _, handle)| handle.object == o && handle.direction == direction)
+        })
+        .collect();
+    for o in pipes {
+        tables.set_object(o, None);
+    }
+}
+
+/// What a call is answered with.
+pub fn bend_answer(variant: Variant, before: &Monitor, call: Call, answer: Answer) -> Answer {
+    let with = |level: Option<u32>| match (answer, level) {
+        (Answer::Allowed(_), Some(level)) => Answer::Allowed(level),
+        (Answer::Lowered(_), Some(level)) => Answer::Lowered(level),
+        _ => answer,
+    };
+    let old = &before.tables;
+    let subject_level = |s| old.subject(s).map(|subject| subject.level);
+    let object_level = |o| old.object(o).map(|object| object.level);
+    match (variant, call) {
+        (Variant::OpenAnswersSubject, Call::OpenRead { s, .. } | Call::OpenWrite { s, .. }) => {
+            with(subject_level(s))
+        }
+        (Variant::ReadAnswersObject, Call::Read { s, p }) => {
+            with(old.handle(s, p).and_then(|handle| object_level(handle.object)))
+        }
+        (Variant::WriteAnswersSubject, Call::Write { s, .. }) => with(subject_level(s)),
+        (Variant::ExecAnswersObject, Call::Exec { o, .. }) => with(object_level(o)),
+        (Variant::ExitAnswersZero, Call::Exit { .. }) => with(Some(0)),
+        (Variant::LoweredAsAllowed, _) => match answer {
+            Answer::Lowered(level) => Answer::Allowed(level),
+            _ => answer,
+        },
+        (Variant::PipeLoweredAsAllowed, Call::Write { .. }) => match answer {
+            Answer::Lowered(level) => Answer::Allowed(level),
+            _ => answer,
+        },
+        (Variant::EqualAsLowered, Call::Read { s, p }) => {
+            let level = old.handle(s, p).and_then(|handle| object_level(handle.object));
+            match answer {
+                Answer::Allowed(own) if level == Some(own) => Answer::Lowered(own),
+                _ => answer,
+            }
+        }
+        _ => answer,
+    }
+}

@@ -1,0 +1,159 @@
+//! The worked cases and single sentences of document 01.
+
+use gatekeeper_independent::cases;
+use gatekeeper_independent::monitor::{Answer, Monitor};
+use gatekeeper_independent::replies::replies;
+use gatekeeper_independent::tables::{Direction, Handle, Kind, Object, Subject, Tables, LIMITS};
+use gatekeeper_independent::variants::Rules;
+
+#[test]
+fn every_case_gets_its_replies() {
+    for case in cases::all() {
+        assert_eq!(replies(&case.journal), case.replies, "case {}", case.name);
+    }
+}
+
+#[test]
+fn the_cases_are_all_there() {
+    let names: Vec<String> = cases::all().into_iter().map(|case| case.name).collect();
+    for number in 1..=11 {
+        let name = format!("K{number}");
+        assert!(
+            names.iter().any(|known| *known == name || known.starts_with(&format!("{name}-"))),
+            "{name}"
+        );
+    }
+    for name in ["example", "empty", "level-15", "level-16", "place-15", "place-16", "fork-own-number"] {
+        assert!(names.iter().any(|known| known == name), "{name}");
+    }
+    let mut unique = names.clone();
+    unique.sort();
+    unique.dedup();
+    assert_eq!(unique.len(), names.len());
+}
+
+#[test]
+fn the_example_of_the_document() {
+    let journal = [3, 2, 0, 2, 3, 1, 0, 9, 4, 5, 0, 0, 0, 3, 7, 0, 0];
+    assert_eq!(replies(&journal), "1 2 A 2\n2 1 A 9\n3 5 A 2\n4 7 L 2\nend 1 0 1\n");
+}
+
+#[test]
+fn a_direct_call_ignores_the_numbers_its_code_does_not_use() {
+    let mut monitor = Monitor::new();
+    let any = u32::MAX;
+    assert_eq!(monitor.call(1, [0, 9, any, any]), Answer::Allowed(9));
+    assert_eq!(monitor.call(2, [0, 9, any, any]), Answer::Allowed(9));
+    assert_eq!(monitor.call(5, [0, 0, 0, any]), Answer::Allowed(9));
+    assert_eq!(monitor.call(12, [0, any, any, any]), Answer::Allowed(9));
+    assert_eq!(monitor.call(13, [0, any, any, any]), Answer::Allowed(9));
+    for code in [0, 14, 15, 255, 256, u32::MAX] {
+        assert_eq!(monitor.call(code, [0, 0, 0, 0]), Answer::Refused(1));
+    }
+}
+
+#[test]
+fn a_refusal_answers_with_level_0_and_changes_nothing() {
+    let mut monitor = Monitor::new();
+    monitor.call(1, [0, 9, 0, 0]);
+    let (tables, tally) = (monitor.tables().clone(), monitor.tally());
+    for code in 0..=15 {
+        let answer = monitor.call(code, [99, 99, 99, 99]);
+        assert!(matches!(answer, Answer::Refused(_)), "{code}");
+        assert_eq!(answer.level(), 0);
+        assert_eq!((monitor.tables(), monitor.tally()), (&tables, tally));
+    }
+}
+
+// Values that no calls could have made.
+
+const READING: Direction = Direction::Reading;
+const WRITING: Direction = Direction::Writing;
+
+fn made_up(fill: impl Fn(&mut Tables)) -> Monitor {
+    let mut tables = Tables::new(LIMITS);
+    tables.set_subject(0, Some(Subject { level: 9 }));
+    tables.set_object(0, Some(Object { kind: Kind::File, level: 9 }));
+    fill(&mut tables);
+    Monitor::of_tables(tables, Rules::default())
+}
+
+fn handle(object: u32, direction: Direction) -> Option<Handle> {
+    Some(Handle { object, direction })
+}
+
+#[test]
+fn a_handle_on_what_is_not_live_counts_as_an_empty_place() {
+    for object in [1, 63, 64, u32::MAX] {
+        let monitor = made_up(|tables| tables.set_handle(0, 3, handle(object, READING)));
+        for code in [7, 8, 11] {
+            assert_eq!(monitor.clone().call(code, [0, 3, 0, 0]), Answer::Refused(7));
+        }
+        let mut monitor = monitor;
+        assert_eq!(monitor.call(5, [0, 0, 3, 0]), Answer::Allowed(9));
+        assert_eq!(monitor.tables().handle_count(), 1);
+    }
+}
+
+#[test]
+fn every_allowed_call_empties_such_places() {
+    let stale = |tables: &mut Tables| {
+        tables.set_handle(0, 3, handle(1, READING));
+        tables.set_handle(5, 0, handle(0, WRITING));
+    };
+    // The numbers come into use afterwards: no handle comes with them.
+    let mut monitor = made_up(stale);
+    assert_eq!(monitor.call(2, [1, 9, 0, 0]), Answer::Allowed(9));
+    assert_eq!(monitor.call(1, [5, 9, 0, 0]), Answer::Allowed(9));
+    assert_eq!(monitor.tables().handle_count(), 0);
+    // A refused call leaves them.
+    let mut monitor = made_up(stale);
+    let tables = monitor.tables().clone();
+    assert_eq!(monitor.call(1, [0, 9, 0, 0]), Answer::Refused(3));
+    assert_eq!(*monitor.tables(), tables);
+}
+
+#[test]
+fn such_places_hold_no_file_make_no_flow_and_are_not_counted() {
+    let mut monitor = made_up(|tables| {
+        tables.set_handle(5, 0, handle(0, WRITING));
+        tables.set_handle(0, 1, handle(40, WRITING));
+    });
+    assert_eq!(monitor.call(9, [0, 1, 0, 0]), Answer::Allowed(9));
+    assert_eq!(monitor.tally().made, 0);
+    assert_eq!(monitor.call(13, [0, 0, 0, 0]), Answer::Allowed(9));
+}
+
+#[test]
+fn where_a_thing_is_below_its_need_already_every_open_is_refused() {
+    let mut monitor = made_up(|tables| {
+        tables.set_subject(1, Some(Subject { level: 2 }));
+        tables.set_handle(1, 0, handle(0, WRITING));
+        tables.set_object(1, Some(Object { kind: Kind::File, level: 2 }));
+    });
+    assert_eq!(monitor.call(5, [0, 0, 0, 0]), Answer::Refused(9));
+    assert_eq!(monitor.call(6, [0, 1, 0, 0]), Answer::Refused(9));
+    // Exec looks at the caller's need alone.
+    assert_eq!(monitor.call(10, [0, 1, 0, 0]), Answer::Lowered(2));
+    assert_eq!(monitor.call(10, [1, 1, 0, 0]), Answer::Refused(9));
+    // "a file keeps its own"
+    assert_eq!(monitor.call(8, [1, 0, 0, 0]), Answer::Allowed(9));
+}
+
+#[test]
+fn a_pipe_without_handles_stays_until_a_last_handle_goes() {
+    let mut monitor = made_up(|tables| tables.set_object(7, Some(Object { kind: Kind::Pipe, level: 9 })));
+    assert_eq!(monitor.call(2, [7, 1, 0, 0]), Answer::Refused(3));
+    assert_eq!(monitor.call(5, [0, 7, 0, 0]), Answer::Allowed(9));
+    assert_eq!(monitor.call(11, [0, 0, 0, 0]), Answer::Allowed(9));
+    assert_eq!(monitor.call(2, [7, 1, 0, 0]), Answer::Allowed(1));
+}
+
+#[test]
+fn the_counts_go_on_modulo_2_to_the_64th() {
+    let mut tally = gatekeeper_independent::tables::Tally { made: u64::MAX, gone: u64::MAX - 1 };
+    tally.count_made(2);
+    assert_eq!((tally.made, tally.open()), (1, 3));
+    tally.count_gone(3);
+    assert_eq!((tally.gone, tally.open()), (1, 0));
+}

@@ -1,0 +1,89 @@
+//! The wrong variants: each is told apart, and each is switched on at one place.
+
+use std::collections::BTreeSet;
+use std::fs;
+use std::path::Path;
+
+use gatekeeper_independent::bite::bite;
+use gatekeeper_independent::calls::Call;
+use gatekeeper_independent::generate::{journal, Wish};
+use gatekeeper_independent::needs::Needs;
+use gatekeeper_independent::records::Body;
+use gatekeeper_independent::refusals::{conditions, sought_flow};
+use gatekeeper_independent::replies::{Content, Run};
+use gatekeeper_independent::variants::{Rules, ALL};
+
+#[test]
+fn every_variant_is_told_apart() {
+    for seed in [1, 2] {
+        for bite in bite(seed, 2000) {
+            assert!(bite.journals.is_some(), "{} with seed {seed}", bite.name);
+        }
+    }
+}
+
+#[test]
+fn there_are_many_variants_with_names_of_their_own() {
+    assert!(ALL.len() >= 25);
+    for (variant, name, _) in ALL {
+        assert_eq!(Rules::named(name), Some(Rules::from(*variant)));
+    }
+    assert_eq!(Rules::named("no-such-variant"), None);
+    assert!(Rules::default().are_right());
+}
+
+/// The order of two refusals can be told only where both conditions can hold. These are all such pairs,
+/// each meets its turn in the generated journals, and each has a variant that swaps it.
+#[test]
+fn every_pair_of_conditions_that_can_hold_together_has_a_variant() {
+    let mut pairs = BTreeSet::new();
+    for index in 0..600 {
+        let journal = journal(1, index, Wish::default());
+        let mut run = Run::new(&journal, Rules::default());
+        loop {
+            let tables = run.monitor().tables().clone();
+            let Some(step) = run.next_step() else {
+                break;
+            };
+            let Content::Body(_, Body::Call { code, numbers }) = step.content else {
+                continue;
+            };
+            let call = Call::new(code, numbers).unwrap();
+            let sought = sought_flow(&tables, call);
+            let needs = Needs::work_out(&tables, sought, Rules::default(), &Needs::none(&tables));
+            let conditions = conditions(&tables, call, &needs);
+            let holding: Vec<u32> = conditions.iter().filter(|row| row.1).map(|row| row.0).collect();
+            for (index, smaller) in holding.iter().enumerate() {
+                pairs.extend(holding[index + 1..].iter().map(|larger| (*smaller, *larger)));
+            }
+        }
+    }
+    let expected = [(2, 3), (2, 4), (2, 5), (2, 7), (3, 6), (3, 7), (4, 7), (5, 9), (7, 9)];
+    assert_eq!(pairs, BTreeSet::from(expected));
+    for (smaller, larger) in expected {
+        assert!(Rules::named(&format!("order-{smaller}-{larger}")).is_some());
+    }
+}
+
+fn sources(folder: &Path, text: &mut String) {
+    for entry in fs::read_dir(folder).unwrap() {
+        let path = entry.unwrap().path();
+        if path.is_dir() {
+            sources(&path, text);
+        } else {
+            text.push_str(&fs::read_to_string(&path).unwrap());
+        }
+    }
+}
+
+#[test]
+fn every_variant_is_read_at_exactly_one_place() {
+    let mut text = String::new();
+    sources(&Path::new(env!("CARGO_MANIFEST_DIR")).join("src"), &mut text);
+    for (variant, name, _) in ALL {
+        let word = format!("Variant::{variant:?}");
+        let is_whole = |end: usize| !text[end..].starts_with(|next: char| next.is_alphanumeric());
+        let places = text.match_indices(&word).filter(|(start, found)| is_whole(start + found.len()));
+        assert_eq!(places.count(), 1, "{name}");
+    }
+}
