@@ -63,6 +63,15 @@ rules-demand3 rs = record {
   contents-unmoved = λ ℓ h p q w. unmoved ℓ h p q rs w .same-at;
 }
 
+-- one more call
+pub after-more : (t : Tables) (rs : List Raw) (r : Raw) → after t (rs ++ r ∷ []) ≡ next (after t rs) (decode r)
+after-more t [] r = refl
+after-more t (k ∷ rs) r = after-more (next t (decode k)) rs r
+
+pub answers-more : (t : Tables) (rs : List Raw) (r : Raw) → answers t (rs ++ r ∷ []) ≡ answers t rs ++ answer (after t rs) (decode r) ∷ []
+answers-more t [] r = refl
+answers-more t (k ∷ rs) r = ap (λ (l : List Answer). answer t (decode k) ∷ l) (answers-more (next t (decode k)) rs r)
+
 -- ── a monitor ──
 -- in tables where nothing dangles, cleaning changes nothing
 pub clean-same : (t : Tables) → Wf t → clean t ≡ t
@@ -75,7 +84,8 @@ clean-same t w = ap (with-hand t) (fun-ext (λ s. fun-ext (λ p. point s p (t .h
         (both (ltb p places && live t (subject s)) (live t (object (k .to))) (both (ltb p places) (live t (subject s)) (lt→ltb p places (f .place)) (f .from)) (f .to))
 
 module _ {M : Type 0} (view : M → Tables) where
-  meets-next : (m : M) (c : Call) (a : Answer) (n : M) (t : Tables) → view m ≡ t → Kept t → Meets view m c a n → (a ≡ answer t c) × (view n ≡ next t c)
+  -- one more call, of a monitor whose tables are those that the list led to
+  pub meets-next : (m : M) (c : Call) (a : Answer) (n : M) (t : Tables) → view m ≡ t → Kept t → Meets view m c a n → (a ≡ answer t c) × (view n ≡ next t c)
   meets-next m c a n t e v k = (k .answered ∙ ap (λ (u : Tables). answer u c) cleaned, go (refusal t c) refl)
     where
       cleaned : clean (view m) ≡ t

@@ -1,8 +1,8 @@
 -- The laws of labels: `_⊑_` is a partial order with greatest lower bounds `meet`, least upper bounds `join` and least element
 -- `bot`. Nothing else about labels is used elsewhere, but by the table of cases, which computes. Assumes nothing.
-use mathlib.Core.Path.{_≡_, refl}
+use mathlib.Core.Path.{_≡_, refl, sym, subst}
 use mathlib.Core.Bool.{not}
-use Prim.Native.Nat.{ℕ, _<_, min, max, zero-le}
+use Prim.Native.Nat.{ℕ, _≤_, _<_, min, max, zero-le}
 use native.Mathlib.Nat.{le-refl, le-trans, le-antisymm, min-le-left, min-le-right, le-max-left, le-max-right, le-min, max-le}
 use native.Mathlib.Omega.{arith}
 use mathlib.Core.Logic.{_↔_}
@@ -36,6 +36,12 @@ pub leq-levels : (a b : Label) → leq a b ≡ leb (level a) (level b)
 unfolding Label leq level
 leq-levels a b = refl
 
+pub le→⊑ : (a b : Label) → level a ≤ level b → a ⊑ b
+le→⊑ a b h = record { tested = subst T (sym (leq-levels a b)) (le→leb (level a) (level b) h) }
+
+pub ⊑→le : (a b : Label) → a ⊑ b → level a ≤ level b
+⊑→le a b h = leb→le (level a) (level b) (subst T (leq-levels a b) (h .tested))
+
 -- not at least is below
 pub not-least-is-below : (a b : Label) → T (not (leq a b)) ↔ (level b < level a)
 unfolding Label leq level
@@ -53,6 +59,12 @@ meet-right a b = record { tested = le→leb (min a b) b (min-le-right a b) }
 pub meet-glb : {a b c : Label} → c ⊑ a → c ⊑ b → c ⊑ meet a b
 unfolding Label leq meet
 meet-glb {a} {b} {c} p q = record { tested = le→leb c (min a b) (le-min (leb→le c a (p .tested)) (leb→le c b (q .tested))) }
+
+pub meet-stays : (a b : Label) → a ⊑ b → meet a b ≡ a
+meet-stays a b h = ⊑-antisym (meet-left a b) (meet-glb ⊑-refl h)
+
+pub meet-falls : (a b : Label) → b ⊑ a → meet a b ≡ b
+meet-falls a b h = ⊑-antisym (meet-right a b) (meet-glb h ⊑-refl)
 
 -- ── join and bot ──
 pub join-left : (a b : Label) → a ⊑ join a b

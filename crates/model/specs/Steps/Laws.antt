@@ -1,20 +1,20 @@
 -- The laws of `Steps`: a part changed, seen from any thing and any place; what stays in use; lists of steps; how a thing falls.
 -- Assumes nothing.
-use mathlib.Core.Path.{_≡_, refl, sym, _∙_, ap, subst}
+use mathlib.Core.Path.{_≡_, refl, sym, _∙_, ap, subst, fun-ext}
 use mathlib.Core.Bool.{Bool, true, false, not, _&&_, cond}
 use mathlib.Core.Logic.{_⊎_, inl, inr}
 use mathlib.Core.Option.{Option, none, some, Option·none-ne-some, Option·some-injective}
 use mathlib.Core.List.{List, [], _∷_, _++_}
 use Prim.Native.Nat.{ℕ}
-use lib.Dec.{T, eqb, eqb→eq, eqb-refl}
-use Rattle.model.specs.Bools.{both, cond-yes, cond-no, cond-cases}
+use lib.Dec.{T, T-not, not-T, eqb, eqb→eq, eqb-refl}
+use Rattle.model.specs.Bools.{both, both-of, cond-yes, cond-no, cond-cases}
 use Rattle.model.specs.Label.{Label, _⊑_, meet, bot}
 use Rattle.model.specs.Label.Laws.{⊑-refl, meet-left, meet-right, meet-glb}
 use Rattle.model.specs.Flow.{Thing, subject, object, same}
 use Rattle.model.specs.Flow.Laws.{same→eq, same-refl}
-use Rattle.model.specs.Tables.{Kind, running, file, pipe, Entry, Handle, Tables, with-at, with-hand, in-range, is-some, used, live, is-file, is-pipe, open-on, demand}
+use Rattle.model.specs.Tables.{Kind, running, file, pipe, Entry, Handle, Tables, with-at, with-hand, in-range, is-some, used, live, is-file, is-pipe, handles, open-on, demand}
 use Rattle.model.specs.Tables.Laws.{used-is, live-of}
-use Rattle.model.specs.Steps.{Step, put, row, place, falls, sunk, fall, apply, applies, ended}
+use Rattle.model.specs.Steps.{Step, put, row, place, falls, sunk, fall, apply, applies, ended, reap}
 
 -- ── put, row, place ──
 pub put-cases : (a : Thing → Option Entry) (x : Thing) (v : Option Entry) (y : Thing) (e : Option Entry) → put a x v y ≡ e
@@ -71,9 +71,26 @@ ended-open before after n o h = go (is-pipe (object n) o) (open-on before n) (op
     go true false b h = tt
     go false a b h = tt
 
+pub ended-of : (before after : List Handle) (n : ℕ) (o : Option Entry) → T (ended before after (object n) o) → T (open-on before n) × T (not (open-on after n))
+unfolding ended
+ended-of before after n o h = go (is-pipe (object n) o) h
+  where
+    go : (f : Bool) → T (elim f as (λ _. Bool) [ true ↦ open-on before n && not (open-on after n) | false ↦ false ]) → T (open-on before n) × T (not (open-on after n))
+    go true h = both-of (open-on before n) (not (open-on after n)) h
+    go false h = absurd h
+
 pub ended-subject : (before after : List Handle) (n : ℕ) (o : Option Entry) → T (not (ended before after (subject n) o))
 unfolding ended
 ended-subject before after n o = tt
+
+-- where no handle goes, no pipe ends
+pub reap-more : (t u : Tables) → ((n : ℕ) → T (open-on (handles t) n) → T (open-on (handles u) n)) → reap (handles t) u ≡ u
+reap-more t u f = ap (with-at u) (fun-ext stays)
+  where
+    stays : (x : Thing) → cond (ended (handles t) (handles u) x (u .at x)) none (u .at x) ≡ u .at x
+    stays (subject n) = cond-no (ended (handles t) (handles u) (subject n) (u .at (subject n))) none (u .at (subject n)) (ended-subject (handles t) (handles u) n (u .at (subject n)))
+    stays (object n) = cond-no (ended (handles t) (handles u) (object n) (u .at (object n))) none (u .at (object n)) (not-T (ended (handles t) (handles u) (object n) (u .at (object n)))
+        (λ e. let r = ended-of (handles t) (handles u) n (u .at (object n)) e in T-not (open-on (handles u) n) (r .1) (f n (r .0))))
 
 -- ── fall ──
 -- what does not fall is a file, and a file does not

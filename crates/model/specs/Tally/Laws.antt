@@ -89,7 +89,7 @@ unfolding sheds
 count-sheds t s = refl
 
 -- ── calls ──
-none-of : (o : Option Handle) → T (not (is-some o)) → o ≡ none
+pub none-of : (o : Option Handle) → T (not (is-some o)) → o ≡ none
 none-of none h = refl
 none-of (some k) h = absurd h
 
@@ -99,7 +99,7 @@ empty-place t s p h = none-of (t .hand s p) (neither (not (ltb p places)) (is-so
 row-of : (t : Tables) (s : ℕ) → T (not (broken t (alive s))) → s < subjects
 row-of t s h = ltb→lt s subjects (live-of t (subject s) (is-alive t s h) .0)
 
-each-none : (n : ℕ) (f : ℕ → List Handle) → ((j : ℕ) → length (f j) ≡ 0) → length (each n f) ≡ 0
+pub each-none : (n : ℕ) (f : ℕ → List Handle) → ((j : ℕ) → length (f j) ≡ 0) → length (each n f) ≡ 0
 each-none zero f h = refl
 each-none (suc n) f h = let a : length (each n f) ≡ 0 = each-none n f h in let b : length (f n) ≡ 0 = h n in omega (arith, length-append (each n f) (f n))
 

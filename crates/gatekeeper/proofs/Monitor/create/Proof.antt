@@ -1,0 +1,49 @@
+-- `gatekeeper::Monitor::create` meets its contract. Assumes nothing.
+use mathlib.Core.Path.{refl, sym, _∙_}
+use mathlib.Core.Logic.{inl, inr}
+use borrow.Author.Needs.{needs}
+use Rattle.model.specs.Flow.{object}
+use Rattle.model.specs.Calls.{create, close, alive, new, taken}
+use Rattle.gatekeeper.proofs.Meeting.{refuse}
+use Rattle.gatekeeper.proofs.Shapes.{new-column}
+use Rattle.gatekeeper.proofs.Allowed as Y
+use Rattle.gatekeeper.specs.View.{view}
+use Rattle.gatekeeper.proofs.Monitor.create.Statement.{statement}
+use Rattle.gatekeeper.proofs.Monitor.create.Tie as tie
+
+cleaned-requires : tie.Need-cleaned-requires
+cleaned-requires c κs = search needs
+
+lacks-subject-requires : tie.Need-lacks-subject-requires
+lacks-subject-requires c κs = search needs
+
+returns : tie.Need-returns
+returns c = refuse (c .before .before .before .args .self) (view (c .before .before .cleaned .result)) (create (c .before .before .before .args .s) (c .before .before .before .args .o)) (alive (c .before .before .before .args .s)) (c .before .before .cleaned .ensures) (inl refl) (sym (c .before .lacks-subject .ensures) ∙ c .if1 .taken) (tt, (tt, tt))
+
+object-taken-requires : tie.Need-object-taken-requires
+object-taken-requires c κs = search needs
+
+returns-2 : tie.Need-returns-2
+returns-2 c = refuse (c .before .before .before .before .before .args .self) (view (c .before .before .before .before .cleaned .result)) (create (c .before .before .before .before .before .args .s) (c .before .before .before .before .before .args .o)) (new (object (c .before .before .before .before .before .args .o))) (c .before .before .before .before .cleaned .ensures) (inr (inl refl)) (sym (c .before .object-taken .ensures) ∙ c .if2 .taken) (sym (c .before .before .before .lacks-subject .ensures) ∙ c .before .before .if1 .left, (tt, tt))
+
+subject-level-requires : tie.Need-subject-level-requires
+subject-level-requires c κs = search needs
+
+with-object-requires : tie.Need-with-object-requires
+with-object-requires c κs = search needs
+
+returns-3 : tie.Need-returns-3
+returns-3 c = Y.created (c .before .before .before .before .before .before .before .args .self) (c .before .before .before .before .before .before .cleaned .result) (c .before .before .before .before .before .before .cleaned .ensures) (c .before .before .before .before .before .before .before .args .s) (c .before .before .before .before .before .before .before .args .o) (c .before .subject-level .result) (c .with-object .result) (sym (c .before .before .before .before .before .lacks-subject .ensures) ∙ c .before .before .before .before .if1 .left) (sym (c .before .before .before .object-taken .ensures) ∙ c .before .before .if2 .left) (c .before .subject-level .ensures) (c .with-object .ensures (new-column (view (c .before .before .before .before .before .before .cleaned .result)) (c .before .before .before .before .before .before .before .args .o) (sym (c .before .before .before .object-taken .ensures) ∙ c .before .before .if2 .left)))
+
+pub create-spec : {M : Type 1} → statement M
+create-spec =
+    tie.close
+    (tie.spec
+    cleaned-requires
+    lacks-subject-requires
+    returns
+    object-taken-requires
+    returns-2
+    subject-level-requires
+    with-object-requires
+    returns-3)

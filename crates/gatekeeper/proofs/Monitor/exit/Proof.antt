@@ -1,0 +1,52 @@
+-- `gatekeeper::Monitor::exit` meets its contract. Assumes nothing.
+use mathlib.Core.Path.{refl, sym, _∙_, ap}
+use mathlib.Core.Logic.{inl}
+use mathlib.Core.Option.{none}
+use borrow.Author.Needs.{needs}
+use Rattle.model.specs.Flow.{subject}
+use Rattle.model.specs.Tables.{with-at, handles}
+use Rattle.model.specs.Steps.{put, reap}
+use Rattle.model.specs.Calls.{close, exit, alive, taken}
+use Rattle.gatekeeper.proofs.Meeting.{refuse}
+use Rattle.gatekeeper.proofs.Shapes.{in-row}
+use Rattle.gatekeeper.proofs.Allowed as Y
+use Rattle.gatekeeper.specs.View.{view}
+use Rattle.gatekeeper.proofs.Monitor.exit.Statement.{statement}
+use Rattle.gatekeeper.proofs.Monitor.exit.Tie as tie
+
+cleaned-requires : tie.Need-cleaned-requires
+cleaned-requires c κs = search needs
+
+lacks-subject-requires : tie.Need-lacks-subject-requires
+lacks-subject-requires c κs = search needs
+
+returns : tie.Need-returns
+returns c = refuse (c .before .before .before .args .self) (view (c .before .before .cleaned .result)) (exit (c .before .before .before .args .s)) (alive (c .before .before .before .args .s)) (c .before .before .cleaned .ensures) (inl refl) (sym (c .before .lacks-subject .ensures) ∙ c .if1 .taken) (tt, tt)
+
+subject-level-requires : tie.Need-subject-level-requires
+subject-level-requires c κs = search needs
+
+row-emptied-requires : tie.Need-row-emptied-requires
+row-emptied-requires c κs = search needs
+
+with-subject-requires : tie.Need-with-subject-requires
+with-subject-requires c κs = search needs
+
+reaped-requires : tie.Need-reaped-requires
+reaped-requires c κs = search needs
+
+returns-2 : tie.Need-returns-2
+returns-2 c = Y.exited (c .before .before .before .before .before .before .before .args .self) (c .before .before .before .before .before .before .cleaned .result) (c .before .before .before .before .before .before .cleaned .ensures) (c .before .before .before .before .before .before .before .args .s) (c .before .before .before .subject-level .result) (c .reaped .result) (sym (c .before .before .before .before .before .lacks-subject .ensures) ∙ c .before .before .before .before .if1 .left) (c .before .before .before .subject-level .ensures) (c .reaped .ensures ∙ ap (reap (handles (view (c .before .before .before .before .before .before .cleaned .result)))) (c .before .with-subject .ensures (in-row (view (c .before .before .before .before .before .before .cleaned .result)) (c .before .before .before .before .before .before .before .args .s) (sym (c .before .before .before .before .before .lacks-subject .ensures) ∙ c .before .before .before .before .if1 .left)) ∙ ap (λ u. with-at u (put (u .at) (subject (c .before .before .before .before .before .before .before .args .s)) none)) (c .before .before .row-emptied .ensures (in-row (view (c .before .before .before .before .before .before .cleaned .result)) (c .before .before .before .before .before .before .before .args .s) (sym (c .before .before .before .before .before .lacks-subject .ensures) ∙ c .before .before .before .before .if1 .left)))))
+
+pub exit-spec : {M : Type 1} → statement M
+exit-spec =
+    tie.close
+    (tie.spec
+    cleaned-requires
+    lacks-subject-requires
+    returns
+    subject-level-requires
+    row-emptied-requires
+    with-subject-requires
+    reaped-requires
+    returns-2)

@@ -1,0 +1,63 @@
+-- `gatekeeper::Monitor::is_open` meets its contract. Assumes nothing.
+use Rattle.gatekeeper.proofs.Ending.{some-at, none-below, open-is}
+use Rattle.gatekeeper.specs.Working.{on}
+use Rattle.gatekeeper.specs.View.{no-handle}
+use mathlib.Core.Path.{_≡_, sym, _∙_}
+use mathlib.Core.Bool.{false}
+use Prim.Native.Nat.{ℕ, _-_, _≤_, _<_}
+use native.Mathlib.Omega.{arith}
+use borrow.Author.Needs.{needs}
+use borrow.Author.Count.{below-more}
+use lib.ListN.{getD}
+use Rattle.gatekeeper.proofs.Owned as O
+use Rattle.gatekeeper.proofs.Monitor.is_open.Statement.{statement}
+use Rattle.gatekeeper.proofs.Monitor.is_open.Tie as tie
+
+abbrev Inv-loop : tie.InvT-loop
+Inv-loop o self i₀ i = (i ≤ 512) × ((j : ℕ) → j < i → on (getD (self .handles) j no-handle) o ≡ false)
+
+abbrev μ-loop : tie.MeasureT-loop
+μ-loop o self i₀ i = 512 - i
+
+loop-holds : tie.Need-loop-holds Inv-loop μ-loop
+loop-holds c = (omega arith, λ j h. absurd (omega arith))
+
+mul-h : tie.Need-mul-h Inv-loop μ-loop
+mul-h c = search needs
+
+element-copy-out-h : tie.Need-element-copy-out-h Inv-loop μ-loop
+element-copy-out-h c = search needs
+
+is-on-requires : tie.Need-is-on-requires Inv-loop μ-loop
+is-on-requires c κs = search needs
+
+returns : tie.Need-returns Inv-loop μ-loop
+returns c = sym (some-at 512 (λ i. on (getD (c .before .before .before .before .before .args .t1 .handles) i no-handle) (c .before .before .before .before .before .args .o)) (c .before .before .before .before .loop .i) (omega arith) (sym (c .before .is-on .ensures) ∙ c .if1 .taken)) ∙ open-is (c .before .before .before .before .before .args .t1) (c .before .before .before .before .before .args .o) (O.handles-long (c .before .before .before .before .before .args .t1) (c .before .before .before .before .before .good .0))
+
+add-i : tie.Need-add-i Inv-loop μ-loop
+add-i c = search needs
+
+loop-less : tie.Need-loop-less Inv-loop μ-loop
+loop-less c = search needs
+
+loop-again : tie.Need-loop-again Inv-loop μ-loop
+loop-again c = (omega arith, below-more _ _ (c .before .before .before .before .loop .inv .1) (sym (c .before .is-on .ensures) ∙ c .if1 .left))
+
+returns-2 : tie.Need-returns-2 Inv-loop μ-loop
+returns-2 c = sym (none-below 512 (λ i. on (getD (c .before .before .args .t1 .handles) i no-handle) (c .before .before .args .o)) (λ j h. c .before .loop .inv .1 j (omega arith))) ∙ open-is (c .before .before .args .t1) (c .before .before .args .o) (O.handles-long (c .before .before .args .t1) (c .before .before .good .0))
+
+pub is-open-spec : {M : Type 1} → statement M
+is-open-spec =
+    tie.close
+    (tie.spec
+    Inv-loop
+    μ-loop
+    loop-holds
+    mul-h
+    element-copy-out-h
+    is-on-requires
+    returns
+    add-i
+    loop-less
+    loop-again
+    returns-2)

@@ -1,0 +1,75 @@
+-- `gatekeeper::Monitor::read` meets its contract. Assumes nothing.
+use mathlib.Core.Path.{refl, sym, _∙_}
+use mathlib.Core.Logic.{inl, inr}
+use borrow.Author.Needs.{needs}
+use Rattle.model.specs.Flow.{object}
+use Rattle.model.specs.Tables.{reading}
+use Rattle.model.specs.Calls.{access, close, alive, taken, facing}
+use Rattle.gatekeeper.proofs.Meeting.{refuse}
+use Rattle.gatekeeper.proofs.Shapes.{cleaned-wf, in-row}
+use Rattle.gatekeeper.proofs.Allowed as Y
+use Rattle.gatekeeper.specs.View.{view}
+use Rattle.gatekeeper.proofs.Owned as O
+use Rattle.gatekeeper.proofs.Monitor.read.Statement.{statement}
+use Rattle.gatekeeper.proofs.Monitor.read.Tie as tie
+
+cleaned-requires : tie.Need-cleaned-requires
+cleaned-requires c κs = search needs
+
+lacks-subject-requires : tie.Need-lacks-subject-requires
+lacks-subject-requires c κs = search needs
+
+returns : tie.Need-returns
+returns c = refuse (c .before .before .before .args .self) (view (c .before .before .cleaned .result)) (access reading (c .before .before .before .args .s) (c .before .before .before .args .p)) (alive (c .before .before .before .args .s)) (c .before .before .cleaned .ensures) (inl refl) (sym (c .before .lacks-subject .ensures) ∙ c .if1 .taken) (tt, (tt, (tt, tt)))
+
+place-empty-requires : tie.Need-place-empty-requires
+place-empty-requires c κs = search needs
+
+returns-2 : tie.Need-returns-2
+returns-2 c = refuse (c .before .before .before .before .before .args .self) (view (c .before .before .before .before .cleaned .result)) (access reading (c .before .before .before .before .before .args .s) (c .before .before .before .before .before .args .p)) (taken (c .before .before .before .before .before .args .s) (c .before .before .before .before .before .args .p)) (c .before .before .before .before .cleaned .ensures) (inr (inl refl)) (sym (c .before .place-empty .ensures) ∙ c .if2 .taken) (sym (c .before .before .before .lacks-subject .ensures) ∙ c .before .before .if1 .left, (tt, (tt, tt)))
+
+faces-out-requires : tie.Need-faces-out-requires
+faces-out-requires c κs = search needs
+
+returns-3 : tie.Need-returns-3
+returns-3 c = refuse (c .before .before .before .before .before .before .before .args .self) (view (c .before .before .before .before .before .before .cleaned .result)) (access reading (c .before .before .before .before .before .before .before .args .s) (c .before .before .before .before .before .before .before .args .p)) (facing reading (c .before .before .before .before .before .before .before .args .s) (c .before .before .before .before .before .before .before .args .p)) (c .before .before .before .before .before .before .cleaned .ensures) (inr (inr (inl refl))) (sym (c .before .faces-out .ensures) ∙ c .if3 .taken) (sym (c .before .before .before .before .before .lacks-subject .ensures) ∙ c .before .before .before .before .if1 .left, (sym (c .before .before .before .place-empty .ensures) ∙ c .before .before .if2 .left, (tt, tt)))
+
+handle-at-requires : tie.Need-handle-at-requires
+handle-at-requires c κs = search needs
+
+cast-o : tie.Need-cast-o
+cast-o c = search needs
+
+object-level-requires : tie.Need-object-level-requires
+object-level-requires c κs = search needs
+
+subject-level-requires : tie.Need-subject-level-requires
+subject-level-requires c κs = search needs
+
+with-subject-requires : tie.Need-with-subject-requires
+with-subject-requires c κs = search needs
+
+returns-4 : tie.Need-returns-4
+returns-4 c = Y.read-sinks (c .before .before .before .before .before .before .before .before .before .before .before .before .before .args .self) (c .before .before .before .before .before .before .before .before .before .before .before .before .cleaned .result) (c .before .before .before .before .before .before .before .before .before .before .before .before .cleaned .ensures) (cleaned-wf (c .before .before .before .before .before .before .before .before .before .before .before .before .before .args .self) (view (c .before .before .before .before .before .before .before .before .before .before .before .before .cleaned .result)) (O.subjects-long (c .before .before .before .before .before .before .before .before .before .before .before .before .before .args .self) (c .before .before .before .before .before .before .before .before .before .before .before .before .before .good .0)) (O.objects-long (c .before .before .before .before .before .before .before .before .before .before .before .before .before .args .self) (c .before .before .before .before .before .before .before .before .before .before .before .before .before .good .0)) (c .before .before .before .before .before .before .before .before .before .before .before .before .cleaned .ensures)) (c .before .before .before .before .before .before .before .before .before .before .before .before .before .args .s) (c .before .before .before .before .before .before .before .before .before .before .before .before .before .args .p) (c .before .before .before .before .before .handle-at .result .object) (c .before .before .before .object-level .result) (c .before .before .subject-level .result) (c .before .before .before .before .before .handle-at .result) (c .with-subject .result) (sym (c .before .before .before .before .before .before .before .before .before .before .before .lacks-subject .ensures) ∙ c .before .before .before .before .before .before .before .before .before .before .if1 .left) (sym (c .before .before .before .before .before .before .before .before .before .place-empty .ensures) ∙ c .before .before .before .before .before .before .before .before .if2 .left) (sym (c .before .before .before .before .before .before .before .faces-out .ensures) ∙ c .before .before .before .before .before .before .if3 .left) (c .before .before .before .before .before .handle-at .ensures) refl (c .before .before .before .object-level .ensures) (c .before .before .subject-level .ensures) (c .before .if4 .taken) (c .with-subject .ensures (in-row (view (c .before .before .before .before .before .before .before .before .before .before .before .before .cleaned .result)) (c .before .before .before .before .before .before .before .before .before .before .before .before .before .args .s) (sym (c .before .before .before .before .before .before .before .before .before .before .before .lacks-subject .ensures) ∙ c .before .before .before .before .before .before .before .before .before .before .if1 .left)))
+
+returns-5 : tie.Need-returns-5
+returns-5 c = Y.read-stays (c .before .before .before .before .before .before .before .before .before .before .before .before .args .self) (c .before .before .before .before .before .before .before .before .before .before .before .cleaned .result) (c .before .before .before .before .before .before .before .before .before .before .before .cleaned .ensures) (cleaned-wf (c .before .before .before .before .before .before .before .before .before .before .before .before .args .self) (view (c .before .before .before .before .before .before .before .before .before .before .before .cleaned .result)) (O.subjects-long (c .before .before .before .before .before .before .before .before .before .before .before .before .args .self) (c .before .before .before .before .before .before .before .before .before .before .before .before .good .0)) (O.objects-long (c .before .before .before .before .before .before .before .before .before .before .before .before .args .self) (c .before .before .before .before .before .before .before .before .before .before .before .before .good .0)) (c .before .before .before .before .before .before .before .before .before .before .before .cleaned .ensures)) (c .before .before .before .before .before .before .before .before .before .before .before .before .args .s) (c .before .before .before .before .before .before .before .before .before .before .before .before .args .p) (c .before .before .before .before .handle-at .result .object) (c .before .before .object-level .result) (c .before .subject-level .result) (c .before .before .before .before .handle-at .result) (c .before .before .before .before .before .before .before .before .before .before .before .cleaned .result) (sym (c .before .before .before .before .before .before .before .before .before .before .lacks-subject .ensures) ∙ c .before .before .before .before .before .before .before .before .before .if1 .left) (sym (c .before .before .before .before .before .before .before .before .place-empty .ensures) ∙ c .before .before .before .before .before .before .before .if2 .left) (sym (c .before .before .before .before .before .before .faces-out .ensures) ∙ c .before .before .before .before .before .if3 .left) (c .before .before .before .before .handle-at .ensures) refl (c .before .before .object-level .ensures) (c .before .subject-level .ensures) (c .if4 .left) refl
+
+pub read-spec : {M : Type 1} → statement M
+read-spec =
+    tie.close
+    (tie.spec
+    cleaned-requires
+    lacks-subject-requires
+    returns
+    place-empty-requires
+    returns-2
+    faces-out-requires
+    returns-3
+    handle-at-requires
+    cast-o
+    object-level-requires
+    subject-level-requires
+    with-subject-requires
+    returns-4
+    returns-5)

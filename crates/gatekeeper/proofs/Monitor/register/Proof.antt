@@ -1,0 +1,46 @@
+-- `gatekeeper::Monitor::register` meets its contract. Assumes nothing.
+use mathlib.Core.Path.{refl, sym, _∙_}
+use mathlib.Core.Logic.{inl, inr}
+use borrow.Author.Needs.{needs}
+use borrow.Author.Tests.{lt-ltb, le-ltb}
+use Rattle.model.specs.Flow.{object}
+use Rattle.model.specs.Calls.{register, close, new, leveled, taken}
+use Rattle.gatekeeper.proofs.Meeting.{refuse}
+use Rattle.gatekeeper.proofs.Shapes.{new-column}
+use Rattle.gatekeeper.proofs.Allowed as Y
+use Rattle.gatekeeper.specs.View.{view}
+use Rattle.gatekeeper.proofs.Monitor.register.Statement.{statement}
+use Rattle.gatekeeper.proofs.Monitor.register.Tie as tie
+
+cleaned-requires : tie.Need-cleaned-requires
+cleaned-requires c κs = search needs
+
+object-taken-requires : tie.Need-object-taken-requires
+object-taken-requires c κs = search needs
+
+returns : tie.Need-returns
+returns c = refuse (c .before .before .before .args .self) (view (c .before .before .cleaned .result)) (register (c .before .before .before .args .o) (c .before .before .before .args .level)) (new (object (c .before .before .before .args .o))) (c .before .before .cleaned .ensures) (inl refl) (sym (c .before .object-taken .ensures) ∙ c .if1 .taken) (tt, (tt, tt))
+
+returns-2 : tie.Need-returns-2
+returns-2 c = refuse (c .before .before .before .before .args .self) (view (c .before .before .before .cleaned .result)) (register (c .before .before .before .before .args .o) (c .before .before .before .before .args .level)) (leveled (c .before .before .before .before .args .level)) (c .before .before .before .cleaned .ensures) (inr (inl refl)) (lt-ltb 15 (c .before .before .before .before .args .level) (c .if2 .taken)) (sym (c .before .before .object-taken .ensures) ∙ c .before .if1 .left, (tt, tt))
+
+cast-l : tie.Need-cast-l
+cast-l c = search needs
+
+with-object-requires : tie.Need-with-object-requires
+with-object-requires c κs = search needs
+
+returns-3 : tie.Need-returns-3
+returns-3 c = Y.registered (c .before .before .before .before .before .args .self) (c .before .before .before .before .cleaned .result) (c .before .before .before .before .cleaned .ensures) (c .before .before .before .before .before .args .o) (c .before .before .before .before .before .args .level) (c .with-object .result) (sym (c .before .before .before .object-taken .ensures) ∙ c .before .before .if1 .left) (le-ltb 15 (c .before .before .before .before .before .args .level) (c .before .if2 .left)) (c .with-object .ensures (new-column (view (c .before .before .before .before .cleaned .result)) (c .before .before .before .before .before .args .o) (sym (c .before .before .before .object-taken .ensures) ∙ c .before .before .if1 .left)))
+
+pub register-spec : {M : Type 1} → statement M
+register-spec =
+    tie.close
+    (tie.spec
+    cleaned-requires
+    object-taken-requires
+    returns
+    returns-2
+    cast-l
+    with-object-requires
+    returns-3)

@@ -1,0 +1,56 @@
+-- `gatekeeper::Monitor::retire` meets its contract. Assumes nothing.
+use mathlib.Core.Path.{refl, sym, _∙_}
+use mathlib.Core.Logic.{inl, inr}
+use borrow.Author.Needs.{needs}
+use Rattle.model.specs.Calls.{close, retire, present, no-pipe, taken, idle}
+use Rattle.gatekeeper.proofs.Meeting.{refuse}
+use Rattle.gatekeeper.proofs.Shapes.{in-column}
+use Rattle.gatekeeper.proofs.Allowed as Y
+use Rattle.gatekeeper.specs.View.{view}
+use Rattle.gatekeeper.proofs.Monitor.retire.Statement.{statement}
+use Rattle.gatekeeper.proofs.Monitor.retire.Tie as tie
+
+cleaned-requires : tie.Need-cleaned-requires
+cleaned-requires c κs = search needs
+
+lacks-object-requires : tie.Need-lacks-object-requires
+lacks-object-requires c κs = search needs
+
+returns : tie.Need-returns
+returns c = refuse (c .before .before .before .args .self) (view (c .before .before .cleaned .result)) (retire (c .before .before .before .args .o)) (present (c .before .before .before .args .o)) (c .before .before .cleaned .ensures) (inl refl) (sym (c .before .lacks-object .ensures) ∙ c .if1 .taken) (tt, (tt, (tt, tt)))
+
+names-pipe-requires : tie.Need-names-pipe-requires
+names-pipe-requires c κs = search needs
+
+returns-2 : tie.Need-returns-2
+returns-2 c = refuse (c .before .before .before .before .before .args .self) (view (c .before .before .before .before .cleaned .result)) (retire (c .before .before .before .before .before .args .o)) (no-pipe (c .before .before .before .before .before .args .o)) (c .before .before .before .before .cleaned .ensures) (inr (inl refl)) (sym (c .before .names-pipe .ensures) ∙ c .if2 .taken) (sym (c .before .before .before .lacks-object .ensures) ∙ c .before .before .if1 .left, (tt, (tt, tt)))
+
+is-open-requires : tie.Need-is-open-requires
+is-open-requires c κs = search needs
+
+returns-3 : tie.Need-returns-3
+returns-3 c = refuse (c .before .before .before .before .before .before .before .args .self) (view (c .before .before .before .before .before .before .cleaned .result)) (retire (c .before .before .before .before .before .before .before .args .o)) (idle (c .before .before .before .before .before .before .before .args .o)) (c .before .before .before .before .before .before .cleaned .ensures) (inr (inr (inl refl))) (sym (c .before .is-open .ensures) ∙ c .if3 .taken) (sym (c .before .before .before .before .before .lacks-object .ensures) ∙ c .before .before .before .before .if1 .left, (sym (c .before .before .before .names-pipe .ensures) ∙ c .before .before .if2 .left, (tt, tt)))
+
+object-level-requires : tie.Need-object-level-requires
+object-level-requires c κs = search needs
+
+with-object-requires : tie.Need-with-object-requires
+with-object-requires c κs = search needs
+
+returns-4 : tie.Need-returns-4
+returns-4 c = Y.retired (c .before .before .before .before .before .before .before .before .before .args .self) (c .before .before .before .before .before .before .before .before .cleaned .result) (c .before .before .before .before .before .before .before .before .cleaned .ensures) (c .before .before .before .before .before .before .before .before .before .args .o) (c .before .object-level .result) (c .with-object .result) (sym (c .before .before .before .before .before .before .before .lacks-object .ensures) ∙ c .before .before .before .before .before .before .if1 .left) (sym (c .before .before .before .before .before .names-pipe .ensures) ∙ c .before .before .before .before .if2 .left) (sym (c .before .before .before .is-open .ensures) ∙ c .before .before .if3 .left) (c .before .object-level .ensures) (c .with-object .ensures (in-column (view (c .before .before .before .before .before .before .before .before .cleaned .result)) (c .before .before .before .before .before .before .before .before .before .args .o) (sym (c .before .before .before .before .before .before .before .lacks-object .ensures) ∙ c .before .before .before .before .before .before .if1 .left)))
+
+pub retire-spec : {M : Type 1} → statement M
+retire-spec =
+    tie.close
+    (tie.spec
+    cleaned-requires
+    lacks-object-requires
+    returns
+    names-pipe-requires
+    returns-2
+    is-open-requires
+    returns-3
+    object-level-requires
+    with-object-requires
+    returns-4)

@@ -1,0 +1,84 @@
+-- `gatekeeper::Monitor::write` meets its contract. Assumes nothing.
+use mathlib.Core.Path.{refl, sym, _∙_}
+use mathlib.Core.Logic.{inl, inr}
+use borrow.Author.Needs.{needs}
+use borrow.Author.Tests.{not-true, not-false}
+use Rattle.model.specs.Flow.{object}
+use Rattle.model.specs.Tables.{writing}
+use Rattle.model.specs.Calls.{access, close, alive, taken, facing}
+use Rattle.gatekeeper.proofs.Meeting.{refuse}
+use Rattle.gatekeeper.proofs.Shapes.{cleaned-wf}
+use Rattle.gatekeeper.proofs.Allowed as Y
+use Rattle.gatekeeper.specs.View.{view}
+use Rattle.gatekeeper.proofs.Owned as O
+use Rattle.gatekeeper.proofs.Monitor.write.Statement.{statement}
+use Rattle.gatekeeper.proofs.Monitor.write.Tie as tie
+
+cleaned-requires : tie.Need-cleaned-requires
+cleaned-requires c κs = search needs
+
+lacks-subject-requires : tie.Need-lacks-subject-requires
+lacks-subject-requires c κs = search needs
+
+returns : tie.Need-returns
+returns c = refuse (c .before .before .before .args .self) (view (c .before .before .cleaned .result)) (access writing (c .before .before .before .args .s) (c .before .before .before .args .p)) (alive (c .before .before .before .args .s)) (c .before .before .cleaned .ensures) (inl refl) (sym (c .before .lacks-subject .ensures) ∙ c .if1 .taken) (tt, (tt, (tt, tt)))
+
+place-empty-requires : tie.Need-place-empty-requires
+place-empty-requires c κs = search needs
+
+returns-2 : tie.Need-returns-2
+returns-2 c = refuse (c .before .before .before .before .before .args .self) (view (c .before .before .before .before .cleaned .result)) (access writing (c .before .before .before .before .before .args .s) (c .before .before .before .before .before .args .p)) (taken (c .before .before .before .before .before .args .s) (c .before .before .before .before .before .args .p)) (c .before .before .before .before .cleaned .ensures) (inr (inl refl)) (sym (c .before .place-empty .ensures) ∙ c .if2 .taken) (sym (c .before .before .before .lacks-subject .ensures) ∙ c .before .before .if1 .left, (tt, (tt, tt)))
+
+faces-in-requires : tie.Need-faces-in-requires
+faces-in-requires c κs = search needs
+
+returns-3 : tie.Need-returns-3
+returns-3 c = refuse (c .before .before .before .before .before .before .before .args .self) (view (c .before .before .before .before .before .before .cleaned .result)) (access writing (c .before .before .before .before .before .before .before .args .s) (c .before .before .before .before .before .before .before .args .p)) (facing writing (c .before .before .before .before .before .before .before .args .s) (c .before .before .before .before .before .before .before .args .p)) (c .before .before .before .before .before .before .cleaned .ensures) (inr (inr (inl refl))) (sym (c .before .faces-in .ensures) ∙ c .if3 .taken) (sym (c .before .before .before .before .before .lacks-subject .ensures) ∙ c .before .before .before .before .if1 .left, (sym (c .before .before .before .place-empty .ensures) ∙ c .before .before .if2 .left, (tt, tt)))
+
+handle-at-requires : tie.Need-handle-at-requires
+handle-at-requires c κs = search needs
+
+cast-o : tie.Need-cast-o
+cast-o c = search needs
+
+object-level-requires : tie.Need-object-level-requires
+object-level-requires c κs = search needs
+
+names-pipe-requires : tie.Need-names-pipe-requires
+names-pipe-requires c κs = search needs
+
+returns-4 : tie.Need-returns-4
+returns-4 c = Y.wrote-file (c .before .before .before .before .before .before .before .before .before .before .before .before .args .self) (c .before .before .before .before .before .before .before .before .before .before .before .cleaned .result) (c .before .before .before .before .before .before .before .before .before .before .before .cleaned .ensures) (cleaned-wf (c .before .before .before .before .before .before .before .before .before .before .before .before .args .self) (view (c .before .before .before .before .before .before .before .before .before .before .before .cleaned .result)) (O.subjects-long (c .before .before .before .before .before .before .before .before .before .before .before .before .args .self) (c .before .before .before .before .before .before .before .before .before .before .before .before .good .0)) (O.objects-long (c .before .before .before .before .before .before .before .before .before .before .before .before .args .self) (c .before .before .before .before .before .before .before .before .before .before .before .before .good .0)) (c .before .before .before .before .before .before .before .before .before .before .before .cleaned .ensures)) (c .before .before .before .before .before .before .before .before .before .before .before .before .args .s) (c .before .before .before .before .before .before .before .before .before .before .before .before .args .p) (c .before .before .before .before .handle-at .result .object) (c .before .before .object-level .result) (c .before .before .before .before .handle-at .result) (c .before .before .before .before .before .before .before .before .before .before .before .cleaned .result) (sym (c .before .before .before .before .before .before .before .before .before .before .lacks-subject .ensures) ∙ c .before .before .before .before .before .before .before .before .before .if1 .left) (sym (c .before .before .before .before .before .before .before .before .place-empty .ensures) ∙ c .before .before .before .before .before .before .before .if2 .left) (sym (c .before .before .before .before .before .before .faces-in .ensures) ∙ c .before .before .before .before .before .if3 .left) (c .before .before .before .before .handle-at .ensures) refl (c .before .before .object-level .ensures) (sym (c .before .names-pipe .ensures) ∙ not-true _ (c .if4 .taken)) refl
+
+subject-level-requires : tie.Need-subject-level-requires
+subject-level-requires c κs = search needs
+
+with-object-requires : tie.Need-with-object-requires
+with-object-requires c κs = search needs
+
+returns-5 : tie.Need-returns-5
+returns-5 c = Y.wrote-sinks (c .before .before .before .before .before .before .before .before .before .before .before .before .before .before .before .args .self) (c .before .before .before .before .before .before .before .before .before .before .before .before .before .before .cleaned .result) (c .before .before .before .before .before .before .before .before .before .before .before .before .before .before .cleaned .ensures) (cleaned-wf (c .before .before .before .before .before .before .before .before .before .before .before .before .before .before .before .args .self) (view (c .before .before .before .before .before .before .before .before .before .before .before .before .before .before .cleaned .result)) (O.subjects-long (c .before .before .before .before .before .before .before .before .before .before .before .before .before .before .before .args .self) (c .before .before .before .before .before .before .before .before .before .before .before .before .before .before .before .good .0)) (O.objects-long (c .before .before .before .before .before .before .before .before .before .before .before .before .before .before .before .args .self) (c .before .before .before .before .before .before .before .before .before .before .before .before .before .before .before .good .0)) (c .before .before .before .before .before .before .before .before .before .before .before .before .before .before .cleaned .ensures)) (c .before .before .before .before .before .before .before .before .before .before .before .before .before .before .before .args .s) (c .before .before .before .before .before .before .before .before .before .before .before .before .before .before .before .args .p) (c .before .before .before .before .before .before .before .handle-at .result .object) (c .before .before .before .before .before .object-level .result) (c .before .before .before .before .before .before .before .handle-at .result) (c .with-object .result) (sym (c .before .before .before .before .before .before .before .before .before .before .before .before .before .lacks-subject .ensures) ∙ c .before .before .before .before .before .before .before .before .before .before .before .before .if1 .left) (sym (c .before .before .before .before .before .before .before .before .before .before .before .place-empty .ensures) ∙ c .before .before .before .before .before .before .before .before .before .before .if2 .left) (sym (c .before .before .before .before .before .before .before .before .before .faces-in .ensures) ∙ c .before .before .before .before .before .before .before .before .if3 .left) (c .before .before .before .before .before .before .before .handle-at .ensures) refl (c .before .before .before .before .before .object-level .ensures) (c .before .before .subject-level .result) (c .before .before .subject-level .ensures) (sym (c .before .before .before .before .names-pipe .ensures) ∙ not-false _ (c .before .before .before .if4 .left)) (c .before .if5 .taken) (c .with-object .ensures (Y.there-low (c .before .before .before .before .before .before .before .before .before .before .before .before .before .before .before .args .self) (c .before .before .before .before .before .before .before .before .before .before .before .before .before .before .cleaned .result) (c .before .before .before .before .before .before .before .before .before .before .before .before .before .before .cleaned .ensures) (cleaned-wf (c .before .before .before .before .before .before .before .before .before .before .before .before .before .before .before .args .self) (view (c .before .before .before .before .before .before .before .before .before .before .before .before .before .before .cleaned .result)) (O.subjects-long (c .before .before .before .before .before .before .before .before .before .before .before .before .before .before .before .args .self) (c .before .before .before .before .before .before .before .before .before .before .before .before .before .before .before .good .0)) (O.objects-long (c .before .before .before .before .before .before .before .before .before .before .before .before .before .before .before .args .self) (c .before .before .before .before .before .before .before .before .before .before .before .before .before .before .before .good .0)) (c .before .before .before .before .before .before .before .before .before .before .before .before .before .before .cleaned .ensures)) writing (c .before .before .before .before .before .before .before .before .before .before .before .before .before .before .before .args .s) (c .before .before .before .before .before .before .before .before .before .before .before .before .before .before .before .args .p) (c .before .before .before .before .before .before .before .handle-at .result .object) (c .before .before .before .before .before .object-level .result) (c .before .before .before .before .before .before .before .handle-at .result) (sym (c .before .before .before .before .before .before .before .before .before .before .before .place-empty .ensures) ∙ c .before .before .before .before .before .before .before .before .before .before .if2 .left) (sym (c .before .before .before .before .before .before .before .before .before .faces-in .ensures) ∙ c .before .before .before .before .before .before .before .before .if3 .left) (c .before .before .before .before .before .before .before .handle-at .ensures) refl (c .before .before .before .before .before .object-level .ensures)))
+
+returns-6 : tie.Need-returns-6
+returns-6 c = Y.wrote-stays (c .before .before .before .before .before .before .before .before .before .before .before .before .before .before .args .self) (c .before .before .before .before .before .before .before .before .before .before .before .before .before .cleaned .result) (c .before .before .before .before .before .before .before .before .before .before .before .before .before .cleaned .ensures) (cleaned-wf (c .before .before .before .before .before .before .before .before .before .before .before .before .before .before .args .self) (view (c .before .before .before .before .before .before .before .before .before .before .before .before .before .cleaned .result)) (O.subjects-long (c .before .before .before .before .before .before .before .before .before .before .before .before .before .before .args .self) (c .before .before .before .before .before .before .before .before .before .before .before .before .before .before .good .0)) (O.objects-long (c .before .before .before .before .before .before .before .before .before .before .before .before .before .before .args .self) (c .before .before .before .before .before .before .before .before .before .before .before .before .before .before .good .0)) (c .before .before .before .before .before .before .before .before .before .before .before .before .before .cleaned .ensures)) (c .before .before .before .before .before .before .before .before .before .before .before .before .before .before .args .s) (c .before .before .before .before .before .before .before .before .before .before .before .before .before .before .args .p) (c .before .before .before .before .before .before .handle-at .result .object) (c .before .before .before .before .object-level .result) (c .before .before .before .before .before .before .handle-at .result) (c .before .before .before .before .before .before .before .before .before .before .before .before .before .cleaned .result) (sym (c .before .before .before .before .before .before .before .before .before .before .before .before .lacks-subject .ensures) ∙ c .before .before .before .before .before .before .before .before .before .before .before .if1 .left) (sym (c .before .before .before .before .before .before .before .before .before .before .place-empty .ensures) ∙ c .before .before .before .before .before .before .before .before .before .if2 .left) (sym (c .before .before .before .before .before .before .before .before .faces-in .ensures) ∙ c .before .before .before .before .before .before .before .if3 .left) (c .before .before .before .before .before .before .handle-at .ensures) refl (c .before .before .before .before .object-level .ensures) (c .before .subject-level .result) (c .before .subject-level .ensures) (sym (c .before .before .before .names-pipe .ensures) ∙ not-false _ (c .before .before .if4 .left)) (c .if5 .left) refl
+
+pub write-spec : {M : Type 1} → statement M
+write-spec =
+    tie.close
+    (tie.spec
+    cleaned-requires
+    lacks-subject-requires
+    returns
+    place-empty-requires
+    returns-2
+    faces-in-requires
+    returns-3
+    handle-at-requires
+    cast-o
+    object-level-requires
+    names-pipe-requires
+    returns-4
+    subject-level-requires
+    with-object-requires
+    returns-5
+    returns-6)

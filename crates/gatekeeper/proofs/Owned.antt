@@ -1,0 +1,27 @@
+-- What owning a monitor tells of its arrays: how long they are, and that each level is a byte. Assumes nothing.
+use mathlib.Core.Path.{_≡_, sym, _∙_}
+use mathlib.Core.List.{List, map}
+use Prim.Native.Nat.{ℕ}
+use lib.ListN.{length, length-map}
+use denote.Laws.{Is}
+use denote.Struct.Declared.{row}
+use denote.Struct.Laws as S
+use borrow.Author.Needs.{needs}
+use Rattle.gatekeeper.specs.declared.Monitor.{Monitor}
+use Rattle.gatekeeper.proofs.Monitor as K
+use Rattle.gatekeeper.proofs.Monitor.Laws as K′
+
+pub unmapped : (X Y : Type 0) (f : X → Y) (l : List X) (n : ℕ) → length (map f l) ≡ n → length l ≡ n
+unmapped X Y f l n p = sym (length-map l f) ∙ p
+
+abbrev pub Owned : Monitor → Type 0
+Owned m = Is (row K.the-type) m (S.vals K.the-type K′.the-laws m)
+
+pub subjects-long : (m : Monitor) → Owned m → length (m .subjects) ≡ 32
+subjects-long m g = search (needs, unmapped)
+
+pub objects-long : (m : Monitor) → Owned m → length (m .objects) ≡ 64
+objects-long m g = search (needs, unmapped)
+
+pub handles-long : (m : Monitor) → Owned m → length (m .handles) ≡ 512
+handles-long m g = search (needs, unmapped)

@@ -1,0 +1,5 @@
+-- What this crate's contracts cite: the monitor as tables (View); the enums as tests (Kinds) and what inner functions work out (Working), which no
+-- caller needs. Assumes nothing.
+pub mod View
+pub mod Kinds
+pub mod Working

@@ -1,0 +1,48 @@
+-- The pay-run cases K1 to K11 in one table, and the document's journals. Document 01, "Pay-run cases", "Journal" and line 4 of "Four lines on
+-- promises": "K1 to K11 go in one table, proved by a single fact about the model's definitions." Assumes nothing.
+use mathlib.Core.Path.{_≡_, refl}
+use mathlib.Core.Bool.{true}
+use mathlib.Core.List.{List, [], _∷_, _++_, map}
+use Prim.Native.Nat.{ℕ}
+use Rattle.model.specs.Label.{Label, label, level, leq, meet, join, bot}
+use Rattle.model.specs.Flow.{need}
+use Rattle.model.specs.Tables.{empty, used, cell, speaks, things, handles, edges, safe}
+use Rattle.model.specs.Steps.{ended}
+use Rattle.model.specs.Calls.{Answer, decode, sheds, effect, refusal, answer}
+use Rattle.model.specs.Tally.{tallied}
+use Rattle.model.specs.Cases.{Case, case, bytes, A, L, R, table, right}
+use Rattle.number.specs.Leb.{groups, encode, numeral, value, padded, number}
+use Rattle.journal.specs.Calls.{arity-of, known, filled}
+use Rattle.journal.specs.Journal.{entry-at, numbers-in, arguments-in, body-in}
+use Rattle.text.specs.Decimal.{digits, decimal}
+use Rattle.text.specs.Reply.{line, ending}
+use Rattle.replay.specs.Replay.{Replied, records-of, replies, reply}
+
+-- ── K1 to K11 ──
+-- the answers to a journal's records
+abbrev pub journal-answers : List ℕ → List Answer
+journal-answers bs = map (λ (r : Replied). r .answer) (replies empty (records-of bs))
+
+-- "K10: journal hex `80 00`: 11. K11: hex `00`: 12."
+unfoldable pub whole-table : List Case
+whole-table = table ++ case 10 (bytes (128 ∷ 0 ∷ [])) (R 11 ∷ []) ∷ case 11 (bytes (0 ∷ [])) (R 12 ∷ []) ∷ []
+
+pub all-cases-right : right journal-answers whole-table ≡ true
+unfolding whole-table table Label label level leq meet join bot need used cell speaks things handles edges safe decode sheds ended effect refusal answer groups encode numeral value padded number arity-of known filled entry-at numbers-in arguments-in body-in
+all-cases-right = refl
+
+-- ── the document's journals ──
+-- "Input hex `03 02 00 02 03 01 00 09 04 05 00 00 00 03 07 00 00`"
+abbrev pub example : List ℕ
+example = 3 ∷ 2 ∷ 0 ∷ 2 ∷ 3 ∷ 1 ∷ 0 ∷ 9 ∷ 4 ∷ 5 ∷ 0 ∷ 0 ∷ 0 ∷ 3 ∷ 7 ∷ 0 ∷ 0 ∷ []
+
+-- "1 2 A 2", "2 1 A 9", "3 5 A 2", "4 7 L 2", "end 1 0 1"
+pub example-right : reply example ≡ 49 ∷ 32 ∷ 50 ∷ 32 ∷ 65 ∷ 32 ∷ 50 ∷ 10 ∷ 50 ∷ 32 ∷ 49 ∷ 32 ∷ 65 ∷ 32 ∷ 57 ∷ 10 ∷ 51 ∷ 32 ∷ 53 ∷ 32 ∷ 65 ∷ 32 ∷ 50 ∷ 10 ∷ 52 ∷ 32 ∷ 55 ∷ 32 ∷ 76 ∷ 32 ∷ 50 ∷ 10
+    ∷ 101 ∷ 110 ∷ 100 ∷ 32 ∷ 49 ∷ 32 ∷ 48 ∷ 32 ∷ 49 ∷ 10 ∷ []
+unfolding reply line ending digits decimal tallied Label label level leq meet join bot need used cell speaks things handles edges safe decode sheds ended effect refusal answer groups encode numeral value padded number arity-of known filled entry-at numbers-in arguments-in body-in
+example-right = refl
+
+-- "Empty journal: `end 0 0 0` alone."
+pub empty-right : reply [] ≡ 101 ∷ 110 ∷ 100 ∷ 32 ∷ 48 ∷ 32 ∷ 48 ∷ 32 ∷ 48 ∷ 10 ∷ []
+unfolding reply ending digits decimal
+empty-right = refl

@@ -1,0 +1,4 @@
+-- What this crate's contracts cite: the reply to a whole journal (Replay). Below it are its laws, which nobody has to believe; Cases has
+-- the pay-run cases K1 to K11 in one table. Assumes nothing.
+pub mod Replay
+pub mod Cases

@@ -1,0 +1,77 @@
+-- The reply to a whole journal, byte for byte. Document 01, "Journal", third paragraph, and rows 1, 11, 12 and 14 of "Refused calls".
+--
+-- In order: the records of a journal; the calls among them; what each is answered; the lines of the reply; the reply. Assumes nothing.
+use mathlib.Core.Bool.{cond}
+use mathlib.Core.List.{List, [], _∷_, _++_}
+use Prim.Native.Nat.{ℕ, zero, suc}
+use lib.Dec.{ltb}
+use lib.ListN.{length, take, drop}
+use Rattle.model.specs.Tables.{Tables, empty}
+use Rattle.model.specs.Calls.{Raw, decode, next, Answer, refused, answer}
+use Rattle.model.specs.Tally.{Tally, zeroed, tally, difference}
+use Rattle.journal.specs.Answers.{Said, said, Next, body, end}
+use Rattle.journal.specs.Answers.{Answer as Read, answers as reads, refused as bad}
+use Rattle.journal.specs.Journal.{entry-at, body-in}
+use Rattle.gatekeeper.specs.View.{letter-of, value-of}
+use Rattle.text.specs.Reply.{line, ending}
+
+-- ── the records ──
+-- what stands at an offset, and then the rest. 11: "a length is malformed or runs past the end; the run stops there"
+abbrev pub followed : (ℕ → List Said) → List ℕ → Read Next → List Said
+followed rest journal (reads (body start len next)) = body-in (take len (drop start journal)) ∷ rest next
+followed rest journal (reads end) = []
+followed rest journal (bad n) = said 0 (bad n) ∷ []
+
+-- the records from an offset on, each as its body says; at most `most`
+abbrev pub records : (most : ℕ) → List ℕ → ℕ → List Said
+records zero journal at = []
+records (suc most) journal at = followed (records most journal) journal (entry-at journal at)
+
+-- a record has at least one byte, so a journal has no more records than bytes
+abbrev pub records-of : List ℕ → List Said
+records-of journal = records (length journal) journal 0
+
+-- ── the calls and the answers ──
+abbrev pub raw : ℕ → List ℕ → Raw
+raw code ns = record { code = code; numbers = ns }
+
+-- "One journal record stands for one call"; a bad one stands for none
+abbrev pub calls-of : List Said → List Raw
+calls-of [] = []
+calls-of (said code (reads ns) ∷ l) = raw code ns ∷ calls-of l
+calls-of (said code (bad n) ∷ l) = calls-of l
+
+-- "code (0 if none was read), A, L or R, and the level or refusal number"
+pub record Replied : Type 0 where
+  pub code : ℕ
+  pub answer : Answer
+
+abbrev pub replied : ℕ → Answer → Replied
+replied n a = record { code = n; answer = a }
+
+-- each record's answer, in the tables that those before it led to; 12: "the next record is read"
+abbrev pub replies : Tables → List Said → List Replied
+replies t [] = []
+replies t (said code (reads ns) ∷ l) = replied code (answer t (decode (raw code ns))) ∷ replies (next t (decode (raw code ns))) l
+replies t (said code (bad n) ∷ l) = replied code (refused n) ∷ replies t l
+
+-- ── the text ──
+-- "to each record with its position", here from p
+abbrev pub lines : ℕ → List Replied → List ℕ
+lines p [] = []
+lines p (r ∷ l) = line p (r .code) (letter-of (r .answer)) (value-of (r .answer)) ++ lines (suc p) l
+
+-- "The last line is `end`, handles made, handles gone, handles open"
+abbrev pub last-line : Tally → List ℕ
+last-line y = ending (y .made) (y .gone) (difference y)
+
+abbrev pub text : List Replied → Tally → List ℕ
+text l y = lines 1 l ++ last-line y
+
+-- 14: "journal above 65,536 bytes; nothing is run"
+abbrev pub largest-journal : ℕ
+largest-journal = 65536
+
+unfoldable pub reply : List ℕ → List ℕ
+reply journal = cond (ltb largest-journal (length journal)) (text (replied 0 (refused 14) ∷ []) zeroed)
+    (text (replies empty (records-of journal)) (tally empty zeroed (calls-of (records-of journal))))

@@ -1,0 +1,163 @@
+-- `run::run` meets its contract. Assumes nothing.
+use mathlib.Core.Path.{_≡_, refl, sym, _∙_, subst, subst₂}
+use Prim.Native.Nat.{ℕ, _+_, _*_, _-_, _/_, _≤_}
+use native.Mathlib.Omega.{arith}
+use borrow.Author.Needs.{needs}
+use lib.ListN.{length, set, length-set}
+use Rattle.gatekeeper.specs.View.{view, told}
+use Rattle.run.specs.Buffers.{lesser}
+use Rattle.run.specs.Buffers.Laws.{lesser-left, lesser-right, So-far, so-far-none, so-far-more, run-demand3}
+use Rattle.run.proofs.run.Statement.{statement}
+use Rattle.run.proofs.run.Tie as tie
+
+abbrev Inv-loop : tie.InvT-loop
+Inv-loop calls out₀ n m₀ i₀ out m i = (i ≤ n) × (n * 5 ≤ length calls) × (n * 2 ≤ length out₀) × (length out ≡ length out₀) × So-far calls out₀ out i (view m)
+
+abbrev μ-loop : tie.MeasureT-loop
+μ-loop calls out₀ n m₀ i₀ out m i = n - i
+
+fewer-requires : tie.Need-fewer-requires Inv-loop μ-loop
+fewer-requires c κs = search needs
+
+empty-requires : tie.Need-empty-requires Inv-loop μ-loop
+empty-requires c κs = search needs
+
+loop-holds : tie.Need-loop-holds Inv-loop μ-loop
+loop-holds c =
+    let a = c .before .before .before .before .args in
+    let fits : c .before .fewer .result ≡ lesser (length (a .calls .now) / 5) (length (a .out .now) / 2) = c .before .fewer .ensures in
+    (omega arith, omega (arith, lesser-left (length (a .calls .now) / 5) (length (a .out .now) / 2)), omega (arith, lesser-right (length (a .calls .now) / 5) (length (a .out .now) / 2)), refl, so-far-none (a .calls .now) (a .out .now) (view (c .empty .result)) (c .empty .ensures))
+
+mul-at : tie.Need-mul-at Inv-loop μ-loop
+mul-at c = search needs
+
+mul-call : tie.Need-mul-call Inv-loop μ-loop
+mul-call c = search needs
+
+shared-slice-read-call : tie.Need-shared-slice-read-call Inv-loop μ-loop
+shared-slice-read-call c = search needs
+
+add-call : tie.Need-add-call Inv-loop μ-loop
+add-call c = search needs
+
+mul-call-2 : tie.Need-mul-call-2 Inv-loop μ-loop
+mul-call-2 c = search needs
+
+shared-slice-read-call-2 : tie.Need-shared-slice-read-call-2 Inv-loop μ-loop
+shared-slice-read-call-2 c = search needs
+
+add-call-2 : tie.Need-add-call-2 Inv-loop μ-loop
+add-call-2 c = search needs
+
+mul-call-3 : tie.Need-mul-call-3 Inv-loop μ-loop
+mul-call-3 c = search needs
+
+shared-slice-read-call-3 : tie.Need-shared-slice-read-call-3 Inv-loop μ-loop
+shared-slice-read-call-3 c = search needs
+
+add-call-3 : tie.Need-add-call-3 Inv-loop μ-loop
+add-call-3 c = search needs
+
+mul-call-4 : tie.Need-mul-call-4 Inv-loop μ-loop
+mul-call-4 c = search needs
+
+shared-slice-read-call-4 : tie.Need-shared-slice-read-call-4 Inv-loop μ-loop
+shared-slice-read-call-4 c = search needs
+
+add-call-4 : tie.Need-add-call-4 Inv-loop μ-loop
+add-call-4 c = search needs
+
+mul-call-5 : tie.Need-mul-call-5 Inv-loop μ-loop
+mul-call-5 c = search needs
+
+shared-slice-read-call-5 : tie.Need-shared-slice-read-call-5 Inv-loop μ-loop
+shared-slice-read-call-5 c = search needs
+
+call-requires : tie.Need-call-requires Inv-loop μ-loop
+call-requires c κs = search needs
+
+mul-to : tie.Need-mul-to Inv-loop μ-loop
+mul-to c = search needs
+
+letter-requires : tie.Need-letter-requires Inv-loop μ-loop
+letter-requires c κs = search needs
+
+slice-write-out : tie.Need-slice-write-out Inv-loop μ-loop
+slice-write-out c = search needs
+
+value-requires : tie.Need-value-requires Inv-loop μ-loop
+value-requires c κs = search needs
+
+add-out : tie.Need-add-out Inv-loop μ-loop
+add-out c = search needs
+
+slice-write-out-2 : tie.Need-slice-write-out-2 Inv-loop μ-loop
+slice-write-out-2 c = let l = c .before .before .before .before .before .before .before .before .before .loop in omega (arith, length-set (l .out) (l .i * 2) (c .before .letter .result), l .inv .2, l .inv .3)
+
+add-i : tie.Need-add-i Inv-loop μ-loop
+add-i c = search needs
+
+loop-less : tie.Need-loop-less Inv-loop μ-loop
+loop-less c = search needs
+
+loop-again : tie.Need-loop-again Inv-loop μ-loop
+loop-again c =
+    let a = c .before .before .before .before .before .before .before .before .before .before .before .before .before .before .before .args in
+    let l = c .before .before .before .before .before .before .before .before .before .before .loop in
+    let k = c .before .before .before .call in (
+      omega arith,
+      l .inv .1,
+      l .inv .2,
+      length-set (set (l .out) (l .i * 2) (c .before .before .letter .result)) (l .i * 2 + 1) (c .before .value .result) ∙ length-set (l .out) (l .i * 2) (c .before .before .letter .result) ∙ l .inv .3,
+      subst₂ (λ (x y : ℕ). So-far (a .calls .now) (a .out .now) (set (set (l .out) (l .i * 2) x) (l .i * 2 + 1) y) (l .i + 1) (view (k .result .monitor))) (sym (c .before .before .letter .ensures)) (sym (c .before .value .ensures))
+          (so-far-more (a .calls .now) (a .out .now) (l .out) (l .i) (l .m) (k .result .monitor) (told (k .result .answer)) (omega (arith, l .inv .2)) (l .inv .4) (k .ensures)),
+    )
+
+same-length : tie.Need-same-length Inv-loop μ-loop
+same-length c = search needs
+
+returns : tie.Need-returns Inv-loop μ-loop
+returns c =
+    let l = c .before .loop in
+    let all : l .i ≡ c .before .before .before .fewer .result = omega (arith, l .inv .0, c .loop-test .left) in
+    let s = l .inv .4 in
+    let a = c .before .before .before .before .before .before .args in
+    let so : So-far (a .calls .now) (a .out .now) (l .out) (c .before .before .before .fewer .result) (view (l .m)) = subst (λ (j : ℕ). So-far (a .calls .now) (a .out .now) (l .out) j (view (l .m))) all s in
+    (c .before .before .before .fewer .ensures, (so .written, run-demand3 _ _ (so .tables)))
+
+pub run-spec : {M : Type 1} → statement M
+run-spec =
+    tie.close
+    (tie.spec
+    Inv-loop
+    μ-loop
+    fewer-requires
+    empty-requires
+    loop-holds
+    mul-at
+    mul-call
+    shared-slice-read-call
+    add-call
+    mul-call-2
+    shared-slice-read-call-2
+    add-call-2
+    mul-call-3
+    shared-slice-read-call-3
+    add-call-3
+    mul-call-4
+    shared-slice-read-call-4
+    add-call-4
+    mul-call-5
+    shared-slice-read-call-5
+    call-requires
+    mul-to
+    letter-requires
+    slice-write-out
+    value-requires
+    add-out
+    slice-write-out-2
+    add-i
+    loop-less
+    loop-again
+    same-length
+    returns)

@@ -1,0 +1,27 @@
+-- The two buffers of a list run: the calls in the one, the answers in the other. Document 01, "Calls": "A direct call takes a code and
+-- four 32-bit numbers". Assumes nothing.
+use mathlib.Core.Bool.{cond}
+use mathlib.Core.List.{List, [], _∷_}
+use Prim.Native.Nat.{ℕ, _+_, _*_}
+use lib.ListN.{getD}
+use lib.Dec.{ltb}
+use Rattle.model.specs.Lists.{each}
+use Rattle.model.specs.Calls.{Raw, Answer}
+use Rattle.gatekeeper.specs.View.{letter-of, value-of, direct}
+pub mod Laws
+
+abbrev pub lesser : ℕ → ℕ → ℕ
+lesser a b = cond (ltb a b) a b
+
+-- call i of the list is the five numbers from 5 i on
+abbrev pub call-at : List ℕ → ℕ → Raw
+call-at l i = direct (getD l (i * 5) 0) (getD l (i * 5 + 1) 0) (getD l (i * 5 + 2) 0) (getD l (i * 5 + 3) 0) (getD l (i * 5 + 4) 0)
+
+-- the first n calls
+abbrev pub calls-in : List ℕ → ℕ → List Raw
+calls-in l n = each n (λ i. call-at l i ∷ [])
+
+-- two bytes for each answer
+abbrev pub bytes : List Answer → List ℕ
+bytes [] = []
+bytes (a ∷ l) = letter-of a ∷ value-of a ∷ bytes l

@@ -1,0 +1,105 @@
+-- One more call and its answer in the buffers. Assumes nothing.
+use mathlib.Core.Path.{_≡_, refl, sym, _∙_, ap, subst}
+use mathlib.Core.List.{List, [], _∷_, _++_}
+use mathlib.Core.Bool.{Bool, true, false, cond}
+use Prim.Native.Nat.{ℕ, zero, suc, _+_, _*_, _≤_, _<_}
+use native.Mathlib.Omega.{arith}
+use native.Mathlib.Numerals.{add-one}
+use lib.ListN.{length, length-append, length-drop, drop, set}
+use lib.Seq.{drop-drop}
+use lib.Dec.{ltb}
+use borrow.Author.Tests.{ltb-true, ltb-false}
+use Rattle.model.specs.Tables.{Tables, empty}
+use Rattle.model.specs.Calls.{Raw, decode, Answer, answer, next, answers, after}
+use Rattle.model.specs.Calls.Kept.{always-kept}
+use Rattle.model.specs.Promise.{Meets}
+use Rattle.model.specs.Demand3.{Demand3}
+use Rattle.model.specs.Demand3.Laws.{rules-demand3, after-more, answers-more, meets-next}
+use Rattle.gatekeeper.specs.declared.Monitor.{Monitor}
+use Rattle.gatekeeper.specs.View.{letter-of, value-of, view}
+use Rattle.run.specs.Buffers.{lesser, call-at, calls-in, bytes}
+
+pub lesser-left : (a b : ℕ) → lesser a b ≤ a
+lesser-left a b = go (ltb a b) refl
+  where
+    go : (x : Bool) → ltb a b ≡ x → cond x a b ≤ a
+    go true q = omega arith
+    go false q = ltb-false a b q
+
+pub lesser-right : (a b : ℕ) → lesser a b ≤ b
+lesser-right a b = go (ltb a b) refl
+  where
+    go : (x : Bool) → ltb a b ≡ x → cond x a b ≤ b
+    go true q = let h : a < b = ltb-true a b q in omega arith
+    go false q = omega arith
+
+bytes-more : (l : List Answer) (a : Answer) (d : List ℕ) → bytes (l ++ a ∷ []) ++ d ≡ bytes l ++ letter-of a ∷ value-of a ∷ d
+bytes-more [] a d = refl
+bytes-more (b ∷ l) a d = ap (λ (k : List ℕ). letter-of b ∷ value-of b ∷ k) (bytes-more l a d)
+
+length-bytes : (l : List Answer) → length (bytes l) ≡ length l * 2
+length-bytes [] = refl
+length-bytes (a ∷ l) = let h : length (bytes l) ≡ length l * 2 = length-bytes l in omega arith
+
+length-answers : (t : Tables) (rs : List Raw) → length (answers t rs) ≡ length rs
+length-answers t [] = refl
+length-answers t (r ∷ rs) = ap suc (length-answers (next t (decode r)) rs)
+
+length-calls : (l : List ℕ) (n : ℕ) → length (calls-in l n) ≡ n
+length-calls l zero = refl
+length-calls l (suc n) = let h : length (calls-in l n) ≡ n = length-calls l n in omega (arith, length-append (calls-in l n) (call-at l n ∷ []))
+
+set-pair : (w d : List ℕ) (x y : ℕ) → 2 ≤ length d → set (set (w ++ d) (length w) x) (suc (length w)) y ≡ w ++ x ∷ y ∷ drop 2 d
+set-pair [] [] x y h = absurd (omega arith)
+set-pair [] (a ∷ []) x y h = absurd (omega arith)
+set-pair [] (a ∷ b ∷ d) x y h = refl
+set-pair (v ∷ w) d x y h = ap (λ (k : List ℕ). v ∷ k) (set-pair w d x y h)
+
+-- a run that made all of them keeps demand 3
+pub run-demand3 : (rs : List Raw) (t : Tables) → t ≡ after empty rs → Demand3 rs (answers empty rs) t
+run-demand3 rs t e = subst (λ (u : Tables). Demand3 rs (answers empty rs) u) (sym e) (rules-demand3 rs)
+
+-- the first i calls have been made: their answers stand in the buffer, which was `first`, and the tables are t
+pub record So-far (calls first out : List ℕ) (i : ℕ) (t : Tables) : Type 0 where
+  pub written : out ≡ bytes (answers empty (calls-in calls i)) ++ drop (i * 2) first
+  pub tables : t ≡ after empty (calls-in calls i)
+
+pub so-far-none : (calls first : List ℕ) (t : Tables) → t ≡ empty → So-far calls first first 0 t
+so-far-none calls first t e = record { written = refl; tables = e }
+
+module _ (calls first out : List ℕ) (i : ℕ) (m n : Monitor) (a : Answer) where
+  pub so-far-more : i * 2 + 2 ≤ length first → So-far calls first out i (view m) → Meets view m (decode (call-at calls i)) a n
+      → So-far calls first (set (set out (i * 2) (letter-of a)) (i * 2 + 1) (value-of a)) (i + 1) (view n)
+  so-far-more room s k = subst (λ (j : ℕ). So-far calls first (set (set out (i * 2) (letter-of a)) (i * 2 + 1) (value-of a)) j (view n)) (sym (add-one i)) (record { written = written; tables = f .1 ∙ sym (after-more empty rs r) })
+    where
+      rs : List Raw
+      rs = calls-in calls i
+
+      r : Raw
+      r = call-at calls i
+
+      w : List ℕ
+      w = bytes (answers empty rs)
+
+      d : List ℕ
+      d = drop (i * 2) first
+
+      f : (a ≡ answer (after empty rs) (decode r)) × (view n ≡ next (after empty rs) (decode r))
+      f = meets-next view m (decode r) a n (after empty rs) (s .tables) (always-kept rs) k
+
+      long : length w ≡ i * 2
+      long = length-bytes (answers empty rs) ∙ ap (λ (j : ℕ). j * 2) (length-answers empty rs ∙ length-calls calls i)
+
+      set-here : set (set (w ++ d) (i * 2) (letter-of a)) (i * 2 + 1) (value-of a) ≡ w ++ letter-of a ∷ value-of a ∷ drop 2 d
+      set-here = ap (λ (j : ℕ). set (set (w ++ d) (i * 2) (letter-of a)) j (value-of a)) (add-one (i * 2))
+          ∙ subst (λ (j : ℕ). set (set (w ++ d) j (letter-of a)) (suc j) (value-of a) ≡ w ++ letter-of a ∷ value-of a ∷ drop 2 d) long (set-pair w d (letter-of a) (value-of a) (omega (arith, length-drop (i * 2) first)))
+
+      left : drop 2 d ≡ drop (suc i * 2) first
+      left = let e : i * 2 + 2 ≡ suc i * 2 = omega arith in drop-drop 2 (i * 2) first ∙ ap (λ (j : ℕ). drop j first) e
+
+      written : set (set out (i * 2) (letter-of a)) (i * 2 + 1) (value-of a) ≡ bytes (answers empty (calls-in calls (suc i))) ++ drop (suc i * 2) first
+      written = ap (λ (o : List ℕ). set (set o (i * 2) (letter-of a)) (i * 2 + 1) (value-of a)) (s .written)
+          ∙ set-here
+          ∙ ap (λ (l : List ℕ). w ++ letter-of a ∷ value-of a ∷ l) left
+          ∙ sym (bytes-more (answers empty rs) a (drop (suc i * 2) first))
+          ∙ ap (λ (l : List Answer). bytes l ++ drop (suc i * 2) first) (ap (λ (b : Answer). answers empty rs ++ b ∷ []) (f .0) ∙ sym (answers-more empty rs r))

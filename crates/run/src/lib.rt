@@ -1,0 +1,59 @@
+// A list of direct calls, run from empty tables (document 01, "Calls" and "Contents, in the model only").
+// What stands in the two buffers is in specs/Buffers.antt.
+ghost use mathlib.Core.Path.{_≡_};
+ghost use mathlib.Core.List.{_++_};
+ghost use Prim.Native.Nat.{ℕ, _*_, _/_};
+ghost use lib.ListN.{length, drop};
+ghost use Rattle.model.specs.Tables.{empty};
+ghost use Rattle.model.specs.Calls.{answers};
+ghost use Rattle.model.specs.Demand3.{Demand3};
+ghost use Rattle.gatekeeper.specs.View.{view};
+ghost use Rattle.run.specs.Buffers.{lesser, calls-in, bytes};
+use gatekeeper::Monitor;
+
+// The monitor at the end, and how many calls were made.
+pub struct Ran {
+    pub monitor: Monitor,
+    pub made: usize,
+}
+
+fn fewer(a: usize, b: usize) -> usize
+    ensures { λ r. ⌜ r ≡ lesser a b ⌝ }
+{
+    if a < b {
+        return a;
+    }
+    b
+}
+
+// Makes the calls of the list one after the other, from empty tables, as many as the list has and as there is room to answer. A call
+// is five numbers, its code first; an answer is two bytes, its letter and then its level or refusal number.
+pub fn run(calls: &[u32], out: &mut [u8]) -> Ran
+    ensures made { λ r. ⌜ r .made ≡ lesser (length (now (calls .entry)) / 5) (length (now (out .entry)) / 2) ⌝ }
+    ensures written { λ r. ⌜ now (out .exit) ≡ bytes (answers empty (calls-in (now (calls .entry)) (r .made))) ++ drop (r .made * 2) (now (out .entry)) ⌝ }
+    ensures demand3 { λ r. ⌜ Demand3 (calls-in (now (calls .entry)) (r .made)) (answers empty (calls-in (now (calls .entry)) (r .made))) (view (r .monitor)) ⌝ }
+{
+    let n = fewer(calls.len() / 5, out.len() / 2);
+    let mut m = Monitor::empty();
+    let mut i: usize = 0;
+    while i < n {
+        let at = i * 5;
+        let r = m.call(
+            calls[at],
+            calls[at + 1],
+            calls[at + 2],
+            calls[at + 3],
+            calls[at + 4],
+        );
+        let answer = r.answer;
+        let to = i * 2;
+        out[to] = gatekeeper::letter(answer);
+        out[to + 1] = gatekeeper::value(answer);
+        m = r.monitor;
+        i += 1;
+    }
+    Ran {
+        monitor: m,
+        made: n,
+    }
+}

@@ -1,0 +1,39 @@
+-- The lines of the reply (document 01, "Journal", the paragraph "The program replies ..", and its example). The laws are in
+-- Reply/Laws. Assumes nothing.
+use Prim.Native.Nat.{ℕ}
+use mathlib.Core.List.{List, [], _∷_, _++_}
+use Rattle.text.specs.Decimal.{decimal}
+pub mod Laws
+
+-- the bytes between and after the words of a line
+abbrev pub space : ℕ
+space = 32
+
+abbrev pub newline : ℕ
+newline = 10
+
+-- a number, and the byte that ends it
+abbrev pub field : ℕ → ℕ → List ℕ
+field n mark = decimal n ++ (mark ∷ [])
+
+-- "The program replies to each record with its position from 1, code (0 if none was read), A, L or R, and the level or
+-- refusal number." The letter is given by its byte: 65, 76 or 82.
+unfoldable pub line : ℕ → ℕ → ℕ → ℕ → List ℕ
+line position code letter value =
+    field position space ++ field code space ++ (letter ∷ space ∷ []) ++ field value newline
+
+-- `end`, and the space after it
+abbrev pub end-word : List ℕ
+end-word = 101 ∷ 110 ∷ 100 ∷ space ∷ []
+
+-- "The last line is `end`, handles made, handles gone, handles open."
+unfoldable pub ending : ℕ → ℕ → ℕ → List ℕ
+ending made gone held = end-word ++ field made space ++ field gone space ++ field held newline
+
+-- the longest line for a position and a code of 32 bits and a value of 8
+abbrev pub longest-line : ℕ
+longest-line = 28
+
+-- the longest last line for counts of 64 bits
+abbrev pub longest-end : ℕ
+longest-end = 67
