@@ -14,6 +14,7 @@ use Rattle.journal.specs.Answers.{Answer as Read, answers as reads, refused as 
 use Rattle.journal.specs.Journal.{entry-at, body-in}
 use Rattle.gatekeeper.specs.View.{letter-of, value-of}
 use Rattle.text.specs.Reply.{line, ending}
+pub mod Laws
 
 -- ── the records ──
 -- what stands at an offset, and then the rest. 11: "a length is malformed or runs past the end; the run stops there"

@@ -1,0 +1,64 @@
+-- `replay::one` meets its contract. Assumes nothing.
+use mathlib.Core.Path.{refl, sym, _∙_, ap, subst}
+use borrow.Author.Needs.{needs}
+use Rattle.model.specs.Calls.{refused}
+use Rattle.journal.specs.Answers.{Said, body-answer}
+use Rattle.gatekeeper.specs.View.{told, counts-of}
+use Rattle.replay.specs.One.{One}
+use Rattle.replay.proofs.one.Statement.{statement}
+use Rattle.replay.proofs.one.Tie as tie
+use Rattle.replay.proofs.one.Reads as reads
+use Rattle.replay.proofs.one.Lts as lts
+use Rattle.gatekeeper.proofs.Monitor.counted_call.Reads as counted-call-reads
+use Rattle.journal.proofs.read_body.Reads as read-body-reads
+
+read-body-requires : tie.Need-read-body-requires
+read-body-requires c κs = search needs
+
+enum-known-call : tie.Need-enum-known-call
+enum-known-call c = search needs
+
+counted-call-requires : tie.Need-counted-call-requires
+counted-call-requires c κs = search needs
+
+enum-known-code : tie.Need-enum-known-code
+enum-known-code c = search needs
+
+enum-known-code-2 : tie.Need-enum-known-code-2
+enum-known-code-2 c = search needs
+
+returns : tie.Need-returns
+returns c =
+    let a = c .before .before .before .before .before .before .before .before .before .before .args in
+    let k = c .before .before .before .counted-call in
+    let call = c .before .before .before .before .before .before .call .given .0 .0 in
+    subst (λ (s : Said). One (a .m) (counts-of (a .tally)) s (call .code) (told (k .result .reply .answer)) (k .result .reply .monitor) (counts-of (k .result .tally)))
+    (ap body-answer (sym (c .before .before .before .before .before .before .call .given .1)) ∙ c .before .before .before .before .before .before .before .before .read-body .ensures)
+    (refl, k .ensures .0, k .ensures .1)
+
+returns-2 : tie.Need-returns-2
+returns-2 c =
+    let a = c .before .before .before .before .before .args in
+    subst (λ (s : Said). One (a .m) (counts-of (a .tally)) s (c .before .code .given .0 .0) (refused 1) (a .m) (counts-of (a .tally)))
+    (ap body-answer (sym (c .before .code .given .1)) ∙ c .before .before .before .read-body .ensures)
+    (refl, refl, refl, refl)
+
+returns-3 : tie.Need-returns-3
+returns-3 c =
+    let a = c .before .before .before .before .before .args in
+    subst (λ (s : Said). One (a .m) (counts-of (a .tally)) s (c .before .code2 .given .0 .0) (refused 12) (a .m) (counts-of (a .tally)))
+    (ap body-answer (sym (c .before .code2 .given .1)) ∙ c .before .before .before .read-body .ensures)
+    (refl, refl, refl, refl)
+
+pub one-spec : {M : Type 1} → statement M
+one-spec =
+    tie.close
+    (tie.spec
+    read-body-requires
+    enum-known-call
+    counted-call-requires
+    enum-known-code
+    enum-known-code-2
+    returns
+    returns-2
+    returns-3)

@@ -1,0 +1,19 @@
+-- What one record does to a monitor and a tally. Document 01, "Journal", second paragraph; "Refused calls", rows 1 and 12, and "The monitor, the
+-- tally .. unchanged". Assumes nothing.
+use mathlib.Core.Path.{_≡_}
+use mathlib.Core.List.{List}
+use Prim.Native.Nat.{ℕ}
+use Rattle.model.specs.Tables.{clean}
+use Rattle.model.specs.Calls.{decode, Answer, refused}
+use Rattle.model.specs.Promise.{Meets}
+use Rattle.model.specs.Tally.{Tally, tallied}
+use Rattle.journal.specs.Answers.{Said, said}
+use Rattle.journal.specs.Answers.{answers as reads, refused as bad}
+use Rattle.gatekeeper.specs.declared.Monitor.{Monitor}
+use Rattle.gatekeeper.specs.View.{view}
+use Rattle.replay.specs.Replay.{raw}
+
+-- the record says s; on monitor m with tally y it is replied with a code and an answer, and leaves monitor n and tally z
+abbrev pub One : Monitor → Tally → Said → ℕ → Answer → Monitor → Tally → Type 0
+One m y (said code (reads ns)) c a n z = (c ≡ code) × Meets view m (decode (raw code ns)) a n × (z ≡ tallied (clean (view m)) (decode (raw code ns)) y)
+One m y (said code (bad k)) c a n z = (c ≡ code) × (a ≡ refused k) × (n ≡ m) × (z ≡ y)
