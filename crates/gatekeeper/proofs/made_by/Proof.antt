@@ -13,13 +13,21 @@ returns-2 : tie.Need-returns-2
 returns-2 c = past _ _ _ (ne-eqb _ _ (c .before .if1 .left)) (here _ _ _ (eq-eqb _ _ (c .if2 .taken)) refl)
 
 returns-3 : tie.Need-returns-3
-returns-3 c = past _ _ _ (ne-eqb _ _ (c .before .before .if1 .left)) (past _ _ _ (ne-eqb _ _ (c .before .if2 .left)) (here _ _ _ (eq-eqb _ _ (c .if3 .taken)) refl))
+returns-3 c =
+    past _ _ _ (ne-eqb _ _ (c .before .before .if1 .left))
+    (past _ _ _ (ne-eqb _ _ (c .before .if2 .left)) (here _ _ _ (eq-eqb _ _ (c .if3 .taken)) refl))
 
 returns-4 : tie.Need-returns-4
-returns-4 c = past _ _ _ (ne-eqb _ _ (c .before .before .before .if1 .left)) (past _ _ _ (ne-eqb _ _ (c .before .before .if2 .left)) (past _ _ _ (ne-eqb _ _ (c .before .if3 .left)) (here _ _ _ (eq-eqb _ _ (c .if4 .taken)) refl)))
+returns-4 c =
+    past _ _ _ (ne-eqb _ _ (c .before .before .before .if1 .left))
+    (past _ _ _ (ne-eqb _ _ (c .before .before .if2 .left))
+    (past _ _ _ (ne-eqb _ _ (c .before .if3 .left)) (here _ _ _ (eq-eqb _ _ (c .if4 .taken)) refl)))
 
 returns-5 : tie.Need-returns-5
-returns-5 c = past _ _ _ (ne-eqb _ _ (c .before .before .before .if1 .left)) (past _ _ _ (ne-eqb _ _ (c .before .before .if2 .left)) (past _ _ _ (ne-eqb _ _ (c .before .if3 .left)) (past _ _ _ (ne-eqb _ _ (c .if4 .left)) refl)))
+returns-5 c =
+    past _ _ _ (ne-eqb _ _ (c .before .before .before .if1 .left))
+    (past _ _ _ (ne-eqb _ _ (c .before .before .if2 .left))
+    (past _ _ _ (ne-eqb _ _ (c .before .if3 .left)) (past _ _ _ (ne-eqb _ _ (c .if4 .left)) refl)))
 
 pub made-by-spec : {M : Type 1} → statement M
 made-by-spec = tie.close (tie.spec returns returns-2 returns-3 returns-4 returns-5)

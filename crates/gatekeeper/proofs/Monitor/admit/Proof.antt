@@ -19,10 +19,18 @@ subject-taken-requires : tie.Need-subject-taken-requires
 subject-taken-requires c κs = search needs
 
 returns : tie.Need-returns
-returns c = refuse (c .before .before .before .args .self) (view (c .before .before .cleaned .result)) (admit (c .before .before .before .args .s) (c .before .before .before .args .level)) (new (subject (c .before .before .before .args .s))) (c .before .before .cleaned .ensures) (inl refl) (sym (c .before .subject-taken .ensures) ∙ c .if1 .taken) (tt, (tt, tt))
+returns c =
+    let a = c .before .before .before .args in
+    let c-cleaned = c .before .before .cleaned in
+    refuse (a .self) (view (c-cleaned .result)) (admit (a .s) (a .level)) (new (subject (a .s))) (c-cleaned .ensures) (inl refl)
+    (sym (c .before .subject-taken .ensures) ∙ c .if1 .taken) (tt, (tt, tt))
 
 returns-2 : tie.Need-returns-2
-returns-2 c = refuse (c .before .before .before .before .args .self) (view (c .before .before .before .cleaned .result)) (admit (c .before .before .before .before .args .s) (c .before .before .before .before .args .level)) (leveled (c .before .before .before .before .args .level)) (c .before .before .before .cleaned .ensures) (inr (inl refl)) (lt-ltb 15 (c .before .before .before .before .args .level) (c .if2 .taken)) (sym (c .before .before .subject-taken .ensures) ∙ c .before .if1 .left, (tt, tt))
+returns-2 c =
+    let a = c .before .before .before .before .args in
+    let c-cleaned = c .before .before .before .cleaned in
+    refuse (a .self) (view (c-cleaned .result)) (admit (a .s) (a .level)) (leveled (a .level)) (c-cleaned .ensures) (inr (inl refl))
+    (lt-ltb 15 (a .level) (c .if2 .taken)) (sym (c .before .before .subject-taken .ensures) ∙ c .before .if1 .left, (tt, tt))
 
 cast-l : tie.Need-cast-l
 cast-l c = search needs
@@ -31,7 +39,14 @@ with-subject-requires : tie.Need-with-subject-requires
 with-subject-requires c κs = search needs
 
 returns-3 : tie.Need-returns-3
-returns-3 c = Y.admitted (c .before .before .before .before .before .args .self) (c .before .before .before .before .cleaned .result) (c .before .before .before .before .cleaned .ensures) (c .before .before .before .before .before .args .s) (c .before .before .before .before .before .args .level) (c .with-subject .result) (sym (c .before .before .before .subject-taken .ensures) ∙ c .before .before .if1 .left) (le-ltb 15 (c .before .before .before .before .before .args .level) (c .before .if2 .left)) (c .with-subject .ensures (new-row (view (c .before .before .before .before .cleaned .result)) (c .before .before .before .before .before .args .s) (sym (c .before .before .before .subject-taken .ensures) ∙ c .before .before .if1 .left)))
+returns-3 c =
+    let a = c .before .before .before .before .before .args in
+    let c-cleaned = c .before .before .before .before .cleaned in
+    let c-subject-taken = c .before .before .before .subject-taken in
+    let c-if1 = c .before .before .if1 in
+    let passed-subject-taken = sym (c-subject-taken .ensures) ∙ c-if1 .left in
+    Y.admitted (a .self) (c-cleaned .result) (c-cleaned .ensures) (a .s) (a .level) (c .with-subject .result) passed-subject-taken
+    (le-ltb 15 (a .level) (c .before .if2 .left)) (c .with-subject .ensures (new-row (view (c-cleaned .result)) (a .s) passed-subject-taken))
 
 pub admit-spec : {M : Type 1} → statement M
 admit-spec =

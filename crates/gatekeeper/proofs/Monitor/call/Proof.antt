@@ -105,7 +105,39 @@ unfolding decode
 returns-13 c = rw (c .before .match .keys13) (c .retire .ensures)
 
 returns-14 : tie.Need-returns-14
-returns-14 c = subst (λ (k : Call). Meets view (c .before .args .self) k (refused 1) (c .before .args .self)) (sym (decode-unknown (direct (c .before .args .code) (c .before .args .a) (c .before .args .b) (c .before .args .c) (c .before .args .d)) (c .match .rest .0 .0 .0 .0 .0 .0 .0 .0 .0 .0 .0 .0 .1, (c .match .rest .0 .0 .0 .0 .0 .0 .0 .0 .0 .0 .0 .1, (c .match .rest .0 .0 .0 .0 .0 .0 .0 .0 .0 .0 .1, (c .match .rest .0 .0 .0 .0 .0 .0 .0 .0 .0 .1, (c .match .rest .0 .0 .0 .0 .0 .0 .0 .0 .1, (c .match .rest .0 .0 .0 .0 .0 .0 .0 .1, (c .match .rest .0 .0 .0 .0 .0 .0 .1, (c .match .rest .0 .0 .0 .0 .0 .1, (c .match .rest .0 .0 .0 .0 .1, (c .match .rest .0 .0 .0 .1, (c .match .rest .0 .0 .1, (c .match .rest .0 .1, (c .match .rest .1, tt)))))))))))))))
+returns-14 c =
+    let a = c .before .args in
+    let c-match = c .match in
+    subst (λ (k : Call). Meets view (a .self) k (refused 1) (a .self))
+    (sym
+    (decode-unknown (direct (a .code) (a .a) (a .b) (a .c) (a .d)) (
+      c-match .rest .0 .0 .0 .0 .0 .0 .0 .0 .0 .0 .0 .0 .1,
+      (
+        c-match .rest .0 .0 .0 .0 .0 .0 .0 .0 .0 .0 .0 .1,
+        (
+          c-match .rest .0 .0 .0 .0 .0 .0 .0 .0 .0 .0 .1,
+          (
+            c-match .rest .0 .0 .0 .0 .0 .0 .0 .0 .0 .1,
+            (
+              c-match .rest .0 .0 .0 .0 .0 .0 .0 .0 .1,
+              (
+                c-match .rest .0 .0 .0 .0 .0 .0 .0 .1,
+                (
+                  c-match .rest .0 .0 .0 .0 .0 .0 .1,
+                  (
+                    c-match .rest .0 .0 .0 .0 .0 .1,
+                    (
+                      c-match .rest .0 .0 .0 .0 .1,
+                      (c-match .rest .0 .0 .0 .1, (c-match .rest .0 .0 .1, (c-match .rest .0 .1, (c-match .rest .1, tt)))),
+                    ),
+                  ),
+                ),
+              ),
+            ),
+          ),
+        ),
+      ),
+    )))
     (refuse (c .before .args .self) (clean (view (c .before .args .self))) unknown known refl (inl refl) refl (tt, tt))
 
 pub call-spec : {M : Type 1} → statement M

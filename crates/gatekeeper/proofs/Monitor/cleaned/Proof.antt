@@ -53,10 +53,20 @@ loop-less : tie.Need-loop-less Inv-loop μ-loop
 loop-less c = search needs
 
 loop-again : tie.Need-loop-again Inv-loop μ-loop
-loop-again c = (omega arith, cleaned-more _ _ _ _ (c .before .before .before .before .before .before .loop .inv .1) (omega (arith, O.handles-long (c .before .before .before .before .before .before .before .args .t1) (c .before .before .before .before .before .before .before .good .0))) (c .kept .ensures))
+loop-again c =
+    let a = c .before .before .before .before .before .before .before .args in
+    let good = c .before .before .before .before .before .before .before .good in (
+      omega arith,
+      cleaned-more _ _ _ _ (c .before .before .before .before .before .before .loop .inv .1)
+          (omega (arith, O.handles-long (a .t1) (good .0))) (c .kept .ensures),
+    )
 
 returns : tie.Need-returns Inv-loop μ-loop
-returns c = cleaned-view _ _ _ (c .loop-test .left) (c .before .loop .inv .1) (O.subjects-long (c .before .before .args .t1) (c .before .before .good .0)) (O.objects-long (c .before .before .args .t1) (c .before .before .good .0)) (O.handles-long (c .before .before .args .t1) (c .before .before .good .0))
+returns c =
+    let a = c .before .before .args in
+    let good = c .before .before .good in
+    cleaned-view _ _ _ (c .loop-test .left) (c .before .loop .inv .1) (O.subjects-long (a .t1) (good .0)) (O.objects-long (a .t1) (good .0))
+    (O.handles-long (a .t1) (good .0))
 
 pub cleaned-spec : {M : Type 1} → statement M
 cleaned-spec =

@@ -19,13 +19,22 @@ lacks-subject-requires : tie.Need-lacks-subject-requires
 lacks-subject-requires c κs = search needs
 
 returns : tie.Need-returns
-returns c = refuse (c .before .before .before .args .self) (view (c .before .before .cleaned .result)) (close (c .before .before .before .args .s) (c .before .before .before .args .p)) (alive (c .before .before .before .args .s)) (c .before .before .cleaned .ensures) (inl refl) (sym (c .before .lacks-subject .ensures) ∙ c .if1 .taken) (tt, (tt, tt))
+returns c =
+    let a = c .before .before .before .args in
+    let c-cleaned = c .before .before .cleaned in
+    refuse (a .self) (view (c-cleaned .result)) (close (a .s) (a .p)) (alive (a .s)) (c-cleaned .ensures) (inl refl)
+    (sym (c .before .lacks-subject .ensures) ∙ c .if1 .taken) (tt, (tt, tt))
 
 place-empty-requires : tie.Need-place-empty-requires
 place-empty-requires c κs = search needs
 
 returns-2 : tie.Need-returns-2
-returns-2 c = refuse (c .before .before .before .before .before .args .self) (view (c .before .before .before .before .cleaned .result)) (close (c .before .before .before .before .before .args .s) (c .before .before .before .before .before .args .p)) (taken (c .before .before .before .before .before .args .s) (c .before .before .before .before .before .args .p)) (c .before .before .before .before .cleaned .ensures) (inr (inl refl)) (sym (c .before .place-empty .ensures) ∙ c .if2 .taken) (sym (c .before .before .before .lacks-subject .ensures) ∙ c .before .before .if1 .left, (tt, tt))
+returns-2 c =
+    let a = c .before .before .before .before .before .args in
+    let c-cleaned = c .before .before .before .before .cleaned in
+    refuse (a .self) (view (c-cleaned .result)) (close (a .s) (a .p)) (taken (a .s) (a .p)) (c-cleaned .ensures) (inr (inl refl))
+    (sym (c .before .place-empty .ensures) ∙ c .if2 .taken)
+    (sym (c .before .before .before .lacks-subject .ensures) ∙ c .before .before .if1 .left, (tt, tt))
 
 subject-level-requires : tie.Need-subject-level-requires
 subject-level-requires c κs = search needs
@@ -37,7 +46,21 @@ reaped-requires : tie.Need-reaped-requires
 reaped-requires c κs = search needs
 
 returns-3 : tie.Need-returns-3
-returns-3 c = Y.closed (c .before .before .before .before .before .before .before .before .args .self) (c .before .before .before .before .before .before .before .cleaned .result) (c .before .before .before .before .before .before .before .cleaned .ensures) (c .before .before .before .before .before .before .before .before .args .s) (c .before .before .before .before .before .before .before .before .args .p) (c .before .before .subject-level .result) (c .reaped .result) (sym (c .before .before .before .before .before .before .lacks-subject .ensures) ∙ c .before .before .before .before .before .if1 .left) (sym (c .before .before .before .before .place-empty .ensures) ∙ c .before .before .before .if2 .left) (c .before .before .subject-level .ensures) (c .reaped .ensures ∙ ap (reap (handles (view (c .before .before .before .before .before .before .before .cleaned .result)))) (c .before .with-handle .ensures (in-row (view (c .before .before .before .before .before .before .before .cleaned .result)) (c .before .before .before .before .before .before .before .before .args .s) (sym (c .before .before .before .before .before .before .lacks-subject .ensures) ∙ c .before .before .before .before .before .if1 .left)) (taken-column (view (c .before .before .before .before .before .before .before .cleaned .result)) (c .before .before .before .before .before .before .before .before .args .s) (c .before .before .before .before .before .before .before .before .args .p) (sym (c .before .before .before .before .place-empty .ensures) ∙ c .before .before .before .if2 .left))))
+returns-3 c =
+    let a = c .before .before .before .before .before .before .before .before .args in
+    let c-cleaned = c .before .before .before .before .before .before .before .cleaned in
+    let c-lacks-subject = c .before .before .before .before .before .before .lacks-subject in
+    let c-if1 = c .before .before .before .before .before .if1 in
+    let c-place-empty = c .before .before .before .before .place-empty in
+    let c-if2 = c .before .before .before .if2 in
+    let c-subject-level = c .before .before .subject-level in
+    let t = view (c-cleaned .result) in
+    let passed-lacks-subject = sym (c-lacks-subject .ensures) ∙ c-if1 .left in
+    let passed-place-empty = sym (c-place-empty .ensures) ∙ c-if2 .left in
+    Y.closed (a .self) (c-cleaned .result) (c-cleaned .ensures) (a .s) (a .p) (c-subject-level .result) (c .reaped .result) passed-lacks-subject
+    passed-place-empty (c-subject-level .ensures)
+    (c .reaped .ensures ∙ ap (reap (handles t))
+    (c .before .with-handle .ensures (in-row t (a .s) passed-lacks-subject) (taken-column t (a .s) (a .p) passed-place-empty)))
 
 pub close-spec : {M : Type 1} → statement M
 close-spec =

@@ -18,13 +18,22 @@ lacks-subject-requires : tie.Need-lacks-subject-requires
 lacks-subject-requires c κs = search needs
 
 returns : tie.Need-returns
-returns c = refuse (c .before .before .before .args .self) (view (c .before .before .cleaned .result)) (create (c .before .before .before .args .s) (c .before .before .before .args .o)) (alive (c .before .before .before .args .s)) (c .before .before .cleaned .ensures) (inl refl) (sym (c .before .lacks-subject .ensures) ∙ c .if1 .taken) (tt, (tt, tt))
+returns c =
+    let a = c .before .before .before .args in
+    let c-cleaned = c .before .before .cleaned in
+    refuse (a .self) (view (c-cleaned .result)) (create (a .s) (a .o)) (alive (a .s)) (c-cleaned .ensures) (inl refl)
+    (sym (c .before .lacks-subject .ensures) ∙ c .if1 .taken) (tt, (tt, tt))
 
 object-taken-requires : tie.Need-object-taken-requires
 object-taken-requires c κs = search needs
 
 returns-2 : tie.Need-returns-2
-returns-2 c = refuse (c .before .before .before .before .before .args .self) (view (c .before .before .before .before .cleaned .result)) (create (c .before .before .before .before .before .args .s) (c .before .before .before .before .before .args .o)) (new (object (c .before .before .before .before .before .args .o))) (c .before .before .before .before .cleaned .ensures) (inr (inl refl)) (sym (c .before .object-taken .ensures) ∙ c .if2 .taken) (sym (c .before .before .before .lacks-subject .ensures) ∙ c .before .before .if1 .left, (tt, tt))
+returns-2 c =
+    let a = c .before .before .before .before .before .args in
+    let c-cleaned = c .before .before .before .before .cleaned in
+    refuse (a .self) (view (c-cleaned .result)) (create (a .s) (a .o)) (new (object (a .o))) (c-cleaned .ensures) (inr (inl refl))
+    (sym (c .before .object-taken .ensures) ∙ c .if2 .taken)
+    (sym (c .before .before .before .lacks-subject .ensures) ∙ c .before .before .if1 .left, (tt, tt))
 
 subject-level-requires : tie.Need-subject-level-requires
 subject-level-requires c κs = search needs
@@ -33,7 +42,16 @@ with-object-requires : tie.Need-with-object-requires
 with-object-requires c κs = search needs
 
 returns-3 : tie.Need-returns-3
-returns-3 c = Y.created (c .before .before .before .before .before .before .before .args .self) (c .before .before .before .before .before .before .cleaned .result) (c .before .before .before .before .before .before .cleaned .ensures) (c .before .before .before .before .before .before .before .args .s) (c .before .before .before .before .before .before .before .args .o) (c .before .subject-level .result) (c .with-object .result) (sym (c .before .before .before .before .before .lacks-subject .ensures) ∙ c .before .before .before .before .if1 .left) (sym (c .before .before .before .object-taken .ensures) ∙ c .before .before .if2 .left) (c .before .subject-level .ensures) (c .with-object .ensures (new-column (view (c .before .before .before .before .before .before .cleaned .result)) (c .before .before .before .before .before .before .before .args .o) (sym (c .before .before .before .object-taken .ensures) ∙ c .before .before .if2 .left)))
+returns-3 c =
+    let a = c .before .before .before .before .before .before .before .args in
+    let c-cleaned = c .before .before .before .before .before .before .cleaned in
+    let c-object-taken = c .before .before .before .object-taken in
+    let c-if2 = c .before .before .if2 in
+    let c-subject-level = c .before .subject-level in
+    let passed-object-taken = sym (c-object-taken .ensures) ∙ c-if2 .left in
+    Y.created (a .self) (c-cleaned .result) (c-cleaned .ensures) (a .s) (a .o) (c-subject-level .result) (c .with-object .result)
+    (sym (c .before .before .before .before .before .lacks-subject .ensures) ∙ c .before .before .before .before .if1 .left) passed-object-taken
+    (c-subject-level .ensures) (c .with-object .ensures (new-column (view (c-cleaned .result)) (a .o) passed-object-taken))
 
 pub create-spec : {M : Type 1} → statement M
 create-spec =

@@ -18,25 +18,59 @@ lacks-subject-requires : tie.Need-lacks-subject-requires
 lacks-subject-requires c κs = search needs
 
 returns : tie.Need-returns
-returns c = refuse (c .before .before .before .args .self) (view (c .before .before .cleaned .result)) (exec (c .before .before .before .args .s) (c .before .before .before .args .o)) (alive (c .before .before .before .args .s)) (c .before .before .cleaned .ensures) (inl refl) (sym (c .before .lacks-subject .ensures) ∙ c .if1 .taken) (tt, (tt, (tt, (tt, tt))))
+returns c =
+    let a = c .before .before .before .args in
+    let c-cleaned = c .before .before .cleaned in
+    refuse (a .self) (view (c-cleaned .result)) (exec (a .s) (a .o)) (alive (a .s)) (c-cleaned .ensures) (inl refl)
+    (sym (c .before .lacks-subject .ensures) ∙ c .if1 .taken) (tt, (tt, (tt, (tt, tt))))
 
 lacks-object-requires : tie.Need-lacks-object-requires
 lacks-object-requires c κs = search needs
 
 returns-2 : tie.Need-returns-2
-returns-2 c = refuse (c .before .before .before .before .before .args .self) (view (c .before .before .before .before .cleaned .result)) (exec (c .before .before .before .before .before .args .s) (c .before .before .before .before .before .args .o)) (present (c .before .before .before .before .before .args .o)) (c .before .before .before .before .cleaned .ensures) (inr (inl refl)) (sym (c .before .lacks-object .ensures) ∙ c .if2 .taken) (sym (c .before .before .before .lacks-subject .ensures) ∙ c .before .before .if1 .left, (tt, (tt, (tt, tt))))
+returns-2 c =
+    let a = c .before .before .before .before .before .args in
+    let c-cleaned = c .before .before .before .before .cleaned in
+    refuse (a .self) (view (c-cleaned .result)) (exec (a .s) (a .o)) (present (a .o)) (c-cleaned .ensures) (inr (inl refl))
+    (sym (c .before .lacks-object .ensures) ∙ c .if2 .taken)
+    (sym (c .before .before .before .lacks-subject .ensures) ∙ c .before .before .if1 .left, (tt, (tt, (tt, tt))))
 
 names-pipe-requires : tie.Need-names-pipe-requires
 names-pipe-requires c κs = search needs
 
 returns-3 : tie.Need-returns-3
-returns-3 c = refuse (c .before .before .before .before .before .before .before .args .self) (view (c .before .before .before .before .before .before .cleaned .result)) (exec (c .before .before .before .before .before .before .before .args .s) (c .before .before .before .before .before .before .before .args .o)) (no-pipe (c .before .before .before .before .before .before .before .args .o)) (c .before .before .before .before .before .before .cleaned .ensures) (inr (inr (inl refl))) (sym (c .before .names-pipe .ensures) ∙ c .if3 .taken) (sym (c .before .before .before .before .before .lacks-subject .ensures) ∙ c .before .before .before .before .if1 .left, (sym (c .before .before .before .lacks-object .ensures) ∙ c .before .before .if2 .left, (tt, (tt, tt))))
+returns-3 c =
+    let a = c .before .before .before .before .before .before .before .args in
+    let c-cleaned = c .before .before .before .before .before .before .cleaned in
+    refuse (a .self) (view (c-cleaned .result)) (exec (a .s) (a .o)) (no-pipe (a .o)) (c-cleaned .ensures) (inr (inr (inl refl)))
+    (sym (c .before .names-pipe .ensures) ∙ c .if3 .taken) (
+      sym (c .before .before .before .before .before .lacks-subject .ensures) ∙ c .before .before .before .before .if1 .left,
+      (sym (c .before .before .before .lacks-object .ensures) ∙ c .before .before .if2 .left, (tt, (tt, tt))),
+    )
 
 unfit-requires : tie.Need-unfit-requires
-unfit-requires c κs = (cleaned-wf (c .before .before .before .before .before .before .before .args .self) (view (c .before .before .before .before .before .before .cleaned .result)) (O.subjects-long (c .before .before .before .before .before .before .before .args .self) (c .before .before .before .before .before .before .before .good .0)) (O.objects-long (c .before .before .before .before .before .before .before .args .self) (c .before .before .before .before .before .before .before .good .0)) (c .before .before .before .before .before .before .cleaned .ensures))
+unfit-requires c κs =
+    let a = c .before .before .before .before .before .before .before .args in
+    let good = c .before .before .before .before .before .before .before .good in
+    let c-cleaned = c .before .before .before .before .before .before .cleaned in
+    (cleaned-wf (a .self) (view (c-cleaned .result)) (O.subjects-long (a .self) (good .0)) (O.objects-long (a .self) (good .0)) (c-cleaned .ensures))
 
 returns-4 : tie.Need-returns-4
-returns-4 c = refuse (c .before .before .before .before .before .before .before .before .before .args .self) (view (c .before .before .before .before .before .before .before .before .cleaned .result)) (exec (c .before .before .before .before .before .before .before .before .before .args .s) (c .before .before .before .before .before .before .before .before .before .args .o)) (suits (c .before .before .before .before .before .before .before .before .before .args .s) (c .before .before .before .before .before .before .before .before .before .args .o)) (c .before .before .before .before .before .before .before .before .cleaned .ensures) (inr (inr (inr (inl refl)))) (sym (c .before .unfit .ensures (in-row (view (c .before .before .before .before .before .before .before .before .cleaned .result)) (c .before .before .before .before .before .before .before .before .before .args .s) (sym (c .before .before .before .before .before .before .before .lacks-subject .ensures) ∙ c .before .before .before .before .before .before .if1 .left))) ∙ c .if4 .taken) (sym (c .before .before .before .before .before .before .before .lacks-subject .ensures) ∙ c .before .before .before .before .before .before .if1 .left, (sym (c .before .before .before .before .before .lacks-object .ensures) ∙ c .before .before .before .before .if2 .left, (sym (c .before .before .before .names-pipe .ensures) ∙ c .before .before .if3 .left, (tt, tt))))
+returns-4 c =
+    let a = c .before .before .before .before .before .before .before .before .before .args in
+    let c-cleaned = c .before .before .before .before .before .before .before .before .cleaned in
+    let c-lacks-subject = c .before .before .before .before .before .before .before .lacks-subject in
+    let c-if1 = c .before .before .before .before .before .before .if1 in
+    let t = view (c-cleaned .result) in
+    let passed-lacks-subject = sym (c-lacks-subject .ensures) ∙ c-if1 .left in
+    refuse (a .self) t (exec (a .s) (a .o)) (suits (a .s) (a .o)) (c-cleaned .ensures) (inr (inr (inr (inl refl))))
+    (sym (c .before .unfit .ensures (in-row t (a .s) passed-lacks-subject)) ∙ c .if4 .taken) (
+      passed-lacks-subject,
+      (
+        sym (c .before .before .before .before .before .lacks-object .ensures) ∙ c .before .before .before .before .if2 .left,
+        (sym (c .before .before .before .names-pipe .ensures) ∙ c .before .before .if3 .left, (tt, tt)),
+      ),
+    )
 
 object-level-requires : tie.Need-object-level-requires
 object-level-requires c κs = search needs
@@ -48,10 +82,43 @@ with-subject-requires : tie.Need-with-subject-requires
 with-subject-requires c κs = search needs
 
 returns-5 : tie.Need-returns-5
-returns-5 c = Y.ran-sinks (c .before .before .before .before .before .before .before .before .before .before .before .before .before .args .self) (c .before .before .before .before .before .before .before .before .before .before .before .before .cleaned .result) (c .before .before .before .before .before .before .before .before .before .before .before .before .cleaned .ensures) (c .before .before .before .before .before .before .before .before .before .before .before .before .before .args .s) (c .before .before .before .before .before .before .before .before .before .before .before .before .before .args .o) (c .before .before .before .object-level .result) (c .before .before .subject-level .result) (c .with-subject .result) (sym (c .before .before .before .before .before .before .before .before .before .before .before .lacks-subject .ensures) ∙ c .before .before .before .before .before .before .before .before .before .before .if1 .left) (sym (c .before .before .before .before .before .before .before .before .before .lacks-object .ensures) ∙ c .before .before .before .before .before .before .before .before .if2 .left) (sym (c .before .before .before .before .before .before .before .names-pipe .ensures) ∙ c .before .before .before .before .before .before .if3 .left) (sym (c .before .before .before .before .before .unfit .ensures (in-row (view (c .before .before .before .before .before .before .before .before .before .before .before .before .cleaned .result)) (c .before .before .before .before .before .before .before .before .before .before .before .before .before .args .s) (sym (c .before .before .before .before .before .before .before .before .before .before .before .lacks-subject .ensures) ∙ c .before .before .before .before .before .before .before .before .before .before .if1 .left))) ∙ c .before .before .before .before .if4 .left) (c .before .before .before .object-level .ensures) (c .before .before .subject-level .ensures) (c .before .if5 .taken) (c .with-subject .ensures (in-row (view (c .before .before .before .before .before .before .before .before .before .before .before .before .cleaned .result)) (c .before .before .before .before .before .before .before .before .before .before .before .before .before .args .s) (sym (c .before .before .before .before .before .before .before .before .before .before .before .lacks-subject .ensures) ∙ c .before .before .before .before .before .before .before .before .before .before .if1 .left)))
+returns-5 c =
+    let a = c .before .before .before .before .before .before .before .before .before .before .before .before .before .args in
+    let c-cleaned = c .before .before .before .before .before .before .before .before .before .before .before .before .cleaned in
+    let c-lacks-subject = c .before .before .before .before .before .before .before .before .before .before .before .lacks-subject in
+    let c-if1 = c .before .before .before .before .before .before .before .before .before .before .if1 in
+    let c-lacks-object = c .before .before .before .before .before .before .before .before .before .lacks-object in
+    let c-if2 = c .before .before .before .before .before .before .before .before .if2 in
+    let c-names-pipe = c .before .before .before .before .before .before .before .names-pipe in
+    let c-object-level = c .before .before .before .object-level in
+    let c-subject-level = c .before .before .subject-level in
+    let t = view (c-cleaned .result) in
+    let passed-lacks-subject = sym (c-lacks-subject .ensures) ∙ c-if1 .left in
+    Y.ran-sinks (a .self) (c-cleaned .result) (c-cleaned .ensures) (a .s) (a .o) (c-object-level .result) (c-subject-level .result)
+    (c .with-subject .result) passed-lacks-subject (sym (c-lacks-object .ensures) ∙ c-if2 .left)
+    (sym (c-names-pipe .ensures) ∙ c .before .before .before .before .before .before .if3 .left)
+    (sym (c .before .before .before .before .before .unfit .ensures (in-row t (a .s) passed-lacks-subject))
+    ∙ c .before .before .before .before .if4 .left)
+    (c-object-level .ensures) (c-subject-level .ensures) (c .before .if5 .taken) (c .with-subject .ensures (in-row t (a .s) passed-lacks-subject))
 
 returns-6 : tie.Need-returns-6
-returns-6 c = Y.ran-stays (c .before .before .before .before .before .before .before .before .before .before .before .before .args .self) (c .before .before .before .before .before .before .before .before .before .before .before .cleaned .result) (c .before .before .before .before .before .before .before .before .before .before .before .cleaned .ensures) (c .before .before .before .before .before .before .before .before .before .before .before .before .args .s) (c .before .before .before .before .before .before .before .before .before .before .before .before .args .o) (c .before .before .object-level .result) (c .before .subject-level .result) (c .before .before .before .before .before .before .before .before .before .before .before .cleaned .result) (sym (c .before .before .before .before .before .before .before .before .before .before .lacks-subject .ensures) ∙ c .before .before .before .before .before .before .before .before .before .if1 .left) (sym (c .before .before .before .before .before .before .before .before .lacks-object .ensures) ∙ c .before .before .before .before .before .before .before .if2 .left) (sym (c .before .before .before .before .before .before .names-pipe .ensures) ∙ c .before .before .before .before .before .if3 .left) (sym (c .before .before .before .before .unfit .ensures (in-row (view (c .before .before .before .before .before .before .before .before .before .before .before .cleaned .result)) (c .before .before .before .before .before .before .before .before .before .before .before .before .args .s) (sym (c .before .before .before .before .before .before .before .before .before .before .lacks-subject .ensures) ∙ c .before .before .before .before .before .before .before .before .before .if1 .left))) ∙ c .before .before .before .if4 .left) (c .before .before .object-level .ensures) (c .before .subject-level .ensures) (c .if5 .left) refl
+returns-6 c =
+    let a = c .before .before .before .before .before .before .before .before .before .before .before .before .args in
+    let c-cleaned = c .before .before .before .before .before .before .before .before .before .before .before .cleaned in
+    let c-lacks-subject = c .before .before .before .before .before .before .before .before .before .before .lacks-subject in
+    let c-if1 = c .before .before .before .before .before .before .before .before .before .if1 in
+    let c-lacks-object = c .before .before .before .before .before .before .before .before .lacks-object in
+    let c-if2 = c .before .before .before .before .before .before .before .if2 in
+    let c-names-pipe = c .before .before .before .before .before .before .names-pipe in
+    let c-object-level = c .before .before .object-level in
+    let c-subject-level = c .before .subject-level in
+    let passed-lacks-subject = sym (c-lacks-subject .ensures) ∙ c-if1 .left in
+    Y.ran-stays (a .self) (c-cleaned .result) (c-cleaned .ensures) (a .s) (a .o) (c-object-level .result) (c-subject-level .result)
+    (c-cleaned .result) passed-lacks-subject (sym (c-lacks-object .ensures) ∙ c-if2 .left)
+    (sym (c-names-pipe .ensures) ∙ c .before .before .before .before .before .if3 .left)
+    (sym (c .before .before .before .before .unfit .ensures (in-row (view (c-cleaned .result)) (a .s) passed-lacks-subject))
+    ∙ c .before .before .before .if4 .left)
+    (c-object-level .ensures) (c-subject-level .ensures) (c .if5 .left) refl
 
 pub exec-spec : {M : Type 1} → statement M
 exec-spec =

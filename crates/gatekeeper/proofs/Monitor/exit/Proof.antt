@@ -21,7 +21,11 @@ lacks-subject-requires : tie.Need-lacks-subject-requires
 lacks-subject-requires c κs = search needs
 
 returns : tie.Need-returns
-returns c = refuse (c .before .before .before .args .self) (view (c .before .before .cleaned .result)) (exit (c .before .before .before .args .s)) (alive (c .before .before .before .args .s)) (c .before .before .cleaned .ensures) (inl refl) (sym (c .before .lacks-subject .ensures) ∙ c .if1 .taken) (tt, tt)
+returns c =
+    let a = c .before .before .before .args in
+    let c-cleaned = c .before .before .cleaned in
+    refuse (a .self) (view (c-cleaned .result)) (exit (a .s)) (alive (a .s)) (c-cleaned .ensures) (inl refl)
+    (sym (c .before .lacks-subject .ensures) ∙ c .if1 .taken) (tt, tt)
 
 subject-level-requires : tie.Need-subject-level-requires
 subject-level-requires c κs = search needs
@@ -36,7 +40,19 @@ reaped-requires : tie.Need-reaped-requires
 reaped-requires c κs = search needs
 
 returns-2 : tie.Need-returns-2
-returns-2 c = Y.exited (c .before .before .before .before .before .before .before .args .self) (c .before .before .before .before .before .before .cleaned .result) (c .before .before .before .before .before .before .cleaned .ensures) (c .before .before .before .before .before .before .before .args .s) (c .before .before .before .subject-level .result) (c .reaped .result) (sym (c .before .before .before .before .before .lacks-subject .ensures) ∙ c .before .before .before .before .if1 .left) (c .before .before .before .subject-level .ensures) (c .reaped .ensures ∙ ap (reap (handles (view (c .before .before .before .before .before .before .cleaned .result)))) (c .before .with-subject .ensures (in-row (view (c .before .before .before .before .before .before .cleaned .result)) (c .before .before .before .before .before .before .before .args .s) (sym (c .before .before .before .before .before .lacks-subject .ensures) ∙ c .before .before .before .before .if1 .left)) ∙ ap (λ u. with-at u (put (u .at) (subject (c .before .before .before .before .before .before .before .args .s)) none)) (c .before .before .row-emptied .ensures (in-row (view (c .before .before .before .before .before .before .cleaned .result)) (c .before .before .before .before .before .before .before .args .s) (sym (c .before .before .before .before .before .lacks-subject .ensures) ∙ c .before .before .before .before .if1 .left)))))
+returns-2 c =
+    let a = c .before .before .before .before .before .before .before .args in
+    let c-cleaned = c .before .before .before .before .before .before .cleaned in
+    let c-lacks-subject = c .before .before .before .before .before .lacks-subject in
+    let c-if1 = c .before .before .before .before .if1 in
+    let c-subject-level = c .before .before .before .subject-level in
+    let t = view (c-cleaned .result) in
+    let passed-lacks-subject = sym (c-lacks-subject .ensures) ∙ c-if1 .left in
+    Y.exited (a .self) (c-cleaned .result) (c-cleaned .ensures) (a .s) (c-subject-level .result) (c .reaped .result) passed-lacks-subject
+    (c-subject-level .ensures)
+    (c .reaped .ensures ∙ ap (reap (handles t))
+    (c .before .with-subject .ensures (in-row t (a .s) passed-lacks-subject) ∙ ap (λ u. with-at u (put (u .at) (subject (a .s)) none))
+    (c .before .before .row-emptied .ensures (in-row t (a .s) passed-lacks-subject))))
 
 pub exit-spec : {M : Type 1} → statement M
 exit-spec =

@@ -21,13 +21,22 @@ lacks-subject-requires : tie.Need-lacks-subject-requires
 lacks-subject-requires c κs = search needs
 
 returns : tie.Need-returns
-returns c = refuse (c .before .before .before .args .self) (view (c .before .before .cleaned .result)) (fork (c .before .before .before .args .s) (c .before .before .before .args .c)) (alive (c .before .before .before .args .s)) (c .before .before .cleaned .ensures) (inl refl) (sym (c .before .lacks-subject .ensures) ∙ c .if1 .taken) (tt, (tt, tt))
+returns c =
+    let a = c .before .before .before .args in
+    let c-cleaned = c .before .before .cleaned in
+    refuse (a .self) (view (c-cleaned .result)) (fork (a .s) (a .c)) (alive (a .s)) (c-cleaned .ensures) (inl refl)
+    (sym (c .before .lacks-subject .ensures) ∙ c .if1 .taken) (tt, (tt, tt))
 
 subject-taken-requires : tie.Need-subject-taken-requires
 subject-taken-requires c κs = search needs
 
 returns-2 : tie.Need-returns-2
-returns-2 c = refuse (c .before .before .before .before .before .args .self) (view (c .before .before .before .before .cleaned .result)) (fork (c .before .before .before .before .before .args .s) (c .before .before .before .before .before .args .c)) (new (subject (c .before .before .before .before .before .args .c))) (c .before .before .before .before .cleaned .ensures) (inr (inl refl)) (sym (c .before .subject-taken .ensures) ∙ c .if2 .taken) (sym (c .before .before .before .lacks-subject .ensures) ∙ c .before .before .if1 .left, (tt, tt))
+returns-2 c =
+    let a = c .before .before .before .before .before .args in
+    let c-cleaned = c .before .before .before .before .cleaned in
+    refuse (a .self) (view (c-cleaned .result)) (fork (a .s) (a .c)) (new (subject (a .c))) (c-cleaned .ensures) (inr (inl refl))
+    (sym (c .before .subject-taken .ensures) ∙ c .if2 .taken)
+    (sym (c .before .before .before .lacks-subject .ensures) ∙ c .before .before .if1 .left, (tt, tt))
 
 subject-level-requires : tie.Need-subject-level-requires
 subject-level-requires c κs = search needs
@@ -39,7 +48,23 @@ row-copied-requires : tie.Need-row-copied-requires
 row-copied-requires c κs = search needs
 
 returns-3 : tie.Need-returns-3
-returns-3 c = Y.forked (c .before .before .before .before .before .before .before .before .args .self) (c .before .before .before .before .before .before .before .cleaned .result) (c .before .before .before .before .before .before .before .cleaned .ensures) (c .before .before .before .before .before .before .before .before .args .s) (c .before .before .before .before .before .before .before .before .args .c) (c .before .before .subject-level .result) (c .row-copied .result) (cleaned-wf (c .before .before .before .before .before .before .before .before .args .self) (view (c .before .before .before .before .before .before .before .cleaned .result)) (O.subjects-long (c .before .before .before .before .before .before .before .before .args .self) (c .before .before .before .before .before .before .before .before .good .0)) (O.objects-long (c .before .before .before .before .before .before .before .before .args .self) (c .before .before .before .before .before .before .before .before .good .0)) (c .before .before .before .before .before .before .before .cleaned .ensures)) (sym (c .before .before .before .before .before .before .lacks-subject .ensures) ∙ c .before .before .before .before .before .if1 .left) (sym (c .before .before .before .before .subject-taken .ensures) ∙ c .before .before .before .if2 .left) (c .before .before .subject-level .ensures) (c .row-copied .ensures (in-row (view (c .before .before .before .before .before .before .before .cleaned .result)) (c .before .before .before .before .before .before .before .before .args .s) (sym (c .before .before .before .before .before .before .lacks-subject .ensures) ∙ c .before .before .before .before .before .if1 .left)) (new-row (view (c .before .before .before .before .before .before .before .cleaned .result)) (c .before .before .before .before .before .before .before .before .args .c) (sym (c .before .before .before .before .subject-taken .ensures) ∙ c .before .before .before .if2 .left)) ∙ ap (λ u. with-hand u (row (u .hand) (c .before .before .before .before .before .before .before .before .args .c) (u .hand (c .before .before .before .before .before .before .before .before .args .s)))) (c .before .with-subject .ensures (new-row (view (c .before .before .before .before .before .before .before .cleaned .result)) (c .before .before .before .before .before .before .before .before .args .c) (sym (c .before .before .before .before .subject-taken .ensures) ∙ c .before .before .before .if2 .left))))
+returns-3 c =
+    let a = c .before .before .before .before .before .before .before .before .args in
+    let good = c .before .before .before .before .before .before .before .before .good in
+    let c-cleaned = c .before .before .before .before .before .before .before .cleaned in
+    let c-lacks-subject = c .before .before .before .before .before .before .lacks-subject in
+    let c-if1 = c .before .before .before .before .before .if1 in
+    let c-subject-taken = c .before .before .before .before .subject-taken in
+    let c-if2 = c .before .before .before .if2 in
+    let c-subject-level = c .before .before .subject-level in
+    let t = view (c-cleaned .result) in
+    let passed-lacks-subject = sym (c-lacks-subject .ensures) ∙ c-if1 .left in
+    let passed-subject-taken = sym (c-subject-taken .ensures) ∙ c-if2 .left in
+    Y.forked (a .self) (c-cleaned .result) (c-cleaned .ensures) (a .s) (a .c) (c-subject-level .result) (c .row-copied .result)
+    (cleaned-wf (a .self) t (O.subjects-long (a .self) (good .0)) (O.objects-long (a .self) (good .0)) (c-cleaned .ensures)) passed-lacks-subject
+    passed-subject-taken (c-subject-level .ensures)
+    (c .row-copied .ensures (in-row t (a .s) passed-lacks-subject) (new-row t (a .c) passed-subject-taken) ∙ ap
+    (λ u. with-hand u (row (u .hand) (a .c) (u .hand (a .s)))) (c .before .with-subject .ensures (new-row t (a .c) passed-subject-taken)))
 
 pub fork-spec : {M : Type 1} → statement M
 fork-spec =

@@ -28,7 +28,12 @@ cleaned-requires : tie.Need-cleaned-requires Inv-loop μ-loop
 cleaned-requires c κs = search needs
 
 returns : tie.Need-returns Inv-loop μ-loop
-returns c = held-none (clean (view (c .before .before .args .self))) (cleaned-wf (c .before .before .args .self) (clean (view (c .before .before .args .self))) (O.subjects-long (c .before .before .args .self) (c .before .before .good .0)) (O.objects-long (c .before .before .args .self) (c .before .before .good .0)) refl) (c .before .before .args .s) (omega (arith, c .if1 .taken))
+returns c =
+    let a = c .before .before .args in
+    let good = c .before .before .good in
+    held-none (clean (view (a .self)))
+    (cleaned-wf (a .self) (clean (view (a .self))) (O.subjects-long (a .self) (good .0)) (O.objects-long (a .self) (good .0)) refl) (a .s)
+    (omega (arith, c .if1 .taken))
 
 mul-base : tie.Need-mul-base Inv-loop μ-loop
 mul-base c = search needs
@@ -49,7 +54,16 @@ count-requires : tie.Need-count-requires Inv-loop μ-loop
 count-requires c κs = search needs
 
 add-n : tie.Need-add-n Inv-loop μ-loop
-add-n c = omega (arith, c .count .ensures, one-short (held (getD (c .before .before .before .before .before .cleaned .result .handles) (c .before .before .before .before .before .before .args .s * 16 + c .before .before .before .loop .p) no-handle)), c .before .before .before .loop .inv .0, c .before .before .before .loop .inv .3)
+add-n c =
+    let c-loop = c .before .before .before .loop in
+    omega (
+      arith,
+      c .count .ensures,
+      one-short
+          (held (getD (c .before .before .before .before .before .cleaned .result .handles) (c .before .before .before .before .before .before .args .s * 16 + c-loop .p) no-handle)),
+      c-loop .inv .0,
+      c-loop .inv .3,
+    )
 
 add-p : tie.Need-add-p Inv-loop μ-loop
 add-p c = search needs

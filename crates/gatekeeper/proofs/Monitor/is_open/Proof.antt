@@ -32,7 +32,12 @@ is-on-requires : tie.Need-is-on-requires Inv-loop μ-loop
 is-on-requires c κs = search needs
 
 returns : tie.Need-returns Inv-loop μ-loop
-returns c = sym (some-at 512 (λ i. on (getD (c .before .before .before .before .before .args .t1 .handles) i no-handle) (c .before .before .before .before .before .args .o)) (c .before .before .before .before .loop .i) (omega arith) (sym (c .before .is-on .ensures) ∙ c .if1 .taken)) ∙ open-is (c .before .before .before .before .before .args .t1) (c .before .before .before .before .before .args .o) (O.handles-long (c .before .before .before .before .before .args .t1) (c .before .before .before .before .before .good .0))
+returns c =
+    let a = c .before .before .before .before .before .args in
+    sym
+    (some-at 512 (λ i. on (getD (a .t1 .handles) i no-handle) (a .o)) (c .before .before .before .before .loop .i) (omega arith)
+    (sym (c .before .is-on .ensures) ∙ c .if1 .taken))
+    ∙ open-is (a .t1) (a .o) (O.handles-long (a .t1) (c .before .before .before .before .before .good .0))
 
 add-i : tie.Need-add-i Inv-loop μ-loop
 add-i c = search needs
@@ -44,7 +49,10 @@ loop-again : tie.Need-loop-again Inv-loop μ-loop
 loop-again c = (omega arith, below-more _ _ (c .before .before .before .before .loop .inv .1) (sym (c .before .is-on .ensures) ∙ c .if1 .left))
 
 returns-2 : tie.Need-returns-2 Inv-loop μ-loop
-returns-2 c = sym (none-below 512 (λ i. on (getD (c .before .before .args .t1 .handles) i no-handle) (c .before .before .args .o)) (λ j h. c .before .loop .inv .1 j (omega arith))) ∙ open-is (c .before .before .args .t1) (c .before .before .args .o) (O.handles-long (c .before .before .args .t1) (c .before .before .good .0))
+returns-2 c =
+    let a = c .before .before .args in
+    sym (none-below 512 (λ i. on (getD (a .t1 .handles) i no-handle) (a .o)) (λ j h. c .before .loop .inv .1 j (omega arith))) ∙ open-is (a .t1)
+    (a .o) (O.handles-long (a .t1) (c .before .before .good .0))
 
 pub is-open-spec : {M : Type 1} → statement M
 is-open-spec =

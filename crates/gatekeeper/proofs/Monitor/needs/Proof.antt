@@ -18,7 +18,11 @@ least-requires : tie.Need-least-requires
 least-requires c κs = search needs
 
 returns : tie.Need-returns
-returns c = needed (c .before .before .before .before .args .self) (c .before .before .before .before .pre) (O.objects-long (c .before .before .before .before .args .self) (c .before .before .before .before .good .0)) _ _ _ _ (search needs) (c .before .marks .ensures) (c .before .before .before .sources .ensures) (c .before .before .targets .ensures) (c .least .ensures)
+returns c =
+    let a = c .before .before .before .before .args in
+    needed (a .self) (c .before .before .before .before .pre) (O.objects-long (a .self) (c .before .before .before .before .good .0)) _ _ _ _
+    (search needs) (c .before .marks .ensures) (c .before .before .before .sources .ensures) (c .before .before .targets .ensures)
+    (c .least .ensures)
 
 pub needs-spec : {M : Type 1} → statement M
 needs-spec =

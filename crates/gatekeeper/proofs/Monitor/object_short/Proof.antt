@@ -37,7 +37,11 @@ is-low-object-requires : tie.Need-is-low-object-requires Inv-loop μ-loop
 is-low-object-requires c κs = search needs
 
 returns : tie.Need-returns Inv-loop μ-loop
-returns c = sym (some-at 64 (λ i. short-object (getD (c .before .before .before .before .before .args .t1 .objects) i no-object) (getD (c .before .before .before .before .before .args .t2) (i + 32) 0)) (c .before .before .before .before .loop .i) (omega arith) (sym (c .before .is-low-object .ensures) ∙ c .if1 .taken))
+returns c =
+    let a = c .before .before .before .before .before .args in
+    sym
+    (some-at 64 (λ i. short-object (getD (a .t1 .objects) i no-object) (getD (a .t2) (i + 32) 0)) (c .before .before .before .before .loop .i)
+    (omega arith) (sym (c .before .is-low-object .ensures) ∙ c .if1 .taken))
 
 add-i : tie.Need-add-i Inv-loop μ-loop
 add-i c = search needs

@@ -23,19 +23,35 @@ lacks-subject-requires : tie.Need-lacks-subject-requires
 lacks-subject-requires c κs = search needs
 
 returns : tie.Need-returns
-returns c = refuse (c .before .before .before .args .self) (view (c .before .before .cleaned .result)) (opens (direction (c .before .before .before .args .reads)) (c .before .before .before .args .s) (c .before .before .before .args .o) (c .before .before .before .args .p)) (alive (c .before .before .before .args .s)) (c .before .before .cleaned .ensures) (inl refl) (sym (c .before .lacks-subject .ensures) ∙ c .if1 .taken) (tt, (tt, (tt, (tt, tt))))
+returns c =
+    let a = c .before .before .before .args in
+    let c-cleaned = c .before .before .cleaned in
+    refuse (a .self) (view (c-cleaned .result)) (opens (direction (a .reads)) (a .s) (a .o) (a .p)) (alive (a .s)) (c-cleaned .ensures) (inl refl)
+    (sym (c .before .lacks-subject .ensures) ∙ c .if1 .taken) (tt, (tt, (tt, (tt, tt))))
 
 lacks-object-requires : tie.Need-lacks-object-requires
 lacks-object-requires c κs = search needs
 
 returns-2 : tie.Need-returns-2
-returns-2 c = refuse (c .before .before .before .before .before .args .self) (view (c .before .before .before .before .cleaned .result)) (opens (direction (c .before .before .before .before .before .args .reads)) (c .before .before .before .before .before .args .s) (c .before .before .before .before .before .args .o) (c .before .before .before .before .before .args .p)) (present (c .before .before .before .before .before .args .o)) (c .before .before .before .before .cleaned .ensures) (inr (inl refl)) (sym (c .before .lacks-object .ensures) ∙ c .if2 .taken) (sym (c .before .before .before .lacks-subject .ensures) ∙ c .before .before .if1 .left, (tt, (tt, (tt, tt))))
+returns-2 c =
+    let a = c .before .before .before .before .before .args in
+    let c-cleaned = c .before .before .before .before .cleaned in
+    refuse (a .self) (view (c-cleaned .result)) (opens (direction (a .reads)) (a .s) (a .o) (a .p)) (present (a .o)) (c-cleaned .ensures)
+    (inr (inl refl)) (sym (c .before .lacks-object .ensures) ∙ c .if2 .taken)
+    (sym (c .before .before .before .lacks-subject .ensures) ∙ c .before .before .if1 .left, (tt, (tt, (tt, tt))))
 
 place-taken-requires : tie.Need-place-taken-requires
 place-taken-requires c κs = search needs
 
 returns-3 : tie.Need-returns-3
-returns-3 c = refuse (c .before .before .before .before .before .before .before .args .self) (view (c .before .before .before .before .before .before .cleaned .result)) (opens (direction (c .before .before .before .before .before .before .before .args .reads)) (c .before .before .before .before .before .before .before .args .s) (c .before .before .before .before .before .before .before .args .o) (c .before .before .before .before .before .before .before .args .p)) (vacant (c .before .before .before .before .before .before .before .args .s) (c .before .before .before .before .before .before .before .args .p)) (c .before .before .before .before .before .before .cleaned .ensures) (inr (inr (inl refl))) (sym (c .before .place-taken .ensures) ∙ c .if3 .taken) (sym (c .before .before .before .before .before .lacks-subject .ensures) ∙ c .before .before .before .before .if1 .left, (sym (c .before .before .before .lacks-object .ensures) ∙ c .before .before .if2 .left, (tt, (tt, tt))))
+returns-3 c =
+    let a = c .before .before .before .before .before .before .before .args in
+    let c-cleaned = c .before .before .before .before .before .before .cleaned in
+    refuse (a .self) (view (c-cleaned .result)) (opens (direction (a .reads)) (a .s) (a .o) (a .p)) (vacant (a .s) (a .p)) (c-cleaned .ensures)
+    (inr (inr (inl refl))) (sym (c .before .place-taken .ensures) ∙ c .if3 .taken) (
+      sym (c .before .before .before .before .before .lacks-subject .ensures) ∙ c .before .before .before .before .if1 .left,
+      (sym (c .before .before .before .lacks-object .ensures) ∙ c .before .before .if2 .left, (tt, (tt, tt))),
+    )
 
 cast-n : tie.Need-cast-n
 cast-n c = search needs
@@ -47,16 +63,86 @@ with-handle-requires : tie.Need-with-handle-requires
 with-handle-requires c κs = search needs
 
 is-short-requires : tie.Need-is-short-requires
-is-short-requires c κs = open-wf (view (c .before .before .before .before .before .before .before .before .cleaned .result)) (view (c .with-handle .result)) (direction (c .before .before .before .before .before .before .before .before .before .args .reads)) (c .before .before .before .before .before .before .before .before .before .args .s) (c .before .before .before .before .before .before .before .before .before .args .o) (c .before .before .before .before .before .before .before .before .before .args .p) (cleaned-wf (c .before .before .before .before .before .before .before .before .before .args .self) (view (c .before .before .before .before .before .before .before .before .cleaned .result)) (O.subjects-long (c .before .before .before .before .before .before .before .before .before .args .self) (c .before .before .before .before .before .before .before .before .before .good .0)) (O.objects-long (c .before .before .before .before .before .before .before .before .before .args .self) (c .before .before .before .before .before .before .before .before .before .good .0)) (c .before .before .before .before .before .before .before .before .cleaned .ensures)) (sym (c .before .before .before .before .before .before .before .lacks-subject .ensures) ∙ c .before .before .before .before .before .before .if1 .left) (sym (c .before .before .before .before .before .lacks-object .ensures) ∙ c .before .before .before .before .if2 .left) (sym (c .before .before .before .place-taken .ensures) ∙ c .before .before .if3 .left) (c .with-handle .ensures (in-row (view (c .before .before .before .before .before .before .before .before .cleaned .result)) (c .before .before .before .before .before .before .before .before .before .args .s) (sym (c .before .before .before .before .before .before .before .lacks-subject .ensures) ∙ c .before .before .before .before .before .before .if1 .left)) (vacant-column (view (c .before .before .before .before .before .before .before .before .cleaned .result)) (c .before .before .before .before .before .before .before .before .before .args .s) (c .before .before .before .before .before .before .before .before .before .args .p) (sym (c .before .before .before .place-taken .ensures) ∙ c .before .before .if3 .left)) ∙ ap (λ v. with-hand (view (c .before .before .before .before .before .before .before .before .cleaned .result)) (place ((view (c .before .before .before .before .before .before .before .before .cleaned .result)) .hand) (c .before .before .before .before .before .before .before .before .before .args .s) (c .before .before .before .before .before .before .before .before .before .args .p) v)) (c .before .handle-on .ensures ∙ ap (λ (z : ℕ). some (handle (direction (c .before .before .before .before .before .before .before .before .before .args .reads)) z)) (Y.same-number (c .before .before .before .before .before .before .before .before .before .args .o) (in-column (view (c .before .before .before .before .before .before .before .before .cleaned .result)) (c .before .before .before .before .before .before .before .before .before .args .o) (sym (c .before .before .before .before .before .lacks-object .ensures) ∙ c .before .before .before .before .if2 .left)))))
+is-short-requires c κs =
+    let a = c .before .before .before .before .before .before .before .before .before .args in
+    let good = c .before .before .before .before .before .before .before .before .before .good in
+    let c-cleaned = c .before .before .before .before .before .before .before .before .cleaned in
+    let c-lacks-subject = c .before .before .before .before .before .before .before .lacks-subject in
+    let c-if1 = c .before .before .before .before .before .before .if1 in
+    let c-lacks-object = c .before .before .before .before .before .lacks-object in
+    let c-if2 = c .before .before .before .before .if2 in
+    let c-place-taken = c .before .before .before .place-taken in
+    let c-if3 = c .before .before .if3 in
+    let t = view (c-cleaned .result) in
+    let passed-lacks-subject = sym (c-lacks-subject .ensures) ∙ c-if1 .left in
+    let passed-lacks-object = sym (c-lacks-object .ensures) ∙ c-if2 .left in
+    let passed-place-taken = sym (c-place-taken .ensures) ∙ c-if3 .left in
+    open-wf t (view (c .with-handle .result)) (direction (a .reads)) (a .s) (a .o) (a .p)
+    (cleaned-wf (a .self) t (O.subjects-long (a .self) (good .0)) (O.objects-long (a .self) (good .0)) (c-cleaned .ensures)) passed-lacks-subject
+    passed-lacks-object passed-place-taken
+    (c .with-handle .ensures (in-row t (a .s) passed-lacks-subject) (vacant-column t (a .s) (a .p) passed-place-taken) ∙ ap
+    (λ v. with-hand t (place (t .hand) (a .s) (a .p) v))
+    (c .before .handle-on .ensures ∙ ap (λ (z : ℕ). some (handle (direction (a .reads)) z))
+    (Y.same-number (a .o) (in-column t (a .o) passed-lacks-object))))
 
 returns-4 : tie.Need-returns-4
-returns-4 c = refuse (c .before .before .before .before .before .before .before .before .before .before .before .args .self) (view (c .before .before .before .before .before .before .before .before .before .before .cleaned .result)) (opens (direction (c .before .before .before .before .before .before .before .before .before .before .before .args .reads)) (c .before .before .before .before .before .before .before .before .before .before .before .args .s) (c .before .before .before .before .before .before .before .before .before .before .before .args .o) (c .before .before .before .before .before .before .before .before .before .before .before .args .p)) (enough (opens (direction (c .before .before .before .before .before .before .before .before .before .before .before .args .reads)) (c .before .before .before .before .before .before .before .before .before .before .before .args .s) (c .before .before .before .before .before .before .before .before .before .before .before .args .o) (c .before .before .before .before .before .before .before .before .before .before .before .args .p))) (c .before .before .before .before .before .before .before .before .before .before .cleaned .ensures) (inr (inr (inr (inl refl)))) (ap (λ u. not (safe u)) (sym (c .before .before .with-handle .ensures (in-row (view (c .before .before .before .before .before .before .before .before .before .before .cleaned .result)) (c .before .before .before .before .before .before .before .before .before .before .before .args .s) (sym (c .before .before .before .before .before .before .before .before .before .lacks-subject .ensures) ∙ c .before .before .before .before .before .before .before .before .if1 .left)) (vacant-column (view (c .before .before .before .before .before .before .before .before .before .before .cleaned .result)) (c .before .before .before .before .before .before .before .before .before .before .before .args .s) (c .before .before .before .before .before .before .before .before .before .before .before .args .p) (sym (c .before .before .before .before .before .place-taken .ensures) ∙ c .before .before .before .before .if3 .left)) ∙ ap (λ v. with-hand (view (c .before .before .before .before .before .before .before .before .before .before .cleaned .result)) (place ((view (c .before .before .before .before .before .before .before .before .before .before .cleaned .result)) .hand) (c .before .before .before .before .before .before .before .before .before .before .before .args .s) (c .before .before .before .before .before .before .before .before .before .before .before .args .p) v)) (c .before .before .before .handle-on .ensures ∙ ap (λ (z : ℕ). some (handle (direction (c .before .before .before .before .before .before .before .before .before .before .before .args .reads)) z)) (Y.same-number (c .before .before .before .before .before .before .before .before .before .before .before .args .o) (in-column (view (c .before .before .before .before .before .before .before .before .before .before .cleaned .result)) (c .before .before .before .before .before .before .before .before .before .before .before .args .o) (sym (c .before .before .before .before .before .before .before .lacks-object .ensures) ∙ c .before .before .before .before .before .before .if2 .left)))))) ∙ sym (c .before .is-short .ensures) ∙ c .if4 .taken) (sym (c .before .before .before .before .before .before .before .before .before .lacks-subject .ensures) ∙ c .before .before .before .before .before .before .before .before .if1 .left, (sym (c .before .before .before .before .before .before .before .lacks-object .ensures) ∙ c .before .before .before .before .before .before .if2 .left, (sym (c .before .before .before .before .before .place-taken .ensures) ∙ c .before .before .before .before .if3 .left, (tt, tt))))
+returns-4 c =
+    let a = c .before .before .before .before .before .before .before .before .before .before .before .args in
+    let c-cleaned = c .before .before .before .before .before .before .before .before .before .before .cleaned in
+    let c-lacks-subject = c .before .before .before .before .before .before .before .before .before .lacks-subject in
+    let c-if1 = c .before .before .before .before .before .before .before .before .if1 in
+    let c-lacks-object = c .before .before .before .before .before .before .before .lacks-object in
+    let c-if2 = c .before .before .before .before .before .before .if2 in
+    let c-place-taken = c .before .before .before .before .before .place-taken in
+    let c-if3 = c .before .before .before .before .if3 in
+    let t = view (c-cleaned .result) in
+    let passed-lacks-subject = sym (c-lacks-subject .ensures) ∙ c-if1 .left in
+    let passed-place-taken = sym (c-place-taken .ensures) ∙ c-if3 .left in
+    let passed-lacks-object = sym (c-lacks-object .ensures) ∙ c-if2 .left in
+    refuse (a .self) t (opens (direction (a .reads)) (a .s) (a .o) (a .p)) (enough (opens (direction (a .reads)) (a .s) (a .o) (a .p)))
+    (c-cleaned .ensures) (inr (inr (inr (inl refl))))
+    (ap (λ u. not (safe u))
+    (sym
+    (c .before .before .with-handle .ensures (in-row t (a .s) passed-lacks-subject) (vacant-column t (a .s) (a .p) passed-place-taken) ∙ ap
+    (λ v. with-hand t (place (t .hand) (a .s) (a .p) v))
+    (c .before .before .before .handle-on .ensures ∙ ap (λ (z : ℕ). some (handle (direction (a .reads)) z))
+    (Y.same-number (a .o) (in-column t (a .o) passed-lacks-object)))))
+    ∙ sym (c .before .is-short .ensures) ∙ c .if4 .taken)
+    (passed-lacks-subject, (passed-lacks-object, (passed-place-taken, (tt, tt))))
 
 object-level-requires : tie.Need-object-level-requires
 object-level-requires c κs = search needs
 
 returns-5 : tie.Need-returns-5
-returns-5 c = Y.opened (c .before .before .before .before .before .before .before .before .before .before .before .before .args .self) (c .before .before .before .before .before .before .before .before .before .before .before .cleaned .result) (c .before .before .before .before .before .before .before .before .before .before .before .cleaned .ensures) (direction (c .before .before .before .before .before .before .before .before .before .before .before .before .args .reads)) (c .before .before .before .before .before .before .before .before .before .before .before .before .args .s) (c .before .before .before .before .before .before .before .before .before .before .before .before .args .o) (c .before .before .before .before .before .before .before .before .before .before .before .before .args .p) (c .object-level .result) (c .before .before .before .with-handle .result) (sym (c .before .before .before .before .before .before .before .before .before .before .lacks-subject .ensures) ∙ c .before .before .before .before .before .before .before .before .before .if1 .left) (sym (c .before .before .before .before .before .before .before .before .lacks-object .ensures) ∙ c .before .before .before .before .before .before .before .if2 .left) (sym (c .before .before .before .before .before .before .place-taken .ensures) ∙ c .before .before .before .before .before .if3 .left) (ap (λ u. not (safe u)) (sym (c .before .before .before .with-handle .ensures (in-row (view (c .before .before .before .before .before .before .before .before .before .before .before .cleaned .result)) (c .before .before .before .before .before .before .before .before .before .before .before .before .args .s) (sym (c .before .before .before .before .before .before .before .before .before .before .lacks-subject .ensures) ∙ c .before .before .before .before .before .before .before .before .before .if1 .left)) (vacant-column (view (c .before .before .before .before .before .before .before .before .before .before .before .cleaned .result)) (c .before .before .before .before .before .before .before .before .before .before .before .before .args .s) (c .before .before .before .before .before .before .before .before .before .before .before .before .args .p) (sym (c .before .before .before .before .before .before .place-taken .ensures) ∙ c .before .before .before .before .before .if3 .left)) ∙ ap (λ v. with-hand (view (c .before .before .before .before .before .before .before .before .before .before .before .cleaned .result)) (place ((view (c .before .before .before .before .before .before .before .before .before .before .before .cleaned .result)) .hand) (c .before .before .before .before .before .before .before .before .before .before .before .before .args .s) (c .before .before .before .before .before .before .before .before .before .before .before .before .args .p) v)) (c .before .before .before .before .handle-on .ensures ∙ ap (λ (z : ℕ). some (handle (direction (c .before .before .before .before .before .before .before .before .before .before .before .before .args .reads)) z)) (Y.same-number (c .before .before .before .before .before .before .before .before .before .before .before .before .args .o) (in-column (view (c .before .before .before .before .before .before .before .before .before .before .before .cleaned .result)) (c .before .before .before .before .before .before .before .before .before .before .before .before .args .o) (sym (c .before .before .before .before .before .before .before .before .lacks-object .ensures) ∙ c .before .before .before .before .before .before .before .if2 .left)))))) ∙ sym (c .before .before .is-short .ensures) ∙ c .before .if4 .left) (c .object-level .ensures) (c .before .before .before .with-handle .ensures (in-row (view (c .before .before .before .before .before .before .before .before .before .before .before .cleaned .result)) (c .before .before .before .before .before .before .before .before .before .before .before .before .args .s) (sym (c .before .before .before .before .before .before .before .before .before .before .lacks-subject .ensures) ∙ c .before .before .before .before .before .before .before .before .before .if1 .left)) (vacant-column (view (c .before .before .before .before .before .before .before .before .before .before .before .cleaned .result)) (c .before .before .before .before .before .before .before .before .before .before .before .before .args .s) (c .before .before .before .before .before .before .before .before .before .before .before .before .args .p) (sym (c .before .before .before .before .before .before .place-taken .ensures) ∙ c .before .before .before .before .before .if3 .left)) ∙ ap (λ v. with-hand (view (c .before .before .before .before .before .before .before .before .before .before .before .cleaned .result)) (place ((view (c .before .before .before .before .before .before .before .before .before .before .before .cleaned .result)) .hand) (c .before .before .before .before .before .before .before .before .before .before .before .before .args .s) (c .before .before .before .before .before .before .before .before .before .before .before .before .args .p) v)) (c .before .before .before .before .handle-on .ensures ∙ ap (λ (z : ℕ). some (handle (direction (c .before .before .before .before .before .before .before .before .before .before .before .before .args .reads)) z)) (Y.same-number (c .before .before .before .before .before .before .before .before .before .before .before .before .args .o) (in-column (view (c .before .before .before .before .before .before .before .before .before .before .before .cleaned .result)) (c .before .before .before .before .before .before .before .before .before .before .before .before .args .o) (sym (c .before .before .before .before .before .before .before .before .lacks-object .ensures) ∙ c .before .before .before .before .before .before .before .if2 .left)))))
+returns-5 c =
+    let a = c .before .before .before .before .before .before .before .before .before .before .before .before .args in
+    let c-cleaned = c .before .before .before .before .before .before .before .before .before .before .before .cleaned in
+    let c-lacks-subject = c .before .before .before .before .before .before .before .before .before .before .lacks-subject in
+    let c-if1 = c .before .before .before .before .before .before .before .before .before .if1 in
+    let c-lacks-object = c .before .before .before .before .before .before .before .before .lacks-object in
+    let c-if2 = c .before .before .before .before .before .before .before .if2 in
+    let c-place-taken = c .before .before .before .before .before .before .place-taken in
+    let c-if3 = c .before .before .before .before .before .if3 in
+    let c-handle-on = c .before .before .before .before .handle-on in
+    let c-with-handle = c .before .before .before .with-handle in
+    let t = view (c-cleaned .result) in
+    let passed-lacks-subject = sym (c-lacks-subject .ensures) ∙ c-if1 .left in
+    let passed-lacks-object = sym (c-lacks-object .ensures) ∙ c-if2 .left in
+    let passed-place-taken = sym (c-place-taken .ensures) ∙ c-if3 .left in
+    Y.opened (a .self) (c-cleaned .result) (c-cleaned .ensures) (direction (a .reads)) (a .s) (a .o) (a .p) (c .object-level .result)
+    (c-with-handle .result) passed-lacks-subject passed-lacks-object passed-place-taken
+    (ap (λ u. not (safe u))
+    (sym
+    (c-with-handle .ensures (in-row t (a .s) passed-lacks-subject) (vacant-column t (a .s) (a .p) passed-place-taken) ∙ ap
+    (λ v. with-hand t (place (t .hand) (a .s) (a .p) v))
+    (c-handle-on .ensures ∙ ap (λ (z : ℕ). some (handle (direction (a .reads)) z))
+    (Y.same-number (a .o) (in-column t (a .o) passed-lacks-object)))))
+    ∙ sym (c .before .before .is-short .ensures) ∙ c .before .if4 .left)
+    (c .object-level .ensures)
+    (c-with-handle .ensures (in-row t (a .s) passed-lacks-subject) (vacant-column t (a .s) (a .p) passed-place-taken) ∙ ap
+    (λ v. with-hand t (place (t .hand) (a .s) (a .p) v))
+    (c-handle-on .ensures ∙ ap (λ (z : ℕ). some (handle (direction (a .reads)) z))
+    (Y.same-number (a .o) (in-column t (a .o) passed-lacks-object))))
 
 pub open-by-spec : {M : Type 1} → statement M
 open-by-spec =

@@ -19,28 +19,65 @@ lacks-subject-requires : tie.Need-lacks-subject-requires
 lacks-subject-requires c κs = search needs
 
 returns : tie.Need-returns
-returns c = refuse (c .before .before .before .args .self) (view (c .before .before .cleaned .result)) (make-pipe (c .before .before .before .args .s) (c .before .before .before .args .o) (c .before .before .before .args .r) (c .before .before .before .args .w)) (alive (c .before .before .before .args .s)) (c .before .before .cleaned .ensures) (inl refl) (sym (c .before .lacks-subject .ensures) ∙ c .if1 .taken) (tt, (tt, (tt, (tt, (tt, tt)))))
+returns c =
+    let a = c .before .before .before .args in
+    let c-cleaned = c .before .before .cleaned in
+    refuse (a .self) (view (c-cleaned .result)) (make-pipe (a .s) (a .o) (a .r) (a .w)) (alive (a .s)) (c-cleaned .ensures) (inl refl)
+    (sym (c .before .lacks-subject .ensures) ∙ c .if1 .taken) (tt, (tt, (tt, (tt, (tt, tt)))))
 
 object-taken-requires : tie.Need-object-taken-requires
 object-taken-requires c κs = search needs
 
 returns-2 : tie.Need-returns-2
-returns-2 c = refuse (c .before .before .before .before .before .args .self) (view (c .before .before .before .before .cleaned .result)) (make-pipe (c .before .before .before .before .before .args .s) (c .before .before .before .before .before .args .o) (c .before .before .before .before .before .args .r) (c .before .before .before .before .before .args .w)) (new (object (c .before .before .before .before .before .args .o))) (c .before .before .before .before .cleaned .ensures) (inr (inl refl)) (sym (c .before .object-taken .ensures) ∙ c .if2 .taken) (sym (c .before .before .before .lacks-subject .ensures) ∙ c .before .before .if1 .left, (tt, (tt, (tt, (tt, tt)))))
+returns-2 c =
+    let a = c .before .before .before .before .before .args in
+    let c-cleaned = c .before .before .before .before .cleaned in
+    refuse (a .self) (view (c-cleaned .result)) (make-pipe (a .s) (a .o) (a .r) (a .w)) (new (object (a .o))) (c-cleaned .ensures) (inr (inl refl))
+    (sym (c .before .object-taken .ensures) ∙ c .if2 .taken)
+    (sym (c .before .before .before .lacks-subject .ensures) ∙ c .before .before .if1 .left, (tt, (tt, (tt, (tt, tt)))))
 
 place-taken-requires : tie.Need-place-taken-requires
 place-taken-requires c κs = search needs
 
 returns-3 : tie.Need-returns-3
-returns-3 c = refuse (c .before .before .before .before .before .before .before .args .self) (view (c .before .before .before .before .before .before .cleaned .result)) (make-pipe (c .before .before .before .before .before .before .before .args .s) (c .before .before .before .before .before .before .before .args .o) (c .before .before .before .before .before .before .before .args .r) (c .before .before .before .before .before .before .before .args .w)) (vacant (c .before .before .before .before .before .before .before .args .s) (c .before .before .before .before .before .before .before .args .r)) (c .before .before .before .before .before .before .cleaned .ensures) (inr (inr (inl refl))) (sym (c .before .place-taken .ensures) ∙ c .if3 .taken) (sym (c .before .before .before .before .before .lacks-subject .ensures) ∙ c .before .before .before .before .if1 .left, (sym (c .before .before .before .object-taken .ensures) ∙ c .before .before .if2 .left, (tt, (tt, (tt, tt)))))
+returns-3 c =
+    let a = c .before .before .before .before .before .before .before .args in
+    let c-cleaned = c .before .before .before .before .before .before .cleaned in
+    refuse (a .self) (view (c-cleaned .result)) (make-pipe (a .s) (a .o) (a .r) (a .w)) (vacant (a .s) (a .r)) (c-cleaned .ensures)
+    (inr (inr (inl refl))) (sym (c .before .place-taken .ensures) ∙ c .if3 .taken) (
+      sym (c .before .before .before .before .before .lacks-subject .ensures) ∙ c .before .before .before .before .if1 .left,
+      (sym (c .before .before .before .object-taken .ensures) ∙ c .before .before .if2 .left, (tt, (tt, (tt, tt)))),
+    )
 
 place-taken-requires-2 : tie.Need-place-taken-requires-2
 place-taken-requires-2 c κs = search needs
 
 returns-4 : tie.Need-returns-4
-returns-4 c = refuse (c .before .before .before .before .before .before .before .before .before .args .self) (view (c .before .before .before .before .before .before .before .before .cleaned .result)) (make-pipe (c .before .before .before .before .before .before .before .before .before .args .s) (c .before .before .before .before .before .before .before .before .before .args .o) (c .before .before .before .before .before .before .before .before .before .args .r) (c .before .before .before .before .before .before .before .before .before .args .w)) (vacant (c .before .before .before .before .before .before .before .before .before .args .s) (c .before .before .before .before .before .before .before .before .before .args .w)) (c .before .before .before .before .before .before .before .before .cleaned .ensures) (inr (inr (inr (inl refl)))) (sym (c .before .place-taken2 .ensures) ∙ c .if4 .taken) (sym (c .before .before .before .before .before .before .before .lacks-subject .ensures) ∙ c .before .before .before .before .before .before .if1 .left, (sym (c .before .before .before .before .before .object-taken .ensures) ∙ c .before .before .before .before .if2 .left, (tt, (tt, (tt, tt)))))
+returns-4 c =
+    let a = c .before .before .before .before .before .before .before .before .before .args in
+    let c-cleaned = c .before .before .before .before .before .before .before .before .cleaned in
+    let c-lacks-subject = c .before .before .before .before .before .before .before .lacks-subject in
+    refuse (a .self) (view (c-cleaned .result)) (make-pipe (a .s) (a .o) (a .r) (a .w)) (vacant (a .s) (a .w)) (c-cleaned .ensures)
+    (inr (inr (inr (inl refl)))) (sym (c .before .place-taken2 .ensures) ∙ c .if4 .taken) (
+      sym (c-lacks-subject .ensures) ∙ c .before .before .before .before .before .before .if1 .left,
+      (
+        sym (c .before .before .before .before .before .object-taken .ensures) ∙ c .before .before .before .before .if2 .left,
+        (tt, (tt, (tt, tt))),
+      ),
+    )
 
 returns-5 : tie.Need-returns-5
-returns-5 c = refuse (c .before .before .before .before .before .before .before .before .before .before .args .self) (view (c .before .before .before .before .before .before .before .before .before .cleaned .result)) (make-pipe (c .before .before .before .before .before .before .before .before .before .before .args .s) (c .before .before .before .before .before .before .before .before .before .before .args .o) (c .before .before .before .before .before .before .before .before .before .before .args .r) (c .before .before .before .before .before .before .before .before .before .before .args .w)) (apart (c .before .before .before .before .before .before .before .before .before .before .args .r) (c .before .before .before .before .before .before .before .before .before .before .args .w)) (c .before .before .before .before .before .before .before .before .before .cleaned .ensures) (inr (inr (inr (inr (inl refl))))) (eq-eqb (c .before .before .before .before .before .before .before .before .before .before .args .r) (c .before .before .before .before .before .before .before .before .before .before .args .w) (c .if5 .taken)) (sym (c .before .before .before .before .before .before .before .before .lacks-subject .ensures) ∙ c .before .before .before .before .before .before .before .if1 .left, (sym (c .before .before .before .before .before .before .object-taken .ensures) ∙ c .before .before .before .before .before .if2 .left, (tt, (tt, (tt, tt)))))
+returns-5 c =
+    let a = c .before .before .before .before .before .before .before .before .before .before .args in
+    let c-cleaned = c .before .before .before .before .before .before .before .before .before .cleaned in
+    let c-lacks-subject = c .before .before .before .before .before .before .before .before .lacks-subject in
+    let c-if1 = c .before .before .before .before .before .before .before .if1 in
+    let c-object-taken = c .before .before .before .before .before .before .object-taken in
+    refuse (a .self) (view (c-cleaned .result)) (make-pipe (a .s) (a .o) (a .r) (a .w)) (apart (a .r) (a .w)) (c-cleaned .ensures)
+    (inr (inr (inr (inr (inl refl))))) (eq-eqb (a .r) (a .w) (c .if5 .taken)) (
+      sym (c-lacks-subject .ensures) ∙ c-if1 .left,
+      (sym (c-object-taken .ensures) ∙ c .before .before .before .before .before .if2 .left, (tt, (tt, (tt, tt)))),
+    )
 
 subject-level-requires : tie.Need-subject-level-requires
 subject-level-requires c κs = search needs
@@ -58,7 +95,33 @@ with-handle-requires-2 : tie.Need-with-handle-requires-2
 with-handle-requires-2 c κs = search needs
 
 returns-6 : tie.Need-returns-6
-returns-6 c = Y.piped (c .before .before .before .before .before .before .before .before .before .before .before .before .before .before .args .self) (c .before .before .before .before .before .before .before .before .before .before .before .before .before .cleaned .result) (c .before .before .before .before .before .before .before .before .before .before .before .before .before .cleaned .ensures) (c .before .before .before .before .before .before .before .before .before .before .before .before .before .before .args .s) (c .before .before .before .before .before .before .before .before .before .before .before .before .before .before .args .o) (c .before .before .before .before .before .before .before .before .before .before .before .before .before .before .args .r) (c .before .before .before .before .before .before .before .before .before .before .before .before .before .before .args .w) (c .before .before .before .subject-level .result) (c .with-handle2 .result) (sym (c .before .before .before .before .before .before .before .before .before .before .before .before .lacks-subject .ensures) ∙ c .before .before .before .before .before .before .before .before .before .before .before .if1 .left) (sym (c .before .before .before .before .before .before .before .before .before .before .object-taken .ensures) ∙ c .before .before .before .before .before .before .before .before .before .if2 .left) (sym (c .before .before .before .before .before .before .before .before .place-taken .ensures) ∙ c .before .before .before .before .before .before .before .if3 .left) (sym (c .before .before .before .before .before .before .place-taken2 .ensures) ∙ c .before .before .before .before .before .if4 .left) (ne-eqb (c .before .before .before .before .before .before .before .before .before .before .before .before .before .before .args .r) (c .before .before .before .before .before .before .before .before .before .before .before .before .before .before .args .w) (c .before .before .before .before .if5 .left)) (c .before .before .before .subject-level .ensures) (Y.piped-view (view (c .before .before .before .before .before .before .before .before .before .before .before .before .before .cleaned .result)) (view (c .before .before .with-object .result)) (view (c .before .with-handle .result)) (view (c .with-handle2 .result)) (c .before .before .before .before .before .before .before .before .before .before .before .before .before .before .args .s) (c .before .before .before .before .before .before .before .before .before .before .before .before .before .before .args .o) (c .before .before .before .before .before .before .before .before .before .before .before .before .before .before .args .r) (c .before .before .before .before .before .before .before .before .before .before .before .before .before .before .args .w) (c .before .before .before .subject-level .result) (new-column (view (c .before .before .before .before .before .before .before .before .before .before .before .before .before .cleaned .result)) (c .before .before .before .before .before .before .before .before .before .before .before .before .before .before .args .o) (sym (c .before .before .before .before .before .before .before .before .before .before .object-taken .ensures) ∙ c .before .before .before .before .before .before .before .before .before .if2 .left)) (c .before .before .with-object .ensures (new-column (view (c .before .before .before .before .before .before .before .before .before .before .before .before .before .cleaned .result)) (c .before .before .before .before .before .before .before .before .before .before .before .before .before .before .args .o) (sym (c .before .before .before .before .before .before .before .before .before .before .object-taken .ensures) ∙ c .before .before .before .before .before .before .before .before .before .if2 .left))) (c .before .with-handle .ensures (in-row (view (c .before .before .before .before .before .before .before .before .before .before .before .before .before .cleaned .result)) (c .before .before .before .before .before .before .before .before .before .before .before .before .before .before .args .s) (sym (c .before .before .before .before .before .before .before .before .before .before .before .before .lacks-subject .ensures) ∙ c .before .before .before .before .before .before .before .before .before .before .before .if1 .left)) (vacant-column (view (c .before .before .before .before .before .before .before .before .before .before .before .before .before .cleaned .result)) (c .before .before .before .before .before .before .before .before .before .before .before .before .before .before .args .s) (c .before .before .before .before .before .before .before .before .before .before .before .before .before .before .args .r) (sym (c .before .before .before .before .before .before .before .before .place-taken .ensures) ∙ c .before .before .before .before .before .before .before .if3 .left))) (c .with-handle2 .ensures (in-row (view (c .before .before .before .before .before .before .before .before .before .before .before .before .before .cleaned .result)) (c .before .before .before .before .before .before .before .before .before .before .before .before .before .before .args .s) (sym (c .before .before .before .before .before .before .before .before .before .before .before .before .lacks-subject .ensures) ∙ c .before .before .before .before .before .before .before .before .before .before .before .if1 .left)) (vacant-column (view (c .before .before .before .before .before .before .before .before .before .before .before .before .before .cleaned .result)) (c .before .before .before .before .before .before .before .before .before .before .before .before .before .before .args .s) (c .before .before .before .before .before .before .before .before .before .before .before .before .before .before .args .w) (sym (c .before .before .before .before .before .before .place-taken2 .ensures) ∙ c .before .before .before .before .before .if4 .left))))
+returns-6 c =
+    let a = c .before .before .before .before .before .before .before .before .before .before .before .before .before .before .args in
+    let c-cleaned = c .before .before .before .before .before .before .before .before .before .before .before .before .before .cleaned in
+    let c-lacks-subject = c .before .before .before .before .before .before .before .before .before .before .before .before .lacks-subject in
+    let c-if1 = c .before .before .before .before .before .before .before .before .before .before .before .if1 in
+    let c-object-taken = c .before .before .before .before .before .before .before .before .before .before .object-taken in
+    let c-if2 = c .before .before .before .before .before .before .before .before .before .if2 in
+    let c-place-taken = c .before .before .before .before .before .before .before .before .place-taken in
+    let c-if3 = c .before .before .before .before .before .before .before .if3 in
+    let c-place-taken2 = c .before .before .before .before .before .before .place-taken2 in
+    let c-if4 = c .before .before .before .before .before .if4 in
+    let c-subject-level = c .before .before .before .subject-level in
+    let c-with-object = c .before .before .with-object in
+    let c-with-handle = c .before .with-handle in
+    let c-with-handle2 = c .with-handle2 in
+    let t = view (c-cleaned .result) in
+    let passed-lacks-subject = sym (c-lacks-subject .ensures) ∙ c-if1 .left in
+    let passed-object-taken = sym (c-object-taken .ensures) ∙ c-if2 .left in
+    let passed-place-taken = sym (c-place-taken .ensures) ∙ c-if3 .left in
+    let passed-place-taken2 = sym (c-place-taken2 .ensures) ∙ c-if4 .left in
+    Y.piped (a .self) (c-cleaned .result) (c-cleaned .ensures) (a .s) (a .o) (a .r) (a .w) (c-subject-level .result) (c-with-handle2 .result)
+    passed-lacks-subject passed-object-taken passed-place-taken passed-place-taken2
+    (ne-eqb (a .r) (a .w) (c .before .before .before .before .if5 .left)) (c-subject-level .ensures)
+    (Y.piped-view t (view (c-with-object .result)) (view (c-with-handle .result)) (view (c-with-handle2 .result)) (a .s) (a .o) (a .r) (a .w)
+    (c-subject-level .result) (new-column t (a .o) passed-object-taken) (c-with-object .ensures (new-column t (a .o) passed-object-taken))
+    (c-with-handle .ensures (in-row t (a .s) passed-lacks-subject) (vacant-column t (a .s) (a .r) passed-place-taken))
+    (c-with-handle2 .ensures (in-row t (a .s) passed-lacks-subject) (vacant-column t (a .s) (a .w) passed-place-taken2)))
 
 pub pipe-spec : {M : Type 1} → statement M
 pipe-spec =

@@ -16,7 +16,10 @@ is-empty-requires : tie.Need-is-empty-requires
 is-empty-requires c κs = search needs
 
 returns-2 : tie.Need-returns-2
-returns-2 c = c .is-empty .ensures ∙ W.taken-is (view (c .before .before .before .args .self)) (c .before .before .before .args .s) (c .before .before .before .args .p) (c .before .handle-at .result) (c .before .handle-at .ensures) (c .before .before .if1 .left)
+returns-2 c =
+    let a = c .before .before .before .args in
+    let c-handle-at = c .before .handle-at in
+    c .is-empty .ensures ∙ W.taken-is (view (a .self)) (a .s) (a .p) (c-handle-at .result) (c-handle-at .ensures) (c .before .before .if1 .left)
 
 pub place-empty-spec : {M : Type 1} → statement M
 place-empty-spec = tie.close (tie.spec returns handle-at-requires is-empty-requires returns-2)

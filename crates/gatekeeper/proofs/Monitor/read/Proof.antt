@@ -20,19 +20,35 @@ lacks-subject-requires : tie.Need-lacks-subject-requires
 lacks-subject-requires c κs = search needs
 
 returns : tie.Need-returns
-returns c = refuse (c .before .before .before .args .self) (view (c .before .before .cleaned .result)) (access reading (c .before .before .before .args .s) (c .before .before .before .args .p)) (alive (c .before .before .before .args .s)) (c .before .before .cleaned .ensures) (inl refl) (sym (c .before .lacks-subject .ensures) ∙ c .if1 .taken) (tt, (tt, (tt, tt)))
+returns c =
+    let a = c .before .before .before .args in
+    let c-cleaned = c .before .before .cleaned in
+    refuse (a .self) (view (c-cleaned .result)) (access reading (a .s) (a .p)) (alive (a .s)) (c-cleaned .ensures) (inl refl)
+    (sym (c .before .lacks-subject .ensures) ∙ c .if1 .taken) (tt, (tt, (tt, tt)))
 
 place-empty-requires : tie.Need-place-empty-requires
 place-empty-requires c κs = search needs
 
 returns-2 : tie.Need-returns-2
-returns-2 c = refuse (c .before .before .before .before .before .args .self) (view (c .before .before .before .before .cleaned .result)) (access reading (c .before .before .before .before .before .args .s) (c .before .before .before .before .before .args .p)) (taken (c .before .before .before .before .before .args .s) (c .before .before .before .before .before .args .p)) (c .before .before .before .before .cleaned .ensures) (inr (inl refl)) (sym (c .before .place-empty .ensures) ∙ c .if2 .taken) (sym (c .before .before .before .lacks-subject .ensures) ∙ c .before .before .if1 .left, (tt, (tt, tt)))
+returns-2 c =
+    let a = c .before .before .before .before .before .args in
+    let c-cleaned = c .before .before .before .before .cleaned in
+    refuse (a .self) (view (c-cleaned .result)) (access reading (a .s) (a .p)) (taken (a .s) (a .p)) (c-cleaned .ensures) (inr (inl refl))
+    (sym (c .before .place-empty .ensures) ∙ c .if2 .taken)
+    (sym (c .before .before .before .lacks-subject .ensures) ∙ c .before .before .if1 .left, (tt, (tt, tt)))
 
 faces-out-requires : tie.Need-faces-out-requires
 faces-out-requires c κs = search needs
 
 returns-3 : tie.Need-returns-3
-returns-3 c = refuse (c .before .before .before .before .before .before .before .args .self) (view (c .before .before .before .before .before .before .cleaned .result)) (access reading (c .before .before .before .before .before .before .before .args .s) (c .before .before .before .before .before .before .before .args .p)) (facing reading (c .before .before .before .before .before .before .before .args .s) (c .before .before .before .before .before .before .before .args .p)) (c .before .before .before .before .before .before .cleaned .ensures) (inr (inr (inl refl))) (sym (c .before .faces-out .ensures) ∙ c .if3 .taken) (sym (c .before .before .before .before .before .lacks-subject .ensures) ∙ c .before .before .before .before .if1 .left, (sym (c .before .before .before .place-empty .ensures) ∙ c .before .before .if2 .left, (tt, tt)))
+returns-3 c =
+    let a = c .before .before .before .before .before .before .before .args in
+    let c-cleaned = c .before .before .before .before .before .before .cleaned in
+    refuse (a .self) (view (c-cleaned .result)) (access reading (a .s) (a .p)) (facing reading (a .s) (a .p)) (c-cleaned .ensures)
+    (inr (inr (inl refl))) (sym (c .before .faces-out .ensures) ∙ c .if3 .taken) (
+      sym (c .before .before .before .before .before .lacks-subject .ensures) ∙ c .before .before .before .before .if1 .left,
+      (sym (c .before .before .before .place-empty .ensures) ∙ c .before .before .if2 .left, (tt, tt)),
+    )
 
 handle-at-requires : tie.Need-handle-at-requires
 handle-at-requires c κs = search needs
@@ -50,10 +66,47 @@ with-subject-requires : tie.Need-with-subject-requires
 with-subject-requires c κs = search needs
 
 returns-4 : tie.Need-returns-4
-returns-4 c = Y.read-sinks (c .before .before .before .before .before .before .before .before .before .before .before .before .before .args .self) (c .before .before .before .before .before .before .before .before .before .before .before .before .cleaned .result) (c .before .before .before .before .before .before .before .before .before .before .before .before .cleaned .ensures) (cleaned-wf (c .before .before .before .before .before .before .before .before .before .before .before .before .before .args .self) (view (c .before .before .before .before .before .before .before .before .before .before .before .before .cleaned .result)) (O.subjects-long (c .before .before .before .before .before .before .before .before .before .before .before .before .before .args .self) (c .before .before .before .before .before .before .before .before .before .before .before .before .before .good .0)) (O.objects-long (c .before .before .before .before .before .before .before .before .before .before .before .before .before .args .self) (c .before .before .before .before .before .before .before .before .before .before .before .before .before .good .0)) (c .before .before .before .before .before .before .before .before .before .before .before .before .cleaned .ensures)) (c .before .before .before .before .before .before .before .before .before .before .before .before .before .args .s) (c .before .before .before .before .before .before .before .before .before .before .before .before .before .args .p) (c .before .before .before .before .before .handle-at .result .object) (c .before .before .before .object-level .result) (c .before .before .subject-level .result) (c .before .before .before .before .before .handle-at .result) (c .with-subject .result) (sym (c .before .before .before .before .before .before .before .before .before .before .before .lacks-subject .ensures) ∙ c .before .before .before .before .before .before .before .before .before .before .if1 .left) (sym (c .before .before .before .before .before .before .before .before .before .place-empty .ensures) ∙ c .before .before .before .before .before .before .before .before .if2 .left) (sym (c .before .before .before .before .before .before .before .faces-out .ensures) ∙ c .before .before .before .before .before .before .if3 .left) (c .before .before .before .before .before .handle-at .ensures) refl (c .before .before .before .object-level .ensures) (c .before .before .subject-level .ensures) (c .before .if4 .taken) (c .with-subject .ensures (in-row (view (c .before .before .before .before .before .before .before .before .before .before .before .before .cleaned .result)) (c .before .before .before .before .before .before .before .before .before .before .before .before .before .args .s) (sym (c .before .before .before .before .before .before .before .before .before .before .before .lacks-subject .ensures) ∙ c .before .before .before .before .before .before .before .before .before .before .if1 .left)))
+returns-4 c =
+    let a = c .before .before .before .before .before .before .before .before .before .before .before .before .before .args in
+    let good = c .before .before .before .before .before .before .before .before .before .before .before .before .before .good in
+    let c-cleaned = c .before .before .before .before .before .before .before .before .before .before .before .before .cleaned in
+    let c-lacks-subject = c .before .before .before .before .before .before .before .before .before .before .before .lacks-subject in
+    let c-if1 = c .before .before .before .before .before .before .before .before .before .before .if1 in
+    let c-place-empty = c .before .before .before .before .before .before .before .before .before .place-empty in
+    let c-if2 = c .before .before .before .before .before .before .before .before .if2 in
+    let c-faces-out = c .before .before .before .before .before .before .before .faces-out in
+    let c-handle-at = c .before .before .before .before .before .handle-at in
+    let c-object-level = c .before .before .before .object-level in
+    let c-subject-level = c .before .before .subject-level in
+    let t = view (c-cleaned .result) in
+    let passed-lacks-subject = sym (c-lacks-subject .ensures) ∙ c-if1 .left in
+    Y.read-sinks (a .self) (c-cleaned .result) (c-cleaned .ensures)
+    (cleaned-wf (a .self) t (O.subjects-long (a .self) (good .0)) (O.objects-long (a .self) (good .0)) (c-cleaned .ensures)) (a .s) (a .p)
+    (c-handle-at .result .object) (c-object-level .result) (c-subject-level .result) (c-handle-at .result) (c .with-subject .result)
+    passed-lacks-subject (sym (c-place-empty .ensures) ∙ c-if2 .left)
+    (sym (c-faces-out .ensures) ∙ c .before .before .before .before .before .before .if3 .left) (c-handle-at .ensures) refl
+    (c-object-level .ensures) (c-subject-level .ensures) (c .before .if4 .taken) (c .with-subject .ensures (in-row t (a .s) passed-lacks-subject))
 
 returns-5 : tie.Need-returns-5
-returns-5 c = Y.read-stays (c .before .before .before .before .before .before .before .before .before .before .before .before .args .self) (c .before .before .before .before .before .before .before .before .before .before .before .cleaned .result) (c .before .before .before .before .before .before .before .before .before .before .before .cleaned .ensures) (cleaned-wf (c .before .before .before .before .before .before .before .before .before .before .before .before .args .self) (view (c .before .before .before .before .before .before .before .before .before .before .before .cleaned .result)) (O.subjects-long (c .before .before .before .before .before .before .before .before .before .before .before .before .args .self) (c .before .before .before .before .before .before .before .before .before .before .before .before .good .0)) (O.objects-long (c .before .before .before .before .before .before .before .before .before .before .before .before .args .self) (c .before .before .before .before .before .before .before .before .before .before .before .before .good .0)) (c .before .before .before .before .before .before .before .before .before .before .before .cleaned .ensures)) (c .before .before .before .before .before .before .before .before .before .before .before .before .args .s) (c .before .before .before .before .before .before .before .before .before .before .before .before .args .p) (c .before .before .before .before .handle-at .result .object) (c .before .before .object-level .result) (c .before .subject-level .result) (c .before .before .before .before .handle-at .result) (c .before .before .before .before .before .before .before .before .before .before .before .cleaned .result) (sym (c .before .before .before .before .before .before .before .before .before .before .lacks-subject .ensures) ∙ c .before .before .before .before .before .before .before .before .before .if1 .left) (sym (c .before .before .before .before .before .before .before .before .place-empty .ensures) ∙ c .before .before .before .before .before .before .before .if2 .left) (sym (c .before .before .before .before .before .before .faces-out .ensures) ∙ c .before .before .before .before .before .if3 .left) (c .before .before .before .before .handle-at .ensures) refl (c .before .before .object-level .ensures) (c .before .subject-level .ensures) (c .if4 .left) refl
+returns-5 c =
+    let a = c .before .before .before .before .before .before .before .before .before .before .before .before .args in
+    let good = c .before .before .before .before .before .before .before .before .before .before .before .before .good in
+    let c-cleaned = c .before .before .before .before .before .before .before .before .before .before .before .cleaned in
+    let c-lacks-subject = c .before .before .before .before .before .before .before .before .before .before .lacks-subject in
+    let c-if1 = c .before .before .before .before .before .before .before .before .before .if1 in
+    let c-place-empty = c .before .before .before .before .before .before .before .before .place-empty in
+    let c-if2 = c .before .before .before .before .before .before .before .if2 in
+    let c-faces-out = c .before .before .before .before .before .before .faces-out in
+    let c-handle-at = c .before .before .before .before .handle-at in
+    let c-object-level = c .before .before .object-level in
+    let c-subject-level = c .before .subject-level in
+    Y.read-stays (a .self) (c-cleaned .result) (c-cleaned .ensures)
+    (cleaned-wf (a .self) (view (c-cleaned .result)) (O.subjects-long (a .self) (good .0)) (O.objects-long (a .self) (good .0))
+    (c-cleaned .ensures))
+    (a .s) (a .p) (c-handle-at .result .object) (c-object-level .result) (c-subject-level .result) (c-handle-at .result) (c-cleaned .result)
+    (sym (c-lacks-subject .ensures) ∙ c-if1 .left) (sym (c-place-empty .ensures) ∙ c-if2 .left)
+    (sym (c-faces-out .ensures) ∙ c .before .before .before .before .before .if3 .left) (c-handle-at .ensures) refl (c-object-level .ensures)
+    (c-subject-level .ensures) (c .if4 .left) refl
 
 pub read-spec : {M : Type 1} → statement M
 read-spec =

@@ -50,10 +50,24 @@ loop-less : tie.Need-loop-less Inv-loop μ-loop
 loop-less c = search needs
 
 loop-again : tie.Need-loop-again Inv-loop μ-loop
-loop-again c = (omega arith, reaped-more _ _ _ _ _ _ (c .before .before .before .loop .inv .1) (omega (arith, O.objects-long (c .before .before .before .before .before .before .args .t1) (c .before .before .before .before .before .before .good .0))) (c .outlived .ensures))
+loop-again c = (
+  omega arith,
+  reaped-more _ _ _ _ _ _ (c .before .before .before .loop .inv .1)
+      (omega (
+        arith,
+        O.objects-long (c .before .before .before .before .before .before .args .t1)
+            (c .before .before .before .before .before .before .good .0),
+      ))
+      (c .outlived .ensures),
+)
 
 returns : tie.Need-returns Inv-loop μ-loop
-returns c = reaped-view _ _ _ _ _ _ (c .loop-test .left) (c .before .loop .inv .1) (O.objects-long (c .before .before .before .before .args .t1) (c .before .before .before .before .good .0)) (mapping-open (c .before .before .before .before .args .before) _ (O.handles-long (c .before .before .before .before .args .before) (c .before .before .before .before .good .1 .0)) (c .before .before .before .open-map .ensures)) (mapping-open (c .before .before .before .before .args .t1) _ (O.handles-long (c .before .before .before .before .args .t1) (c .before .before .before .before .good .0)) (c .before .before .open-map2 .ensures))
+returns c =
+    let a = c .before .before .before .before .args in
+    let good = c .before .before .before .before .good in
+    reaped-view _ _ _ _ _ _ (c .loop-test .left) (c .before .loop .inv .1) (O.objects-long (a .t1) (good .0))
+    (mapping-open (a .before) _ (O.handles-long (a .before) (good .1 .0)) (c .before .before .before .open-map .ensures))
+    (mapping-open (a .t1) _ (O.handles-long (a .t1) (good .0)) (c .before .before .open-map2 .ensures))
 
 pub reaped-spec : {M : Type 1} → statement M
 reaped-spec =

@@ -19,10 +19,18 @@ object-taken-requires : tie.Need-object-taken-requires
 object-taken-requires c κs = search needs
 
 returns : tie.Need-returns
-returns c = refuse (c .before .before .before .args .self) (view (c .before .before .cleaned .result)) (register (c .before .before .before .args .o) (c .before .before .before .args .level)) (new (object (c .before .before .before .args .o))) (c .before .before .cleaned .ensures) (inl refl) (sym (c .before .object-taken .ensures) ∙ c .if1 .taken) (tt, (tt, tt))
+returns c =
+    let a = c .before .before .before .args in
+    let c-cleaned = c .before .before .cleaned in
+    refuse (a .self) (view (c-cleaned .result)) (register (a .o) (a .level)) (new (object (a .o))) (c-cleaned .ensures) (inl refl)
+    (sym (c .before .object-taken .ensures) ∙ c .if1 .taken) (tt, (tt, tt))
 
 returns-2 : tie.Need-returns-2
-returns-2 c = refuse (c .before .before .before .before .args .self) (view (c .before .before .before .cleaned .result)) (register (c .before .before .before .before .args .o) (c .before .before .before .before .args .level)) (leveled (c .before .before .before .before .args .level)) (c .before .before .before .cleaned .ensures) (inr (inl refl)) (lt-ltb 15 (c .before .before .before .before .args .level) (c .if2 .taken)) (sym (c .before .before .object-taken .ensures) ∙ c .before .if1 .left, (tt, tt))
+returns-2 c =
+    let a = c .before .before .before .before .args in
+    let c-cleaned = c .before .before .before .cleaned in
+    refuse (a .self) (view (c-cleaned .result)) (register (a .o) (a .level)) (leveled (a .level)) (c-cleaned .ensures) (inr (inl refl))
+    (lt-ltb 15 (a .level) (c .if2 .taken)) (sym (c .before .before .object-taken .ensures) ∙ c .before .if1 .left, (tt, tt))
 
 cast-l : tie.Need-cast-l
 cast-l c = search needs
@@ -31,7 +39,14 @@ with-object-requires : tie.Need-with-object-requires
 with-object-requires c κs = search needs
 
 returns-3 : tie.Need-returns-3
-returns-3 c = Y.registered (c .before .before .before .before .before .args .self) (c .before .before .before .before .cleaned .result) (c .before .before .before .before .cleaned .ensures) (c .before .before .before .before .before .args .o) (c .before .before .before .before .before .args .level) (c .with-object .result) (sym (c .before .before .before .object-taken .ensures) ∙ c .before .before .if1 .left) (le-ltb 15 (c .before .before .before .before .before .args .level) (c .before .if2 .left)) (c .with-object .ensures (new-column (view (c .before .before .before .before .cleaned .result)) (c .before .before .before .before .before .args .o) (sym (c .before .before .before .object-taken .ensures) ∙ c .before .before .if1 .left)))
+returns-3 c =
+    let a = c .before .before .before .before .before .args in
+    let c-cleaned = c .before .before .before .before .cleaned in
+    let c-object-taken = c .before .before .before .object-taken in
+    let c-if1 = c .before .before .if1 in
+    let passed-object-taken = sym (c-object-taken .ensures) ∙ c-if1 .left in
+    Y.registered (a .self) (c-cleaned .result) (c-cleaned .ensures) (a .o) (a .level) (c .with-object .result) passed-object-taken
+    (le-ltb 15 (a .level) (c .before .if2 .left)) (c .with-object .ensures (new-column (view (c-cleaned .result)) (a .o) passed-object-taken))
 
 pub register-spec : {M : Type 1} → statement M
 register-spec =

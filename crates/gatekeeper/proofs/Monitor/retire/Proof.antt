@@ -17,19 +17,35 @@ lacks-object-requires : tie.Need-lacks-object-requires
 lacks-object-requires c κs = search needs
 
 returns : tie.Need-returns
-returns c = refuse (c .before .before .before .args .self) (view (c .before .before .cleaned .result)) (retire (c .before .before .before .args .o)) (present (c .before .before .before .args .o)) (c .before .before .cleaned .ensures) (inl refl) (sym (c .before .lacks-object .ensures) ∙ c .if1 .taken) (tt, (tt, (tt, tt)))
+returns c =
+    let a = c .before .before .before .args in
+    let c-cleaned = c .before .before .cleaned in
+    refuse (a .self) (view (c-cleaned .result)) (retire (a .o)) (present (a .o)) (c-cleaned .ensures) (inl refl)
+    (sym (c .before .lacks-object .ensures) ∙ c .if1 .taken) (tt, (tt, (tt, tt)))
 
 names-pipe-requires : tie.Need-names-pipe-requires
 names-pipe-requires c κs = search needs
 
 returns-2 : tie.Need-returns-2
-returns-2 c = refuse (c .before .before .before .before .before .args .self) (view (c .before .before .before .before .cleaned .result)) (retire (c .before .before .before .before .before .args .o)) (no-pipe (c .before .before .before .before .before .args .o)) (c .before .before .before .before .cleaned .ensures) (inr (inl refl)) (sym (c .before .names-pipe .ensures) ∙ c .if2 .taken) (sym (c .before .before .before .lacks-object .ensures) ∙ c .before .before .if1 .left, (tt, (tt, tt)))
+returns-2 c =
+    let a = c .before .before .before .before .before .args in
+    let c-cleaned = c .before .before .before .before .cleaned in
+    refuse (a .self) (view (c-cleaned .result)) (retire (a .o)) (no-pipe (a .o)) (c-cleaned .ensures) (inr (inl refl))
+    (sym (c .before .names-pipe .ensures) ∙ c .if2 .taken)
+    (sym (c .before .before .before .lacks-object .ensures) ∙ c .before .before .if1 .left, (tt, (tt, tt)))
 
 is-open-requires : tie.Need-is-open-requires
 is-open-requires c κs = search needs
 
 returns-3 : tie.Need-returns-3
-returns-3 c = refuse (c .before .before .before .before .before .before .before .args .self) (view (c .before .before .before .before .before .before .cleaned .result)) (retire (c .before .before .before .before .before .before .before .args .o)) (idle (c .before .before .before .before .before .before .before .args .o)) (c .before .before .before .before .before .before .cleaned .ensures) (inr (inr (inl refl))) (sym (c .before .is-open .ensures) ∙ c .if3 .taken) (sym (c .before .before .before .before .before .lacks-object .ensures) ∙ c .before .before .before .before .if1 .left, (sym (c .before .before .before .names-pipe .ensures) ∙ c .before .before .if2 .left, (tt, tt)))
+returns-3 c =
+    let a = c .before .before .before .before .before .before .before .args in
+    let c-cleaned = c .before .before .before .before .before .before .cleaned in
+    refuse (a .self) (view (c-cleaned .result)) (retire (a .o)) (idle (a .o)) (c-cleaned .ensures) (inr (inr (inl refl)))
+    (sym (c .before .is-open .ensures) ∙ c .if3 .taken) (
+      sym (c .before .before .before .before .before .lacks-object .ensures) ∙ c .before .before .before .before .if1 .left,
+      (sym (c .before .before .before .names-pipe .ensures) ∙ c .before .before .if2 .left, (tt, tt)),
+    )
 
 object-level-requires : tie.Need-object-level-requires
 object-level-requires c κs = search needs
@@ -38,7 +54,17 @@ with-object-requires : tie.Need-with-object-requires
 with-object-requires c κs = search needs
 
 returns-4 : tie.Need-returns-4
-returns-4 c = Y.retired (c .before .before .before .before .before .before .before .before .before .args .self) (c .before .before .before .before .before .before .before .before .cleaned .result) (c .before .before .before .before .before .before .before .before .cleaned .ensures) (c .before .before .before .before .before .before .before .before .before .args .o) (c .before .object-level .result) (c .with-object .result) (sym (c .before .before .before .before .before .before .before .lacks-object .ensures) ∙ c .before .before .before .before .before .before .if1 .left) (sym (c .before .before .before .before .before .names-pipe .ensures) ∙ c .before .before .before .before .if2 .left) (sym (c .before .before .before .is-open .ensures) ∙ c .before .before .if3 .left) (c .before .object-level .ensures) (c .with-object .ensures (in-column (view (c .before .before .before .before .before .before .before .before .cleaned .result)) (c .before .before .before .before .before .before .before .before .before .args .o) (sym (c .before .before .before .before .before .before .before .lacks-object .ensures) ∙ c .before .before .before .before .before .before .if1 .left)))
+returns-4 c =
+    let a = c .before .before .before .before .before .before .before .before .before .args in
+    let c-cleaned = c .before .before .before .before .before .before .before .before .cleaned in
+    let c-lacks-object = c .before .before .before .before .before .before .before .lacks-object in
+    let c-if1 = c .before .before .before .before .before .before .if1 in
+    let c-object-level = c .before .object-level in
+    let passed-lacks-object = sym (c-lacks-object .ensures) ∙ c-if1 .left in
+    Y.retired (a .self) (c-cleaned .result) (c-cleaned .ensures) (a .o) (c-object-level .result) (c .with-object .result) passed-lacks-object
+    (sym (c .before .before .before .before .before .names-pipe .ensures) ∙ c .before .before .before .before .if2 .left)
+    (sym (c .before .before .before .is-open .ensures) ∙ c .before .before .if3 .left) (c-object-level .ensures)
+    (c .with-object .ensures (in-column (view (c-cleaned .result)) (a .o) passed-lacks-object))
 
 pub retire-spec : {M : Type 1} → statement M
 retire-spec =

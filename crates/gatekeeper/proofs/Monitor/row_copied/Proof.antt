@@ -56,7 +56,15 @@ loop-less : tie.Need-loop-less Inv-loop μ-loop
 loop-less c = search needs
 
 loop-again : tie.Need-loop-again Inv-loop μ-loop
-loop-again c = (omega arith, refl, refl, refl, row-more _ _ (λ q. getD (c .before .before .before .before .before .before .args .t1 .handles) (c .before .before .before .before .before .before .args .s * 16 + q) no-handle) _ _ _ (c .before .before .loop .inv .4) (omega (arith, O.handles-long (c .before .before .before .before .before .before .args .t1) (c .before .before .before .before .before .before .good .0))) refl)
+loop-again c =
+    let a = c .before .before .before .before .before .before .args in (
+      omega arith,
+      refl,
+      refl,
+      refl,
+      row-more _ _ (λ q. getD (a .t1 .handles) (a .s * 16 + q) no-handle) _ _ _ (c .before .before .loop .inv .4)
+          (omega (arith, O.handles-long (a .t1) (c .before .before .before .before .before .before .good .0))) refl,
+    )
 
 returns-3 : tie.Need-returns-3 Inv-loop μ-loop
 returns-3 c = λ h l. copied-view _ _ _ _ _ (omega (arith, c .loop-test .left)) (c .before .loop .inv .4)

@@ -39,7 +39,14 @@ loop-less : tie.Need-loop-less Inv-loop μ-loop
 loop-less c = search needs
 
 loop-again : tie.Need-loop-again Inv-loop μ-loop
-loop-again c = (omega arith, simp length-set (c .before .before .before .loop .inv .1), stored 0 (λ j. source-by (getD (c .before .before .before .before .args .t1 .handles) j no-handle) (j / 16)) (c .before .before .before .loop .r) (c .before .before .before .loop .i) (c .source .result) (omega arith) (c .before .before .before .loop .inv .2) (c .source .ensures))
+loop-again c =
+    let c-loop = c .before .before .before .loop in (
+      omega arith,
+      simp length-set (c-loop .inv .1),
+      stored 0
+          (λ j. source-by (getD (c .before .before .before .before .args .t1 .handles) j no-handle) (j / 16)) (c-loop .r) (c-loop .i)
+          (c .source .result) (omega arith) (c-loop .inv .2) (c .source .ensures),
+    )
 
 returns : tie.Need-returns Inv-loop μ-loop
 returns c = λ i h. c .before .loop .inv .2 i (omega arith)

@@ -34,7 +34,11 @@ is-low-subject-requires : tie.Need-is-low-subject-requires Inv-loop μ-loop
 is-low-subject-requires c κs = search needs
 
 returns : tie.Need-returns Inv-loop μ-loop
-returns c = sym (some-at 32 (λ i. short-subject (getD (c .before .before .before .before .before .args .t1 .subjects) i no-subject) (getD (c .before .before .before .before .before .args .t2) i 0)) (c .before .before .before .before .loop .i) (omega arith) (sym (c .before .is-low-subject .ensures) ∙ c .if1 .taken))
+returns c =
+    let a = c .before .before .before .before .before .args in
+    sym
+    (some-at 32 (λ i. short-subject (getD (a .t1 .subjects) i no-subject) (getD (a .t2) i 0)) (c .before .before .before .before .loop .i)
+    (omega arith) (sym (c .before .is-low-subject .ensures) ∙ c .if1 .taken))
 
 add-i : tie.Need-add-i Inv-loop μ-loop
 add-i c = search needs

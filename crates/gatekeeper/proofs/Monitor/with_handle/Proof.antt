@@ -25,7 +25,9 @@ element-set-from-value : tie.Need-element-set-from-value
 element-set-from-value c = search needs
 
 returns-3 : tie.Need-returns-3
-returns-3 c = λ h l. W.store-handle (c .before .before .args .t1) (c .before .before .args .s) (c .before .before .args .p) (c .before .before .args .value) (c .if2 .left) (omega (arith, O.handles-long (c .before .before .args .t1) (c .before .before .good .0)))
+returns-3 c =
+    let a = c .before .before .args in
+    λ h l. W.store-handle (a .t1) (a .s) (a .p) (a .value) (c .if2 .left) (omega (arith, O.handles-long (a .t1) (c .before .before .good .0)))
 
 pub with-handle-spec : {M : Type 1} → statement M
 with-handle-spec =
