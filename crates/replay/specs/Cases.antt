@@ -10,7 +10,7 @@ use Rattle.model.specs.Tables.{empty, used, cell, speaks, things, handles, edge
 use Rattle.model.specs.Steps.{ended}
 use Rattle.model.specs.Calls.{Answer, decode, sheds, effect, refusal, answer}
 use Rattle.model.specs.Tally.{tallied}
-use Rattle.model.specs.Cases.{Case, case, bytes, A, L, R, table, right}
+use Rattle.model.specs.Cases.{Case, case, bytes, R, table, right}
 use Rattle.number.specs.Leb.{groups, encode, numeral, value, padded, number}
 use Rattle.journal.specs.Calls.{arity-of, known, filled}
 use Rattle.journal.specs.Journal.{entry-at, numbers-in, arguments-in, body-in}

@@ -1,7 +1,6 @@
 -- What one record does to a monitor and a tally. Document 01, "Journal", second paragraph; "Refused calls", rows 1 and 12, and "The monitor, the
 -- tally .. unchanged". Assumes nothing.
 use mathlib.Core.Path.{_≡_}
-use mathlib.Core.List.{List}
 use Prim.Native.Nat.{ℕ}
 use Rattle.model.specs.Tables.{clean}
 use Rattle.model.specs.Calls.{decode, Answer, refused}

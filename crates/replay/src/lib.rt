@@ -1,12 +1,25 @@
 // Journals, replayed on the monitor (document 01, "Journal"). The reply to a whole journal is a definition in specs/Replay.antt; what one record
 // does is in specs/One.antt.
+ghost use mathlib.Core.Path.{_≡_};
+ghost use mathlib.Core.Option.{some};
+ghost use mathlib.Core.List.{[], _∷_};
+ghost use Prim.Native.Nat.{ℕ, _≤_};
+ghost use lib.ListN.{length};
+ghost use Rattle.model.specs.Calls.{refused};
+ghost use Rattle.model.specs.Tally.{zeroed, difference};
+ghost use Rattle.number.specs.Put.{put, fitted};
+ghost use Rattle.number.specs.Answers.{writing};
 ghost use Rattle.journal.specs.Journal.{body-in};
 ghost use Rattle.gatekeeper.specs.View.{told, counts-of};
 ghost use Rattle.replay.specs.One.{One};
+ghost use Rattle.replay.specs.Replay.{reply, replied, text};
+ghost use Rattle.replay.specs.Stage.{whole};
 use gatekeeper::Answer;
 use gatekeeper::Monitor;
 use gatekeeper::Tally;
 use journal::Body;
+use journal::Entry;
+use number::Written;
 
 // A record's reply: the code as it was read and the answer; and what the record leaves, the next monitor and tally.
 pub struct Replied {
@@ -49,4 +62,97 @@ pub fn one(m: Monitor, tally: Tally, body: &[u8]) -> Replied
             answer: Answer::Refused(12),
         },
     }
+}
+
+// Made minus gone, modulo 2 to the 64th.
+fn open_now(tally: Tally) -> u64
+    ensures { λ r. ⌜ r ≡ difference (counts-of tally) ⌝ }
+{
+    if tally.gone <= tally.made {
+        return tally.made - tally.gone;
+    }
+    u64::MAX - (tally.gone - tally.made) + 1
+}
+
+// Answers the records of a journal one after the other, from empty tables, and writes the text. Where there is no room for all of it, some of
+// its lines may stand in the buffer.
+fn records(journal: &[u8], out: &mut [u8]) -> Written
+    requires { ⌜ length (now journal) ≤ 65536 ⌝ }
+    ensures answer { λ r. ⌜ writing r ≡ fitted (whole (now (journal .entry))) (now (out .entry)) ⌝ }
+    ensures buffer { λ r. ⌜ ((k : ℕ) → writing r ≡ some k → now (out .exit) ≡ put (whole (now (journal .entry))) (now (out .entry))) ⌝ }
+{
+    let mut m = Monitor::empty();
+    let mut tally = Tally { made: 0, gone: 0 };
+    let mut at: usize = 0;
+    let mut position: u32 = 1;
+    let mut used: usize = 0;
+    let mut going = true;
+    while going {
+        match journal::entry_at(journal, at) {
+            Entry::Record { start, len, next } => {
+                let r = one(m, tally, &journal[start..next]);
+                let answer = r.answer;
+                let letter = gatekeeper::letter(answer);
+                let value = gatekeeper::value(answer);
+                match text::write_line(&mut out[used..], position, r.code, letter, value) {
+                    Written::Bytes(n) => {
+                        used = used + n;
+                        at = next;
+                        position = position + 1;
+                        m = r.monitor;
+                        tally = r.tally;
+                    }
+                    Written::NoRoom => {
+                        return Written::NoRoom;
+                    }
+                }
+            }
+            Entry::Broken => {
+                match text::write_line(&mut out[used..], position, 0, b'R', 11) {
+                    Written::Bytes(n) => {
+                        used = used + n;
+                        going = false;
+                    }
+                    Written::NoRoom => {
+                        return Written::NoRoom;
+                    }
+                }
+            }
+            Entry::End => {
+                going = false;
+            }
+        }
+    }
+    match text::write_end(&mut out[used..], tally.made, tally.gone, open_now(tally)) {
+        Written::Bytes(n) => Written::Bytes(used + n),
+        Written::NoRoom => Written::NoRoom,
+    }
+}
+
+// Writes the two lines for a journal that is too long.
+fn too_long(out: &mut [u8]) -> Written
+    ensures answer { λ r. ⌜ writing r ≡ fitted (text (replied 0 (refused 14) ∷ []) zeroed) (now (out .entry)) ⌝ }
+    ensures buffer { λ r. ⌜ ((k : ℕ) → writing r ≡ some k → now (out .exit) ≡ put (text (replied 0 (refused 14) ∷ []) zeroed) (now (out .entry))) ⌝ }
+{
+    match text::write_line(out, 1, 0, b'R', 14) {
+        Written::Bytes(n) => {
+            match text::write_end(&mut out[n..], 0, 0, 0) {
+                Written::Bytes(k) => Written::Bytes(n + k),
+                Written::NoRoom => Written::NoRoom,
+            }
+        }
+        Written::NoRoom => Written::NoRoom,
+    }
+}
+
+// The reply to a journal, from empty tables: the text, and how many bytes it has. Where the buffer has no room for all of it, that is the answer, and
+// some of its lines may stand in the buffer.
+pub fn replay(journal: &[u8], out: &mut [u8]) -> Written
+    ensures answer { λ r. ⌜ writing r ≡ fitted (reply (now (journal .entry))) (now (out .entry)) ⌝ }
+    ensures buffer { λ r. ⌜ ((k : ℕ) → writing r ≡ some k → now (out .exit) ≡ put (reply (now (journal .entry))) (now (out .entry))) ⌝ }
+{
+    if 65536 < journal.len() {
+        return too_long(out);
+    }
+    records(journal, out)
 }

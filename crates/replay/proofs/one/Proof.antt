@@ -7,10 +7,6 @@ use Rattle.gatekeeper.specs.View.{told, counts-of}
 use Rattle.replay.specs.One.{One}
 use Rattle.replay.proofs.one.Statement.{statement}
 use Rattle.replay.proofs.one.Tie as tie
-use Rattle.replay.proofs.one.Reads as reads
-use Rattle.replay.proofs.one.Lts as lts
-use Rattle.gatekeeper.proofs.Monitor.counted_call.Reads as counted-call-reads
-use Rattle.journal.proofs.read_body.Reads as read-body-reads
 
 read-body-requires : tie.Need-read-body-requires
 read-body-requires c κs = search needs

@@ -1,17 +1,21 @@
 -- A reply, record by record: what is left of the text before a record is that record's line, and what is left after it. Assumes nothing.
 use mathlib.Core.Path.{_≡_, refl, sym, _∙_, ap, subst}
 use mathlib.Core.List.{List, [], _∷_, _++_, append-assoc}
-use Prim.Native.Nat.{ℕ, suc}
-use lib.ListN.{take, drop}
+use mathlib.Core.Bool.{Bool, true, false, cond}
+use Prim.Native.Nat.{ℕ, suc, _<_}
+use borrow.Author.Tests.{ltb-true}
+use lib.Dec.{ltb}
+use lib.ListN.{length, take, drop}
 use Rattle.model.specs.Tables.{Tables, clean}
 use Rattle.model.specs.Invariant.{Kept}
 use Rattle.model.specs.Calls.{Call, decode, next, Answer, answer}
 use Rattle.model.specs.Calls.Kept.{next-kept}
 use Rattle.model.specs.Tally.{Tally, tallied, tally}
 use Rattle.model.specs.Demand3.Laws.{clean-same, meets-next}
-use Rattle.journal.specs.Answers.{Said, said, body, end}
-use Rattle.journal.specs.Answers.{answers as reads, refused as bad}
-use Rattle.journal.specs.Journal.{entry-at, body-in}
+use Rattle.number.specs.Leb.{number, largest}
+use Rattle.journal.specs.Answers.{Said, said, Next, body, end}
+use Rattle.journal.specs.Answers.{Answer as Read, answers as reads, refused as bad}
+use Rattle.journal.specs.Journal.{sized, entry-at, body-in}
 use Rattle.gatekeeper.specs.declared.Monitor.{Monitor}
 use Rattle.gatekeeper.specs.View.{letter-of, value-of, view}
 use Rattle.text.specs.Reply.{line}
@@ -28,6 +32,15 @@ records-end most journal at e = ap (followed (records most journal) journal) e
 
 pub records-stop : (most : ℕ) (journal : List ℕ) (at n : ℕ) → entry-at journal at ≡ bad n → records (suc most) journal at ≡ said 0 (bad n) ∷ []
 records-stop most journal at n e = ap (followed (records most journal) journal) e
+
+-- at the end of the journal no length can be bad
+pub bad-inside : (journal : List ℕ) (at n : ℕ) → entry-at journal at ≡ bad n → at < length journal
+unfolding entry-at
+bad-inside journal at n = go (ltb at (length journal)) refl
+  where
+    go : (b : Bool) → ltb at (length journal) ≡ b → cond b (sized journal at (number largest (drop at journal))) (reads end) ≡ bad n → at < length journal
+    go true q e = ltb-true at (length journal) q
+    go false q e = absurd (subst (λ (r : Read Next). elim r as (λ _. Type 0) [ reads x ↦ Unit {0} | bad m ↦ ⊥ ]) e tt)
 
 -- ── the text ──
 -- what is left to write, from position p, tables t and tally y on, where these records are left

@@ -54,7 +54,7 @@ module _ {b done : List ℕ} {at : ℕ} {out : List ℕ} (o : Over b done at out
 
   -- ---- the rest of `out`, from `at` on, is lent; e of k bytes is put into it, and it is back as ys
 
-  rest-length : length (take (length out - at) (drop at out)) ≡ length b - at
+  pub rest-length : length (take (length out - at) (drop at out)) ≡ length b - at
   rest-length = ap length (rest-is at out) ∙ length-drop at out ∙ ap (λ (n : ℕ). n - at) (o .size)
 
   module _ (e : List ℕ) where

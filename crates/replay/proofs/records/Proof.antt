@@ -1,0 +1,348 @@
+-- `replay::records` meets its contract. Assumes nothing.
+use mathlib.Core.Path.{_≡_, sym, _∙_, ap, ap₂, subst}
+use borrow.Rule.Slice.PartMut.{putMid}
+use Rattle.text.specs.Parts.Laws.{put-after, none-after}
+use Rattle.replay.specs.Replay.{last-line}
+use Rattle.replay.specs.Replay.Laws.{bad-inside}
+use mathlib.Core.Bool.{Bool, true, false, cond}
+use mathlib.Core.Option.{Option·none-ne-some}
+use Prim.Native.Nat.{ℕ, _+_, _-_, _≤_}
+use native.Mathlib.Omega.{arith}
+use borrow.Author.Needs.{needs}
+use lib.ListN.{length, take, drop}
+use Rattle.number.specs.Put.{put, fitted}
+use Rattle.number.specs.Answers.{writing}
+use Rattle.text.specs.Reply.{line, ending}
+use Rattle.journal.specs.Answers.{body, entry-answer}
+use Rattle.journal.specs.Answers.{answers as reads, refused as bad}
+use Rattle.journal.specs.Journal.{entry-at}
+use Rattle.journal.specs.Journal.Laws.{entry-stands, entry-next}
+use Rattle.gatekeeper.specs.View.{view, told, letter-of, value-of, counts-of}
+use Rattle.replay.specs.Stage.{Going, going-begun, record-turn, record-short, broken-turn, broken-short, end-turn, ended, not-ended}
+use Rattle.replay.proofs.records.Statement.{statement}
+use Rattle.replay.proofs.records.Tie as tie
+
+abbrev Inv-loop : tie.InvT-loop
+Inv-loop journal out₀ m₀ tally₀ at₀ position₀ used₀ going₀ out m tally at position used going = (length journal ≤ 65536) × Going journal out₀ out (view m) (counts-of tally) at position used going
+
+abbrev μ-loop : tie.MeasureT-loop
+μ-loop journal out₀ m₀ tally₀ at₀ position₀ used₀ going₀ out m tally at position used going = (length journal - at) + cond going 1 0
+
+empty-requires : tie.Need-empty-requires Inv-loop μ-loop
+empty-requires c κs = search needs
+
+loop-holds : tie.Need-loop-holds Inv-loop μ-loop
+loop-holds c =
+    let a = c .before .before .before .args in
+    (c .before .before .before .pre, going-begun (a .journal .now) (a .out .now) (view (c .empty .result)) (c .empty .ensures))
+
+entry-at-requires : tie.Need-entry-at-requires Inv-loop μ-loop
+entry-at-requires c κs = search needs
+
+enum-known-start : tie.Need-enum-known-start Inv-loop μ-loop
+enum-known-start c = search needs
+
+sub-one : tie.Need-sub-one Inv-loop μ-loop
+sub-one c =
+    let l = c .before .before .before .before .before .loop in
+    let a = c .before .before .before .before .before .before .before .before .before .args in
+    let g : Going (a .journal .now) (a .out .now) (l .out) (view (l .m)) (counts-of (l .tally)) (l .at) (l .position) (l .used) true = subst (λ (b : Bool). Going (a .journal .now) (a .out .now) (l .out) (view (l .m)) (counts-of (l .tally)) (l .at) (l .position) (l .used) b) (c .before .before .before .before .loop-test .taken) (l .inv .1) in
+    let q = c .before .start .given in
+    let e : entry-at (a .journal .now) (l .at) ≡ reads (body (q .0 .0) (q .0 .1 .0) (q .0 .1 .1 .0)) = sym (c .before .before .before .entry-at .ensures) ∙ ap entry-answer (q .1) in
+    let (k, f) = entry-stands _ _ _ _ _ e in omega (arith, f .ends)
+
+part-one-start : tie.Need-part-one-start Inv-loop μ-loop
+part-one-start c =
+    let l = c .before .before .before .before .before .loop in
+    let a = c .before .before .before .before .before .before .before .before .before .args in
+    let g : Going (a .journal .now) (a .out .now) (l .out) (view (l .m)) (counts-of (l .tally)) (l .at) (l .position) (l .used) true = subst (λ (b : Bool). Going (a .journal .now) (a .out .now) (l .out) (view (l .m)) (counts-of (l .tally)) (l .at) (l .position) (l .used) b) (c .before .before .before .before .loop-test .taken) (l .inv .1) in
+    let q = c .before .start .given in
+    let e : entry-at (a .journal .now) (l .at) ≡ reads (body (q .0 .0) (q .0 .1 .0) (q .0 .1 .1 .0)) = sym (c .before .before .before .entry-at .ensures) ∙ ap entry-answer (q .1) in
+    let (k, f) = entry-stands _ _ _ _ _ e in omega (arith, f .ends, f .within)
+
+part-one-end : tie.Need-part-one-end Inv-loop μ-loop
+part-one-end c =
+    let l = c .before .before .before .before .before .loop in
+    let a = c .before .before .before .before .before .before .before .before .before .args in
+    let g : Going (a .journal .now) (a .out .now) (l .out) (view (l .m)) (counts-of (l .tally)) (l .at) (l .position) (l .used) true = subst (λ (b : Bool). Going (a .journal .now) (a .out .now) (l .out) (view (l .m)) (counts-of (l .tally)) (l .at) (l .position) (l .used) b) (c .before .before .before .before .loop-test .taken) (l .inv .1) in
+    let q = c .before .start .given in
+    let e : entry-at (a .journal .now) (l .at) ≡ reads (body (q .0 .0) (q .0 .1 .0) (q .0 .1 .1 .0)) = sym (c .before .before .before .entry-at .ensures) ∙ ap entry-answer (q .1) in
+    let (k, f) = entry-stands _ _ _ _ _ e in omega (arith, f .ends, f .within)
+
+one-requires : tie.Need-one-requires Inv-loop μ-loop
+one-requires c κs = search needs
+
+letter-requires : tie.Need-letter-requires Inv-loop μ-loop
+letter-requires c κs = search needs
+
+value-requires : tie.Need-value-requires Inv-loop μ-loop
+value-requires c κs = search needs
+
+sub-write-line : tie.Need-sub-write-line Inv-loop μ-loop
+sub-write-line c = search needs
+
+part-write-line-start : tie.Need-part-write-line-start Inv-loop μ-loop
+part-write-line-start c = search needs
+
+part-write-line-end : tie.Need-part-write-line-end Inv-loop μ-loop
+part-write-line-end c = search needs
+
+write-line-requires : tie.Need-write-line-requires Inv-loop μ-loop
+write-line-requires c κs = search needs
+
+enum-known-n : tie.Need-enum-known-n Inv-loop μ-loop
+enum-known-n c = search needs
+
+add-used : tie.Need-add-used Inv-loop μ-loop
+add-used c =
+    let l = c .before .before .before .before .before .before .before .before .before .before .before .before .before .before .before .before .loop in
+    let a = c .before .before .before .before .before .before .before .before .before .before .before .before .before .before .before .before .before .before .before .before .args in
+    let g : Going (a .journal .now) (a .out .now) (l .out) (view (l .m)) (counts-of (l .tally)) (l .at) (l .position) (l .used) true = subst (λ (b : Bool). Going (a .journal .now) (a .out .now) (l .out) (view (l .m)) (counts-of (l .tally)) (l .at) (l .position) (l .used) b) (c .before .before .before .before .before .before .before .before .before .before .before .before .before .before .before .loop-test .taken) (l .inv .1) in
+    let w = c .before .before .before .before .before .write-line in
+    omega (arith, put-after (g .stage .over) _ (w .last .0) (c .before .n .given .0 .0) (ap writing (sym (c .before .n .given .1)) ∙ w .ensures .0) (w .ensures .1 .0) .within, c .before .before .before .before .before .before .before .before .before .before .before .before .before .before .before .before .before .before .before .before .good)
+
+add-position : tie.Need-add-position Inv-loop μ-loop
+add-position c =
+    let l = c .before .before .before .before .before .before .before .before .before .before .before .before .before .before .before .before .loop in
+    let a = c .before .before .before .before .before .before .before .before .before .before .before .before .before .before .before .before .before .before .before .before .args in
+    let g : Going (a .journal .now) (a .out .now) (l .out) (view (l .m)) (counts-of (l .tally)) (l .at) (l .position) (l .used) true = subst (λ (b : Bool). Going (a .journal .now) (a .out .now) (l .out) (view (l .m)) (counts-of (l .tally)) (l .at) (l .position) (l .used) b) (c .before .before .before .before .before .before .before .before .before .before .before .before .before .before .before .loop-test .taken) (l .inv .1) in
+    omega (arith, g .early, g .inside, l .inv .0)
+
+loop-less : tie.Need-loop-less Inv-loop μ-loop
+loop-less c =
+    let l = c .before .before .before .before .before .before .before .before .before .before .before .before .before .before .before .before .before .before .loop in
+    let a = c .before .before .before .before .before .before .before .before .before .before .before .before .before .before .before .before .before .before .before .before .before .before .args in
+    let g : Going (a .journal .now) (a .out .now) (l .out) (view (l .m)) (counts-of (l .tally)) (l .at) (l .position) (l .used) true = subst (λ (b : Bool). Going (a .journal .now) (a .out .now) (l .out) (view (l .m)) (counts-of (l .tally)) (l .at) (l .position) (l .used) b) (c .before .before .before .before .before .before .before .before .before .before .before .before .before .before .before .before .before .loop-test .taken) (l .inv .1) in
+    let q = c .before .before .before .before .before .before .before .before .before .before .before .before .before .before .start .given in
+    let e : entry-at (a .journal .now) (l .at) ≡ reads (body (q .0 .0) (q .0 .1 .0) (q .0 .1 .1 .0)) = sym (c .before .before .before .before .before .before .before .before .before .before .before .before .before .before .before .before .entry-at .ensures) ∙ ap entry-answer (q .1) in
+    omega (arith, entry-next _ _ _ _ _ e .0, entry-next _ _ _ _ _ e .1)
+
+loop-again : tie.Need-loop-again Inv-loop μ-loop
+loop-again c =
+    let l = c .before .before .before .before .before .before .before .before .before .before .before .before .before .before .before .before .before .before .loop in
+    let a = c .before .before .before .before .before .before .before .before .before .before .before .before .before .before .before .before .before .before .before .before .before .before .args in
+    let g : Going (a .journal .now) (a .out .now) (l .out) (view (l .m)) (counts-of (l .tally)) (l .at) (l .position) (l .used) true = subst (λ (b : Bool). Going (a .journal .now) (a .out .now) (l .out) (view (l .m)) (counts-of (l .tally)) (l .at) (l .position) (l .used) b) (c .before .before .before .before .before .before .before .before .before .before .before .before .before .before .before .before .before .loop-test .taken) (l .inv .1) in
+    let q = c .before .before .before .before .before .before .before .before .before .before .before .before .before .before .start .given in
+    let e : entry-at (a .journal .now) (l .at) ≡ reads (body (q .0 .0) (q .0 .1 .0) (q .0 .1 .1 .0)) = sym (c .before .before .before .before .before .before .before .before .before .before .before .before .before .before .before .before .entry-at .ensures) ∙ ap entry-answer (q .1) in
+    let k = c .before .before .before .before .before .before .before .before .before .before .before .one in
+    let w = c .before .before .before .before .before .before .before .write-line in
+    let x = told (k .result .answer) in
+    let is : line (l .position) (k .result .code) (c .before .before .before .before .before .before .before .before .before .before .letter .result) (c .before .before .before .before .before .before .before .before .before .value .result) ≡ line (l .position) (k .result .code) (letter-of x) (value-of x) = ap₂ (λ u v. line (l .position) (k .result .code) u v) (c .before .before .before .before .before .before .before .before .before .before .letter .ensures) (c .before .before .before .before .before .before .before .before .before .value .ensures) in
+    let rest = take (length (l .out) - l .used) (drop (l .used) (l .out)) in (
+      l .inv .0,
+      subst (λ (b : Bool). Going (a .journal .now) (a .out .now) (putMid (l .used) (length (l .out) - l .used) (l .out) (w .last .0)) (view (k .result .monitor)) (counts-of (k .result .tally)) (q .0 .1 .1 .0) (l .position + 1) (l .used + c .before .before .before .n .given .0 .0) b) (sym (c .before .before .before .before .before .before .before .before .before .before .before .before .before .before .before .before .before .loop-test .taken))
+          (record-turn (a .journal .now) (a .out .now) (l .out) (l .at) (l .position) (l .used) (l .m) (counts-of (l .tally)) g (q .0 .0) (q .0 .1 .0) (q .0 .1 .1 .0) e (k .result .monitor) (counts-of (k .result .tally)) (k .result .code) x (k .ensures) (w .last .0) (c .before .before .before .n .given .0 .0) (ap writing (sym (c .before .before .before .n .given .1)) ∙ w .ensures .0 ∙ ap (λ y. fitted y rest) is) (w .ensures .1 .0 ∙ ap (λ y. put y rest) is)),
+    )
+
+enum-told : tie.Need-enum-told Inv-loop μ-loop
+enum-told c = search needs
+
+same-length : tie.Need-same-length Inv-loop μ-loop
+same-length c =
+    let l = c .before .before .before .before .before .before .before .before .before .before .before .before .before .before .before .loop in
+    let a = c .before .before .before .before .before .before .before .before .before .before .before .before .before .before .before .before .before .before .before .args in
+    let g : Going (a .journal .now) (a .out .now) (l .out) (view (l .m)) (counts-of (l .tally)) (l .at) (l .position) (l .used) true = subst (λ (b : Bool). Going (a .journal .now) (a .out .now) (l .out) (view (l .m)) (counts-of (l .tally)) (l .at) (l .position) (l .used) b) (c .before .before .before .before .before .before .before .before .before .before .before .before .before .before .loop-test .taken) (l .inv .1) in
+    let w = c .before .before .before .before .write-line in
+    ap length (none-after (g .stage .over) _ (w .last .0) (ap writing (sym (c .enum-told .given .1)) ∙ w .ensures .0) (w .ensures .1 .0)) ∙ g .stage .over .size
+
+returns : tie.Need-returns Inv-loop μ-loop
+returns c =
+    let l = c .before .before .before .before .before .before .before .before .before .before .before .before .before .before .before .loop in
+    let a = c .before .before .before .before .before .before .before .before .before .before .before .before .before .before .before .before .before .before .before .args in
+    let g : Going (a .journal .now) (a .out .now) (l .out) (view (l .m)) (counts-of (l .tally)) (l .at) (l .position) (l .used) true = subst (λ (b : Bool). Going (a .journal .now) (a .out .now) (l .out) (view (l .m)) (counts-of (l .tally)) (l .at) (l .position) (l .used) b) (c .before .before .before .before .before .before .before .before .before .before .before .before .before .before .loop-test .taken) (l .inv .1) in
+    let q = c .before .before .before .before .before .before .before .before .before .before .before .start .given in
+    let e : entry-at (a .journal .now) (l .at) ≡ reads (body (q .0 .0) (q .0 .1 .0) (q .0 .1 .1 .0)) = sym (c .before .before .before .before .before .before .before .before .before .before .before .before .before .entry-at .ensures) ∙ ap entry-answer (q .1) in
+    let k = c .before .before .before .before .before .before .before .before .one in
+    let w = c .before .before .before .before .write-line in
+    let x = told (k .result .answer) in
+    let is : line (l .position) (k .result .code) (c .before .before .before .before .before .before .before .letter .result) (c .before .before .before .before .before .before .value .result) ≡ line (l .position) (k .result .code) (letter-of x) (value-of x) = ap₂ (λ u v. line (l .position) (k .result .code) u v) (c .before .before .before .before .before .before .before .letter .ensures) (c .before .before .before .before .before .before .value .ensures) in
+    let rest = take (length (l .out) - l .used) (drop (l .used) (l .out)) in
+    (record-short (a .journal .now) (a .out .now) (l .out) (l .at) (l .position) (l .used) (l .m) (counts-of (l .tally)) g (q .0 .0) (q .0 .1 .0) (q .0 .1 .1 .0) e (k .result .monitor) (counts-of (k .result .tally)) (k .result .code) x (k .ensures) (ap writing (sym (c .enum-told .given .1)) ∙ w .ensures .0 ∙ ap (λ y. fitted y rest) is), λ i z. absurd (Option·none-ne-some i z))
+
+enum-told-2 : tie.Need-enum-told-2 Inv-loop μ-loop
+enum-told-2 c = search needs
+
+sub-write-line-2 : tie.Need-sub-write-line-2 Inv-loop μ-loop
+sub-write-line-2 c = search needs
+
+part-write-line-start-2 : tie.Need-part-write-line-start-2 Inv-loop μ-loop
+part-write-line-start-2 c = search needs
+
+part-write-line-end-2 : tie.Need-part-write-line-end-2 Inv-loop μ-loop
+part-write-line-end-2 c = search needs
+
+write-line-requires-2 : tie.Need-write-line-requires-2 Inv-loop μ-loop
+write-line-requires-2 c κs = search needs
+
+enum-known-n-2 : tie.Need-enum-known-n-2 Inv-loop μ-loop
+enum-known-n-2 c = search needs
+
+add-used-2 : tie.Need-add-used-2 Inv-loop μ-loop
+add-used-2 c =
+    let l = c .before .before .before .before .before .before .before .before .before .before .before .loop in
+    let a = c .before .before .before .before .before .before .before .before .before .before .before .before .before .before .before .args in
+    let g : Going (a .journal .now) (a .out .now) (l .out) (view (l .m)) (counts-of (l .tally)) (l .at) (l .position) (l .used) true = subst (λ (b : Bool). Going (a .journal .now) (a .out .now) (l .out) (view (l .m)) (counts-of (l .tally)) (l .at) (l .position) (l .used) b) (c .before .before .before .before .before .before .before .before .before .before .loop-test .taken) (l .inv .1) in
+    let w = c .before .before .before .before .before .write-line2 in
+    omega (arith, put-after (g .stage .over) _ (w .last .0) (c .before .n2 .given .0 .0) (ap writing (sym (c .before .n2 .given .1)) ∙ w .ensures .0) (w .ensures .1 .0) .within, c .before .before .before .before .before .before .before .before .before .before .before .before .before .before .before .good)
+
+loop-less-2 : tie.Need-loop-less-2 Inv-loop μ-loop
+loop-less-2 c =
+    let l = c .before .before .before .before .before .before .before .before .before .before .before .loop in
+    let a = c .before .before .before .before .before .before .before .before .before .before .before .before .before .before .before .args in
+    let g : Going (a .journal .now) (a .out .now) (l .out) (view (l .m)) (counts-of (l .tally)) (l .at) (l .position) (l .used) true = subst (λ (b : Bool). Going (a .journal .now) (a .out .now) (l .out) (view (l .m)) (counts-of (l .tally)) (l .at) (l .position) (l .used) b) (c .before .before .before .before .before .before .before .before .before .before .loop-test .taken) (l .inv .1) in
+    let one : _≡_ {A = ℕ} (cond (l .going) 1 0) 1 = ap (λ (b : Bool). cond b 1 0) (c .before .before .before .before .before .before .before .before .before .before .loop-test .taken) in
+    omega (arith, one)
+
+loop-again-2 : tie.Need-loop-again-2 Inv-loop μ-loop
+loop-again-2 c =
+    let l = c .before .before .before .before .before .before .before .before .before .before .before .loop in
+    let a = c .before .before .before .before .before .before .before .before .before .before .before .before .before .before .before .args in
+    let g : Going (a .journal .now) (a .out .now) (l .out) (view (l .m)) (counts-of (l .tally)) (l .at) (l .position) (l .used) true = subst (λ (b : Bool). Going (a .journal .now) (a .out .now) (l .out) (view (l .m)) (counts-of (l .tally)) (l .at) (l .position) (l .used) b) (c .before .before .before .before .before .before .before .before .before .before .loop-test .taken) (l .inv .1) in
+    let e : entry-at (a .journal .now) (l .at) ≡ bad 11 = sym (c .before .before .before .before .before .before .before .before .before .entry-at .ensures) ∙ ap entry-answer (c .before .before .before .before .before .before .before .enum-told2 .given .1) in
+    let w = c .before .before .before .before .before .write-line2 in
+    (l .inv .0, broken-turn (a .journal .now) (a .out .now) (l .out) (l .at) (l .position) (l .used) (l .m) (counts-of (l .tally)) g 11 e (bad-inside _ _ _ e) (w .last .0) (c .before .n2 .given .0 .0) (ap writing (sym (c .before .n2 .given .1)) ∙ w .ensures .0) (w .ensures .1 .0))
+
+enum-told-3 : tie.Need-enum-told-3 Inv-loop μ-loop
+enum-told-3 c = search needs
+
+same-length-2 : tie.Need-same-length-2 Inv-loop μ-loop
+same-length-2 c = search needs
+
+returns-2 : tie.Need-returns-2 Inv-loop μ-loop
+returns-2 c =
+    let l = c .before .before .before .before .before .before .before .before .before .before .loop in
+    let a = c .before .before .before .before .before .before .before .before .before .before .before .before .before .before .args in
+    let g : Going (a .journal .now) (a .out .now) (l .out) (view (l .m)) (counts-of (l .tally)) (l .at) (l .position) (l .used) true = subst (λ (b : Bool). Going (a .journal .now) (a .out .now) (l .out) (view (l .m)) (counts-of (l .tally)) (l .at) (l .position) (l .used) b) (c .before .before .before .before .before .before .before .before .before .loop-test .taken) (l .inv .1) in
+    let e : entry-at (a .journal .now) (l .at) ≡ bad 11 = sym (c .before .before .before .before .before .before .before .before .entry-at .ensures) ∙ ap entry-answer (c .before .before .before .before .before .before .enum-told2 .given .1) in
+    let w = c .before .before .before .before .write-line2 in
+    (broken-short (a .journal .now) (a .out .now) (l .out) (l .at) (l .position) (l .used) (l .m) (counts-of (l .tally)) g 11 e (bad-inside _ _ _ e) (ap writing (sym (c .enum-told3 .given .1)) ∙ w .ensures .0), λ i z. absurd (Option·none-ne-some i z))
+
+enum-told-4 : tie.Need-enum-told-4 Inv-loop μ-loop
+enum-told-4 c = search needs
+
+loop-less-3 : tie.Need-loop-less-3 Inv-loop μ-loop
+loop-less-3 c =
+    let l = c .before .before .before .before .loop in
+    let a = c .before .before .before .before .before .before .before .before .args in
+    let g : Going (a .journal .now) (a .out .now) (l .out) (view (l .m)) (counts-of (l .tally)) (l .at) (l .position) (l .used) true = subst (λ (b : Bool). Going (a .journal .now) (a .out .now) (l .out) (view (l .m)) (counts-of (l .tally)) (l .at) (l .position) (l .used) b) (c .before .before .before .loop-test .taken) (l .inv .1) in
+    let one : _≡_ {A = ℕ} (cond (l .going) 1 0) 1 = ap (λ (b : Bool). cond b 1 0) (c .before .before .before .loop-test .taken) in
+    omega (arith, one)
+
+loop-again-3 : tie.Need-loop-again-3 Inv-loop μ-loop
+loop-again-3 c =
+    let l = c .before .before .before .before .loop in
+    let a = c .before .before .before .before .before .before .before .before .args in
+    let g : Going (a .journal .now) (a .out .now) (l .out) (view (l .m)) (counts-of (l .tally)) (l .at) (l .position) (l .used) true = subst (λ (b : Bool). Going (a .journal .now) (a .out .now) (l .out) (view (l .m)) (counts-of (l .tally)) (l .at) (l .position) (l .used) b) (c .before .before .before .loop-test .taken) (l .inv .1) in
+    (l .inv .0, end-turn (a .journal .now) (a .out .now) (l .out) (l .at) (l .position) (l .used) (l .m) (counts-of (l .tally)) g (sym (c .before .before .entry-at .ensures) ∙ ap entry-answer (c .enum-told4 .given .1)))
+
+sub-write-end : tie.Need-sub-write-end Inv-loop μ-loop
+sub-write-end c = search needs
+
+part-write-end-start : tie.Need-part-write-end-start Inv-loop μ-loop
+part-write-end-start c = search needs
+
+part-write-end-end : tie.Need-part-write-end-end Inv-loop μ-loop
+part-write-end-end c = search needs
+
+open-now-requires : tie.Need-open-now-requires Inv-loop μ-loop
+open-now-requires c κs = search needs
+
+write-end-requires : tie.Need-write-end-requires Inv-loop μ-loop
+write-end-requires c κs = search needs
+
+enum-known-n-3 : tie.Need-enum-known-n-3 Inv-loop μ-loop
+enum-known-n-3 c = search needs
+
+add-t41 : tie.Need-add-t41 Inv-loop μ-loop
+add-t41 c =
+    let l = c .before .before .before .before .before .before .before .before .before .loop in
+    let a = c .before .before .before .before .before .before .before .before .before .before .before .before .before .args in
+    let g : Going (a .journal .now) (a .out .now) (l .out) (view (l .m)) (counts-of (l .tally)) (l .at) (l .position) (l .used) false = subst (λ (b : Bool). Going (a .journal .now) (a .out .now) (l .out) (view (l .m)) (counts-of (l .tally)) (l .at) (l .position) (l .used) b) (c .before .before .before .before .before .before .before .before .loop-test .left) (l .inv .1) in
+    let w = c .before .before .before .before .before .write-end in
+    omega (arith, put-after (g .stage .over) _ (w .last .0) (c .before .n3 .given .0 .0) (ap writing (sym (c .before .n3 .given .1)) ∙ w .ensures .0) (w .ensures .1 .0) .within, c .before .before .before .before .before .before .before .before .before .before .before .before .before .good)
+
+enum-told-5 : tie.Need-enum-told-5 Inv-loop μ-loop
+enum-told-5 c = search needs
+
+same-length-3 : tie.Need-same-length-3 Inv-loop μ-loop
+same-length-3 c = search needs
+
+returns-3 : tie.Need-returns-3 Inv-loop μ-loop
+returns-3 c =
+    let l = c .before .before .before .before .before .before .before .before .before .loop in
+    let a = c .before .before .before .before .before .before .before .before .before .before .before .before .before .args in
+    let g : Going (a .journal .now) (a .out .now) (l .out) (view (l .m)) (counts-of (l .tally)) (l .at) (l .position) (l .used) false = subst (λ (b : Bool). Going (a .journal .now) (a .out .now) (l .out) (view (l .m)) (counts-of (l .tally)) (l .at) (l .position) (l .used) b) (c .before .before .before .before .before .before .before .before .loop-test .left) (l .inv .1) in
+    let w = c .before .before .before .before .before .write-end in
+    let is : ending (l .tally .made) (l .tally .gone) (c .before .before .before .before .before .before .open-now .result) ≡ last-line (counts-of (l .tally)) = ap (λ d. ending (l .tally .made) (l .tally .gone) d) (c .before .before .before .before .before .before .open-now .ensures) in
+    let rest = take (length (l .out) - l .used) (drop (l .used) (l .out)) in
+    let r = ended (a .journal .now) (a .out .now) (l .out) (l .position) (l .used) (view (l .m)) (counts-of (l .tally)) (g .stage) (w .last .0) (c .before .n3 .given .0 .0) (ap writing (sym (c .before .n3 .given .1)) ∙ w .ensures .0 ∙ ap (λ y. fitted y rest) is) (w .ensures .1 .0 ∙ ap (λ y. put y rest) is) in
+    (r .0, λ i z. r .1)
+
+same-length-4 : tie.Need-same-length-4 Inv-loop μ-loop
+same-length-4 c = search needs
+
+returns-4 : tie.Need-returns-4 Inv-loop μ-loop
+returns-4 c =
+    let l = c .before .before .before .before .before .before .before .before .loop in
+    let a = c .before .before .before .before .before .before .before .before .before .before .before .before .args in
+    let g : Going (a .journal .now) (a .out .now) (l .out) (view (l .m)) (counts-of (l .tally)) (l .at) (l .position) (l .used) false = subst (λ (b : Bool). Going (a .journal .now) (a .out .now) (l .out) (view (l .m)) (counts-of (l .tally)) (l .at) (l .position) (l .used) b) (c .before .before .before .before .before .before .before .loop-test .left) (l .inv .1) in
+    let w = c .before .before .before .before .write-end in
+    let is : ending (l .tally .made) (l .tally .gone) (c .before .before .before .before .before .open-now .result) ≡ last-line (counts-of (l .tally)) = ap (λ d. ending (l .tally .made) (l .tally .gone) d) (c .before .before .before .before .before .open-now .ensures) in
+    let rest = take (length (l .out) - l .used) (drop (l .used) (l .out)) in
+    (not-ended (a .journal .now) (a .out .now) (l .out) (l .position) (l .used) (view (l .m)) (counts-of (l .tally)) (g .stage) (ap writing (sym (c .enum-told5 .given .1)) ∙ w .ensures .0 ∙ ap (λ y. fitted y rest) is), λ i z. absurd (Option·none-ne-some i z))
+
+pub records-spec : {M : Type 1} → statement M
+records-spec =
+    tie.close
+    (tie.spec
+    Inv-loop
+    μ-loop
+    empty-requires
+    loop-holds
+    entry-at-requires
+    enum-known-start
+    sub-one
+    part-one-start
+    part-one-end
+    one-requires
+    letter-requires
+    value-requires
+    sub-write-line
+    part-write-line-start
+    part-write-line-end
+    write-line-requires
+    enum-known-n
+    add-used
+    add-position
+    loop-less
+    loop-again
+    enum-told
+    same-length
+    returns
+    enum-told-2
+    sub-write-line-2
+    part-write-line-start-2
+    part-write-line-end-2
+    write-line-requires-2
+    enum-known-n-2
+    add-used-2
+    loop-less-2
+    loop-again-2
+    enum-told-3
+    same-length-2
+    returns-2
+    enum-told-4
+    loop-less-3
+    loop-again-3
+    sub-write-end
+    part-write-end-start
+    part-write-end-end
+    open-now-requires
+    write-end-requires
+    enum-known-n-3
+    add-t41
+    enum-told-5
+    same-length-3
+    returns-3
+    same-length-4
+    returns-4)
