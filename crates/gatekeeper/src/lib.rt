@@ -16,6 +16,7 @@ ghost use Rattle.model.specs.Promise.{Meets};
 ghost use Rattle.model.specs.Tally.{tallied};
 ghost use Rattle.model.specs.Tally.{held as held-count};
 ghost use Rattle.gatekeeper.specs.Kinds.{free, piped, filed, vacated, reader, writer};
+ghost use Rattle.gatekeeper.specs.Counting.{Counting};
 ghost use Rattle.gatekeeper.specs.View.{view, told, letter-of, value-of, direct, counts-of, direction, subject-entry, object-entry, held, no-subject, no-object, no-handle};
 ghost use Rattle.gatekeeper.specs.Working.{kept-of, on, slot-of, Mapping, outlived-by, source-by, target-by, demanded-by, Marked, Needed, some-below, short-subject, short-object, refusing, made-by, gone-by};
 
@@ -1343,10 +1344,9 @@ impl Monitor {
         n
     }
 
-    // A direct call, with the tally after it: the history's counts, modulo 2 to the 64th. A refused call leaves it as it was.
-    pub fn counted_call(self, tally: Tally, code: u32, a: u32, b: u32, c: u32, d: u32) -> Counted
-        ensures meets { λ r. ⌜ Meets view self (decode (direct code a b c d)) (told (r .reply .answer)) (r .reply .monitor) ⌝ }
-        ensures counts { λ r. ⌜ counts-of (r .tally) ≡ tallied (clean (view self)) (decode (direct code a b c d)) (counts-of tally) ⌝ }
+    // The work of a counted call, with the tally by value.
+    fn tallied_call(self, tally: Tally, code: u32, a: u32, b: u32, c: u32, d: u32) -> Counted
+        ensures { λ r. ⌜ Counting self tally code a b c d (r .reply) (r .tally) ⌝ }
     {
         let r = self.call(code, a, b, c, d);
         let answer = r.answer;
@@ -1366,5 +1366,24 @@ impl Monitor {
                 gone: gone,
             },
         }
+    }
+
+    // A direct call that counts: the tally is lent, and has the history's counts after it. A refused call leaves it as it was.
+    pub fn lent_call(self, tally: &mut Tally, code: u32, a: u32, b: u32, c: u32, d: u32) -> Reply
+        ensures { λ r. ⌜ Counting self (now (tally .entry)) code a b c d r (now (tally .exit)) ⌝ }
+    {
+        let was = *tally;
+        let out = self.tallied_call(was, code, a, b, c, d);
+        *tally = out.tally;
+        out.reply
+    }
+
+    // The same for a caller that has a tally of its own: it is lent from here, and handed back.
+    pub fn counted_call(self, tally: Tally, code: u32, a: u32, b: u32, c: u32, d: u32) -> Counted
+        ensures { λ r. ⌜ Counting self tally code a b c d (r .reply) (r .tally) ⌝ }
+    {
+        let mut mine = tally;
+        let reply = self.lent_call(&mut mine, code, a, b, c, d);
+        Counted { reply, tally: mine }
     }
 }

@@ -62,8 +62,8 @@ pub enum Entry {
     End,
 }
 
-// The record at the offset `at`, which may be any number.
-pub fn entry_at(journal: &[u8], at: usize) -> Entry
+// What stands at the offset `at`, which may be any number.
+fn record_at(journal: &[u8], at: usize) -> Entry
     ensures { λ r. ⌜ entry-answer r ≡ entry-at (now (journal .entry)) at ⌝ }
 {
     if journal.len() <= at {
@@ -94,6 +94,52 @@ pub fn body_at(journal: &[u8], start: usize, len: usize) -> &[u8]
         return &journal[start..];
     }
     &journal[start..start + len]
+}
+
+// A journal and the offset of the next record.
+pub struct Reader<'a> {
+    pub journal: &'a [u8],
+    pub at: usize,
+}
+
+impl<'a> Reader<'a> {
+    // A reader at the start of a journal.
+    pub fn new(journal: &'a [u8]) -> Reader<'a>
+        ensures { λ r. ⌜ (r .journal ≡ journal .entry) × (r .at ≡ 0) ⌝ }
+    {
+        Reader { journal, at: 0 }
+    }
+
+    // What stands at its offset.
+    pub fn next(self) -> Entry
+        ensures { λ r. ⌜ entry-answer r ≡ entry-at (now (self .entry .journal)) (self .entry .at) ⌝ }
+    {
+        record_at(self.journal, self.at)
+    }
+
+    // The reader of the same journal, moved on.
+    pub fn moved(self, at: usize) -> Reader<'a>
+        ensures { λ r. ⌜ (r .journal ≡ self .entry .journal) × (r .at ≡ at) ⌝ }
+    {
+        Reader {
+            journal: self.journal,
+            at,
+        }
+    }
+
+    // The body of a record: a part of the caller's journal, and no copy.
+    pub fn body(self, start: usize, len: usize) -> &'a [u8]
+        ensures { λ r. ⌜ now r ≡ take len (drop start (now (self .entry .journal))) ⌝ }
+    {
+        body_at(self.journal, start, len)
+    }
+}
+
+// What a reader finds at an offset of a journal, which may be any number. Every caller with a journal and an offset of its own asks this.
+pub fn entry_at(journal: &[u8], at: usize) -> Entry
+    ensures { λ r. ⌜ entry-answer r ≡ entry-at (now (journal .entry)) at ⌝ }
+{
+    Reader { journal, at }.next()
 }
 
 // The numbers of a call, 0 for those that its code does not use.
