@@ -3,7 +3,7 @@
 -- In order: the records of a journal; the calls among them; what each is answered; the lines of the reply; the reply. Assumes nothing.
 use mathlib.Core.Bool.{cond}
 use mathlib.Core.List.{List, [], _∷_, _++_}
-use Prim.Native.Nat.{ℕ, zero, suc}
+use Prim.Native.Nat.{ℕ, zero, suc, _+_, _*_}
 use lib.Dec.{ltb}
 use lib.ListN.{length, take, drop}
 use Rattle.model.specs.Tables.{Tables, empty}
@@ -13,7 +13,7 @@ use Rattle.journal.specs.Answers.{Said, said, Next, body, end}
 use Rattle.journal.specs.Answers.{Answer as Read, answers as reads, refused as bad}
 use Rattle.journal.specs.Journal.{entry-at, body-in}
 use Rattle.gatekeeper.specs.View.{letter-of, value-of}
-use Rattle.text.specs.Reply.{line, ending}
+use Rattle.text.specs.Reply.{line, ending, longest-line, longest-end}
 pub mod Laws
 
 -- ── the records ──
@@ -76,3 +76,7 @@ largest-journal = 65536
 unfoldable pub reply : List ℕ → List ℕ
 reply journal = cond (ltb largest-journal (length journal)) (text (replied 0 (refused 14) ∷ []) zeroed)
     (text (replies empty (records-of journal)) (tally empty zeroed (calls-of (records-of journal))))
+
+-- a buffer with this much room takes any reply: no more records than bytes, a line for each, and the last line
+abbrev pub reply-room : ℕ
+reply-room = longest-line * largest-journal + longest-end

@@ -12,7 +12,7 @@ ghost use Rattle.number.specs.Answers.{writing};
 ghost use Rattle.journal.specs.Journal.{body-in};
 ghost use Rattle.gatekeeper.specs.View.{told, counts-of};
 ghost use Rattle.replay.specs.One.{One};
-ghost use Rattle.replay.specs.Replay.{reply, replied, text};
+ghost use Rattle.replay.specs.Replay.{reply, replied, text, reply-room};
 ghost use Rattle.replay.specs.Stage.{whole};
 use gatekeeper::Answer;
 use gatekeeper::Monitor;
@@ -20,6 +20,9 @@ use gatekeeper::Tally;
 use journal::Body;
 use journal::Entry;
 use number::Written;
+
+// Room for the longest reply: 28 bytes for each of 65,536 records, and 67 for the last line.
+pub const REPLY_ROOM: usize = 1835075;
 
 // A record's reply: the code as it was read and the answer; and what the record leaves, the next monitor and tally.
 pub struct Replied {
@@ -80,6 +83,7 @@ fn records(journal: &[u8], out: &mut [u8]) -> Written
     requires { ⌜ length (now journal) ≤ 65536 ⌝ }
     ensures answer { λ r. ⌜ writing r ≡ fitted (whole (now (journal .entry))) (now (out .entry)) ⌝ }
     ensures buffer { λ r. ⌜ ((k : ℕ) → writing r ≡ some k → now (out .exit) ≡ put (whole (now (journal .entry))) (now (out .entry))) ⌝ }
+    ensures room { λ _. ⌜ (reply-room ≤ length (now (out .entry)) → length (whole (now (journal .entry))) ≤ length (now (out .entry))) ⌝ }
 {
     let mut m = Monitor::empty();
     let mut tally = Tally { made: 0, gone: 0 };
@@ -146,10 +150,11 @@ fn too_long(out: &mut [u8]) -> Written
 }
 
 // The reply to a journal, from empty tables: the text, and how many bytes it has. Where the buffer has no room for all of it, that is the answer, and
-// some of its lines may stand in the buffer.
+// some of its lines may stand in the buffer. A buffer of REPLY_ROOM bytes has room for every reply.
 pub fn replay(journal: &[u8], out: &mut [u8]) -> Written
     ensures answer { λ r. ⌜ writing r ≡ fitted (reply (now (journal .entry))) (now (out .entry)) ⌝ }
     ensures buffer { λ r. ⌜ ((k : ℕ) → writing r ≡ some k → now (out .exit) ≡ put (reply (now (journal .entry))) (now (out .entry))) ⌝ }
+    ensures room { λ _. ⌜ (reply-room ≤ length (now (out .entry)) → length (reply (now (journal .entry))) ≤ length (now (out .entry))) ⌝ }
 {
     if 65536 < journal.len() {
         return too_long(out);

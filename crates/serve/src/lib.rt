@@ -4,6 +4,8 @@ ghost use mathlib.Core.Path.{_≡_};
 ghost use mathlib.Core.Option.{some};
 ghost use Prim.Native.Nat.{ℕ, _≤_};
 ghost use lib.ListN.{length};
+ghost use Rattle.number.specs.Put.{put};
+ghost use Rattle.replay.specs.Replay.{reply, reply-room};
 ghost use Rattle.serve.specs.Rooms.{filled, Sized};
 use number::Written;
 
@@ -20,11 +22,11 @@ fn journal_space() -> [u8; 65537]
     [0; 65537]
 }
 
-// Room for the longest reply: 28 bytes for each of 65,536 records, and 67 for the last line.
-fn reply_space() -> [u8; 1835075]
-    ensures { λ r. ⌜ Sized 1835075 r ⌝ }
+// Room for the longest reply.
+fn reply_space() -> [u8; replay::REPLY_ROOM]
+    ensures { λ r. ⌜ Sized reply-room r ⌝ }
 {
-    [0; 1835075]
+    [0; replay::REPLY_ROOM]
 }
 
 // Reads until the input ends or the buffer is full. Which bytes come is the host's.
@@ -51,17 +53,30 @@ fn say(message: &[u8]) {
     io::write_all(libc::STDERR_FILENO, message);
 }
 
+// The reply to a journal, where there is room for every reply, and how many bytes it has.
+fn reply_to(journal: &[u8], out: &mut [u8]) -> usize
+    requires { ⌜ reply-room ≤ length (now out) ⌝ }
+    ensures count { λ r. ⌜ r ≡ length (reply (now (journal .entry))) ⌝ }
+    ensures buffer { λ _. ⌜ now (out .exit) ≡ put (reply (now (journal .entry))) (now (out .entry)) ⌝ }
+    ensures inside { λ r. ⌜ r ≤ length (now (out .exit)) ⌝ }
+{
+    match replay::replay(journal, out) {
+        Written::Bytes(k) => k,
+        Written::NoRoom => 0,
+    }
+}
+
 // Standard input to its end, or until the first buffer is full; the replies to standard output, by way of the second.
-fn pass_on(journal: &mut [u8], out: &mut [u8]) {
+fn pass_on(journal: &mut [u8], out: &mut [u8])
+    requires { ⌜ reply-room ≤ length (now out) ⌝ }
+{
     match fill(libc::STDIN_FILENO, journal) {
-        Filled::Bytes(n) => match replay::replay(&journal[..n], out) {
-            Written::Bytes(k) => {
-                if !io::write_all(libc::STDOUT_FILENO, &out[..k]) {
-                    say(b"payrun: standard output could not be written\n");
-                }
+        Filled::Bytes(n) => {
+            let k = reply_to(&journal[..n], out);
+            if !io::write_all(libc::STDOUT_FILENO, &out[..k]) {
+                say(b"payrun: standard output could not be written\n");
             }
-            Written::NoRoom => say(b"payrun: the reply is longer than the program has room for\n"),
-        },
+        }
         Filled::Failed => say(b"payrun: standard input could not be read\n"),
     }
 }

@@ -33,12 +33,11 @@ joined at out ys = putMid at (length out - at) out ys
 
 -- ---- a line e of at most `most` bytes
 
-module _ (e b : List ℕ) where
-  pub no-room : length b < length e → (most : ℕ) → (none ≡ fitted e b) × ((b ≡ put e b) × (0 ≤ most))
-  no-room h most = (sym (fitted-none e b h), (sym (put-none e b h), omega arith))
+module _ (e b : List ℕ) (most : ℕ) (short : length e ≤ most) where
+  pub no-room : length b < length e → (none ≡ fitted e b) × ((b ≡ put e b) × (length e ≤ most))
+  no-room h = (sym (fitted-none e b h), (sym (put-none e b h), short))
 
-  pub all-written : (at : ℕ) (out : List ℕ) → Over b e at out → (most : ℕ) → length e ≤ most
-      → (some at ≡ fitted e b) × ((out ≡ put e b) × (at ≤ most))
-  all-written at out o most short =
+  pub all-written : (at : ℕ) (out : List ℕ) → Over b e at out → (some at ≡ fitted e b) × ((out ≡ put e b) × (length e ≤ most))
+  all-written at out o =
       let count = over-count o in
-      (ap some count ∙ sym (fitted-fits e b (omega (arith, o .within))), (over-put o, omega arith))
+      (ap some count ∙ sym (fitted-fits e b (omega (arith, o .within))), (over-put o, short))

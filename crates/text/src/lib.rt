@@ -2,7 +2,6 @@
 // What stands in them is in specs/Reply.antt, and a number's digits are in specs/Decimal.antt.
 ghost use mathlib.Core.Path.{_≡_};
 ghost use Prim.Native.Nat.{_≤_};
-ghost use mathlib.Core.Option.{Option·getD};
 ghost use lib.ListN.{length};
 ghost use Rattle.number.specs.Put.{put, fitted};
 ghost use Rattle.number.specs.Answers.{writing};
@@ -59,7 +58,7 @@ fn write_field(out: &mut [u8], n: u64, mark: u8) -> usize
 pub fn write_line(out: &mut [u8], position: u32, code: u32, letter: u8, value: u8) -> Written
     ensures answer { λ r. ⌜ writing r ≡ fitted (line position code letter value) (now (out .entry)) ⌝ }
     ensures buffer { λ _. ⌜ now (out .exit) ≡ put (line position code letter value) (now (out .entry)) ⌝ }
-    ensures short { λ r. do ⌜ Option·getD (writing r) 0 ≤ (← ⟦LONGEST_LINE⟧ .entry) ⌝ }
+    ensures short { λ _. do ⌜ length (line position code letter value) ≤ (← ⟦LONGEST_LINE⟧ .entry) ⌝ }
 {
     let position = position as u64;
     let code = code as u64;
@@ -80,7 +79,7 @@ pub fn write_line(out: &mut [u8], position: u32, code: u32, letter: u8, value: u
 pub fn write_end(out: &mut [u8], made: u64, gone: u64, held: u64) -> Written
     ensures answer { λ r. ⌜ writing r ≡ fitted (ending made gone held) (now (out .entry)) ⌝ }
     ensures buffer { λ _. ⌜ now (out .exit) ≡ put (ending made gone held) (now (out .entry)) ⌝ }
-    ensures short { λ r. do ⌜ Option·getD (writing r) 0 ≤ (← ⟦LONGEST_END⟧ .entry) ⌝ }
+    ensures short { λ _. do ⌜ length (ending made gone held) ≤ (← ⟦LONGEST_END⟧ .entry) ⌝ }
 {
     // With the digits stand the word, three spaces and the newline.
     let size = decimal_len(made) + decimal_len(gone) + decimal_len(held) + 7;

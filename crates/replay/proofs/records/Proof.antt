@@ -1,10 +1,9 @@
 -- `replay::records` meets its contract. Assumes nothing.
 use mathlib.Core.Path.{_≡_, sym, _∙_, ap, ap₂, subst}
-use borrow.Rule.Slice.PartMut.{putMid}
 use Rattle.text.specs.Parts.Laws.{put-after, none-after}
 use Rattle.replay.specs.Replay.{last-line}
 use Rattle.replay.specs.Replay.Laws.{bad-inside}
-use mathlib.Core.Bool.{Bool, true, false, cond}
+use mathlib.Core.Bool.{Bool, cond}
 use mathlib.Core.Option.{Option·none-ne-some}
 use Prim.Native.Nat.{ℕ, _+_, _-_, _≤_}
 use native.Mathlib.Omega.{arith}
@@ -12,13 +11,14 @@ use borrow.Author.Needs.{needs}
 use lib.ListN.{length, take, drop}
 use Rattle.number.specs.Put.{put, fitted}
 use Rattle.number.specs.Answers.{writing}
-use Rattle.text.specs.Reply.{line, ending}
+use Rattle.text.specs.Reply.{line, ending, longest-line, longest-end}
+use Rattle.number.specs.Put.Laws.{fits}
 use Rattle.journal.specs.Answers.{body, entry-answer}
 use Rattle.journal.specs.Answers.{answers as reads, refused as bad}
 use Rattle.journal.specs.Journal.{entry-at}
 use Rattle.journal.specs.Journal.Laws.{entry-stands, entry-next}
 use Rattle.gatekeeper.specs.View.{view, told, letter-of, value-of, counts-of}
-use Rattle.replay.specs.Stage.{Going, going-begun, record-turn, record-short, broken-turn, broken-short, end-turn, ended, not-ended}
+use Rattle.replay.specs.Stage.{Going, going-begun, at-test, room-left, record-turn, record-short, record-room, broken-turn, broken-short, broken-room, end-turn, ended, not-ended}
 use Rattle.replay.proofs.records.Statement.{statement}
 use Rattle.replay.proofs.records.Tie as tie
 
@@ -46,27 +46,30 @@ sub-one : tie.Need-sub-one Inv-loop μ-loop
 sub-one c =
     let l = c .before .before .before .before .before .loop in
     let a = c .before .before .before .before .before .before .before .before .before .args in
-    let g : Going (a .journal .now) (a .out .now) (l .out) (view (l .m)) (counts-of (l .tally)) (l .at) (l .position) (l .used) true = subst (λ (b : Bool). Going (a .journal .now) (a .out .now) (l .out) (view (l .m)) (counts-of (l .tally)) (l .at) (l .position) (l .used) b) (c .before .before .before .before .loop-test .taken) (l .inv .1) in
+    let g = at-test (c .before .before .before .before .loop-test .taken) (l .inv .1) in
     let q = c .before .start .given in
-    let e : entry-at (a .journal .now) (l .at) ≡ reads (body (q .0 .0) (q .0 .1 .0) (q .0 .1 .1 .0)) = sym (c .before .before .before .entry-at .ensures) ∙ ap entry-answer (q .1) in
+    let e : entry-at (a .journal .now) (l .at) ≡ reads (body (q .0 .0) (q .0 .1 .0)
+    (q .0 .1 .1 .0)) = sym (c .before .before .before .entry-at .ensures) ∙ ap entry-answer (q .1) in
     let (k, f) = entry-stands _ _ _ _ _ e in omega (arith, f .ends)
 
 part-one-start : tie.Need-part-one-start Inv-loop μ-loop
 part-one-start c =
     let l = c .before .before .before .before .before .loop in
     let a = c .before .before .before .before .before .before .before .before .before .args in
-    let g : Going (a .journal .now) (a .out .now) (l .out) (view (l .m)) (counts-of (l .tally)) (l .at) (l .position) (l .used) true = subst (λ (b : Bool). Going (a .journal .now) (a .out .now) (l .out) (view (l .m)) (counts-of (l .tally)) (l .at) (l .position) (l .used) b) (c .before .before .before .before .loop-test .taken) (l .inv .1) in
+    let g = at-test (c .before .before .before .before .loop-test .taken) (l .inv .1) in
     let q = c .before .start .given in
-    let e : entry-at (a .journal .now) (l .at) ≡ reads (body (q .0 .0) (q .0 .1 .0) (q .0 .1 .1 .0)) = sym (c .before .before .before .entry-at .ensures) ∙ ap entry-answer (q .1) in
+    let e : entry-at (a .journal .now) (l .at) ≡ reads (body (q .0 .0) (q .0 .1 .0)
+    (q .0 .1 .1 .0)) = sym (c .before .before .before .entry-at .ensures) ∙ ap entry-answer (q .1) in
     let (k, f) = entry-stands _ _ _ _ _ e in omega (arith, f .ends, f .within)
 
 part-one-end : tie.Need-part-one-end Inv-loop μ-loop
 part-one-end c =
     let l = c .before .before .before .before .before .loop in
     let a = c .before .before .before .before .before .before .before .before .before .args in
-    let g : Going (a .journal .now) (a .out .now) (l .out) (view (l .m)) (counts-of (l .tally)) (l .at) (l .position) (l .used) true = subst (λ (b : Bool). Going (a .journal .now) (a .out .now) (l .out) (view (l .m)) (counts-of (l .tally)) (l .at) (l .position) (l .used) b) (c .before .before .before .before .loop-test .taken) (l .inv .1) in
+    let g = at-test (c .before .before .before .before .loop-test .taken) (l .inv .1) in
     let q = c .before .start .given in
-    let e : entry-at (a .journal .now) (l .at) ≡ reads (body (q .0 .0) (q .0 .1 .0) (q .0 .1 .1 .0)) = sym (c .before .before .before .entry-at .ensures) ∙ ap entry-answer (q .1) in
+    let e : entry-at (a .journal .now) (l .at) ≡ reads (body (q .0 .0) (q .0 .1 .0)
+    (q .0 .1 .1 .0)) = sym (c .before .before .before .entry-at .ensures) ∙ ap entry-answer (q .1) in
     let (k, f) = entry-stands _ _ _ _ _ e in omega (arith, f .ends, f .within)
 
 one-requires : tie.Need-one-requires Inv-loop μ-loop
@@ -97,41 +100,52 @@ add-used : tie.Need-add-used Inv-loop μ-loop
 add-used c =
     let l = c .before .before .before .before .before .before .before .before .before .before .before .before .before .before .before .before .loop in
     let a = c .before .before .before .before .before .before .before .before .before .before .before .before .before .before .before .before .before .before .before .before .args in
-    let g : Going (a .journal .now) (a .out .now) (l .out) (view (l .m)) (counts-of (l .tally)) (l .at) (l .position) (l .used) true = subst (λ (b : Bool). Going (a .journal .now) (a .out .now) (l .out) (view (l .m)) (counts-of (l .tally)) (l .at) (l .position) (l .used) b) (c .before .before .before .before .before .before .before .before .before .before .before .before .before .before .before .loop-test .taken) (l .inv .1) in
+    let g = at-test (c .before .before .before .before .before .before .before .before .before .before .before .before .before .before .before .loop-test .taken) (l .inv .1) in
     let w = c .before .before .before .before .before .write-line in
-    omega (arith, put-after (g .stage .over) _ (w .last .0) (c .before .n .given .0 .0) (ap writing (sym (c .before .n .given .1)) ∙ w .ensures .0) (w .ensures .1 .0) .within, c .before .before .before .before .before .before .before .before .before .before .before .before .before .before .before .before .before .before .before .before .good)
+    omega (
+      arith,
+      put-after (g .stage .over) _ (w .last .0) (c .before .n .given .0 .0) (ap writing (sym (c .before .n .given .1)) ∙ w .ensures .0)
+          (w .ensures .1 .0) .within,
+      c .before .before .before .before .before .before .before .before .before .before .before .before .before .before .before .before .before .before .before .before .good,
+    )
 
 add-position : tie.Need-add-position Inv-loop μ-loop
 add-position c =
     let l = c .before .before .before .before .before .before .before .before .before .before .before .before .before .before .before .before .loop in
     let a = c .before .before .before .before .before .before .before .before .before .before .before .before .before .before .before .before .before .before .before .before .args in
-    let g : Going (a .journal .now) (a .out .now) (l .out) (view (l .m)) (counts-of (l .tally)) (l .at) (l .position) (l .used) true = subst (λ (b : Bool). Going (a .journal .now) (a .out .now) (l .out) (view (l .m)) (counts-of (l .tally)) (l .at) (l .position) (l .used) b) (c .before .before .before .before .before .before .before .before .before .before .before .before .before .before .before .loop-test .taken) (l .inv .1) in
+    let g = at-test (c .before .before .before .before .before .before .before .before .before .before .before .before .before .before .before .loop-test .taken) (l .inv .1) in
     omega (arith, g .early, g .inside, l .inv .0)
 
 loop-less : tie.Need-loop-less Inv-loop μ-loop
 loop-less c =
     let l = c .before .before .before .before .before .before .before .before .before .before .before .before .before .before .before .before .before .before .loop in
     let a = c .before .before .before .before .before .before .before .before .before .before .before .before .before .before .before .before .before .before .before .before .before .before .args in
-    let g : Going (a .journal .now) (a .out .now) (l .out) (view (l .m)) (counts-of (l .tally)) (l .at) (l .position) (l .used) true = subst (λ (b : Bool). Going (a .journal .now) (a .out .now) (l .out) (view (l .m)) (counts-of (l .tally)) (l .at) (l .position) (l .used) b) (c .before .before .before .before .before .before .before .before .before .before .before .before .before .before .before .before .before .loop-test .taken) (l .inv .1) in
+    let g = at-test (c .before .before .before .before .before .before .before .before .before .before .before .before .before .before .before .before .before .loop-test .taken) (l .inv .1) in
     let q = c .before .before .before .before .before .before .before .before .before .before .before .before .before .before .start .given in
-    let e : entry-at (a .journal .now) (l .at) ≡ reads (body (q .0 .0) (q .0 .1 .0) (q .0 .1 .1 .0)) = sym (c .before .before .before .before .before .before .before .before .before .before .before .before .before .before .before .before .entry-at .ensures) ∙ ap entry-answer (q .1) in
+    let e : entry-at (a .journal .now) (l .at) ≡ reads (body (q .0 .0) (q .0 .1 .0)
+    (q .0 .1 .1 .0)) = sym (c .before .before .before .before .before .before .before .before .before .before .before .before .before .before .before .before .entry-at .ensures) ∙ ap entry-answer (q .1) in
     omega (arith, entry-next _ _ _ _ _ e .0, entry-next _ _ _ _ _ e .1)
 
 loop-again : tie.Need-loop-again Inv-loop μ-loop
 loop-again c =
     let l = c .before .before .before .before .before .before .before .before .before .before .before .before .before .before .before .before .before .before .loop in
     let a = c .before .before .before .before .before .before .before .before .before .before .before .before .before .before .before .before .before .before .before .before .before .before .args in
-    let g : Going (a .journal .now) (a .out .now) (l .out) (view (l .m)) (counts-of (l .tally)) (l .at) (l .position) (l .used) true = subst (λ (b : Bool). Going (a .journal .now) (a .out .now) (l .out) (view (l .m)) (counts-of (l .tally)) (l .at) (l .position) (l .used) b) (c .before .before .before .before .before .before .before .before .before .before .before .before .before .before .before .before .before .loop-test .taken) (l .inv .1) in
+    let g = at-test (c .before .before .before .before .before .before .before .before .before .before .before .before .before .before .before .before .before .loop-test .taken) (l .inv .1) in
     let q = c .before .before .before .before .before .before .before .before .before .before .before .before .before .before .start .given in
-    let e : entry-at (a .journal .now) (l .at) ≡ reads (body (q .0 .0) (q .0 .1 .0) (q .0 .1 .1 .0)) = sym (c .before .before .before .before .before .before .before .before .before .before .before .before .before .before .before .before .entry-at .ensures) ∙ ap entry-answer (q .1) in
+    let e : entry-at (a .journal .now) (l .at) ≡ reads (body (q .0 .0) (q .0 .1 .0)
+    (q .0 .1 .1 .0)) = sym (c .before .before .before .before .before .before .before .before .before .before .before .before .before .before .before .before .entry-at .ensures) ∙ ap entry-answer (q .1) in
     let k = c .before .before .before .before .before .before .before .before .before .before .before .one in
     let w = c .before .before .before .before .before .before .before .write-line in
     let x = told (k .result .answer) in
-    let is : line (l .position) (k .result .code) (c .before .before .before .before .before .before .before .before .before .before .letter .result) (c .before .before .before .before .before .before .before .before .before .value .result) ≡ line (l .position) (k .result .code) (letter-of x) (value-of x) = ap₂ (λ u v. line (l .position) (k .result .code) u v) (c .before .before .before .before .before .before .before .before .before .before .letter .ensures) (c .before .before .before .before .before .before .before .before .before .value .ensures) in
+    let is : line (l .position) (k .result .code) (c .before .before .before .before .before .before .before .before .before .before .letter .result)
+    (c .before .before .before .before .before .before .before .before .before .value .result) ≡ line (l .position) (k .result .code)
+    (letter-of x) (value-of x) = ap₂ (λ u v. line (l .position) (k .result .code) u v)
+    (c .before .before .before .before .before .before .before .before .before .before .letter .ensures)
+    (c .before .before .before .before .before .before .before .before .before .value .ensures) in
+    let thin = subst (λ y. length y ≤ longest-line) is (w .ensures .1 .1) in
     let rest = take (length (l .out) - l .used) (drop (l .used) (l .out)) in (
       l .inv .0,
-      subst (λ (b : Bool). Going (a .journal .now) (a .out .now) (putMid (l .used) (length (l .out) - l .used) (l .out) (w .last .0)) (view (k .result .monitor)) (counts-of (k .result .tally)) (q .0 .1 .1 .0) (l .position + 1) (l .used + c .before .before .before .n .given .0 .0) b) (sym (c .before .before .before .before .before .before .before .before .before .before .before .before .before .before .before .before .before .loop-test .taken))
-          (record-turn (a .journal .now) (a .out .now) (l .out) (l .at) (l .position) (l .used) (l .m) (counts-of (l .tally)) g (q .0 .0) (q .0 .1 .0) (q .0 .1 .1 .0) e (k .result .monitor) (counts-of (k .result .tally)) (k .result .code) x (k .ensures) (w .last .0) (c .before .before .before .n .given .0 .0) (ap writing (sym (c .before .before .before .n .given .1)) ∙ w .ensures .0 ∙ ap (λ y. fitted y rest) is) (w .ensures .1 .0 ∙ ap (λ y. put y rest) is)),
+      at-test (sym (c .before .before .before .before .before .before .before .before .before .before .before .before .before .before .before .before .before .loop-test .taken)) (record-turn (a .journal .now) (a .out .now) (l .out) (l .at) (l .position) (l .used) (l .m) (counts-of (l .tally)) g (q .0 .0) (q .0 .1 .0) (q .0 .1 .1 .0) e (k .result .monitor) (counts-of (k .result .tally)) (k .result .code) x (k .ensures) thin (w .last .0) (c .before .before .before .n .given .0 .0) (ap writing (sym (c .before .before .before .n .given .1)) ∙ w .ensures .0 ∙ ap (λ y. fitted y rest) is) (w .ensures .1 .0 ∙ ap (λ y. put y rest) is)),
     )
 
 enum-told : tie.Need-enum-told Inv-loop μ-loop
@@ -141,23 +155,34 @@ same-length : tie.Need-same-length Inv-loop μ-loop
 same-length c =
     let l = c .before .before .before .before .before .before .before .before .before .before .before .before .before .before .before .loop in
     let a = c .before .before .before .before .before .before .before .before .before .before .before .before .before .before .before .before .before .before .before .args in
-    let g : Going (a .journal .now) (a .out .now) (l .out) (view (l .m)) (counts-of (l .tally)) (l .at) (l .position) (l .used) true = subst (λ (b : Bool). Going (a .journal .now) (a .out .now) (l .out) (view (l .m)) (counts-of (l .tally)) (l .at) (l .position) (l .used) b) (c .before .before .before .before .before .before .before .before .before .before .before .before .before .before .loop-test .taken) (l .inv .1) in
+    let g = at-test (c .before .before .before .before .before .before .before .before .before .before .before .before .before .before .loop-test .taken) (l .inv .1) in
     let w = c .before .before .before .before .write-line in
-    ap length (none-after (g .stage .over) _ (w .last .0) (ap writing (sym (c .enum-told .given .1)) ∙ w .ensures .0) (w .ensures .1 .0)) ∙ g .stage .over .size
+    ap length (none-after (g .stage .over) _ (w .last .0) (ap writing (sym (c .enum-told .given .1)) ∙ w .ensures .0)
+    (w .ensures .1 .0)) ∙ g .stage .over .size
 
 returns : tie.Need-returns Inv-loop μ-loop
 returns c =
     let l = c .before .before .before .before .before .before .before .before .before .before .before .before .before .before .before .loop in
     let a = c .before .before .before .before .before .before .before .before .before .before .before .before .before .before .before .before .before .before .before .args in
-    let g : Going (a .journal .now) (a .out .now) (l .out) (view (l .m)) (counts-of (l .tally)) (l .at) (l .position) (l .used) true = subst (λ (b : Bool). Going (a .journal .now) (a .out .now) (l .out) (view (l .m)) (counts-of (l .tally)) (l .at) (l .position) (l .used) b) (c .before .before .before .before .before .before .before .before .before .before .before .before .before .before .loop-test .taken) (l .inv .1) in
+    let g = at-test (c .before .before .before .before .before .before .before .before .before .before .before .before .before .before .loop-test .taken) (l .inv .1) in
     let q = c .before .before .before .before .before .before .before .before .before .before .before .start .given in
-    let e : entry-at (a .journal .now) (l .at) ≡ reads (body (q .0 .0) (q .0 .1 .0) (q .0 .1 .1 .0)) = sym (c .before .before .before .before .before .before .before .before .before .before .before .before .before .entry-at .ensures) ∙ ap entry-answer (q .1) in
+    let e : entry-at (a .journal .now) (l .at) ≡ reads (body (q .0 .0) (q .0 .1 .0)
+    (q .0 .1 .1 .0)) = sym (c .before .before .before .before .before .before .before .before .before .before .before .before .before .entry-at .ensures) ∙ ap entry-answer (q .1) in
     let k = c .before .before .before .before .before .before .before .before .one in
     let w = c .before .before .before .before .write-line in
     let x = told (k .result .answer) in
-    let is : line (l .position) (k .result .code) (c .before .before .before .before .before .before .before .letter .result) (c .before .before .before .before .before .before .value .result) ≡ line (l .position) (k .result .code) (letter-of x) (value-of x) = ap₂ (λ u v. line (l .position) (k .result .code) u v) (c .before .before .before .before .before .before .before .letter .ensures) (c .before .before .before .before .before .before .value .ensures) in
+    let is : line (l .position) (k .result .code) (c .before .before .before .before .before .before .before .letter .result)
+    (c .before .before .before .before .before .before .value .result) ≡ line (l .position) (k .result .code) (letter-of x)
+    (value-of x) = ap₂ (λ u v. line (l .position) (k .result .code) u v)
+    (c .before .before .before .before .before .before .before .letter .ensures)
+    (c .before .before .before .before .before .before .value .ensures) in
     let rest = take (length (l .out) - l .used) (drop (l .used) (l .out)) in
-    (record-short (a .journal .now) (a .out .now) (l .out) (l .at) (l .position) (l .used) (l .m) (counts-of (l .tally)) g (q .0 .0) (q .0 .1 .0) (q .0 .1 .1 .0) e (k .result .monitor) (counts-of (k .result .tally)) (k .result .code) x (k .ensures) (ap writing (sym (c .enum-told .given .1)) ∙ w .ensures .0 ∙ ap (λ y. fitted y rest) is), λ i z. absurd (Option·none-ne-some i z))
+    let thin = subst (λ y. length y ≤ longest-line) is (w .ensures .1 .1) in
+    let none-is = ap writing (sym (c .enum-told .given .1)) ∙ w .ensures .0 ∙ ap (λ y. fitted y rest) is in (
+      record-short (a .journal .now) (a .out .now) (l .out) (l .at) (l .position) (l .used) (l .m) (counts-of (l .tally)) g (q .0 .0) (q .0 .1 .0)
+          (q .0 .1 .1 .0) e (k .result .monitor) (counts-of (k .result .tally)) (k .result .code) x (k .ensures) thin none-is,
+      (λ i z. absurd (Option·none-ne-some i z), λ room. absurd (record-room (a .journal .now) (a .out .now) (l .out) (l .at) (l .position) (l .used) (l .m) (counts-of (l .tally)) g (q .0 .0) (q .0 .1 .0) (q .0 .1 .1 .0) e (k .result .monitor) (counts-of (k .result .tally)) (k .result .code) x (k .ensures) thin room (l .inv .0) none-is)),
+    )
 
 enum-told-2 : tie.Need-enum-told-2 Inv-loop μ-loop
 enum-told-2 c = search needs
@@ -181,26 +206,36 @@ add-used-2 : tie.Need-add-used-2 Inv-loop μ-loop
 add-used-2 c =
     let l = c .before .before .before .before .before .before .before .before .before .before .before .loop in
     let a = c .before .before .before .before .before .before .before .before .before .before .before .before .before .before .before .args in
-    let g : Going (a .journal .now) (a .out .now) (l .out) (view (l .m)) (counts-of (l .tally)) (l .at) (l .position) (l .used) true = subst (λ (b : Bool). Going (a .journal .now) (a .out .now) (l .out) (view (l .m)) (counts-of (l .tally)) (l .at) (l .position) (l .used) b) (c .before .before .before .before .before .before .before .before .before .before .loop-test .taken) (l .inv .1) in
+    let g = at-test (c .before .before .before .before .before .before .before .before .before .before .loop-test .taken) (l .inv .1) in
     let w = c .before .before .before .before .before .write-line2 in
-    omega (arith, put-after (g .stage .over) _ (w .last .0) (c .before .n2 .given .0 .0) (ap writing (sym (c .before .n2 .given .1)) ∙ w .ensures .0) (w .ensures .1 .0) .within, c .before .before .before .before .before .before .before .before .before .before .before .before .before .before .before .good)
+    omega (
+      arith,
+      put-after (g .stage .over) _ (w .last .0) (c .before .n2 .given .0 .0) (ap writing (sym (c .before .n2 .given .1)) ∙ w .ensures .0)
+          (w .ensures .1 .0) .within,
+      c .before .before .before .before .before .before .before .before .before .before .before .before .before .before .before .good,
+    )
 
 loop-less-2 : tie.Need-loop-less-2 Inv-loop μ-loop
 loop-less-2 c =
     let l = c .before .before .before .before .before .before .before .before .before .before .before .loop in
     let a = c .before .before .before .before .before .before .before .before .before .before .before .before .before .before .before .args in
-    let g : Going (a .journal .now) (a .out .now) (l .out) (view (l .m)) (counts-of (l .tally)) (l .at) (l .position) (l .used) true = subst (λ (b : Bool). Going (a .journal .now) (a .out .now) (l .out) (view (l .m)) (counts-of (l .tally)) (l .at) (l .position) (l .used) b) (c .before .before .before .before .before .before .before .before .before .before .loop-test .taken) (l .inv .1) in
-    let one : _≡_ {A = ℕ} (cond (l .going) 1 0) 1 = ap (λ (b : Bool). cond b 1 0) (c .before .before .before .before .before .before .before .before .before .before .loop-test .taken) in
+    let g = at-test (c .before .before .before .before .before .before .before .before .before .before .loop-test .taken) (l .inv .1) in
+    let one : _≡_ {A = ℕ} (cond (l .going) 1 0) 1 = ap (λ (b : Bool). cond b 1 0)
+    (c .before .before .before .before .before .before .before .before .before .before .loop-test .taken) in
     omega (arith, one)
 
 loop-again-2 : tie.Need-loop-again-2 Inv-loop μ-loop
 loop-again-2 c =
     let l = c .before .before .before .before .before .before .before .before .before .before .before .loop in
     let a = c .before .before .before .before .before .before .before .before .before .before .before .before .before .before .before .args in
-    let g : Going (a .journal .now) (a .out .now) (l .out) (view (l .m)) (counts-of (l .tally)) (l .at) (l .position) (l .used) true = subst (λ (b : Bool). Going (a .journal .now) (a .out .now) (l .out) (view (l .m)) (counts-of (l .tally)) (l .at) (l .position) (l .used) b) (c .before .before .before .before .before .before .before .before .before .before .loop-test .taken) (l .inv .1) in
+    let g = at-test (c .before .before .before .before .before .before .before .before .before .before .loop-test .taken) (l .inv .1) in
     let e : entry-at (a .journal .now) (l .at) ≡ bad 11 = sym (c .before .before .before .before .before .before .before .before .before .entry-at .ensures) ∙ ap entry-answer (c .before .before .before .before .before .before .before .enum-told2 .given .1) in
-    let w = c .before .before .before .before .before .write-line2 in
-    (l .inv .0, broken-turn (a .journal .now) (a .out .now) (l .out) (l .at) (l .position) (l .used) (l .m) (counts-of (l .tally)) g 11 e (bad-inside _ _ _ e) (w .last .0) (c .before .n2 .given .0 .0) (ap writing (sym (c .before .n2 .given .1)) ∙ w .ensures .0) (w .ensures .1 .0))
+    let w = c .before .before .before .before .before .write-line2 in (
+      l .inv .0,
+      broken-turn (a .journal .now) (a .out .now) (l .out) (l .at) (l .position) (l .used) (l .m)
+          (counts-of (l .tally)) g 11 e (bad-inside _ _ _ e) (w .ensures .1 .1) (w .last .0) (c .before .n2 .given .0 .0)
+          (ap writing (sym (c .before .n2 .given .1)) ∙ w .ensures .0) (w .ensures .1 .0),
+    )
 
 enum-told-3 : tie.Need-enum-told-3 Inv-loop μ-loop
 enum-told-3 c = search needs
@@ -212,10 +247,14 @@ returns-2 : tie.Need-returns-2 Inv-loop μ-loop
 returns-2 c =
     let l = c .before .before .before .before .before .before .before .before .before .before .loop in
     let a = c .before .before .before .before .before .before .before .before .before .before .before .before .before .before .args in
-    let g : Going (a .journal .now) (a .out .now) (l .out) (view (l .m)) (counts-of (l .tally)) (l .at) (l .position) (l .used) true = subst (λ (b : Bool). Going (a .journal .now) (a .out .now) (l .out) (view (l .m)) (counts-of (l .tally)) (l .at) (l .position) (l .used) b) (c .before .before .before .before .before .before .before .before .before .loop-test .taken) (l .inv .1) in
+    let g = at-test (c .before .before .before .before .before .before .before .before .before .loop-test .taken) (l .inv .1) in
     let e : entry-at (a .journal .now) (l .at) ≡ bad 11 = sym (c .before .before .before .before .before .before .before .before .entry-at .ensures) ∙ ap entry-answer (c .before .before .before .before .before .before .enum-told2 .given .1) in
     let w = c .before .before .before .before .write-line2 in
-    (broken-short (a .journal .now) (a .out .now) (l .out) (l .at) (l .position) (l .used) (l .m) (counts-of (l .tally)) g 11 e (bad-inside _ _ _ e) (ap writing (sym (c .enum-told3 .given .1)) ∙ w .ensures .0), λ i z. absurd (Option·none-ne-some i z))
+    let none-is = ap writing (sym (c .enum-told3 .given .1)) ∙ w .ensures .0 in (
+      broken-short (a .journal .now) (a .out .now) (l .out) (l .at) (l .position) (l .used) (l .m) (counts-of (l .tally)) g 11 e (bad-inside _ _ _ e)
+          (w .ensures .1 .1) none-is,
+      (λ i z. absurd (Option·none-ne-some i z), λ room. absurd (broken-room (a .journal .now) (a .out .now) (l .out) (l .at) (l .position) (l .used) (l .m) (counts-of (l .tally)) g 11 e (bad-inside _ _ _ e) (w .ensures .1 .1) room (l .inv .0) none-is)),
+    )
 
 enum-told-4 : tie.Need-enum-told-4 Inv-loop μ-loop
 enum-told-4 c = search needs
@@ -224,7 +263,7 @@ loop-less-3 : tie.Need-loop-less-3 Inv-loop μ-loop
 loop-less-3 c =
     let l = c .before .before .before .before .loop in
     let a = c .before .before .before .before .before .before .before .before .args in
-    let g : Going (a .journal .now) (a .out .now) (l .out) (view (l .m)) (counts-of (l .tally)) (l .at) (l .position) (l .used) true = subst (λ (b : Bool). Going (a .journal .now) (a .out .now) (l .out) (view (l .m)) (counts-of (l .tally)) (l .at) (l .position) (l .used) b) (c .before .before .before .loop-test .taken) (l .inv .1) in
+    let g = at-test (c .before .before .before .loop-test .taken) (l .inv .1) in
     let one : _≡_ {A = ℕ} (cond (l .going) 1 0) 1 = ap (λ (b : Bool). cond b 1 0) (c .before .before .before .loop-test .taken) in
     omega (arith, one)
 
@@ -232,8 +271,11 @@ loop-again-3 : tie.Need-loop-again-3 Inv-loop μ-loop
 loop-again-3 c =
     let l = c .before .before .before .before .loop in
     let a = c .before .before .before .before .before .before .before .before .args in
-    let g : Going (a .journal .now) (a .out .now) (l .out) (view (l .m)) (counts-of (l .tally)) (l .at) (l .position) (l .used) true = subst (λ (b : Bool). Going (a .journal .now) (a .out .now) (l .out) (view (l .m)) (counts-of (l .tally)) (l .at) (l .position) (l .used) b) (c .before .before .before .loop-test .taken) (l .inv .1) in
-    (l .inv .0, end-turn (a .journal .now) (a .out .now) (l .out) (l .at) (l .position) (l .used) (l .m) (counts-of (l .tally)) g (sym (c .before .before .entry-at .ensures) ∙ ap entry-answer (c .enum-told4 .given .1)))
+    let g = at-test (c .before .before .before .loop-test .taken) (l .inv .1) in (
+      l .inv .0,
+      end-turn (a .journal .now) (a .out .now) (l .out) (l .at) (l .position) (l .used) (l .m)
+          (counts-of (l .tally)) g (sym (c .before .before .entry-at .ensures) ∙ ap entry-answer (c .enum-told4 .given .1)),
+    )
 
 sub-write-end : tie.Need-sub-write-end Inv-loop μ-loop
 sub-write-end c = search needs
@@ -257,9 +299,14 @@ add-t41 : tie.Need-add-t41 Inv-loop μ-loop
 add-t41 c =
     let l = c .before .before .before .before .before .before .before .before .before .loop in
     let a = c .before .before .before .before .before .before .before .before .before .before .before .before .before .args in
-    let g : Going (a .journal .now) (a .out .now) (l .out) (view (l .m)) (counts-of (l .tally)) (l .at) (l .position) (l .used) false = subst (λ (b : Bool). Going (a .journal .now) (a .out .now) (l .out) (view (l .m)) (counts-of (l .tally)) (l .at) (l .position) (l .used) b) (c .before .before .before .before .before .before .before .before .loop-test .left) (l .inv .1) in
+    let g = at-test (c .before .before .before .before .before .before .before .before .loop-test .left) (l .inv .1) in
     let w = c .before .before .before .before .before .write-end in
-    omega (arith, put-after (g .stage .over) _ (w .last .0) (c .before .n3 .given .0 .0) (ap writing (sym (c .before .n3 .given .1)) ∙ w .ensures .0) (w .ensures .1 .0) .within, c .before .before .before .before .before .before .before .before .before .before .before .before .before .good)
+    omega (
+      arith,
+      put-after (g .stage .over) _ (w .last .0) (c .before .n3 .given .0 .0) (ap writing (sym (c .before .n3 .given .1)) ∙ w .ensures .0)
+          (w .ensures .1 .0) .within,
+      c .before .before .before .before .before .before .before .before .before .before .before .before .before .good,
+    )
 
 enum-told-5 : tie.Need-enum-told-5 Inv-loop μ-loop
 enum-told-5 c = search needs
@@ -271,12 +318,16 @@ returns-3 : tie.Need-returns-3 Inv-loop μ-loop
 returns-3 c =
     let l = c .before .before .before .before .before .before .before .before .before .loop in
     let a = c .before .before .before .before .before .before .before .before .before .before .before .before .before .args in
-    let g : Going (a .journal .now) (a .out .now) (l .out) (view (l .m)) (counts-of (l .tally)) (l .at) (l .position) (l .used) false = subst (λ (b : Bool). Going (a .journal .now) (a .out .now) (l .out) (view (l .m)) (counts-of (l .tally)) (l .at) (l .position) (l .used) b) (c .before .before .before .before .before .before .before .before .loop-test .left) (l .inv .1) in
+    let g = at-test (c .before .before .before .before .before .before .before .before .loop-test .left) (l .inv .1) in
     let w = c .before .before .before .before .before .write-end in
-    let is : ending (l .tally .made) (l .tally .gone) (c .before .before .before .before .before .before .open-now .result) ≡ last-line (counts-of (l .tally)) = ap (λ d. ending (l .tally .made) (l .tally .gone) d) (c .before .before .before .before .before .before .open-now .ensures) in
+    let is : ending (l .tally .made) (l .tally .gone)
+    (c .before .before .before .before .before .before .open-now .result) ≡ last-line (counts-of (l .tally)) = ap (λ d. ending (l .tally .made)
+    (l .tally .gone) d) (c .before .before .before .before .before .before .open-now .ensures) in
     let rest = take (length (l .out) - l .used) (drop (l .used) (l .out)) in
-    let r = ended (a .journal .now) (a .out .now) (l .out) (l .position) (l .used) (view (l .m)) (counts-of (l .tally)) (g .stage) (w .last .0) (c .before .n3 .given .0 .0) (ap writing (sym (c .before .n3 .given .1)) ∙ w .ensures .0 ∙ ap (λ y. fitted y rest) is) (w .ensures .1 .0 ∙ ap (λ y. put y rest) is) in
-    (r .0, λ i z. r .1)
+    let r = ended (a .journal .now) (a .out .now) (l .out) (l .position) (l .used) (view (l .m)) (counts-of (l .tally)) (g .stage) (w .last .0)
+    (c .before .n3 .given .0 .0) (ap writing (sym (c .before .n3 .given .1)) ∙ w .ensures .0 ∙ ap (λ y. fitted y rest) is)
+    (w .ensures .1 .0 ∙ ap (λ y. put y rest) is) in
+    (r .0, (λ i z. r .1, λ _. fits _ _ _ (sym (r .0)) .1))
 
 same-length-4 : tie.Need-same-length-4 Inv-loop μ-loop
 same-length-4 c = search needs
@@ -285,11 +336,17 @@ returns-4 : tie.Need-returns-4 Inv-loop μ-loop
 returns-4 c =
     let l = c .before .before .before .before .before .before .before .before .loop in
     let a = c .before .before .before .before .before .before .before .before .before .before .before .before .args in
-    let g : Going (a .journal .now) (a .out .now) (l .out) (view (l .m)) (counts-of (l .tally)) (l .at) (l .position) (l .used) false = subst (λ (b : Bool). Going (a .journal .now) (a .out .now) (l .out) (view (l .m)) (counts-of (l .tally)) (l .at) (l .position) (l .used) b) (c .before .before .before .before .before .before .before .loop-test .left) (l .inv .1) in
+    let g = at-test (c .before .before .before .before .before .before .before .loop-test .left) (l .inv .1) in
     let w = c .before .before .before .before .write-end in
-    let is : ending (l .tally .made) (l .tally .gone) (c .before .before .before .before .before .open-now .result) ≡ last-line (counts-of (l .tally)) = ap (λ d. ending (l .tally .made) (l .tally .gone) d) (c .before .before .before .before .before .open-now .ensures) in
+    let is : ending (l .tally .made) (l .tally .gone)
+    (c .before .before .before .before .before .open-now .result) ≡ last-line (counts-of (l .tally)) = ap (λ d. ending (l .tally .made)
+    (l .tally .gone) d) (c .before .before .before .before .before .open-now .ensures) in
     let rest = take (length (l .out) - l .used) (drop (l .used) (l .out)) in
-    (not-ended (a .journal .now) (a .out .now) (l .out) (l .position) (l .used) (view (l .m)) (counts-of (l .tally)) (g .stage) (ap writing (sym (c .enum-told5 .given .1)) ∙ w .ensures .0 ∙ ap (λ y. fitted y rest) is), λ i z. absurd (Option·none-ne-some i z))
+    let none-is = ap writing (sym (c .enum-told5 .given .1)) ∙ w .ensures .0 ∙ ap (λ y. fitted y rest) is in
+    let thin = subst (λ y. length y ≤ longest-end) is (w .ensures .1 .1) in (
+      not-ended (a .journal .now) (a .out .now) (l .out) (l .position) (l .used) (view (l .m)) (counts-of (l .tally)) (g .stage) none-is,
+      (λ i z. absurd (Option·none-ne-some i z), λ room. absurd (room-left _ _ _ (last-line (counts-of (l .tally))) (l .used) longest-end (g .stage .over) thin (omega (arith, room, g .short, l .inv .0)) none-is)),
+    )
 
 pub records-spec : {M : Type 1} → statement M
 records-spec =

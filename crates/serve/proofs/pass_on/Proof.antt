@@ -1,8 +1,7 @@
 -- `serve::pass_on` meets its contract. Assumes nothing.
-use mathlib.Core.Path.{_∙_, ap, sym}
-use Rattle.number.specs.Answers.{writing}
+use mathlib.Core.Path.{ap}
 use Rattle.serve.specs.Rooms.{filled}
-use Rattle.serve.specs.Rooms.Laws.{put-within, prefix-size}
+use Rattle.serve.specs.Rooms.Laws.{prefix-size}
 use borrow.Author.Needs.{needs}
 use Rattle.serve.proofs.pass_on.Statement.{statement}
 use Rattle.serve.proofs.pass_on.Tie as tie
@@ -13,23 +12,22 @@ fill-requires c κs = search needs
 enum-known-n : tie.Need-enum-known-n
 enum-known-n c = search needs
 
-slice-reshare-prefix-replay : tie.Need-slice-reshare-prefix-replay
-slice-reshare-prefix-replay c = c .before .before .before .before .before .fill .ensures (c .before .n .given .0 .0) (ap filled (c .before .n .given .1))
+slice-reshare-prefix-reply-to : tie.Need-slice-reshare-prefix-reply-to
+slice-reshare-prefix-reply-to c = c .before .before .before .before .before .fill .ensures (c .before .n .given .0 .0)
+    (ap filled (c .before .n .given .1))
 
-slice-aggregate-replay : tie.Need-slice-aggregate-replay
-slice-aggregate-replay c = prefix-size _ _ (c .before .before .before .before .before .before .fill .ensures (c .before .before .n .given .0 .0) (ap filled (c .before .before .n .given .1)))
+slice-aggregate-reply-to : tie.Need-slice-aggregate-reply-to
+slice-aggregate-reply-to c = prefix-size _ _ (c .before .before .before .before .before .before .fill .ensures (c .before .before .n .given .0 .0)
+    (ap filled (c .before .before .n .given .1)))
 
-replay-requires : tie.Need-replay-requires
-replay-requires c κs = search needs
-
-enum-known-k : tie.Need-enum-known-k
-enum-known-k c = search needs
+reply-to-requires : tie.Need-reply-to-requires
+reply-to-requires c κs = search needs
 
 slice-reshare-prefix-write-all : tie.Need-slice-reshare-prefix-write-all
-slice-reshare-prefix-write-all c = let w = c .before .before .before .before .before .replay in let k = c .before .k .given in put-within _ _ _ (k .0 .0) (ap writing (sym (k .1)) ∙ w .ensures .0) (w .ensures .1 (k .0 .0) (ap writing (k .1)))
+slice-reshare-prefix-write-all c = search needs
 
 slice-aggregate-write-all : tie.Need-slice-aggregate-write-all
-slice-aggregate-write-all c = let w = c .before .before .before .before .before .before .replay in let k = c .before .before .k .given in prefix-size _ _ (put-within _ _ _ (k .0 .0) (ap writing (sym (k .1)) ∙ w .ensures .0) (w .ensures .1 (k .0 .0) (ap writing (k .1))))
+slice-aggregate-write-all c = prefix-size _ _ (c .before .before .before .reply-to .ensures .1 .1)
 
 write-all-requires : tie.Need-write-all-requires
 write-all-requires c κs = search needs
@@ -48,15 +46,6 @@ slice-aggregate-say-2 c = search needs
 
 say-requires-2 : tie.Need-say-requires-2
 say-requires-2 c κs = search needs
-
-enum-told-2 : tie.Need-enum-told-2
-enum-told-2 c = search needs
-
-slice-aggregate-say-3 : tie.Need-slice-aggregate-say-3
-slice-aggregate-say-3 c = search needs
-
-say-requires-3 : tie.Need-say-requires-3
-say-requires-3 c κs = search needs
 
 same-length : tie.Need-same-length
 same-length c = search needs
@@ -79,17 +68,8 @@ returns-2 c = search needs
 same-length-5 : tie.Need-same-length-5
 same-length-5 c = search needs
 
-same-length-6 : tie.Need-same-length-6
-same-length-6 c = search needs
-
 returns-3 : tie.Need-returns-3
 returns-3 c = search needs
-
-same-length-7 : tie.Need-same-length-7
-same-length-7 c = search needs
-
-returns-4 : tie.Need-returns-4
-returns-4 c = search needs
 
 pub pass-on-spec : {M : Type 1} → statement M
 pass-on-spec =
@@ -97,10 +77,9 @@ pass-on-spec =
     (tie.spec
     fill-requires
     enum-known-n
-    slice-reshare-prefix-replay
-    slice-aggregate-replay
-    replay-requires
-    enum-known-k
+    slice-reshare-prefix-reply-to
+    slice-aggregate-reply-to
+    reply-to-requires
     slice-reshare-prefix-write-all
     slice-aggregate-write-all
     write-all-requires
@@ -109,9 +88,6 @@ pass-on-spec =
     enum-told
     slice-aggregate-say-2
     say-requires-2
-    enum-told-2
-    slice-aggregate-say-3
-    say-requires-3
     same-length
     same-length-2
     returns
@@ -119,7 +95,4 @@ pass-on-spec =
     same-length-4
     returns-2
     same-length-5
-    same-length-6
-    returns-3
-    same-length-7
-    returns-4)
+    returns-3)

@@ -1,4 +1,5 @@
 -- `serve::serve` meets its contract. Assumes nothing.
+use native.Mathlib.Omega.{arith}
 use Rattle.serve.proofs.serve.Statement.{statement}
 use Rattle.serve.proofs.serve.Tie as tie
 
@@ -15,7 +16,7 @@ slice-aggregate-pass-on-2 : tie.Need-slice-aggregate-pass-on-2
 slice-aggregate-pass-on-2 c = c .before .before .reply-space .ensures .size
 
 pass-on-requires : tie.Need-pass-on-requires
-pass-on-requires c κs = tt
+pass-on-requires c κs = omega (arith, c .before .before .reply-space .ensures .size)
 
 returns : tie.Need-returns
 returns c = tt

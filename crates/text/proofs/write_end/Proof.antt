@@ -20,10 +20,18 @@ use Rattle.text.proofs.write_end.Tie as tie
 size-is :
     (c : tie.After-decimal-len3) →
     let a = c .before .before .before .before .args in
-    c .before .before .decimal-len .result + c .before .decimal-len2 .result + c .decimal-len3 .result + 7 ≡ length (ending (a .made) (a .gone) (a .held))
+    c .before .before .decimal-len .result + c .before .decimal-len2 .result + c .decimal-len3 .result + 7 ≡ length (ending (a .made) (a .gone)
+    (a .held))
 size-is c =
     let a = c .before .before .before .before .args in
-    omega (arith, ending-length (a .made) (a .gone) (a .held), c .before .before .decimal-len .ensures .0, c .before .decimal-len2 .ensures .0, c .decimal-len3 .ensures .0)
+    omega (
+      arith,
+      ending-length (a .made) (a .gone)
+          (a .held),
+      c .before .before .decimal-len .ensures .0,
+      c .before .decimal-len2 .ensures .0,
+      c .decimal-len3 .ensures .0,
+    )
 
 room :
     (c : tie.Else1) →
@@ -53,7 +61,8 @@ second :
     Over (a .out .now) (end-word ++ field (a .made) space) (v .result + w .result) (joined (v .result) (v .last .1 .0) (w .last .0))
 second c =
     let w = c .write-field in
-    part-after (first (c .before .before .before .before)) _ _ _ (w .ensures .0) (room (c .before .before .before .before .before .before .before) .two) (w .ensures .1)
+    part-after (first (c .before .before .before .before)) _ _ _ (w .ensures .0)
+    (room (c .before .before .before .before .before .before .before) .two) (w .ensures .1)
 
 third :
     (c : tie.After-write-field2) →
@@ -65,7 +74,8 @@ third :
     (joined (u .result + v .result) (joined (u .result) (u .last .1 .0) (v .last .0)) (w .last .0))
 third c =
     let w = c .write-field2 in
-    part-after (second (c .before .before .before .before)) _ _ _ (w .ensures .0) (room (c .before .before .before .before .before .before .before .before .before .before .before) .three) (w .ensures .1)
+    part-after (second (c .before .before .before .before)) _ _ _ (w .ensures .0)
+    (room (c .before .before .before .before .before .before .before .before .before .before .before) .three) (w .ensures .1)
 
 fourth :
     (c : tie.After-write-field3) →
@@ -75,11 +85,14 @@ fourth :
     let v = c .before .before .before .before .write-field2 in
     let w = c .write-field3 in
     Over (a .out .now) (ending (a .made) (a .gone) (a .held)) (t .result + u .result + v .result + w .result)
-    (joined (t .result + u .result + v .result) (joined (t .result + u .result) (joined (t .result) (t .last .1 .0) (u .last .0)) (v .last .0)) (w .last .0))
+    (joined (t .result + u .result + v .result) (joined (t .result + u .result) (joined (t .result) (t .last .1 .0) (u .last .0)) (v .last .0))
+    (w .last .0))
 unfolding ending
 fourth c =
     let w = c .write-field3 in
-    part-after (third (c .before .before .before .before)) _ _ _ (w .ensures .0) (room (c .before .before .before .before .before .before .before .before .before .before .before .before .before .before .before) .four) (w .ensures .1)
+    part-after (third (c .before .before .before .before)) _ _ _ (w .ensures .0)
+    (room (c .before .before .before .before .before .before .before .before .before .before .before .before .before .before .before) .four)
+    (w .ensures .1)
 
 -- ---- what the code asks
 
@@ -104,8 +117,9 @@ add-size-3 c = search needs
 returns : tie.Need-returns
 returns c =
     let a = c .before .before .before .before .before .args in
-    no-room (ending (a .made) (a .gone) (a .held)) (a .out .now)
-    (omega (arith, size-is (c .before), c .if1 .taken)) _
+    no-room (ending (a .made) (a .gone) (a .held))
+    (a .out .now) longest-end (ending-bytes (a .made) (a .gone) (a .held) (omega arith) (omega arith) (omega arith))
+    (omega (arith, size-is (c .before), c .if1 .taken))
 
 slice-aggregate-copy : tie.Need-slice-aggregate-copy
 slice-aggregate-copy c = search needs
@@ -123,7 +137,9 @@ part-write-field-end : tie.Need-part-write-field-end
 part-write-field-end c = search needs
 
 write-field-requires : tie.Need-write-field-requires
-write-field-requires c κs = rest-room (first (c .before .before .before)) (field (c .before .before .before .before .before .before .before .before .before .before .before .args .made) space) (room (c .before .before .before .before .before .before) .two)
+write-field-requires c κs = rest-room (first (c .before .before .before))
+    (field (c .before .before .before .before .before .before .before .before .before .before .before .args .made) space)
+    (room (c .before .before .before .before .before .before) .two)
 
 add-at : tie.Need-add-at
 add-at c = omega (arith, second (c .before .before) .within, c .before .before .before .before .before .before .before .before .before .before .before .before .before .before .good)
@@ -165,8 +181,8 @@ returns-2 : tie.Need-returns-2
 returns-2 c =
     let start = c .before .before .before .before .before .before .before .before .before .before .before .before .before .before .before .before .before .before .before .before .before .before in
     let a = start .args in
-    all-written _ _ _ _ (fourth (c .before .before)) longest-end
-    (ending-bytes (a .made) (a .gone) (a .held) (omega arith) (omega arith) (omega arith))
+    all-written _ _ longest-end (ending-bytes (a .made) (a .gone) (a .held) (omega arith) (omega arith)
+    (omega arith)) _ _ (fourth (c .before .before))
 
 pub write-end-spec : {M : Type 1} → statement M
 write-end-spec =

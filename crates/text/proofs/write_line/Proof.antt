@@ -20,10 +20,18 @@ use Rattle.text.proofs.write_line.Tie as tie
 size-is :
     (c : tie.After-decimal-len3) →
     let a = c .before .before .before .before .args in
-    c .before .before .decimal-len .result + c .before .decimal-len2 .result + c .decimal-len3 .result + 5 ≡ length (line (a .position) (a .code) (a .letter) (a .value))
+    c .before .before .decimal-len .result + c .before .decimal-len2 .result + c .decimal-len3 .result + 5 ≡ length (line (a .position) (a .code)
+    (a .letter) (a .value))
 size-is c =
     let a = c .before .before .before .before .args in
-    omega (arith, line-length (a .position) (a .code) (a .letter) (a .value), c .before .before .decimal-len .ensures .0, c .before .decimal-len2 .ensures .0, c .decimal-len3 .ensures .0)
+    omega (
+      arith,
+      line-length (a .position) (a .code) (a .letter)
+          (a .value),
+      c .before .before .decimal-len .ensures .0,
+      c .before .decimal-len2 .ensures .0,
+      c .decimal-len3 .ensures .0,
+    )
 
 room :
     (c : tie.Else1) →
@@ -53,7 +61,8 @@ second :
     (joined (v .result) (v .last .0) (w .last .0))
 second c =
     let w = c .write-field2 in
-    part-after (first (c .before .before .before .before)) _ _ _ (w .ensures .0) (room (c .before .before .before .before .before .before) .two) (w .ensures .1)
+    part-after (first (c .before .before .before .before)) _ _ _ (w .ensures .0) (room (c .before .before .before .before .before .before) .two)
+    (w .ensures .1)
 
 third :
     (c : tie.After-copy) →
@@ -78,11 +87,14 @@ fourth :
     let v = c .before .before .before .before .copy in
     let w = c .write-field3 in
     Over (a .out .now) (line (a .position) (a .code) (a .letter) (a .value)) (t .result + u .result + v .result + w .result)
-    (joined (t .result + u .result + v .result) (joined (t .result + u .result) (joined (t .result) (t .last .0) (u .last .0)) (v .last .1 .0)) (w .last .0))
+    (joined (t .result + u .result + v .result) (joined (t .result + u .result) (joined (t .result) (t .last .0) (u .last .0)) (v .last .1 .0))
+    (w .last .0))
 unfolding line
 fourth c =
     let w = c .write-field3 in
-    part-after (third (c .before .before .before .before)) _ _ _ (w .ensures .0) (room (c .before .before .before .before .before .before .before .before .before .before .before .before .before .before .before) .four) (w .ensures .1)
+    part-after (third (c .before .before .before .before)) _ _ _ (w .ensures .0)
+    (room (c .before .before .before .before .before .before .before .before .before .before .before .before .before .before .before) .four)
+    (w .ensures .1)
 
 -- ---- what the code asks
 
@@ -107,8 +119,9 @@ add-size-3 c = search needs
 returns : tie.Need-returns
 returns c =
     let a = c .before .before .before .before .before .args in
-    no-room (line (a .position) (a .code) (a .letter) (a .value)) (a .out .now)
-    (omega (arith, size-is (c .before), c .if1 .taken)) _
+    no-room (line (a .position) (a .code) (a .letter) (a .value))
+    (a .out .now) longest-line (line-bytes (a .position) (a .code) (a .letter) (a .value) (omega arith) (omega arith) (omega arith))
+    (omega (arith, size-is (c .before), c .if1 .taken))
 
 write-field-requires : tie.Need-write-field-requires
 write-field-requires c κs = room (c .before) .one
@@ -141,7 +154,8 @@ part-copy-end : tie.Need-part-copy-end
 part-copy-end c = search needs
 
 copy-requires : tie.Need-copy-requires
-copy-requires c κs = rest-room (second (c .before .before .before .before)) (_ ∷ space ∷ []) (room (c .before .before .before .before .before .before .before .before .before .before) .three)
+copy-requires c κs = rest-room (second (c .before .before .before .before)) (_ ∷ space ∷ [])
+    (room (c .before .before .before .before .before .before .before .before .before .before) .three)
 
 add-at-2 : tie.Need-add-at-2
 add-at-2 c = omega (arith, third (c .before .before) .within, c .before .before .before .before .before .before .before .before .before .before .before .before .before .before .before .before .before .before .good)
@@ -168,8 +182,8 @@ returns-2 : tie.Need-returns-2
 returns-2 c =
     let start = c .before .before .before .before .before .before .before .before .before .before .before .before .before .before .before .before .before .before .before .before .before .before in
     let a = start .args in
-    all-written _ _ _ _ (fourth (c .before .before)) longest-line
-    (line-bytes (a .position) (a .code) (a .letter) (a .value) (omega arith) (omega arith) (omega arith))
+    all-written _ _ longest-line (line-bytes (a .position) (a .code) (a .letter) (a .value) (omega arith) (omega arith)
+    (omega arith)) _ _ (fourth (c .before .before))
 
 pub write-line-spec : {M : Type 1} → statement M
 write-line-spec =
