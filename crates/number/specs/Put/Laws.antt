@@ -7,7 +7,7 @@ use mathlib.Core.Bool.{Bool, true, false, cond}
 use mathlib.Core.List.{List, _++_, append-nil}
 use mathlib.Core.Option.{none, some}
 use lib.Dec.{leb}
-use lib.ListN.{length, take, drop, length-drop, length-append}
+use lib.ListN.{length, take, drop, length-take, length-drop, length-append}
 use lib.Seq.{take-all, drop-length, drop-at}
 use borrow.Author.Tests.{leb-true, leb-false, le-leb, lt-leb}
 use borrow.Rule.Slice.PartMut.{putMid, post-is}
@@ -68,6 +68,13 @@ module _ (e b : List ℕ) where
       by-test : (t : Bool) → leb (length e) (length b) ≡ t → length (cond t (e ++ drop (length e) b) b) ≡ length b
       by-test true q = omega (arith, length-append e (drop (length e) b), length-drop (length e) b, leb-true (length e) (length b) q)
       by-test false q = refl
+
+-- what was written lies inside, and `&out[..k]` has its bytes
+pub put-within : (e b out : List ℕ) (k : ℕ) → some k ≡ fitted e b → out ≡ put e b → k ≤ length out
+put-within e b out k q w = let (count, room) = fits e b k (sym q) in omega (arith, ap length w, length-put e b)
+
+pub prefix-size : (k : ℕ) (l : List ℕ) → k ≤ length l → k ≡ length (take k l)
+prefix-size k l h = omega (arith, length-take k l)
 
 -- ---- a number in a buffer
 

@@ -1,7 +1,7 @@
 -- `serve::pass_on` meets its contract. Assumes nothing.
 use mathlib.Core.Path.{ap}
 use Rattle.serve.specs.Rooms.{filled}
-use Rattle.serve.specs.Rooms.Laws.{prefix-size}
+use Rattle.number.specs.Put.Laws.{prefix-size}
 use borrow.Author.Needs.{needs}
 use Rattle.serve.proofs.pass_on.Statement.{statement}
 use Rattle.serve.proofs.pass_on.Tie as tie

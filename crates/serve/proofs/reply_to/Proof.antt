@@ -1,10 +1,9 @@
 -- `serve::reply_to` meets its contract: with room for every reply, "no room" is never the answer. Assumes nothing.
 use mathlib.Core.Path.{_∙_, ap, sym}
 use native.Mathlib.Omega.{arith}
-use Rattle.number.specs.Put.Laws.{fits, fits-not}
+use Rattle.number.specs.Put.Laws.{fits, fits-not, put-within}
 use Rattle.number.specs.Answers.{writing}
 use Rattle.replay.specs.Replay.{reply}
-use Rattle.serve.specs.Rooms.Laws.{put-within}
 use borrow.Author.Needs.{needs}
 use Rattle.serve.proofs.reply_to.Statement.{statement}
 use Rattle.serve.proofs.reply_to.Tie as tie

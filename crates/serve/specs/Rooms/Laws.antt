@@ -1,12 +1,8 @@
--- Laws of the program's buffers. In order: zeros of any number; what was read or written lies inside. Assumes nothing.
+-- Laws of the program's buffers. In order: zeros of any number; what was read lies inside. Assumes nothing.
 use Prim.Native.Nat.{ℕ, _≤_}
-use native.Mathlib.Omega.{arith}
-use mathlib.Core.Path.{_≡_, sym, ap, subst}
-use mathlib.Core.List.{List}
+use mathlib.Core.Path.{_≡_, sym, subst}
 use mathlib.Core.Option.{none, some, Option·some-injective, Option·none-ne-some}
-use lib.ListN.{length, take, replicate, length-replicate, length-take}
-use Rattle.number.specs.Put.{put, fitted}
-use Rattle.number.specs.Put.Laws.{fits, length-put}
+use lib.ListN.{replicate, length-replicate}
 use Rattle.serve.specs.Rooms.{Sized}
 
 pub zeros-sized : (n : ℕ) → Sized n (replicate n 0)
@@ -18,9 +14,3 @@ is-within n most h k e = subst (λ (i : ℕ). i ≤ most) (Option·some-injectiv
 
 pub none-within : (most k : ℕ) → none ≡ some k → k ≤ most
 none-within most k e = absurd (Option·none-ne-some k e)
-
-pub put-within : (e b out : List ℕ) (k : ℕ) → some k ≡ fitted e b → out ≡ put e b → k ≤ length out
-put-within e b out k q w = let (count, room) = fits e b k (sym q) in omega (arith, ap length w, length-put e b)
-
-pub prefix-size : (k : ℕ) (l : List ℕ) → k ≤ length l → k ≡ length (take k l)
-prefix-size k l h = omega (arith, length-take k l)

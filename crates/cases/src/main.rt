@@ -1,0 +1,98 @@
+// The cases of document 01 that its line 4 leaves to a program, and DWARF's examples of numbers: each journal's replies, one after the other. Over each
+// journal stands the name that the independent program has for it.
+use number::Written;
+
+// Longer than any reply here.
+const ROOM: usize = 512;
+
+// Writes the replies to one journal.
+fn show(journal: &[u8]) {
+    let mut text = [0u8; ROOM];
+    match replay::replay(journal, &mut text) {
+        Written::Bytes(k) => {
+            io::write_all(libc::STDOUT_FILENO, &text[..k]);
+        }
+        Written::NoRoom => {
+            io::write_all(
+                libc::STDERR_FILENO,
+                b"cases: a reply is longer than the room for it\n",
+            );
+        }
+    }
+}
+
+// Levels, places and numbers at their limits, and one past.
+fn limits() {
+    // case level-15: level 15 is taken
+    show(b"\x03\x01\x00\x0f\x03\x02\x00\x0f");
+    // case level-16: level 16 gives 6
+    show(b"\x03\x01\x00\x10\x03\x02\x00\x10");
+    // case place-15: place 15 is taken
+    show(
+        b"\x03\x02\x00\x09\x03\x02\x01\x02\x03\x01\x00\x09\x04\x05\x00\x01\x0f\x03\x07\x00\x0f\x03\x0b\x00\x0f",
+    );
+    // case place-16: place 16 gives 7, in every call with a place
+    show(
+        b"\x03\x02\x00\x09\x03\x02\x01\x02\x03\x01\x00\x09\x04\x05\x00\x01\x10\x04\x06\x00\x01\x10\x05\x04\x00\x02\x10\x00\x05\x04\x00\x02\x00\x10\x03\x07\x00\x10\x03\x08\x00\x10\x03\x0b\x00\x10",
+    );
+    // case subject-32: subject 32 gives 2
+    show(
+        b"\x03\x02\x00\x09\x03\x02\x01\x02\x03\x01\x00\x09\x03\x03\x20\x02\x05\x04\x20\x02\x00\x01\x04\x05\x20\x00\x00\x04\x06\x20\x00\x00\x03\x07\x20\x00\x03\x08\x20\x00\x03\x09\x20\x01\x03\x0a\x20\x00\x03\x0b\x20\x00\x02\x0c\x20",
+    );
+    // case subject-32-new: subject 32 as new gives 3
+    show(b"\x03\x02\x00\x09\x03\x02\x01\x02\x03\x01\x00\x09\x03\x01\x20\x09\x03\x09\x00\x20");
+    // case subject-31-new: subject 31 is taken, as new
+    show(
+        b"\x03\x02\x00\x09\x03\x02\x01\x02\x03\x01\x00\x09\x03\x01\x1f\x09\x02\x0c\x1f\x03\x09\x00\x1f\x02\x0c\x1f",
+    );
+    // case object-63-and-64: object 63 is taken, 64 gives 3 as new and 4 as named
+    show(
+        b"\x03\x02\x00\x09\x03\x02\x01\x02\x03\x01\x00\x09\x03\x02\x3f\x04\x03\x02\x40\x04\x03\x03\x00\x40\x05\x04\x00\x40\x00\x01\x02\x0d\x3f\x02\x0d\x40\x03\x0a\x00\x40",
+    );
+    // case fork-own-number: fork to its own number: 3
+    show(b"\x03\x02\x00\x09\x03\x02\x01\x02\x03\x01\x00\x09\x03\x09\x00\x00");
+}
+
+// Whole journals, and bad ones.
+fn journals() {
+    // case empty: empty journal: end 0 0 0 alone
+    show(b"");
+    // case example: the input hex of document 01, "Journal"
+    show(b"\x03\x02\x00\x02\x03\x01\x00\x09\x04\x05\x00\x00\x00\x03\x07\x00\x00");
+    // case K10: a padded length: 11
+    show(b"\x80\x00");
+    // case K11: a record without a body: 12
+    show(b"\x00");
+    // case pipe-ends: a pipe ends when its last handle goes, and its number is free
+    show(
+        b"\x03\x01\x00\x05\x05\x04\x00\x03\x00\x01\x03\x02\x03\x09\x03\x0b\x00\x01\x03\x02\x03\x09\x03\x0b\x00\x00\x03\x02\x03\x09",
+    );
+    // case unknown-code-skipped: an unknown code is 1, whatever follows it; the next record is read
+    show(b"\x03\x4d\x80\x00\x01\x00\x0a\xff\xff\xff\xff\x0f\x01\x02\x03\x04\x05\x03\x01\x00\x09");
+    // case twelve-first: 12 in a record comes before 2 to 10, and the next record is read
+    show(b"\x03\x0c\x28\x01\x02\x07\x28\x03\x0c\x80\x00\x02\x8c\x00\x03\x01\x00\x09");
+    // case past-the-end: a length that runs past the end: 11, and the run stops there
+    show(b"\x03\x01\x00\x09\x04\x01\x01\x09");
+}
+
+// DWARF 5, section 7.6: 2, 127, 128, 129, 130 and 12857, each as the code of a record.
+fn numbers() {
+    // case dwarf-2-code: DWARF's example 2 as the code of a record
+    show(b"\x01\x02");
+    // case dwarf-127-code: DWARF's example 127 as the code of a record
+    show(b"\x01\x7f");
+    // case dwarf-128-code: DWARF's example 128 as the code of a record
+    show(b"\x02\x80\x01");
+    // case dwarf-129-code: DWARF's example 129 as the code of a record
+    show(b"\x02\x81\x01");
+    // case dwarf-130-code: DWARF's example 130 as the code of a record
+    show(b"\x02\x82\x01");
+    // case dwarf-12857-code: DWARF's example 12857 as the code of a record
+    show(b"\x02\xb9\x64");
+}
+
+fn main() {
+    limits();
+    journals();
+    numbers();
+}
