@@ -1,6 +1,7 @@
 -- The reply to a whole journal, byte for byte. Document 01, "Journal", third paragraph, and rows 1, 11, 12 and 14 of "Refused calls".
 --
 -- In order: the records of a journal; the calls among them; what each is answered; the lines of the reply; the reply. Assumes nothing.
+use mathlib.Core.Path.{_≡_}
 use mathlib.Core.Bool.{cond}
 use mathlib.Core.List.{List, [], _∷_, _++_}
 use Prim.Native.Nat.{ℕ, zero, suc, _+_, _*_}
@@ -76,6 +77,13 @@ largest-journal = 65536
 unfoldable pub reply : List ℕ → List ℕ
 reply journal = cond (ltb largest-journal (length journal)) (text (replied 0 (refused 14) ∷ []) zeroed)
     (text (replies empty (records-of journal)) (tally empty zeroed (calls-of (records-of journal))))
+
+-- ── the buffer ──
+-- a buffer that was `first` has the text's first bytes, how many is left open, and those after them keep their values
+pub record Begun (whole first out : List ℕ) : Type 0 where
+  pub count : ℕ
+  pub front : take count out ≡ take count whole
+  pub after : drop count out ≡ drop count first
 
 -- a buffer with this much room takes any reply: no more records than bytes, a line for each, and the last line
 abbrev pub reply-room : ℕ

@@ -2,31 +2,32 @@
 use mathlib.Core.Path.{_≡_, refl, sym, _∙_, ap, subst}
 use mathlib.Core.Bool.{Bool, true, false, cond}
 use mathlib.Core.List.{List, [], _∷_, _++_, append-assoc, append-nil}
-use mathlib.Core.Option.{none, some}
+use mathlib.Core.Option.{Option, none, some, Option·none-ne-some}
 use Prim.Native.Nat.{ℕ, zero, suc, _+_, _*_, _-_, _≤_, _<_}
 use native.Mathlib.Omega.{arith}
 use native.Mathlib.Numerals.{add-one}
 use borrow.Author.Tests.{lt-ltb, le-ltb}
 use borrow.Rule.Slice.PartMut.{putMid}
 use lib.ListN.{length, length-append, take, drop}
+use lib.Seq.{take-at}
 use Rattle.model.specs.Tables.{Tables, empty}
 use Rattle.model.specs.Invariant.{Kept}
 use Rattle.model.specs.Calls.{Answer, refused}
 use Rattle.model.specs.Calls.Kept.{empty-kept}
 use Rattle.model.specs.Tally.{Tally, zeroed}
 use Rattle.number.specs.Put.{put, fitted}
-use Rattle.number.specs.Put.Laws.{fitted-fits, fitted-none, fits, fits-not}
+use Rattle.number.specs.Put.Laws.{put-none, fitted-fits, fitted-none, fits, fits-not}
 use Rattle.journal.specs.Answers.{Said, said, body, end}
 use Rattle.journal.specs.Answers.{answers as reads, refused as bad}
 use Rattle.journal.specs.Journal.{entry-at, body-in}
-use Rattle.journal.specs.Journal.Laws.{entry-stands, entry-next}
+use Rattle.journal.specs.Journal.Laws.{entry-next}
 use Rattle.gatekeeper.specs.declared.Monitor.{Monitor}
 use Rattle.gatekeeper.specs.View.{letter-of, value-of, view}
 use Rattle.text.specs.Reply.{line, ending, longest-line, longest-end}
 use Rattle.text.specs.Decimal.{decimal, digits}
 use Rattle.text.specs.Parts.{Over}
-use Rattle.text.specs.Parts.Laws.{untouched, put-over, over-count, over-put, rest-length, put-after}
-use Rattle.replay.specs.Replay.{records, records-of, replied, last-line, text, reply, reply-room}
+use Rattle.text.specs.Parts.Laws.{untouched, put-over, over-count, over-put, rest-length, put-after, none-after}
+use Rattle.replay.specs.Replay.{records, records-of, replied, last-line, text, reply, Begun, reply-room}
 use Rattle.replay.specs.Replay.Laws.{records-more, records-end, records-stop, left, left-more, kept-more}
 use Rattle.replay.specs.One.{One}
 
@@ -45,6 +46,35 @@ pub record Stage (j first out : List ℕ) (t : Tables) (y : Tally) (position use
 pub begun : (j first : List ℕ) (t : Tables) → t ≡ empty → Stage j first first t zeroed 1 0 (records-of j)
 begun j first t e = subst (λ (u : Tables). Stage j first first u zeroed 1 0 (records-of j)) (sym e)
     (record { kept = empty-kept; done = []; over = untouched 0 first (omega arith); sum = refl })
+
+-- what has been written is the front of the text
+pub over-begun : (whole first done rest out : List ℕ) (used : ℕ) → Over first done used out → done ++ rest ≡ whole → Begun whole first out
+over-begun whole first done rest out used v e = record {
+  count = used;
+  front = v .front ∙ sym (ap (take used) (sym e) ∙ take-at done rest used (sym (over-count v)));
+  after = v .after;
+}
+
+pub same-begun : (whole first : List ℕ) → Begun whole first first
+same-begun whole first = record { count = 0; front = refl; after = refl }
+
+-- ── the end of a run ──
+-- what is promised of the answer, none or some bytes, and of the buffer
+abbrev pub Ends : (text first out : List ℕ) → Option ℕ → Type 0
+Ends text first out answer =
+    (answer ≡ fitted text first)
+    × (((k : ℕ) → answer ≡ some k → out ≡ put text first) × (Begun text first out × (reply-room ≤ length first → length text ≤ length first)))
+
+-- all of the text is written
+pub all-ends : (text first out : List ℕ) (n : ℕ) → Over first text n out → Ends text first out (some n)
+all-ends text first out n v =
+    let fit : some n ≡ fitted text first = ap some (over-count v) ∙ sym (fitted-fits text first (omega (arith, over-count v, v .within))) in
+    (fit, (λ k z. over-put v, (over-begun text first text [] out n v (append-nil text), λ _. fits text first n (sym fit) .1)))
+
+-- there is no room for all of it, and what stands there is its front
+pub none-ends : (text first out : List ℕ) → none ≡ fitted text first → Begun text first out → (reply-room ≤ length first → ⊥)
+    → Ends text first out none
+none-ends text first out short begun full = (short, (λ k z. absurd (Option·none-ne-some k z), (begun, λ room. absurd (full room))))
 
 module _ (j first out : List ℕ) (p used : ℕ) where
   module _ (m n : Monitor) (y z : Tally) (s : Said) (l : List Said) (code : ℕ) (a : Answer) (o : One m y s code a n z)
@@ -70,15 +100,23 @@ module _ (j first out : List ℕ) (p used : ℕ) where
     pub no-more : none ≡ fitted e (take (length out - used) (drop used out)) → none ≡ fitted (whole j) first
     no-more answer = sym (fitted-none (whole j) first (omega (arith, length-append (g .done) (e ++ left (suc p) (view n) z l), length-append e (left (suc p) (view n) z l), ap length rejoined, over-count (g .over), rest-length (g .over), fits-not e (take (length out - used) (drop used out)) (sym answer), g .over .within)))
 
+  -- whatever comes next has no room, and leaves the buffer as it is
+  pub left-begun : (t : Tables) (y : Tally) (rest : List Said) (g : Stage j first out t y p used rest) (e ys : List ℕ)
+      → none ≡ fitted e (take (length out - used) (drop used out)) → ys ≡ put e (take (length out - used) (drop used out))
+      → Begun (whole j) first (putMid used (length out - used) out ys)
+  left-begun t y rest g e ys answer wrote = subst (λ (b : List ℕ). Begun (whole j) first b) (sym (none-after (g .over) e ys answer wrote))
+      (over-begun (whole j) first (g .done) (left p t y rest) out used (g .over) (g .sum))
+
   module _ (t : Tables) (y : Tally) (g : Stage j first out t y p used []) where
     -- the last line is written, and the whole with it
-    pub ended : (ys : List ℕ) (k : ℕ) → some k ≡ fitted (last-line y) (take (length out - used) (drop used out)) → ys ≡ put (last-line y)
-        (take (length out - used) (drop used out))
-        → (some (used + k) ≡ fitted (whole j) first) × (putMid used (length out - used) out ys ≡ put (whole j) first)
-    ended ys k answer wrote = let v = put-after (g .over) (last-line y) ys k answer wrote in
-        (ap some (over-count v ∙ ap length (g .sum)) ∙ sym (fitted-fits (whole j) first (omega (arith, over-count v, ap length (g .sum), v .within))), over-put v ∙ ap (λ (x : List ℕ). put x first) (g .sum))
+    pub ended : (ys : List ℕ) (k : ℕ) → some k ≡ fitted (last-line y) (take (length out - used) (drop used out))
+        → ys ≡ put (last-line y) (take (length out - used) (drop used out))
+        → Ends (whole j) first (putMid used (length out - used) out ys) (some (used + k))
+    ended ys k answer wrote = all-ends (whole j) first (putMid used (length out - used) out ys) (used + k)
+        (subst (λ (d : List ℕ). Over first d (used + k) (putMid used (length out - used) out ys)) (g .sum)
+        (put-after (g .over) (last-line y) ys k answer wrote))
 
-    pub not-ended : none ≡ fitted (last-line y) (take (length out - used) (drop used out)) → none ≡ fitted (whole j) first
+    not-ended : none ≡ fitted (last-line y) (take (length out - used) (drop used out)) → none ≡ fitted (whole j) first
     not-ended answer = sym (fitted-none (whole j) first (omega (arith, length-append (g .done) (last-line y), ap length (g .sum), over-count (g .over), rest-length (g .over), fits-not (last-line y) (take (length out - used) (drop used out)) (sym answer), g .over .within)))
 
 -- there is room for what is no longer than `most`, where that much is left
@@ -127,12 +165,8 @@ module _ (j first out : List ℕ) (at p used : ℕ) (m : Monitor) (y : Tally) (g
         go zero q = absurd (omega (arith, g .enough, entry-next j at start len next e))
         go (suc n) q = (n, (omega (arith, g .enough, entry-next j at start len next e)), subst (λ (x : List Said). Stage j first out (view m) y p used x) (ap (λ (i : ℕ). records i j at) q ∙ records-more n j at start len next e) (g .stage))
 
-    module _ (n : Monitor) (z : Tally) (code : ℕ) (a : Answer) (o : One m y (body-in (take (next - start) (drop start j))) code a n z)
+    module _ (n : Monitor) (z : Tally) (code : ℕ) (a : Answer) (o : One m y s code a n z)
         (thin : length (line p code (letter-of a) (value-of a)) ≤ longest-line) where
-      as-said : One m y s code a n z
-      as-said = let (k, f) = entry-stands j at start len next e in let q : next - start ≡ len = omega (arith, f .ends) in
-          subst (λ (i : ℕ). One m y (body-in (take i (drop start j))) code a n z) q o
-
       pub record-turn : (ys : List ℕ) (k : ℕ) → some k ≡ fitted (line p code (letter-of a) (value-of a)) (take (length out - used) (drop used out))
           → ys ≡ put (line p code (letter-of a) (value-of a)) (take (length out - used) (drop used out))
           → Going j first (putMid used (length out - used) out ys) (view n) z next (p + 1) (used + k) true
@@ -150,18 +184,26 @@ module _ (j first out : List ℕ) (at p used : ℕ) (m : Monitor) (y : Tally) (g
           entry-next j at start len next e .0,
         );
         stage = subst (λ (q : ℕ). Stage j first (putMid used (length out - used) out ys) (view n) z q (used + k) (records i j next))
-            (sym (add-one p)) (more j first out p used m n y z s (records i j next) code a as-said g′ ys k answer wrote);
+            (sym (add-one p)) (more j first out p used m n y z s (records i j next) code a o g′ ys k answer wrote);
       }
 
-      pub record-short : none ≡ fitted (line p code (letter-of a) (value-of a)) (take (length out - used) (drop used out))
+      record-short : none ≡ fitted (line p code (letter-of a) (value-of a)) (take (length out - used) (drop used out))
           → none ≡ fitted (whole j) first
-      record-short answer = let (i, far, g′) = here in no-more j first out p used m n y z s (records i j next) code a as-said g′ answer
+      record-short answer = let (i, far, g′) = here in no-more j first out p used m n y z s (records i j next) code a o g′ answer
 
-      pub record-room : reply-room ≤ length first → length j ≤ 65536 → none ≡ fitted (line p code (letter-of a) (value-of a))
+      record-room : reply-room ≤ length first → length j ≤ 65536 → none ≡ fitted (line p code (letter-of a) (value-of a))
           (take (length out - used) (drop used out)) → ⊥
       record-room room small answer = room-left first (g .stage .done) out (line p code (letter-of a)
           (value-of a)) used longest-line (g .stage .over) thin
           (omega (arith, g .short, room, small, entry-next j at start len next e)) answer
+
+      pub record-ends : length j ≤ 65536 → (ys : List ℕ) → none ≡ fitted (line p code (letter-of a) (value-of a))
+          (take (length out - used) (drop used out))
+          → ys ≡ put (line p code (letter-of a) (value-of a)) (take (length out - used) (drop used out))
+          → Ends (whole j) first (putMid used (length out - used) out ys) none
+      record-ends small ys answer wrote = none-ends (whole j) first (putMid used (length out - used) out ys) (record-short answer)
+          (left-begun j first out p used (view m) y (records (g .most) j at) (g .stage) (line p code (letter-of a) (value-of a)) ys answer wrote)
+          (λ room. record-room room small answer)
 
   -- no record can be found at `at`
   module _ (n : ℕ) (e : entry-at j at ≡ bad n) (h : at < length j) (thin : length (line p 0 82 n) ≤ longest-line) where
@@ -180,11 +222,17 @@ module _ (j first out : List ℕ) (at p used : ℕ) (m : Monitor) (y : Tally) (g
         (omega (arith, g .short, thin, fits (line p 0 82 n) (take (length out - used) (drop used out)) k (sym answer) .0))
         (more j first out p used m m y y (said 0 (bad n)) [] 0 (refused n) (refl, refl, refl, refl) there ys k answer wrote)
 
-    pub broken-short : none ≡ fitted (line p 0 82 n) (take (length out - used) (drop used out)) → none ≡ fitted (whole j) first
+    broken-short : none ≡ fitted (line p 0 82 n) (take (length out - used) (drop used out)) → none ≡ fitted (whole j) first
     broken-short answer = no-more j first out p used m m y y (said 0 (bad n)) [] 0 (refused n) (refl, refl, refl, refl) there answer
 
-    pub broken-room : reply-room ≤ length first → length j ≤ 65536 → none ≡ fitted (line p 0 82 n) (take (length out - used) (drop used out)) → ⊥
+    broken-room : reply-room ≤ length first → length j ≤ 65536 → none ≡ fitted (line p 0 82 n) (take (length out - used) (drop used out)) → ⊥
     broken-room room small answer = room-left first (g .stage .done) out (line p 0 82 n) used longest-line (g .stage .over) thin (omega (arith, g .short, room, small)) answer
+
+    pub broken-ends : length j ≤ 65536 → (ys : List ℕ) → none ≡ fitted (line p 0 82 n) (take (length out - used) (drop used out))
+        → ys ≡ put (line p 0 82 n) (take (length out - used) (drop used out)) → Ends (whole j) first (putMid used (length out - used) out ys) none
+    broken-ends small ys answer wrote = none-ends (whole j) first (putMid used (length out - used) out ys) (broken-short answer)
+        (left-begun j first out p used (view m) y (records (g .most) j at) (g .stage) (line p 0 82 n) ys answer wrote)
+        (λ room. broken-room room small answer)
 
   -- the journal ends at `at`
   pub end-turn : entry-at j at ≡ reads end → Going j first out (view m) y at p used false
@@ -196,10 +244,28 @@ module _ (j first out : List ℕ) (at p used : ℕ) (m : Monitor) (y : Tally) (g
       go (suc i) q = stopped j first out (view m) y at p p used (g .inside) (g .early) (omega (arith, g .short, g .inside))
           (subst (λ (x : List Said). Stage j first out (view m) y p used x) (ap (λ (k : ℕ). records k j at) q ∙ records-end i j at e) (g .stage))
 
+-- the last line has no room
+pub end-short : (j first out : List ℕ) (t : Tables) (y : Tally) (at p used : ℕ) → Going j first out t y at p used false
+    → length (last-line y) ≤ longest-end → length j ≤ 65536
+    → (ys : List ℕ) → none ≡ fitted (last-line y) (take (length out - used) (drop used out)) → ys ≡ put (last-line y)
+    (take (length out - used) (drop used out))
+    → Ends (whole j) first (putMid used (length out - used) out ys) none
+end-short j first out t y at p used g thin small ys answer wrote = none-ends (whole j) first (putMid used (length out - used) out ys)
+    (not-ended j first out p used t y (g .stage) answer)
+    (left-begun j first out p used t y [] (g .stage) (last-line y) ys answer wrote)
+    (λ room. room-left first (g .stage .done) out (last-line y) used longest-end (g .stage .over) thin (omega (arith, room, g .short, small)) answer)
+
 -- ── two lines, one after the other ──
-module _ (d e first : List ℕ) where
-  pub first-short : none ≡ fitted d first → none ≡ fitted (d ++ e) first
-  first-short answer = sym (fitted-none (d ++ e) first (omega (arith, length-append d e, fits-not d first (sym answer))))
+module _ (d e first : List ℕ) (thin : length (d ++ e) ≤ reply-room) where
+  no-room : none ≡ fitted (d ++ e) first → reply-room ≤ length first → ⊥
+  no-room answer room = omega (arith, thin, room, fits-not (d ++ e) first (sym answer))
+
+  pub first-short : (out : List ℕ) → none ≡ fitted d first → out ≡ put d first → Ends (d ++ e) first out none
+  first-short out answer wrote =
+      let short = sym (fitted-none (d ++ e) first (omega (arith, length-append d e, fits-not d first (sym answer)))) in
+      none-ends (d ++ e) first out short
+      (subst (λ (b : List ℕ). Begun (d ++ e) first b) (sym (wrote ∙ put-none d first (fits-not d first (sym answer)))) (same-begun (d ++ e) first))
+      (no-room short)
 
   module _ (out : List ℕ) (n : ℕ) (answer : some n ≡ fitted d first) (wrote : out ≡ put d first) where
     written : Over first d n out
@@ -208,26 +274,32 @@ module _ (d e first : List ℕ) where
     pub begun-inside : n ≤ length out
     begun-inside = omega (arith, written .within, written .size)
 
-    pub second-short : none ≡ fitted e (take (length out - n) (drop n out)) → none ≡ fitted (d ++ e) first
-    second-short q = sym (fitted-none (d ++ e) first (omega (arith, length-append d e, over-count written, rest-length written, fits-not e (take (length out - n) (drop n out)) (sym q), written .within)))
+    pub second-short : (ys : List ℕ) → none ≡ fitted e (take (length out - n) (drop n out)) → ys ≡ put e (take (length out - n) (drop n out))
+        → Ends (d ++ e) first (putMid n (length out - n) out ys) none
+    second-short ys q w =
+        let short = sym (fitted-none (d ++ e) first (omega (arith, length-append d e, over-count written, rest-length written, fits-not e (take (length out - n) (drop n out)) (sym q), written .within))) in
+        none-ends (d ++ e) first (putMid n (length out - n) out ys) short
+        (subst (λ (b : List ℕ). Begun (d ++ e) first b) (sym (none-after written e ys q w)) (over-begun (d ++ e) first d e out n written refl))
+        (no-room short)
 
-    pub both-written : (ys : List ℕ) (k : ℕ) → some k ≡ fitted e (take (length out - n) (drop n out))
-        → ys ≡ put e (take (length out - n) (drop n out))
-        → (n + k ≤ length first) × (some (n + k) ≡ fitted (d ++ e) first) × (putMid n (length out - n) out ys ≡ put (d ++ e) first)
-    both-written ys k q w = let v = put-after written e ys k q w in
-        (v .within, ap some (over-count v) ∙ sym (fitted-fits (d ++ e) first (omega (arith, over-count v, v .within))), over-put v)
+    pub both-over : (ys : List ℕ) (k : ℕ) → some k ≡ fitted e (take (length out - n) (drop n out)) → ys ≡ put e (take (length out - n) (drop n out))
+        → Over first (d ++ e) (n + k) (putMid n (length out - n) out ys)
+    both-over ys k q w = put-after written e ys k q w
 
 -- the text for a journal that is too long
-pub too-long-is : text (replied 0 (refused 14) ∷ []) zeroed ≡ line 1 0 82 14 ++ ending 0 0 0
-too-long-is = ap (λ (x : List ℕ). x ++ ending 0 0 0) (append-nil (line 1 0 82 14))
+abbrev pub refusal : List ℕ
+refusal = line 1 0 82 14 ++ ending 0 0 0
 
-pub too-long-length : length (text (replied 0 (refused 14) ∷ []) zeroed) ≡ 19
+nineteen : _≡_ {A = ℕ} (length refusal) 19
 unfolding line ending decimal digits
-too-long-length = refl
+nineteen = refl
 
-pub reply-long : (j : List ℕ) → 65536 < length j → text (replied 0 (refused 14) ∷ []) zeroed ≡ reply j
+pub refusal-thin : length refusal ≤ reply-room
+refusal-thin = omega (arith, nineteen)
+
+pub reply-long : (j : List ℕ) → 65536 < length j → refusal ≡ reply j
 unfolding reply
-reply-long j h = rw (lt-ltb 65536 (length j) h)
+reply-long j h = rw (lt-ltb 65536 (length j) h) (ap (λ (x : List ℕ). x ++ ending 0 0 0) (sym (append-nil (line 1 0 82 14))))
 
 pub reply-whole : (j : List ℕ) → length j ≤ 65536 → whole j ≡ reply j
 unfolding reply

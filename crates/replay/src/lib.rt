@@ -2,18 +2,16 @@
 // does is in specs/One.antt.
 ghost use mathlib.Core.Path.{_≡_};
 ghost use mathlib.Core.Option.{some};
-ghost use mathlib.Core.List.{[], _∷_};
 ghost use Prim.Native.Nat.{ℕ, _≤_};
 ghost use lib.ListN.{length};
-ghost use Rattle.model.specs.Calls.{refused};
-ghost use Rattle.model.specs.Tally.{zeroed, difference};
+ghost use Rattle.model.specs.Tally.{difference};
 ghost use Rattle.number.specs.Put.{put, fitted};
 ghost use Rattle.number.specs.Answers.{writing};
 ghost use Rattle.journal.specs.Journal.{body-in};
 ghost use Rattle.gatekeeper.specs.View.{told, counts-of};
 ghost use Rattle.replay.specs.One.{One};
-ghost use Rattle.replay.specs.Replay.{reply, replied, text, reply-room};
-ghost use Rattle.replay.specs.Stage.{whole};
+ghost use Rattle.replay.specs.Replay.{reply, Begun};
+ghost use Rattle.replay.specs.Stage.{whole, refusal, Ends};
 use gatekeeper::Answer;
 use gatekeeper::Monitor;
 use gatekeeper::Tally;
@@ -77,13 +75,11 @@ fn open_now(tally: Tally) -> u64
     u64::MAX - (tally.gone - tally.made) + 1
 }
 
-// Answers the records of a journal one after the other, from empty tables, and writes the text. Where there is no room for all of it, some of
-// its lines may stand in the buffer.
+// Answers the records of a journal one after the other, from empty tables, and writes the text. Where there is no room for all of it, its first
+// lines stand in the buffer.
 fn records(journal: &[u8], out: &mut [u8]) -> Written
     requires { ⌜ length (now journal) ≤ 65536 ⌝ }
-    ensures answer { λ r. ⌜ writing r ≡ fitted (whole (now (journal .entry))) (now (out .entry)) ⌝ }
-    ensures buffer { λ r. ⌜ ((k : ℕ) → writing r ≡ some k → now (out .exit) ≡ put (whole (now (journal .entry))) (now (out .entry))) ⌝ }
-    ensures room { λ _. ⌜ (reply-room ≤ length (now (out .entry)) → length (whole (now (journal .entry))) ≤ length (now (out .entry))) ⌝ }
+    ensures { λ r. ⌜ Ends (whole (now (journal .entry))) (now (out .entry)) (now (out .exit)) (writing r) ⌝ }
 {
     let mut m = Monitor::empty();
     let mut tally = Tally { made: 0, gone: 0 };
@@ -94,7 +90,7 @@ fn records(journal: &[u8], out: &mut [u8]) -> Written
     while going {
         match journal::entry_at(journal, at) {
             Entry::Record { start, len, next } => {
-                let r = one(m, tally, &journal[start..next]);
+                let r = one(m, tally, journal::body_at(journal, start, len));
                 let answer = r.answer;
                 let letter = gatekeeper::letter(answer);
                 let value = gatekeeper::value(answer);
@@ -128,15 +124,17 @@ fn records(journal: &[u8], out: &mut [u8]) -> Written
         }
     }
     match text::write_end(&mut out[used..], tally.made, tally.gone, open_now(tally)) {
-        Written::Bytes(n) => Written::Bytes(used + n),
+        Written::Bytes(n) => {
+            let total = used + n;
+            Written::Bytes(total)
+        }
         Written::NoRoom => Written::NoRoom,
     }
 }
 
 // Writes the two lines for a journal that is too long.
 fn too_long(out: &mut [u8]) -> Written
-    ensures answer { λ r. ⌜ writing r ≡ fitted (text (replied 0 (refused 14) ∷ []) zeroed) (now (out .entry)) ⌝ }
-    ensures buffer { λ r. ⌜ ((k : ℕ) → writing r ≡ some k → now (out .exit) ≡ put (text (replied 0 (refused 14) ∷ []) zeroed) (now (out .entry))) ⌝ }
+    ensures { λ r. ⌜ Ends refusal (now (out .entry)) (now (out .exit)) (writing r) ⌝ }
 {
     match text::write_line(out, 1, 0, b'R', 14) {
         Written::Bytes(n) => {
@@ -150,11 +148,12 @@ fn too_long(out: &mut [u8]) -> Written
 }
 
 // The reply to a journal, from empty tables: the text, and how many bytes it has. Where the buffer has no room for all of it, that is the answer, and
-// some of its lines may stand in the buffer. A buffer of REPLY_ROOM bytes has room for every reply.
+// its first lines stand there. A buffer of REPLY_ROOM bytes has room for every reply.
 pub fn replay(journal: &[u8], out: &mut [u8]) -> Written
     ensures answer { λ r. ⌜ writing r ≡ fitted (reply (now (journal .entry))) (now (out .entry)) ⌝ }
     ensures buffer { λ r. ⌜ ((k : ℕ) → writing r ≡ some k → now (out .exit) ≡ put (reply (now (journal .entry))) (now (out .entry))) ⌝ }
-    ensures room { λ _. ⌜ (reply-room ≤ length (now (out .entry)) → length (reply (now (journal .entry))) ≤ length (now (out .entry))) ⌝ }
+    ensures begun { λ _. ⌜ Begun (reply (now (journal .entry))) (now (out .entry)) (now (out .exit)) ⌝ }
+    ensures room { λ _. do ⌜ ((← ⟦REPLY_ROOM⟧ .entry) ≤ length (now (out .entry)) → length (reply (now (journal .entry))) ≤ length (now (out .entry))) ⌝ }
 {
     if 65536 < journal.len() {
         return too_long(out);

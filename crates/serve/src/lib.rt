@@ -1,36 +1,33 @@
-// The program over standard input (document 01, "Part of the product"): a journal in, the replies out. What is read and written is the host's, and
-// no contract can speak of it; the text is `replay`'s promise.
+// The program over standard input (document 01, "Part of the product"): a journal in, the replies out. Which bytes come in is the host's; that the
+// replies are those to the bytes that came is promised here.
 ghost use mathlib.Core.Path.{_≡_};
 ghost use mathlib.Core.Option.{some};
 ghost use Prim.Native.Nat.{ℕ, _≤_};
 ghost use lib.ListN.{length};
-ghost use Rattle.number.specs.Put.{put};
-ghost use Rattle.replay.specs.Replay.{reply, reply-room};
-ghost use Rattle.serve.specs.Rooms.{filled, Sized};
+ghost use Rattle.replay.specs.Replay.{reply-room};
+ghost use Rattle.serve.specs.Rooms.{filled, Sized, Serving, Roomy};
 use number::Written;
 
 // How many bytes stand at the start of a buffer, or that a read failed.
-pub enum Filled {
+enum Filled {
     Bytes(usize),
     Failed,
 }
 
-// Room for the longest journal and one byte more, by which a longer one is known.
-fn journal_space() -> [u8; 65537]
-    ensures { λ r. ⌜ Sized 65537 r ⌝ }
-{
-    [0; 65537]
+// What came of a run.
+pub enum Served {
+    // So many bytes were read, and the reply to them was written.
+    Replied(usize),
+    // A read failed.
+    Unread,
+    // So many bytes were read, and a write of the reply to them failed.
+    Unwritten(usize),
+    // So many bytes were read, and the reply to them has no room in its buffer.
+    NoRoom(usize),
 }
 
-// Room for the longest reply.
-fn reply_space() -> [u8; replay::REPLY_ROOM]
-    ensures { λ r. ⌜ Sized reply-room r ⌝ }
-{
-    [0; replay::REPLY_ROOM]
-}
-
-// Reads until the input ends or the buffer is full. Which bytes come is the host's.
-pub fn fill(fd: i32, buf: &mut [u8]) -> Filled
+// Reads until the input ends or the buffer is full.
+fn fill(fd: i32, buf: &mut [u8]) -> Filled
     ensures { λ r. ⌜ ((k : ℕ) → filled r ≡ some k → k ≤ length (now (buf .exit))) ⌝ }
 {
     let mut done: usize = 0;
@@ -53,37 +50,50 @@ fn say(message: &[u8]) {
     io::write_all(libc::STDERR_FILENO, message);
 }
 
-// The reply to a journal, where there is room for every reply, and how many bytes it has.
-fn reply_to(journal: &[u8], out: &mut [u8]) -> usize
-    requires { ⌜ reply-room ≤ length (now out) ⌝ }
-    ensures count { λ r. ⌜ r ≡ length (reply (now (journal .entry))) ⌝ }
-    ensures buffer { λ _. ⌜ now (out .exit) ≡ put (reply (now (journal .entry))) (now (out .entry)) ⌝ }
-    ensures inside { λ r. ⌜ r ≤ length (now (out .exit)) ⌝ }
-{
-    match replay::replay(journal, out) {
-        Written::Bytes(k) => k,
-        Written::NoRoom => 0,
-    }
-}
-
-// Standard input to its end, or until the first buffer is full; the replies to standard output, by way of the second.
-fn pass_on(journal: &mut [u8], out: &mut [u8])
-    requires { ⌜ reply-room ≤ length (now out) ⌝ }
+// Standard input to its end, or until the first buffer is full; the replies to standard output, by way of the second. What fails is said on standard error.
+pub fn serve(journal: &mut [u8], out: &mut [u8]) -> Served
+    ensures { λ r. ⌜ Serving r (now (journal .exit)) (now (out .entry)) (now (out .exit)) ⌝ }
 {
     match fill(libc::STDIN_FILENO, journal) {
-        Filled::Bytes(n) => {
-            let k = reply_to(&journal[..n], out);
-            if !io::write_all(libc::STDOUT_FILENO, &out[..k]) {
+        Filled::Bytes(n) => match replay::replay(&journal[..n], out) {
+            Written::Bytes(k) => {
+                if io::write_all(libc::STDOUT_FILENO, &out[..k]) {
+                    return Served::Replied(n);
+                }
                 say(b"payrun: standard output could not be written\n");
+                Served::Unwritten(n)
             }
+            Written::NoRoom => {
+                say(b"payrun: the reply is longer than the room for it\n");
+                Served::NoRoom(n)
+            }
+        },
+        Filled::Failed => {
+            say(b"payrun: standard input could not be read\n");
+            Served::Unread
         }
-        Filled::Failed => say(b"payrun: standard input could not be read\n"),
     }
 }
 
-// The whole program. A read or a write that fails is said on standard error.
-pub fn serve() {
+// Room for the longest journal and one byte more, by which a longer one is known.
+fn journal_space() -> [u8; 65537]
+    ensures { λ r. ⌜ Sized 65537 r ⌝ }
+{
+    [0; 65537]
+}
+
+// Room for the longest reply.
+fn reply_space() -> [u8; replay::REPLY_ROOM]
+    ensures { λ r. ⌜ Sized reply-room r ⌝ }
+{
+    [0; replay::REPLY_ROOM]
+}
+
+// The whole program: a run with room for every journal and every reply.
+pub fn program() -> Served
+    ensures { λ r. ⌜ Roomy r ⌝ }
+{
     let mut journal = journal_space();
     let mut out = reply_space();
-    pass_on(&mut journal, &mut out);
+    serve(&mut journal, &mut out)
 }

@@ -28,7 +28,8 @@ returns c =
     let a = c .before .before .before .before .before .before .before .before .before .before .args in
     let k = c .before .before .before .counted-call in
     let call = c .before .before .before .before .before .before .call .given .0 .0 in
-    subst (λ (s : Said). One (a .m) (counts-of (a .tally)) s (call .code) (told (k .result .reply .answer)) (k .result .reply .monitor) (counts-of (k .result .tally)))
+    subst (λ (s : Said). One (a .m) (counts-of (a .tally)) s (call .code) (told (k .result .reply .answer)) (k .result .reply .monitor)
+    (counts-of (k .result .tally)))
     (ap body-answer (sym (c .before .before .before .before .before .before .call .given .1)) ∙ c .before .before .before .before .before .before .before .before .read-body .ensures)
     (refl, k .ensures .0, k .ensures .1)
 

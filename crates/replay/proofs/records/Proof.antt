@@ -4,7 +4,6 @@ use Rattle.text.specs.Parts.Laws.{put-after, none-after}
 use Rattle.replay.specs.Replay.{last-line}
 use Rattle.replay.specs.Replay.Laws.{bad-inside}
 use mathlib.Core.Bool.{Bool, cond}
-use mathlib.Core.Option.{Option·none-ne-some}
 use Prim.Native.Nat.{ℕ, _+_, _-_, _≤_}
 use native.Mathlib.Omega.{arith}
 use borrow.Author.Needs.{needs}
@@ -12,13 +11,13 @@ use lib.ListN.{length, take, drop}
 use Rattle.number.specs.Put.{put, fitted}
 use Rattle.number.specs.Answers.{writing}
 use Rattle.text.specs.Reply.{line, ending, longest-line, longest-end}
-use Rattle.number.specs.Put.Laws.{fits}
 use Rattle.journal.specs.Answers.{body, entry-answer}
 use Rattle.journal.specs.Answers.{answers as reads, refused as bad}
-use Rattle.journal.specs.Journal.{entry-at}
-use Rattle.journal.specs.Journal.Laws.{entry-stands, entry-next}
+use Rattle.journal.specs.Journal.{entry-at, body-in}
+use Rattle.replay.specs.One.{One}
+use Rattle.journal.specs.Journal.Laws.{entry-next}
 use Rattle.gatekeeper.specs.View.{view, told, letter-of, value-of, counts-of}
-use Rattle.replay.specs.Stage.{Going, going-begun, at-test, room-left, record-turn, record-short, record-room, broken-turn, broken-short, broken-room, end-turn, ended, not-ended}
+use Rattle.replay.specs.Stage.{Going, going-begun, at-test, record-turn, record-ends, broken-turn, broken-ends, end-turn, ended, end-short}
 use Rattle.replay.proofs.records.Statement.{statement}
 use Rattle.replay.proofs.records.Tie as tie
 
@@ -42,35 +41,8 @@ entry-at-requires c κs = search needs
 enum-known-start : tie.Need-enum-known-start Inv-loop μ-loop
 enum-known-start c = search needs
 
-sub-one : tie.Need-sub-one Inv-loop μ-loop
-sub-one c =
-    let l = c .before .before .before .before .before .loop in
-    let a = c .before .before .before .before .before .before .before .before .before .args in
-    let g = at-test (c .before .before .before .before .loop-test .taken) (l .inv .1) in
-    let q = c .before .start .given in
-    let e : entry-at (a .journal .now) (l .at) ≡ reads (body (q .0 .0) (q .0 .1 .0)
-    (q .0 .1 .1 .0)) = sym (c .before .before .before .entry-at .ensures) ∙ ap entry-answer (q .1) in
-    let (k, f) = entry-stands _ _ _ _ _ e in omega (arith, f .ends)
-
-part-one-start : tie.Need-part-one-start Inv-loop μ-loop
-part-one-start c =
-    let l = c .before .before .before .before .before .loop in
-    let a = c .before .before .before .before .before .before .before .before .before .args in
-    let g = at-test (c .before .before .before .before .loop-test .taken) (l .inv .1) in
-    let q = c .before .start .given in
-    let e : entry-at (a .journal .now) (l .at) ≡ reads (body (q .0 .0) (q .0 .1 .0)
-    (q .0 .1 .1 .0)) = sym (c .before .before .before .entry-at .ensures) ∙ ap entry-answer (q .1) in
-    let (k, f) = entry-stands _ _ _ _ _ e in omega (arith, f .ends, f .within)
-
-part-one-end : tie.Need-part-one-end Inv-loop μ-loop
-part-one-end c =
-    let l = c .before .before .before .before .before .loop in
-    let a = c .before .before .before .before .before .before .before .before .before .args in
-    let g = at-test (c .before .before .before .before .loop-test .taken) (l .inv .1) in
-    let q = c .before .start .given in
-    let e : entry-at (a .journal .now) (l .at) ≡ reads (body (q .0 .0) (q .0 .1 .0)
-    (q .0 .1 .1 .0)) = sym (c .before .before .before .entry-at .ensures) ∙ ap entry-answer (q .1) in
-    let (k, f) = entry-stands _ _ _ _ _ e in omega (arith, f .ends, f .within)
+body-at-requires : tie.Need-body-at-requires Inv-loop μ-loop
+body-at-requires c κs = search needs
 
 one-requires : tie.Need-one-requires Inv-loop μ-loop
 one-requires c κs = search needs
@@ -142,10 +114,12 @@ loop-again c =
     (letter-of x) (value-of x) = ap₂ (λ u v. line (l .position) (k .result .code) u v)
     (c .before .before .before .before .before .before .before .before .before .before .letter .ensures)
     (c .before .before .before .before .before .before .before .before .before .value .ensures) in
+    let o = subst (λ bs. One (l .m) (counts-of (l .tally)) (body-in bs) (k .result .code) x (k .result .monitor) (counts-of (k .result .tally)))
+    (c .before .before .before .before .before .before .before .before .before .before .before .before .body-at .ensures) (k .ensures) in
     let thin = subst (λ y. length y ≤ longest-line) is (w .ensures .1 .1) in
     let rest = take (length (l .out) - l .used) (drop (l .used) (l .out)) in (
       l .inv .0,
-      at-test (sym (c .before .before .before .before .before .before .before .before .before .before .before .before .before .before .before .before .before .loop-test .taken)) (record-turn (a .journal .now) (a .out .now) (l .out) (l .at) (l .position) (l .used) (l .m) (counts-of (l .tally)) g (q .0 .0) (q .0 .1 .0) (q .0 .1 .1 .0) e (k .result .monitor) (counts-of (k .result .tally)) (k .result .code) x (k .ensures) thin (w .last .0) (c .before .before .before .n .given .0 .0) (ap writing (sym (c .before .before .before .n .given .1)) ∙ w .ensures .0 ∙ ap (λ y. fitted y rest) is) (w .ensures .1 .0 ∙ ap (λ y. put y rest) is)),
+      at-test (sym (c .before .before .before .before .before .before .before .before .before .before .before .before .before .before .before .before .before .loop-test .taken)) (record-turn (a .journal .now) (a .out .now) (l .out) (l .at) (l .position) (l .used) (l .m) (counts-of (l .tally)) g (q .0 .0) (q .0 .1 .0) (q .0 .1 .1 .0) e (k .result .monitor) (counts-of (k .result .tally)) (k .result .code) x o thin (w .last .0) (c .before .before .before .n .given .0 .0) (ap writing (sym (c .before .before .before .n .given .1)) ∙ w .ensures .0 ∙ ap (λ y. fitted y rest) is) (w .ensures .1 .0 ∙ ap (λ y. put y rest) is)),
     )
 
 enum-told : tie.Need-enum-told Inv-loop μ-loop
@@ -177,12 +151,12 @@ returns c =
     (c .before .before .before .before .before .before .before .letter .ensures)
     (c .before .before .before .before .before .before .value .ensures) in
     let rest = take (length (l .out) - l .used) (drop (l .used) (l .out)) in
+    let o = subst (λ bs. One (l .m) (counts-of (l .tally)) (body-in bs) (k .result .code) x (k .result .monitor) (counts-of (k .result .tally)))
+    (c .before .before .before .before .before .before .before .before .before .body-at .ensures) (k .ensures) in
     let thin = subst (λ y. length y ≤ longest-line) is (w .ensures .1 .1) in
-    let none-is = ap writing (sym (c .enum-told .given .1)) ∙ w .ensures .0 ∙ ap (λ y. fitted y rest) is in (
-      record-short (a .journal .now) (a .out .now) (l .out) (l .at) (l .position) (l .used) (l .m) (counts-of (l .tally)) g (q .0 .0) (q .0 .1 .0)
-          (q .0 .1 .1 .0) e (k .result .monitor) (counts-of (k .result .tally)) (k .result .code) x (k .ensures) thin none-is,
-      (λ i z. absurd (Option·none-ne-some i z), λ room. absurd (record-room (a .journal .now) (a .out .now) (l .out) (l .at) (l .position) (l .used) (l .m) (counts-of (l .tally)) g (q .0 .0) (q .0 .1 .0) (q .0 .1 .1 .0) e (k .result .monitor) (counts-of (k .result .tally)) (k .result .code) x (k .ensures) thin room (l .inv .0) none-is)),
-    )
+    record-ends (a .journal .now) (a .out .now) (l .out) (l .at) (l .position) (l .used) (l .m) (counts-of (l .tally)) g (q .0 .0) (q .0 .1 .0)
+    (q .0 .1 .1 .0) e (k .result .monitor) (counts-of (k .result .tally)) (k .result .code) x o thin (l .inv .0) (w .last .0)
+    (ap writing (sym (c .enum-told .given .1)) ∙ w .ensures .0 ∙ ap (λ y. fitted y rest) is) (w .ensures .1 .0 ∙ ap (λ y. put y rest) is)
 
 enum-told-2 : tie.Need-enum-told-2 Inv-loop μ-loop
 enum-told-2 c = search needs
@@ -250,11 +224,8 @@ returns-2 c =
     let g = at-test (c .before .before .before .before .before .before .before .before .before .loop-test .taken) (l .inv .1) in
     let e : entry-at (a .journal .now) (l .at) ≡ bad 11 = sym (c .before .before .before .before .before .before .before .before .entry-at .ensures) ∙ ap entry-answer (c .before .before .before .before .before .before .enum-told2 .given .1) in
     let w = c .before .before .before .before .write-line2 in
-    let none-is = ap writing (sym (c .enum-told3 .given .1)) ∙ w .ensures .0 in (
-      broken-short (a .journal .now) (a .out .now) (l .out) (l .at) (l .position) (l .used) (l .m) (counts-of (l .tally)) g 11 e (bad-inside _ _ _ e)
-          (w .ensures .1 .1) none-is,
-      (λ i z. absurd (Option·none-ne-some i z), λ room. absurd (broken-room (a .journal .now) (a .out .now) (l .out) (l .at) (l .position) (l .used) (l .m) (counts-of (l .tally)) g 11 e (bad-inside _ _ _ e) (w .ensures .1 .1) room (l .inv .0) none-is)),
-    )
+    broken-ends (a .journal .now) (a .out .now) (l .out) (l .at) (l .position) (l .used) (l .m) (counts-of (l .tally)) g 11 e (bad-inside _ _ _ e)
+    (w .ensures .1 .1) (l .inv .0) (w .last .0) (ap writing (sym (c .enum-told3 .given .1)) ∙ w .ensures .0) (w .ensures .1 .0)
 
 enum-told-4 : tie.Need-enum-told-4 Inv-loop μ-loop
 enum-told-4 c = search needs
@@ -295,8 +266,8 @@ write-end-requires c κs = search needs
 enum-known-n-3 : tie.Need-enum-known-n-3 Inv-loop μ-loop
 enum-known-n-3 c = search needs
 
-add-t41 : tie.Need-add-t41 Inv-loop μ-loop
-add-t41 c =
+add-total : tie.Need-add-total Inv-loop μ-loop
+add-total c =
     let l = c .before .before .before .before .before .before .before .before .before .loop in
     let a = c .before .before .before .before .before .before .before .before .before .before .before .before .before .args in
     let g = at-test (c .before .before .before .before .before .before .before .before .loop-test .left) (l .inv .1) in
@@ -324,10 +295,9 @@ returns-3 c =
     (c .before .before .before .before .before .before .open-now .result) ≡ last-line (counts-of (l .tally)) = ap (λ d. ending (l .tally .made)
     (l .tally .gone) d) (c .before .before .before .before .before .before .open-now .ensures) in
     let rest = take (length (l .out) - l .used) (drop (l .used) (l .out)) in
-    let r = ended (a .journal .now) (a .out .now) (l .out) (l .position) (l .used) (view (l .m)) (counts-of (l .tally)) (g .stage) (w .last .0)
+    ended (a .journal .now) (a .out .now) (l .out) (l .position) (l .used) (view (l .m)) (counts-of (l .tally)) (g .stage) (w .last .0)
     (c .before .n3 .given .0 .0) (ap writing (sym (c .before .n3 .given .1)) ∙ w .ensures .0 ∙ ap (λ y. fitted y rest) is)
-    (w .ensures .1 .0 ∙ ap (λ y. put y rest) is) in
-    (r .0, (λ i z. r .1, λ _. fits _ _ _ (sym (r .0)) .1))
+    (w .ensures .1 .0 ∙ ap (λ y. put y rest) is)
 
 same-length-4 : tie.Need-same-length-4 Inv-loop μ-loop
 same-length-4 c = search needs
@@ -342,11 +312,10 @@ returns-4 c =
     (c .before .before .before .before .before .open-now .result) ≡ last-line (counts-of (l .tally)) = ap (λ d. ending (l .tally .made)
     (l .tally .gone) d) (c .before .before .before .before .before .open-now .ensures) in
     let rest = take (length (l .out) - l .used) (drop (l .used) (l .out)) in
-    let none-is = ap writing (sym (c .enum-told5 .given .1)) ∙ w .ensures .0 ∙ ap (λ y. fitted y rest) is in
-    let thin = subst (λ y. length y ≤ longest-end) is (w .ensures .1 .1) in (
-      not-ended (a .journal .now) (a .out .now) (l .out) (l .position) (l .used) (view (l .m)) (counts-of (l .tally)) (g .stage) none-is,
-      (λ i z. absurd (Option·none-ne-some i z), λ room. absurd (room-left _ _ _ (last-line (counts-of (l .tally))) (l .used) longest-end (g .stage .over) thin (omega (arith, room, g .short, l .inv .0)) none-is)),
-    )
+    let thin = subst (λ y. length y ≤ longest-end) is (w .ensures .1 .1) in
+    end-short (a .journal .now) (a .out .now) (l .out) (view (l .m)) (counts-of (l .tally)) (l .at) (l .position) (l .used) g thin (l .inv .0)
+    (w .last .0) (ap writing (sym (c .enum-told5 .given .1)) ∙ w .ensures .0 ∙ ap (λ y. fitted y rest) is)
+    (w .ensures .1 .0 ∙ ap (λ y. put y rest) is)
 
 pub records-spec : {M : Type 1} → statement M
 records-spec =
@@ -358,9 +327,7 @@ records-spec =
     loop-holds
     entry-at-requires
     enum-known-start
-    sub-one
-    part-one-start
-    part-one-end
+    body-at-requires
     one-requires
     letter-requires
     value-requires
@@ -397,7 +364,7 @@ records-spec =
     open-now-requires
     write-end-requires
     enum-known-n-3
-    add-t41
+    add-total
     enum-told-5
     same-length-3
     returns-3

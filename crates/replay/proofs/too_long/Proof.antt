@@ -1,11 +1,9 @@
 -- `replay::too_long` meets its contract. Assumes nothing.
 use mathlib.Core.Path.{sym, _∙_, ap}
-use mathlib.Core.Option.{Option·none-ne-some}
 use native.Mathlib.Omega.{arith}
-use Rattle.number.specs.Put.{put, fitted}
 use Rattle.number.specs.Answers.{writing}
 use Rattle.text.specs.Reply.{line, ending}
-use Rattle.replay.specs.Stage.{begun-inside, first-short, second-short, both-written, too-long-is}
+use Rattle.replay.specs.Stage.{all-ends, begun-inside, first-short, second-short, both-over, refusal-thin}
 use borrow.Author.Needs.{needs}
 use Rattle.replay.proofs.too_long.Statement.{statement}
 use Rattle.replay.proofs.too_long.Tie as tie
@@ -20,13 +18,15 @@ sub-write-end : tie.Need-sub-write-end
 sub-write-end c =
     let f = c .before .before .before .before .before .before .before .before .args .out .now in
     let v = c .before .before .before .before .before .write-line in
-    begun-inside (line 1 0 82 14) (ending 0 0 0) f (v .last .0) (c .before .n .given .0 .0) (ap writing (sym (c .before .n .given .1)) ∙ v .ensures .0) (v .ensures .1 .0)
+    begun-inside (line 1 0 82 14) (ending 0 0 0) f refusal-thin (v .last .0) (c .before .n .given .0 .0)
+    (ap writing (sym (c .before .n .given .1)) ∙ v .ensures .0) (v .ensures .1 .0)
 
 part-write-end-start : tie.Need-part-write-end-start
 part-write-end-start c =
     let f = c .before .before .before .before .before .before .before .before .args .out .now in
     let v = c .before .before .before .before .before .write-line in
-    begun-inside (line 1 0 82 14) (ending 0 0 0) f (v .last .0) (c .before .n .given .0 .0) (ap writing (sym (c .before .n .given .1)) ∙ v .ensures .0) (v .ensures .1 .0)
+    begun-inside (line 1 0 82 14) (ending 0 0 0) f refusal-thin (v .last .0) (c .before .n .given .0 .0)
+    (ap writing (sym (c .before .n .given .1)) ∙ v .ensures .0) (v .ensures .1 .0)
 
 part-write-end-end : tie.Need-part-write-end-end
 part-write-end-end c = search needs
@@ -42,7 +42,15 @@ add-t14 c =
     let f = c .before .before .before .before .before .before .before .before .before .before .before .before .before .before .before .args .out .now in
     let v = c .before .before .before .before .before .before .before .before .before .before .before .before .write-line in
     let w = c .before .before .before .before .before .write-end in
-    omega (arith, both-written (line 1 0 82 14) (ending 0 0 0) f (v .last .0) (c .before .before .before .before .before .before .before .before .n .given .0 .0) (ap writing (sym (c .before .before .before .before .before .before .before .before .n .given .1)) ∙ v .ensures .0) (v .ensures .1 .0) (w .last .0) (c .before .k .given .0 .0) (ap writing (sym (c .before .k .given .1)) ∙ w .ensures .0) (w .ensures .1 .0) .0, c .before .before .before .before .before .before .before .before .before .before .before .before .before .before .before .good)
+    omega (
+      arith,
+      both-over (line 1 0 82 14) (ending 0 0 0) f refusal-thin (v .last .0)
+          (c .before .before .before .before .before .before .before .before .n .given .0 .0)
+          (ap writing (sym (c .before .before .before .before .before .before .before .before .n .given .1)) ∙ v .ensures .0) (v .ensures .1 .0)
+          (w .last .0) (c .before .k .given .0 .0) (ap writing (sym (c .before .k .given .1)) ∙ w .ensures .0)
+          (w .ensures .1 .0) .within,
+      c .before .before .before .before .before .before .before .before .before .before .before .before .before .before .before .good,
+    )
 
 enum-told : tie.Need-enum-told
 enum-told c = search needs
@@ -58,8 +66,10 @@ returns c =
     let f = c .before .before .before .before .before .before .before .before .before .before .before .before .before .before .before .args .out .now in
     let v = c .before .before .before .before .before .before .before .before .before .before .before .before .write-line in
     let w = c .before .before .before .before .before .write-end in
-    let r = both-written (line 1 0 82 14) (ending 0 0 0) f (v .last .0) (c .before .before .before .before .before .before .before .before .n .given .0 .0) (ap writing (sym (c .before .before .before .before .before .before .before .before .n .given .1)) ∙ v .ensures .0) (v .ensures .1 .0) (w .last .0) (c .before .k .given .0 .0) (ap writing (sym (c .before .k .given .1)) ∙ w .ensures .0) (w .ensures .1 .0) in
-    (r .1 ∙ ap (λ x. fitted x f) (sym too-long-is), λ i z. r .2 ∙ ap (λ x. put x f) (sym too-long-is))
+    all-ends _ f _ _ (both-over (line 1 0 82 14) (ending 0 0 0) f refusal-thin (v .last .0)
+    (c .before .before .before .before .before .before .before .before .n .given .0 .0)
+    (ap writing (sym (c .before .before .before .before .before .before .before .before .n .given .1)) ∙ v .ensures .0) (v .ensures .1 .0)
+    (w .last .0) (c .before .k .given .0 .0) (ap writing (sym (c .before .k .given .1)) ∙ w .ensures .0) (w .ensures .1 .0))
 
 same-length-2 : tie.Need-same-length-2
 same-length-2 c = search needs
@@ -69,7 +79,10 @@ returns-2 c =
     let f = c .before .before .before .before .before .before .before .before .before .before .before .before .before .before .args .out .now in
     let v = c .before .before .before .before .before .before .before .before .before .before .before .write-line in
     let w = c .before .before .before .before .write-end in
-    (second-short (line 1 0 82 14) (ending 0 0 0) f (v .last .0) (c .before .before .before .before .before .before .before .n .given .0 .0) (ap writing (sym (c .before .before .before .before .before .before .before .n .given .1)) ∙ v .ensures .0) (v .ensures .1 .0) (ap writing (sym (c .enum-told .given .1)) ∙ w .ensures .0) ∙ ap (λ x. fitted x f) (sym too-long-is), λ i z. absurd (Option·none-ne-some i z))
+    second-short (line 1 0 82 14) (ending 0 0 0) f refusal-thin (v .last .0)
+    (c .before .before .before .before .before .before .before .n .given .0 .0)
+    (ap writing (sym (c .before .before .before .before .before .before .before .n .given .1)) ∙ v .ensures .0) (v .ensures .1 .0) (w .last .0)
+    (ap writing (sym (c .enum-told .given .1)) ∙ w .ensures .0) (w .ensures .1 .0)
 
 same-length-3 : tie.Need-same-length-3
 same-length-3 c = search needs
@@ -78,7 +91,8 @@ returns-3 : tie.Need-returns-3
 returns-3 c =
     let f = c .before .before .before .before .before .before .before .args .out .now in
     let v = c .before .before .before .before .write-line in
-    (first-short (line 1 0 82 14) (ending 0 0 0) f (ap writing (sym (c .enum-told2 .given .1)) ∙ v .ensures .0) ∙ ap (λ x. fitted x f) (sym too-long-is), λ i z. absurd (Option·none-ne-some i z))
+    first-short (line 1 0 82 14) (ending 0 0 0) f refusal-thin (v .last .0) (ap writing (sym (c .enum-told2 .given .1)) ∙ v .ensures .0)
+    (v .ensures .1 .0)
 
 pub too-long-spec : {M : Type 1} → statement M
 too-long-spec =
