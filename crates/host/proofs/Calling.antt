@@ -1,0 +1,79 @@
+-- What a call leaves in the state's bytes, and what it is answered. Assumes nothing.
+use mathlib.Core.Path.{_≡_, refl, sym, ap, ap₂, _∙_, subst}
+use mathlib.Core.Option.{some, Option·none-ne-some}
+use mathlib.Core.List.{List}
+use Prim.Native.Nat.{ℕ}
+use native.Mathlib.Omega.{arith}
+use borrow.Author.Tests.{eq-eqb, ne-eqb}
+use lib.ListN.{length}
+use Rattle.model.specs.Tables.{Tables, clean}
+use Rattle.model.specs.Calls.{Call, refusal, Answer, allowed, lowered, refused, answer}
+use Rattle.model.specs.Calls.Refusals.{answered-refused}
+use Rattle.model.specs.Promise.{Meets}
+use Rattle.model.specs.Tally.{tallied}
+use Rattle.gatekeeper.specs.declared.Monitor.{Monitor}
+use Rattle.gatekeeper.specs.declared.Tally.{Tally}
+use Rattle.gatekeeper.specs.View.{view, counts-of, letter-of}
+use Rattle.host.specs.State.{state-bytes, Sized, monitor-of, tally-of, bytes-of, Stands, state-view, Stored}
+use Rattle.host.specs.Numbers.{answer-number, call-number}
+
+-- a letter R is that of a refusal
+r-refused : (a : Answer) → letter-of a ≡ 82 → (k : ℕ) × (a ≡ refused k)
+r-refused (allowed l) h = absurd (omega arith)
+r-refused (lowered l) h = absurd (omega arith)
+r-refused (refused k) h = (k, refl)
+
+-- call c was made on the monitor m and the tally y, loaded from the bytes s; it is answered a, and n and z are handed back
+pub record Made (s : List ℕ) (c : Call) (m : Monitor) (y : Tally) (a : Answer) (n : Monitor) (z : Tally) : Type 0 where
+  pub from-monitor : m ≡ monitor-of s
+  pub from-tally : y ≡ tally-of s
+  pub meets : Meets view m c a n
+  pub counts : counts-of z ≡ tallied (clean (view m)) c (counts-of y)
+
+pub made : (s : List ℕ) {c : Call} {m : Monitor} {y : Tally} {a : Answer} {n : Monitor} {z : Tally} → m ≡ monitor-of s → y ≡ tally-of s
+    → Meets view m c a n → counts-of z ≡ tallied (clean (view m)) c (counts-of y) → Made s c m y a n z
+made s em ey p q = record { from-monitor = em; from-tally = ey; meets = p; counts = q }
+
+module _ {s : List ℕ} {c : Call} {m : Monitor} {y : Tally} {a : Answer} {n : Monitor} {z : Tally} (p : Made s c m y a n z) where
+  abbrev t : Tables
+  t = clean (state-view s)
+
+  answered : a ≡ answer t c
+  answered = p .meets .answered ∙ ap (λ (x : Monitor). answer (clean (view x)) c) (p .from-monitor)
+
+  pub call-answered : (r : ℕ) → Sized s → r ≡ answer-number a → r ≡ call-number s c
+  unfolding call-number
+  call-answered r h e = rw (eq-eqb (length s) state-bytes h) (e ∙ ap answer-number answered)
+
+  -- a refused call leaves every byte
+  pub call-refused : Sized s → letter-of a ≡ 82 → Stored s c s
+  unfolding tallied
+  call-refused size h =
+      let (k, r) = r-refused a h in
+      let q : refusal t c ≡ some k = answered-refused t c k .0 (sym answered ∙ r) in
+      record {
+        size = size;
+        meets = record { answered = refl; unchanged = λ j w. refl; moved = λ w. absurd (Option·none-ne-some k (sym w ∙ q)) };
+        counts = rw (q, tallied);
+        exact = λ w. absurd (Option·none-ne-some k (sym w ∙ q));
+      }
+
+  -- any other leaves the bytes of what was handed back
+  pub call-moved : (letter-of a ≡ 82 → ⊥) → {s′ : List ℕ} → Stands s′ n z → Stored s c s′
+  call-moved h k = record {
+    size = k .size;
+    meets = record {
+      answered = refl;
+      unchanged = λ j w. absurd (h (ap letter-of (answered ∙ answered-refused t c j .1 w)));
+      moved = λ w. ap view (k .monitor) ∙ subst (λ (x : Monitor). Meets view x c a n) (p .from-monitor) (p .meets) .moved w;
+    };
+    counts = ap counts-of (k .tally)
+        ∙ p .counts
+        ∙ ap₂ (λ (x : Monitor) (v : Tally). tallied (clean (view x)) c (counts-of v)) (p .from-monitor) (p .from-tally);
+    exact = λ w. k .bytes ∙ ap₂ bytes-of (sym (k .monitor)) (sym (k .tally));
+  }
+
+-- bytes of another length
+pub call-unsized : (s : List ℕ) (c : Call) → (Sized s → ⊥) → 0 ≡ call-number s c
+unfolding call-number
+call-unsized s c h = rw (ne-eqb (length s) state-bytes h)

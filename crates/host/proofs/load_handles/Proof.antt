@@ -1,0 +1,82 @@
+-- `host::load_handles` meets its contract. Assumes nothing.
+use mathlib.Core.Path.{refl, ap}
+use Prim.Native.Nat.{_+_, _*_, _-_}
+use native.Mathlib.Omega.{arith}
+use lib.ListN.{getD}
+use Rattle.gatekeeper.specs.declared.Way.{Way}
+use borrow.Author.Needs.{needs}
+use Rattle.gatekeeper.specs.View.{no-handle}
+use Rattle.host.specs.State.{handle-of, handles-of}
+use Rattle.host.proofs.Loading.{Loaded, loaded-none, loaded-more, loaded-all}
+use Rattle.host.proofs.load_handles.Statement.{statement}
+use Rattle.host.proofs.load_handles.Tie as tie
+
+abbrev Inv-loop : tie.InvT-loop
+Inv-loop state r₀ i₀ r i = Loaded handle-of no-handle 192 512 state r i
+
+abbrev μ-loop : tie.MeasureT-loop
+μ-loop state r₀ i₀ r i = 512 - i
+
+loop-holds : tie.Need-loop-holds Inv-loop μ-loop
+loop-holds c = loaded-none handle-of no-handle 192 512 _ _ refl (omega (arith, c .before .pre))
+
+mul-at : tie.Need-mul-at Inv-loop μ-loop
+mul-at c = search needs
+
+add-at : tie.Need-add-at Inv-loop μ-loop
+add-at c = search needs
+
+shared-slice-read-to-way : tie.Need-shared-slice-read-to-way Inv-loop μ-loop
+shared-slice-read-to-way c = search needs
+
+to-way-requires : tie.Need-to-way-requires Inv-loop μ-loop
+to-way-requires c κs = search needs
+
+add-object : tie.Need-add-object Inv-loop μ-loop
+add-object c = search needs
+
+shared-slice-read-object : tie.Need-shared-slice-read-object Inv-loop μ-loop
+shared-slice-read-object c = search needs
+
+mul-r : tie.Need-mul-r Inv-loop μ-loop
+mul-r c = search needs
+
+array-set-from-r : tie.Need-array-set-from-r Inv-loop μ-loop
+array-set-from-r c = search needs
+
+add-i : tie.Need-add-i Inv-loop μ-loop
+add-i c = search needs
+
+loop-less : tie.Need-loop-less Inv-loop μ-loop
+loop-less c = search needs
+
+loop-again : tie.Need-loop-again Inv-loop μ-loop
+loop-again c =
+    let turn = c .before .before .before in
+    let object = getD (turn .before .before .before .args .state .now) (192 + 2 * turn .before .loop .i + 1) 0 in
+    loaded-more _ _ (turn .before .loop .inv) (turn .loop-test .taken) refl
+    (ap (λ (k : Way). record { way = k; object = object }) (c .before .to-way .ensures))
+
+returns : tie.Need-returns Inv-loop μ-loop
+unfolding handles-of
+returns c = loaded-all (c .before .loop .inv) (c .loop-test .left)
+
+pub load-handles-spec : {M : Type 1} → statement M
+load-handles-spec =
+    tie.close
+    (tie.spec
+    Inv-loop
+    μ-loop
+    loop-holds
+    mul-at
+    add-at
+    shared-slice-read-to-way
+    to-way-requires
+    add-object
+    shared-slice-read-object
+    mul-r
+    array-set-from-r
+    add-i
+    loop-less
+    loop-again
+    returns)

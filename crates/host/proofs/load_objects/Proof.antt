@@ -1,0 +1,82 @@
+-- `host::load_objects` meets its contract. Assumes nothing.
+use mathlib.Core.Path.{refl, ap}
+use Prim.Native.Nat.{_+_, _*_, _-_}
+use native.Mathlib.Omega.{arith}
+use lib.ListN.{getD}
+use Rattle.gatekeeper.specs.declared.Kind.{Kind}
+use borrow.Author.Needs.{needs}
+use Rattle.gatekeeper.specs.View.{no-object}
+use Rattle.host.specs.State.{object-of, objects-of}
+use Rattle.host.proofs.Loading.{Loaded, loaded-none, loaded-more, loaded-all}
+use Rattle.host.proofs.load_objects.Statement.{statement}
+use Rattle.host.proofs.load_objects.Tie as tie
+
+abbrev Inv-loop : tie.InvT-loop
+Inv-loop state r₀ i₀ r i = Loaded object-of no-object 64 64 state r i
+
+abbrev μ-loop : tie.MeasureT-loop
+μ-loop state r₀ i₀ r i = 64 - i
+
+loop-holds : tie.Need-loop-holds Inv-loop μ-loop
+loop-holds c = loaded-none object-of no-object 64 64 _ _ refl (omega (arith, c .before .pre))
+
+mul-at : tie.Need-mul-at Inv-loop μ-loop
+mul-at c = search needs
+
+add-at : tie.Need-add-at Inv-loop μ-loop
+add-at c = search needs
+
+shared-slice-read-to-kind : tie.Need-shared-slice-read-to-kind Inv-loop μ-loop
+shared-slice-read-to-kind c = search needs
+
+to-kind-requires : tie.Need-to-kind-requires Inv-loop μ-loop
+to-kind-requires c κs = search needs
+
+add-level : tie.Need-add-level Inv-loop μ-loop
+add-level c = search needs
+
+shared-slice-read-level : tie.Need-shared-slice-read-level Inv-loop μ-loop
+shared-slice-read-level c = search needs
+
+mul-r : tie.Need-mul-r Inv-loop μ-loop
+mul-r c = search needs
+
+array-set-from-r : tie.Need-array-set-from-r Inv-loop μ-loop
+array-set-from-r c = search needs
+
+add-i : tie.Need-add-i Inv-loop μ-loop
+add-i c = search needs
+
+loop-less : tie.Need-loop-less Inv-loop μ-loop
+loop-less c = search needs
+
+loop-again : tie.Need-loop-again Inv-loop μ-loop
+loop-again c =
+    let turn = c .before .before .before in
+    let level = getD (turn .before .before .before .args .state .now) (64 + 2 * turn .before .loop .i + 1) 0 in
+    loaded-more _ _ (turn .before .loop .inv) (turn .loop-test .taken) refl
+    (ap (λ (k : Kind). record { kind = k; level = level }) (c .before .to-kind .ensures))
+
+returns : tie.Need-returns Inv-loop μ-loop
+unfolding objects-of
+returns c = loaded-all (c .before .loop .inv) (c .loop-test .left)
+
+pub load-objects-spec : {M : Type 1} → statement M
+load-objects-spec =
+    tie.close
+    (tie.spec
+    Inv-loop
+    μ-loop
+    loop-holds
+    mul-at
+    add-at
+    shared-slice-read-to-kind
+    to-kind-requires
+    add-level
+    shared-slice-read-level
+    mul-r
+    array-set-from-r
+    add-i
+    loop-less
+    loop-again
+    returns)

@@ -1,0 +1,68 @@
+-- `host::load_subjects` meets its contract. Assumes nothing.
+use mathlib.Core.Path.{refl}
+use Prim.Native.Nat.{_-_}
+use native.Mathlib.Omega.{arith}
+use borrow.Author.Needs.{needs}
+use Rattle.gatekeeper.specs.View.{no-subject}
+use Rattle.host.specs.State.{subject-of, subjects-of}
+use Rattle.host.proofs.Loading.{Loaded, loaded-none, loaded-more, loaded-all}
+use Rattle.host.proofs.load_subjects.Statement.{statement}
+use Rattle.host.proofs.load_subjects.Tie as tie
+
+abbrev Inv-loop : tie.InvT-loop
+Inv-loop state r₀ i₀ r i = Loaded subject-of no-subject 0 32 state r i
+
+abbrev μ-loop : tie.MeasureT-loop
+μ-loop state r₀ i₀ r i = 32 - i
+
+loop-holds : tie.Need-loop-holds Inv-loop μ-loop
+loop-holds c = loaded-none subject-of no-subject 0 32 _ _ refl (omega (arith, c .pre))
+
+mul-at : tie.Need-mul-at Inv-loop μ-loop
+mul-at c = search needs
+
+shared-slice-read-live : tie.Need-shared-slice-read-live Inv-loop μ-loop
+shared-slice-read-live c = search needs
+
+add-level : tie.Need-add-level Inv-loop μ-loop
+add-level c = search needs
+
+shared-slice-read-level : tie.Need-shared-slice-read-level Inv-loop μ-loop
+shared-slice-read-level c = search needs
+
+mul-r : tie.Need-mul-r Inv-loop μ-loop
+mul-r c = search needs
+
+array-set-from-r : tie.Need-array-set-from-r Inv-loop μ-loop
+array-set-from-r c = search needs
+
+add-i : tie.Need-add-i Inv-loop μ-loop
+add-i c = search needs
+
+loop-less : tie.Need-loop-less Inv-loop μ-loop
+loop-less c = search needs
+
+loop-again : tie.Need-loop-again Inv-loop μ-loop
+loop-again c = loaded-more _ _ (c .before .before .before .loop .inv) (c .before .before .loop-test .taken) (omega arith) refl
+
+returns : tie.Need-returns Inv-loop μ-loop
+unfolding subjects-of
+returns c = loaded-all (c .before .loop .inv) (c .loop-test .left)
+
+pub load-subjects-spec : {M : Type 1} → statement M
+load-subjects-spec =
+    tie.close
+    (tie.spec
+    Inv-loop
+    μ-loop
+    loop-holds
+    mul-at
+    shared-slice-read-live
+    add-level
+    shared-slice-read-level
+    mul-r
+    array-set-from-r
+    add-i
+    loop-less
+    loop-again
+    returns)

@@ -1,0 +1,65 @@
+-- `host::store` meets its contract. Assumes nothing.
+use mathlib.Core.Path.{ap, _∙_}
+use lib.ListN.{length}
+use borrow.Author.Needs.{needs}
+use Rattle.host.specs.State.{monitor-of, tally-of}
+use Rattle.host.specs.State.Laws.{bytes-length, monitor-back, tally-back}
+use Rattle.host.proofs.Owned.{monitor-long, tally-fits}
+use Rattle.host.proofs.Storing.{laid-whole}
+use Rattle.host.proofs.store.Statement.{statement}
+use Rattle.host.proofs.store.Tie as tie
+
+store-subjects-requires : tie.Need-store-subjects-requires
+store-subjects-requires c κs = search needs
+
+store-objects-requires : tie.Need-store-objects-requires
+store-objects-requires c κs = search needs
+
+store-handles-requires : tie.Need-store-handles-requires
+store-handles-requires c κs = search needs
+
+store-number-requires : tie.Need-store-number-requires
+store-number-requires c κs = search needs
+
+store-number-requires-2 : tie.Need-store-number-requires-2
+store-number-requires-2 c κs = search needs
+
+same-length : tie.Need-same-length
+same-length c = search needs
+
+returns : tie.Need-returns
+returns c =
+    let gone = c .before .before in
+    let made = gone .before .before .before .before in
+    let handles = made .before .before .before .before in
+    let objects = handles .before .before .before .before in
+    let subjects = objects .before .before .before .before in
+    let start = subjects .before .before .before .before .before .before in
+    let m = start .args .monitor in
+    let y = start .args .tally in
+    let long = monitor-long m (start .good .1 .0) in
+    let is =
+    laid-whole m y long (start .args .state .now) (start .pre) _ _ _ _ _
+    (subjects .store-subjects .ensures)
+    (objects .store-objects .ensures)
+    (handles .store-handles .ensures)
+    (made .store-number .ensures)
+    (gone .store-number2 .ensures) in
+    record {
+      size = ap length is ∙ bytes-length m y long;
+      bytes = is;
+      monitor = ap monitor-of is ∙ monitor-back m y long;
+      tally = ap tally-of is ∙ tally-back m y long (tally-fits y (start .good .1 .1 .0));
+    }
+
+pub store-spec : {M : Type 1} → statement M
+store-spec =
+    tie.close
+    (tie.spec
+    store-subjects-requires
+    store-objects-requires
+    store-handles-requires
+    store-number-requires
+    store-number-requires-2
+    same-length
+    returns)

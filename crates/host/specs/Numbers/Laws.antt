@@ -1,0 +1,68 @@
+-- Laws of answers as numbers: what a host reads off each, and that 0 is no answer's. Assumes nothing.
+use mathlib.Core.Path.{_≡_, sym, subst}
+use mathlib.Core.Bool.{Bool, true, false, cond}
+use mathlib.Core.List.{List, [], _∷_, _++_}
+use Prim.Native.Nat.{ℕ, _/_, _%_, _≤_, _<_}
+use native.Mathlib.Omega.{arith}
+use lib.Dec.{ltb}
+use lib.ListN.{length, length-append}
+use Rattle.model.specs.Tables.{empty}
+use Rattle.model.specs.Calls.{Answer, allowed, lowered, refused}
+use Rattle.model.specs.Tally.{Tally, zeroed, tally, difference}
+use Rattle.number.specs.Leb.{Reading, good, largest, number}
+use Rattle.number.specs.Leb.Laws.{number-bytes}
+use Rattle.text.specs.Reply.{end-word, space, newline, field, ending}
+use Rattle.replay.specs.Replay.{Replied, replied, replies, calls-of, records-of, lines, last-line, text, largest-journal, reply}
+use Rattle.gatekeeper.specs.View.{letter-of, value-of}
+use Rattle.host.specs.Numbers.{answer-number, reading-number}
+
+-- ── calls ──
+-- the letter and the level or refusal number, of a byte each
+pub answer-letter : (a : Answer) → value-of a < 256 → answer-number a / 256 ≡ letter-of a
+answer-letter (allowed l) h = omega arith
+answer-letter (lowered l) h = omega arith
+answer-letter (refused n) h = omega arith
+
+pub answer-value : (a : Answer) → value-of a < 256 → answer-number a % 256 ≡ value-of a
+answer-value (allowed l) h = omega arith
+answer-value (lowered l) h = omega arith
+answer-value (refused n) h = omega arith
+
+pub answer-some : (a : Answer) → 0 < answer-number a
+answer-some (allowed l) = omega arith
+answer-some (lowered l) = omega arith
+answer-some (refused n) = omega arith
+
+-- ── numbers ──
+module _ (bytes : List ℕ) (v k : ℕ) (e : number largest bytes ≡ good v k) where
+  pub reading-some : 0 < reading-number (number largest bytes)
+  reading-some = subst (λ (r : Reading). 0 < reading-number r) (sym e) (omega (arith, number-bytes bytes v k e))
+
+  pub reading-used : v ≤ largest → reading-number (number largest bytes) / 4294967296 ≡ k
+  reading-used h = subst (λ (r : Reading). reading-number r / 4294967296 ≡ k) (sym e) (omega arith)
+
+  pub reading-value : v ≤ largest → reading-number (number largest bytes) % 4294967296 ≡ v
+  reading-value h = subst (λ (r : Reading). reading-number r % 4294967296 ≡ v) (sym e) (omega arith)
+
+-- ── replies ──
+-- a reply has its last line, and is never empty
+text-some : (l : List Replied) (y : Tally) → 0 < length (text l y)
+unfolding ending
+text-some l y =
+    let made = field (y .made) space in
+    let gone = field (y .gone) space in
+    omega (
+      arith,
+      length-append (lines 1 l) (last-line y),
+      length-append (end-word ++ made ++ gone) (field (difference y) newline),
+      length-append (end-word ++ made) gone,
+      length-append end-word made,
+    )
+
+pub reply-some : (journal : List ℕ) → 0 < length (reply journal)
+unfolding reply
+reply-some journal = go (ltb largest-journal (length journal)) (replies empty (records-of journal)) (tally empty zeroed (calls-of (records-of journal)))
+  where
+    go : (b : Bool) (l : List Replied) (y : Tally) → 0 < length (cond b (text (replied 0 (refused 14) ∷ []) zeroed) (text l y))
+    go true l y = text-some (replied 0 (refused 14) ∷ []) zeroed
+    go false l y = text-some l y

@@ -1,0 +1,277 @@
+-- Laws of the state's bytes. In order: records of two bytes; numbers; the bytes of a monitor and a tally are read back; the empty state; demand 3 for
+-- a host. Assumes nothing.
+use mathlib.Core.Path.{_≡_, refl, sym, ap, ap₂, _∙_, fun-ext}
+use mathlib.Core.Bool.{Bool, true, false, cond}
+use mathlib.Core.Option.{Option, none}
+use mathlib.Core.List.{List, [], _∷_, _++_, append-nil, append-assoc}
+use Prim.Native.Nat.{ℕ, zero, suc, _+_, _*_, _/_, _^_, _<_}
+use native.Mathlib.Omega.{arith}
+use native.Mathlib.Decide.{decLt}
+use lib.Dec.{ltb}
+use lib.ListN.{length, take, drop, getD, replicate, length-append, length-replicate, getD-replicate, List·getD-eq-default}
+use lib.Seq.{take-at, drop-at, drop-drop}
+use Rattle.model.specs.Flow.{Thing, subject, object}
+use Rattle.model.specs.Tables.{Entry, empty, places, clean}
+use Rattle.model.specs.Tally.{zeroed}
+use Rattle.model.specs.Calls.{Raw, decode, Answer, answer}
+use Rattle.model.specs.Promise.{Runs, then}
+use Rattle.model.specs.Demand3.{Demand3}
+use Rattle.model.specs.Demand3.Laws.{demand3}
+use Rattle.model.specs.Tables.{Handle as Held}
+use Rattle.gatekeeper.specs.declared.Kind.{Kind}
+use Rattle.gatekeeper.specs.declared.Kind.the-variants.{Free, File, Pipe}
+use Rattle.gatekeeper.specs.declared.Way.{Way}
+use Rattle.gatekeeper.specs.declared.Way.the-variants.{Empty, Reads, Writes}
+use Rattle.gatekeeper.specs.declared.Subject.{Subject}
+use Rattle.gatekeeper.specs.declared.Object.{Object}
+use Rattle.gatekeeper.specs.declared.Handle.{Handle}
+use Rattle.gatekeeper.specs.declared.Monitor.{Monitor}
+use Rattle.gatekeeper.specs.declared.Tally.{Tally}
+use Rattle.gatekeeper.specs.View.{view, counts-of, subject-entry, object-entry, held, no-subject, no-object, no-handle, entries}
+use Rattle.host.specs.State.{state-bytes, pairs, flat, subject-of, object-of, handle-of, live-byte, kind-byte, way-byte, whole, digits}
+use Rattle.host.specs.State.{subjects-of, objects-of, handles-of, made-of, gone-of, monitor-of, tally-of}
+use Rattle.host.specs.State.{subject-bytes, object-bytes, handle-bytes, bytes-of, state-view, Blank, Stored}
+
+-- ── records of two bytes ──
+module _ {A : Type 0} (f g : A → ℕ) where
+  pub length-flat : (l : List A) → length (flat f g l) ≡ 2 * length l
+  unfolding flat
+  length-flat [] = refl
+  length-flat (x ∷ l) = let r = length-flat l in omega arith
+
+  pub flat-append : (l k : List A) → flat f g (l ++ k) ≡ flat f g l ++ flat f g k
+  unfolding flat
+  flat-append [] k = refl
+  flat-append (x ∷ l) k = ap (λ (t : List ℕ). f x ∷ g x ∷ t) (flat-append l k)
+
+  -- what was stored is loaded
+  pub pairs-flat : (h : ℕ → ℕ → A) → ((x : A) → h (f x) (g x) ≡ x) → (l : List A) → pairs h (flat f g l) ≡ l
+  unfolding pairs flat
+  pairs-flat h e [] = refl
+  pairs-flat h e (x ∷ l) = ap₂ (λ (y : A) (t : List A). y ∷ t) (e x) (pairs-flat h e l)
+
+module _ {A : Type 0} (f : ℕ → ℕ → A) where
+  pub length-pairs : (n : ℕ) (l : List ℕ) → length l ≡ 2 * n → length (pairs f l) ≡ n
+  unfolding pairs
+  length-pairs zero [] h = refl
+  length-pairs (suc n) [] h = absurd (omega arith)
+  length-pairs n (a ∷ []) h = absurd (omega arith)
+  length-pairs zero (a ∷ b ∷ l) h = absurd (omega arith)
+  length-pairs (suc n) (a ∷ b ∷ l) h = ap suc (length-pairs n l (omega arith))
+
+  pub getD-pairs : (l : List ℕ) (j : ℕ) (d : A) → 2 * j + 1 < length l → getD (pairs f l) j d ≡ f (getD l (2 * j) 0) (getD l (2 * j + 1) 0)
+  unfolding pairs
+  getD-pairs [] j d h = absurd (omega arith)
+  getD-pairs (a ∷ []) j d h = absurd (omega arith)
+  getD-pairs (a ∷ b ∷ l) zero d h = refl
+  getD-pairs (a ∷ b ∷ l) (suc j) d h =
+      let one : suc (suc (2 * j)) ≡ 2 * suc j = omega arith in
+      let two : suc (suc (2 * j + 1)) ≡ 2 * suc j + 1 = omega arith in
+      getD-pairs l j d (omega arith) ∙ ap₂ (λ (x y : ℕ). f (getD (a ∷ b ∷ l) x 0) (getD (a ∷ b ∷ l) y 0)) one two
+
+pub subject-bytes-length : (l : List Subject) → length (subject-bytes l) ≡ 2 * length l
+unfolding subject-bytes
+subject-bytes-length l = length-flat (λ (x : Subject). live-byte (x .live)) (λ (x : Subject). x .level) l
+
+pub object-bytes-length : (l : List Object) → length (object-bytes l) ≡ 2 * length l
+unfolding object-bytes
+object-bytes-length l = length-flat (λ (x : Object). kind-byte (x .kind)) (λ (x : Object). x .level) l
+
+pub handle-bytes-length : (l : List Handle) → length (handle-bytes l) ≡ 2 * length l
+unfolding handle-bytes
+handle-bytes-length l = length-flat (λ (x : Handle). way-byte (x .way)) (λ (x : Handle). x .object) l
+
+-- ── numbers ──
+pub length-digits : (k n : ℕ) → length (digits k n) ≡ k
+unfolding digits
+length-digits zero n = refl
+length-digits (suc k) n = ap suc (length-digits k (n / 256))
+
+pub whole-digits : (k n : ℕ) → n < 256 ^ k → whole (digits k n) ≡ n
+unfolding whole digits
+whole-digits zero n h = omega arith
+whole-digits (suc k) n h = let r : whole (digits k (n / 256)) ≡ n / 256 = whole-digits k (n / 256) (omega arith) in omega arith
+
+-- ── read back ──
+-- the arrays have the lengths of the struct's
+pub record Long (m : Monitor) : Type 0 where
+  pub subjects : length (m .subjects) ≡ 32
+  pub objects : length (m .objects) ≡ 64
+  pub handles : length (m .handles) ≡ 512
+
+-- both counts are 64 bits wide
+pub record Fits (y : Tally) : Type 0 where
+  pub made : y .made < 2 ^ 64
+  pub gone : y .gone < 2 ^ 64
+
+subject-back : (x : Subject) → subject-of (live-byte (x .live)) (x .level) ≡ x
+subject-back x = go (x .live) (x .level)
+  where
+    go : (b : Bool) (l : ℕ) → _≡_ {A = Subject} (subject-of (live-byte b) l) (record { live = b; level = l })
+    go true l = refl
+    go false l = refl
+
+object-back : (x : Object) → object-of (kind-byte (x .kind)) (x .level) ≡ x
+object-back x = go (x .kind) (x .level)
+  where
+    go : (k : Kind) (l : ℕ) → _≡_ {A = Object} (object-of (kind-byte k) l) (record { kind = k; level = l })
+    go Free l = refl
+    go File l = refl
+    go Pipe l = refl
+
+handle-back : (x : Handle) → handle-of (way-byte (x .way)) (x .object) ≡ x
+handle-back x = go (x .way) (x .object)
+  where
+    go : (w : Way) (o : ℕ) → _≡_ {A = Handle} (handle-of (way-byte w) o) (record { way = w; object = o })
+    go Empty o = refl
+    go Reads o = refl
+    go Writes o = refl
+
+-- p stands at index n, and t after it
+module _ (n m : ℕ) (s p t : List ℕ) (e : drop n s ≡ p ++ t) (h : length p ≡ m) where
+  front : take m (drop n s) ≡ p
+  front = ap (take m) e ∙ take-at p t m h
+
+  behind : drop (n + m) s ≡ t
+  behind = sym (drop-drop m n s) ∙ ap (drop m) e ∙ drop-at p t m h
+
+module _ (m : Monitor) (y : Tally) (long : Long m) where
+  abbrev s : List ℕ
+  s = bytes-of m y
+
+  abbrev numbers : List ℕ
+  numbers = digits 8 (y .made) ++ digits 8 (y .gone)
+
+  abbrev after-objects : List ℕ
+  after-objects = handle-bytes (m .handles) ++ numbers
+
+  subjects-count : length (subject-bytes (m .subjects)) ≡ 64
+  subjects-count = omega (arith, subject-bytes-length (m .subjects), long .subjects)
+
+  objects-count : length (object-bytes (m .objects)) ≡ 128
+  objects-count = omega (arith, object-bytes-length (m .objects), long .objects)
+
+  handles-count : length (handle-bytes (m .handles)) ≡ 1024
+  handles-count = omega (arith, handle-bytes-length (m .handles), long .handles)
+
+  from-0 : drop 0 s ≡ subject-bytes (m .subjects) ++ (object-bytes (m .objects) ++ after-objects)
+  unfolding bytes-of
+  from-0 = simp append-assoc
+
+  from-64 : drop 64 s ≡ object-bytes (m .objects) ++ after-objects
+  from-64 = behind 0 64 s (subject-bytes (m .subjects)) (object-bytes (m .objects) ++ after-objects) from-0 subjects-count
+
+  from-192 : drop 192 s ≡ after-objects
+  from-192 = behind 64 128 s (object-bytes (m .objects)) after-objects from-64 objects-count
+
+  from-1216 : drop 1216 s ≡ numbers
+  from-1216 = behind 192 1024 s (handle-bytes (m .handles)) numbers from-192 handles-count
+
+  from-1224 : drop 1224 s ≡ digits 8 (y .gone)
+  from-1224 = behind 1216 8 s (digits 8 (y .made)) (digits 8 (y .gone)) from-1216 (length-digits 8 (y .made))
+
+  -- the bytes of a monitor and a tally have the length of a state
+  pub bytes-length : length (bytes-of m y) ≡ state-bytes
+  bytes-length = omega (
+    arith,
+    ap length from-0,
+    length-append (subject-bytes (m .subjects)) (object-bytes (m .objects) ++ after-objects),
+    length-append (object-bytes (m .objects)) after-objects,
+    length-append (handle-bytes (m .handles)) numbers,
+    length-append (digits 8 (y .made)) (digits 8 (y .gone)),
+    subjects-count,
+    objects-count,
+    handles-count,
+    length-digits 8 (y .made),
+    length-digits 8 (y .gone),
+  )
+
+  subjects-back : subjects-of s ≡ m .subjects
+  unfolding subjects-of subject-bytes
+  subjects-back = ap (pairs subject-of) (front 0 64 s (subject-bytes (m .subjects)) (object-bytes (m .objects) ++ after-objects) from-0 subjects-count)
+      ∙ pairs-flat _ _ subject-of subject-back (m .subjects)
+
+  objects-back : objects-of s ≡ m .objects
+  unfolding objects-of object-bytes
+  objects-back = ap (pairs object-of) (front 64 128 s (object-bytes (m .objects)) after-objects from-64 objects-count)
+      ∙ pairs-flat _ _ object-of object-back (m .objects)
+
+  handles-back : handles-of s ≡ m .handles
+  unfolding handles-of handle-bytes
+  handles-back = ap (pairs handle-of) (front 192 1024 s (handle-bytes (m .handles)) numbers from-192 handles-count)
+      ∙ pairs-flat _ _ handle-of handle-back (m .handles)
+
+  -- a monitor's bytes are its own
+  pub monitor-back : monitor-of (bytes-of m y) ≡ m
+  monitor-back = λ i. record { subjects = subjects-back i; objects = objects-back i; handles = handles-back i }
+
+  made-back : y .made < 2 ^ 64 → made-of s ≡ y .made
+  unfolding made-of
+  made-back h = ap whole (front 1216 8 s (digits 8 (y .made)) (digits 8 (y .gone)) from-1216 (length-digits 8 (y .made)))
+      ∙ whole-digits 8 (y .made) h
+
+  gone-back : y .gone < 2 ^ 64 → gone-of s ≡ y .gone
+  unfolding gone-of
+  gone-back h = ap (λ (l : List ℕ). whole (take 8 l)) (from-1224 ∙ sym (append-nil (digits 8 (y .gone))))
+      ∙ ap whole (take-at (digits 8 (y .gone)) [] 8 (length-digits 8 (y .gone)))
+      ∙ whole-digits 8 (y .gone) h
+
+  -- and a tally's too
+  pub tally-back : Fits y → tally-of (bytes-of m y) ≡ y
+  tally-back h = ap₂ (λ (a b : ℕ). record { made = a; gone = b }) (made-back (h .made)) (gone-back (h .gone))
+
+-- ── the empty state ──
+module _ (s : List ℕ) (z : s ≡ replicate state-bytes 0) where
+  no-subjects : subjects-of s ≡ replicate 32 no-subject
+  unfolding subjects-of pairs
+  no-subjects = ap subjects-of z
+
+  no-objects : objects-of s ≡ replicate 64 no-object
+  unfolding objects-of pairs
+  no-objects = ap objects-of z
+
+  no-handles : handles-of s ≡ replicate 512 no-handle
+  unfolding handles-of pairs
+  no-handles = ap handles-of z
+
+  -- no number is in use
+  zeros-view : state-view s ≡ empty
+  unfolding view
+  zeros-view = ap₂ (λ (a : Thing → Option Entry) (h : ℕ → ℕ → Option Held). record { at = a; hand = h }) (fun-ext at) (
+      fun-ext (λ q. fun-ext (λ p. hand q p (ltb p places)))
+      )
+    where
+      any : {A : Type 0} (n i : ℕ) (a : A) → getD (replicate n a) i a ≡ a
+      any n i a = go (decLt i n)
+        where
+          go : Dec (i < n) → getD (replicate n a) i a ≡ a
+          go (yes l) = getD-replicate n i a a l
+          go (no h) = List·getD-eq-default (replicate n a) a {n = i} (omega (arith, length-replicate n a))
+
+      at : (x : Thing) → entries (subjects-of s) (objects-of s) x ≡ none
+      at (subject n) = ap (λ (l : List Subject). subject-entry (getD l n no-subject)) no-subjects ∙ ap subject-entry (any 32 n no-subject)
+      at (object n) = ap (λ (l : List Object). object-entry (getD l n no-object)) no-objects ∙ ap object-entry (any 64 n no-object)
+
+      hand : (q p : ℕ) (b : Bool) → cond b (held (getD (handles-of s) (q * 16 + p) no-handle)) none ≡ none
+      hand q p true = ap (λ (l : List Handle). held (getD l (q * 16 + p) no-handle)) no-handles ∙ ap held (any 512 (q * 16 + p) no-handle)
+      hand q p false = refl
+
+  -- no handle was made, none is gone
+  zeros-tally : counts-of (tally-of s) ≡ zeroed
+  unfolding made-of gone-of whole
+  zeros-tally = ap (λ (l : List ℕ). counts-of (tally-of l)) z
+
+  -- zeros are the empty state
+  pub zeros-blank : Blank s
+  zeros-blank = record { tables = zeros-view; counts = zeros-tally }
+
+-- ── demand 3 ──
+-- what a host did, one call after the other
+pub stored-then : {s s′ s″ : List ℕ} {r : Raw} {rs : List Raw} {l : List Answer} → Stored s (decode r) s′ → Runs state-view s′ rs l s″
+    → Runs state-view s (r ∷ rs) (answer (clean (state-view s)) (decode r) ∷ l) s″
+stored-then p q = then (p .meets) q
+
+-- a host that keeps nothing but the bytes, and starts from the empty state, has demand 3 for every list of calls
+pub bytes-demand3 : (s : List ℕ) → Blank s → (rs : List Raw) (l : List Answer) (s′ : List ℕ) → Runs state-view s rs l s′
+    → Demand3 rs l (state-view s′)
+bytes-demand3 s b = demand3 state-view s (b .tables)

@@ -1,0 +1,416 @@
+// The gatekeeper for a host in C or Rust (document 01, "Part of the product": the tables, the thirteen calls, the journal reader and writer). Each
+// function below "exported" has its plain name in the archive; a slice crosses as a pointer and a length, and an answer as a number
+// (specs/Numbers.antt). The monitor with its tally crosses as lent bytes, laid out as in specs/State.antt. Every byte string of that length is a
+// monitor, so that a host can hand in nothing wrong but the length, and then nothing is touched.
+ghost use mathlib.Core.Path.{_≡_};
+ghost use mathlib.Core.Option.{Option·getD};
+ghost use mathlib.Core.List.{_∷_, []};
+ghost use Prim.Native.Nat.{_+_, _≤_, _<_};
+ghost use lib.Dec.{eqb};
+ghost use lib.ListN.{length, take, drop, replicate};
+ghost use Rattle.model.specs.Calls.{decode};
+ghost use Rattle.number.specs.Leb.{largest, number};
+ghost use Rattle.number.specs.Put.{put, fitted};
+ghost use Rattle.journal.specs.Record.{recording, recorded};
+ghost use Rattle.replay.specs.Replay.{reply, Begun};
+ghost use Rattle.gatekeeper.specs.View.{told, direct};
+ghost use Rattle.host.specs.State.{state-bytes, Sized, kind-of, way-of, live-byte, kind-byte, way-byte, whole, digits};
+ghost use Rattle.host.specs.State.{subjects-of, objects-of, handles-of, made-of, gone-of, monitor-of, tally-of};
+ghost use Rattle.host.specs.State.{subject-bytes, object-bytes, handle-bytes, Stands, Blank, Stored};
+ghost use Rattle.host.specs.Over.{over};
+ghost use Rattle.host.specs.Numbers.{sized, answer-number, call-number, record-number, reading-number};
+use gatekeeper::Answer;
+use gatekeeper::Handle;
+use gatekeeper::Kind;
+use gatekeeper::Monitor;
+use gatekeeper::Object;
+use gatekeeper::Subject;
+use gatekeeper::Tally;
+use gatekeeper::Way;
+use journal::Call;
+use journal::Numbers;
+use journal::Recorded;
+use number::Number;
+use number::Written;
+
+// How many bytes a monitor and its tally take.
+const STATE_BYTES: usize = 1232;
+
+// The answer to a call on bytes of another length, which is no answer of a call.
+const UNSIZED: u32 = 0;
+
+// ---- one record, from bytes and to bytes
+
+fn to_kind(b: u8) -> Kind
+    ensures { λ r. ⌜ r ≡ kind-of b ⌝ }
+{
+    if b == 1 {
+        return Kind::File;
+    }
+    if b == 2 {
+        return Kind::Pipe;
+    }
+    Kind::Free
+}
+
+fn to_way(b: u8) -> Way
+    ensures { λ r. ⌜ r ≡ way-of b ⌝ }
+{
+    if b == 1 {
+        return Way::Reads;
+    }
+    if b == 2 {
+        return Way::Writes;
+    }
+    Way::Empty
+}
+
+fn from_live(live: bool) -> u8
+    ensures { λ r. ⌜ r ≡ live-byte live ⌝ }
+{
+    if live {
+        return 1;
+    }
+    0
+}
+
+fn from_kind(k: Kind) -> u8
+    ensures { λ r. ⌜ r ≡ kind-byte k ⌝ }
+{
+    match k {
+        Kind::Free => 0,
+        Kind::File => 1,
+        Kind::Pipe => 2,
+    }
+}
+
+fn from_way(w: Way) -> u8
+    ensures { λ r. ⌜ r ≡ way-byte w ⌝ }
+{
+    match w {
+        Way::Empty => 0,
+        Way::Reads => 1,
+        Way::Writes => 2,
+    }
+}
+
+fn wide(b: u8) -> u64
+    ensures { λ r. ⌜ r ≡ b ⌝ }
+{
+    b as u64
+}
+
+// ---- from bytes
+
+fn load_subjects(state: &[u8]) -> [Subject; 32]
+    requires { ⌜ Sized (now state) ⌝ }
+    ensures { λ r. ⌜ r ≡ subjects-of (now (state .entry)) ⌝ }
+{
+    let mut r = [Subject {
+        live: false,
+        level: 0,
+    }; 32];
+    let mut i: usize = 0;
+    while i < 32 {
+        let at = 2 * i;
+        let live = state[at] == 1;
+        let level = state[at + 1];
+        r[i] = Subject { live, level };
+        i += 1;
+    }
+    r
+}
+
+fn load_objects(state: &[u8]) -> [Object; 64]
+    requires { ⌜ Sized (now state) ⌝ }
+    ensures { λ r. ⌜ r ≡ objects-of (now (state .entry)) ⌝ }
+{
+    let mut r = [Object {
+        kind: Kind::Free,
+        level: 0,
+    }; 64];
+    let mut i: usize = 0;
+    while i < 64 {
+        let at = 64 + 2 * i;
+        let kind = to_kind(state[at]);
+        let level = state[at + 1];
+        r[i] = Object { kind, level };
+        i += 1;
+    }
+    r
+}
+
+fn load_handles(state: &[u8]) -> [Handle; 512]
+    requires { ⌜ Sized (now state) ⌝ }
+    ensures { λ r. ⌜ r ≡ handles-of (now (state .entry)) ⌝ }
+{
+    let mut r = [Handle {
+        way: Way::Empty,
+        object: 0,
+    }; 512];
+    let mut i: usize = 0;
+    while i < 512 {
+        let at = 192 + 2 * i;
+        let way = to_way(state[at]);
+        let object = state[at + 1];
+        r[i] = Handle { way, object };
+        i += 1;
+    }
+    r
+}
+
+fn load_monitor(state: &[u8]) -> Monitor
+    requires { ⌜ Sized (now state) ⌝ }
+    ensures { λ r. ⌜ r ≡ monitor-of (now (state .entry)) ⌝ }
+{
+    let subjects = load_subjects(state);
+    let objects = load_objects(state);
+    let handles = load_handles(state);
+    Monitor {
+        subjects: subjects,
+        objects: objects,
+        handles: handles,
+    }
+}
+
+// The number in the eight bytes at an offset, from the highest down.
+fn load_number(state: &[u8], at: usize) -> u64
+    requires { ⌜ at + 8 ≤ length (now state) ⌝ }
+    ensures { λ r. ⌜ r ≡ whole (take 8 (drop at (now (state .entry)))) ⌝ }
+{
+    let mut n: u64 = 0;
+    let mut left: usize = 8;
+    while 0 < left {
+        left = left - 1;
+        n = 256 * n + wide(state[at + left]);
+    }
+    n
+}
+
+fn load_tally(state: &[u8]) -> Tally
+    requires { ⌜ Sized (now state) ⌝ }
+    ensures { λ r. ⌜ r ≡ tally-of (now (state .entry)) ⌝ }
+{
+    let made = load_number(state, 1216);
+    let gone = load_number(state, 1224);
+    Tally {
+        made: made,
+        gone: gone,
+    }
+}
+
+// ---- to bytes
+
+fn store_subjects(state: &mut [u8], subjects: [Subject; 32])
+    requires { ⌜ Sized (now state) ⌝ }
+    ensures { λ _. ⌜ now (state .exit) ≡ over 0 (subject-bytes subjects) (now (state .entry)) ⌝ }
+{
+    let mut i: usize = 0;
+    while i < 32 {
+        let x = subjects[i];
+        let place = 2 * i;
+        let next = place + 1;
+        state[place] = from_live(x.live);
+        state[next] = x.level;
+        i += 1;
+    }
+}
+
+fn store_objects(state: &mut [u8], objects: [Object; 64])
+    requires { ⌜ Sized (now state) ⌝ }
+    ensures { λ _. ⌜ now (state .exit) ≡ over 64 (object-bytes objects) (now (state .entry)) ⌝ }
+{
+    let mut i: usize = 0;
+    while i < 64 {
+        let x = objects[i];
+        let kind = x.kind;
+        let place = 64 + 2 * i;
+        let next = place + 1;
+        state[place] = from_kind(kind);
+        state[next] = x.level;
+        i += 1;
+    }
+}
+
+fn store_handles(state: &mut [u8], handles: [Handle; 512])
+    requires { ⌜ Sized (now state) ⌝ }
+    ensures { λ _. ⌜ now (state .exit) ≡ over 192 (handle-bytes handles) (now (state .entry)) ⌝ }
+{
+    let mut i: usize = 0;
+    while i < 512 {
+        let x = handles[i];
+        let way = x.way;
+        let place = 192 + 2 * i;
+        let next = place + 1;
+        state[place] = from_way(way);
+        state[next] = x.object;
+        i += 1;
+    }
+}
+
+// A number into the eight bytes at an offset, lowest first.
+fn store_number(state: &mut [u8], at: usize, number: u64)
+    requires { ⌜ at + 8 ≤ length (now state) ⌝ }
+    ensures { λ _. ⌜ now (state .exit) ≡ over at (digits 8 number) (now (state .entry)) ⌝ }
+{
+    let mut rest = number;
+    let mut k: usize = 0;
+    while k < 8 {
+        let place = at + k;
+        state[place] = (rest % 256) as u8;
+        rest = rest / 256;
+        k += 1;
+    }
+}
+
+fn store(state: &mut [u8], monitor: Monitor, tally: Tally)
+    requires { ⌜ Sized (now state) ⌝ }
+    ensures { λ _. ⌜ Stands (now (state .exit)) monitor tally ⌝ }
+{
+    let subjects = monitor.subjects;
+    let objects = monitor.objects;
+    let handles = monitor.handles;
+    store_subjects(state, subjects);
+    store_objects(state, objects);
+    store_handles(state, handles);
+    store_number(state, 1216, tally.made);
+    store_number(state, 1224, tally.gone);
+}
+
+// ---- answers as numbers
+
+// 256 times the letter's byte, and the level or the number of the refusal.
+fn to_number(a: Answer) -> u32
+    ensures { λ r. ⌜ r ≡ answer-number (told a) ⌝ }
+{
+    let letter = gatekeeper::letter(a);
+    let value = gatekeeper::value(a);
+    256 * (letter as u32) + value as u32
+}
+
+// ---- exported
+
+// How many bytes a host has to keep for a monitor and its tally.
+#[no_mangle]
+pub extern "C" fn gatekeeper_state_bytes() -> usize
+    ensures { λ r. ⌜ r ≡ state-bytes ⌝ }
+{
+    STATE_BYTES
+}
+
+// The empty tables and a zero tally, over the whole buffer; false, and nothing is touched, where it has another length.
+#[no_mangle]
+pub extern "C" fn gatekeeper_empty(state: &mut [u8]) -> bool
+    ensures answer { λ r. ⌜ r ≡ eqb (length (now (state .entry))) state-bytes ⌝ }
+    ensures buffer { λ _. ⌜ now (state .exit) ≡ sized (now (state .entry)) (replicate state-bytes 0) (now (state .entry)) ⌝ }
+    ensures tables { λ _. ⌜ (Sized (now (state .entry)) → Blank (now (state .exit))) ⌝ }
+{
+    if state.len() != STATE_BYTES {
+        return false;
+    }
+    let mut i: usize = 0;
+    while i < state.len() {
+        state[i] = 0;
+        i += 1;
+    }
+    true
+}
+
+// The direct counted call on the monitor and the tally that the bytes stand for; 0, and nothing is touched, where there are more or fewer.
+#[no_mangle]
+pub extern "C" fn gatekeeper_call(
+    state: &mut [u8],
+    code: u32,
+    a: u32,
+    b: u32,
+    c: u32,
+    d: u32,
+) -> u32
+    ensures answer { λ r. ⌜ r ≡ call-number (now (state .entry)) (decode (direct code a b c d)) ⌝ }
+    ensures stored { λ _. ⌜ (Sized (now (state .entry)) → Stored (now (state .entry)) (decode (direct code a b c d)) (now (state .exit))) ⌝ }
+    ensures other { λ _. ⌜ ((Sized (now (state .entry)) → ⊥) → now (state .exit) ≡ now (state .entry)) ⌝ }
+{
+    if state.len() != STATE_BYTES {
+        return UNSIZED;
+    }
+    let m = load_monitor(&state[..]);
+    let tally = load_tally(&state[..]);
+    let counted = m.counted_call(tally, code, a, b, c, d);
+    let reply = counted.reply;
+    let answer = reply.answer;
+    let r = to_number(answer);
+    if gatekeeper::letter(answer) == b'R' {
+        return r;
+    }
+    let monitor = reply.monitor;
+    let after = counted.tally;
+    store(state, monitor, after);
+    r
+}
+
+// Handles made, over the history of calls; 0 where the bytes have another length.
+#[no_mangle]
+pub extern "C" fn gatekeeper_made(state: &[u8]) -> u64
+    ensures { λ r. ⌜ r ≡ sized (now (state .entry)) (made-of (now (state .entry))) 0 ⌝ }
+{
+    if state.len() != STATE_BYTES {
+        return 0;
+    }
+    load_number(state, 1216)
+}
+
+// Handles gone, over the history of calls; 0 where the bytes have another length.
+#[no_mangle]
+pub extern "C" fn gatekeeper_gone(state: &[u8]) -> u64
+    ensures { λ r. ⌜ r ≡ sized (now (state .entry)) (gone-of (now (state .entry))) 0 ⌝ }
+{
+    if state.len() != STATE_BYTES {
+        return 0;
+    }
+    load_number(state, 1224)
+}
+
+// The reply to a journal, from empty tables: the text's length, or 0 where the buffer has no room for it. Some of its lines may stand there then.
+#[no_mangle]
+pub extern "C" fn gatekeeper_replay(journal: &[u8], out: &mut [u8]) -> usize
+    ensures answer { λ r. ⌜ r ≡ Option·getD (fitted (reply (now (journal .entry))) (now (out .entry))) 0 ⌝ }
+    ensures buffer { λ r. ⌜ (0 < r → now (out .exit) ≡ put (reply (now (journal .entry))) (now (out .entry))) ⌝ }
+    ensures begun { λ _. ⌜ Begun (reply (now (journal .entry))) (now (out .entry)) (now (out .exit)) ⌝ }
+{
+    match replay::replay(journal, out) {
+        Written::Bytes(n) => n,
+        Written::NoRoom => 0,
+    }
+}
+
+// The record of a call over the front of a buffer: its length in bytes and 256, or the number of the refusal, where nothing is touched.
+#[no_mangle]
+pub extern "C" fn gatekeeper_record(
+    out: &mut [u8],
+    code: u32,
+    a: u32,
+    b: u32,
+    c: u32,
+    d: u32,
+) -> u32
+    ensures answer { λ r. ⌜ r ≡ record-number (recording code (a ∷ b ∷ c ∷ d ∷ []) (now (out .entry))) ⌝ }
+    ensures buffer { λ _. ⌜ now (out .exit) ≡ recorded code (a ∷ b ∷ c ∷ d ∷ []) (now (out .entry)) ⌝ }
+{
+    let numbers = Numbers { a, b, c, d };
+    match journal::write_record(out, Call { code, numbers }) {
+        Recorded::Length(n) => 256 + n as u32,
+        Recorded::Unknown => 1,
+        Recorded::TooLong => 13,
+    }
+}
+
+// The journal's number at the front of some bytes: its value, and 2 to the 32nd for each byte that it takes; 0 where it is malformed.
+#[no_mangle]
+pub extern "C" fn gatekeeper_number(bytes: &[u8]) -> u64
+    ensures { λ r. ⌜ r ≡ reading-number (number largest (now (bytes .entry))) ⌝ }
+{
+    match number::read_number(bytes) {
+        Number::Good { value, used } => value as u64 + 4294967296 * (used as u64),
+        Number::Malformed => 0,
+    }
+}

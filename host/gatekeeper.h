@@ -1,0 +1,137 @@
+/*
+ * The pay-run gatekeeper for a host in C or C++: the proved functions of target/staticlib/libhost.a (x86-64).
+ *
+ *   rt staticlib host                                     proves the crate and writes the archive
+ *   cc host.c -I host target/staticlib/libhost.a          links it; it needs nothing but the C library
+ *
+ * A host keeps a monitor as GATEKEEPER_STATE_BYTES bytes of its own and lends them to each call. Every byte string of
+ * that length is a monitor: a host can hand in a wrong length, but no wrong monitor.
+ *
+ * What a host owes each function: a pointer has the given number of bytes behind it, and is not null even where that
+ * number is 0; the two buffers of gatekeeper_replay do not overlap; and no other thread uses the lent bytes meanwhile.
+ * The functions keep nothing, allocate nothing and always return.
+ */
+#ifndef GATEKEEPER_H
+#define GATEKEEPER_H
+
+#include <stdbool.h>
+#include <stddef.h>
+#include <stdint.h>
+
+#ifdef __cplusplus
+extern "C" {
+#endif
+
+/* Sizes, in bytes. */
+#define GATEKEEPER_STATE_BYTES 1232    /* a monitor with its tally */
+#define GATEKEEPER_RECORD_ROOM 22      /* room for every record */
+#define GATEKEEPER_JOURNAL_BYTES 65536 /* the longest journal that is run */
+#define GATEKEEPER_REPLY_ROOM 1835075  /* room for the reply to every journal */
+
+/* How many there are of each; numbers start at 0. */
+#define GATEKEEPER_SUBJECTS 32
+#define GATEKEEPER_OBJECTS 64 /* files and pipes, one number space */
+#define GATEKEEPER_PLACES 16  /* places for handles, of each subject */
+#define GATEKEEPER_LEVELS 16  /* 0 is the lowest */
+
+/*
+ * The bytes of a monitor, for a host that looks at them: subjects, objects, handles, then the tally.
+ *
+ *   at 0, 32 times     1 where the subject is live, and its level
+ *   at 64, 64 times    1 for a file, 2 for a pipe, and its level
+ *   at 192, 512 times  1 for a reading handle, 2 for a writing one, and its object; place p of subject s is the
+ *                      (16 s + p)th
+ *   at 1216            handles made, eight bytes, the lowest first
+ *   at 1224            handles gone, likewise
+ *
+ * Any other first byte of a pair says that there is no such subject, object or handle.
+ */
+
+/* The calls, with the numbers a, b, c and d that each takes. s and c are subjects, o is an object, p, r and w are
+ * places. */
+enum gatekeeper_code {
+    GATEKEEPER_ADMIT = 1,      /* s, level: a new subject from outside, without handles */
+    GATEKEEPER_REGISTER = 2,   /* o, level: a new file from outside */
+    GATEKEEPER_CREATE = 3,     /* s, o: a new empty file at s's level, without a handle */
+    GATEKEEPER_PIPE = 4,       /* s, o, r, w: a new pipe at s's level; place r reads it, w writes it */
+    GATEKEEPER_OPEN_READ = 5,  /* s, o, p: a reading handle */
+    GATEKEEPER_OPEN_WRITE = 6, /* s, o, p: a writing handle */
+    GATEKEEPER_READ = 7,       /* s, p: s falls to the object's level if that is lower */
+    GATEKEEPER_WRITE = 8,      /* s, p: a pipe falls to s's level if that is lower */
+    GATEKEEPER_FORK = 9,       /* s, c: a new subject with s's level and s's handles at the same places */
+    GATEKEEPER_EXEC = 10,      /* s, o: file o is run; s falls to its level if that is lower */
+    GATEKEEPER_CLOSE = 11,     /* s, p: the place is empty */
+    GATEKEEPER_EXIT = 12,      /* s: all its handles are closed, its number is free */
+    GATEKEEPER_RETIRE = 13     /* o: the file is gone, its number is free */
+};
+
+/* How a call came out. */
+enum gatekeeper_outcome {
+    GATEKEEPER_ALLOWED = 'A',
+    GATEKEEPER_LOWERED = 'L', /* allowed, and a read, write or exec made a level smaller */
+    GATEKEEPER_REFUSED = 'R'
+};
+
+/* Why a call, a record or a journal is refused. Where several hold, the smallest number is given, but 14 goes before
+ * all others, and 12 before 2 to 10. */
+enum gatekeeper_refusal {
+    GATEKEEPER_UNKNOWN_CODE = 1,     /* the code is not 1 to 13 */
+    GATEKEEPER_NO_SUBJECT = 2,       /* the subject that asks is out of range or not live */
+    GATEKEEPER_NUMBER_TAKEN = 3,     /* the number for a new thing is out of range or in use */
+    GATEKEEPER_NO_OBJECT = 4,        /* the object is out of range or not live */
+    GATEKEEPER_IS_PIPE = 5,          /* a pipe cannot be run or retired */
+    GATEKEEPER_LEVEL_TOO_HIGH = 6,   /* the level is above 15 */
+    GATEKEEPER_PLACE_UNFIT = 7,      /* the place is above 15, taken, or empty where a handle is used; r is w */
+    GATEKEEPER_WRONG_DIRECTION = 8,  /* a read on a writing handle, or a write on a reading one */
+    GATEKEEPER_FLOW = 9,             /* low data could reach a higher file */
+    GATEKEEPER_STILL_OPEN = 10,      /* a handle is open on the file to be retired */
+    GATEKEEPER_JOURNAL_BROKEN = 11,  /* journals only: a record's length is malformed or runs past the end */
+    GATEKEEPER_RECORD_BROKEN = 12,   /* journals only: a number is malformed, missing or left over */
+    GATEKEEPER_RECORD_TOO_LONG = 13, /* gatekeeper_record only: the record is longer than the buffer */
+    GATEKEEPER_JOURNAL_TOO_LONG = 14 /* journals only: above 65,536 bytes */
+};
+
+/* GATEKEEPER_STATE_BYTES, for a host that sees no header. */
+size_t gatekeeper_state_bytes(void);
+
+/* Makes the lent bytes the empty monitor, with nothing made and nothing gone, and returns true. Where `len` is not
+ * GATEKEEPER_STATE_BYTES: false, and no byte is touched. */
+bool gatekeeper_empty(uint8_t *state, size_t len);
+
+/* Makes one call on the monitor that the lent bytes are, and counts the handles it makes and removes. Numbers that the
+ * code does not use are ignored. The answer is 256 times the outcome's letter, and the level or the number of the
+ * refusal: see the two functions below. A refused call changes no byte. Where `len` is not GATEKEEPER_STATE_BYTES: 0,
+ * and no byte is touched. */
+uint32_t gatekeeper_call(uint8_t *state, size_t len, uint32_t code, uint32_t a, uint32_t b, uint32_t c, uint32_t d);
+
+/* The outcome in an answer of gatekeeper_call: an `enum gatekeeper_outcome`. */
+static inline uint32_t gatekeeper_letter(uint32_t answer) { return answer / 256; }
+
+/* The level in an answer of gatekeeper_call, or where it was refused the `enum gatekeeper_refusal`. */
+static inline uint32_t gatekeeper_value(uint32_t answer) { return answer % 256; }
+
+/* Handles made and handles gone over all calls on this monitor, modulo 2 to the 64th; made minus gone are open. 0 where
+ * `len` is not GATEKEEPER_STATE_BYTES. */
+uint64_t gatekeeper_made(const uint8_t *state, size_t len);
+uint64_t gatekeeper_gone(const uint8_t *state, size_t len);
+
+/* Runs a journal from an empty monitor and writes the reply over the front of `out`: a line for each record with its
+ * position, code, A, L or R, and the level or refusal number; then `end`, handles made, gone and open. Returns how many
+ * bytes the text has. Where it has more than `room`: 0, and only its front stands in `out`, what lies behind it keeps
+ * its value. GATEKEEPER_REPLY_ROOM bytes are enough for every journal. */
+size_t gatekeeper_replay(const uint8_t *journal, size_t len, uint8_t *out, size_t room);
+
+/* Writes the record of a call over the front of `out`: 256 and its length in bytes; what lies behind it keeps its
+ * value. Else GATEKEEPER_UNKNOWN_CODE or GATEKEEPER_RECORD_TOO_LONG, and no byte is touched. GATEKEEPER_RECORD_ROOM
+ * bytes are enough for every record. */
+uint32_t gatekeeper_record(uint8_t *out, size_t room, uint32_t code, uint32_t a, uint32_t b, uint32_t c, uint32_t d);
+
+/* Reads the number at the front of some bytes, unsigned LEB128 as in a journal: its value, and 2 to the 32nd for each
+ * byte that it takes. 0 where it is cut off, above 4,294,967,295, or longer than it need be. */
+uint64_t gatekeeper_number(const uint8_t *bytes, size_t len);
+
+#ifdef __cplusplus
+}
+#endif
+
+#endif

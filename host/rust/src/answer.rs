@@ -1,0 +1,148 @@
+//! What a call is answered with.
+
+use std::error::Error;
+use std::fmt;
+
+/// The answer to a call.
+#[derive(Clone, Copy, Debug, PartialEq, Eq)]
+pub enum Answer {
+    /// Allowed, with a level: that of the new, opened, written or retired thing, or else the subject's.
+    Allowed(u8),
+    /// Allowed, and a read, write or exec made a level smaller: with the level after it.
+    Lowered(u8),
+    /// Refused. Nothing has changed.
+    Refused(Refusal),
+}
+
+impl Answer {
+    /// The level of a call that was not refused, for use with `?`.
+    pub fn granted(self) -> Result<u8, Refusal> {
+        match self {
+            Answer::Allowed(level) | Answer::Lowered(level) => Ok(level),
+            Answer::Refused(refusal) => Err(refusal),
+        }
+    }
+
+    /// An answer as the archive gives it: 256 times the outcome's letter, and the level or refusal number.
+    pub(crate) fn from_number(number: u32) -> Answer {
+        let [value, letter, ..] = number.to_le_bytes();
+        match letter {
+            b'A' => Answer::Allowed(value),
+            b'L' => Answer::Lowered(value),
+            _ => Answer::Refused(Refusal::proved(value.into())),
+        }
+    }
+}
+
+/// Why a call, a record or a journal was refused. Where several hold, the smallest number is given, but 14 goes
+/// before all others, and 12 before 2 to 10.
+#[derive(Clone, Copy, Debug, PartialEq, Eq, PartialOrd, Ord, Hash)]
+pub enum Refusal {
+    UnknownCode = 1,
+    NoSubject = 2,
+    NumberTaken = 3,
+    NoObject = 4,
+    IsPipe = 5,
+    LevelTooHigh = 6,
+    PlaceUnfit = 7,
+    WrongDirection = 8,
+    Flow = 9,
+    StillOpen = 10,
+    JournalBroken = 11,
+    RecordBroken = 12,
+    RecordTooLong = 13,
+    JournalTooLong = 14,
+}
+
+impl Refusal {
+    /// Every refusal, by number.
+    pub const ALL: [Refusal; 14] = [
+        Refusal::UnknownCode,
+        Refusal::NoSubject,
+        Refusal::NumberTaken,
+        Refusal::NoObject,
+        Refusal::IsPipe,
+        Refusal::LevelTooHigh,
+        Refusal::PlaceUnfit,
+        Refusal::WrongDirection,
+        Refusal::Flow,
+        Refusal::StillOpen,
+        Refusal::JournalBroken,
+        Refusal::RecordBroken,
+        Refusal::RecordTooLong,
+        Refusal::JournalTooLong,
+    ];
+
+    /// The number of the refusal in the rules, 1 to 14.
+    pub fn number(self) -> u32 {
+        self as u32
+    }
+
+    /// The refusal of this number.
+    pub fn from_number(number: u32) -> Option<Refusal> {
+        Refusal::ALL.into_iter().find(|refusal| refusal.number() == number)
+    }
+
+    /// The refusal of a number that the archive answers with: it is proved to be one of the rules'.
+    pub(crate) fn proved(number: u32) -> Refusal {
+        Refusal::from_number(number)
+            .unwrap_or_else(|| unreachable!("the archive answers no refusal {number}"))
+    }
+
+    /// What it says, in plain words.
+    pub fn words(self) -> &'static str {
+        match self {
+            Refusal::UnknownCode => "no call has this code",
+            Refusal::NoSubject => "the subject that asks is not there",
+            Refusal::NumberTaken => "the number for the new thing is out of range or in use",
+            Refusal::NoObject => "the object is not there",
+            Refusal::IsPipe => "a pipe cannot be run or retired",
+            Refusal::LevelTooHigh => "the level is above 15",
+            Refusal::PlaceUnfit => "the place is out of range, taken, or empty",
+            Refusal::WrongDirection => "the handle is for the other direction",
+            Refusal::Flow => "low data could reach a higher file",
+            Refusal::StillOpen => "a handle is still open on the file",
+            Refusal::JournalBroken => "the journal breaks off here",
+            Refusal::RecordBroken => "the record is not well formed",
+            Refusal::RecordTooLong => "the record is longer than the buffer",
+            Refusal::JournalTooLong => "the journal is longer than 65,536 bytes",
+        }
+    }
+}
+
+impl fmt::Display for Refusal {
+    fn fmt(&self, f: &mut fmt::Formatter<'_>) -> fmt::Result {
+        write!(f, "{} (refusal {})", self.words(), self.number())
+    }
+}
+
+impl Error for Refusal {}
+
+#[cfg(test)]
+mod tests {
+    use super::*;
+
+    #[test]
+    fn every_refusal_has_its_number() {
+        for (number, refusal) in (1..).zip(Refusal::ALL) {
+            assert_eq!(refusal.number(), number);
+            assert_eq!(Refusal::from_number(number), Some(refusal));
+        }
+        assert_eq!(Refusal::from_number(0), None);
+        assert_eq!(Refusal::from_number(15), None);
+    }
+
+    #[test]
+    fn an_answer_is_read_from_its_number() {
+        assert_eq!(Answer::from_number(256 * u32::from(b'A') + 15), Answer::Allowed(15));
+        assert_eq!(Answer::from_number(256 * u32::from(b'L')), Answer::Lowered(0));
+        assert_eq!(Answer::from_number(256 * u32::from(b'R') + 9), Answer::Refused(Refusal::Flow));
+    }
+
+    #[test]
+    fn a_refusal_ends_a_chain_of_calls() {
+        assert_eq!(Answer::Lowered(2).granted(), Ok(2));
+        let error: Box<dyn Error> = Answer::Refused(Refusal::Flow).granted().unwrap_err().into();
+        assert_eq!(error.to_string(), "low data could reach a higher file (refusal 9)");
+    }
+}

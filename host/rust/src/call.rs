@@ -1,0 +1,86 @@
+//! The thirteen calls.
+
+use crate::journal;
+
+/// A call with its numbers. Any number may be given; one that does not fit is refused.
+///
+/// A subject is a running step, 0 to 31; an object a file or a pipe, 0 to 63; a place holds one handle of a
+/// subject, 0 to 15; a level is 0, the lowest, to 15.
+#[derive(Clone, Copy, Debug, PartialEq, Eq, Hash)]
+pub enum Call {
+    /// A new subject from outside, without handles.
+    Admit { subject: u32, level: u32 },
+    /// A new file from outside.
+    Register { object: u32, level: u32 },
+    /// A new empty file at the subject's level, without a handle.
+    Create { subject: u32, object: u32 },
+    /// A new pipe at the subject's level, with a handle to read it and one to write it.
+    Pipe { subject: u32, object: u32, reads: u32, writes: u32 },
+    /// A reading handle. No level falls.
+    OpenRead { subject: u32, object: u32, place: u32 },
+    /// A writing handle. No level falls.
+    OpenWrite { subject: u32, object: u32, place: u32 },
+    /// The subject falls to the object's level if that is lower.
+    Read { subject: u32, place: u32 },
+    /// A pipe falls to the subject's level if that is lower; a file keeps its own.
+    Write { subject: u32, place: u32 },
+    /// A new subject with the level of the first and its handles at the same places.
+    Fork { subject: u32, child: u32 },
+    /// A file is run; the subject falls to its level if that is lower, and keeps its handles.
+    Exec { subject: u32, object: u32 },
+    /// The place is empty.
+    Close { subject: u32, place: u32 },
+    /// All handles of the subject are closed, and its number is free.
+    Exit { subject: u32 },
+    /// The file is gone, and its number is free.
+    Retire { object: u32 },
+}
+
+impl Call {
+    /// The call's code, 1 to 13.
+    pub fn code(self) -> u32 {
+        match self {
+            Call::Admit { .. } => 1,
+            Call::Register { .. } => 2,
+            Call::Create { .. } => 3,
+            Call::Pipe { .. } => 4,
+            Call::OpenRead { .. } => 5,
+            Call::OpenWrite { .. } => 6,
+            Call::Read { .. } => 7,
+            Call::Write { .. } => 8,
+            Call::Fork { .. } => 9,
+            Call::Exec { .. } => 10,
+            Call::Close { .. } => 11,
+            Call::Exit { .. } => 12,
+            Call::Retire { .. } => 13,
+        }
+    }
+
+    /// The call's numbers in the order of the journal, then 0 for those that it does not use.
+    pub fn numbers(self) -> [u32; 4] {
+        match self {
+            Call::Admit { subject, level } => [subject, level, 0, 0],
+            Call::Register { object, level } => [object, level, 0, 0],
+            Call::Create { subject, object } => [subject, object, 0, 0],
+            Call::Pipe { subject, object, reads, writes } => [subject, object, reads, writes],
+            Call::OpenRead { subject, object, place } => [subject, object, place, 0],
+            Call::OpenWrite { subject, object, place } => [subject, object, place, 0],
+            Call::Read { subject, place } => [subject, place, 0, 0],
+            Call::Write { subject, place } => [subject, place, 0, 0],
+            Call::Fork { subject, child } => [subject, child, 0, 0],
+            Call::Exec { subject, object } => [subject, object, 0, 0],
+            Call::Close { subject, place } => [subject, place, 0, 0],
+            Call::Exit { subject } => [subject, 0, 0, 0],
+            Call::Retire { object } => [object, 0, 0, 0],
+        }
+    }
+
+    /// Writes the call's record at the end of a journal.
+    pub fn write_record(self, journal: &mut Vec<u8>) {
+        let end = journal.len();
+        journal.resize(end + journal::RECORD_ROOM, 0);
+        let written = journal::write_record(&mut journal[end..], self.code(), self.numbers());
+        // The code is known and there is room for every record.
+        journal.truncate(end + written.unwrap_or(0));
+    }
+}

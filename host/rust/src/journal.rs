@@ -1,0 +1,119 @@
+//! Journals: the reply to a whole one, and the records and numbers that it is made of.
+
+use crate::answer::Refusal;
+use crate::archive;
+
+/// The longest journal that is run, in bytes.
+pub const JOURNAL_BYTES: usize = 65_536;
+
+/// Room for the reply to every journal, in bytes.
+pub const REPLY_ROOM: usize = 1_835_075;
+
+/// Room for every record, in bytes.
+pub const RECORD_ROOM: usize = 22;
+
+/// The reply to a journal, from an empty monitor: a line for each record with its position, code, A, L or R, and
+/// the level or refusal number; then `end`, handles made, gone and open.
+///
+/// ```
+/// let journal = [3, 2, 0, 2, 3, 1, 0, 9, 4, 5, 0, 0, 0, 3, 7, 0, 0];
+/// assert_eq!(gatekeeper::replay(&journal), "1 2 A 2\n2 1 A 9\n3 5 A 2\n4 7 L 2\nend 1 0 1\n");
+/// ```
+pub fn replay(journal: &[u8]) -> String {
+    let mut text = vec![0; REPLY_ROOM];
+    let bytes = archive::replay(journal, &mut text);
+    text.truncate(bytes);
+    text.shrink_to_fit();
+    String::from_utf8(text).unwrap_or_else(|_| unreachable!("a reply has letters, digits and spaces alone"))
+}
+
+/// The same over the front of a buffer: how many bytes the text has, or none where there is no room for it. Some of
+/// its lines may stand there then.
+pub fn replay_into(journal: &[u8], out: &mut [u8]) -> Option<usize> {
+    match archive::replay(journal, out) {
+        0 => None,
+        bytes => Some(bytes),
+    }
+}
+
+/// Writes the record of a call over the front of a buffer, and answers with its length. What lies behind it keeps
+/// its value. A refusal, [`Refusal::UnknownCode`] or [`Refusal::RecordTooLong`], changes nothing.
+pub fn write_record(out: &mut [u8], code: u32, numbers: [u32; 4]) -> Result<usize, Refusal> {
+    match archive::record(out, code, numbers) {
+        length @ 256.. => Ok((length - 256) as usize),
+        number => Err(Refusal::proved(number)),
+    }
+}
+
+/// The number at the front of some bytes, and how many of them it takes; none where it is cut off, above
+/// 4,294,967,295, or longer than it need be.
+///
+/// ```
+/// assert_eq!(gatekeeper::read_number(&[0xb9, 0x64, 0x07]), Some((12857, 2)));
+/// assert_eq!(gatekeeper::read_number(&[0x80, 0x00]), None);
+/// ```
+#[inline]
+pub fn read_number(bytes: &[u8]) -> Option<(u32, usize)> {
+    match archive::number(bytes) {
+        0 => None,
+        reading => Some((reading as u32, (reading >> 32) as usize)),
+    }
+}
+
+#[cfg(test)]
+mod tests {
+    use super::*;
+    use crate::Call;
+
+    #[test]
+    fn a_journal_is_written_and_replayed() {
+        let mut journal = Vec::new();
+        Call::Register { object: 0, level: 2 }.write_record(&mut journal);
+        Call::Admit { subject: 0, level: 9 }.write_record(&mut journal);
+        Call::OpenRead { subject: 0, object: 0, place: 0 }.write_record(&mut journal);
+        Call::Read { subject: 0, place: 0 }.write_record(&mut journal);
+        assert_eq!(journal, [3, 2, 0, 2, 3, 1, 0, 9, 4, 5, 0, 0, 0, 3, 7, 0, 0]);
+        let reply = "1 2 A 2\n2 1 A 9\n3 5 A 2\n4 7 L 2\nend 1 0 1\n";
+        assert_eq!(replay(&journal), reply);
+
+        let mut exact = vec![0; reply.len()];
+        assert_eq!(replay_into(&journal, &mut exact), Some(reply.len()));
+        assert_eq!(exact, reply.as_bytes());
+        assert_eq!(replay_into(&journal, &mut exact[1..]), None);
+    }
+
+    #[test]
+    fn empty_broken_and_long_journals_have_a_reply() {
+        assert_eq!(replay(&[]), "end 0 0 0\n");
+        assert_eq!(replay(&[0x80, 0x00]), "1 0 R 11\nend 0 0 0\n");
+        assert_eq!(replay(&[0x00]), "1 0 R 12\nend 0 0 0\n");
+        assert_eq!(replay(&[0; JOURNAL_BYTES + 1]), "1 0 R 14\nend 0 0 0\n");
+        assert_eq!(replay(&[0; JOURNAL_BYTES]).lines().count(), JOURNAL_BYTES + 1);
+    }
+
+    #[test]
+    fn a_record_leaves_what_lies_behind_it() {
+        let mut out = [7; 10];
+        assert_eq!(write_record(&mut out, 5, [1, 300, 2, 9]), Ok(6));
+        assert_eq!(out, [5, 5, 1, 0xac, 0x02, 2, 7, 7, 7, 7]);
+    }
+
+    #[test]
+    fn a_refused_record_leaves_the_buffer() {
+        let mut out = [7; RECORD_ROOM];
+        assert_eq!(write_record(&mut out, 14, [0; 4]), Err(Refusal::UnknownCode));
+        assert_eq!(write_record(&mut out[1..], 4, [u32::MAX; 4]), Err(Refusal::RecordTooLong));
+        assert_eq!(out, [7; RECORD_ROOM]);
+        assert_eq!(write_record(&mut out, 4, [u32::MAX; 4]), Ok(RECORD_ROOM));
+    }
+
+    #[test]
+    fn malformed_numbers_are_none() {
+        assert_eq!(read_number(&[]), None);
+        assert_eq!(read_number(&[0x80]), None);
+        assert_eq!(read_number(&[0xff, 0x00]), None);
+        assert_eq!(read_number(&[0xff, 0xff, 0xff, 0xff, 0x0f]), Some((u32::MAX, 5)));
+        assert_eq!(read_number(&[0x80, 0x80, 0x80, 0x80, 0x10]), None);
+        assert_eq!(read_number(&[0x00]), Some((0, 1)));
+    }
+}

@@ -1,0 +1,35 @@
+//! The proved pay-run gatekeeper, for a host in Rust.
+//!
+//! Every function here hands its work to the archive `libhost.a`, whose functions are proved to meet the
+//! rules; this crate adds types, and no rule of its own. A host keeps a [`Monitor`] and asks it before each
+//! step that it takes for a program:
+//!
+//! ```
+//! use gatekeeper::{Answer, Monitor, Refusal};
+//!
+//! let mut monitor = Monitor::new();
+//! monitor.admit(0, 9); // a step of level 9
+//! monitor.register(0, 9); // the pay book, which takes nothing from below level 9
+//! monitor.register(1, 2); // an hours sheet that nobody has checked
+//!
+//! assert_eq!(monitor.open_write(0, 0, 0), Answer::Allowed(9));
+//! assert_eq!(monitor.open_read(0, 1, 1), Answer::Refused(Refusal::Flow));
+//!
+//! monitor.close(0, 0); // with the pay book closed, the sheet may be read
+//! assert_eq!(monitor.open_read(0, 1, 1), Answer::Allowed(2));
+//! assert_eq!(monitor.read(0, 1), Answer::Lowered(2));
+//! ```
+//!
+//! [`replay`] answers a whole journal, [`Call::write_record`] writes one, [`read_number`] reads its numbers.
+
+mod answer;
+mod archive;
+mod call;
+mod journal;
+mod monitor;
+
+pub use answer::{Answer, Refusal};
+pub use call::Call;
+pub use journal::{read_number, replay, replay_into, write_record};
+pub use journal::{JOURNAL_BYTES, RECORD_ROOM, REPLY_ROOM};
+pub use monitor::{Monitor, STATE_BYTES};

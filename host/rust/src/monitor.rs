@@ -1,0 +1,196 @@
+//! The monitor: its bytes, and the calls on it.
+
+use std::fmt;
+
+use crate::answer::Answer;
+use crate::archive;
+use crate::call::Call;
+
+/// How many bytes a monitor and its tally take.
+pub const STATE_BYTES: usize = 1232;
+
+/// A monitor with its tally of handles. It is a plain value: a clone is a monitor of its own.
+///
+/// Two are equal if their bytes are.
+#[derive(Clone, PartialEq, Eq)]
+pub struct Monitor {
+    state: [u8; STATE_BYTES],
+}
+
+impl Monitor {
+    /// Nothing live, nothing open, nothing counted.
+    pub fn new() -> Monitor {
+        let mut state = [0; STATE_BYTES];
+        archive::empty(&mut state);
+        Monitor { state }
+    }
+
+    /// The monitor that these bytes are. Any bytes are one; `host/gatekeeper.h` has the layout.
+    pub fn from_bytes(state: [u8; STATE_BYTES]) -> Monitor {
+        Monitor { state }
+    }
+
+    /// The monitor's bytes, to be kept by the host.
+    pub fn as_bytes(&self) -> &[u8; STATE_BYTES] {
+        &self.state
+    }
+
+    /// Makes a call.
+    pub fn call(&mut self, call: Call) -> Answer {
+        self.direct(call.code(), call.numbers())
+    }
+
+    /// Makes the call with this code, whatever it is. Numbers that the code does not use are ignored.
+    #[inline]
+    pub fn direct(&mut self, code: u32, numbers: [u32; 4]) -> Answer {
+        Answer::from_number(archive::call(&mut self.state, code, numbers))
+    }
+
+    /// Handles made over all calls, modulo 2 to the 64th.
+    pub fn made(&self) -> u64 {
+        archive::made(&self.state)
+    }
+
+    /// Handles gone over all calls, modulo 2 to the 64th.
+    pub fn gone(&self) -> u64 {
+        archive::gone(&self.state)
+    }
+
+    /// Handles open: made minus gone, modulo 2 to the 64th.
+    pub fn open(&self) -> u64 {
+        self.made().wrapping_sub(self.gone())
+    }
+}
+
+/// The calls by name; [`Call`] says what each does.
+impl Monitor {
+    pub fn admit(&mut self, subject: u32, level: u32) -> Answer {
+        self.call(Call::Admit { subject, level })
+    }
+
+    pub fn register(&mut self, object: u32, level: u32) -> Answer {
+        self.call(Call::Register { object, level })
+    }
+
+    pub fn create(&mut self, subject: u32, object: u32) -> Answer {
+        self.call(Call::Create { subject, object })
+    }
+
+    pub fn pipe(&mut self, subject: u32, object: u32, reads: u32, writes: u32) -> Answer {
+        self.call(Call::Pipe { subject, object, reads, writes })
+    }
+
+    pub fn open_read(&mut self, subject: u32, object: u32, place: u32) -> Answer {
+        self.call(Call::OpenRead { subject, object, place })
+    }
+
+    pub fn open_write(&mut self, subject: u32, object: u32, place: u32) -> Answer {
+        self.call(Call::OpenWrite { subject, object, place })
+    }
+
+    pub fn read(&mut self, subject: u32, place: u32) -> Answer {
+        self.call(Call::Read { subject, place })
+    }
+
+    pub fn write(&mut self, subject: u32, place: u32) -> Answer {
+        self.call(Call::Write { subject, place })
+    }
+
+    pub fn fork(&mut self, subject: u32, child: u32) -> Answer {
+        self.call(Call::Fork { subject, child })
+    }
+
+    pub fn exec(&mut self, subject: u32, object: u32) -> Answer {
+        self.call(Call::Exec { subject, object })
+    }
+
+    pub fn close(&mut self, subject: u32, place: u32) -> Answer {
+        self.call(Call::Close { subject, place })
+    }
+
+    pub fn exit(&mut self, subject: u32) -> Answer {
+        self.call(Call::Exit { subject })
+    }
+
+    pub fn retire(&mut self, object: u32) -> Answer {
+        self.call(Call::Retire { object })
+    }
+}
+
+impl Default for Monitor {
+    fn default() -> Monitor {
+        Monitor::new()
+    }
+}
+
+impl fmt::Debug for Monitor {
+    fn fmt(&self, f: &mut fmt::Formatter<'_>) -> fmt::Result {
+        let (made, gone) = (self.made(), self.gone());
+        f.debug_struct("Monitor").field("made", &made).field("gone", &gone).finish_non_exhaustive()
+    }
+}
+
+#[cfg(test)]
+mod tests {
+    use super::*;
+    use crate::Refusal;
+
+    #[test]
+    fn the_archive_agrees_on_the_size() {
+        assert_eq!(archive::state_bytes(), STATE_BYTES);
+        assert_eq!(Monitor::new().as_bytes(), &[0; STATE_BYTES]);
+    }
+
+    #[test]
+    fn every_call_by_name_has_its_effect() {
+        let mut monitor = Monitor::new();
+        assert_eq!(monitor.admit(0, 9), Answer::Allowed(9));
+        assert_eq!(monitor.register(1, 2), Answer::Allowed(2));
+        assert_eq!(monitor.create(0, 2), Answer::Allowed(9));
+        assert_eq!(monitor.pipe(0, 3, 0, 1), Answer::Allowed(9));
+        assert_eq!(monitor.fork(0, 1), Answer::Allowed(9));
+        assert_eq!((monitor.made(), monitor.gone(), monitor.open()), (4, 0, 4));
+        assert_eq!(monitor.close(1, 0), Answer::Allowed(9));
+        assert_eq!(monitor.open_write(0, 2, 2), Answer::Allowed(9));
+        assert_eq!(monitor.open_read(1, 1, 2), Answer::Refused(Refusal::Flow));
+        assert_eq!(monitor.close(0, 2), Answer::Allowed(9));
+        assert_eq!(monitor.open_read(1, 1, 2), Answer::Allowed(2));
+        assert_eq!(monitor.read(1, 2), Answer::Lowered(2));
+        assert_eq!(monitor.write(1, 1), Answer::Lowered(2));
+        assert_eq!(monitor.exec(0, 1), Answer::Lowered(2));
+        assert_eq!(monitor.retire(1), Answer::Refused(Refusal::StillOpen));
+        assert_eq!(monitor.exit(1), Answer::Allowed(2));
+        assert_eq!(monitor.retire(1), Answer::Allowed(2));
+        assert_eq!((monitor.made(), monitor.gone(), monitor.open()), (6, 4, 2));
+    }
+
+    #[test]
+    fn a_refused_call_changes_no_byte() {
+        let mut monitor = Monitor::new();
+        monitor.admit(0, 9);
+        let before = monitor.clone();
+        assert_eq!(monitor.admit(0, 9), Answer::Refused(Refusal::NumberTaken));
+        assert_eq!(monitor.direct(14, [0; 4]), Answer::Refused(Refusal::UnknownCode));
+        assert_eq!(monitor, before);
+    }
+
+    #[test]
+    fn bytes_are_kept_and_taken_up_again() {
+        let mut monitor = Monitor::new();
+        monitor.admit(0, 9);
+        monitor.pipe(0, 0, 0, 1);
+        let mut again = Monitor::from_bytes(*monitor.as_bytes());
+        assert_eq!(again, monitor);
+        assert_eq!(again.exit(0), Answer::Allowed(9));
+        assert_eq!((again.open(), monitor.open()), (0, 2));
+    }
+
+    #[test]
+    fn any_bytes_are_a_monitor() {
+        let mut monitor = Monitor::from_bytes([0xff; STATE_BYTES]);
+        assert_eq!((monitor.made(), monitor.open()), (u64::MAX, 0));
+        assert_eq!(monitor.admit(31, 15), Answer::Allowed(15));
+        assert_eq!(monitor.pipe(31, 63, 0, 15), Answer::Allowed(15));
+        assert_eq!((monitor.made(), monitor.open()), (1, 2));
+    }
+}

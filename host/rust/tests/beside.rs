@@ -1,0 +1,299 @@
+//! The archive beside the independent program: every call is made in both, and answers, tally and tables are
+//! compared after each. The calls come from generated journals, which start with empty tables, and are drawn for
+//! states that no calls made. The same comparison has to tell every wrong variant of the independent program apart.
+
+use gatekeeper::{Answer, Monitor, STATE_BYTES};
+use gatekeeper_independent::calls::SHAPES;
+use gatekeeper_independent::generate::{self, Wish};
+use gatekeeper_independent::monitor::{Answer as PlainAnswer, Monitor as PlainMonitor};
+use gatekeeper_independent::random::Random;
+use gatekeeper_independent::records::{self, Body, Reader};
+use gatekeeper_independent::replies::{replies, replies_by};
+use gatekeeper_independent::tables::{Direction, Handle, Kind, Object, Subject, Tables, LIMITS};
+use gatekeeper_independent::variants::{self, Rules};
+use gatekeeper_independent::{numbers, refusals};
+
+const SEED: u64 = 1;
+
+/// How many calls each of the two large comparisons makes.
+const CALLS_OF_JOURNALS: usize = 300_000;
+const CALLS_ON_ANY_STATE: usize = 100_000;
+
+/// A monitor of the archive and one of the independent program, in the same state.
+struct Pair {
+    proved: Monitor,
+    plain: PlainMonitor,
+    rules: Rules,
+    /// The proved monitor's counts where the plain one's are 0.
+    made: u64,
+    gone: u64,
+}
+
+impl Pair {
+    fn empty(rules: Rules) -> Pair {
+        Pair { proved: Monitor::new(), plain: PlainMonitor::by(rules), rules, made: 0, gone: 0 }
+    }
+
+    fn of_bytes(state: [u8; STATE_BYTES]) -> Pair {
+        let rules = Rules::default();
+        let proved = Monitor::from_bytes(state);
+        let (made, gone) = (proved.made(), proved.gone());
+        Pair { plain: PlainMonitor::of_tables(tables_of(&state), rules), proved, rules, made, gone }
+    }
+
+    /// Makes a call in both; the error says how answer or tally differ. Tables are compared too, but for a variant,
+    /// which must be found by its answers.
+    fn call(&mut self, code: u32, numbers: [u32; 4]) -> Result<Answer, String> {
+        let before = self.proved.clone();
+        let answer = self.proved.direct(code, numbers);
+        let made = self.proved.made().wrapping_sub(self.made);
+        let gone = self.proved.gone().wrapping_sub(self.gone);
+        let proved = (answer, made, gone);
+
+        let answer_beside = wrapped(self.plain.call(code, numbers));
+        let tally = self.plain.tally();
+        let plain = (answer_beside, tally.made, tally.gone);
+        if proved != plain {
+            return Err(format!(
+                "code {code}, numbers {numbers:?}: the archive {proved:?}, the independent program {plain:?} \
+                 (answer, handles made, handles gone)"
+            ));
+        }
+
+        if answer.granted().is_err() {
+            assert_eq!(self.proved, before, "a refused call changed a byte: {code} {numbers:?}");
+        }
+        if self.rules.are_right() {
+            let tables = tables_of(self.proved.as_bytes());
+            assert_eq!(&tables, self.plain.tables(), "other tables after {code} {numbers:?}");
+        }
+        Ok(answer)
+    }
+}
+
+fn wrapped(answer: PlainAnswer) -> Answer {
+    let refusal = |number| gatekeeper::Refusal::from_number(number).expect("a refusal of the rules");
+    match answer {
+        PlainAnswer::Allowed(level) => Answer::Allowed(level as u8),
+        PlainAnswer::Lowered(level) => Answer::Lowered(level as u8),
+        PlainAnswer::Refused(number) => Answer::Refused(refusal(number)),
+    }
+}
+
+/// The tables that a monitor's bytes are, by the layout in `host/gatekeeper.h`.
+fn tables_of(state: &[u8; STATE_BYTES]) -> Tables {
+    let pairs = |from: usize, to: usize| (0..).zip(state[from..to].chunks_exact(2));
+    let mut tables = Tables::new(LIMITS);
+    for (s, pair) in pairs(0, 64) {
+        let subject = Subject { level: pair[1].into() };
+        tables.set_subject(s, (pair[0] == 1).then_some(subject));
+    }
+    for (o, pair) in pairs(64, 192) {
+        let level = pair[1].into();
+        tables.set_object(
+            o,
+            match pair[0] {
+                1 => Some(Object { kind: Kind::File, level }),
+                2 => Some(Object { kind: Kind::Pipe, level }),
+                _ => None,
+            },
+        );
+    }
+    for (at, pair) in pairs(192, 1216) {
+        let object = pair[1].into();
+        tables.set_handle(
+            at / 16,
+            at % 16,
+            match pair[0] {
+                1 => Some(Handle { object, direction: Direction::Reading }),
+                2 => Some(Handle { object, direction: Direction::Writing }),
+                _ => None,
+            },
+        );
+    }
+    tables
+}
+
+/// The calls of a journal's records, those with an unknown code among them.
+fn calls_of(journal: &[u8]) -> Vec<(u32, [u32; 4])> {
+    let mut calls = Vec::new();
+    let mut reader = Reader::new(journal, Rules::default());
+    while let Some(Ok(span)) = reader.next_record() {
+        match records::read_body(journal, span, Rules::default()) {
+            Body::Call { code, numbers } => calls.push((code, numbers)),
+            Body::UnknownCode { code } => calls.push((code, [0; 4])),
+            Body::Bad { .. } => {}
+        }
+    }
+    calls
+}
+
+/// A state of any bytes. In most of them many pairs mean something: how many handles, and how far levels lie
+/// apart, differs from state to state.
+fn drawn_state(random: &mut Random) -> [u8; STATE_BYTES] {
+    let mut state = [0; STATE_BYTES];
+    for byte in &mut state {
+        *byte = random.below(256) as u8;
+    }
+    if random.once_in(8) {
+        return state;
+    }
+    let levels = random.pick(&[1, 2, 4, 16, 256]).unwrap_or(16);
+    let handles = random.pick(&[3, 6, 40, 200]).unwrap_or(3);
+    for (index, pair) in state[..1216].chunks_exact_mut(2).enumerate() {
+        let (first, second) = match index {
+            0..32 => (random.below(3), random.below(levels)),
+            32..96 => (random.below(4), random.below(levels)),
+            _ => (random.below(handles), random.below(68)),
+        };
+        pair[0] = first as u8;
+        pair[1] = second as u8;
+    }
+    state
+}
+
+/// A call whose numbers are mostly in range.
+fn drawn_call(random: &mut Random) -> (u32, [u32; 4]) {
+    let Some(shape) = SHAPES.get(random.below(14) as usize) else {
+        return (random.below(u32::MAX), [0; 4]);
+    };
+    // Numbers that the code does not use are ignored, whatever they are.
+    let mut numbers = [0; 4].map(|_| random.below(u32::MAX));
+    for (number, name) in numbers.iter_mut().zip(shape.numbers) {
+        if !random.once_in(60) {
+            *number = match *name {
+                "s" | "c" => random.below(33),
+                "o" => random.below(65),
+                _ => random.below(17),
+            };
+        }
+    }
+    (shape.code, numbers)
+}
+
+/// Which outcomes and refusals were seen; a comparison that saw few says little.
+#[derive(Default)]
+struct Seen {
+    allowed: usize,
+    lowered: usize,
+    refused: [usize; 11],
+}
+
+impl Seen {
+    fn count(&mut self, answer: Answer) {
+        match answer {
+            Answer::Allowed(_) => self.allowed += 1,
+            Answer::Lowered(_) => self.lowered += 1,
+            Answer::Refused(refusal) => self.refused[refusal.number() as usize] += 1,
+        }
+    }
+
+    fn report(&self, what: &str) {
+        let refused: usize = self.refused.iter().sum();
+        let Seen { allowed, lowered, .. } = self;
+        let calls = allowed + lowered + refused;
+        println!("beside: {what}: {calls} calls, {allowed} allowed, {lowered} lowered, {refused} refused");
+        assert!(*allowed > calls / 10 && *lowered > 100, "few calls were not refused");
+        for number in 1..=10 {
+            let words = refusals::meaning(number as u32);
+            assert!(self.refused[number] > 0, "no call was refused with {number}: {words}");
+        }
+    }
+}
+
+#[test]
+fn the_calls_of_generated_journals_are_answered_alike() {
+    let mut seen = Seen::default();
+    let mut calls = 0;
+    for index in 0.. {
+        let mut pair = Pair::empty(Rules::default());
+        for (code, numbers) in calls_of(&generate::journal(SEED, index, Wish::default())) {
+            let answer = pair.call(code, numbers).unwrap_or_else(|difference| {
+                panic!("journal {index} of seed {SEED} (gk generate), call {calls}: {difference}")
+            });
+            seen.count(answer);
+            calls += 1;
+        }
+        if calls >= CALLS_OF_JOURNALS {
+            break;
+        }
+    }
+    seen.report("calls of generated journals");
+}
+
+#[test]
+fn calls_on_any_state_are_answered_alike() {
+    let mut random = Random::new(SEED, 0);
+    let mut seen = Seen::default();
+    let mut pair = Pair::empty(Rules::default());
+    for call in 0..CALLS_ON_ANY_STATE {
+        if call % 20 == 0 {
+            pair = Pair::of_bytes(drawn_state(&mut random));
+        }
+        let (code, numbers) = drawn_call(&mut random);
+        let answer =
+            pair.call(code, numbers).unwrap_or_else(|difference| panic!("call {call}: {difference}"));
+        seen.count(answer);
+    }
+    seen.report("calls on drawn states");
+}
+
+#[test]
+fn journals_are_replied_to_alike() {
+    for index in 0..400 {
+        let journal = generate::journal(SEED, index, Wish::default());
+        assert_eq!(gatekeeper::replay(&journal), replies(&journal), "journal {index} of seed {SEED}");
+    }
+}
+
+#[test]
+fn numbers_are_read_alike() {
+    let mut random = Random::new(SEED, 1);
+    for _ in 0..300_000 {
+        let length = random.below(8) as usize;
+        let bytes: Vec<u8> = (0..length)
+            .map(|_| match random.below(6) {
+                0 => 0,
+                1 => 0x80,
+                2 => random.below(0x80),
+                _ => 0x80 + random.below(0x80),
+            } as u8)
+            .collect();
+        let plain = numbers::read(&bytes, Rules::default()).ok();
+        assert_eq!(gatekeeper::read_number(&bytes), plain, "{bytes:02x?}");
+    }
+}
+
+#[test]
+fn records_are_written_alike() {
+    let mut random = Random::new(SEED, 2);
+    for _ in 0..100_000 {
+        let shape = &SHAPES[random.below(13) as usize];
+        let four = [0; 4].map(|_| random.below(u32::MAX) >> random.below(32));
+        let mut plain = Vec::new();
+        records::write(shape.code, &four[..shape.numbers.len()], &mut plain);
+        let mut proved = [0; gatekeeper::RECORD_ROOM];
+        let length = gatekeeper::write_record(&mut proved, shape.code, four)
+            .expect("there is room for every record");
+        assert_eq!(proved[..length], plain);
+    }
+}
+
+/// The first journal on which a variant answers otherwise: its calls, or the reply to it.
+fn told_apart(rules: Rules) -> Option<u64> {
+    (0..4000).find(|&index| {
+        let journal = generate::journal(SEED, index, Wish::default());
+        let mut pair = Pair::empty(rules);
+        let same_calls =
+            calls_of(&journal).into_iter().all(|(code, numbers)| pair.call(code, numbers).is_ok());
+        !same_calls || gatekeeper::replay(&journal) != replies_by(&journal, rules)
+    })
+}
+
+#[test]
+fn every_wrong_variant_is_told_apart() {
+    for &(variant, name, what) in variants::ALL {
+        assert!(told_apart(variant.into()).is_some(), "{name} was not told apart: {what}");
+    }
+    println!("beside: {} wrong programs were told apart", variants::ALL.len());
+}
