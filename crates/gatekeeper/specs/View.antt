@@ -90,6 +90,12 @@ value-of (allowed l) = l
 value-of (lowered l) = l
 value-of (refused n) = n
 
+-- 01, Refused calls: "A refusal answers with its number and level 0"
+abbrev pub level-of : Told → ℕ
+level-of (allowed l) = l
+level-of (lowered l) = l
+level-of (refused n) = 0
+
 -- ── direct calls and the tally ──
 -- 01, Calls: "A direct call takes a code and four 32-bit numbers"
 abbrev pub direct : ℕ → ℕ → ℕ → ℕ → ℕ → Raw

@@ -17,7 +17,7 @@ ghost use Rattle.model.specs.Tally.{tallied};
 ghost use Rattle.model.specs.Tally.{held as held-count};
 ghost use Rattle.gatekeeper.specs.Kinds.{free, piped, filed, vacated, reader, writer};
 ghost use Rattle.gatekeeper.specs.Counting.{Counting};
-ghost use Rattle.gatekeeper.specs.View.{view, told, letter-of, value-of, direct, counts-of, direction, subject-entry, object-entry, held, no-subject, no-object, no-handle};
+ghost use Rattle.gatekeeper.specs.View.{view, told, letter-of, level-of, value-of, direct, counts-of, direction, subject-entry, object-entry, held, no-subject, no-object, no-handle};
 ghost use Rattle.gatekeeper.specs.Working.{kept-of, on, slot-of, Mapping, outlived-by, source-by, target-by, demanded-by, Marked, Needed, some-below, short-subject, short-object, refusing, made-by, gone-by};
 
 // An object's place in the table: free, or taken by a file or a pipe.
@@ -231,6 +231,17 @@ pub fn value(a: Answer) -> u8
         Answer::Allowed(l) => l,
         Answer::Lowered(l) => l,
         Answer::Refused(n) => n,
+    }
+}
+
+// The level in an answer, 0 in a refusal.
+pub fn level(a: Answer) -> u8
+    ensures { λ r. ⌜ r ≡ level-of (told a) ⌝ }
+{
+    match a {
+        Answer::Allowed(l) => l,
+        Answer::Lowered(l) => l,
+        Answer::Refused(_) => 0,
     }
 }
 
@@ -773,10 +784,11 @@ impl Monitor {
 
     // ---- the thirteen calls ----
     //
-    // Each goes by the cleaned tables `t`, tests its conditions in the order of their numbers, and hands `self` back where one holds.
+    // Each goes by the cleaned tables `t`, tests its conditions in the order of their numbers, and hands `self` back: as it came where one holds, else as the
+    // next monitor.
 
     // Call 1: a new subject from outside, with no handles.
-    pub fn admit(self, s: u32, level: u32) -> Reply
+    pub fn admit(mut self, s: u32, level: u32) -> Reply
         ensures { λ r. ⌜ Meets view self (admit s level) (told (r .answer)) (r .monitor) ⌝ }
     {
         let t = self.cleaned();
@@ -793,7 +805,7 @@ impl Monitor {
             };
         }
         let l = level as u8;
-        let admitted = t.with_subject(
+        self = t.with_subject(
             s,
             Subject {
                 live: true,
@@ -801,13 +813,13 @@ impl Monitor {
             },
         );
         Reply {
-            monitor: admitted,
+            monitor: self,
             answer: Answer::Allowed(l),
         }
     }
 
     // Call 2: a new file from outside.
-    pub fn register(self, o: u32, level: u32) -> Reply
+    pub fn register(mut self, o: u32, level: u32) -> Reply
         ensures { λ r. ⌜ Meets view self (register o level) (told (r .answer)) (r .monitor) ⌝ }
     {
         let t = self.cleaned();
@@ -824,7 +836,7 @@ impl Monitor {
             };
         }
         let l = level as u8;
-        let next = t.with_object(
+        self = t.with_object(
             o,
             Object {
                 kind: Kind::File,
@@ -832,13 +844,13 @@ impl Monitor {
             },
         );
         Reply {
-            monitor: next,
+            monitor: self,
             answer: Answer::Allowed(l),
         }
     }
 
     // Call 3: a new empty file at s's level, no handle.
-    pub fn create(self, s: u32, o: u32) -> Reply
+    pub fn create(mut self, s: u32, o: u32) -> Reply
         ensures { λ r. ⌜ Meets view self (create s o) (told (r .answer)) (r .monitor) ⌝ }
     {
         let t = self.cleaned();
@@ -855,7 +867,7 @@ impl Monitor {
             };
         }
         let l = t.subject_level(s);
-        let next = t.with_object(
+        self = t.with_object(
             o,
             Object {
                 kind: Kind::File,
@@ -863,13 +875,13 @@ impl Monitor {
             },
         );
         Reply {
-            monitor: next,
+            monitor: self,
             answer: Answer::Allowed(l),
         }
     }
 
     // Call 4: a new empty pipe at s's level; place r reads, w writes.
-    pub fn pipe(self, s: u32, o: u32, r: u32, w: u32) -> Reply
+    pub fn pipe(mut self, s: u32, o: u32, r: u32, w: u32) -> Reply
         ensures { λ a. ⌜ Meets view self (make-pipe s o r w) (told (a .answer)) (a .monitor) ⌝ }
     {
         let t = self.cleaned();
@@ -920,7 +932,7 @@ impl Monitor {
                 object: n,
             },
         );
-        let next = read.with_handle(
+        self = read.with_handle(
             s,
             w,
             Handle {
@@ -929,13 +941,13 @@ impl Monitor {
             },
         );
         Reply {
-            monitor: next,
+            monitor: self,
             answer: Answer::Allowed(l),
         }
     }
 
     // Calls 5 and 6: a reading or writing handle; no level falls.
-    fn open_by(self, reads: bool, s: u32, o: u32, p: u32) -> Reply
+    fn open_by(mut self, reads: bool, s: u32, o: u32, p: u32) -> Reply
         ensures { λ r. ⌜ Meets view self (opens (direction reads) s o p) (told (r .answer)) (r .monitor) ⌝ }
     {
         let t = self.cleaned();
@@ -966,8 +978,9 @@ impl Monitor {
             };
         }
         let level = t.object_level(o);
+        self = next;
         Reply {
-            monitor: next,
+            monitor: self,
             answer: Answer::Allowed(level),
         }
     }
@@ -987,7 +1000,7 @@ impl Monitor {
     }
 
     // Call 7: s falls to the object's level if that is lower.
-    pub fn read(self, s: u32, p: u32) -> Reply
+    pub fn read(mut self, s: u32, p: u32) -> Reply
         ensures { λ r. ⌜ Meets view self (access reading s p) (told (r .answer)) (r .monitor) ⌝ }
     {
         let t = self.cleaned();
@@ -1014,7 +1027,7 @@ impl Monitor {
         let l = t.object_level(o);
         let k = t.subject_level(s);
         if l < k {
-            let next = t.with_subject(
+            self = t.with_subject(
                 s,
                 Subject {
                     live: true,
@@ -1022,7 +1035,7 @@ impl Monitor {
                 },
             );
             return Reply {
-                monitor: next,
+                monitor: self,
                 answer: Answer::Lowered(l),
             };
         }
@@ -1033,7 +1046,7 @@ impl Monitor {
     }
 
     // Call 8: a pipe falls to s's level if that is lower; a file keeps its own.
-    pub fn write(self, s: u32, p: u32) -> Reply
+    pub fn write(mut self, s: u32, p: u32) -> Reply
         ensures { λ r. ⌜ Meets view self (access writing s p) (told (r .answer)) (r .monitor) ⌝ }
     {
         let t = self.cleaned();
@@ -1066,7 +1079,7 @@ impl Monitor {
         }
         let k = t.subject_level(s);
         if k < l {
-            let next = t.with_object(
+            self = t.with_object(
                 o,
                 Object {
                     kind: Kind::Pipe,
@@ -1074,7 +1087,7 @@ impl Monitor {
                 },
             );
             return Reply {
-                monitor: next,
+                monitor: self,
                 answer: Answer::Lowered(k),
             };
         }
@@ -1085,7 +1098,7 @@ impl Monitor {
     }
 
     // Call 9: new subject c, with s's level and the same handles at the same places.
-    pub fn fork(self, s: u32, c: u32) -> Reply
+    pub fn fork(mut self, s: u32, c: u32) -> Reply
         ensures { λ r. ⌜ Meets view self (fork s c) (told (r .answer)) (r .monitor) ⌝ }
     {
         let t = self.cleaned();
@@ -1109,9 +1122,9 @@ impl Monitor {
                 level: l,
             },
         );
-        let next = born.row_copied(s, c);
+        self = born.row_copied(s, c);
         Reply {
-            monitor: next,
+            monitor: self,
             answer: Answer::Allowed(l),
         }
     }
@@ -1128,7 +1141,7 @@ impl Monitor {
     }
 
     // Call 10: file o is run; s falls to o's level if lower; handles are kept.
-    pub fn exec(self, s: u32, o: u32) -> Reply
+    pub fn exec(mut self, s: u32, o: u32) -> Reply
         ensures { λ r. ⌜ Meets view self (exec s o) (told (r .answer)) (r .monitor) ⌝ }
     {
         let t = self.cleaned();
@@ -1159,7 +1172,7 @@ impl Monitor {
         let l = t.object_level(o);
         let k = t.subject_level(s);
         if l < k {
-            let next = t.with_subject(
+            self = t.with_subject(
                 s,
                 Subject {
                     live: true,
@@ -1167,7 +1180,7 @@ impl Monitor {
                 },
             );
             return Reply {
-                monitor: next,
+                monitor: self,
                 answer: Answer::Lowered(l),
             };
         }
@@ -1178,7 +1191,7 @@ impl Monitor {
     }
 
     // Call 11: the place is empty.
-    pub fn close(self, s: u32, p: u32) -> Reply
+    pub fn close(mut self, s: u32, p: u32) -> Reply
         ensures { λ r. ⌜ Meets view self (close s p) (told (r .answer)) (r .monitor) ⌝ }
     {
         let t = self.cleaned();
@@ -1203,15 +1216,15 @@ impl Monitor {
                 object: 0,
             },
         );
-        let next = shut.reaped(t);
+        self = shut.reaped(t);
         Reply {
-            monitor: next,
+            monitor: self,
             answer: Answer::Allowed(l),
         }
     }
 
     // Call 12: all handles closed, number free.
-    pub fn exit(self, s: u32) -> Reply
+    pub fn exit(mut self, s: u32) -> Reply
         ensures { λ r. ⌜ Meets view self (exit s) (told (r .answer)) (r .monitor) ⌝ }
     {
         let t = self.cleaned();
@@ -1230,15 +1243,15 @@ impl Monitor {
                 level: 0,
             },
         );
-        let next = gone.reaped(t);
+        self = gone.reaped(t);
         Reply {
-            monitor: next,
+            monitor: self,
             answer: Answer::Allowed(l),
         }
     }
 
     // Call 13: file gone, number free.
-    pub fn retire(self, o: u32) -> Reply
+    pub fn retire(mut self, o: u32) -> Reply
         ensures { λ r. ⌜ Meets view self (retire o) (told (r .answer)) (r .monitor) ⌝ }
     {
         let t = self.cleaned();
@@ -1261,7 +1274,7 @@ impl Monitor {
             };
         }
         let l = t.object_level(o);
-        let next = t.with_object(
+        self = t.with_object(
             o,
             Object {
                 kind: Kind::Free,
@@ -1269,7 +1282,7 @@ impl Monitor {
             },
         );
         Reply {
-            monitor: next,
+            monitor: self,
             answer: Answer::Allowed(l),
         }
     }

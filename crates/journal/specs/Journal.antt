@@ -1,11 +1,12 @@
 -- Records as the reader finds them (document 01, "Journal", second paragraph, and rows 1, 11 and 12 of "Refused calls"). In
--- order: what stands at an offset of a journal; what a body says. The laws are in Journal/Laws. Assumes nothing.
+-- order: what stands at an offset of a journal; what a body says; both together. The laws are in Journal/Laws. Assumes nothing.
+use mathlib.Core.Path.{_≡_}
 use Prim.Native.Nat.{ℕ, zero, suc, _+_}
 use mathlib.Core.Bool.{cond}
 use mathlib.Core.List.{List, [], _∷_}
 use mathlib.Core.Option.{Option, none, some, Option·map}
 use lib.Dec.{ltb}
-use lib.ListN.{length, drop}
+use lib.ListN.{length, take, drop}
 use Rattle.number.specs.Leb.{largest, Reading, good, malformed, number}
 use Rattle.journal.specs.Answers.{Answer, answers, refused, Next, body, end, Said, said}
 use Rattle.journal.specs.Calls.{most-numbers, arity-of, known, filled}
@@ -52,3 +53,12 @@ coded malformed bs = said 0 (refused 12)
 
 unfoldable pub body-in : List ℕ → Said
 body-in bs = coded (number largest bs) bs
+
+-- ---- one record for one call
+
+-- at an offset stands the record of a call with these numbers, and then the next record
+pub record Reads (journal : List ℕ) (at next code : ℕ) (ns : List ℕ) : Type 0 where
+  pub start : ℕ
+  pub len : ℕ
+  pub entry : entry-at journal at ≡ answers (body start len next)
+  pub says : body-in (take len (drop start journal)) ≡ said code (answers ns)

@@ -1,4 +1,4 @@
--- Every row of document 01's tables "Calls" and "Refused calls", tried once: one list of calls from empty tables with the answer to each, and
+-- Every row of document 01's table "Calls", and rows 1 to 10 of "Refused calls", tried once: one list of calls from empty tables with the answer to each, and
 -- the contents and the tally after a few short lists. Not cases of the document: they pin the definitions down where no law does, so that
 -- a slip in a row does not go unseen. Assumes nothing.
 use mathlib.Core.Path.{_≡_, refl}

@@ -1,17 +1,18 @@
-// The needs of 96 things, worked out from nothing: the least figures that are at least the starting ones and fall along no edge.
+// The needs of 96 things, worked out from nothing: the least figures that are at least the starting ones, with no
+// edge that leads to a higher one.
 //
 // A thing is a number below 96. Edge i leads from thing `from[i] % 96` to thing `to[i] % 96`; a place that holds no edge is the harmless
 // edge 0 -> 0. Any bytes may be handed in.
 ghost use Rattle.need.specs.Least.{Least, Passed};
 
 // Figures after a pass, and whether one of them grew.
-pub struct Round {
-    pub figures: [u8; 96],
-    pub grew: bool,
+struct Round {
+    figures: [u8; 96],
+    grew: bool,
 }
 
 // One pass over the edges: each start takes its end's figure where that is higher.
-pub fn pass(from: [u8; 512], to: [u8; 512], figures: [u8; 96]) -> Round
+fn pass(from: [u8; 512], to: [u8; 512], figures: [u8; 96]) -> Round
     ensures { λ r. ⌜ Passed from to figures (r .figures) 512 (r .grew) ⌝ }
 {
     let mut next = figures;

@@ -1,13 +1,20 @@
 -- The journal's numbers: unsigned LEB128 as in DWARF 5 (document 01, "Journal", first paragraph).
--- In order: the two constants of the format; the coding of a number; what stands at the front of some bytes. A byte is
+-- In order: bytes; the two constants of the format; the coding of a number; what stands at the front of some bytes. A byte is
 -- a number below 256. The laws are in Leb/Laws. Assumes nothing.
-use Prim.Native.Nat.{ℕ, zero, suc, _+_, _*_, _/_, _%_}
+use Prim.Native.Nat.{ℕ, zero, suc, _+_, _*_, _/_, _%_, _≤_}
 use mathlib.Core.Bool.{Bool, cond, _||_}
 use mathlib.Core.List.{List, [], _∷_}
 use mathlib.Core.Option.{Option, none, some, Option·map}
 use lib.Dec.{ltb}
-use lib.ListN.{length}
+use lib.ListN.{length, getD}
 pub mod Laws
+
+-- numbers of at most m; bytes
+abbrev pub AtMost : ℕ → List ℕ → Type 0
+AtMost m ns = (i : ℕ) → getD ns i 0 ≤ m
+
+abbrev pub AreBytes : List ℕ → Type 0
+AreBytes bs = AtMost 255 bs
 
 -- "above 4,294,967,295"
 abbrev pub largest : ℕ

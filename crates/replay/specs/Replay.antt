@@ -37,7 +37,7 @@ records-of journal = records (length journal) journal 0
 abbrev pub raw : ℕ → List ℕ → Raw
 raw code ns = record { code = code; numbers = ns }
 
--- "One journal record stands for one call"; a bad one stands for none
+-- a record stands for one call; a bad one stands for none
 abbrev pub calls-of : List Said → List Raw
 calls-of [] = []
 calls-of (said code (reads ns) ∷ l) = raw code ns ∷ calls-of l

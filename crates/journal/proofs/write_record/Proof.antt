@@ -5,7 +5,7 @@ use native.Mathlib.Omega.{arith}
 use lib.ListN.{length-take}
 use Rattle.journal.specs.Answers.{Answer, numbers-of, length-in}
 use Rattle.number.specs.Leb.{largest}
-use Rattle.number.specs.Leb.Laws.{AtMost}
+use Rattle.number.specs.Leb.{AtMost}
 use Rattle.journal.specs.Calls.{most-numbers}
 use Rattle.journal.specs.Calls.Laws.{arity-most}
 use Rattle.journal.specs.Record.{longest-record}

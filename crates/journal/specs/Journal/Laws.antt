@@ -11,14 +11,14 @@ use lib.Dec.{ltb}
 use lib.ListN.{length, take, drop, length-append, length-drop, take-append-drop}
 use lib.Seq.{take-add, take-append-seam, drop-append-seam, drop-drop, length-take-le}
 use borrow.Author.Tests.{ltb-false, lt-ltb, le-ltb}
-use Rattle.number.specs.Leb.{largest, encode, Reading, good, malformed, number}
-use Rattle.number.specs.Leb.Laws.{clash, AtMost, at-most-take, at-most-drop, AreBytes, encode-some, number-encode, number-only, number-within}
+use Rattle.number.specs.Leb.{AtMost, AreBytes, largest, encode, Reading, good, malformed, number}
+use Rattle.number.specs.Leb.Laws.{clash, at-most-take, at-most-drop, encode-some, number-encode, number-only, number-within}
 use Rattle.journal.specs.Answers.{answers, refused, body, end, said}
 use Rattle.journal.specs.Calls.{most-numbers, arity-of, known, filled, arguments-of}
 use Rattle.journal.specs.Calls.Laws.{arity-most, known-code, filled-front}
 use Rattle.journal.specs.Record.{encodes, body-of, record-of, recording, recorded}
 use Rattle.journal.specs.Record.Laws.{body-length, recording-made, recorded-made}
-use Rattle.journal.specs.Journal.{sized, entry-at, and-then, numbers-in, arguments-in, call-with, coded, body-in}
+use Rattle.journal.specs.Journal.{sized, entry-at, and-then, numbers-in, arguments-in, call-with, coded, body-in, Reads}
 
 -- ---- a record and its offsets
 
@@ -148,13 +148,6 @@ body-only bs are code ns = by-number (number largest bs) refl
     by-number malformed g e = clash (cc)
 
 -- ---- records
-
--- at an offset stands the record of a call with these numbers, and then the next record
-pub record Reads (journal : List ℕ) (at next code : ℕ) (ns : List ℕ) : Type 0 where
-  pub start : ℕ
-  pub len : ℕ
-  pub entry : entry-at journal at ≡ answers (body start len next)
-  pub says : body-in (take len (drop start journal)) ≡ said code (answers ns)
 
 -- a length, then as many bytes
 module _ (before bs after : List ℕ) (fits : length bs ≤ largest) where

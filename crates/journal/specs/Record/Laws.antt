@@ -10,8 +10,8 @@ use lib.Dec.{ltb}
 use lib.ListN.{length, take, drop, getD, length-append, length-take, take-append-drop}
 use lib.Seq.{take-suc}
 use borrow.Author.Tests.{ltb-false}
-use Rattle.number.specs.Leb.{largest, longest, encode}
-use Rattle.number.specs.Leb.Laws.{clash, AtMost, at-most-take, encode-length, encode-bytes}
+use Rattle.number.specs.Leb.{AtMost, largest, longest, encode}
+use Rattle.number.specs.Leb.Laws.{clash, at-most-take, encode-length, encode-bytes}
 use Rattle.number.specs.Put.Laws.{put-fits}
 use Rattle.journal.specs.Answers.{answers, refused, length-in}
 use Rattle.journal.specs.Calls.{most-numbers, arity-of, known}

@@ -14,7 +14,7 @@ use lib.Dec.{leb, ltb, leb·suc-suc}
 use lib.ListN.{length, take, drop, getD}
 use lib.Seq.{getD-drop}
 use borrow.Author.Tests.{ltb-true, ltb-false, leb-false, lt-ltb, le-ltb, le-leb, lt-leb}
-use Rattle.number.specs.Leb.{largest, longest, groups, encode, good, malformed, numeral, value, padded, judged, number}
+use Rattle.number.specs.Leb.{AtMost, AreBytes, largest, longest, groups, encode, good, malformed, numeral, value, padded, judged, number}
 
 -- ---- two numbers, in order or not
 
@@ -30,13 +30,6 @@ pub clash : {A : Type 0} → _≡_ {A = ℕ} 0 1 → A
 clash e = absurd (omega arith)
 
 -- ---- lists of numbers of at most m
-
-abbrev pub AtMost : ℕ → List ℕ → Type 0
-AtMost m ns = (i : ℕ) → getD ns i 0 ≤ m
-
--- bytes
-abbrev pub AreBytes : List ℕ → Type 0
-AreBytes bs = AtMost 255 bs
 
 pub at-most-take : (m k : ℕ) (ns : List ℕ) → AtMost m ns → AtMost m (take k ns)
 at-most-take m zero ns are i = omega arith
