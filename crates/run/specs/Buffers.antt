@@ -4,9 +4,9 @@ use mathlib.Core.Bool.{cond}
 use mathlib.Core.List.{List, [], _∷_}
 use Prim.Native.Nat.{ℕ, _+_, _*_}
 use lib.ListN.{getD}
-use lib.Dec.{ltb}
+use lib.Dec.{ltb, eqb}
 use Rattle.model.specs.Lists.{each}
-use Rattle.model.specs.Calls.{Raw, Answer}
+use Rattle.model.specs.Calls.{Raw, Answer, allowed, lowered, refused}
 use Rattle.gatekeeper.specs.View.{letter-of, value-of, direct}
 pub mod Laws
 
@@ -25,3 +25,12 @@ calls-in l n = each n (λ i. call-at l i ∷ [])
 abbrev pub bytes : List Answer → List ℕ
 bytes [] = []
 bytes (a ∷ l) = letter-of a ∷ value-of a ∷ bytes l
+
+-- and back: 65 is A, 76 is L, 82 is R
+abbrev pub answer-in : ℕ → ℕ → Answer
+answer-in letter value = cond (eqb letter 65) (allowed value) (cond (eqb letter 76) (lowered value) (refused value))
+
+abbrev pub answers-in : List ℕ → List Answer
+answers-in [] = []
+answers-in (a ∷ []) = []
+answers-in (a ∷ b ∷ l) = answer-in a b ∷ answers-in l

@@ -3,12 +3,12 @@
 ghost use mathlib.Core.Path.{_≡_};
 ghost use mathlib.Core.List.{_++_};
 ghost use Prim.Native.Nat.{ℕ, _*_, _/_};
-ghost use lib.ListN.{length, drop};
+ghost use lib.ListN.{length, take, drop};
 ghost use Rattle.model.specs.Tables.{empty};
 ghost use Rattle.model.specs.Calls.{answers};
 ghost use Rattle.model.specs.Demand3.{Demand3};
 ghost use Rattle.gatekeeper.specs.View.{view};
-ghost use Rattle.run.specs.Buffers.{lesser, calls-in, bytes};
+ghost use Rattle.run.specs.Buffers.{lesser, calls-in, bytes, answers-in};
 use gatekeeper::Monitor;
 
 // The monitor at the end, and how many calls were made.
@@ -31,7 +31,7 @@ fn fewer(a: usize, b: usize) -> usize
 pub fn run(calls: &[u32], out: &mut [u8]) -> Ran
     ensures made { λ r. ⌜ r .made ≡ lesser (length (now (calls .entry)) / 5) (length (now (out .entry)) / 2) ⌝ }
     ensures written { λ r. ⌜ now (out .exit) ≡ bytes (answers empty (calls-in (now (calls .entry)) (r .made))) ++ drop (r .made * 2) (now (out .entry)) ⌝ }
-    ensures demand3 { λ r. ⌜ Demand3 (calls-in (now (calls .entry)) (r .made)) (answers empty (calls-in (now (calls .entry)) (r .made))) (view (r .monitor)) ⌝ }
+    ensures demand3 { λ r. ⌜ Demand3 (calls-in (now (calls .entry)) (r .made)) (answers-in (take (r .made * 2) (now (out .exit)))) (view (r .monitor)) ⌝ }
 {
     let n = fewer(calls.len() / 5, out.len() / 2);
     let mut m = Monitor::empty();

@@ -123,7 +123,7 @@ returns c =
     let s = l .inv .4 in
     let a = c .before .before .before .before .before .before .args in
     let so : So-far (a .calls .now) (a .out .now) (l .out) (c .before .before .before .fewer .result) (view (l .m)) = subst (λ (j : ℕ). So-far (a .calls .now) (a .out .now) (l .out) j (view (l .m))) all s in
-    (c .before .before .before .fewer .ensures, (so .written, run-demand3 _ _ (so .tables)))
+    (c .before .before .before .fewer .ensures, (so .written, run-demand3 _ _ _ _ _ so))
 
 pub run-spec : {M : Type 1} → statement M
 run-spec =

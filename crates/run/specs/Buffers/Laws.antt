@@ -5,19 +5,19 @@ use mathlib.Core.Bool.{Bool, true, false, cond}
 use Prim.Native.Nat.{ℕ, zero, suc, _+_, _*_, _≤_, _<_}
 use native.Mathlib.Omega.{arith}
 use native.Mathlib.Numerals.{add-one}
-use lib.ListN.{length, length-append, length-drop, drop, set}
-use lib.Seq.{drop-drop}
+use lib.ListN.{length, length-append, length-drop, take, drop, set}
+use lib.Seq.{drop-drop, take-at}
 use lib.Dec.{ltb}
 use borrow.Author.Tests.{ltb-true, ltb-false}
 use Rattle.model.specs.Tables.{Tables, empty}
-use Rattle.model.specs.Calls.{Raw, decode, Answer, answer, next, answers, after}
+use Rattle.model.specs.Calls.{Raw, decode, Answer, allowed, lowered, refused, answer, next, answers, after}
 use Rattle.model.specs.Calls.Kept.{always-kept}
 use Rattle.model.specs.Promise.{Meets}
 use Rattle.model.specs.Demand3.{Demand3}
 use Rattle.model.specs.Demand3.Laws.{rules-demand3, after-more, answers-more, meets-next}
 use Rattle.gatekeeper.specs.declared.Monitor.{Monitor}
 use Rattle.gatekeeper.specs.View.{letter-of, value-of, view}
-use Rattle.run.specs.Buffers.{lesser, call-at, calls-in, bytes}
+use Rattle.run.specs.Buffers.{lesser, call-at, calls-in, bytes, answers-in}
 
 pub lesser-left : (a b : ℕ) → lesser a b ≤ a
 lesser-left a b = go (ltb a b) refl
@@ -55,9 +55,11 @@ set-pair [] (a ∷ []) x y h = absurd (omega arith)
 set-pair [] (a ∷ b ∷ d) x y h = refl
 set-pair (v ∷ w) d x y h = ap (λ (k : List ℕ). v ∷ k) (set-pair w d x y h)
 
--- a run that made all of them keeps demand 3
-pub run-demand3 : (rs : List Raw) (t : Tables) → t ≡ after empty rs → Demand3 rs (answers empty rs) t
-run-demand3 rs t e = subst (λ (u : Tables). Demand3 rs (answers empty rs) u) (sym e) (rules-demand3 rs)
+answers-back : (l : List Answer) → answers-in (bytes l) ≡ l
+answers-back [] = refl
+answers-back (allowed n ∷ l) = ap (λ (k : List Answer). allowed n ∷ k) (answers-back l)
+answers-back (lowered n ∷ l) = ap (λ (k : List Answer). lowered n ∷ k) (answers-back l)
+answers-back (refused n ∷ l) = ap (λ (k : List Answer). refused n ∷ k) (answers-back l)
 
 -- the first i calls have been made: their answers stand in the buffer, which was `first`, and the tables are t
 pub record So-far (calls first out : List ℕ) (i : ℕ) (t : Tables) : Type 0 where
@@ -103,3 +105,18 @@ module _ (calls first out : List ℕ) (i : ℕ) (m n : Monitor) (a : Answer) whe
           ∙ ap (λ (l : List ℕ). w ++ letter-of a ∷ value-of a ∷ l) left
           ∙ sym (bytes-more (answers empty rs) a (drop (suc i * 2) first))
           ∙ ap (λ (l : List Answer). bytes l ++ drop (suc i * 2) first) (ap (λ (b : Answer). answers empty rs ++ b ∷ []) (f .0) ∙ sym (answers-more empty rs r))
+
+-- a run that made all of them keeps demand 3, with the answers as the buffer has them
+pub run-demand3 : (calls first out : List ℕ) (n : ℕ) (t : Tables) → So-far calls first out n t → Demand3 (calls-in calls n) (answers-in (take (n * 2) out)) t
+run-demand3 calls first out n t s =
+    subst (λ (l : List Answer). Demand3 (calls-in calls n) l t) (sym given)
+    (subst (λ (u : Tables). Demand3 (calls-in calls n) (answers empty (calls-in calls n)) u) (sym (s .tables)) (rules-demand3 (calls-in calls n)))
+  where
+    w : List ℕ
+    w = bytes (answers empty (calls-in calls n))
+
+    long : length w ≡ n * 2
+    long = length-bytes (answers empty (calls-in calls n)) ∙ ap (λ (j : ℕ). j * 2) (length-answers empty (calls-in calls n) ∙ length-calls calls n)
+
+    given : answers-in (take (n * 2) out) ≡ answers empty (calls-in calls n)
+    given = ap answers-in (ap (take (n * 2)) (s .written) ∙ take-at w (drop (n * 2) first) (n * 2) long) ∙ answers-back (answers empty (calls-in calls n))
