@@ -25,7 +25,9 @@ use Rattle.model.specs.Promise.{Meets}
 use Rattle.model.specs.Tables.{Handle as Held}
 use Rattle.model.specs.Calls.{Answer as Told}
 use Rattle.gatekeeper.specs.declared.Monitor.{Monitor}
-use Rattle.gatekeeper.specs.View.{view}
+use Rattle.gatekeeper.specs.declared.Reply.{Reply}
+use Rattle.gatekeeper.specs.View.{view, told}
+use Rattle.gatekeeper.specs.Working.{back}
 
 -- ── refused ──
 abbrev pub Where : Bool → Type 0 → Type 0
@@ -46,9 +48,10 @@ prior-passed t n (d ∷ ds) p e (inl q) h = subst (λ (z : Test). T (not (broken
     go false w h = absurd h
 prior-passed t n (d ∷ ds) p e (inr i) h = prior-passed t n ds (p .1) e i h
 
-pub refuse : (m : Monitor) (t : Tables) (c : Call) (d : Test) → t ≡ clean (view m) → In d (tests c) → broken t d ≡ true → Prior t (number d) (tests c) → Meets view m c (refused (number d)) m
+meets-refused : (m : Monitor) (t : Tables) (c : Call) (d : Test) → t ≡ clean (view m) → In d (tests c) → broken t d ≡ true → Prior t (number d) (tests c)
+    → Meets view m c (refused (number d)) m
 unfolding answer
-refuse m t c d e i b p = record {
+meets-refused m t c d e i b p = record {
   answered = sym (ap (λ (o : Option ℕ). elim o as (λ _. Told) [ none ↦ outcome (clean (view m) .at (shown (clean (view m)) c)) (effect (clean (view m)) c .at (shown (clean (view m)) c)) | some n ↦ refused n ]) is);
   unchanged = λ k q. refl;
   moved = λ q. absurd (Option·none-ne-some (number d) (sym q ∙ is));
@@ -56,6 +59,11 @@ refuse m t c d e i b p = record {
   where
     is : refusal (clean (view m)) c ≡ some (number d)
     is = subst (λ (u : Tables). refusal u c ≡ some (number d)) e (refused-is t c d i (subst T (sym b) tt) (prior-passed t (number d) (tests c) p))
+
+-- the reply r refuses with the number of test d
+pub refuse : (m : Monitor) (r : Reply) (t : Tables) (c : Call) (d : Test) → r ≡ back m (number d) → t ≡ clean (view m) → In d (tests c) → broken t d ≡ true
+    → Prior t (number d) (tests c) → Meets view m c (told (r .answer)) (r .monitor)
+refuse m r t c d handed e i b p = subst (λ (x : Reply). Meets view m c (told (x .answer)) (x .monitor)) (sym handed) (meets-refused m t c d e i b p)
 
 -- ── allowed ──
 -- all tests of a list pass

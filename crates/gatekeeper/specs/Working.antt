@@ -1,4 +1,4 @@
--- What the inner functions of the monitor work out, on its records: cleaning, open handles, the end of a pipe, and needs. No caller of a
+-- What the inner functions of the monitor work out, on its records: a refusal, cleaning, open handles, the end of a pipe, and needs. No caller of a
 -- public function needs these. Assumes nothing.
 use mathlib.Core.Path.{_≡_}
 use mathlib.Core.Bool.{Bool, true, false, _||_, cond}
@@ -15,6 +15,8 @@ use Rattle.gatekeeper.specs.declared.Subject.{Subject}
 use Rattle.gatekeeper.specs.declared.Object.{Object}
 use Rattle.gatekeeper.specs.declared.Handle.{Handle}
 use Rattle.gatekeeper.specs.declared.Answer.{Answer}
+use Rattle.gatekeeper.specs.declared.Monitor.{Monitor}
+use Rattle.gatekeeper.specs.declared.Reply.{Reply}
 use Rattle.gatekeeper.specs.declared.Answer.the-variants.{Allowed, Lowered, Refused}
 use Rattle.gatekeeper.specs.Kinds.{free, piped, filed, vacated}
 use Rattle.gatekeeper.specs.View.{no-object, no-handle}
@@ -22,6 +24,11 @@ use Rattle.gatekeeper.specs.View.{no-object, no-handle}
 abbrev pub some-below : ℕ → (ℕ → Bool) → Bool
 some-below zero f = false
 some-below (suc n) f = some-below n f || f n
+
+-- ── a refusal ──
+-- its number, and the monitor as it came
+abbrev pub back : Monitor → ℕ → Reply
+back m n = record { monitor = m; answer = Refused n }
 
 -- ── cleaning ──
 -- h, of the subject, or an empty record where it dangles

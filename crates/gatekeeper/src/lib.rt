@@ -18,7 +18,7 @@ ghost use Rattle.model.specs.Tally.{held as held-count};
 ghost use Rattle.gatekeeper.specs.Kinds.{free, piped, filed, vacated, reader, writer};
 ghost use Rattle.gatekeeper.specs.Counting.{Counting};
 ghost use Rattle.gatekeeper.specs.View.{view, told, letter-of, level-of, value-of, direct, counts-of, direction, subject-entry, object-entry, held, no-subject, no-object, no-handle};
-ghost use Rattle.gatekeeper.specs.Working.{kept-of, on, slot-of, Mapping, outlived-by, source-by, target-by, demanded-by, Marked, Needed, some-below, short-subject, short-object, refusing, made-by, gone-by};
+ghost use Rattle.gatekeeper.specs.Working.{back, kept-of, on, slot-of, Mapping, outlived-by, source-by, target-by, demanded-by, Marked, Needed, some-below, short-subject, short-object, refusing, made-by, gone-by};
 
 // An object's place in the table: free, or taken by a file or a pipe.
 pub enum Kind {
@@ -787,22 +787,26 @@ impl Monitor {
     // Each goes by the cleaned tables `t`, tests its conditions in the order of their numbers, and hands `self` back: as it came where one holds, else as the
     // next monitor.
 
+    // A refusal, with the monitor as it came.
+    fn refuse(self, n: u8) -> Reply
+        ensures { λ r. ⌜ r ≡ back self n ⌝ }
+    {
+        Reply {
+            monitor: self,
+            answer: Answer::Refused(n),
+        }
+    }
+
     // Call 1: a new subject from outside, with no handles.
     pub fn admit(mut self, s: u32, level: u32) -> Reply
         ensures { λ r. ⌜ Meets view self (admit s level) (told (r .answer)) (r .monitor) ⌝ }
     {
         let t = self.cleaned();
         if t.subject_taken(s) {
-            return Reply {
-                monitor: self,
-                answer: Answer::Refused(3),
-            };
+            return self.refuse(3);
         }
         if 15 < level {
-            return Reply {
-                monitor: self,
-                answer: Answer::Refused(6),
-            };
+            return self.refuse(6);
         }
         let l = level as u8;
         self = t.with_subject(
@@ -824,16 +828,10 @@ impl Monitor {
     {
         let t = self.cleaned();
         if t.object_taken(o) {
-            return Reply {
-                monitor: self,
-                answer: Answer::Refused(3),
-            };
+            return self.refuse(3);
         }
         if 15 < level {
-            return Reply {
-                monitor: self,
-                answer: Answer::Refused(6),
-            };
+            return self.refuse(6);
         }
         let l = level as u8;
         self = t.with_object(
@@ -855,16 +853,10 @@ impl Monitor {
     {
         let t = self.cleaned();
         if t.lacks_subject(s) {
-            return Reply {
-                monitor: self,
-                answer: Answer::Refused(2),
-            };
+            return self.refuse(2);
         }
         if t.object_taken(o) {
-            return Reply {
-                monitor: self,
-                answer: Answer::Refused(3),
-            };
+            return self.refuse(3);
         }
         let l = t.subject_level(s);
         self = t.with_object(
@@ -886,34 +878,19 @@ impl Monitor {
     {
         let t = self.cleaned();
         if t.lacks_subject(s) {
-            return Reply {
-                monitor: self,
-                answer: Answer::Refused(2),
-            };
+            return self.refuse(2);
         }
         if t.object_taken(o) {
-            return Reply {
-                monitor: self,
-                answer: Answer::Refused(3),
-            };
+            return self.refuse(3);
         }
         if t.place_taken(s, r) {
-            return Reply {
-                monitor: self,
-                answer: Answer::Refused(7),
-            };
+            return self.refuse(7);
         }
         if t.place_taken(s, w) {
-            return Reply {
-                monitor: self,
-                answer: Answer::Refused(7),
-            };
+            return self.refuse(7);
         }
         if r == w {
-            return Reply {
-                monitor: self,
-                answer: Answer::Refused(7),
-            };
+            return self.refuse(7);
         }
         let l = t.subject_level(s);
         let n = (o % 64) as u8;
@@ -952,30 +929,18 @@ impl Monitor {
     {
         let t = self.cleaned();
         if t.lacks_subject(s) {
-            return Reply {
-                monitor: self,
-                answer: Answer::Refused(2),
-            };
+            return self.refuse(2);
         }
         if t.lacks_object(o) {
-            return Reply {
-                monitor: self,
-                answer: Answer::Refused(4),
-            };
+            return self.refuse(4);
         }
         if t.place_taken(s, p) {
-            return Reply {
-                monitor: self,
-                answer: Answer::Refused(7),
-            };
+            return self.refuse(7);
         }
         let n = (o % 64) as u8;
         let next = t.with_handle(s, p, handle_on(reads, n));
         if next.is_short() {
-            return Reply {
-                monitor: self,
-                answer: Answer::Refused(9),
-            };
+            return self.refuse(9);
         }
         let level = t.object_level(o);
         self = next;
@@ -1005,22 +970,13 @@ impl Monitor {
     {
         let t = self.cleaned();
         if t.lacks_subject(s) {
-            return Reply {
-                monitor: self,
-                answer: Answer::Refused(2),
-            };
+            return self.refuse(2);
         }
         if t.place_empty(s, p) {
-            return Reply {
-                monitor: self,
-                answer: Answer::Refused(7),
-            };
+            return self.refuse(7);
         }
         if t.faces_out(s, p) {
-            return Reply {
-                monitor: self,
-                answer: Answer::Refused(8),
-            };
+            return self.refuse(8);
         }
         let h = t.handle_at(s, p);
         let o = h.object as u32;
@@ -1051,22 +1007,13 @@ impl Monitor {
     {
         let t = self.cleaned();
         if t.lacks_subject(s) {
-            return Reply {
-                monitor: self,
-                answer: Answer::Refused(2),
-            };
+            return self.refuse(2);
         }
         if t.place_empty(s, p) {
-            return Reply {
-                monitor: self,
-                answer: Answer::Refused(7),
-            };
+            return self.refuse(7);
         }
         if t.faces_in(s, p) {
-            return Reply {
-                monitor: self,
-                answer: Answer::Refused(8),
-            };
+            return self.refuse(8);
         }
         let h = t.handle_at(s, p);
         let o = h.object as u32;
@@ -1103,16 +1050,10 @@ impl Monitor {
     {
         let t = self.cleaned();
         if t.lacks_subject(s) {
-            return Reply {
-                monitor: self,
-                answer: Answer::Refused(2),
-            };
+            return self.refuse(2);
         }
         if t.subject_taken(c) {
-            return Reply {
-                monitor: self,
-                answer: Answer::Refused(3),
-            };
+            return self.refuse(3);
         }
         let l = t.subject_level(s);
         let born = t.with_subject(
@@ -1146,28 +1087,16 @@ impl Monitor {
     {
         let t = self.cleaned();
         if t.lacks_subject(s) {
-            return Reply {
-                monitor: self,
-                answer: Answer::Refused(2),
-            };
+            return self.refuse(2);
         }
         if t.lacks_object(o) {
-            return Reply {
-                monitor: self,
-                answer: Answer::Refused(4),
-            };
+            return self.refuse(4);
         }
         if t.names_pipe(o) {
-            return Reply {
-                monitor: self,
-                answer: Answer::Refused(5),
-            };
+            return self.refuse(5);
         }
         if t.unfit(s, o) {
-            return Reply {
-                monitor: self,
-                answer: Answer::Refused(9),
-            };
+            return self.refuse(9);
         }
         let l = t.object_level(o);
         let k = t.subject_level(s);
@@ -1196,16 +1125,10 @@ impl Monitor {
     {
         let t = self.cleaned();
         if t.lacks_subject(s) {
-            return Reply {
-                monitor: self,
-                answer: Answer::Refused(2),
-            };
+            return self.refuse(2);
         }
         if t.place_empty(s, p) {
-            return Reply {
-                monitor: self,
-                answer: Answer::Refused(7),
-            };
+            return self.refuse(7);
         }
         let l = t.subject_level(s);
         let shut = t.with_handle(
@@ -1229,10 +1152,7 @@ impl Monitor {
     {
         let t = self.cleaned();
         if t.lacks_subject(s) {
-            return Reply {
-                monitor: self,
-                answer: Answer::Refused(2),
-            };
+            return self.refuse(2);
         }
         let l = t.subject_level(s);
         let shut = t.row_emptied(s);
@@ -1256,22 +1176,13 @@ impl Monitor {
     {
         let t = self.cleaned();
         if t.lacks_object(o) {
-            return Reply {
-                monitor: self,
-                answer: Answer::Refused(4),
-            };
+            return self.refuse(4);
         }
         if t.names_pipe(o) {
-            return Reply {
-                monitor: self,
-                answer: Answer::Refused(5),
-            };
+            return self.refuse(5);
         }
         if t.is_open(o) {
-            return Reply {
-                monitor: self,
-                answer: Answer::Refused(10),
-            };
+            return self.refuse(10);
         }
         let l = t.object_level(o);
         self = t.with_object(
@@ -1330,10 +1241,7 @@ impl Monitor {
             11 => self.close(a, b),
             12 => self.exit(a),
             13 => self.retire(a),
-            _ => Reply {
-                monitor: self,
-                answer: Answer::Refused(1),
-            },
+            _ => self.refuse(1),
         }
     }
 

@@ -370,7 +370,7 @@ pub extern "C" fn gatekeeper_gone(state: &[u8]) -> u64
     load_number(state, 1224)
 }
 
-// The reply to a journal, from empty tables: the text's length, or 0 where the buffer has no room for it. Some of its lines may stand there then.
+// The reply to a journal, from empty tables: the text's length, or 0 where the buffer has no room for it: then its front stands there.
 #[no_mangle]
 pub extern "C" fn gatekeeper_replay(journal: &[u8], out: &mut [u8]) -> usize
     ensures answer { λ r. ⌜ r ≡ Option·getD (fitted (reply (now (journal .entry))) (now (out .entry))) 0 ⌝ }

@@ -18,19 +18,25 @@ cleaned-requires c κs = search needs
 subject-taken-requires : tie.Need-subject-taken-requires
 subject-taken-requires c κs = search needs
 
+refuse-requires : tie.Need-refuse-requires
+refuse-requires c κs = search needs
+
 returns : tie.Need-returns
 returns c =
-    let a = c .before .before .before .args in
-    let c-cleaned = c .before .before .cleaned in
-    refuse (a .self) (view (c-cleaned .result)) (admit (a .s) (a .level)) (new (subject (a .s))) (c-cleaned .ensures) (inl refl)
-    (sym (c .before .subject-taken .ensures) ∙ c .if1 .taken) (tt, (tt, tt))
+    let a = c .before .before .before .before .args in
+    let c-cleaned = c .before .before .before .cleaned in
+    refuse (a .self) (c .refuse .result) (view (c-cleaned .result)) (admit (a .s) (a .level)) (new (subject (a .s))) (c .refuse .ensures) (c-cleaned .ensures) (inl refl)
+    (sym (c .before .before .subject-taken .ensures) ∙ c .before .if1 .taken) (tt, (tt, tt))
+
+refuse-requires-2 : tie.Need-refuse-requires-2
+refuse-requires-2 c κs = search needs
 
 returns-2 : tie.Need-returns-2
 returns-2 c =
-    let a = c .before .before .before .before .args in
-    let c-cleaned = c .before .before .before .cleaned in
-    refuse (a .self) (view (c-cleaned .result)) (admit (a .s) (a .level)) (leveled (a .level)) (c-cleaned .ensures) (inr (inl refl))
-    (lt-ltb 15 (a .level) (c .if2 .taken)) (sym (c .before .before .subject-taken .ensures) ∙ c .before .if1 .left, (tt, tt))
+    let a = c .before .before .before .before .before .args in
+    let c-cleaned = c .before .before .before .before .cleaned in
+    refuse (a .self) (c .refuse2 .result) (view (c-cleaned .result)) (admit (a .s) (a .level)) (leveled (a .level)) (c .refuse2 .ensures) (c-cleaned .ensures) (inr (inl refl))
+    (lt-ltb 15 (a .level) (c .before .if2 .taken)) (sym (c .before .before .before .subject-taken .ensures) ∙ c .before .before .if1 .left, (tt, tt))
 
 cast-l : tie.Need-cast-l
 cast-l c = search needs
@@ -54,8 +60,8 @@ admit-spec =
     (tie.spec
     cleaned-requires
     subject-taken-requires
-    returns
-    returns-2
+    refuse-requires returns
+    refuse-requires-2 returns-2
     cast-l
     with-subject-requires
     returns-3)

@@ -6,10 +6,9 @@ use Rattle.model.specs.Calls.{decode, admit, register, create, fork, exec, clos
 use Rattle.gatekeeper.proofs.Meeting.{refuse}
 use Rattle.gatekeeper.proofs.Counting.{decode-unknown}
 use Rattle.model.specs.Tables.{clean}
-use Rattle.model.specs.Calls.{Call, unknown, known, refused}
+use Rattle.model.specs.Calls.{Call, unknown, known}
 use Rattle.model.specs.Promise.{Meets}
-use Rattle.gatekeeper.specs.View.{direct}
-use Rattle.gatekeeper.specs.View.{view}
+use Rattle.gatekeeper.specs.View.{view, told, direct}
 use Rattle.gatekeeper.proofs.Monitor.call.Statement.{statement}
 use Rattle.gatekeeper.proofs.Monitor.call.Tie as tie
 
@@ -51,6 +50,9 @@ exit-requires c κs = search needs
 
 retire-requires : tie.Need-retire-requires
 retire-requires c κs = search needs
+
+refuse-requires : tie.Need-refuse-requires
+refuse-requires c κs = search needs
 
 returns : tie.Need-returns
 unfolding decode
@@ -106,9 +108,9 @@ returns-13 c = rw (c .before .match .keys13) (c .retire .ensures)
 
 returns-14 : tie.Need-returns-14
 returns-14 c =
-    let a = c .before .args in
-    let c-match = c .match in
-    subst (λ (k : Call). Meets view (a .self) k (refused 1) (a .self))
+    let a = c .before .before .args in
+    let c-match = c .before .match in
+    subst (λ (k : Call). Meets view (a .self) k (told (c .refuse .result .answer)) (c .refuse .result .monitor))
     (sym
     (decode-unknown (direct (a .code) (a .a) (a .b) (a .c) (a .d)) (
       c-match .rest .0 .0 .0 .0 .0 .0 .0 .0 .0 .0 .0 .0 .1,
@@ -138,7 +140,7 @@ returns-14 c =
         ),
       ),
     )))
-    (refuse (c .before .args .self) (clean (view (c .before .args .self))) unknown known refl (inl refl) refl (tt, tt))
+    (refuse (a .self) (c .refuse .result) (clean (view (a .self))) unknown known (c .refuse .ensures) refl (inl refl) refl (tt, tt))
 
 pub call-spec : {M : Type 1} → statement M
 call-spec =
@@ -157,6 +159,7 @@ call-spec =
     close-requires
     exit-requires
     retire-requires
+    refuse-requires
     returns
     returns-2
     returns-3

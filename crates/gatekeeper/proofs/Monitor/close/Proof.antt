@@ -18,23 +18,29 @@ cleaned-requires c κs = search needs
 lacks-subject-requires : tie.Need-lacks-subject-requires
 lacks-subject-requires c κs = search needs
 
+refuse-requires : tie.Need-refuse-requires
+refuse-requires c κs = search needs
+
 returns : tie.Need-returns
 returns c =
-    let a = c .before .before .before .args in
-    let c-cleaned = c .before .before .cleaned in
-    refuse (a .self) (view (c-cleaned .result)) (close (a .s) (a .p)) (alive (a .s)) (c-cleaned .ensures) (inl refl)
-    (sym (c .before .lacks-subject .ensures) ∙ c .if1 .taken) (tt, (tt, tt))
+    let a = c .before .before .before .before .args in
+    let c-cleaned = c .before .before .before .cleaned in
+    refuse (a .self) (c .refuse .result) (view (c-cleaned .result)) (close (a .s) (a .p)) (alive (a .s)) (c .refuse .ensures) (c-cleaned .ensures) (inl refl)
+    (sym (c .before .before .lacks-subject .ensures) ∙ c .before .if1 .taken) (tt, (tt, tt))
 
 place-empty-requires : tie.Need-place-empty-requires
 place-empty-requires c κs = search needs
 
+refuse-requires-2 : tie.Need-refuse-requires-2
+refuse-requires-2 c κs = search needs
+
 returns-2 : tie.Need-returns-2
 returns-2 c =
-    let a = c .before .before .before .before .before .args in
-    let c-cleaned = c .before .before .before .before .cleaned in
-    refuse (a .self) (view (c-cleaned .result)) (close (a .s) (a .p)) (taken (a .s) (a .p)) (c-cleaned .ensures) (inr (inl refl))
-    (sym (c .before .place-empty .ensures) ∙ c .if2 .taken)
-    (sym (c .before .before .before .lacks-subject .ensures) ∙ c .before .before .if1 .left, (tt, tt))
+    let a = c .before .before .before .before .before .before .args in
+    let c-cleaned = c .before .before .before .before .before .cleaned in
+    refuse (a .self) (c .refuse2 .result) (view (c-cleaned .result)) (close (a .s) (a .p)) (taken (a .s) (a .p)) (c .refuse2 .ensures) (c-cleaned .ensures) (inr (inl refl))
+    (sym (c .before .before .place-empty .ensures) ∙ c .before .if2 .taken)
+    (sym (c .before .before .before .before .lacks-subject .ensures) ∙ c .before .before .before .if1 .left, (tt, tt))
 
 subject-level-requires : tie.Need-subject-level-requires
 subject-level-requires c κs = search needs
@@ -68,9 +74,9 @@ close-spec =
     (tie.spec
     cleaned-requires
     lacks-subject-requires
-    returns
+    refuse-requires returns
     place-empty-requires
-    returns-2
+    refuse-requires-2 returns-2
     subject-level-requires
     with-handle-requires
     reaped-requires

@@ -17,35 +17,44 @@ cleaned-requires c κs = search needs
 lacks-subject-requires : tie.Need-lacks-subject-requires
 lacks-subject-requires c κs = search needs
 
+refuse-requires : tie.Need-refuse-requires
+refuse-requires c κs = search needs
+
 returns : tie.Need-returns
 returns c =
-    let a = c .before .before .before .args in
-    let c-cleaned = c .before .before .cleaned in
-    refuse (a .self) (view (c-cleaned .result)) (exec (a .s) (a .o)) (alive (a .s)) (c-cleaned .ensures) (inl refl)
-    (sym (c .before .lacks-subject .ensures) ∙ c .if1 .taken) (tt, (tt, (tt, (tt, tt))))
+    let a = c .before .before .before .before .args in
+    let c-cleaned = c .before .before .before .cleaned in
+    refuse (a .self) (c .refuse .result) (view (c-cleaned .result)) (exec (a .s) (a .o)) (alive (a .s)) (c .refuse .ensures) (c-cleaned .ensures) (inl refl)
+    (sym (c .before .before .lacks-subject .ensures) ∙ c .before .if1 .taken) (tt, (tt, (tt, (tt, tt))))
 
 lacks-object-requires : tie.Need-lacks-object-requires
 lacks-object-requires c κs = search needs
 
+refuse-requires-2 : tie.Need-refuse-requires-2
+refuse-requires-2 c κs = search needs
+
 returns-2 : tie.Need-returns-2
 returns-2 c =
-    let a = c .before .before .before .before .before .args in
-    let c-cleaned = c .before .before .before .before .cleaned in
-    refuse (a .self) (view (c-cleaned .result)) (exec (a .s) (a .o)) (present (a .o)) (c-cleaned .ensures) (inr (inl refl))
-    (sym (c .before .lacks-object .ensures) ∙ c .if2 .taken)
-    (sym (c .before .before .before .lacks-subject .ensures) ∙ c .before .before .if1 .left, (tt, (tt, (tt, tt))))
+    let a = c .before .before .before .before .before .before .args in
+    let c-cleaned = c .before .before .before .before .before .cleaned in
+    refuse (a .self) (c .refuse2 .result) (view (c-cleaned .result)) (exec (a .s) (a .o)) (present (a .o)) (c .refuse2 .ensures) (c-cleaned .ensures) (inr (inl refl))
+    (sym (c .before .before .lacks-object .ensures) ∙ c .before .if2 .taken)
+    (sym (c .before .before .before .before .lacks-subject .ensures) ∙ c .before .before .before .if1 .left, (tt, (tt, (tt, tt))))
 
 names-pipe-requires : tie.Need-names-pipe-requires
 names-pipe-requires c κs = search needs
 
+refuse-requires-3 : tie.Need-refuse-requires-3
+refuse-requires-3 c κs = search needs
+
 returns-3 : tie.Need-returns-3
 returns-3 c =
-    let a = c .before .before .before .before .before .before .before .args in
-    let c-cleaned = c .before .before .before .before .before .before .cleaned in
-    refuse (a .self) (view (c-cleaned .result)) (exec (a .s) (a .o)) (no-pipe (a .o)) (c-cleaned .ensures) (inr (inr (inl refl)))
-    (sym (c .before .names-pipe .ensures) ∙ c .if3 .taken) (
-      sym (c .before .before .before .before .before .lacks-subject .ensures) ∙ c .before .before .before .before .if1 .left,
-      (sym (c .before .before .before .lacks-object .ensures) ∙ c .before .before .if2 .left, (tt, (tt, tt))),
+    let a = c .before .before .before .before .before .before .before .before .args in
+    let c-cleaned = c .before .before .before .before .before .before .before .cleaned in
+    refuse (a .self) (c .refuse3 .result) (view (c-cleaned .result)) (exec (a .s) (a .o)) (no-pipe (a .o)) (c .refuse3 .ensures) (c-cleaned .ensures) (inr (inr (inl refl)))
+    (sym (c .before .before .names-pipe .ensures) ∙ c .before .if3 .taken) (
+      sym (c .before .before .before .before .before .before .lacks-subject .ensures) ∙ c .before .before .before .before .before .if1 .left,
+      (sym (c .before .before .before .before .lacks-object .ensures) ∙ c .before .before .before .if2 .left, (tt, (tt, tt))),
     )
 
 unfit-requires : tie.Need-unfit-requires
@@ -55,20 +64,23 @@ unfit-requires c κs =
     let c-cleaned = c .before .before .before .before .before .before .cleaned in
     (cleaned-wf (a .self) (view (c-cleaned .result)) (O.subjects-long (a .self) (good .0)) (O.objects-long (a .self) (good .0)) (c-cleaned .ensures))
 
+refuse-requires-4 : tie.Need-refuse-requires-4
+refuse-requires-4 c κs = search needs
+
 returns-4 : tie.Need-returns-4
 returns-4 c =
-    let a = c .before .before .before .before .before .before .before .before .before .args in
-    let c-cleaned = c .before .before .before .before .before .before .before .before .cleaned in
-    let c-lacks-subject = c .before .before .before .before .before .before .before .lacks-subject in
-    let c-if1 = c .before .before .before .before .before .before .if1 in
+    let a = c .before .before .before .before .before .before .before .before .before .before .args in
+    let c-cleaned = c .before .before .before .before .before .before .before .before .before .cleaned in
+    let c-lacks-subject = c .before .before .before .before .before .before .before .before .lacks-subject in
+    let c-if1 = c .before .before .before .before .before .before .before .if1 in
     let t = view (c-cleaned .result) in
     let passed-lacks-subject = sym (c-lacks-subject .ensures) ∙ c-if1 .left in
-    refuse (a .self) t (exec (a .s) (a .o)) (suits (a .s) (a .o)) (c-cleaned .ensures) (inr (inr (inr (inl refl))))
-    (sym (c .before .unfit .ensures (in-row t (a .s) passed-lacks-subject)) ∙ c .if4 .taken) (
+    refuse (a .self) (c .refuse4 .result) t (exec (a .s) (a .o)) (suits (a .s) (a .o)) (c .refuse4 .ensures) (c-cleaned .ensures) (inr (inr (inr (inl refl))))
+    (sym (c .before .before .unfit .ensures (in-row t (a .s) passed-lacks-subject)) ∙ c .before .if4 .taken) (
       passed-lacks-subject,
       (
-        sym (c .before .before .before .before .before .lacks-object .ensures) ∙ c .before .before .before .before .if2 .left,
-        (sym (c .before .before .before .names-pipe .ensures) ∙ c .before .before .if3 .left, (tt, tt)),
+        sym (c .before .before .before .before .before .before .lacks-object .ensures) ∙ c .before .before .before .before .before .if2 .left,
+        (sym (c .before .before .before .before .names-pipe .ensures) ∙ c .before .before .before .if3 .left, (tt, tt)),
       ),
     )
 
@@ -126,13 +138,13 @@ exec-spec =
     (tie.spec
     cleaned-requires
     lacks-subject-requires
-    returns
+    refuse-requires returns
     lacks-object-requires
-    returns-2
+    refuse-requires-2 returns-2
     names-pipe-requires
-    returns-3
+    refuse-requires-3 returns-3
     unfit-requires
-    returns-4
+    refuse-requires-4 returns-4
     object-level-requires
     subject-level-requires
     with-subject-requires

@@ -20,12 +20,15 @@ cleaned-requires c κs = search needs
 lacks-subject-requires : tie.Need-lacks-subject-requires
 lacks-subject-requires c κs = search needs
 
+refuse-requires : tie.Need-refuse-requires
+refuse-requires c κs = search needs
+
 returns : tie.Need-returns
 returns c =
-    let a = c .before .before .before .args in
-    let c-cleaned = c .before .before .cleaned in
-    refuse (a .self) (view (c-cleaned .result)) (exit (a .s)) (alive (a .s)) (c-cleaned .ensures) (inl refl)
-    (sym (c .before .lacks-subject .ensures) ∙ c .if1 .taken) (tt, tt)
+    let a = c .before .before .before .before .args in
+    let c-cleaned = c .before .before .before .cleaned in
+    refuse (a .self) (c .refuse .result) (view (c-cleaned .result)) (exit (a .s)) (alive (a .s)) (c .refuse .ensures) (c-cleaned .ensures) (inl refl)
+    (sym (c .before .before .lacks-subject .ensures) ∙ c .before .if1 .taken) (tt, tt)
 
 subject-level-requires : tie.Need-subject-level-requires
 subject-level-requires c κs = search needs
@@ -60,7 +63,7 @@ exit-spec =
     (tie.spec
     cleaned-requires
     lacks-subject-requires
-    returns
+    refuse-requires returns
     subject-level-requires
     row-emptied-requires
     with-subject-requires

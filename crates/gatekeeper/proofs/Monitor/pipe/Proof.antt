@@ -18,65 +18,80 @@ cleaned-requires c κs = search needs
 lacks-subject-requires : tie.Need-lacks-subject-requires
 lacks-subject-requires c κs = search needs
 
+refuse-requires : tie.Need-refuse-requires
+refuse-requires c κs = search needs
+
 returns : tie.Need-returns
 returns c =
-    let a = c .before .before .before .args in
-    let c-cleaned = c .before .before .cleaned in
-    refuse (a .self) (view (c-cleaned .result)) (make-pipe (a .s) (a .o) (a .r) (a .w)) (alive (a .s)) (c-cleaned .ensures) (inl refl)
-    (sym (c .before .lacks-subject .ensures) ∙ c .if1 .taken) (tt, (tt, (tt, (tt, (tt, tt)))))
+    let a = c .before .before .before .before .args in
+    let c-cleaned = c .before .before .before .cleaned in
+    refuse (a .self) (c .refuse .result) (view (c-cleaned .result)) (make-pipe (a .s) (a .o) (a .r) (a .w)) (alive (a .s)) (c .refuse .ensures) (c-cleaned .ensures) (inl refl)
+    (sym (c .before .before .lacks-subject .ensures) ∙ c .before .if1 .taken) (tt, (tt, (tt, (tt, (tt, tt)))))
 
 object-taken-requires : tie.Need-object-taken-requires
 object-taken-requires c κs = search needs
 
+refuse-requires-2 : tie.Need-refuse-requires-2
+refuse-requires-2 c κs = search needs
+
 returns-2 : tie.Need-returns-2
 returns-2 c =
-    let a = c .before .before .before .before .before .args in
-    let c-cleaned = c .before .before .before .before .cleaned in
-    refuse (a .self) (view (c-cleaned .result)) (make-pipe (a .s) (a .o) (a .r) (a .w)) (new (object (a .o))) (c-cleaned .ensures) (inr (inl refl))
-    (sym (c .before .object-taken .ensures) ∙ c .if2 .taken)
-    (sym (c .before .before .before .lacks-subject .ensures) ∙ c .before .before .if1 .left, (tt, (tt, (tt, (tt, tt)))))
+    let a = c .before .before .before .before .before .before .args in
+    let c-cleaned = c .before .before .before .before .before .cleaned in
+    refuse (a .self) (c .refuse2 .result) (view (c-cleaned .result)) (make-pipe (a .s) (a .o) (a .r) (a .w)) (new (object (a .o))) (c .refuse2 .ensures) (c-cleaned .ensures) (inr (inl refl))
+    (sym (c .before .before .object-taken .ensures) ∙ c .before .if2 .taken)
+    (sym (c .before .before .before .before .lacks-subject .ensures) ∙ c .before .before .before .if1 .left, (tt, (tt, (tt, (tt, tt)))))
 
 place-taken-requires : tie.Need-place-taken-requires
 place-taken-requires c κs = search needs
 
+refuse-requires-3 : tie.Need-refuse-requires-3
+refuse-requires-3 c κs = search needs
+
 returns-3 : tie.Need-returns-3
 returns-3 c =
-    let a = c .before .before .before .before .before .before .before .args in
-    let c-cleaned = c .before .before .before .before .before .before .cleaned in
-    refuse (a .self) (view (c-cleaned .result)) (make-pipe (a .s) (a .o) (a .r) (a .w)) (vacant (a .s) (a .r)) (c-cleaned .ensures)
-    (inr (inr (inl refl))) (sym (c .before .place-taken .ensures) ∙ c .if3 .taken) (
-      sym (c .before .before .before .before .before .lacks-subject .ensures) ∙ c .before .before .before .before .if1 .left,
-      (sym (c .before .before .before .object-taken .ensures) ∙ c .before .before .if2 .left, (tt, (tt, (tt, tt)))),
+    let a = c .before .before .before .before .before .before .before .before .args in
+    let c-cleaned = c .before .before .before .before .before .before .before .cleaned in
+    refuse (a .self) (c .refuse3 .result) (view (c-cleaned .result)) (make-pipe (a .s) (a .o) (a .r) (a .w)) (vacant (a .s) (a .r)) (c .refuse3 .ensures) (c-cleaned .ensures)
+    (inr (inr (inl refl))) (sym (c .before .before .place-taken .ensures) ∙ c .before .if3 .taken) (
+      sym (c .before .before .before .before .before .before .lacks-subject .ensures) ∙ c .before .before .before .before .before .if1 .left,
+      (sym (c .before .before .before .before .object-taken .ensures) ∙ c .before .before .before .if2 .left, (tt, (tt, (tt, tt)))),
     )
 
 place-taken-requires-2 : tie.Need-place-taken-requires-2
 place-taken-requires-2 c κs = search needs
 
+refuse-requires-4 : tie.Need-refuse-requires-4
+refuse-requires-4 c κs = search needs
+
 returns-4 : tie.Need-returns-4
 returns-4 c =
-    let a = c .before .before .before .before .before .before .before .before .before .args in
-    let c-cleaned = c .before .before .before .before .before .before .before .before .cleaned in
-    let c-lacks-subject = c .before .before .before .before .before .before .before .lacks-subject in
-    refuse (a .self) (view (c-cleaned .result)) (make-pipe (a .s) (a .o) (a .r) (a .w)) (vacant (a .s) (a .w)) (c-cleaned .ensures)
-    (inr (inr (inr (inl refl)))) (sym (c .before .place-taken2 .ensures) ∙ c .if4 .taken) (
-      sym (c-lacks-subject .ensures) ∙ c .before .before .before .before .before .before .if1 .left,
+    let a = c .before .before .before .before .before .before .before .before .before .before .args in
+    let c-cleaned = c .before .before .before .before .before .before .before .before .before .cleaned in
+    let c-lacks-subject = c .before .before .before .before .before .before .before .before .lacks-subject in
+    refuse (a .self) (c .refuse4 .result) (view (c-cleaned .result)) (make-pipe (a .s) (a .o) (a .r) (a .w)) (vacant (a .s) (a .w)) (c .refuse4 .ensures) (c-cleaned .ensures)
+    (inr (inr (inr (inl refl)))) (sym (c .before .before .place-taken2 .ensures) ∙ c .before .if4 .taken) (
+      sym (c-lacks-subject .ensures) ∙ c .before .before .before .before .before .before .before .if1 .left,
       (
-        sym (c .before .before .before .before .before .object-taken .ensures) ∙ c .before .before .before .before .if2 .left,
+        sym (c .before .before .before .before .before .before .object-taken .ensures) ∙ c .before .before .before .before .before .if2 .left,
         (tt, (tt, (tt, tt))),
       ),
     )
 
+refuse-requires-5 : tie.Need-refuse-requires-5
+refuse-requires-5 c κs = search needs
+
 returns-5 : tie.Need-returns-5
 returns-5 c =
-    let a = c .before .before .before .before .before .before .before .before .before .before .args in
-    let c-cleaned = c .before .before .before .before .before .before .before .before .before .cleaned in
-    let c-lacks-subject = c .before .before .before .before .before .before .before .before .lacks-subject in
-    let c-if1 = c .before .before .before .before .before .before .before .if1 in
-    let c-object-taken = c .before .before .before .before .before .before .object-taken in
-    refuse (a .self) (view (c-cleaned .result)) (make-pipe (a .s) (a .o) (a .r) (a .w)) (apart (a .r) (a .w)) (c-cleaned .ensures)
-    (inr (inr (inr (inr (inl refl))))) (eq-eqb (a .r) (a .w) (c .if5 .taken)) (
+    let a = c .before .before .before .before .before .before .before .before .before .before .before .args in
+    let c-cleaned = c .before .before .before .before .before .before .before .before .before .before .cleaned in
+    let c-lacks-subject = c .before .before .before .before .before .before .before .before .before .lacks-subject in
+    let c-if1 = c .before .before .before .before .before .before .before .before .if1 in
+    let c-object-taken = c .before .before .before .before .before .before .before .object-taken in
+    refuse (a .self) (c .refuse5 .result) (view (c-cleaned .result)) (make-pipe (a .s) (a .o) (a .r) (a .w)) (apart (a .r) (a .w)) (c .refuse5 .ensures) (c-cleaned .ensures)
+    (inr (inr (inr (inr (inl refl))))) (eq-eqb (a .r) (a .w) (c .before .if5 .taken)) (
       sym (c-lacks-subject .ensures) ∙ c-if1 .left,
-      (sym (c-object-taken .ensures) ∙ c .before .before .before .before .before .if2 .left, (tt, (tt, (tt, tt)))),
+      (sym (c-object-taken .ensures) ∙ c .before .before .before .before .before .before .if2 .left, (tt, (tt, (tt, tt)))),
     )
 
 subject-level-requires : tie.Need-subject-level-requires
@@ -129,14 +144,14 @@ pipe-spec =
     (tie.spec
     cleaned-requires
     lacks-subject-requires
-    returns
+    refuse-requires returns
     object-taken-requires
-    returns-2
+    refuse-requires-2 returns-2
     place-taken-requires
-    returns-3
+    refuse-requires-3 returns-3
     place-taken-requires-2
-    returns-4
-    returns-5
+    refuse-requires-4 returns-4
+    refuse-requires-5 returns-5
     subject-level-requires
     cast-n
     with-object-requires

@@ -19,35 +19,44 @@ cleaned-requires c κs = search needs
 lacks-subject-requires : tie.Need-lacks-subject-requires
 lacks-subject-requires c κs = search needs
 
+refuse-requires : tie.Need-refuse-requires
+refuse-requires c κs = search needs
+
 returns : tie.Need-returns
 returns c =
-    let a = c .before .before .before .args in
-    let c-cleaned = c .before .before .cleaned in
-    refuse (a .self) (view (c-cleaned .result)) (access reading (a .s) (a .p)) (alive (a .s)) (c-cleaned .ensures) (inl refl)
-    (sym (c .before .lacks-subject .ensures) ∙ c .if1 .taken) (tt, (tt, (tt, tt)))
+    let a = c .before .before .before .before .args in
+    let c-cleaned = c .before .before .before .cleaned in
+    refuse (a .self) (c .refuse .result) (view (c-cleaned .result)) (access reading (a .s) (a .p)) (alive (a .s)) (c .refuse .ensures) (c-cleaned .ensures) (inl refl)
+    (sym (c .before .before .lacks-subject .ensures) ∙ c .before .if1 .taken) (tt, (tt, (tt, tt)))
 
 place-empty-requires : tie.Need-place-empty-requires
 place-empty-requires c κs = search needs
 
+refuse-requires-2 : tie.Need-refuse-requires-2
+refuse-requires-2 c κs = search needs
+
 returns-2 : tie.Need-returns-2
 returns-2 c =
-    let a = c .before .before .before .before .before .args in
-    let c-cleaned = c .before .before .before .before .cleaned in
-    refuse (a .self) (view (c-cleaned .result)) (access reading (a .s) (a .p)) (taken (a .s) (a .p)) (c-cleaned .ensures) (inr (inl refl))
-    (sym (c .before .place-empty .ensures) ∙ c .if2 .taken)
-    (sym (c .before .before .before .lacks-subject .ensures) ∙ c .before .before .if1 .left, (tt, (tt, tt)))
+    let a = c .before .before .before .before .before .before .args in
+    let c-cleaned = c .before .before .before .before .before .cleaned in
+    refuse (a .self) (c .refuse2 .result) (view (c-cleaned .result)) (access reading (a .s) (a .p)) (taken (a .s) (a .p)) (c .refuse2 .ensures) (c-cleaned .ensures) (inr (inl refl))
+    (sym (c .before .before .place-empty .ensures) ∙ c .before .if2 .taken)
+    (sym (c .before .before .before .before .lacks-subject .ensures) ∙ c .before .before .before .if1 .left, (tt, (tt, tt)))
 
 faces-out-requires : tie.Need-faces-out-requires
 faces-out-requires c κs = search needs
 
+refuse-requires-3 : tie.Need-refuse-requires-3
+refuse-requires-3 c κs = search needs
+
 returns-3 : tie.Need-returns-3
 returns-3 c =
-    let a = c .before .before .before .before .before .before .before .args in
-    let c-cleaned = c .before .before .before .before .before .before .cleaned in
-    refuse (a .self) (view (c-cleaned .result)) (access reading (a .s) (a .p)) (facing reading (a .s) (a .p)) (c-cleaned .ensures)
-    (inr (inr (inl refl))) (sym (c .before .faces-out .ensures) ∙ c .if3 .taken) (
-      sym (c .before .before .before .before .before .lacks-subject .ensures) ∙ c .before .before .before .before .if1 .left,
-      (sym (c .before .before .before .place-empty .ensures) ∙ c .before .before .if2 .left, (tt, tt)),
+    let a = c .before .before .before .before .before .before .before .before .args in
+    let c-cleaned = c .before .before .before .before .before .before .before .cleaned in
+    refuse (a .self) (c .refuse3 .result) (view (c-cleaned .result)) (access reading (a .s) (a .p)) (facing reading (a .s) (a .p)) (c .refuse3 .ensures) (c-cleaned .ensures)
+    (inr (inr (inl refl))) (sym (c .before .before .faces-out .ensures) ∙ c .before .if3 .taken) (
+      sym (c .before .before .before .before .before .before .lacks-subject .ensures) ∙ c .before .before .before .before .before .if1 .left,
+      (sym (c .before .before .before .before .place-empty .ensures) ∙ c .before .before .before .if2 .left, (tt, tt)),
     )
 
 handle-at-requires : tie.Need-handle-at-requires
@@ -114,11 +123,11 @@ read-spec =
     (tie.spec
     cleaned-requires
     lacks-subject-requires
-    returns
+    refuse-requires returns
     place-empty-requires
-    returns-2
+    refuse-requires-2 returns-2
     faces-out-requires
-    returns-3
+    refuse-requires-3 returns-3
     handle-at-requires
     cast-o
     object-level-requires

@@ -16,35 +16,44 @@ cleaned-requires c κs = search needs
 lacks-object-requires : tie.Need-lacks-object-requires
 lacks-object-requires c κs = search needs
 
+refuse-requires : tie.Need-refuse-requires
+refuse-requires c κs = search needs
+
 returns : tie.Need-returns
 returns c =
-    let a = c .before .before .before .args in
-    let c-cleaned = c .before .before .cleaned in
-    refuse (a .self) (view (c-cleaned .result)) (retire (a .o)) (present (a .o)) (c-cleaned .ensures) (inl refl)
-    (sym (c .before .lacks-object .ensures) ∙ c .if1 .taken) (tt, (tt, (tt, tt)))
+    let a = c .before .before .before .before .args in
+    let c-cleaned = c .before .before .before .cleaned in
+    refuse (a .self) (c .refuse .result) (view (c-cleaned .result)) (retire (a .o)) (present (a .o)) (c .refuse .ensures) (c-cleaned .ensures) (inl refl)
+    (sym (c .before .before .lacks-object .ensures) ∙ c .before .if1 .taken) (tt, (tt, (tt, tt)))
 
 names-pipe-requires : tie.Need-names-pipe-requires
 names-pipe-requires c κs = search needs
 
+refuse-requires-2 : tie.Need-refuse-requires-2
+refuse-requires-2 c κs = search needs
+
 returns-2 : tie.Need-returns-2
 returns-2 c =
-    let a = c .before .before .before .before .before .args in
-    let c-cleaned = c .before .before .before .before .cleaned in
-    refuse (a .self) (view (c-cleaned .result)) (retire (a .o)) (no-pipe (a .o)) (c-cleaned .ensures) (inr (inl refl))
-    (sym (c .before .names-pipe .ensures) ∙ c .if2 .taken)
-    (sym (c .before .before .before .lacks-object .ensures) ∙ c .before .before .if1 .left, (tt, (tt, tt)))
+    let a = c .before .before .before .before .before .before .args in
+    let c-cleaned = c .before .before .before .before .before .cleaned in
+    refuse (a .self) (c .refuse2 .result) (view (c-cleaned .result)) (retire (a .o)) (no-pipe (a .o)) (c .refuse2 .ensures) (c-cleaned .ensures) (inr (inl refl))
+    (sym (c .before .before .names-pipe .ensures) ∙ c .before .if2 .taken)
+    (sym (c .before .before .before .before .lacks-object .ensures) ∙ c .before .before .before .if1 .left, (tt, (tt, tt)))
 
 is-open-requires : tie.Need-is-open-requires
 is-open-requires c κs = search needs
 
+refuse-requires-3 : tie.Need-refuse-requires-3
+refuse-requires-3 c κs = search needs
+
 returns-3 : tie.Need-returns-3
 returns-3 c =
-    let a = c .before .before .before .before .before .before .before .args in
-    let c-cleaned = c .before .before .before .before .before .before .cleaned in
-    refuse (a .self) (view (c-cleaned .result)) (retire (a .o)) (idle (a .o)) (c-cleaned .ensures) (inr (inr (inl refl)))
-    (sym (c .before .is-open .ensures) ∙ c .if3 .taken) (
-      sym (c .before .before .before .before .before .lacks-object .ensures) ∙ c .before .before .before .before .if1 .left,
-      (sym (c .before .before .before .names-pipe .ensures) ∙ c .before .before .if2 .left, (tt, tt)),
+    let a = c .before .before .before .before .before .before .before .before .args in
+    let c-cleaned = c .before .before .before .before .before .before .before .cleaned in
+    refuse (a .self) (c .refuse3 .result) (view (c-cleaned .result)) (retire (a .o)) (idle (a .o)) (c .refuse3 .ensures) (c-cleaned .ensures) (inr (inr (inl refl)))
+    (sym (c .before .before .is-open .ensures) ∙ c .before .if3 .taken) (
+      sym (c .before .before .before .before .before .before .lacks-object .ensures) ∙ c .before .before .before .before .before .if1 .left,
+      (sym (c .before .before .before .before .names-pipe .ensures) ∙ c .before .before .before .if2 .left, (tt, tt)),
     )
 
 object-level-requires : tie.Need-object-level-requires
@@ -72,11 +81,11 @@ retire-spec =
     (tie.spec
     cleaned-requires
     lacks-object-requires
-    returns
+    refuse-requires returns
     names-pipe-requires
-    returns-2
+    refuse-requires-2 returns-2
     is-open-requires
-    returns-3
+    refuse-requires-3 returns-3
     object-level-requires
     with-object-requires
     returns-4)
