@@ -13,11 +13,10 @@ ghost use Rattle.model.specs.Invariant.{Wf};
 ghost use Rattle.model.specs.Steps.{put, row, place, reap};
 ghost use Rattle.model.specs.Calls.{decode, broken, alive, new, present, no-pipe, vacant, taken, facing, suits, idle, admit, register, create, make-pipe, opens, access, fork, exec, close, exit, retire};
 ghost use Rattle.model.specs.Promise.{Meets};
-ghost use Rattle.model.specs.Tally.{tallied};
 ghost use Rattle.model.specs.Tally.{held as held-count};
 ghost use Rattle.gatekeeper.specs.Kinds.{free, piped, filed, vacated, reader, writer};
 ghost use Rattle.gatekeeper.specs.Counting.{Counting};
-ghost use Rattle.gatekeeper.specs.View.{view, told, letter-of, level-of, value-of, direct, counts-of, direction, subject-entry, object-entry, held, no-subject, no-object, no-handle};
+ghost use Rattle.gatekeeper.specs.View.{view, told, letter-of, level-of, value-of, direct, direction, subject-entry, object-entry, held, no-subject, no-object, no-handle};
 ghost use Rattle.gatekeeper.specs.Working.{back, kept-of, on, slot-of, Mapping, outlived-by, source-by, target-by, demanded-by, Marked, Needed, some-below, short-subject, short-object, refusing, made-by, gone-by};
 
 // An object's place in the table: free, or taken by a file or a pipe.

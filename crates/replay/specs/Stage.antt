@@ -27,7 +27,7 @@ use Rattle.text.specs.Reply.{line, ending, longest-line, longest-end}
 use Rattle.text.specs.Decimal.{decimal, digits}
 use Rattle.text.specs.Parts.{Over}
 use Rattle.text.specs.Parts.Laws.{untouched, put-over, over-count, over-put, rest-length, put-after, none-after}
-use Rattle.replay.specs.Replay.{records, records-of, replied, last-line, text, reply, Begun, reply-room}
+use Rattle.replay.specs.Replay.{records, records-of, last-line, reply, Begun, reply-room}
 use Rattle.replay.specs.Replay.Laws.{records-more, records-end, records-stop, left, left-more, kept-more}
 use Rattle.replay.specs.One.{One}
 
@@ -76,6 +76,12 @@ pub none-ends : (text first out : List ℕ) → none ≡ fitted text first → B
     → Ends text first out none
 none-ends text first out short begun full = (short, (λ k z. absurd (Option·none-ne-some k z), (begun, λ room. absurd (full room))))
 
+-- there is room for what is no longer than `most`, where that much is left
+room-left : (first done out e : List ℕ) (used most : ℕ) → Over first done used out → length e ≤ most → used + most ≤ length first
+    → none ≡ fitted e (take (length out - used) (drop used out)) → ⊥
+room-left first done out e used most v short h answer =
+    omega (arith, rest-length v, fits-not e (take (length out - used) (drop used out)) (sym answer), v .size)
+
 module _ (j first out : List ℕ) (p used : ℕ) where
   module _ (m n : Monitor) (y z : Tally) (s : Said) (l : List Said) (code : ℕ) (a : Answer) (o : One m y s code a n z)
       (g : Stage j first out (view m) y p used (s ∷ l)) where
@@ -100,12 +106,15 @@ module _ (j first out : List ℕ) (p used : ℕ) where
     pub no-more : none ≡ fitted e (take (length out - used) (drop used out)) → none ≡ fitted (whole j) first
     no-more answer = sym (fitted-none (whole j) first (omega (arith, length-append (g .done) (e ++ left (suc p) (view n) z l), length-append e (left (suc p) (view n) z l), ap length rejoined, over-count (g .over), rest-length (g .over), fits-not e (take (length out - used) (drop used out)) (sym answer), g .over .within)))
 
-  -- whatever comes next has no room, and leaves the buffer as it is
-  pub left-begun : (t : Tables) (y : Tally) (rest : List Said) (g : Stage j first out t y p used rest) (e ys : List ℕ)
-      → none ≡ fitted e (take (length out - used) (drop used out)) → ys ≡ put e (take (length out - used) (drop used out))
-      → Begun (whole j) first (putMid used (length out - used) out ys)
-  left-begun t y rest g e ys answer wrote = subst (λ (b : List ℕ). Begun (whole j) first b) (sym (none-after (g .over) e ys answer wrote))
-      (over-begun (whole j) first (g .done) (left p t y rest) out used (g .over) (g .sum))
+  -- what comes next, of at most `most` bytes, has no room: the buffer stays as it is, and was shorter than any reply needs
+  pub short-ends : (t : Tables) (y : Tally) (rest : List Said) (g : Stage j first out t y p used rest) (e : List ℕ) (most : ℕ) → length e ≤ most
+      → (reply-room ≤ length first → used + most ≤ length first) → none ≡ fitted (whole j) first
+      → (ys : List ℕ) → none ≡ fitted e (take (length out - used) (drop used out)) → ys ≡ put e (take (length out - used) (drop used out))
+      → Ends (whole j) first (putMid used (length out - used) out ys) none
+  short-ends t y rest g e most thin room short ys answer wrote = none-ends (whole j) first (putMid used (length out - used) out ys) short
+      (subst (λ (b : List ℕ). Begun (whole j) first b) (sym (none-after (g .over) e ys answer wrote))
+      (over-begun (whole j) first (g .done) (left p t y rest) out used (g .over) (g .sum)))
+      (λ r. room-left first (g .done) out e used most (g .over) thin (room r) answer)
 
   module _ (t : Tables) (y : Tally) (g : Stage j first out t y p used []) where
     -- the last line is written, and the whole with it
@@ -118,17 +127,6 @@ module _ (j first out : List ℕ) (p used : ℕ) where
 
     not-ended : none ≡ fitted (last-line y) (take (length out - used) (drop used out)) → none ≡ fitted (whole j) first
     not-ended answer = sym (fitted-none (whole j) first (omega (arith, length-append (g .done) (last-line y), ap length (g .sum), over-count (g .over), rest-length (g .over), fits-not (last-line y) (take (length out - used) (drop used out)) (sym answer), g .over .within)))
-
--- there is room for what is no longer than `most`, where that much is left
-pub room-left : (first done out e : List ℕ) (used most : ℕ) → Over first done used out → length e ≤ most → used + most ≤ length first
-    → none ≡ fitted e (take (length out - used) (drop used out)) → ⊥
-room-left first done out e used most v short h answer = omega (
-  arith,
-  rest-length v,
-  fits-not e (take (length out - used) (drop used out))
-      (sym answer),
-  v .size,
-)
 
 -- ── the loop ──
 -- the next record is looked for at `at`, or the run has stopped
@@ -191,19 +189,12 @@ module _ (j first out : List ℕ) (at p used : ℕ) (m : Monitor) (y : Tally) (g
           → none ≡ fitted (whole j) first
       record-short answer = let (i, far, g′) = here in no-more j first out p used m n y z s (records i j next) code a o g′ answer
 
-      record-room : reply-room ≤ length first → length j ≤ 65536 → none ≡ fitted (line p code (letter-of a) (value-of a))
-          (take (length out - used) (drop used out)) → ⊥
-      record-room room small answer = room-left first (g .stage .done) out (line p code (letter-of a)
-          (value-of a)) used longest-line (g .stage .over) thin
-          (omega (arith, g .short, room, small, entry-next j at start len next e)) answer
-
-      pub record-ends : length j ≤ 65536 → (ys : List ℕ) → none ≡ fitted (line p code (letter-of a) (value-of a))
-          (take (length out - used) (drop used out))
+      pub record-ends : length j ≤ 65536 → (ys : List ℕ)
+          → none ≡ fitted (line p code (letter-of a) (value-of a)) (take (length out - used) (drop used out))
           → ys ≡ put (line p code (letter-of a) (value-of a)) (take (length out - used) (drop used out))
           → Ends (whole j) first (putMid used (length out - used) out ys) none
-      record-ends small ys answer wrote = none-ends (whole j) first (putMid used (length out - used) out ys) (record-short answer)
-          (left-begun j first out p used (view m) y (records (g .most) j at) (g .stage) (line p code (letter-of a) (value-of a)) ys answer wrote)
-          (λ room. record-room room small answer)
+      record-ends small ys answer = short-ends j first out p used (view m) y (records (g .most) j at) (g .stage) (line p code (letter-of a) (value-of a))
+          longest-line thin (λ room. omega (arith, g .short, room, small, entry-next j at start len next e)) (record-short answer) ys answer
 
   -- no record can be found at `at`
   module _ (n : ℕ) (e : entry-at j at ≡ bad n) (h : at < length j) (thin : length (line p 0 82 n) ≤ longest-line) where
@@ -225,14 +216,10 @@ module _ (j first out : List ℕ) (at p used : ℕ) (m : Monitor) (y : Tally) (g
     broken-short : none ≡ fitted (line p 0 82 n) (take (length out - used) (drop used out)) → none ≡ fitted (whole j) first
     broken-short answer = no-more j first out p used m m y y (said 0 (bad n)) [] 0 (refused n) (refl, refl, refl, refl) there answer
 
-    broken-room : reply-room ≤ length first → length j ≤ 65536 → none ≡ fitted (line p 0 82 n) (take (length out - used) (drop used out)) → ⊥
-    broken-room room small answer = room-left first (g .stage .done) out (line p 0 82 n) used longest-line (g .stage .over) thin (omega (arith, g .short, room, small)) answer
-
     pub broken-ends : length j ≤ 65536 → (ys : List ℕ) → none ≡ fitted (line p 0 82 n) (take (length out - used) (drop used out))
         → ys ≡ put (line p 0 82 n) (take (length out - used) (drop used out)) → Ends (whole j) first (putMid used (length out - used) out ys) none
-    broken-ends small ys answer wrote = none-ends (whole j) first (putMid used (length out - used) out ys) (broken-short answer)
-        (left-begun j first out p used (view m) y (records (g .most) j at) (g .stage) (line p 0 82 n) ys answer wrote)
-        (λ room. broken-room room small answer)
+    broken-ends small ys answer = short-ends j first out p used (view m) y (records (g .most) j at) (g .stage) (line p 0 82 n) longest-line thin
+        (λ room. omega (arith, g .short, room, small)) (broken-short answer) ys answer
 
   -- the journal ends at `at`
   pub end-turn : entry-at j at ≡ reads end → Going j first out (view m) y at p used false
@@ -250,10 +237,8 @@ pub end-short : (j first out : List ℕ) (t : Tables) (y : Tally) (at p used : �
     → (ys : List ℕ) → none ≡ fitted (last-line y) (take (length out - used) (drop used out)) → ys ≡ put (last-line y)
     (take (length out - used) (drop used out))
     → Ends (whole j) first (putMid used (length out - used) out ys) none
-end-short j first out t y at p used g thin small ys answer wrote = none-ends (whole j) first (putMid used (length out - used) out ys)
-    (not-ended j first out p used t y (g .stage) answer)
-    (left-begun j first out p used t y [] (g .stage) (last-line y) ys answer wrote)
-    (λ room. room-left first (g .stage .done) out (last-line y) used longest-end (g .stage .over) thin (omega (arith, room, g .short, small)) answer)
+end-short j first out t y at p used g thin small ys answer = short-ends j first out p used t y [] (g .stage) (last-line y) longest-end thin
+    (λ room. omega (arith, g .short, room, small)) (not-ended j first out p used t y (g .stage) answer) ys answer
 
 -- ── two lines, one after the other ──
 module _ (d e first : List ℕ) (thin : length (d ++ e) ≤ reply-room) where

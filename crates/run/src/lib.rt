@@ -2,7 +2,7 @@
 // What stands in the two buffers is in specs/Buffers.antt.
 ghost use mathlib.Core.Path.{_≡_};
 ghost use mathlib.Core.List.{_++_};
-ghost use Prim.Native.Nat.{ℕ, _*_, _/_};
+ghost use Prim.Native.Nat.{_*_, _/_};
 ghost use lib.ListN.{length, take, drop};
 ghost use Rattle.model.specs.Tables.{empty};
 ghost use Rattle.model.specs.Calls.{answers};

@@ -5,7 +5,7 @@ ghost use mathlib.Core.Option.{some};
 ghost use Prim.Native.Nat.{ℕ, _≤_};
 ghost use lib.ListN.{length};
 ghost use Rattle.replay.specs.Replay.{reply-room};
-ghost use Rattle.serve.specs.Rooms.{filled, Sized, Serving, Roomy};
+ghost use Rattle.serve.specs.Serving.{filled, Sized, Serving, Roomy};
 use number::Written;
 
 // How many bytes stand at the start of a buffer, or that a read failed.

@@ -1,5 +1,5 @@
 -- `serve::fill` meets its contract. Assumes nothing.
-use Rattle.serve.specs.Rooms.Laws.{is-within, none-within}
+use Rattle.serve.specs.Serving.Laws.{is-within, none-within}
 use Prim.Native.Nat.{_≤_, _-_}
 use mathlib.Core.Path.{_≡_}
 use lib.ListN.{length}

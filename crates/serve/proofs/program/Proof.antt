@@ -1,5 +1,5 @@
 -- `serve::program` meets its contract. Assumes nothing.
-use Rattle.serve.specs.Rooms.Laws.{roomy}
+use Rattle.serve.specs.Serving.Laws.{roomy}
 use borrow.Author.Needs.{needs}
 use Rattle.serve.proofs.program.Statement.{statement}
 use Rattle.serve.proofs.program.Tie as tie

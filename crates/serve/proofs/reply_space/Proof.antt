@@ -1,6 +1,6 @@
 -- `serve::reply_space` meets its contract. Assumes nothing.
 use Rattle.replay.specs.Replay.{reply-room}
-use Rattle.serve.specs.Rooms.Laws.{zeros-sized}
+use Rattle.serve.specs.Serving.Laws.{zeros-sized}
 use Rattle.serve.proofs.reply_space.Statement.{statement}
 use Rattle.serve.proofs.reply_space.Tie as tie
 

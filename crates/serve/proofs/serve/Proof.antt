@@ -2,8 +2,8 @@
 use mathlib.Core.Path.{_∙_, ap, sym}
 use Rattle.number.specs.Put.Laws.{put-within, prefix-size}
 use Rattle.number.specs.Answers.{writing}
-use Rattle.serve.specs.Rooms.{filled}
-use Rattle.serve.specs.Rooms.Laws.{whole-as, cut-as}
+use Rattle.serve.specs.Serving.{filled}
+use Rattle.serve.specs.Serving.Laws.{whole-as, cut-as}
 use borrow.Author.Needs.{needs}
 use Rattle.serve.proofs.serve.Statement.{statement}
 use Rattle.serve.proofs.serve.Tie as tie

@@ -1,5 +1,5 @@
 -- What came of a run of the program (document 01, "Part of the product": a program over standard input). Which bytes a read brings is the host's; what
--- stands in the buffers then is settled. The laws are in Rooms/Laws. Assumes nothing.
+-- stands in the buffers then is settled. The laws are in Serving/Laws. Assumes nothing.
 use Prim.Native.Nat.{ℕ, _≤_, _<_}
 use mathlib.Core.Path.{_≡_}
 use mathlib.Core.List.{List}

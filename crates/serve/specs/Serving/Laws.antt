@@ -13,7 +13,7 @@ use Rattle.number.specs.Put.Laws.{fits, fits-not}
 use Rattle.replay.specs.Replay.{reply, Begun, reply-room}
 use Rattle.serve.specs.declared.Served.{Served}
 use Rattle.serve.specs.declared.Served.the-variants.{Replied, Unread, Unwritten, NoRoom}
-use Rattle.serve.specs.Rooms.{Sized, Whole, Cut, Serving, Roomy}
+use Rattle.serve.specs.Serving.{Sized, Whole, Cut, Serving, Roomy}
 
 pub zeros-sized : (n : ℕ) → Sized n (replicate n 0)
 zeros-sized n = record { size = sym (length-replicate n 0) }
