@@ -10,7 +10,7 @@ use gatekeeper_independent::random::Random;
 use gatekeeper_independent::replies::replies;
 
 use crate::layouts::{Layout, LAYOUTS};
-use crate::leb;
+use crate::leb::{self, Form};
 
 const SEED: u64 = 1;
 
@@ -32,14 +32,12 @@ pub enum Work {
     Calls(Layout),
     /// A generated journal, replayed likewise.
     Generated,
-    /// Numbers alone, beside a reader that is called as the archive's is.
-    NumbersCalled,
-    /// Numbers alone, beside a reader that the compiler may inline.
-    NumbersInlined,
+    /// Numbers alone, of at most so many bytes, beside a plain reader in one of its forms.
+    Numbers(u32, Form),
 }
 
 /// Every piece of work, in the order of the table.
-pub const WORKS: [Work; 9] = [
+pub const WORKS: [Work; 13] = [
     Work::Journal(LAYOUTS[0]),
     Work::Journal(LAYOUTS[1]),
     Work::Journal(LAYOUTS[2]),
@@ -47,8 +45,12 @@ pub const WORKS: [Work; 9] = [
     Work::Calls(LAYOUTS[1]),
     Work::Calls(LAYOUTS[2]),
     Work::Generated,
-    Work::NumbersCalled,
-    Work::NumbersInlined,
+    Work::Numbers(leb::LONGEST, Form::Called),
+    Work::Numbers(leb::LONGEST, Form::Packed),
+    Work::Numbers(leb::LONGEST, Form::Inlined),
+    Work::Numbers(leb::SHORT, Form::Called),
+    Work::Numbers(leb::SHORT, Form::Packed),
+    Work::Numbers(leb::SHORT, Form::Inlined),
 ];
 
 impl Work {
@@ -57,8 +59,7 @@ impl Work {
             Work::Journal(layout) => format!("journal, {}", layout.name),
             Work::Calls(layout) => format!("calls, {}", layout.name),
             Work::Generated => "journal, generated, mixed".to_string(),
-            Work::NumbersCalled => "numbers, plain reader called".to_string(),
-            Work::NumbersInlined => "numbers, plain reader inlined".to_string(),
+            Work::Numbers(most, form) => leb::name(most, form),
         }
     }
 
@@ -68,8 +69,9 @@ impl Work {
             Work::Journal(layout) => replayed(rounds_as_journal(layout)),
             Work::Calls(layout) => called(layout),
             Work::Generated => replayed(generated()),
-            Work::NumbersCalled => numbers_read(leb::read_called),
-            Work::NumbersInlined => numbers_read(leb::read),
+            Work::Numbers(most, Form::Called) => numbers_read(most, leb::read_called),
+            Work::Numbers(most, Form::Packed) => numbers_read(most, leb::read_unpacked),
+            Work::Numbers(most, Form::Inlined) => numbers_read(most, leb::read),
         }
     }
 }
@@ -152,12 +154,12 @@ fn generated() -> Vec<u8> {
     generate::journal(SEED, 0, wish)
 }
 
-/// Numbers of 1 to 5 bytes, as many of each, one after the other in a buffer.
-fn numbers_read(plain: impl Fn(&[u8]) -> Option<(u32, usize)> + 'static) -> Input {
+/// Numbers of 1 byte to `most`, as many of each length, one after the other in a buffer.
+fn numbers_read(most: u32, plain: impl Fn(&[u8]) -> Option<(u32, usize)> + 'static) -> Input {
     let mut random = Random::new(SEED, 0);
     let mut bytes = Vec::new();
     for _ in 0..NUMBERS {
-        let (low, high) = match random.between(1, 5) {
+        let (low, high) = match random.between(1, most) {
             1 => (0, 0x7f),
             2 => (0x80, 0x3fff),
             3 => (0x4000, 0x1f_ffff),
