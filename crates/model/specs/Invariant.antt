@@ -1,13 +1,16 @@
 -- What every state from empty tables has. Document 01, "Flow and need": "In every state from empty tables each live thing's level
--- is at least its need"; "Tables": a handle joins a place of a live subject to a live object; "Calls": "A pipe ends .. when its last
--- handle goes", so a live pipe has one. Proved of every list of calls in `Calls.Kept`. Assumes nothing.
+-- is at least its need"; "Tables": a handle joins a place of a live subject to a live object, "Levels are 0 (lowest) to 15"; "Calls": "A
+-- pipe ends .. when its last handle goes", so a live pipe has one. And what every answer has. Proved of every list of calls in
+-- `Calls.Kept`. Assumes nothing.
 use mathlib.Core.Path.{_≡_}
 use mathlib.Core.Option.{some}
-use Prim.Native.Nat.{ℕ, _<_}
+use Prim.Native.Nat.{ℕ, _<_, _≤_}
 use lib.Dec.{T}
-use Rattle.model.specs.Label.{_⊑_}
+use Rattle.model.specs.Label.{highest, in-scale, _⊑_}
+use Rattle.model.specs.Lists.{In}
 use Rattle.model.specs.Flow.{Thing, subject, object}
 use Rattle.model.specs.Tables.{Entry, Handle, Tables, places, in-range, live, is-pipe, handles, open-on, needs}
+use Rattle.model.specs.Calls.{Answer, allowed, lowered, refused, order}
 pub mod Laws
 
 -- the handle k at place p of s joins a place in range of a live subject to a live object
@@ -29,7 +32,18 @@ pub record Safe (t : Tables) : Type 0 where
 pub record Piped (t : Tables) : Type 0 where
   pub joined : (o : ℕ) → T (is-pipe (object o) (t .at (object o))) → T (open-on (handles t) o)
 
+-- each live thing's label is one that a call may name: its level is 0 to 15
+pub record Scaled (t : Tables) : Type 0 where
+  pub within : (x : Thing) (e : Entry) → t .at x ≡ some e → T (in-scale (e .label))
+
 pub record Kept (t : Tables) : Type 0 where
   pub wf : Wf t
   pub safe : Safe t
   pub piped : Piped t
+  pub scaled : Scaled t
+
+-- an answer gives a level of 0 to 15, or the number of a refusal that calls have
+abbrev pub Sayable : Answer → Type 0
+Sayable (allowed l) = l ≤ highest
+Sayable (lowered l) = l ≤ highest
+Sayable (refused n) = In n order

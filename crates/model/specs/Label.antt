@@ -1,7 +1,7 @@
 -- Labels. Document 01, "Tables": "Levels are 0 (lowest) to 15."
 --
--- The carrier, the order as a test, meet, join, the least label, and the label that a call's number names. In this version
--- a label is a level. Every other file knows labels by these names and by the laws of `Label.Laws` alone. Assumes nothing.
+-- The carrier, the labels that calls may name, the order as a test, meet, join, the least label, and the label that a call's number
+-- names. In this version a label is a level. Every other file knows labels by these names and by the laws of `Label.Laws` alone. Assumes nothing.
 use Prim.Native.Nat.{ℕ, min, max}
 use mathlib.Core.Bool.{Bool}
 use lib.Dec.{T, leb}
@@ -22,6 +22,11 @@ label n = n
 unfoldable pub level : Label → ℕ
 unfolding Label
 level a = a
+
+-- 01, Tables: "Levels are 0 (lowest) to 15": a label that a call may name
+unfoldable pub in-scale : Label → Bool
+unfolding Label
+in-scale a = leb a highest
 
 -- b is at least a
 unfoldable pub leq : Label → Label → Bool

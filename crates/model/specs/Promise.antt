@@ -2,13 +2,21 @@
 -- the same rules; in it a handle .. counts as an empty place, and every allowed call empties it"; "Refused calls": "The monitor .. [is]
 -- unchanged."
 --
--- A monitor is a value of any type with a view of it as tables. Assumes nothing.
+-- A monitor is a value of any type with a view of it as tables. What of it the view does not read is its *free part*: of the struct of arrays,
+-- the level beside a number that is not in use and the object beside an empty place, for the tables have none there. What an allowed call
+-- leaves in the free part is not promised, nor what the empty monitor has there. No answer and no later tables go by it (`free-unseen` in
+-- Promise/Laws), and a refused call leaves it as it was. Assumes nothing.
 use mathlib.Core.Path.{_≡_}
 use mathlib.Core.Option.{none, some}
 use mathlib.Core.List.{List, [], _∷_}
 use Prim.Native.Nat.{ℕ}
 use Rattle.model.specs.Tables.{Tables, clean}
 use Rattle.model.specs.Calls.{Call, Raw, decode, refusal, effect, Answer, answer}
+pub mod Laws
+
+-- monitors m and n differ in the free part alone
+abbrev pub Same-but-free : {M : Type 0} → (M → Tables) → M → M → Type 0
+Same-but-free view m n = view m ≡ view n
 
 -- call c on monitor m is answered a, and monitor n is handed back
 pub record Meets {M : Type 0} (view : M → Tables) (m : M) (c : Call) (a : Answer) (n : M) : Type 0 where
@@ -16,7 +24,7 @@ pub record Meets {M : Type 0} (view : M → Tables) (m : M) (c : Call) (a : Answ
   pub answered : a ≡ answer (clean (view m)) c
   -- a refused call hands the same monitor back
   pub unchanged : (k : ℕ) → refusal (clean (view m)) c ≡ some k → n ≡ m
-  -- any other hands back the rules' next tables, in which nothing dangles
+  -- any other hands back the rules' next tables, in which nothing dangles (`effect-wf` in Calls/Kept); the free part is any
   pub moved : refusal (clean (view m)) c ≡ none → view n ≡ effect (clean (view m)) c
 
 -- the calls of a list, made one after the other

@@ -129,6 +129,9 @@ pub refused-by : (t : Tables) (c : Call) (n : ℕ) → refusal t c ≡ some n �
 unfolding refusal
 refused-by t c n q = let r = first-hit t (tests c) order n q in (breaks-at t n (tests c) (r .0), r .1)
 
+pub refused-listed : (t : Tables) (c : Call) (n : ℕ) → refusal t c ≡ some n → In n order
+refused-listed t c n q = let (d, i, e, b) = refused-by t c n q .0 in subst (λ (k : ℕ). In k order) e (listed d)
+
 -- ── next ──
 pub next-allowed : (t : Tables) (c : Call) → refusal t c ≡ none → next t c ≡ effect t c
 next-allowed t c q = ap (λ (o : Option ℕ). elim o as (λ _. Tables) [ none ↦ effect t c | some n ↦ t ]) q

@@ -1,19 +1,20 @@
 -- Demand 3 holds of any monitor whose single calls keep their promise towards the rules. First of what the rules say; then of a monitor,
 -- which is any type with a view of it as tables, and calls that are answered and that move it as `Meets` says. Assumes nothing.
-use mathlib.Core.Path.{_≡_, refl, sym, _∙_, ap, ap₂, subst, subst₂, fun-ext}
-use mathlib.Core.Bool.{not, _&&_}
+use mathlib.Core.Path.{_≡_, refl, sym, _∙_, ap, ap₂, subst, subst₂}
+use mathlib.Core.Bool.{not}
 use mathlib.Core.Logic.{inl, inr}
 use mathlib.Core.Option.{Option, none, some, Option·none-ne-some, Option·some-injective}
 use mathlib.Core.List.{List, [], _∷_, _++_}
 use Prim.Native.Nat.{ℕ}
 use lib.ListN.{length, getElem?}
 use lib.Dec.{T, ltb, lt→ltb}
-use Rattle.model.specs.Bools.{nor, both, yes-not-not, cond-yes}
+use Rattle.model.specs.Bools.{nor, yes-not-not}
 use Rattle.model.specs.Lists.{In}
-use Rattle.model.specs.Flow.{subject, object}
-use Rattle.model.specs.Tables.{Dir, reading, writing, Handle, Tables, empty, with-hand, places, is-some, live, counted, clean}
+use Rattle.model.specs.Flow.{subject}
+use Rattle.model.specs.Tables.{Dir, reading, writing, Handle, Tables, empty, places, is-some, live, clean}
 use Rattle.model.specs.Tables.Laws.{some-is}
 use Rattle.model.specs.Invariant.{Ends, Wf, Kept}
+use Rattle.model.specs.Invariant.Laws.{clean-same}
 use Rattle.model.specs.Calls.{Call, access, Raw, decode, Test, faces, turned, broken, tests, refusal, effect, next, Answer, refused, answer, answers, after}
 use Rattle.model.specs.Calls.Refusals.{allowed-iff, answered-refused}
 use Rattle.model.specs.Calls.Kept.{next-kept, empty-kept, always-kept}
@@ -73,16 +74,6 @@ answers-more t [] r = refl
 answers-more t (k ∷ rs) r = ap (λ (l : List Answer). answer t (decode k) ∷ l) (answers-more (next t (decode k)) rs r)
 
 -- ── a monitor ──
--- in tables where nothing dangles, cleaning changes nothing
-pub clean-same : (t : Tables) → Wf t → clean t ≡ t
-unfolding clean
-clean-same t w = ap (with-hand t) (fun-ext (λ s. fun-ext (λ p. point s p (t .hand s p) refl)))
-  where
-    point : (s p : ℕ) (o : Option Handle) → t .hand s p ≡ o → counted (ltb p places && live t (subject s)) (λ n. live t (object n)) o ≡ o
-    point s p none q = refl
-    point s p (some k) q = let f = w .ends s p k q in cond-yes ((ltb p places && live t (subject s)) && live t (object (k .to))) (some k) none
-        (both (ltb p places && live t (subject s)) (live t (object (k .to))) (both (ltb p places) (live t (subject s)) (lt→ltb p places (f .place)) (f .from)) (f .to))
-
 module _ {M : Type 0} (view : M → Tables) where
   -- one more call, of a monitor whose tables are those that the list led to
   pub meets-next : (m : M) (c : Call) (a : Answer) (n : M) (t : Tables) → view m ≡ t → Kept t → Meets view m c a n → (a ≡ answer t c) × (view n ≡ next t c)

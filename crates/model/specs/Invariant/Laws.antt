@@ -1,24 +1,24 @@
 -- How the invariant is kept, step by step. "Each live thing's level is at least its need" is carried by a *potential*: a label for
 -- each thing that is at least what the thing demands, at most a live thing's label, and falls along every flow. The need is the least
--- one, so tables with a potential are safe. Each step has one law for `Wf` and one for potentials. Assumes nothing.
-use mathlib.Core.Path.{_≡_, refl, sym, _∙_, ap, subst, subst₂}
+-- one, so tables with a potential are safe. Each step has one law for `Wf`, one for potentials and one for `Scaled`. Assumes nothing.
+use mathlib.Core.Path.{_≡_, refl, sym, _∙_, ap, subst, subst₂, fun-ext}
 use mathlib.Core.Bool.{Bool, true, false, not, _&&_, cond}
 use mathlib.Core.Logic.{_⊎_, inl, inr}
 use mathlib.Core.Option.{Option, none, some, Option·none-ne-some, Option·some-injective}
 use mathlib.Core.List.{List}
 use Prim.Native.Nat.{ℕ, _<_}
-use lib.Dec.{T, not-T, ltb, ltb→lt}
-use Rattle.model.specs.Bools.{both-of, cond-yes, cond-no, cond-cases}
+use lib.Dec.{T, not-T, ltb, ltb→lt, lt→ltb}
+use Rattle.model.specs.Bools.{both, both-of, cond-yes, cond-no, cond-cases}
 use Rattle.model.specs.Lists.{In}
-use Rattle.model.specs.Label.{Label, _⊑_, bot}
-use Rattle.model.specs.Label.Laws.{⊑-trans, bot-least}
+use Rattle.model.specs.Label.{Label, in-scale, _⊑_, bot}
+use Rattle.model.specs.Label.Laws.{⊑-trans, bot-least, below-in-scale}
 use Rattle.model.specs.Flow.{Thing, subject, object, same, Edge}
 use Rattle.model.specs.Flow.Laws.{same→eq, same-refl, need-self, need-flow, need-below}
 use Rattle.model.specs.Tables.{Dir, reading, writing, Entry, Handle, Tables, empty, with-at, with-hand, subjects, places, in-range, is-some, live, cell, handles, arc, flow, speaks, edges, demand, needs, counted, clean}
 use Rattle.model.specs.Tables.Laws.{some-of, some-is, live-of, speaks-at, speaks-hand, speaks-cell, cell-entry, object-entry, open-here, flow-edge, edge-flow}
 use Rattle.model.specs.Steps.{Origin, Access, enter, hold, holds, mix, put, row, place, fall, apply, ended, reap}
-use Rattle.model.specs.Steps.Laws.{put-cases, row-cases, place-cases, live-hand, live-at, ended-open, ended-subject, fall-some, some-fall, fall-demand, fell}
-use Rattle.model.specs.Invariant.{Ends, Wf, Safe}
+use Rattle.model.specs.Steps.Laws.{put-cases, row-cases, place-cases, live-hand, live-at, ended-open, ended-subject, fall-some, some-fall, fall-demand, fall-under, fell}
+use Rattle.model.specs.Invariant.{Ends, Wf, Safe, Scaled}
 
 pub record Pot (t : Tables) (φ : Thing → Label) : Type 0 where
   pub low : (x : Thing) → demand x (t .at x) ⊑ φ x
@@ -56,6 +56,9 @@ empty-wf = record { ends = λ s p k q. absurd (Option·none-ne-some k q); ranged
 pub empty-pot : Pot empty (λ x. bot)
 empty-pot = record { low = λ x. bot-least; cap = λ x e q. bot-least; falls = λ s p x k z q. absurd (Option·none-ne-some k q) }
 
+pub empty-scaled : Scaled empty
+empty-scaled = record { within = λ x e q. absurd (Option·none-ne-some e q) }
+
 -- ── tables that no calls made ──
 -- once cleaned, nothing dangles in them
 pub clean-wf : (t : Tables) → ((x : Thing) (e : Entry) → t .at x ≡ some e → T (in-range x)) → Wf (clean t)
@@ -73,6 +76,16 @@ clean-wf t r = record { ends = λ s p k q. joins s p (t .hand s p) k q; ranged =
       | inr c ↦ absurd (Option·none-ne-some k (c .1))
     ]
 
+-- and where nothing dangles, cleaning changes nothing
+pub clean-same : (t : Tables) → Wf t → clean t ≡ t
+unfolding clean
+clean-same t w = ap (with-hand t) (fun-ext (λ s. fun-ext (λ p. point s p (t .hand s p) refl)))
+  where
+    point : (s p : ℕ) (o : Option Handle) → t .hand s p ≡ o → counted (ltb p places && live t (subject s)) (λ n. live t (object n)) o ≡ o
+    point s p none q = refl
+    point s p (some k) q = let f = w .ends s p k q in cond-yes ((ltb p places && live t (subject s)) && live t (object (k .to))) (some k) none
+        (both (ltb p places && live t (subject s)) (live t (object (k .to))) (both (ltb p places) (live t (subject s)) (lt→ltb p places (f .place)) (f .from)) (f .to))
+
 -- ── enter ──
 pub wf-enter : (t : Tables) (x : Thing) (e : Entry) (g : Origin) → T (in-range x) → Wf t → Wf (apply (enter x e g) t)
 wf-enter t x e g r w = record {
@@ -89,6 +102,14 @@ wf-enter t x e g r w = record {
         go : (b : Bool) → T (is-some (cond b (some e) (t .at y)))
         go true = tt
         go false = h
+
+pub scaled-enter : (t : Tables) (x : Thing) (e : Entry) (g : Origin) → T (in-scale (e .label)) → Scaled t → Scaled (apply (enter x e g) t)
+scaled-enter t x e g h v = record {
+  within = λ y d q. elim (put-cases (t .at) x (some e) y (some d) q) [
+    | inl c ↦ subst (λ (z : Entry). T (in-scale (z .label))) (Option·some-injective e d (c .1)) h
+    | inr c ↦ v .within y d (c .1)
+  ];
+}
 
 -- a potential with one label set anew
 abbrev pub raise : (Thing → Label) → Thing → Label → Thing → Label
@@ -144,6 +165,9 @@ pot-hand t φ h i f = record {
       elim (f s p x k z′ q) [ inl o ↦ i .falls s p x k z′ o | inr n ↦ n ]);
 }
 
+pub scaled-same : {t u : Tables} → ((x : Thing) → u .at x ≡ t .at x) → Scaled t → Scaled u
+scaled-same e v = record { within = λ x d q. v .within x d (sym (e x) ∙ q) }
+
 -- place p of s takes the handle k
 pub wf-hold : (t : Tables) (s p : ℕ) (k : Handle) → Wf t → Ends t s p k → Wf (apply (hold s p (some k)) t)
 wf-hold t s p k w f = wf-hand t (place (t .hand) s p (some k)) w (λ s′ p′ k′ q. elim (place-cases (t .hand) s p (some k) s′ p′ (some k′) q) [
@@ -192,6 +216,11 @@ less-pot φ l i = record {
 abbrev pub without : (Thing → Bool) → Tables → Tables
 without gone t = with-at t (λ x. cond (gone x) none (t .at x))
 
+-- what is left was there
+left : (gone : Bool) (o : Option Entry) (e : Entry) → cond gone none o ≡ some e → o ≡ some e
+left true o e q = absurd (Option·none-ne-some e q)
+left false o e q = q
+
 -- no handle joins a thing that goes
 pub wf-without : (gone : Thing → Bool) (t : Tables) → Wf t → ((s p : ℕ) (k : Handle) → t .hand s p ≡ some k → T (not (gone (subject s))) × T (not (gone (object (k .to))))) → Wf (without gone t)
 wf-without gone t w n = record {
@@ -200,7 +229,7 @@ wf-without gone t w n = record {
     to = live-at t a (object (k .to)) (stays (gone (object (k .to))) (t .at (object (k .to))) (n s p k q .1)) (f .to);
     place = f .place;
   });
-  ranged = λ x e q. w .ranged x e (old (gone x) (t .at x) e q);
+  ranged = λ x e q. w .ranged x e (left (gone x) (t .at x) e q);
 }
   where
     a : Thing → Option Entry
@@ -209,10 +238,6 @@ wf-without gone t w n = record {
     stays : (b : Bool) (o : Option Entry) → T (not b) → T (is-some o) → T (is-some (cond b none o))
     stays true o u l = absurd u
     stays false o u l = l
-
-    old : (b : Bool) (o : Option Entry) (e : Entry) → cond b none o ≡ some e → o ≡ some e
-    old true o e q = absurd (Option·none-ne-some e q)
-    old false o e q = q
 
 pub pot-without : (gone : Thing → Bool) (t : Tables) (φ : Thing → Label) → Pot t φ → Pot (without gone t) φ
 pot-without gone t φ i = record { low = λ y. low′ (gone y) y; cap = λ y d q. cap′ (gone y) y d q; falls = λ s p x k z q. i .falls s p x k (sym (speaks-at t (λ x. cond (gone x) none (t .at x)) s) ∙ z) q }
@@ -224,6 +249,9 @@ pot-without gone t φ i = record { low = λ y. low′ (gone y) y; cap = λ y d q
     cap′ : (b : Bool) (y : Thing) (d : Entry) → cond b none (t .at y) ≡ some d → φ y ⊑ d .label
     cap′ true y d q = absurd (Option·none-ne-some d q)
     cap′ false y d q = i .cap y d q
+
+pub scaled-without : (gone : Thing → Bool) (t : Tables) → Scaled t → Scaled (without gone t)
+scaled-without gone t v = record { within = λ x e q. v .within x e (left (gone x) (t .at x) e q) }
 
 pub wf-reap : (before : List Handle) (t : Tables) → Wf t → Wf (reap before t)
 wf-reap before t w = wf-without (λ x. ended before (handles t) x (t .at x)) t w (λ s p k q. (
@@ -253,6 +281,14 @@ wf-mix t m a b y x w = record {
         go : (d : Bool) → (T d → y ≡ z) → T (is-some (cond d (fall y (t .at y) (t .at x)) (t .at z)))
         go true e = fall-some y (t .at y) (t .at x) (subst (λ (v : Thing). T (is-some (t .at v))) (sym (e tt)) h)
         go false e = h
+
+pub scaled-mix : (t : Tables) (m : Access) (a b y x : Thing) → Scaled t → Scaled (apply (mix m a b y x) t)
+scaled-mix t m a b y x v = record {
+  within = λ z e q. elim (put-cases (t .at) y (fall y (t .at y) (t .at x)) z (some e) q) [
+    | inl c ↦ (let f = fall-under y (t .at y) (t .at x) e (c .1) in below-in-scale (f .2) (v .within y (f .0) (f .1)))
+    | inr c ↦ v .within z e (c .1)
+  ];
+}
 
 -- the condition of every move of data: the source has an entry, and the receiver's potential is at most its label
 pub record Feeds (t : Tables) (φ : Thing → Label) (y x : Thing) : Type 0 where

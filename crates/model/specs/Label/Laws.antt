@@ -1,13 +1,13 @@
 -- The laws of labels: `_⊑_` is a partial order with greatest lower bounds `meet`, least upper bounds `join` and least element
--- `bot`. Nothing else about labels is used elsewhere, but by the table of cases, which computes. Assumes nothing.
+-- `bot`; what is below a label in scale is in scale. Nothing else about labels is used elsewhere, but by the table of cases, which computes. Assumes nothing.
 use mathlib.Core.Path.{_≡_, refl, sym, subst}
 use mathlib.Core.Bool.{not}
 use Prim.Native.Nat.{ℕ, _≤_, _<_, min, max, zero-le}
 use native.Mathlib.Nat.{le-refl, le-trans, le-antisymm, min-le-left, min-le-right, le-max-left, le-max-right, le-min, max-le}
 use native.Mathlib.Omega.{arith}
 use mathlib.Core.Logic.{_↔_}
-use lib.Dec.{T, leb, leb→le, le→leb, nleb→lt, not-T}
-use Rattle.model.specs.Label.{Label, leq, _⊑_, meet, join, bot, label, level}
+use lib.Dec.{T, leb, ltb, leb→le, le→leb, nleb→lt, nltb→le, not-T}
+use Rattle.model.specs.Label.{Label, highest, label, level, in-scale, leq, _⊑_, meet, join, bot}
 
 -- ── order ──
 pub ⊑-refl : {a : Label} → a ⊑ a
@@ -82,3 +82,21 @@ join-lub {a} {b} {c} p q = record { tested = le→leb (max a b) c (max-le (leb�
 pub bot-least : {a : Label} → bot ⊑ a
 unfolding Label leq bot
 bot-least {a} = record { tested = le→leb 0 a zero-le }
+
+-- ── in scale ──
+-- a number that is not refused with 6 names a label in scale
+pub label-in-scale : (n : ℕ) → T (not (ltb highest n)) → T (in-scale (label n))
+unfolding Label label in-scale
+label-in-scale n h = le→leb n highest (nltb→le highest n h)
+
+pub below-in-scale : {a b : Label} → a ⊑ b → T (in-scale b) → T (in-scale a)
+unfolding Label leq in-scale
+below-in-scale {a} {b} p h = le→leb a highest (le-trans (leb→le a b (p .tested)) (leb→le b highest h))
+
+pub bot-in-scale : T (in-scale bot)
+unfolding Label in-scale bot
+bot-in-scale = tt
+
+pub level-in-scale : (a : Label) → T (in-scale a) → level a ≤ highest
+unfolding Label level in-scale
+level-in-scale a h = leb→le a highest h

@@ -124,6 +124,16 @@ fall-demand x (some e) (some d) = go (is-file x (e .kind)) (λ f. cond-no (falls
     go true s = s tt
     go false s = refl
 
+-- nothing rises
+pub fall-under : (x : Thing) (a b : Option Entry) (r : Entry) → fall x a b ≡ some r → (e : Entry) × (a ≡ some e) × (r .label ⊑ e .label)
+fall-under x none b r q = absurd (Option·none-ne-some r q)
+fall-under x (some e) none r q = (e, refl, subst (λ (z : Entry). z .label ⊑ e .label) (Option·some-injective e r q) ⊑-refl)
+fall-under x (some e) (some d) r q = (e, refl, subst (λ (z : Entry). z .label ⊑ e .label) (Option·some-injective _ r q) (go (falls x (e .kind))))
+  where
+    go : (f : Bool) → cond f (meet (e .label) (d .label)) (e .label) ⊑ e .label
+    go true = meet-left (e .label) (d .label)
+    go false = ⊑-refl
+
 -- what a receiver is after it took something in from an entry d: not above what it was, and not above d if d was at least its
 -- demand (a file keeps its label: it is its own demand)
 pub record Fell (x : Thing) (a : Option Entry) (d r : Entry) : Type 0 where
@@ -134,22 +144,19 @@ pub record Fell (x : Thing) (a : Option Entry) (d r : Entry) : Type 0 where
   pub over : (v : Label) → v ⊑ was .label → v ⊑ d .label → v ⊑ r .label
 
 pub fell : (x : Thing) (a b : Option Entry) (d r : Entry) → b ≡ some d → fall x a b ≡ some r → Fell x a d r
+unfolding fall-under
 fell x none b d r q f = absurd (Option·none-ne-some r f)
 fell x (some e) none d r q f = absurd (Option·none-ne-some d q)
 fell x (some e) (some d′) d r q f = record {
   was = e;
   was-is = refl;
-  under-was = subst (λ (z : Label). z ⊑ e .label) l (left (falls x (e .kind)));
+  under-was = fall-under x (some e) (some d′) r f .2;
   under-source = λ h. subst (λ (z : Label). z ⊑ d .label) l (right (falls x (e .kind)) (λ n. subst (λ (z : Label). z ⊑ d .label) (cond-yes (is-file x (e .kind)) (e .label) bot (falls-or-file x (e .kind) n)) h));
   over = λ v p q. subst (λ (z : Label). v ⊑ z) l (least v (falls x (e .kind)) p q);
 }
   where
     l : cond (falls x (e .kind)) (meet (e .label) (d .label)) (e .label) ≡ r .label
     l = subst (λ (z : Entry). sunk x (e .kind) (e .label) (z .label) ≡ r .label) (Option·some-injective d′ d q) (ap (λ (z : Entry). z .label) (Option·some-injective _ r f))
-
-    left : (f : Bool) → cond f (meet (e .label) (d .label)) (e .label) ⊑ e .label
-    left true = meet-left (e .label) (d .label)
-    left false = ⊑-refl
 
     right : (f : Bool) → (T (not f) → e .label ⊑ d .label) → cond f (meet (e .label) (d .label)) (e .label) ⊑ d .label
     right true h = meet-right (e .label) (d .label)

@@ -1,12 +1,13 @@
--- Made minus gone is the number of handles in the tables, modulo 2 to the 64th, after every list of calls (document 01, "Journal"). How
--- many handles a step places or removes; then call by call; then the list. Assumes nothing.
-use mathlib.Core.Path.{_≡_, refl, sym, _∙_, ap, subst}
+-- Made minus gone is the number of handles in the tables, modulo 2 to the 64th, after every list of calls from empty tables; from any tables in
+-- which nothing dangles it moves as that number does (document 01, "Journal"). How many handles a step places or removes; then call by call; then
+-- the list. Assumes nothing.
+use mathlib.Core.Path.{_≡_, refl, _∙_, ap, subst}
 use mathlib.Core.Bool.{Bool, not, cond}
 use mathlib.Core.Logic.{_⊎_, inl, inr}
 use mathlib.Core.Option.{Option, none, some}
 use mathlib.Core.List.{List, [], _∷_, _++_}
-use Prim.Native.Nat.{ℕ, zero, suc, _+_, _^_, _<_}
-use native.Mathlib.Nat.{mod-add-mod, mod-lt}
+use Prim.Native.Nat.{ℕ, zero, suc, _+_, _*_, _/_, _^_, _<_}
+use native.Mathlib.Nat.{mod-lt}
 use native.Mathlib.Omega.{arith}
 use lib.ListN.{length, length-append}
 use lib.Dec.{T, T-not, not-T, eqb, eqb→eq, eqb-refl, ltb, ltb→lt, lit<}
@@ -17,10 +18,11 @@ use Rattle.model.specs.Tables.{running, pipe, Dir, reading, writing, Ent
 use Rattle.model.specs.Tables.Laws.{some-of, live-of, used-is, handles-at}
 use Rattle.model.specs.Steps.{blank, copied, runs, enter, leave, hold, holds, mix, put, apply, applies}
 use Rattle.model.specs.Steps.Laws.{applies-append}
-use Rattle.model.specs.Invariant.{Kept}
+use Rattle.model.specs.Invariant.{Wf}
+use Rattle.model.specs.Invariant.Laws.{empty-wf}
 use Rattle.model.specs.Calls.{Call, admit, register, create, make-pipe, opens, access, fork, exec, close, exit, retire, unknown, Raw, decode, target, moves, sheds, steps, effect, Test, alive, new, vacant, taken, apart, broken, tests, refusal, next, after}
 use Rattle.model.specs.Calls.Refusals.{allowed-iff}
-use Rattle.model.specs.Calls.Kept.{is-alive, is-new, is-place, next-kept, empty-kept}
+use Rattle.model.specs.Calls.Kept.{is-alive, is-new, is-place, next-wf}
 use Rattle.model.specs.Tally.{held, makes, removes, wrapped, Tally, zeroed, tallied, tally, difference}
 
 -- ── lengths of lists made for the numbers below a bound ──
@@ -104,14 +106,14 @@ each-none zero f h = refl
 each-none (suc n) f h = let a : length (each n f) ≡ 0 = each-none n f h in let b : length (f n) ≡ 0 = h n in omega (arith, length-append (each n f) (f n))
 
 -- a number not in use holds nothing
-holds-none : (t : Tables) → Kept t → (c : ℕ) → t .at (subject c) ≡ none → held t c ≡ 0
+holds-none : (t : Tables) → Wf t → (c : ℕ) → t .at (subject c) ≡ none → held t c ≡ 0
 holds-none t v c n = each-none places (λ p. one (t .hand c p)) (λ p. ap (λ (o : Option Handle). length (one o)) (none-of (t .hand c p) (not-T (is-some (t .hand c p)) (λ h. unheld p (some-of (t .hand c p) h)))))
   where
     unheld : (p : ℕ) → (k : Handle) × (t .hand c p ≡ some k) → ⊥
-    unheld p r = subst (λ (o : Option Entry). T (is-some o)) n (subst T (used-is t (subject c)) (live-of t (subject c) (v .wf .ends c p (r .0) (r .1) .from) .1))
+    unheld p r = subst (λ (o : Option Entry). T (is-some o)) n (subst T (used-is t (subject c)) (live-of t (subject c) (v .ends c p (r .0) (r .1) .from) .1))
 
 -- the handles that an allowed call makes and removes are those placed and emptied
-module _ (t : Tables) (v : Kept t) where
+module _ (t : Tables) (v : Wf t) where
   entered-count : (a : Thing → Option Entry) → count (with-at t a) + 0 ≡ count t + 0
   entered-count a = ap (λ (k : ℕ). k + 0) (count-at t a)
 
@@ -193,47 +195,60 @@ module _ (t : Tables) (v : Kept t) where
   stepped-count (retire o) m = entered-count _
   stepped-count unknown m = refl
 
-pub effect-count : (t : Tables) (c : Call) → Kept t → refusal t c ≡ none → length (handles (effect t c)) + removes t c ≡ length (handles t) + makes t c
+pub effect-count : (t : Tables) (c : Call) → Wf t → refusal t c ≡ none → length (handles (effect t c)) + removes t c ≡ length (handles t) + makes t c
 unfolding effect
 effect-count t c v q = ap (λ (k : ℕ). k + removes t c) (count-at (applies (steps t c) t) _) ∙ stepped-count t v c (allowed-iff t c .0 q)
 
 -- ── lists of calls ──
--- what was made is what is gone and what is in the tables
-pub record Balanced (t : Tables) (y : Tally) : Type 0 where
-  pub made-is : y .made ≡ wrapped (y .gone + length (handles t))
-  pub gone-wrapped : y .gone < 2 ^ 64
+-- equal modulo 2 to the 64th
+infix 20 _≈_
+record _≈_ (a b : ℕ) : Type 0 where
+  times-left : ℕ
+  times-right : ℕ
+  sums : a + 2 ^ 64 * times-left ≡ b + 2 ^ 64 * times-right
 
-balanced-next : (t : Tables) (c : Call) (y : Tally) → Kept t → Balanced t y → Balanced (next t c) (tallied t c y)
+-- from t and y to u and z what was made, less what is gone, moves as the number of handles does
+record Moves (t : Tables) (y : Tally) (u : Tables) (z : Tally) : Type 0 where
+  moved : (z .made + y .gone + count t) ≈ (y .made + z .gone + count u)
+  gone-wrapped : y .gone < 2 ^ 64 → z .gone < 2 ^ 64
+
+moves-next : (t : Tables) (c : Call) (y : Tally) → Wf t → Moves t y (next t c) (tallied t c y)
 unfolding tallied
-balanced-next t c y v b = go (refusal t c) refl
+moves-next t c y v = go (refusal t c) refl
   where
-    go : (o : Option ℕ) → refusal t c ≡ o → Balanced (elim o as (λ _. Tables) [ none ↦ effect t c | some n ↦ t ])
+    go : (o : Option ℕ) → refusal t c ≡ o → Moves t y (elim o as (λ _. Tables) [ none ↦ effect t c | some n ↦ t ])
         (elim o as (λ _. Tally) [ none ↦ record { made = wrapped (y .made + makes t c); gone = wrapped (y .gone + removes t c) } | some n ↦ y ])
     go none q = record {
-      made-is = ap (λ (m : ℕ). wrapped (m + makes t c)) (b .made-is) ∙ mod-add-mod (y .gone + length (handles t)) (2 ^ 64) (makes t c) ∙ ap wrapped sum ∙ sym (mod-add-mod (y .gone + removes t c) (2 ^ 64) (length (handles (effect t c))));
-      gone-wrapped = mod-lt (y .gone + removes t c) (lit< tt);
+      moved = record { times-left = (y .made + makes t c) / 2 ^ 64; times-right = (y .gone + removes t c) / 2 ^ 64; sums = sum (y .made) (y .gone) (makes t c) (removes t c) (count t) (count (effect t c)) (effect-count t c v q) };
+      gone-wrapped = λ g. mod-lt (y .gone + removes t c) (lit< tt);
     }
       where
-        sum : y .gone + length (handles t) + makes t c ≡ y .gone + removes t c + length (handles (effect t c))
-        sum = let e : length (handles (effect t c)) + removes t c ≡ length (handles t) + makes t c = effect-count t c v q in omega arith
-    go (some n) q = b
+        sum : (m n a b h k : ℕ) → k + b ≡ h + a → wrapped (m + a) + n + h + 2 ^ 64 * ((m + a) / 2 ^ 64) ≡ m + wrapped (n + b) + k + 2 ^ 64 * ((n + b) / 2 ^ 64)
+        sum m n a b h k e = omega arith
+    go (some n) q = record { moved = record { times-left = 0; times-right = 0; sums = omega arith }; gone-wrapped = λ g. g }
 
-balanced : (t : Tables) (y : Tally) (rs : List Raw) → Kept t → Balanced t y → Balanced (after t rs) (tally t y rs)
-balanced t y [] v b = b
-balanced t y (r ∷ rs) v b = balanced (next t (decode r)) (tallied t (decode r) y) rs (next-kept t (decode r) v) (balanced-next t (decode r) y v b)
+list-moves : (t : Tables) (y : Tally) (rs : List Raw) → Wf t → Moves t y (after t rs) (tally t y rs)
+list-moves t y [] v = record { moved = record { times-left = 0; times-right = 0; sums = omega arith }; gone-wrapped = λ g. g }
+list-moves t y (r ∷ rs) v = chain (moves-next t (decode r) y v) (list-moves (next t (decode r)) (tallied t (decode r) y) rs (next-wf t (decode r) v))
+  where
+    chain : {t u w : Tables} {x y z : Tally} → Moves t x u y → Moves u y w z → Moves t x w z
+    chain a b = record {
+      moved = record { times-left = a .moved .times-left + b .moved .times-left; times-right = a .moved .times-right + b .moved .times-right; sums = omega (arith, a .moved .sums, b .moved .sums) };
+      gone-wrapped = λ g. b .gone-wrapped (a .gone-wrapped g);
+    }
+
+-- what was made less what is gone moves as the number of handles does, from any tables in which nothing dangles and any tally
+pub tally-moves : (t : Tables) (y : Tally) (rs : List Raw) → Wf t →
+    let z = tally t y rs in
+    wrapped (z .made + y .gone + length (handles t)) ≡ wrapped (y .made + z .gone + length (handles (after t rs)))
+tally-moves t y rs v = let m = list-moves t y rs v .moved in omega (arith, m .sums)
 
 -- 01, Journal: "Made minus gone equals the handles in the table."
 pub made-minus-gone : (rs : List Raw) → difference (tally empty zeroed rs) ≡ wrapped (length (handles (after empty rs)))
-made-minus-gone rs = go (tally empty zeroed rs) (length (handles (after empty rs))) (b .made-is) (b .gone-wrapped)
+made-minus-gone rs = let m = list-moves empty zeroed rs empty-wf in go (tally empty zeroed rs) (count empty) (count (after empty rs)) none-open (m .gone-wrapped (lit< tt)) (m .moved)
   where
-    start : Balanced empty zeroed
-    start = record { made-is = sym (ap (λ (n : ℕ). wrapped (0 + n)) none-open); gone-wrapped = lit< tt }
-      where
-        none-open : length (handles empty) ≡ 0
-        none-open = unfold handles in refl
+    none-open : count empty ≡ 0
+    none-open = unfold handles in refl
 
-    b : Balanced (after empty rs) (tally empty zeroed rs)
-    b = balanced empty zeroed rs empty-kept start
-
-    go : (y : Tally) (h : ℕ) → y .made ≡ wrapped (y .gone + h) → y .gone < 2 ^ 64 → difference y ≡ wrapped h
-    go y h m g = omega arith
+    go : (y : Tally) (o h : ℕ) → o ≡ 0 → y .gone < 2 ^ 64 → (y .made + 0 + o) ≈ (0 + y .gone + h) → difference y ≡ wrapped h
+    go y o h z g e = omega (arith, e .sums)

@@ -8,10 +8,11 @@ use lib.Dec.{ltb}
 use lib.ListN.{length, take, drop}
 use Rattle.model.specs.Tables.{Tables, clean}
 use Rattle.model.specs.Invariant.{Kept}
+use Rattle.model.specs.Invariant.Laws.{clean-same}
 use Rattle.model.specs.Calls.{Call, decode, next, Answer, answer}
 use Rattle.model.specs.Calls.Kept.{next-kept}
 use Rattle.model.specs.Tally.{Tally, tallied, tally}
-use Rattle.model.specs.Demand3.Laws.{clean-same, meets-next}
+use Rattle.model.specs.Demand3.Laws.{meets-next}
 use Rattle.number.specs.Leb.{number, largest}
 use Rattle.journal.specs.Answers.{Said, said, Next, body, end}
 use Rattle.journal.specs.Answers.{Answer as Read, answers as reads, refused as bad}
