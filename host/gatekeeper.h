@@ -104,14 +104,17 @@ bool gatekeeper_empty(uint8_t *state, size_t len);
  * and no byte is touched. */
 uint32_t gatekeeper_call(uint8_t *state, size_t len, uint32_t code, uint32_t a, uint32_t b, uint32_t c, uint32_t d);
 
-/* The outcome in an answer of gatekeeper_call: an `enum gatekeeper_outcome`. */
+/* The outcome in an answer of gatekeeper_call: an `enum gatekeeper_outcome`. What this function and the next read off an
+ * answer that is not 0 is the rules' answer, whatever the lent bytes were. */
 static inline uint32_t gatekeeper_letter(uint32_t answer) { return answer / 256; }
 
-/* The level in an answer of gatekeeper_call, or where it was refused the `enum gatekeeper_refusal`. */
+/* The level in an answer of gatekeeper_call, or where it was refused the `enum gatekeeper_refusal`. On a monitor that
+ * started empty a level is below GATEKEEPER_LEVELS. */
 static inline uint32_t gatekeeper_value(uint32_t answer) { return answer % 256; }
 
-/* Handles made and handles gone over all calls on this monitor, modulo 2 to the 64th; made minus gone are open. 0 where
- * `len` is not GATEKEEPER_STATE_BYTES. */
+/* Handles made and handles gone over all calls on this monitor, modulo 2 to the 64th. On a monitor that started empty
+ * made minus gone are open; on any other made minus gone moves as the open ones do. 0 where `len` is not
+ * GATEKEEPER_STATE_BYTES. */
 uint64_t gatekeeper_made(const uint8_t *state, size_t len);
 uint64_t gatekeeper_gone(const uint8_t *state, size_t len);
 

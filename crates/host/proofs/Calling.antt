@@ -7,7 +7,7 @@ use native.Mathlib.Omega.{arith}
 use borrow.Author.Tests.{eq-eqb, ne-eqb}
 use lib.ListN.{length}
 use Rattle.model.specs.Tables.{Tables, clean}
-use Rattle.model.specs.Calls.{Call, refusal, Answer, allowed, lowered, refused, answer}
+use Rattle.model.specs.Calls.{Call, Raw, decode, refusal, Answer, allowed, lowered, refused, answer}
 use Rattle.model.specs.Calls.Refusals.{answered-refused}
 use Rattle.model.specs.Promise.{Meets}
 use Rattle.model.specs.Tally.{tallied}
@@ -15,7 +15,8 @@ use Rattle.gatekeeper.specs.declared.Monitor.{Monitor}
 use Rattle.gatekeeper.specs.declared.Tally.{Tally}
 use Rattle.gatekeeper.specs.View.{view, counts-of, letter-of}
 use Rattle.host.specs.State.{state-bytes, Sized, monitor-of, tally-of, bytes-of, Stands, state-view, Stored}
-use Rattle.host.specs.Numbers.{answer-number, call-number}
+use Rattle.host.specs.Numbers.{answer-number, answer-in, call-number}
+use Rattle.host.specs.Demand3.{Called}
 
 -- a letter R is that of a refusal
 r-refused : (a : Answer) → letter-of a ≡ 82 → (k : ℕ) × (a ≡ refused k)
@@ -41,12 +42,12 @@ module _ {s : List ℕ} {c : Call} {m : Monitor} {y : Tally} {a : Answer} {n : M
   answered : a ≡ answer t c
   answered = p .meets .answered ∙ ap (λ (x : Monitor). answer (clean (view x)) c) (p .from-monitor)
 
-  pub call-answered : (r : ℕ) → Sized s → r ≡ answer-number a → r ≡ call-number s c
+  call-answered : (n : ℕ) → Sized s → n ≡ answer-number a → n ≡ call-number s c
   unfolding call-number
-  call-answered r h e = rw (eq-eqb (length s) state-bytes h) (e ∙ ap answer-number answered)
+  call-answered n h e = rw (eq-eqb (length s) state-bytes h) (e ∙ ap answer-number answered)
 
   -- a refused call leaves every byte
-  pub call-refused : Sized s → letter-of a ≡ 82 → Stored s c s
+  call-refused : Sized s → letter-of a ≡ 82 → Stored s c s
   unfolding tallied
   call-refused size h =
       let (k, r) = r-refused a h in
@@ -59,7 +60,7 @@ module _ {s : List ℕ} {c : Call} {m : Monitor} {y : Tally} {a : Answer} {n : M
       }
 
   -- any other leaves the bytes of what was handed back
-  pub call-moved : (letter-of a ≡ 82 → ⊥) → {s′ : List ℕ} → Stands s′ n z → Stored s c s′
+  call-moved : (letter-of a ≡ 82 → ⊥) → {s′ : List ℕ} → Stands s′ n z → Stored s c s′
   call-moved h k = record {
     size = k .size;
     meets = record {
@@ -73,7 +74,23 @@ module _ {s : List ℕ} {c : Call} {m : Monitor} {y : Tally} {a : Answer} {n : M
     exact = λ w. k .bytes ∙ ap₂ bytes-of (sym (k .monitor)) (sym (k .tally));
   }
 
+-- what is returned of a, and read off it
+pub record Numbered (a : Answer) (n : ℕ) : Type 0 where
+  pub number : n ≡ answer-number a
+  pub back : answer-in n ≡ a
+
+module _ {s : List ℕ} {r : Raw} {m : Monitor} {y : Tally} {a : Answer} {n : Monitor} {z : Tally} {k : ℕ}
+    (p : Made s (decode r) m y a n z) (h : Sized s) (e : Numbered a k) where
+  called : {s′ : List ℕ} → Stored s (decode r) s′ → Called s r k s′
+  called q = record { returned = call-answered p k h (e .number); told = λ w. e .back ∙ answered p; stored = λ w. q; other = λ w. absurd (w h) }
+
+  pub called-refused : letter-of a ≡ 82 → Called s r k s
+  called-refused l = called (call-refused p h l)
+
+  pub called-moved : (letter-of a ≡ 82 → ⊥) → {s′ : List ℕ} → Stands s′ n z → Called s r k s′
+  called-moved l q = called (call-moved p l q)
+
 -- bytes of another length
-pub call-unsized : (s : List ℕ) (c : Call) → (Sized s → ⊥) → 0 ≡ call-number s c
+pub called-unsized : (s : List ℕ) (r : Raw) → (Sized s → ⊥) → Called s r 0 s
 unfolding call-number
-call-unsized s c h = rw (ne-eqb (length s) state-bytes h)
+called-unsized s r h = record { returned = rw (ne-eqb (length s) state-bytes h); told = λ w. absurd (h w); stored = λ w. absurd (h w); other = λ w. refl }

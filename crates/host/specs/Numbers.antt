@@ -4,14 +4,17 @@
 -- A wrong length of the lent bytes is no case of the paper's: it is 0, which is no answer's number. The laws are in Numbers/Laws. Assumes nothing.
 use mathlib.Core.Bool.{cond}
 use mathlib.Core.List.{List}
-use Prim.Native.Nat.{ℕ, _+_, _*_}
+use Prim.Native.Nat.{ℕ, _+_, _*_, _/_, _%_}
 use lib.Dec.{eqb}
 use lib.ListN.{length}
 use Rattle.model.specs.Tables.{clean}
-use Rattle.model.specs.Calls.{Call, Answer, answer}
+use Rattle.model.specs.Calls.{Call, Answer, allowed, lowered, answer}
+use Rattle.model.specs.Calls.{refused as no}
 use Rattle.number.specs.Leb.{Reading, good, malformed}
 use Rattle.journal.specs.Answers.{answers, refused}
 use Rattle.journal.specs.Answers.{Answer as Recording}
+use Rattle.journal.specs.Calls.{known}
+use Rattle.journal.specs.Record.{record-of}
 use Rattle.gatekeeper.specs.View.{letter-of, value-of}
 use Rattle.host.specs.State.{state-bytes, state-view}
 pub mod Laws
@@ -24,6 +27,20 @@ sized s x y = cond (eqb (length s) state-bytes) x y
 abbrev pub answer-number : Answer → ℕ
 answer-number a = 256 * letter-of a + value-of a
 
+-- what a host reads off it: host/gatekeeper.h, `gatekeeper_letter` and `gatekeeper_value`
+abbrev pub letter-in : ℕ → ℕ
+letter-in n = n / 256
+
+abbrev pub value-in : ℕ → ℕ
+value-in n = n % 256
+
+-- and the answer that the two tell: 65 is A, 76 is L, 82 is R
+abbrev pub answer-by : (letter value : ℕ) → Answer
+answer-by letter value = cond (eqb letter 65) (allowed value) (cond (eqb letter 76) (lowered value) (no value))
+
+abbrev pub answer-in : ℕ → Answer
+answer-in n = answer-by (letter-in n) (value-in n)
+
 -- what call c on the bytes s is answered
 unfoldable pub call-number : List ℕ → Call → ℕ
 call-number s c = sized s (answer-number (answer (clean (state-view s)) c)) 0
@@ -32,6 +49,10 @@ call-number s c = sized s (answer-number (answer (clean (state-view s)) c)) 0
 abbrev pub record-number : Recording ℕ → ℕ
 record-number (answers n) = 256 + n
 record-number (refused k) = k
+
+-- where the buffer has room for the longest record: never 13
+abbrev pub roomy-number : ℕ → List ℕ → ℕ
+roomy-number code ns = cond (known code) (256 + length (record-of code ns)) 1
 
 -- 01, Journal: "A good number takes 1 to 5 bytes": the value, and 2 to the 32nd for each byte
 abbrev pub reading-number : Reading → ℕ

@@ -8,17 +8,17 @@ ghost use mathlib.Core.List.{_∷_, []};
 ghost use Prim.Native.Nat.{_+_, _≤_, _<_};
 ghost use lib.Dec.{eqb};
 ghost use lib.ListN.{length, take, drop, replicate};
-ghost use Rattle.model.specs.Calls.{decode};
 ghost use Rattle.number.specs.Leb.{largest, number};
 ghost use Rattle.number.specs.Put.{put, fitted};
-ghost use Rattle.journal.specs.Record.{recording, recorded};
-ghost use Rattle.replay.specs.Replay.{reply, Begun};
+ghost use Rattle.journal.specs.Record.{longest-record, recording, recorded};
+ghost use Rattle.replay.specs.Replay.{reply, reply-room, Begun};
 ghost use Rattle.gatekeeper.specs.View.{told, direct};
 ghost use Rattle.host.specs.State.{state-bytes, Sized, kind-of, way-of, live-byte, kind-byte, way-byte, whole, digits};
 ghost use Rattle.host.specs.State.{subjects-of, objects-of, handles-of, made-of, gone-of, monitor-of, tally-of};
-ghost use Rattle.host.specs.State.{subject-bytes, object-bytes, handle-bytes, Stands, Blank, Stored};
+ghost use Rattle.host.specs.State.{subject-bytes, object-bytes, handle-bytes, Stands, Blank};
 ghost use Rattle.host.specs.Over.{over};
-ghost use Rattle.host.specs.Numbers.{sized, answer-number, call-number, record-number, reading-number};
+ghost use Rattle.host.specs.Numbers.{sized, answer-number, answer-in, record-number, roomy-number, reading-number};
+ghost use Rattle.host.specs.Demand3.{Called};
 use gatekeeper::Answer;
 use gatekeeper::Handle;
 use gatekeeper::Kind;
@@ -281,7 +281,8 @@ fn store(state: &mut [u8], monitor: Monitor, tally: Tally)
 
 // 256 times the letter's byte, and the level or the number of the refusal.
 fn to_number(a: Answer) -> u32
-    ensures { λ r. ⌜ r ≡ answer-number (told a) ⌝ }
+    ensures number { λ r. ⌜ r ≡ answer-number (told a) ⌝ }
+    ensures back { λ r. ⌜ answer-in r ≡ told a ⌝ }
 {
     let letter = gatekeeper::letter(a);
     let value = gatekeeper::value(a);
@@ -326,9 +327,7 @@ pub extern "C" fn gatekeeper_call(
     c: u32,
     d: u32,
 ) -> u32
-    ensures answer { λ r. ⌜ r ≡ call-number (now (state .entry)) (decode (direct code a b c d)) ⌝ }
-    ensures stored { λ _. ⌜ (Sized (now (state .entry)) → Stored (now (state .entry)) (decode (direct code a b c d)) (now (state .exit))) ⌝ }
-    ensures other { λ _. ⌜ ((Sized (now (state .entry)) → ⊥) → now (state .exit) ≡ now (state .entry)) ⌝ }
+    ensures { λ r. ⌜ Called (now (state .entry)) (direct code a b c d) r (now (state .exit)) ⌝ }
 {
     if state.len() != STATE_BYTES {
         return UNSIZED;
@@ -370,12 +369,14 @@ pub extern "C" fn gatekeeper_gone(state: &[u8]) -> u64
     load_number(state, 1224)
 }
 
-// The reply to a journal, from empty tables: the text's length, or 0 where the buffer has no room for it: then its front stands there.
+// The reply to a journal, from empty tables: the text's length, or 0 where the buffer has no room for it: then its front stands there. A buffer of
+// replay::REPLY_ROOM bytes has room for every reply.
 #[no_mangle]
 pub extern "C" fn gatekeeper_replay(journal: &[u8], out: &mut [u8]) -> usize
     ensures answer { λ r. ⌜ r ≡ Option·getD (fitted (reply (now (journal .entry))) (now (out .entry))) 0 ⌝ }
     ensures buffer { λ r. ⌜ (0 < r → now (out .exit) ≡ put (reply (now (journal .entry))) (now (out .entry))) ⌝ }
     ensures begun { λ _. ⌜ Begun (reply (now (journal .entry))) (now (out .entry)) (now (out .exit)) ⌝ }
+    ensures room { λ r. ⌜ (reply-room ≤ length (now (out .entry)) → r ≡ length (reply (now (journal .entry)))) ⌝ }
 {
     match replay::replay(journal, out) {
         Written::Bytes(n) => n,
@@ -383,7 +384,8 @@ pub extern "C" fn gatekeeper_replay(journal: &[u8], out: &mut [u8]) -> usize
     }
 }
 
-// The record of a call over the front of a buffer: its length in bytes and 256, or the number of the refusal, where nothing is touched.
+// The record of a call over the front of a buffer: its length in bytes and 256, or the number of the refusal, where nothing is touched. A buffer of
+// journal::LONGEST_RECORD bytes has room for every record.
 #[no_mangle]
 pub extern "C" fn gatekeeper_record(
     out: &mut [u8],
@@ -395,6 +397,7 @@ pub extern "C" fn gatekeeper_record(
 ) -> u32
     ensures answer { λ r. ⌜ r ≡ record-number (recording code (a ∷ b ∷ c ∷ d ∷ []) (now (out .entry))) ⌝ }
     ensures buffer { λ _. ⌜ now (out .exit) ≡ recorded code (a ∷ b ∷ c ∷ d ∷ []) (now (out .entry)) ⌝ }
+    ensures room { λ r. ⌜ (longest-record ≤ length (now (out .entry)) → r ≡ roomy-number code (a ∷ b ∷ c ∷ d ∷ [])) ⌝ }
 {
     let numbers = Numbers { a, b, c, d };
     match journal::write_record(out, Call { code, numbers }) {

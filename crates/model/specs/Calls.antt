@@ -15,7 +15,11 @@ use Rattle.model.specs.Flow.{Thing, subject, object}
 use Rattle.model.specs.Tables.{running, file, pipe, Dir, reading, writing, Entry, entry, Handle, handle, Tables, places, in-range, is-some, used, live, label-of, is-pipe, cell, handles, open-on, needs, safe}
 use Rattle.model.specs.Steps.{outside, blank, copied, reads, writes, runs, Step, enter, leave, hold, holds, mix, applies, reap}
 pub mod Refusals
+pub mod Passed
+pub mod Dangling
+pub mod Scale
 pub mod Kept
+pub mod Sayable
 
 -- ── the calls ──
 pub data Call : Type 0 where

@@ -1,7 +1,7 @@
 -- What every state from empty tables has. Document 01, "Flow and need": "In every state from empty tables each live thing's level
 -- is at least its need"; "Tables": a handle joins a place of a live subject to a live object, "Levels are 0 (lowest) to 15"; "Calls": "A
 -- pipe ends .. when its last handle goes", so a live pipe has one. And what every answer has. Proved of every list of calls in
--- `Calls.Kept`. Assumes nothing.
+-- `Calls.Kept` and `Calls.Sayable`. Assumes nothing.
 use mathlib.Core.Path.{_≡_}
 use mathlib.Core.Option.{some}
 use Prim.Native.Nat.{ℕ, _<_, _≤_}

@@ -24,7 +24,7 @@ pub record Meets {M : Type 0} (view : M → Tables) (m : M) (c : Call) (a : Answ
   pub answered : a ≡ answer (clean (view m)) c
   -- a refused call hands the same monitor back
   pub unchanged : (k : ℕ) → refusal (clean (view m)) c ≡ some k → n ≡ m
-  -- any other hands back the rules' next tables, in which nothing dangles (`effect-wf` in Calls/Kept); the free part is any
+  -- any other hands back the rules' next tables, in which nothing dangles (`effect-wf` in Calls/Dangling); the free part is any
   pub moved : refusal (clean (view m)) c ≡ none → view n ≡ effect (clean (view m)) c
 
 -- the calls of a list, made one after the other

@@ -56,7 +56,7 @@ impl Monitor {
         archive::gone(&self.state)
     }
 
-    /// Handles open: made minus gone, modulo 2 to the 64th.
+    /// Made minus gone, modulo 2 to the 64th: the handles open, on a monitor that started empty.
     pub fn open(&self) -> u64 {
         self.made().wrapping_sub(self.gone())
     }

@@ -1,12 +1,14 @@
 -- `host::gatekeeper_call` meets its contract. Assumes nothing.
-use mathlib.Core.Path.{refl, sym, _∙_}
+use mathlib.Core.Path.{sym, _∙_}
 use borrow.Author.Needs.{needs}
-use Rattle.host.proofs.Calling.{made, call-answered, call-refused, call-moved, call-unsized}
+use Rattle.model.specs.Calls.{decode}
+use Rattle.gatekeeper.specs.View.{direct}
+use Rattle.host.proofs.Calling.{made, called-refused, called-moved, called-unsized}
 use Rattle.host.proofs.gatekeeper_call.Statement.{statement}
 use Rattle.host.proofs.gatekeeper_call.Tie as tie
 
 returns : tie.Need-returns
-returns c = (call-unsized _ _ (c .if1 .taken), ((λ h. absurd (c .if1 .taken h)), λ h. refl))
+returns c = called-unsized _ _ (c .if1 .taken)
 
 load-monitor-requires : tie.Need-load-monitor-requires
 load-monitor-requires c κs = search needs
@@ -29,14 +31,15 @@ same-length c = search needs
 returns-2 : tie.Need-returns-2
 returns-2 c =
     let test = c in
-    let call = test .before .before .before .before in
-    let loaded = call .before .before .before in
+    let counted = test .before .before .before .before in
+    let loaded = counted .before .before .before in
     let long = loaded .before .before .if1 .left in
     let a = loaded .before .before .before .before .args in
-    let k = call .counted-call in
-    let p = made (a .state .now) (loaded .load-monitor .ensures) (call .before .load-tally .ensures) (k .ensures .0) (k .ensures .1) in
-    let answered = call-answered p _ long (test .before .before .to-number .ensures) in
-    (answered, ((λ h. call-refused p long (sym (test .before .letter .ensures) ∙ test .if2 .taken)), λ h. absurd (h long)))
+    let k = counted .counted-call in
+    let call = direct (a .code) (a .a) (a .b) (a .c) (a .d) in
+    let p = made (a .state .now) {c = decode call} (loaded .load-monitor .ensures) (counted .before .load-tally .ensures) (k .ensures .0) (k .ensures .1) in
+    let n = test .before .before .to-number .ensures in
+    called-refused {r = call} p long (record { number = n .0; back = n .1 }) (sym (test .before .letter .ensures) ∙ test .if2 .taken)
 
 store-requires : tie.Need-store-requires
 store-requires c κs = search needs
@@ -47,15 +50,16 @@ same-length-2 c = search needs
 returns-3 : tie.Need-returns-3
 returns-3 c =
     let test = c .before .before .before .before .before .before in
-    let call = test .before .before .before .before in
-    let loaded = call .before .before .before in
+    let counted = test .before .before .before .before in
+    let loaded = counted .before .before .before in
     let long = loaded .before .before .if1 .left in
     let a = loaded .before .before .before .before .args in
-    let k = call .counted-call in
-    let p = made (a .state .now) (loaded .load-monitor .ensures) (call .before .load-tally .ensures) (k .ensures .0) (k .ensures .1) in
-    let answered = call-answered p _ long (test .before .before .to-number .ensures) in
-    let moved = call-moved p (λ e. test .if2 .left (test .before .letter .ensures ∙ e)) (c .before .before .store .ensures) in
-    (answered, ((λ h. moved), λ h. absurd (h long)))
+    let k = counted .counted-call in
+    let call = direct (a .code) (a .a) (a .b) (a .c) (a .d) in
+    let p = made (a .state .now) {c = decode call} (loaded .load-monitor .ensures) (counted .before .load-tally .ensures) (k .ensures .0) (k .ensures .1) in
+    let n = test .before .before .to-number .ensures in
+    called-moved {r = call} p long (record { number = n .0; back = n .1 })
+    (λ e. test .if2 .left (test .before .letter .ensures ∙ e)) (c .before .before .store .ensures)
 
 pub gatekeeper-call-spec : {M : Type 1} → statement M
 gatekeeper-call-spec =

@@ -1,8 +1,8 @@
 -- Laws of answers as numbers: what a host reads off each, and that 0 is no answer's. Assumes nothing.
-use mathlib.Core.Path.{_≡_, sym, subst}
+use mathlib.Core.Path.{_≡_, refl, sym, ap₂, _∙_, subst}
 use mathlib.Core.Bool.{Bool, true, false, cond}
 use mathlib.Core.List.{List, [], _∷_, _++_}
-use Prim.Native.Nat.{ℕ, _/_, _%_, _≤_, _<_}
+use Prim.Native.Nat.{ℕ, _+_, _*_, _/_, _%_, _≤_, _<_}
 use native.Mathlib.Omega.{arith}
 use lib.Dec.{ltb}
 use lib.ListN.{length, length-append}
@@ -14,20 +14,25 @@ use Rattle.number.specs.Leb.Laws.{number-bytes}
 use Rattle.text.specs.Reply.{end-word, space, newline, field, ending}
 use Rattle.replay.specs.Replay.{Replied, replied, replies, calls-of, records-of, lines, last-line, text, largest-journal, reply}
 use Rattle.gatekeeper.specs.View.{letter-of, value-of}
-use Rattle.host.specs.Numbers.{answer-number, reading-number}
+use Rattle.host.specs.Numbers.{answer-number, letter-in, value-in, answer-by, answer-in, reading-number}
 
 -- ── calls ──
--- the letter and the level or refusal number, of a byte each
-pub answer-letter : (a : Answer) → value-of a < 256 → answer-number a / 256 ≡ letter-of a
-answer-letter (allowed l) h = omega arith
-answer-letter (lowered l) h = omega arith
-answer-letter (refused n) h = omega arith
+-- an answer whose level or refusal number is a byte is read back
+pub answer-back : (a : Answer) → value-of a < 256 → answer-in (answer-number a) ≡ a
+answer-back a h = ap₂ answer-by (letter-back (letter-of a) (value-of a) h) (value-back (letter-of a) (value-of a) h) ∙ by a
+  where
+    letter-back : (l v : ℕ) → v < 256 → letter-in (256 * l + v) ≡ l
+    letter-back l v h = omega arith
 
-pub answer-value : (a : Answer) → value-of a < 256 → answer-number a % 256 ≡ value-of a
-answer-value (allowed l) h = omega arith
-answer-value (lowered l) h = omega arith
-answer-value (refused n) h = omega arith
+    value-back : (l v : ℕ) → v < 256 → value-in (256 * l + v) ≡ v
+    value-back l v h = omega arith
 
+    by : (a : Answer) → answer-by (letter-of a) (value-of a) ≡ a
+    by (allowed l) = refl
+    by (lowered l) = refl
+    by (refused n) = refl
+
+-- 0 is none's
 pub answer-some : (a : Answer) → 0 < answer-number a
 answer-some (allowed l) = omega arith
 answer-some (lowered l) = omega arith

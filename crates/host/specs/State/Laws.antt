@@ -1,5 +1,5 @@
--- Laws of the state's bytes. In order: records of two bytes; numbers; the bytes of a monitor and a tally are read back; the empty state; demand 3 for
--- a host. Assumes nothing.
+-- Laws of the state's bytes. In order: records of two bytes; numbers; the bytes of a monitor and a tally are read back; the empty state. Assumes
+-- nothing.
 use mathlib.Core.Path.{_≡_, refl, sym, ap, ap₂, _∙_, fun-ext}
 use mathlib.Core.Bool.{Bool, true, false, cond}
 use mathlib.Core.Option.{Option, none}
@@ -11,12 +11,8 @@ use lib.Dec.{ltb}
 use lib.ListN.{length, take, drop, getD, replicate, length-append, length-replicate, getD-replicate, List·getD-eq-default}
 use lib.Seq.{take-at, drop-at, drop-drop}
 use Rattle.model.specs.Flow.{Thing, subject, object}
-use Rattle.model.specs.Tables.{Entry, empty, places, clean}
+use Rattle.model.specs.Tables.{Entry, empty, places}
 use Rattle.model.specs.Tally.{zeroed}
-use Rattle.model.specs.Calls.{Raw, decode, Answer, answer}
-use Rattle.model.specs.Promise.{Runs, then}
-use Rattle.model.specs.Demand3.{Demand3}
-use Rattle.model.specs.Demand3.Laws.{demand3}
 use Rattle.model.specs.Tables.{Handle as Held}
 use Rattle.gatekeeper.specs.declared.Kind.{Kind}
 use Rattle.gatekeeper.specs.declared.Kind.the-variants.{Free, File, Pipe}
@@ -30,7 +26,7 @@ use Rattle.gatekeeper.specs.declared.Tally.{Tally}
 use Rattle.gatekeeper.specs.View.{view, counts-of, subject-entry, object-entry, held, no-subject, no-object, no-handle, entries}
 use Rattle.host.specs.State.{state-bytes, pairs, flat, subject-of, object-of, handle-of, live-byte, kind-byte, way-byte, whole, digits}
 use Rattle.host.specs.State.{subjects-of, objects-of, handles-of, made-of, gone-of, monitor-of, tally-of}
-use Rattle.host.specs.State.{subject-bytes, object-bytes, handle-bytes, bytes-of, state-view, Blank, Stored}
+use Rattle.host.specs.State.{subject-bytes, object-bytes, handle-bytes, bytes-of, state-view, Blank}
 
 -- ── records of two bytes ──
 module _ {A : Type 0} (f g : A → ℕ) where
@@ -263,15 +259,4 @@ module _ (s : List ℕ) (z : s ≡ replicate state-bytes 0) where
 
   -- zeros are the empty state
   pub zeros-blank : Blank s
-  zeros-blank = record { tables = zeros-view; counts = zeros-tally }
-
--- ── demand 3 ──
--- what a host did, one call after the other
-pub stored-then : {s s′ s″ : List ℕ} {r : Raw} {rs : List Raw} {l : List Answer} → Stored s (decode r) s′ → Runs state-view s′ rs l s″
-    → Runs state-view s (r ∷ rs) (answer (clean (state-view s)) (decode r) ∷ l) s″
-stored-then p q = then (p .meets) q
-
--- a host that keeps nothing but the bytes, and starts from the empty state, has demand 3 for every list of calls
-pub bytes-demand3 : (s : List ℕ) → Blank s → (rs : List Raw) (l : List Answer) (s′ : List ℕ) → Runs state-view s rs l s′
-    → Demand3 rs l (state-view s′)
-bytes-demand3 s b = demand3 state-view s (b .tables)
+  zeros-blank = record { size = ap length z ∙ length-replicate {A = ℕ} state-bytes 0; tables = zeros-view; counts = zeros-tally }

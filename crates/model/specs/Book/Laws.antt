@@ -19,7 +19,8 @@ use Rattle.model.specs.Invariant.{Safe, Kept}
 use Rattle.model.specs.Invariant.Laws.{Pot, pot-safe, needs-pot, Less, less-wf, less-pot, Feeds}
 use Rattle.model.specs.Calls.{Call, admit, register, create, make-pipe, opens, access, fork, exec, close, exit, retire, unknown, Raw, decode, target, moves, sheds, steps, effect, Test, alive, present, taken, facing, suits, broken, tests, refusal, next, Answer, answer, answers, after}
 use Rattle.model.specs.Calls.Refusals.{allowed-iff}
-use Rattle.model.specs.Calls.Kept.{is-alive, is-facing, access-feeds, sheds-less, exec-feeds, next-kept, empty-kept}
+use Rattle.model.specs.Calls.Passed.{is-alive, is-facing, sheds-less}
+use Rattle.model.specs.Calls.Kept.{access-feeds, exec-feeds, next-kept, empty-kept}
 use Rattle.model.specs.Book.{Contents, Book, blank-book, Handling, Outside, store, carry, carries, turn, book-from, answers-from, brought-by, brought, Alike-from, Alike, book, book-answers}
 
 -- ── the book's tables and answers are those of the rules ──

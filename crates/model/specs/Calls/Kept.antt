@@ -1,216 +1,48 @@
 -- Every call keeps the invariant, so every state from empty tables has it: each live thing's level is at least its need, no handle
--- dangles, a pipe has a handle, and levels are 0 to 15 (document 01, "Flow and need", "Tables"). What the passed tests give; then call
--- by call: nothing dangles, whichever tables the call was made on, levels stay in scale, and the rest; then the list, and its answers.
--- Assumes nothing.
+-- dangles, a pipe has a handle, and levels are 0 to 15 (document 01, "Flow and need", "Tables"). Call by call, then the list. That
+-- nothing dangles is in `Dangling`, levels are in `Scale`. Assumes nothing.
 use mathlib.Core.Path.{_≡_, refl, sym, _∙_, ap, subst}
 use mathlib.Core.Bool.{Bool, true, false, not, cond}
 use mathlib.Core.Logic.{_⊎_, inl, inr}
-use mathlib.Core.Option.{Option, none, some, Option·none-ne-some, Option·some-injective}
+use mathlib.Core.Option.{Option, none, some, Option·some-injective}
 use mathlib.Core.List.{List, [], _∷_}
-use Prim.Native.Nat.{ℕ, _<_, _≤_}
-use lib.Dec.{T, T-not, not-T, eqb, eqb→eq, ltb, ltb→lt}
-use Rattle.model.specs.Bools.{test, neither, both, not-not}
-use Rattle.model.specs.Lists.{In}
-use Rattle.model.specs.Label.{Label, highest, label, level, in-scale, leq, _⊑_, bot}
-use Rattle.model.specs.Label.Laws.{⊑-refl, bot-least, label-in-scale, bot-in-scale, level-in-scale}
+use Prim.Native.Nat.{ℕ}
+use lib.Dec.{T, T-not}
+use Rattle.model.specs.Bools.{test, not-not}
+use Rattle.model.specs.Label.{Label, label, leq, _⊑_}
+use Rattle.model.specs.Label.Laws.{⊑-refl, bot-least}
 use Rattle.model.specs.Flow.{Thing, subject, object, same}
-use Rattle.model.specs.Tables.{Kind, running, file, pipe, Dir, reading, writing, Entry, entry, Handle, handle, Tables, empty, places, in-range, is-some, used, live, label-of, is-pipe, cell, handles, open-on, arc, flow, speaks, demand, needs, safe}
-use Rattle.model.specs.Tables.Laws.{some-of, used-is, speaks-at, speaks-hand, speaks-cell, cell-self, cell-entry, object-entry, handles-at, open-here, thing-listed, demand-label, safe-above}
+use Rattle.model.specs.Tables.{Kind, running, file, pipe, Dir, reading, writing, Entry, entry, Handle, handle, Tables, empty, in-range, label-of, is-pipe, cell, handles, open-on, arc, flow, speaks, demand, needs, safe}
+use Rattle.model.specs.Tables.Laws.{speaks-at, speaks-hand, speaks-cell, cell-self, cell-entry, object-entry, handles-at, open-here, thing-listed, demand-label, safe-above}
 use Rattle.model.specs.Steps.{Origin, outside, blank, copied, Access, reads, writes, runs, enter, leave, hold, holds, mix, put, row, place, fall, apply, applies, ended, reap}
-use Rattle.model.specs.Steps.Laws.{put-cases, put-same, row-cases, place-same, live-hand, live-at, applies-append, ended-last}
-use Rattle.model.specs.Invariant.{Ends, Wf, Safe, Piped, Scaled, Kept, Sayable}
+use Rattle.model.specs.Steps.Laws.{put-cases, row-cases, place-same, applies-append, ended-last}
+use Rattle.model.specs.Invariant.{Wf, Safe, Piped, Scaled, Kept}
 use Rattle.model.specs.Invariant.Laws.{Pot, pot-safe, needs-pot, row-below, Less, less-close, less-row, less-wf, less-pot, Feeds, flow-feeds}
-use Rattle.model.specs.Invariant.Laws.{empty-wf, wf-enter, wf-hand, wf-hold, wf-without, wf-reap, wf-mix}
+use Rattle.model.specs.Invariant.Laws.{empty-wf, wf-reap}
 use Rattle.model.specs.Invariant.Laws.{empty-pot, raise, raise-same, raise-other, pot-enter, pot-hand, pot-hold, pot-without, pot-reap, pot-mix}
-use Rattle.model.specs.Invariant.Laws.{empty-scaled, scaled-enter, scaled-same, scaled-without, scaled-mix}
-use Rattle.model.specs.Calls.{Call, admit, register, create, make-pipe, opens, access, fork, exec, close, exit, retire, unknown, Raw, decode, target, moves, sheds, steps, effect, Test, alive, present, new, leveled, vacant, taken, facing, enough, suits, idle, faces, turned, broken, tests, refusal, next, shown, Answer, allowed, lowered, refused, outcome, answer, after, answers}
-use Rattle.model.specs.Calls.Refusals.{allowed-iff, refused-listed}
-
--- ── what a passed test gives ──
-pub is-alive : (t : Tables) (s : ℕ) → T (not (broken t (alive s))) → T (live t (subject s))
-is-alive t s h = not-not (live t (subject s)) h
-
-pub is-present : (t : Tables) (o : ℕ) → T (not (broken t (present o))) → T (live t (object o))
-is-present t o h = not-not (live t (object o)) h
-
-pub is-new : (t : Tables) (x : Thing) → T (not (broken t (new x))) → T (in-range x) × (t .at x ≡ none)
-is-new t x h = let r = neither (not (in-range x)) (used t x) h in (not-not (in-range x) (r .0), go (t .at x) (subst (λ (b : Bool). T (not b)) (used-is t x) (r .1)))
-  where
-    go : (o : Option Entry) → T (not (is-some o)) → o ≡ none
-    go none u = refl
-    go (some e) u = absurd u
-
-pub is-place : (t : Tables) (s p : ℕ) → T (not (broken t (vacant s p))) → p < places
-is-place t s p h = ltb→lt p places (not-not (ltb p places) (neither (not (ltb p places)) (is-some (t .hand s p)) h .0))
-
-faces→eq : (a b : Dir) → T (faces a b) → a ≡ b
-faces→eq reading reading t = refl
-faces→eq reading writing t = absurd t
-faces→eq writing reading t = absurd t
-faces→eq writing writing t = refl
-
--- a taken place that faces d holds a handle for d
-pub is-facing : (t : Tables) (d : Dir) (s p : ℕ) → T (not (broken t (taken s p))) → T (not (broken t (facing d s p))) → (k : Handle) × (t .hand s p ≡ some k) × (k .dir ≡ d)
-is-facing t d s p h f = let r = some-of (t .hand s p) (not-not (is-some (t .hand s p)) (neither (not (ltb p places)) (not (is-some (t .hand s p))) h .1)) in
-    (r .0, r .1, sym (faces→eq d (r .0 .dir) (not-not (faces d (r .0 .dir)) (subst (λ (o : Option Handle). T (not (turned d o))) (r .1) f))))
-
--- the tests of an allowed call
-abbrev Passed : Tables → Call → Type 0
-Passed t c = (e : Test) → In e (tests c) → T (not (broken t e))
-
--- a thing that was entered is live, and so is what was
-entered-live : (t : Tables) (x : Thing) (e : Entry) (g : Origin) → T (in-range x) → T (live (apply (enter x e g) t) x)
-entered-live t x e g r = both (in-range x) (used (apply (enter x e g) t) x) r (subst T (sym (used-is (apply (enter x e g) t) x)) (subst (λ (o : Option Entry). T (is-some o)) (sym (put-same (t .at) x (some e))) tt))
-
-old-live : (t : Tables) (x : Thing) (e : Entry) (g : Origin) (y : Thing) → T (live t y) → T (live (apply (enter x e g) t) y)
-old-live t x e g y l = live-at t (put (t .at) x (some e)) y (go (same x y)) l
-  where
-    go : (b : Bool) → T (is-some (t .at y)) → T (is-some (cond b (some e) (t .at y)))
-    go true h = tt
-    go false h = h
-
--- what an exec drops before it runs: handles alone
-pub sheds-less : (t : Tables) (s : ℕ) → Less t (applies (sheds t s) t)
-unfolding sheds
-sheds-less t s = record { same-at = λ x. refl; hands = λ s p k q. q; ends = λ s p k q f. f; talks = λ s p x k q z. z }
-
--- ── nothing dangles after the steps of an allowed call ──
-module _ (t : Tables) (w : Wf t) where
-  open-wf : (d : Dir) (s o p : ℕ) → Passed t (opens d s o p) → Wf (applies (steps t (opens d s o p)) t)
-  open-wf d s o p m = wf-hold t s p (handle d o) w (record {
-    from = is-alive t s (m (alive s) (inl refl));
-    to = is-present t o (m (present o) (inr (inl refl)));
-    place = is-place t s p (m (vacant s p) (inr (inr (inl refl))));
-  })
-
-  access-wf : (d : Dir) (s p : ℕ) → Wf (applies (steps t (access d s p)) t)
-  access-wf reading s p = wf-mix t reads (subject s) (target (t .hand s p)) (cell t s) (target (t .hand s p)) w
-  access-wf writing s p = wf-mix t writes (target (t .hand s p)) (subject s) (target (t .hand s p)) (cell t s) w
-
-  exec-wf : (s o : ℕ) → Wf (applies (steps t (exec s o)) t)
-  exec-wf s o = subst Wf (sym (applies-append (sheds t s) (mix runs (subject s) (object o) (cell t s) (object o) ∷ []) t))
-      (wf-mix (applies (sheds t s) t) runs (subject s) (object o) (cell t s) (object o) (less-wf (sheds-less t s) w))
-
-  exit-wf : (s : ℕ) → Wf (applies (steps t (exit s)) t)
-  exit-wf s = wf-without (same (subject s)) (apply (holds s (λ p. none)) t) (less-wf (less-row t s) w) (λ s′ p k q. (apart-row s′ p k q, tt))
-    where
-      apart-row : (s′ p : ℕ) (k : Handle) → row (t .hand) s (λ p. none) s′ p ≡ some k → T (not (eqb s s′))
-      apart-row s′ p k q = elim (row-cases (t .hand) s (λ p. none) s′ p (some k) q) [ inl c ↦ absurd (Option·none-ne-some k (c .1)) | inr c ↦ c .0 ]
-
-  retire-wf : (o : ℕ) → T (not (broken t (idle o))) → Wf (applies (steps t (retire o)) t)
-  retire-wf o h = wf-without (same (object o)) t w (λ s p k q. (tt, unheld s p k q))
-    where
-      unheld : (s p : ℕ) (k : Handle) → t .hand s p ≡ some k → T (not (eqb o (k .to)))
-      unheld s p k q = let f = w .ends s p k q in not-T (eqb o (k .to)) (λ e. T-not (open-on (handles t) o) h (subst (λ (z : ℕ). T (open-on (handles t) z)) (sym (eqb→eq o (k .to) e)) (open-here t s p k (row-below f) (f .place) q)))
-
-  fork-wf : (s c : ℕ) → T (not (broken t (new (subject c)))) → Wf (applies (steps t (fork s c)) t)
-  fork-wf s c h = wf-hand u (row (t .hand) c (t .hand s)) (wf-enter t (subject c) e g (n .0) w) ends′
-    where
-      n : T (in-range (subject c)) × (t .at (subject c) ≡ none)
-      n = is-new t (subject c) h
-
-      e : Entry
-      e = entry running (label-of (t .at (cell t s)))
-
-      g : Origin
-      g = copied (cell t s)
-
-      u : Tables
-      u = apply (enter (subject c) e g) t
-
-      ends′ : (s′ p : ℕ) (k : Handle) → row (t .hand) c (t .hand s) s′ p ≡ some k → (t .hand s′ p ≡ some k) ⊎ Ends u s′ p k
-      ends′ s′ p k q = elim (row-cases (t .hand) c (t .hand s) s′ p (some k) q) [
-        | inl z ↦ (let f = w .ends s p k (z .1) in inr (record { from = subst (λ (j : ℕ). T (live u (subject j))) (z .0) (entered-live t (subject c) e g (n .0)); to = old-live t (subject c) e g (object (k .to)) (f .to); place = f .place }))
-        | inr z ↦ inl (z .1)
-      ]
-
-  pipe-wf : (s o r p : ℕ) → Passed t (make-pipe s o r p) → Wf (applies (steps t (make-pipe s o r p)) t)
-  pipe-wf s o r p m = wf-hold u₁ s p (handle writing o) (wf-hold u s r (handle reading o) (wf-enter t (object o) e blank ranged w) (ends′ reading r (m (vacant s r) (inr (inr (inl refl))))))
-      (still (ends′ writing p (m (vacant s p) (inr (inr (inr (inl refl)))))))
-    where
-      ranged : T (in-range (object o))
-      ranged = is-new t (object o) (m (new (object o)) (inr (inl refl))) .0
-
-      e : Entry
-      e = entry pipe (label-of (t .at (cell t s)))
-
-      u : Tables
-      u = apply (enter (object o) e blank) t
-
-      u₁ : Tables
-      u₁ = apply (hold s r (some (handle reading o))) u
-
-      ends′ : (d : Dir) (q : ℕ) → T (not (broken t (vacant s q))) → Ends u s q (handle d o)
-      ends′ d q h = record { from = old-live t (object o) e blank (subject s) (is-alive t s (m (alive s) (inl refl))); to = entered-live t (object o) e blank ranged; place = is-place t s q h }
-
-      still : Ends u s p (handle writing o) → Ends u₁ s p (handle writing o)
-      still f = record { from = live-hand u (u₁ .hand) (subject s) (f .from); to = live-hand u (u₁ .hand) (object o) (f .to); place = f .place }
-
-  call-wf : (c : Call) → Passed t c → Wf (applies (steps t c) t)
-  call-wf (admit s n) m = wf-enter t (subject s) (entry running (label n)) outside (is-new t (subject s) (m (new (subject s)) (inl refl)) .0) w
-  call-wf (register o n) m = wf-enter t (object o) (entry file (label n)) outside (is-new t (object o) (m (new (object o)) (inl refl)) .0) w
-  call-wf (create s o) m = wf-enter t (object o) (entry file (label-of (t .at (cell t s)))) blank (is-new t (object o) (m (new (object o)) (inr (inl refl))) .0) w
-  call-wf (make-pipe s o r p) m = pipe-wf s o r p m
-  call-wf (opens d s o p) m = open-wf d s o p m
-  call-wf (access d s p) m = access-wf d s p
-  call-wf (fork s c) m = fork-wf s c (m (new (subject c)) (inr (inl refl)))
-  call-wf (exec s o) m = exec-wf s o
-  call-wf (close s p) m = less-wf (less-close t s p) w
-  call-wf (exit s) m = exit-wf s
-  call-wf (retire o) m = retire-wf o (m (idle o) (inr (inr (inl refl))))
-  call-wf unknown m = w
-
--- 01, Tables: "every allowed call empties it": nothing dangles in the tables after an allowed call, whichever tables it was made on
-pub effect-wf : (t : Tables) (c : Call) → Wf t → refusal t c ≡ none → Wf (effect t c)
-unfolding effect
-effect-wf t c w q = wf-reap (handles t) (applies (steps t c) t) (call-wf t w c (allowed-iff t c .0 q))
-
-pub next-wf : (t : Tables) (c : Call) → Wf t → Wf (next t c)
-next-wf t c w = go (refusal t c) refl
-  where
-    go : (o : Option ℕ) → refusal t c ≡ o → Wf (elim o as (λ _. Tables) [ none ↦ effect t c | some n ↦ t ])
-    go none q = effect-wf t c w q
-    go (some n) q = w
-
--- ── levels stay in scale: what enters is in scale, and nothing rises ──
-module _ (t : Tables) (v : Scaled t) where
-  own-in-scale : (s : ℕ) → T (in-scale (label-of (t .at (cell t s))))
-  own-in-scale s = go (t .at (cell t s)) (v .within (cell t s))
-    where
-      go : (o : Option Entry) → ((e : Entry) → o ≡ some e → T (in-scale (e .label))) → T (in-scale (label-of o))
-      go none f = bot-in-scale
-      go (some e) f = f e refl
-
-  access-scaled : (d : Dir) (x c y : Thing) → Scaled (apply (moves d x c y) t)
-  access-scaled reading x c y = scaled-mix t reads x y c y v
-  access-scaled writing x c y = scaled-mix t writes y x y c v
-
-  call-scaled : (c : Call) → Passed t c → Scaled (applies (steps t c) t)
-  call-scaled (admit s n) m = scaled-enter t (subject s) (entry running (label n)) outside (label-in-scale n (m (leveled n) (inr (inl refl)))) v
-  call-scaled (register o n) m = scaled-enter t (object o) (entry file (label n)) outside (label-in-scale n (m (leveled n) (inr (inl refl)))) v
-  call-scaled (create s o) m = scaled-enter t (object o) (entry file (label-of (t .at (cell t s)))) blank (own-in-scale s) v
-  call-scaled (make-pipe s o r p) m = scaled-same (λ x. refl) (scaled-enter t (object o) (entry pipe (label-of (t .at (cell t s)))) blank (own-in-scale s) v)
-  call-scaled (opens d s o p) m = scaled-same (λ x. refl) v
-  call-scaled (access d s p) m = access-scaled d (subject s) (cell t s) (target (t .hand s p))
-  call-scaled (fork s c) m = scaled-same (λ x. refl) (scaled-enter t (subject c) (entry running (label-of (t .at (cell t s)))) (copied (cell t s)) (own-in-scale s) v)
-  call-scaled (exec s o) m = subst Scaled (sym (applies-append (sheds t s) (mix runs (subject s) (object o) (cell t s) (object o) ∷ []) t))
-      (scaled-mix (applies (sheds t s) t) runs (subject s) (object o) (cell t s) (object o) (scaled-same (sheds-less t s .same-at) v))
-  call-scaled (close s p) m = scaled-same (λ x. refl) v
-  call-scaled (exit s) m = scaled-without (same (subject s)) (apply (holds s (λ p. none)) t) (scaled-same (λ x. refl) v)
-  call-scaled (retire o) m = scaled-without (same (object o)) t v
-  call-scaled unknown m = v
+use Rattle.model.specs.Invariant.Laws.{empty-scaled, scaled-without}
+use Rattle.model.specs.Calls.{Call, admit, register, create, make-pipe, opens, access, fork, exec, close, exit, retire, unknown, Raw, decode}
+use Rattle.model.specs.Calls.{target, moves, sheds, steps, effect, next, after, alive, present, new, taken, facing, enough, suits, broken, refusal}
+use Rattle.model.specs.Calls.Refusals.{allowed-iff}
+use Rattle.model.specs.Calls.Passed.{is-alive, is-present, is-new, is-facing, Passed, sheds-less}
+use Rattle.model.specs.Calls.Dangling.{open-wf, pipe-wf, call-wf}
+use Rattle.model.specs.Calls.Scale.{call-scaled}
+pub use Rattle.model.specs.Calls.Passed.{is-new, is-facing}
 
 -- ── what the steps of an allowed call make of the tables, before pipes end ──
-pub record Stepped (t u : Tables) : Type 0 where
-  pub safe : Safe u
-  -- a pipe had a handle before or has one now
-  pub pipes : (o : ℕ) → T (is-pipe (object o) (u .at (object o))) → T (open-on (handles t) o) ⊎ T (open-on (handles u) o)
+-- a pipe of u has a handle there, or had one in t
+abbrev Pipes : Tables → Tables → Type 0
+Pipes t u = (o : ℕ) → T (is-pipe (object o) (u .at (object o))) → T (open-on (handles t) o) ⊎ T (open-on (handles u) o)
 
-stepped : {t u : Tables} {φ : Thing → Label} → Pot u φ → ((o : ℕ) → T (is-pipe (object o) (u .at (object o))) → T (open-on (handles t) o) ⊎ T (open-on (handles u) o)) → Stepped t u
+record Stepped (t u : Tables) : Type 0 where
+  safe : Safe u
+  pipes : Pipes t u
+
+stepped : {t u : Tables} {φ : Thing → Label} → Pot u φ → Pipes t u → Stepped t u
 stepped i p = record { safe = pot-safe i; pipes = p }
 
 -- no pipe is new
-old-pipes : (t u : Tables) → Piped t → ((o : ℕ) → T (is-pipe (object o) (u .at (object o))) → T (is-pipe (object o) (t .at (object o)))) → (o : ℕ) → T (is-pipe (object o) (u .at (object o))) → T (open-on (handles t) o) ⊎ T (open-on (handles u) o)
+old-pipes : (t u : Tables) → Piped t → ((o : ℕ) → T (is-pipe (object o) (u .at (object o))) → T (is-pipe (object o) (t .at (object o)))) → Pipes t u
 old-pipes t u v f o h = inl (v .joined o (f o h))
 
 -- one entry changed: the pipes are the old ones but for it
@@ -233,12 +65,14 @@ module _ (t : Tables) (v : Kept t) where
   -- ── handles go: close, and what exec drops ──
   less-stepped : (u : Tables) → Less t u → Stepped t u
   unfolding pot
-  less-stepped u l = stepped (less-pot (needs t) l pot) (old-pipes t u (v .piped) (λ o h. subst (λ (z : Option Entry). T (is-pipe (object o) z)) (l .same-at (object o)) h))
+  less-stepped u l = stepped (less-pot (needs t) l pot)
+      (old-pipes t u (v .piped) (λ o h. subst (λ (z : Option Entry). T (is-pipe (object o) z)) (l .same-at (object o)) h))
 
   -- ── exit ──
   exit-stepped : (s : ℕ) → Stepped t (applies (steps t (exit s)) t)
   unfolding pot
-  exit-stepped s = stepped (pot-without (same (subject s)) u (needs t) (less-pot (needs t) (less-row t s) pot)) (old-pipes t (apply (leave (subject s)) u) (v .piped) (λ o h. h))
+  exit-stepped s = stepped (pot-without (same (subject s)) u (needs t) (less-pot (needs t) (less-row t s) pot))
+      (old-pipes t (apply (leave (subject s)) u) (v .piped) (λ o h. h))
     where
       u : Tables
       u = apply (holds s (λ p. none)) t
@@ -256,15 +90,22 @@ safe-sound u w h = record { above = λ x e q. subst (λ (o : Option Entry). need
 module _ (t : Tables) (v : Kept t) where
   -- ── open ──
   open-stepped : (d : Dir) (s o p : ℕ) → Passed t (opens d s o p) → Stepped t (applies (steps t (opens d s o p)) t)
-  open-stepped d s o p m = record { safe = safe-sound u (open-wf t (v .wf) d s o p m) (not-not (safe u) (m (enough (opens d s o p)) (inr (inr (inr (inl refl)))))); pipes = old-pipes t u (v .piped) (λ o h. h) }
+  open-stepped d s o p m = record {
+    safe = safe-sound u (open-wf t (v .wf) d s o p m) (not-not (safe u) (m (enough (opens d s o p)) (inr (inr (inr (inl refl))))));
+    pipes = old-pipes t u (v .piped) (λ o h. h);
+  }
     where
       u : Tables
       u = apply (hold s p (some (handle d o))) t
 
   -- ── read and write ──
   mix-stepped : (φ : Thing → Label) (m : Access) (a b y x : Thing) (u : Tables) → Stepped t u → Pot u φ → Feeds u φ y x → Stepped t (apply (mix m a b y x) u)
-  mix-stepped φ m a b y x u k i f = stepped (pot-mix u φ m a b y x i f) (λ o h. subst (λ (hs : List Handle). T (open-on (handles t) o) ⊎ T (open-on hs o)) (sym (handles-at u (put (u .at) y (fall y (u .at y) (u .at x))))) (k .pipes o (same-pipe o h)))
+  mix-stepped φ m a b y x u k i f = stepped (pot-mix u φ m a b y x i f)
+      (λ o h. subst (λ (hs : List Handle). T (open-on (handles t) o) ⊎ T (open-on hs o)) (sym (handles-at u (put (u .at) y new))) (k .pipes o (same-pipe o h)))
     where
+      new : Option Entry
+      new = fall y (u .at y) (u .at x)
+
       kind-kept : (o : ℕ) (e : Option Entry) → T (is-pipe (object o) (fall (object o) (u .at (object o)) e)) → T (is-pipe (object o) (u .at (object o)))
       kind-kept o e = go (u .at (object o)) e
         where
@@ -273,8 +114,8 @@ module _ (t : Tables) (v : Kept t) where
           go (some c) none h = h
           go (some c) (some d) h = h
 
-      same-pipe : (o : ℕ) → T (is-pipe (object o) (put (u .at) y (fall y (u .at y) (u .at x)) (object o))) → T (is-pipe (object o) (u .at (object o)))
-      same-pipe o h = elim (put-pipes u y (fall y (u .at y) (u .at x)) o h) [
+      same-pipe : (o : ℕ) → T (is-pipe (object o) (put (u .at) y new (object o))) → T (is-pipe (object o) (u .at (object o)))
+      same-pipe o h = elim (put-pipes u y new o h) [
         | inl c ↦ kind-kept o (u .at x) (subst (λ (z : Thing). T (is-pipe (object o) (fall z (u .at z) (u .at x)))) (c .0) (c .1))
         | inr c ↦ c
       ]
@@ -306,7 +147,8 @@ module _ (t : Tables) (v : Kept t) where
 
   exec-stepped : (s o : ℕ) → T (not (broken t (present o))) → T (not (broken t (suits s o))) → Stepped t (applies (steps t (exec s o)) t)
   exec-stepped s o h g = subst (Stepped t) (sym (applies-append (sheds t s) (mix runs (subject s) (object o) (cell t s) (object o) ∷ []) t))
-      (mix-stepped t v (needs u) runs (subject s) (object o) (cell t s) (object o) u k (needs-pot (less-wf (sheds-less t s) (v .wf)) (k .safe)) (exec-feeds t s o h g))
+      (mix-stepped t v (needs u) runs (subject s) (object o) (cell t s) (object o) u k
+      (needs-pot (less-wf (sheds-less t s) (v .wf)) (k .safe)) (exec-feeds t s o h g))
     where
       u : Tables
       u = applies (sheds t s) t
@@ -365,7 +207,9 @@ module _ (t : Tables) (v : Kept t) where
 
     pipe-stepped : (o r w : ℕ) → Passed t (make-pipe s o r w) → Stepped t (applies (steps t (make-pipe s o r w)) t)
     unfolding own
-    pipe-stepped o r w m = stepped (pot-hold u₁ ψ s w (handle writing o) (pot-hold u ψ s r (handle reading o) (entered-pot (object o) pipe blank (n .1) bot-least) (λ x z. rises x z)) (λ x z. sinks x (sym (speaks-hand u (place (u .hand) s r (some (handle reading o))) s) ∙ z)))
+    pipe-stepped o r w m = stepped (pot-hold u₁ ψ s w (handle writing o)
+        (pot-hold u ψ s r (handle reading o) (entered-pot (object o) pipe blank (n .1) bot-least) (λ x z. rises x z))
+        (λ x z. sinks x (sym (speaks-hand u (place (u .hand) s r (some (handle reading o))) s) ∙ z)))
         (λ j h. elim (put-pipes t (object o) (some e) j h) [ inl c ↦ inr (open-now j (c .0)) | inr c ↦ inl (v .piped .joined j c) ])
       where
         n : T (in-range (object o)) × (t .at (object o) ≡ none)
@@ -397,7 +241,8 @@ module _ (t : Tables) (v : Kept t) where
         sinks x z = subst (λ (a : Label). ψ (object o) ⊑ a) (mine x z) ⊑-refl
 
         open-now : (j : ℕ) → object o ≡ object j → T (open-on (handles u₂) j)
-        open-now j q = let f = pipe-wf t (v .wf) s o r w m .ends s w (handle writing o) held in subst number-open q (open-here u₂ s w (handle writing o) (row-below f) (f .place) held)
+        open-now j q = let f = pipe-wf t (v .wf) s o r w m .ends s w (handle writing o) held in
+            subst number-open q (open-here u₂ s w (handle writing o) (row-below f) (f .place) held)
           where
             number-open : Thing → Type 0
             number-open (subject j) = Unit {0}
@@ -446,7 +291,8 @@ reap-kept t u w l k = record {
 -- ── calls and lists of calls ──
 pub effect-kept : (t : Tables) (c : Call) → Kept t → refusal t c ≡ none → Kept (effect t c)
 unfolding effect
-effect-kept t c v q = let m = allowed-iff t c .0 q in reap-kept t (applies (steps t c) t) (call-wf t (v .wf) c m) (call-scaled t (v .scaled) c m) (call-stepped t v c m)
+effect-kept t c v q = let m = allowed-iff t c .0 q in
+    reap-kept t (applies (steps t c) t) (call-wf t (v .wf) c m) (call-scaled t (v .scaled) c m) (call-stepped t v c m)
 
 pub next-kept : (t : Tables) (c : Call) → Kept t → Kept (next t c)
 next-kept t c v = go (refusal t c) refl
@@ -467,34 +313,3 @@ after-kept t (r ∷ rs) v = after-kept (next t (decode r)) rs (next-kept t (deco
 -- a pipe has a handle, and levels are 0 to 15.
 pub always-kept : (rs : List Raw) → Kept (after empty rs)
 always-kept rs = after-kept empty rs empty-kept
-
--- ── answers ──
-answer-sayable : (t : Tables) (c : Call) → Kept t → Sayable (answer t c)
-unfolding answer
-answer-sayable t c v = go (refusal t c) refl
-  where
-    Low : Option Entry → Type 0
-    Low o = (e : Entry) → o ≡ some e → T (in-scale (e .label))
-
-    given : (b a : Option Entry) → Low b → Low a → Sayable (outcome b a)
-    given none none lb la = level-in-scale bot bot-in-scale
-    given (some b) none lb la = level-in-scale (b .label) (lb b refl)
-    given none (some a) lb la = level-in-scale (a .label) (la a refl)
-    given (some b) (some a) lb la = by-test (leq (b .label) (a .label)) (level-in-scale (a .label) (la a refl))
-      where
-        by-test : (f : Bool) → level (a .label) ≤ highest → Sayable (elim f as (λ _. Answer) [ true ↦ allowed (level (a .label)) | false ↦ lowered (level (a .label)) ])
-        by-test true h = h
-        by-test false h = h
-
-    go : (o : Option ℕ) → refusal t c ≡ o → Sayable (elim o as (λ _. Answer) [ none ↦ outcome (t .at (shown t c)) (effect t c .at (shown t c)) | some n ↦ refused n ])
-    go none q = given (t .at (shown t c)) (effect t c .at (shown t c)) (v .scaled .within (shown t c)) (effect-kept t c v q .scaled .within (shown t c))
-    go (some n) q = refused-listed t c n q
-
--- every answer from empty tables gives a level of 0 to 15, or the number of a refusal that calls have
-pub always-sayable : (rs : List Raw) (a : Answer) → In a (answers empty rs) → Sayable a
-always-sayable rs = from empty rs empty-kept
-  where
-    from : (t : Tables) (rs : List Raw) → Kept t → (a : Answer) → In a (answers t rs) → Sayable a
-    from t [] v a i = absurd i
-    from t (r ∷ rs) v a (inl q) = subst Sayable q (answer-sayable t (decode r) v)
-    from t (r ∷ rs) v a (inr i) = from (next t (decode r)) rs (next-kept t (decode r) v) a i

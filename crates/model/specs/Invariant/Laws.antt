@@ -17,7 +17,8 @@ use Rattle.model.specs.Flow.Laws.{same→eq, same-refl, need-self, need-
 use Rattle.model.specs.Tables.{Dir, reading, writing, Entry, Handle, Tables, empty, with-at, with-hand, subjects, places, in-range, is-some, live, cell, handles, arc, flow, speaks, edges, demand, needs, counted, clean}
 use Rattle.model.specs.Tables.Laws.{some-of, some-is, live-of, speaks-at, speaks-hand, speaks-cell, cell-entry, object-entry, open-here, flow-edge, edge-flow}
 use Rattle.model.specs.Steps.{Origin, Access, enter, hold, holds, mix, put, row, place, fall, apply, ended, reap}
-use Rattle.model.specs.Steps.Laws.{put-cases, row-cases, place-cases, live-hand, live-at, ended-open, ended-subject, fall-some, some-fall, fall-demand, fall-under, fell}
+use Rattle.model.specs.Steps.Laws.{put-cases, row-cases, place-cases, live-hand, live-at, ended-open, ended-subject}
+use Rattle.model.specs.Steps.Laws.{fall-some, some-fall, fall-demand, fall-under, fell}
 use Rattle.model.specs.Invariant.{Ends, Wf, Safe, Scaled}
 
 pub record Pot (t : Tables) (φ : Thing → Label) : Type 0 where

@@ -8,14 +8,16 @@ use Rattle.model.specs.Tables.{Tables, clean}
 use Rattle.model.specs.Invariant.{Wf}
 use Rattle.model.specs.Invariant.Laws.{clean-same}
 use Rattle.model.specs.Calls.{Call, Raw, decode, refusal, effect, next, Answer, answer, answers, after}
-use Rattle.model.specs.Calls.Kept.{effect-wf, next-wf}
+use Rattle.model.specs.Calls.Dangling.{effect-wf, next-wf}
 use Rattle.model.specs.Promise.{Same-but-free, Meets, Runs, done, then}
 
 module _ {M : Type 0} (view : M → Tables) where
   -- ── the free part ──
   -- one call on monitors that differ in the free part alone
-  free-next : (m m′ n n′ : M) (c : Call) (a a′ : Answer) → Same-but-free view m m′ → Meets view m c a n → Meets view m′ c a′ n′ → (a ≡ a′) × Same-but-free view n n′
-  free-next m m′ n n′ c a a′ e k k′ = (k .answered ∙ ap (λ (t : Tables). answer (clean t) c) e ∙ sym (k′ .answered), go (refusal (clean (view m)) c) refl)
+  free-next : (m m′ n n′ : M) (c : Call) (a a′ : Answer) → Same-but-free view m m′ → Meets view m c a n → Meets view m′ c a′ n′
+      → (a ≡ a′) × Same-but-free view n n′
+  free-next m m′ n n′ c a a′ e k k′ =
+      (k .answered ∙ ap (λ (t : Tables). answer (clean t) c) e ∙ sym (k′ .answered), go (refusal (clean (view m)) c) refl)
     where
       other : (o : Option ℕ) → refusal (clean (view m)) c ≡ o → refusal (clean (view m′)) c ≡ o
       other o q = ap (λ (t : Tables). refusal (clean t) c) (sym e) ∙ q
@@ -25,9 +27,11 @@ module _ {M : Type 0} (view : M → Tables) where
       go (some j) q = ap view (k .unchanged j q) ∙ e ∙ ap view (sym (k′ .unchanged j (other (some j) q)))
 
   -- no answer and no later tables go by the free part
-  pub free-unseen : (rs : List Raw) (m m′ n n′ : M) (l l′ : List Answer) → Same-but-free view m m′ → Runs view m rs l n → Runs view m′ rs l′ n′ → (l ≡ l′) × Same-but-free view n n′
+  pub free-unseen : (rs : List Raw) (m m′ n n′ : M) (l l′ : List Answer) → Same-but-free view m m′ → Runs view m rs l n → Runs view m′ rs l′ n′
+      → (l ≡ l′) × Same-but-free view n n′
   free-unseen rs m m′ n n′ l l′ e done done = (refl, e)
-  free-unseen rs m m′ n n′ l l′ e (then {n = x} {r = r} {rs = rest} {a = a} {l = k} p s) (then {n = x′} {a = a′} {l = k′} p′ s′) = let f = free-next m m′ x x′ (decode r) a a′ e p p′ in
+  free-unseen rs m m′ n n′ l l′ e (then {n = x} {r = r} {rs = rest} {a = a} {l = k} p s) (then {n = x′} {a = a′} {l = k′} p′ s′) =
+      let f = free-next m m′ x x′ (decode r) a a′ e p p′ in
       let g = free-unseen rest x x′ n n′ k k′ (f .1) s s′ in
       (ap₂ (λ y z. y ∷ z) (f .0) (g .0), g .1)
 
@@ -43,7 +47,8 @@ module _ {M : Type 0} (view : M → Tables) where
       go (some j) q = ap (λ (x : M). clean (view x)) (k .unchanged j q)
 
   -- 01, Tables: "A monitor value that no calls could have made goes by the same rules", over a list of calls
-  pub cleaned-runs : (rs : List Raw) (m n : M) (l : List Answer) → Wf (clean (view m)) → Runs view m rs l n → (l ≡ answers (clean (view m)) rs) × (clean (view n) ≡ after (clean (view m)) rs)
+  pub cleaned-runs : (rs : List Raw) (m n : M) (l : List Answer) → Wf (clean (view m)) → Runs view m rs l n
+      → (l ≡ answers (clean (view m)) rs) × (clean (view n) ≡ after (clean (view m)) rs)
   cleaned-runs rs m n l w done = (refl, refl)
   cleaned-runs rs m n l w (then {n = x} {r = r} {rs = rest} {a = a} {l = k} p s) =
       let e = cleaned-next m x (decode r) a w p in

@@ -22,7 +22,8 @@ use Rattle.model.specs.Invariant.{Wf}
 use Rattle.model.specs.Invariant.Laws.{empty-wf}
 use Rattle.model.specs.Calls.{Call, admit, register, create, make-pipe, opens, access, fork, exec, close, exit, retire, unknown, Raw, decode, target, moves, sheds, steps, effect, Test, alive, new, vacant, taken, apart, broken, tests, refusal, next, after}
 use Rattle.model.specs.Calls.Refusals.{allowed-iff}
-use Rattle.model.specs.Calls.Kept.{is-alive, is-new, is-place, next-wf}
+use Rattle.model.specs.Calls.Passed.{is-alive, is-new, is-place}
+use Rattle.model.specs.Calls.Dangling.{next-wf}
 use Rattle.model.specs.Tally.{held, makes, removes, wrapped, Tally, zeroed, tallied, tally, difference}
 
 -- ── lengths of lists made for the numbers below a bound ──
@@ -219,7 +220,11 @@ moves-next t c y v = go (refusal t c) refl
     go : (o : Option ℕ) → refusal t c ≡ o → Moves t y (elim o as (λ _. Tables) [ none ↦ effect t c | some n ↦ t ])
         (elim o as (λ _. Tally) [ none ↦ record { made = wrapped (y .made + makes t c); gone = wrapped (y .gone + removes t c) } | some n ↦ y ])
     go none q = record {
-      moved = record { times-left = (y .made + makes t c) / 2 ^ 64; times-right = (y .gone + removes t c) / 2 ^ 64; sums = sum (y .made) (y .gone) (makes t c) (removes t c) (count t) (count (effect t c)) (effect-count t c v q) };
+      moved = record {
+        times-left = (y .made + makes t c) / 2 ^ 64;
+        times-right = (y .gone + removes t c) / 2 ^ 64;
+        sums = sum (y .made) (y .gone) (makes t c) (removes t c) (count t) (count (effect t c)) (effect-count t c v q);
+      };
       gone-wrapped = λ g. mod-lt (y .gone + removes t c) (lit< tt);
     }
       where
@@ -233,7 +238,11 @@ list-moves t y (r ∷ rs) v = chain (moves-next t (decode r) y v) (list-moves (n
   where
     chain : {t u w : Tables} {x y z : Tally} → Moves t x u y → Moves u y w z → Moves t x w z
     chain a b = record {
-      moved = record { times-left = a .moved .times-left + b .moved .times-left; times-right = a .moved .times-right + b .moved .times-right; sums = omega (arith, a .moved .sums, b .moved .sums) };
+      moved = record {
+        times-left = a .moved .times-left + b .moved .times-left;
+        times-right = a .moved .times-right + b .moved .times-right;
+        sums = omega (arith, a .moved .sums, b .moved .sums);
+      };
       gone-wrapped = λ g. b .gone-wrapped (a .gone-wrapped g);
     }
 
@@ -245,7 +254,8 @@ tally-moves t y rs v = let m = list-moves t y rs v .moved in omega (arith, m .su
 
 -- 01, Journal: "Made minus gone equals the handles in the table."
 pub made-minus-gone : (rs : List Raw) → difference (tally empty zeroed rs) ≡ wrapped (length (handles (after empty rs)))
-made-minus-gone rs = let m = list-moves empty zeroed rs empty-wf in go (tally empty zeroed rs) (count empty) (count (after empty rs)) none-open (m .gone-wrapped (lit< tt)) (m .moved)
+made-minus-gone rs = let m = list-moves empty zeroed rs empty-wf in
+    go (tally empty zeroed rs) (count empty) (count (after empty rs)) none-open (m .gone-wrapped (lit< tt)) (m .moved)
   where
     none-open : count empty ≡ 0
     none-open = unfold handles in refl

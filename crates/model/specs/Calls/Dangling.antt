@@ -1,0 +1,132 @@
+-- Nothing dangles after an allowed call, whichever tables it was made on (document 01, "Tables": "every allowed call empties it"). Assumes nothing.
+use mathlib.Core.Path.{_≡_, refl, sym, subst}
+use mathlib.Core.Bool.{not}
+use mathlib.Core.Logic.{_⊎_, inl, inr}
+use mathlib.Core.Option.{Option, none, some, Option·none-ne-some}
+use mathlib.Core.List.{[], _∷_}
+use Prim.Native.Nat.{ℕ}
+use lib.Dec.{T, T-not, not-T, eqb, eqb→eq}
+use Rattle.model.specs.Label.{label}
+use Rattle.model.specs.Flow.{subject, object, same}
+use Rattle.model.specs.Tables.{running, file, pipe, Dir, reading, writing, Entry, entry, Handle, handle, Tables, in-range, live, label-of, cell, handles, open-on}
+use Rattle.model.specs.Tables.Laws.{open-here}
+use Rattle.model.specs.Steps.{Origin, outside, blank, copied, reads, writes, runs, enter, hold, holds, mix, row, place, apply, applies}
+use Rattle.model.specs.Steps.Laws.{row-cases, live-hand, applies-append}
+use Rattle.model.specs.Invariant.{Ends, Wf}
+use Rattle.model.specs.Invariant.Laws.{row-below, less-close, less-row, less-wf, wf-enter, wf-hand, wf-hold, wf-without, wf-reap, wf-mix}
+use Rattle.model.specs.Calls.{Call, admit, register, create, make-pipe, opens, access, fork, exec, close, exit, retire, unknown}
+use Rattle.model.specs.Calls.{target, sheds, steps, effect, next, alive, present, new, vacant, idle, broken, refusal}
+use Rattle.model.specs.Calls.Refusals.{allowed-iff}
+use Rattle.model.specs.Calls.Passed.{is-alive, is-present, is-new, is-place, Passed, entered-live, old-live, sheds-less}
+
+-- ── the steps of an allowed call ──
+module _ (t : Tables) (w : Wf t) where
+  pub open-wf : (d : Dir) (s o p : ℕ) → Passed t (opens d s o p) → Wf (applies (steps t (opens d s o p)) t)
+  open-wf d s o p m = wf-hold t s p (handle d o) w (record {
+    from = is-alive t s (m (alive s) (inl refl));
+    to = is-present t o (m (present o) (inr (inl refl)));
+    place = is-place t s p (m (vacant s p) (inr (inr (inl refl))));
+  })
+
+  access-wf : (d : Dir) (s p : ℕ) → Wf (applies (steps t (access d s p)) t)
+  access-wf reading s p = wf-mix t reads (subject s) (target (t .hand s p)) (cell t s) (target (t .hand s p)) w
+  access-wf writing s p = wf-mix t writes (target (t .hand s p)) (subject s) (target (t .hand s p)) (cell t s) w
+
+  exec-wf : (s o : ℕ) → Wf (applies (steps t (exec s o)) t)
+  exec-wf s o = subst Wf (sym (applies-append (sheds t s) (mix runs (subject s) (object o) (cell t s) (object o) ∷ []) t))
+      (wf-mix (applies (sheds t s) t) runs (subject s) (object o) (cell t s) (object o) (less-wf (sheds-less t s) w))
+
+  exit-wf : (s : ℕ) → Wf (applies (steps t (exit s)) t)
+  exit-wf s = wf-without (same (subject s)) (apply (holds s (λ p. none)) t) (less-wf (less-row t s) w) (λ s′ p k q. (apart-row s′ p k q, tt))
+    where
+      apart-row : (s′ p : ℕ) (k : Handle) → row (t .hand) s (λ p. none) s′ p ≡ some k → T (not (eqb s s′))
+      apart-row s′ p k q = elim (row-cases (t .hand) s (λ p. none) s′ p (some k) q) [ inl c ↦ absurd (Option·none-ne-some k (c .1)) | inr c ↦ c .0 ]
+
+  retire-wf : (o : ℕ) → T (not (broken t (idle o))) → Wf (applies (steps t (retire o)) t)
+  retire-wf o h = wf-without (same (object o)) t w (λ s p k q. (tt, unheld s p k q))
+    where
+      unheld : (s p : ℕ) (k : Handle) → t .hand s p ≡ some k → T (not (eqb o (k .to)))
+      unheld s p k q =
+          let f = w .ends s p k q in
+          let held = open-here t s p k (row-below f) (f .place) q in
+          not-T (eqb o (k .to)) (λ e. T-not (open-on (handles t) o) h (subst (λ (z : ℕ). T (open-on (handles t) z)) (sym (eqb→eq o (k .to) e)) held))
+
+  fork-wf : (s c : ℕ) → T (not (broken t (new (subject c)))) → Wf (applies (steps t (fork s c)) t)
+  fork-wf s c h = wf-hand u (row (t .hand) c (t .hand s)) (wf-enter t (subject c) e g (n .0) w) ends′
+    where
+      n : T (in-range (subject c)) × (t .at (subject c) ≡ none)
+      n = is-new t (subject c) h
+
+      e : Entry
+      e = entry running (label-of (t .at (cell t s)))
+
+      g : Origin
+      g = copied (cell t s)
+
+      u : Tables
+      u = apply (enter (subject c) e g) t
+
+      ends′ : (s′ p : ℕ) (k : Handle) → row (t .hand) c (t .hand s) s′ p ≡ some k → (t .hand s′ p ≡ some k) ⊎ Ends u s′ p k
+      ends′ s′ p k q = elim (row-cases (t .hand) c (t .hand s) s′ p (some k) q) [
+        | inl z ↦ (let f = w .ends s p k (z .1) in inr (record {
+          from = subst (λ (j : ℕ). T (live u (subject j))) (z .0) (entered-live t (subject c) e g (n .0));
+          to = old-live t (subject c) e g (object (k .to)) (f .to);
+          place = f .place;
+        }))
+        | inr z ↦ inl (z .1)
+      ]
+
+  pub pipe-wf : (s o r p : ℕ) → Passed t (make-pipe s o r p) → Wf (applies (steps t (make-pipe s o r p)) t)
+  pipe-wf s o r p m = wf-hold u₁ s p (handle writing o)
+      (wf-hold u s r (handle reading o) (wf-enter t (object o) e blank ranged w) (ends′ reading r (m (vacant s r) (inr (inr (inl refl))))))
+      (still (ends′ writing p (m (vacant s p) (inr (inr (inr (inl refl)))))))
+    where
+      ranged : T (in-range (object o))
+      ranged = is-new t (object o) (m (new (object o)) (inr (inl refl))) .0
+
+      e : Entry
+      e = entry pipe (label-of (t .at (cell t s)))
+
+      u : Tables
+      u = apply (enter (object o) e blank) t
+
+      u₁ : Tables
+      u₁ = apply (hold s r (some (handle reading o))) u
+
+      ends′ : (d : Dir) (q : ℕ) → T (not (broken t (vacant s q))) → Ends u s q (handle d o)
+      ends′ d q h = record {
+        from = old-live t (object o) e blank (subject s) (is-alive t s (m (alive s) (inl refl)));
+        to = entered-live t (object o) e blank ranged;
+        place = is-place t s q h;
+      }
+
+      still : Ends u s p (handle writing o) → Ends u₁ s p (handle writing o)
+      still f = record { from = live-hand u (u₁ .hand) (subject s) (f .from); to = live-hand u (u₁ .hand) (object o) (f .to); place = f .place }
+
+  pub call-wf : (c : Call) → Passed t c → Wf (applies (steps t c) t)
+  call-wf (admit s n) m = wf-enter t (subject s) (entry running (label n)) outside (is-new t (subject s) (m (new (subject s)) (inl refl)) .0) w
+  call-wf (register o n) m = wf-enter t (object o) (entry file (label n)) outside (is-new t (object o) (m (new (object o)) (inl refl)) .0) w
+  call-wf (create s o) m = wf-enter t (object o) (entry file (label-of (t .at (cell t s)))) blank
+      (is-new t (object o) (m (new (object o)) (inr (inl refl))) .0) w
+  call-wf (make-pipe s o r p) m = pipe-wf s o r p m
+  call-wf (opens d s o p) m = open-wf d s o p m
+  call-wf (access d s p) m = access-wf d s p
+  call-wf (fork s c) m = fork-wf s c (m (new (subject c)) (inr (inl refl)))
+  call-wf (exec s o) m = exec-wf s o
+  call-wf (close s p) m = less-wf (less-close t s p) w
+  call-wf (exit s) m = exit-wf s
+  call-wf (retire o) m = retire-wf o (m (idle o) (inr (inr (inl refl))))
+  call-wf unknown m = w
+
+-- ── calls ──
+-- 01, Tables: "every allowed call empties it": nothing dangles in the tables after an allowed call, whichever tables it was made on
+pub effect-wf : (t : Tables) (c : Call) → Wf t → refusal t c ≡ none → Wf (effect t c)
+unfolding effect
+effect-wf t c w q = wf-reap (handles t) (applies (steps t c) t) (call-wf t w c (allowed-iff t c .0 q))
+
+pub next-wf : (t : Tables) (c : Call) → Wf t → Wf (next t c)
+next-wf t c w = go (refusal t c) refl
+  where
+    go : (o : Option ℕ) → refusal t c ≡ o → Wf (elim o as (λ _. Tables) [ none ↦ effect t c | some n ↦ t ])
+    go none q = effect-wf t c w q
+    go (some n) q = w

@@ -1,0 +1,64 @@
+-- What the passed tests of an allowed call give, and what is live once a thing has entered or an exec has dropped what it drops. Assumes nothing.
+use mathlib.Core.Path.{_≡_, refl, sym, subst}
+use mathlib.Core.Bool.{Bool, true, false, not, cond}
+use mathlib.Core.Option.{Option, none, some}
+use Prim.Native.Nat.{ℕ, _<_}
+use lib.Dec.{T, ltb, ltb→lt}
+use Rattle.model.specs.Bools.{neither, both, not-not}
+use Rattle.model.specs.Lists.{In}
+use Rattle.model.specs.Flow.{Thing, subject, object, same}
+use Rattle.model.specs.Tables.{Dir, reading, writing, Entry, Handle, Tables, places, in-range, is-some, used, live}
+use Rattle.model.specs.Tables.Laws.{some-of, used-is}
+use Rattle.model.specs.Steps.{Origin, enter, put, apply, applies}
+use Rattle.model.specs.Steps.Laws.{put-same, live-at}
+use Rattle.model.specs.Invariant.Laws.{Less}
+use Rattle.model.specs.Calls.{Call, sheds, Test, alive, present, new, vacant, taken, facing, faces, turned, broken, tests}
+
+-- ── what a passed test gives ──
+pub is-alive : (t : Tables) (s : ℕ) → T (not (broken t (alive s))) → T (live t (subject s))
+is-alive t s h = not-not (live t (subject s)) h
+
+pub is-present : (t : Tables) (o : ℕ) → T (not (broken t (present o))) → T (live t (object o))
+is-present t o h = not-not (live t (object o)) h
+
+pub is-new : (t : Tables) (x : Thing) → T (not (broken t (new x))) → T (in-range x) × (t .at x ≡ none)
+is-new t x h = let r = neither (not (in-range x)) (used t x) h in (not-not (in-range x) (r .0), go (t .at x) (subst (λ (b : Bool). T (not b)) (used-is t x) (r .1)))
+  where
+    go : (o : Option Entry) → T (not (is-some o)) → o ≡ none
+    go none u = refl
+    go (some e) u = absurd u
+
+pub is-place : (t : Tables) (s p : ℕ) → T (not (broken t (vacant s p))) → p < places
+is-place t s p h = ltb→lt p places (not-not (ltb p places) (neither (not (ltb p places)) (is-some (t .hand s p)) h .0))
+
+faces→eq : (a b : Dir) → T (faces a b) → a ≡ b
+faces→eq reading reading t = refl
+faces→eq reading writing t = absurd t
+faces→eq writing reading t = absurd t
+faces→eq writing writing t = refl
+
+-- a taken place that faces d holds a handle for d
+pub is-facing : (t : Tables) (d : Dir) (s p : ℕ) → T (not (broken t (taken s p))) → T (not (broken t (facing d s p))) → (k : Handle) × (t .hand s p ≡ some k) × (k .dir ≡ d)
+is-facing t d s p h f = let r = some-of (t .hand s p) (not-not (is-some (t .hand s p)) (neither (not (ltb p places)) (not (is-some (t .hand s p))) h .1)) in
+    (r .0, r .1, sym (faces→eq d (r .0 .dir) (not-not (faces d (r .0 .dir)) (subst (λ (o : Option Handle). T (not (turned d o))) (r .1) f))))
+
+-- the tests of an allowed call
+abbrev pub Passed : Tables → Call → Type 0
+Passed t c = (e : Test) → In e (tests c) → T (not (broken t e))
+
+-- a thing that was entered is live, and so is what was
+pub entered-live : (t : Tables) (x : Thing) (e : Entry) (g : Origin) → T (in-range x) → T (live (apply (enter x e g) t) x)
+entered-live t x e g r = both (in-range x) (used (apply (enter x e g) t) x) r
+    (subst T (sym (used-is (apply (enter x e g) t) x)) (subst (λ (o : Option Entry). T (is-some o)) (sym (put-same (t .at) x (some e))) tt))
+
+pub old-live : (t : Tables) (x : Thing) (e : Entry) (g : Origin) (y : Thing) → T (live t y) → T (live (apply (enter x e g) t) y)
+old-live t x e g y l = live-at t (put (t .at) x (some e)) y (go (same x y)) l
+  where
+    go : (b : Bool) → T (is-some (t .at y)) → T (is-some (cond b (some e) (t .at y)))
+    go true h = tt
+    go false h = h
+
+-- what an exec drops before it runs: handles alone
+pub sheds-less : (t : Tables) (s : ℕ) → Less t (applies (sheds t s) t)
+unfolding sheds
+sheds-less t s = record { same-at = λ x. refl; hands = λ s p k q. q; ends = λ s p k q f. f; talks = λ s p x k q z. z }

@@ -1,0 +1,47 @@
+-- Levels stay 0 to 15 (document 01, "Tables"): what an allowed call enters is in scale, and nothing rises. Assumes nothing.
+use mathlib.Core.Path.{_≡_, refl, sym, subst}
+use mathlib.Core.Logic.{inl, inr}
+use mathlib.Core.Option.{Option, none, some}
+use mathlib.Core.List.{[], _∷_}
+use Prim.Native.Nat.{ℕ}
+use lib.Dec.{T}
+use Rattle.model.specs.Label.{label, in-scale}
+use Rattle.model.specs.Label.Laws.{label-in-scale, bot-in-scale}
+use Rattle.model.specs.Flow.{Thing, subject, object, same}
+use Rattle.model.specs.Tables.{running, file, pipe, Dir, reading, writing, Entry, entry, Tables, label-of, cell}
+use Rattle.model.specs.Steps.{outside, blank, copied, reads, writes, runs, holds, mix, apply, applies}
+use Rattle.model.specs.Steps.Laws.{applies-append}
+use Rattle.model.specs.Invariant.{Scaled}
+use Rattle.model.specs.Invariant.Laws.{scaled-enter, scaled-same, scaled-without, scaled-mix}
+use Rattle.model.specs.Calls.{Call, admit, register, create, make-pipe, opens, access, fork, exec, close, exit, retire, unknown}
+use Rattle.model.specs.Calls.{target, moves, sheds, steps, leveled}
+use Rattle.model.specs.Calls.Passed.{Passed, sheds-less}
+
+module _ (t : Tables) (v : Scaled t) where
+  own-in-scale : (s : ℕ) → T (in-scale (label-of (t .at (cell t s))))
+  own-in-scale s = go (t .at (cell t s)) (v .within (cell t s))
+    where
+      go : (o : Option Entry) → ((e : Entry) → o ≡ some e → T (in-scale (e .label))) → T (in-scale (label-of o))
+      go none f = bot-in-scale
+      go (some e) f = f e refl
+
+  access-scaled : (d : Dir) (x c y : Thing) → Scaled (apply (moves d x c y) t)
+  access-scaled reading x c y = scaled-mix t reads x y c y v
+  access-scaled writing x c y = scaled-mix t writes y x y c v
+
+  pub call-scaled : (c : Call) → Passed t c → Scaled (applies (steps t c) t)
+  call-scaled (admit s n) m = scaled-enter t (subject s) (entry running (label n)) outside (label-in-scale n (m (leveled n) (inr (inl refl)))) v
+  call-scaled (register o n) m = scaled-enter t (object o) (entry file (label n)) outside (label-in-scale n (m (leveled n) (inr (inl refl)))) v
+  call-scaled (create s o) m = scaled-enter t (object o) (entry file (label-of (t .at (cell t s)))) blank (own-in-scale s) v
+  call-scaled (make-pipe s o r p) m = scaled-same (λ x. refl)
+      (scaled-enter t (object o) (entry pipe (label-of (t .at (cell t s)))) blank (own-in-scale s) v)
+  call-scaled (opens d s o p) m = scaled-same (λ x. refl) v
+  call-scaled (access d s p) m = access-scaled d (subject s) (cell t s) (target (t .hand s p))
+  call-scaled (fork s c) m = scaled-same (λ x. refl)
+      (scaled-enter t (subject c) (entry running (label-of (t .at (cell t s)))) (copied (cell t s)) (own-in-scale s) v)
+  call-scaled (exec s o) m = subst Scaled (sym (applies-append (sheds t s) (mix runs (subject s) (object o) (cell t s) (object o) ∷ []) t))
+      (scaled-mix (applies (sheds t s) t) runs (subject s) (object o) (cell t s) (object o) (scaled-same (sheds-less t s .same-at) v))
+  call-scaled (close s p) m = scaled-same (λ x. refl) v
+  call-scaled (exit s) m = scaled-without (same (subject s)) (apply (holds s (λ p. none)) t) (scaled-same (λ x. refl) v)
+  call-scaled (retire o) m = scaled-without (same (object o)) t v
+  call-scaled unknown m = v
