@@ -12,9 +12,12 @@ use Rattle.model.specs.Bools.{test, not-not}
 use Rattle.model.specs.Label.{Label, label, leq, _⊑_}
 use Rattle.model.specs.Label.Laws.{⊑-refl, bot-least}
 use Rattle.model.specs.Flow.{Thing, subject, object, same}
-use Rattle.model.specs.Tables.{Kind, running, file, pipe, Dir, reading, writing, Entry, entry, Handle, handle, Tables, empty, in-range, label-of, is-pipe, cell, handles, open-on, arc, flow, speaks, demand, needs, safe}
-use Rattle.model.specs.Tables.Laws.{speaks-at, speaks-hand, speaks-cell, cell-self, cell-entry, object-entry, handles-at, open-here, thing-listed, demand-label, safe-above}
-use Rattle.model.specs.Steps.{Origin, outside, blank, copied, Access, reads, writes, runs, enter, leave, hold, holds, mix, put, row, place, fall, apply, applies, ended, reap}
+use Rattle.model.specs.Tables.{Kind, running, file, pipe, Dir, reading, writing, Entry, entry, Handle, handle, Tables, empty}
+use Rattle.model.specs.Tables.{in-range, label-of, is-pipe, cell, handles, open-on, arc, flow, speaks, demand, needs, safe}
+use Rattle.model.specs.Tables.Laws.{speaks-at, speaks-hand, speaks-cell, cell-self, cell-entry, object-entry, handles-at, open-here}
+use Rattle.model.specs.Tables.Laws.{thing-listed, demand-label, safe-above}
+use Rattle.model.specs.Steps.{Origin, outside, blank, copied, Access, reads, writes, runs, enter, leave, hold, holds, mix, put, row}
+use Rattle.model.specs.Steps.{place, fall, apply, applies, ended, reap}
 use Rattle.model.specs.Steps.Laws.{put-cases, row-cases, place-same, applies-append, ended-last}
 use Rattle.model.specs.Invariant.{Wf, Safe, Piped, Scaled, Kept}
 use Rattle.model.specs.Invariant.Laws.{Pot, pot-safe, needs-pot, row-below, Less, less-close, less-row, less-wf, less-pot, Feeds, flow-feeds}
