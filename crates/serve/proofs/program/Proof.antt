@@ -1,5 +1,6 @@
 -- `serve::program` meets its contract. Assumes nothing.
-use Rattle.serve.specs.Serving.Laws.{roomy}
+use Rattle.serve.specs.Serving.{Ran}
+use Rattle.serve.specs.Serving.Laws.{ran-roomy}
 use borrow.Author.Needs.{needs}
 use Rattle.serve.proofs.program.Statement.{statement}
 use Rattle.serve.proofs.program.Tie as tie
@@ -20,7 +21,17 @@ serve-requires : tie.Need-serve-requires
 serve-requires c κs = search needs
 
 returns : tie.Need-returns
-returns c = roomy (c .before .before .serve .result) _ _ _ (c .before .before .serve .ensures) (search needs)
+returns c =
+    let b = c .before .before in
+    let ran : Ran (b .serve .result) = record {
+      journal = b .serve .last .0;
+      first = b .before .before .before .reply-space .result;
+      out = b .serve .last .1 .0;
+      long = record { size = search needs };
+      wide = b .before .before .before .reply-space .ensures;
+      served = b .serve .ensures;
+    } in
+    (ran, ran-roomy _ ran)
 
 pub program-spec : {M : Type 1} → statement M
 program-spec =
