@@ -1,12 +1,13 @@
 -- Records as the reader finds them (document 01, "Journal", second paragraph, and rows 1, 11 and 12 of "Refused calls"). In
--- order: what stands at an offset of a journal; what a body says; both together. The laws are in Journal/Laws. Assumes nothing.
+-- order: what stands at an offset of a journal; a part of it; what a body says; both together. The laws are in Journal/Laws. Assumes nothing.
 use mathlib.Core.Path.{_≡_}
-use Prim.Native.Nat.{ℕ, zero, suc, _+_}
+use Prim.Native.Nat.{ℕ, zero, suc, _+_, _≤_}
 use mathlib.Core.Bool.{cond}
 use mathlib.Core.List.{List, [], _∷_}
 use mathlib.Core.Option.{Option, none, some, Option·map}
 use lib.Dec.{ltb}
 use lib.ListN.{length, take, drop}
+use denote.Ref.{RefT}
 use Rattle.number.specs.Leb.{largest, Reading, good, malformed, number}
 use Rattle.journal.specs.Answers.{Answer, answers, refused, Next, body, end, Said, said}
 use Rattle.journal.specs.Calls.{most-numbers, arity-of, known, filled}
@@ -23,6 +24,13 @@ sized journal at malformed = refused 11
 -- the record at an offset; from the end of the journal on there is none
 unfoldable pub entry-at : List ℕ → ℕ → Answer Next
 entry-at journal at = cond (ltb at (length journal)) (sized journal at (number largest (drop at journal))) (answers end)
+
+-- "a record's body is handed back as a part of the journal": the bytes from `start` on, `len` of them or as many as the journal has, where they lie in
+-- the journal's own storage. (A slice is where it points, a block and an offset in it, and its bytes.) Past the end there are none, and where is left open
+pub record Part (journal : RefT (List ℕ)) (start len : ℕ) (part : RefT (List ℕ)) : Type 0 where
+  pub bytes : part .now ≡ take len (drop start (journal .now))
+  pub block : part .ptr .0 ≡ journal .ptr .0
+  pub offset : start ≤ length (journal .now) → part .ptr .1 ≡ journal .ptr .1 + start
 
 -- ---- what a body says
 

@@ -2,7 +2,7 @@
 // What the bytes mean is in specs/Calls.antt, Record.antt and Journal.antt, and what each answer means in specs/Answers.antt.
 ghost use mathlib.Core.Path.{_≡_};
 ghost use Prim.Native.Nat.{_+_, _*_, _≤_};
-ghost use lib.ListN.{length, take, drop};
+ghost use lib.ListN.{length};
 ghost use mathlib.Core.Option.{Option·getD};
 ghost use Rattle.number.specs.Leb.{longest};
 ghost use Rattle.number.specs.Put.{put};
@@ -10,7 +10,7 @@ ghost use Rattle.number.specs.Answers.{writing};
 ghost use Rattle.journal.specs.Answers.{numbers-of, entry-answer, args-answer, body-answer, record-answer, length-in};
 ghost use Rattle.journal.specs.Calls.{most-numbers, arity-of};
 ghost use Rattle.journal.specs.Record.{encodes, fitting, recording, recorded};
-ghost use Rattle.journal.specs.Journal.{entry-at, arguments-in, body-in};
+ghost use Rattle.journal.specs.Journal.{Part, entry-at, arguments-in, body-in};
 use number::Number;
 use number::Written;
 
@@ -85,9 +85,9 @@ fn record_at(journal: &[u8], at: usize) -> Entry
 
 // The `len` bytes from `start`, or as many of them as the journal has: a part of the journal, and no copy.
 pub fn body_at(journal: &[u8], start: usize, len: usize) -> &[u8]
-    ensures { λ r. ⌜ now r ≡ take len (drop start (now (journal .entry))) ⌝ }
+    ensures { λ r. ⌜ Part (journal .entry) start len r ⌝ }
 {
-    if journal.len() <= start {
+    if journal.len() < start {
         return &journal[..0];
     }
     if journal.len() - start <= len {
@@ -129,7 +129,7 @@ impl<'a> Reader<'a> {
 
     // The body of a record: a part of the caller's journal, and no copy.
     pub fn body(self, start: usize, len: usize) -> &'a [u8]
-        ensures { λ r. ⌜ now r ≡ take len (drop start (now (self .entry .journal))) ⌝ }
+        ensures { λ r. ⌜ Part (self .entry .journal) start len r ⌝ }
     {
         body_at(self.journal, start, len)
     }

@@ -5,7 +5,7 @@ use mathlib.Core.Path.{_≡_}
 use mathlib.Core.Bool.{cond}
 use mathlib.Core.List.{List, [], _∷_, _++_}
 use Prim.Native.Nat.{ℕ, zero, suc, _+_, _*_}
-use lib.Dec.{ltb}
+use lib.Dec.{eqb, ltb}
 use lib.ListN.{length, take, drop}
 use Rattle.model.specs.Tables.{Tables, empty}
 use Rattle.model.specs.Calls.{Raw, decode, next, Answer, refused, answer}
@@ -37,11 +37,16 @@ records-of journal = records (length journal) journal 0
 abbrev pub raw : ℕ → List ℕ → Raw
 raw code ns = record { code = code; numbers = ns }
 
--- a record stands for one call; a bad one stands for none
+-- of a record that is refused: "an unknown code is 1", and 01, Contents: "Any code and numbers of a direct call may stand in [the list]". It is the
+-- call of that code, with no numbers. A length or a number that is malformed (11, 12) makes no call
+abbrev pub unknown-call : (refusal code : ℕ) → List Raw
+unknown-call n code = cond (eqb n 1) (raw code [] ∷ []) []
+
+-- the calls of a journal's records, in their order
 abbrev pub calls-of : List Said → List Raw
 calls-of [] = []
 calls-of (said code (reads ns) ∷ l) = raw code ns ∷ calls-of l
-calls-of (said code (bad n) ∷ l) = calls-of l
+calls-of (said code (bad n) ∷ l) = unknown-call n code ++ calls-of l
 
 -- "code (0 if none was read), A, L or R, and the level or refusal number"
 pub record Replied : Type 0 where
@@ -73,6 +78,10 @@ text l y = lines 1 l ++ last-line y
 -- 14: "journal above 65,536 bytes; nothing is run"
 abbrev pub largest-journal : ℕ
 largest-journal = 65536
+
+-- the records that are run
+abbrev pub run-of : List ℕ → List Said
+run-of journal = cond (ltb largest-journal (length journal)) [] (records-of journal)
 
 unfoldable pub reply : List ℕ → List ℕ
 reply journal = cond (ltb largest-journal (length journal)) (text (replied 0 (refused 14) ∷ []) zeroed)

@@ -12,9 +12,9 @@ use lib.ListN.{length, length-append, take, drop}
 use lib.Seq.{take-at}
 use Rattle.model.specs.Tables.{Tables, empty}
 use Rattle.model.specs.Invariant.{Kept}
-use Rattle.model.specs.Calls.{Answer, refused}
+use Rattle.model.specs.Calls.{Answer, refused, after}
 use Rattle.model.specs.Calls.Kept.{empty-kept}
-use Rattle.model.specs.Tally.{Tally, zeroed}
+use Rattle.model.specs.Tally.{Tally, zeroed, tally}
 use Rattle.number.specs.Put.{put, fitted}
 use Rattle.number.specs.Put.Laws.{put-none, fitted-fits, fitted-none, fits, fits-not}
 use Rattle.journal.specs.Answers.{Said, said, body, end}
@@ -27,8 +27,8 @@ use Rattle.text.specs.Reply.{line, ending, longest-line, longest-end}
 use Rattle.text.specs.Decimal.{decimal, digits}
 use Rattle.text.specs.Parts.{Over}
 use Rattle.text.specs.Parts.Laws.{untouched, put-over, over-count, over-put, rest-length, put-after, none-after}
-use Rattle.replay.specs.Replay.{records, records-of, last-line, reply, Begun, reply-room}
-use Rattle.replay.specs.Replay.Laws.{records-more, records-end, records-stop, left, left-more, kept-more}
+use Rattle.replay.specs.Replay.{records, records-of, calls-of, last-line, reply, Begun, reply-room}
+use Rattle.replay.specs.Replay.Laws.{records-more, records-end, records-stop, Plain, body-plain, eleven-plain, left, left-more, kept-more, ends-more}
 use Rattle.replay.specs.One.{One}
 
 -- the whole text, of a journal that is not too long
@@ -42,10 +42,12 @@ pub record Stage (j first out : List ℕ) (t : Tables) (y : Tally) (position use
   pub done : List ℕ
   pub over : Over first done used out
   pub sum : done ++ left position t y rest ≡ whole j
+  pub leads : after t (calls-of rest) ≡ after empty (calls-of (records-of j))
+  pub counts : tally t y (calls-of rest) ≡ tally empty zeroed (calls-of (records-of j))
 
 pub begun : (j first : List ℕ) (t : Tables) → t ≡ empty → Stage j first first t zeroed 1 0 (records-of j)
 begun j first t e = subst (λ (u : Tables). Stage j first first u zeroed 1 0 (records-of j)) (sym e)
-    (record { kept = empty-kept; done = []; over = untouched 0 first (omega arith); sum = refl })
+    (record { kept = empty-kept; done = []; over = untouched 0 first (omega arith); sum = refl; leads = refl; counts = refl })
 
 -- what has been written is the front of the text
 pub over-begun : (whole first done rest out : List ℕ) (used : ℕ) → Over first done used out → done ++ rest ≡ whole → Begun whole first out
@@ -83,13 +85,13 @@ room-left first done out e used most v short h answer =
     omega (arith, rest-length v, fits-not e (take (length out - used) (drop used out)) (sym answer), v .size)
 
 module _ (j first out : List ℕ) (p used : ℕ) where
-  module _ (m n : Monitor) (y z : Tally) (s : Said) (l : List Said) (code : ℕ) (a : Answer) (o : One m y s code a n z)
-      (g : Stage j first out (view m) y p used (s ∷ l)) where
+  module _ (m n : Monitor) (y z : Tally) (s : Said) (l : List Said) (code : ℕ) (a : Answer) (plain : Plain s)
+      (o : One m y s code a n z) (g : Stage j first out (view m) y p used (s ∷ l)) where
     abbrev e : List ℕ
     e = line p code (letter-of a) (value-of a)
 
     rejoined : g .done ++ (e ++ left (suc p) (view n) z l) ≡ whole j
-    rejoined = ap (λ (k : List ℕ). g .done ++ k) (sym (left-more m n y z code a (g .kept) p s l o)) ∙ g .sum
+    rejoined = ap (λ (k : List ℕ). g .done ++ k) (sym (left-more m n y z code a (g .kept) p s l plain o)) ∙ g .sum
 
     -- the record's line is written
     pub more : (ys : List ℕ) (k : ℕ) → some k ≡ fitted e (take (length out - used) (drop used out))
@@ -100,6 +102,8 @@ module _ (j first out : List ℕ) (p used : ℕ) where
       done = g .done ++ e;
       over = put-after (g .over) e ys k answer wrote;
       sum = append-assoc (g .done) e (left (suc p) (view n) z l) ∙ rejoined;
+      leads = sym (ends-more m n y z code a (g .kept) s l plain o .0) ∙ g .leads;
+      counts = sym (ends-more m n y z code a (g .kept) s l plain o .1) ∙ g .counts;
     }
 
     -- there is no room for it, and so none for the whole
@@ -148,7 +152,7 @@ going-begun j first t e = record { most = length j; enough = omega arith; inside
 
 pub stopped : (j first out : List ℕ) (t : Tables) (y : Tally) (at p q used : ℕ) → at ≤ length j → p ≤ at + 1 → used ≤ longest-line * length j
     → Stage j first out t y q used [] → Going j first out t y at p used false
-stopped j first out t y at p q used inside early short g = record { most = length j; enough = omega arith; inside = inside; early = early; short = short; stage = record { kept = g .kept; done = g .done; over = g .over; sum = g .sum } }
+stopped j first out t y at p q used inside early short g = record { most = length j; enough = omega arith; inside = inside; early = early; short = short; stage = record { kept = g .kept; done = g .done; over = g .over; sum = g .sum; leads = g .leads; counts = g .counts } }
 
 module _ (j first out : List ℕ) (at p used : ℕ) (m : Monitor) (y : Tally) (g : Going j first out (view m) y at p used true) where
   -- a record stands at `at`
@@ -182,12 +186,12 @@ module _ (j first out : List ℕ) (at p used : ℕ) (m : Monitor) (y : Tally) (g
           entry-next j at start len next e .0,
         );
         stage = subst (λ (q : ℕ). Stage j first (putMid used (length out - used) out ys) (view n) z q (used + k) (records i j next))
-            (sym (add-one p)) (more j first out p used m n y z s (records i j next) code a o g′ ys k answer wrote);
+            (sym (add-one p)) (more j first out p used m n y z s (records i j next) code a (body-plain (take len (drop start j))) o g′ ys k answer wrote);
       }
 
       record-short : none ≡ fitted (line p code (letter-of a) (value-of a)) (take (length out - used) (drop used out))
           → none ≡ fitted (whole j) first
-      record-short answer = let (i, far, g′) = here in no-more j first out p used m n y z s (records i j next) code a o g′ answer
+      record-short answer = let (i, far, g′) = here in no-more j first out p used m n y z s (records i j next) code a (body-plain (take len (drop start j))) o g′ answer
 
       pub record-ends : length j ≤ 65536 → (ys : List ℕ)
           → none ≡ fitted (line p code (letter-of a) (value-of a)) (take (length out - used) (drop used out))
@@ -197,28 +201,28 @@ module _ (j first out : List ℕ) (at p used : ℕ) (m : Monitor) (y : Tally) (g
           longest-line thin (λ room. omega (arith, g .short, room, small, entry-next j at start len next e)) (record-short answer) ys answer
 
   -- no record can be found at `at`
-  module _ (n : ℕ) (e : entry-at j at ≡ bad n) (h : at < length j) (thin : length (line p 0 82 n) ≤ longest-line) where
-    there : Stage j first out (view m) y p used (said 0 (bad n) ∷ [])
+  module _ (e : entry-at j at ≡ bad 11) (h : at < length j) (thin : length (line p 0 82 11) ≤ longest-line) where
+    there : Stage j first out (view m) y p used (said 0 (bad 11) ∷ [])
     there = go (g .most) refl
       where
-        go : (i : ℕ) → g .most ≡ i → Stage j first out (view m) y p used (said 0 (bad n) ∷ [])
+        go : (i : ℕ) → g .most ≡ i → Stage j first out (view m) y p used (said 0 (bad 11) ∷ [])
         go zero q = absurd (omega (arith, g .enough))
-        go (suc i) q = subst (λ (x : List Said). Stage j first out (view m) y p used x) (ap (λ (k : ℕ). records k j at) q ∙ records-stop i j at n e)
+        go (suc i) q = subst (λ (x : List Said). Stage j first out (view m) y p used x) (ap (λ (k : ℕ). records k j at) q ∙ records-stop i j at 11 e)
             (g .stage)
 
-    pub broken-turn : (ys : List ℕ) (k : ℕ) → some k ≡ fitted (line p 0 82 n) (take (length out - used) (drop used out)) → ys ≡ put (line p 0 82 n)
+    pub broken-turn : (ys : List ℕ) (k : ℕ) → some k ≡ fitted (line p 0 82 11) (take (length out - used) (drop used out)) → ys ≡ put (line p 0 82 11)
         (take (length out - used) (drop used out))
         → Going j first (putMid used (length out - used) out ys) (view m) y at p (used + k) false
     broken-turn ys k answer wrote = stopped j first (putMid used (length out - used) out ys) (view m) y at p (suc p) (used + k) (g .inside) (g .early)
-        (omega (arith, g .short, thin, fits (line p 0 82 n) (take (length out - used) (drop used out)) k (sym answer) .0))
-        (more j first out p used m m y y (said 0 (bad n)) [] 0 (refused n) (refl, refl, refl, refl) there ys k answer wrote)
+        (omega (arith, g .short, thin, fits (line p 0 82 11) (take (length out - used) (drop used out)) k (sym answer) .0))
+        (more j first out p used m m y y (said 0 (bad 11)) [] 0 (refused 11) eleven-plain (refl, refl, refl, refl) there ys k answer wrote)
 
-    broken-short : none ≡ fitted (line p 0 82 n) (take (length out - used) (drop used out)) → none ≡ fitted (whole j) first
-    broken-short answer = no-more j first out p used m m y y (said 0 (bad n)) [] 0 (refused n) (refl, refl, refl, refl) there answer
+    broken-short : none ≡ fitted (line p 0 82 11) (take (length out - used) (drop used out)) → none ≡ fitted (whole j) first
+    broken-short answer = no-more j first out p used m m y y (said 0 (bad 11)) [] 0 (refused 11) eleven-plain (refl, refl, refl, refl) there answer
 
-    pub broken-ends : length j ≤ 65536 → (ys : List ℕ) → none ≡ fitted (line p 0 82 n) (take (length out - used) (drop used out))
-        → ys ≡ put (line p 0 82 n) (take (length out - used) (drop used out)) → Ends (whole j) first (putMid used (length out - used) out ys) none
-    broken-ends small ys answer = short-ends j first out p used (view m) y (records (g .most) j at) (g .stage) (line p 0 82 n) longest-line thin
+    pub broken-ends : length j ≤ 65536 → (ys : List ℕ) → none ≡ fitted (line p 0 82 11) (take (length out - used) (drop used out))
+        → ys ≡ put (line p 0 82 11) (take (length out - used) (drop used out)) → Ends (whole j) first (putMid used (length out - used) out ys) none
+    broken-ends small ys answer = short-ends j first out p used (view m) y (records (g .most) j at) (g .stage) (line p 0 82 11) longest-line thin
         (λ room. omega (arith, g .short, room, small)) (broken-short answer) ys answer
 
   -- the journal ends at `at`

@@ -8,9 +8,10 @@ ghost use Rattle.model.specs.Tally.{difference};
 ghost use Rattle.number.specs.Put.{put, fitted};
 ghost use Rattle.number.specs.Answers.{writing};
 ghost use Rattle.journal.specs.Journal.{body-in};
-ghost use Rattle.gatekeeper.specs.View.{told, counts-of};
+ghost use Rattle.gatekeeper.specs.View.{view, told, counts-of};
 ghost use Rattle.replay.specs.One.{One};
 ghost use Rattle.replay.specs.Replay.{reply, Begun};
+ghost use Rattle.replay.specs.Demand3.{Ended};
 ghost use Rattle.replay.specs.Stage.{whole, refusal, Ends};
 use gatekeeper::Answer;
 use gatekeeper::Monitor;
@@ -75,11 +76,19 @@ fn open_now(tally: Tally) -> u64
     u64::MAX - (tally.gone - tally.made) + 1
 }
 
+// A journal that was run: how many bytes its reply has, or that there is no room for it; and the monitor and the tally at the end.
+pub struct Ran {
+    pub monitor: Monitor,
+    pub tally: Tally,
+    pub written: Written,
+}
+
 // Answers the records of a journal one after the other, from empty tables, and writes the text. Where there is no room for all of it, its first
-// lines stand in the buffer.
-fn records(journal: &[u8], out: &mut [u8]) -> Written
+// lines stand in the buffer, and the run stops there.
+fn records(journal: &[u8], out: &mut [u8]) -> Ran
     requires { ⌜ length (now journal) ≤ 65536 ⌝ }
-    ensures { λ r. ⌜ Ends (whole (now (journal .entry))) (now (out .entry)) (now (out .exit)) (writing r) ⌝ }
+    ensures text { λ r. ⌜ Ends (whole (now (journal .entry))) (now (out .entry)) (now (out .exit)) (writing (r .written)) ⌝ }
+    ensures end { λ r. ⌜ ((k : ℕ) → writing (r .written) ≡ some k → Ended (now (journal .entry)) (view (r .monitor)) (counts-of (r .tally))) ⌝ }
 {
     let mut m = Monitor::empty();
     let mut tally = Tally { made: 0, gone: 0 };
@@ -103,7 +112,11 @@ fn records(journal: &[u8], out: &mut [u8]) -> Written
                         tally = r.tally;
                     }
                     Written::NoRoom => {
-                        return Written::NoRoom;
+                        return Ran {
+                            monitor: m,
+                            tally: tally,
+                            written: Written::NoRoom,
+                        };
                     }
                 }
             }
@@ -114,7 +127,11 @@ fn records(journal: &[u8], out: &mut [u8]) -> Written
                         going = false;
                     }
                     Written::NoRoom => {
-                        return Written::NoRoom;
+                        return Ran {
+                            monitor: m,
+                            tally: tally,
+                            written: Written::NoRoom,
+                        };
                     }
                 }
             }
@@ -126,9 +143,17 @@ fn records(journal: &[u8], out: &mut [u8]) -> Written
     match text::write_end(&mut out[used..], tally.made, tally.gone, open_now(tally)) {
         Written::Bytes(n) => {
             let total = used + n;
-            Written::Bytes(total)
+            Ran {
+                monitor: m,
+                tally: tally,
+                written: Written::Bytes(total),
+            }
         }
-        Written::NoRoom => Written::NoRoom,
+        Written::NoRoom => Ran {
+            monitor: m,
+            tally: tally,
+            written: Written::NoRoom,
+        },
     }
 }
 
@@ -147,16 +172,34 @@ fn too_long(out: &mut [u8]) -> Written
     }
 }
 
-// The reply to a journal, from empty tables: the text, and how many bytes it has. Where the buffer has no room for all of it, that is the answer, and
-// its first lines stand there. A buffer of REPLY_ROOM bytes has room for every reply.
+// A journal, run from empty tables: the text of its reply, how many bytes that has, and the monitor and tally at the end. Where the buffer has no
+// room for all of the text, that is the answer, its first lines stand there, and the monitor and tally are those of some of the calls. A buffer of
+// REPLY_ROOM bytes has room for every reply.
+pub fn run(journal: &[u8], out: &mut [u8]) -> Ran
+    ensures answer { λ r. ⌜ writing (r .written) ≡ fitted (reply (now (journal .entry))) (now (out .entry)) ⌝ }
+    ensures buffer { λ r. ⌜ ((k : ℕ) → writing (r .written) ≡ some k → now (out .exit) ≡ put (reply (now (journal .entry))) (now (out .entry))) ⌝ }
+    ensures begun { λ _. ⌜ Begun (reply (now (journal .entry))) (now (out .entry)) (now (out .exit)) ⌝ }
+    ensures room { λ _. do ⌜ ((← ⟦REPLY_ROOM⟧ .entry) ≤ length (now (out .entry)) → length (reply (now (journal .entry))) ≤ length (now (out .entry))) ⌝ }
+    ensures end { λ r. ⌜ ((k : ℕ) → writing (r .written) ≡ some k → Ended (now (journal .entry)) (view (r .monitor)) (counts-of (r .tally))) ⌝ }
+{
+    if 65536 < journal.len() {
+        let written = too_long(out);
+        return Ran {
+            monitor: Monitor::empty(),
+            tally: Tally { made: 0, gone: 0 },
+            written: written,
+        };
+    }
+    records(journal, out)
+}
+
+// The reply alone.
 pub fn replay(journal: &[u8], out: &mut [u8]) -> Written
     ensures answer { λ r. ⌜ writing r ≡ fitted (reply (now (journal .entry))) (now (out .entry)) ⌝ }
     ensures buffer { λ r. ⌜ ((k : ℕ) → writing r ≡ some k → now (out .exit) ≡ put (reply (now (journal .entry))) (now (out .entry))) ⌝ }
     ensures begun { λ _. ⌜ Begun (reply (now (journal .entry))) (now (out .entry)) (now (out .exit)) ⌝ }
     ensures room { λ _. do ⌜ ((← ⟦REPLY_ROOM⟧ .entry) ≤ length (now (out .entry)) → length (reply (now (journal .entry))) ≤ length (now (out .entry))) ⌝ }
 {
-    if 65536 < journal.len() {
-        return too_long(out);
-    }
-    records(journal, out)
+    let r = run(journal, out);
+    r.written
 }

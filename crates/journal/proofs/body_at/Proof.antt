@@ -1,5 +1,5 @@
--- `journal::body_at` meets its contract: past the end there is nothing, and up to the end there is all. Assumes nothing.
-use mathlib.Core.Path.{sym, ap, _∙_}
+-- `journal::body_at` meets its contract: past the end there is nothing, and up to the end there is all, where it lies. Assumes nothing.
+use mathlib.Core.Path.{refl, sym, ap, _∙_}
 use Prim.Native.Nat.{ℕ, _≤_}
 use native.Mathlib.Omega.{arith}
 use native.Mathlib.Nat.{add-sub-cancel-left}
@@ -16,7 +16,12 @@ slice-aggregate-result c = search needs
 returns : tie.Need-returns
 returns c =
     let a = c .before .before .args in
-    sym (ap (take (a .len)) (drop-of-length-le (a .journal .now) (c .before .if1 .taken)) ∙ take-nil (a .len))
+    let past = c .before .if1 .taken in
+    record {
+      bytes = sym (ap (take (a .len)) (drop-of-length-le (a .journal .now) {i = a .start} (omega (arith, past))) ∙ take-nil (a .len));
+      block = refl;
+      offset = λ inside. absurd (omega (arith, past, inside));
+    }
 
 sub-if2 : tie.Need-sub-if2
 sub-if2 c = search needs
@@ -35,7 +40,7 @@ returns-2 c =
     let a = c .before .before .before .args in
     let rest = drop (a .start) (a .journal .now) in
     let short : length rest ≤ a .len = omega (arith, length-drop (a .start) (a .journal .now)) in
-    rest-is (a .start) (a .journal .now) ∙ sym (take-all (a .len) rest short)
+    record { bytes = rest-is (a .start) (a .journal .now) ∙ sym (take-all (a .len) rest short); block = refl; offset = λ _. omega arith }
 
 add-result : tie.Need-add-result
 add-result c = search needs
@@ -52,7 +57,11 @@ part-result-end-2 c = search needs
 returns-3 : tie.Need-returns-3
 returns-3 c =
     let a = c .before .before .before .args in
-    ap (λ (k : ℕ). take k (drop (a .start) (a .journal .now))) (add-sub-cancel-left (a .start) (a .len))
+    record {
+      bytes = ap (λ (k : ℕ). take k (drop (a .start) (a .journal .now))) (add-sub-cancel-left (a .start) (a .len));
+      block = refl;
+      offset = λ _. omega arith;
+    }
 
 pub body-at-spec : {M : Type 1} → statement M
 body-at-spec =

@@ -4,6 +4,7 @@ use Rattle.text.specs.Parts.Laws.{put-after, none-after}
 use Rattle.replay.specs.Replay.{last-line}
 use Rattle.replay.specs.Replay.Laws.{bad-inside}
 use mathlib.Core.Bool.{Bool, cond}
+use mathlib.Core.Option.{Option·none-ne-some}
 use Prim.Native.Nat.{ℕ, _+_, _-_, _≤_}
 use native.Mathlib.Omega.{arith}
 use borrow.Author.Needs.{needs}
@@ -17,6 +18,7 @@ use Rattle.journal.specs.Journal.{entry-at, body-in}
 use Rattle.replay.specs.One.{One}
 use Rattle.journal.specs.Journal.Laws.{entry-next}
 use Rattle.gatekeeper.specs.View.{view, told, letter-of, value-of, counts-of}
+use Rattle.replay.specs.Demand3.Laws.{run-ended}
 use Rattle.replay.specs.Stage.{Going, going-begun, at-test, record-turn, record-ends, broken-turn, broken-ends, end-turn, ended, end-short}
 use Rattle.replay.proofs.records.Statement.{statement}
 use Rattle.replay.proofs.records.Tie as tie
@@ -115,7 +117,7 @@ loop-again c =
     (c .before .before .before .before .before .before .before .before .before .before .letter .ensures)
     (c .before .before .before .before .before .before .before .before .before .value .ensures) in
     let o = subst (λ bs. One (l .m) (counts-of (l .tally)) (body-in bs) (k .result .code) x (k .result .monitor) (counts-of (k .result .tally)))
-    (c .before .before .before .before .before .before .before .before .before .before .before .before .body-at .ensures) (k .ensures) in
+    (c .before .before .before .before .before .before .before .before .before .before .before .before .body-at .ensures .bytes) (k .ensures) in
     let thin = subst (λ y. length y ≤ longest-line) is (w .ensures .1 .1) in
     let rest = take (length (l .out) - l .used) (drop (l .used) (l .out)) in (
       l .inv .0,
@@ -152,11 +154,13 @@ returns c =
     (c .before .before .before .before .before .before .value .ensures) in
     let rest = take (length (l .out) - l .used) (drop (l .used) (l .out)) in
     let o = subst (λ bs. One (l .m) (counts-of (l .tally)) (body-in bs) (k .result .code) x (k .result .monitor) (counts-of (k .result .tally)))
-    (c .before .before .before .before .before .before .before .before .before .body-at .ensures) (k .ensures) in
-    let thin = subst (λ y. length y ≤ longest-line) is (w .ensures .1 .1) in
-    record-ends (a .journal .now) (a .out .now) (l .out) (l .at) (l .position) (l .used) (l .m) (counts-of (l .tally)) g (q .0 .0) (q .0 .1 .0)
-    (q .0 .1 .1 .0) e (k .result .monitor) (counts-of (k .result .tally)) (k .result .code) x o thin (l .inv .0) (w .last .0)
-    (ap writing (sym (c .enum-told .given .1)) ∙ w .ensures .0 ∙ ap (λ y. fitted y rest) is) (w .ensures .1 .0 ∙ ap (λ y. put y rest) is)
+    (c .before .before .before .before .before .before .before .before .before .body-at .ensures .bytes) (k .ensures) in
+    let thin = subst (λ y. length y ≤ longest-line) is (w .ensures .1 .1) in (
+      record-ends (a .journal .now) (a .out .now) (l .out) (l .at) (l .position) (l .used) (l .m) (counts-of (l .tally)) g (q .0 .0) (q .0 .1 .0)
+          (q .0 .1 .1 .0) e (k .result .monitor) (counts-of (k .result .tally)) (k .result .code) x o thin (l .inv .0) (w .last .0)
+          (ap writing (sym (c .enum-told .given .1)) ∙ w .ensures .0 ∙ ap (λ y. fitted y rest) is) (w .ensures .1 .0 ∙ ap (λ y. put y rest) is),
+      λ k z. absurd (Option·none-ne-some k z),
+    )
 
 enum-told-2 : tie.Need-enum-told-2 Inv-loop μ-loop
 enum-told-2 c = search needs
@@ -207,7 +211,7 @@ loop-again-2 c =
     let w = c .before .before .before .before .before .write-line2 in (
       l .inv .0,
       broken-turn (a .journal .now) (a .out .now) (l .out) (l .at) (l .position) (l .used) (l .m)
-          (counts-of (l .tally)) g 11 e (bad-inside _ _ _ e) (w .ensures .1 .1) (w .last .0) (c .before .n2 .given .0 .0)
+          (counts-of (l .tally)) g e (bad-inside _ _ _ e) (w .ensures .1 .1) (w .last .0) (c .before .n2 .given .0 .0)
           (ap writing (sym (c .before .n2 .given .1)) ∙ w .ensures .0) (w .ensures .1 .0),
     )
 
@@ -223,9 +227,11 @@ returns-2 c =
     let a = c .before .before .before .before .before .before .before .before .before .before .before .before .before .before .args in
     let g = at-test (c .before .before .before .before .before .before .before .before .before .loop-test .taken) (l .inv .1) in
     let e : entry-at (a .journal .now) (l .at) ≡ bad 11 = sym (c .before .before .before .before .before .before .before .before .entry-at .ensures) ∙ ap entry-answer (c .before .before .before .before .before .before .enum-told2 .given .1) in
-    let w = c .before .before .before .before .write-line2 in
-    broken-ends (a .journal .now) (a .out .now) (l .out) (l .at) (l .position) (l .used) (l .m) (counts-of (l .tally)) g 11 e (bad-inside _ _ _ e)
-    (w .ensures .1 .1) (l .inv .0) (w .last .0) (ap writing (sym (c .enum-told3 .given .1)) ∙ w .ensures .0) (w .ensures .1 .0)
+    let w = c .before .before .before .before .write-line2 in (
+      broken-ends (a .journal .now) (a .out .now) (l .out) (l .at) (l .position) (l .used) (l .m) (counts-of (l .tally)) g e (bad-inside _ _ _ e)
+          (w .ensures .1 .1) (l .inv .0) (w .last .0) (ap writing (sym (c .enum-told3 .given .1)) ∙ w .ensures .0) (w .ensures .1 .0),
+      λ k z. absurd (Option·none-ne-some k z),
+    )
 
 enum-told-4 : tie.Need-enum-told-4 Inv-loop μ-loop
 enum-told-4 c = search needs
@@ -294,10 +300,12 @@ returns-3 c =
     let is : ending (l .tally .made) (l .tally .gone)
     (c .before .before .before .before .before .before .open-now .result) ≡ last-line (counts-of (l .tally)) = ap (λ d. ending (l .tally .made)
     (l .tally .gone) d) (c .before .before .before .before .before .before .open-now .ensures) in
-    let rest = take (length (l .out) - l .used) (drop (l .used) (l .out)) in
-    ended (a .journal .now) (a .out .now) (l .out) (l .position) (l .used) (view (l .m)) (counts-of (l .tally)) (g .stage) (w .last .0)
-    (c .before .n3 .given .0 .0) (ap writing (sym (c .before .n3 .given .1)) ∙ w .ensures .0 ∙ ap (λ y. fitted y rest) is)
-    (w .ensures .1 .0 ∙ ap (λ y. put y rest) is)
+    let rest = take (length (l .out) - l .used) (drop (l .used) (l .out)) in (
+      ended (a .journal .now) (a .out .now) (l .out) (l .position) (l .used) (view (l .m)) (counts-of (l .tally)) (g .stage) (w .last .0)
+          (c .before .n3 .given .0 .0) (ap writing (sym (c .before .n3 .given .1)) ∙ w .ensures .0 ∙ ap (λ y. fitted y rest) is)
+          (w .ensures .1 .0 ∙ ap (λ y. put y rest) is),
+      λ k z. run-ended (a .journal .now) (l .inv .0) (view (l .m)) (counts-of (l .tally)) (g .stage .leads) (g .stage .counts),
+    )
 
 same-length-4 : tie.Need-same-length-4 Inv-loop μ-loop
 same-length-4 c = search needs
@@ -312,10 +320,12 @@ returns-4 c =
     (c .before .before .before .before .before .open-now .result) ≡ last-line (counts-of (l .tally)) = ap (λ d. ending (l .tally .made)
     (l .tally .gone) d) (c .before .before .before .before .before .open-now .ensures) in
     let rest = take (length (l .out) - l .used) (drop (l .used) (l .out)) in
-    let thin = subst (λ y. length y ≤ longest-end) is (w .ensures .1 .1) in
-    end-short (a .journal .now) (a .out .now) (l .out) (view (l .m)) (counts-of (l .tally)) (l .at) (l .position) (l .used) g thin (l .inv .0)
-    (w .last .0) (ap writing (sym (c .enum-told5 .given .1)) ∙ w .ensures .0 ∙ ap (λ y. fitted y rest) is)
-    (w .ensures .1 .0 ∙ ap (λ y. put y rest) is)
+    let thin = subst (λ y. length y ≤ longest-end) is (w .ensures .1 .1) in (
+      end-short (a .journal .now) (a .out .now) (l .out) (view (l .m)) (counts-of (l .tally)) (l .at) (l .position) (l .used) g thin (l .inv .0)
+          (w .last .0) (ap writing (sym (c .enum-told5 .given .1)) ∙ w .ensures .0 ∙ ap (λ y. fitted y rest) is)
+          (w .ensures .1 .0 ∙ ap (λ y. put y rest) is),
+      λ k z. absurd (Option·none-ne-some k z),
+    )
 
 pub records-spec : {M : Type 1} → statement M
 records-spec =

@@ -29,7 +29,7 @@ replied c =
     (ap writing (sym (k .1)) ∙ w .ensures .0, w .ensures .1 .0 (k .0 .0) (ap writing (k .1)))
 
 slice-aggregate-replay : tie.Need-slice-aggregate-replay
-slice-aggregate-replay c = prefix-size _ _ (omega (arith, c .before .before .before .pre))
+slice-aggregate-replay c = prefix-size _ (c .before .before .before .args .journal .now) (omega (arith, c .before .before .before .pre))
 
 replay-requires : tie.Need-replay-requires
 replay-requires c κs = search needs
@@ -41,10 +41,12 @@ slice-reshare-prefix-send : tie.Need-slice-reshare-prefix-send
 slice-reshare-prefix-send c = omega (arith, put-within _ _ _ _ (replied (c .before) .0) (replied (c .before) .1))
 
 slice-aggregate-send : tie.Need-slice-aggregate-send
-slice-aggregate-send c = prefix-size _ _ (omega (arith, put-within _ _ _ _ (replied (c .before .before) .0) (replied (c .before .before) .1)))
+slice-aggregate-send c =
+    prefix-size _ (c .before .before .before .before .before .before .replay .last .1 .0)
+    (omega (arith, put-within _ _ _ _ (replied (c .before .before) .0) (replied (c .before .before) .1)))
 
 slice-aggregate-send-2 : tie.Need-slice-aggregate-send-2
-slice-aggregate-send-2 c = prefix-size _ _ (omega (arith, c .before .before .before .before .before .before .before .before .before .before .before .before .pre))
+slice-aggregate-send-2 c = let b = c .before .before .before .before .before .before .before .before .before .before .before .before in prefix-size _ (b .args .journal .now) (omega (arith, b .pre))
 
 send-requires : tie.Need-send-requires
 send-requires c κs =
