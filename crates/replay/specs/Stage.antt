@@ -191,7 +191,9 @@ module _ (j first out : List ℕ) (at p used : ℕ) (m : Monitor) (y : Tally) (g
 
       record-short : none ≡ fitted (line p code (letter-of a) (value-of a)) (take (length out - used) (drop used out))
           → none ≡ fitted (whole j) first
-      record-short answer = let (i, far, g′) = here in no-more j first out p used m n y z s (records i j next) code a (body-plain (take len (drop start j))) o g′ answer
+      record-short answer =
+          let (i, far, g′) = here in
+          no-more j first out p used m n y z s (records i j next) code a (body-plain (take len (drop start j))) o g′ answer
 
       pub record-ends : length j ≤ 65536 → (ys : List ℕ)
           → none ≡ fitted (line p code (letter-of a) (value-of a)) (take (length out - used) (drop used out))

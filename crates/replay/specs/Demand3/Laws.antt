@@ -43,14 +43,18 @@ pub journal-demand3 : (journal : List ℕ) →
     Demand3 (calls-of l) (answers-of l (replies empty l)) (after empty (calls-of l))
 journal-demand3 journal =
     let l = run-of journal in
-    subst (λ (k : List Answer). Demand3 (calls-of l) k (after empty (calls-of l))) (sym (replies-answer empty l (run-plain journal))) (rules-demand3 (calls-of l))
+    subst (λ (k : List Answer). Demand3 (calls-of l) k (after empty (calls-of l))) (sym (replies-answer empty l (run-plain journal)))
+    (rules-demand3 (calls-of l))
 
 -- what a run leaves, once it is known to be what the calls lead to
-ended-as : (journal : List ℕ) (l : List Said) → run-of journal ≡ l → (t : Tables) (y : Tally) → t ≡ after empty (calls-of l) → y ≡ tally empty zeroed (calls-of l) → Ended journal t y
+ended-as : (journal : List ℕ) (l : List Said) → run-of journal ≡ l → (t : Tables) (y : Tally)
+    → t ≡ after empty (calls-of l) → y ≡ tally empty zeroed (calls-of l) → Ended journal t y
 ended-as journal l q t y e f =
+    let calls = calls-of (run-of journal) in
     let at : t ≡ after empty (calls-of (run-of journal)) = e ∙ ap (λ (k : List Said). after empty (calls-of k)) (sym q) in
     record {
-      demand3 = subst (λ (u : Tables). Demand3 (calls-of (run-of journal)) (answers-of (run-of journal) (replies empty (run-of journal))) u) (sym at) (journal-demand3 journal);
+      demand3 = subst (λ (u : Tables). Demand3 calls (answers-of (run-of journal) (replies empty (run-of journal))) u) (sym at)
+          (journal-demand3 journal);
       tables = at;
       counts = f ∙ ap (λ (k : List Said). tally empty zeroed (calls-of k)) (sym q);
     }

@@ -70,7 +70,8 @@ lookup-missed n (k ∷ ks) h =
 
 decode-none : (code : ℕ) → known code ≡ false → decode (raw code []) ≡ unknown
 unfolding known decode
-decode-none code h = lookup-missed code (rows (raw code [])) (o 1 tt, (o 2 tt, (o 3 tt, (o 4 tt, (o 5 tt, (o 6 tt, (o 7 tt, (o 8 tt, (o 9 tt, (o 10 tt, (o 11 tt, (o 12 tt, (o 13 tt, tt)))))))))))))
+decode-none code h = lookup-missed code (rows (raw code []))
+    (o 1 tt, (o 2 tt, (o 3 tt, (o 4 tt, (o 5 tt, (o 6 tt, (o 7 tt, (o 8 tt, (o 9 tt, (o 10 tt, (o 11 tt, (o 12 tt, (o 13 tt, tt)))))))))))))
   where
     o : (k : ℕ) → T (known k) → code ≡ k → ⊥
     o k t e = subst T h (subst (λ (x : ℕ). T (known x)) (sym e) t)
@@ -135,7 +136,9 @@ module _ (t : Tables) (y : Tally) (code n : ℕ) (l : List Raw) (p : Plain (said
           let e = p (eqb-true n 1 q) in
           let same = ap (λ (c : Call). next t c) e ∙ unknown-next t in (
             ap (λ (u : Tables). after u l) same,
-            ap (λ (u : Tables). tally u (tallied t (decode (raw code [])) y) l) same ∙ ap (λ (c : Call). tally t (tallied t c y) l) e ∙ ap (λ (z : Tally). tally t z l) (unknown-tallied t y),
+            ap (λ (u : Tables). tally u (tallied t (decode (raw code [])) y) l) same
+                ∙ ap (λ (c : Call). tally t (tallied t c y) l) e
+                ∙ ap (λ (z : Tally). tally t z l) (unknown-tallied t y),
           )
       go false q = (refl, refl)
 

@@ -13,8 +13,8 @@ enum-known-read c = search needs
 
 respond-requires : tie.Need-respond-requires
 respond-requires c κs =
-    let a = c .before .before .before .before .before .before .args in
-    omega (arith, subst (λ (f : Filled). Within f (a .journal .now)) (c .before .before .read .given .1) (c .before .before .before .before .before .before .pre))
+    let b = c .before .before .before .before .before .before in
+    omega (arith, subst (λ (f : Filled). Within f (b .args .journal .now)) (c .before .before .read .given .1) (b .pre))
 
 enum-told : tie.Need-enum-told
 enum-told c = search needs
@@ -50,7 +50,8 @@ returns-2 : tie.Need-returns-2
 returns-2 c =
     let a = c .before .before .before .before .before .before .before .before .before .args in
     let r = c .before .before .respond in
-    subst (λ (f : Filled). Answering f (r .result) (a .journal .now) (a .out .now) (r .last .1 .1 .0)) (sym (c .before .before .before .before .before .read .given .1)) (r .ensures)
+    subst (λ (f : Filled). Answering f (r .result) (a .journal .now) (a .out .now) (r .last .1 .1 .0))
+    (sym (c .before .before .before .before .before .read .given .1)) (r .ensures)
 
 same-length-2 : tie.Need-same-length-2
 same-length-2 c = search needs
@@ -59,7 +60,8 @@ returns-3 : tie.Need-returns-3
 returns-3 c =
     let a = c .before .before .before .before .before .before .before .before .before .args in
     let r = c .before .before .respond2 in
-    subst (λ (f : Filled). Answering f (r .result) (a .journal .now) (a .out .now) (r .last .1 .1 .0)) (sym (c .before .before .before .before .before .enum-told .given .1))
+    subst (λ (f : Filled). Answering f (r .result) (a .journal .now) (a .out .now) (r .last .1 .1 .0))
+    (sym (c .before .before .before .before .before .enum-told .given .1))
     (λ short. absurd (omega (arith, c .before .before .before .before .if1 .left, short)), λ _. r .ensures)
 
 returns-4 : tie.Need-returns-4

@@ -1,13 +1,9 @@
 -- `serve::respond` meets its contract: what is handed to `send` is the reply, and the result says how long it is. Assumes nothing.
-use mathlib.Core.Path.{_≡_, refl, sym, ap, _∙_}
-use mathlib.Core.Option.{some}
+use mathlib.Core.Path.{refl, sym, ap, _∙_}
 use native.Mathlib.Omega.{arith}
-use lib.ListN.{take}
-use Rattle.number.specs.Put.{put, fitted}
 use Rattle.number.specs.Put.Laws.{put-within, prefix-size}
 use Rattle.number.specs.Answers.{writing}
-use Rattle.replay.specs.Replay.{reply}
-use Rattle.serve.specs.Serving.Laws.{sent-is, whole-as, cut-as}
+use Rattle.serve.specs.Serving.Laws.{Put, sent-is, whole-as, cut-as}
 use borrow.Author.Needs.{needs}
 use Rattle.serve.proofs.respond.Statement.{statement}
 use Rattle.serve.proofs.respond.Tie as tie
@@ -21,8 +17,7 @@ use Rattle.serve.proofs.send.Reads as send-reads
 replied :
     (c : lts.After-k (replay-reads.Asked, replay-reads.Learnt, send-reads.Asked, send-reads.Learnt, say-reads.Asked, say-reads.Learnt) reads.Pre reads.Post) →
     let a = c .before .before .before .before .before .before .before .before .before .args in
-    let text = reply (take (a .n) (a .journal .now)) in
-    (some (c .k .given .0 .0) ≡ fitted text (a .out .now)) × (c .before .before .before .before .replay .last .1 .0 ≡ put text (a .out .now))
+    Put (a .n) (a .journal .now) (a .out .now) (c .before .before .before .before .replay .last .1 .0) (c .k .given .0 .0)
 replied c =
     let w = c .before .before .before .before .replay in
     let k = c .k .given in
@@ -46,18 +41,20 @@ slice-aggregate-send c =
     (omega (arith, put-within _ _ _ _ (replied (c .before .before) .0) (replied (c .before .before) .1)))
 
 slice-aggregate-send-2 : tie.Need-slice-aggregate-send-2
-slice-aggregate-send-2 c = let b = c .before .before .before .before .before .before .before .before .before .before .before .before in prefix-size _ (b .args .journal .now) (omega (arith, b .pre))
+slice-aggregate-send-2 c =
+    let b = c .before .before .before .before .before .before .before .before .before .before .before .before in
+    prefix-size _ (b .args .journal .now) (omega (arith, b .pre))
 
 send-requires : tie.Need-send-requires
 send-requires c κs =
     let a = c .before .before .before .before .before .before .before .before .before .before .before .before .args in
-    sent-is (a .n) (a .journal .now) (a .out .now) _ _ (replied (c .before .before .before) .0) (replied (c .before .before .before) .1)
+    sent-is (a .n) (a .journal .now) (a .out .now) _ _ (replied (c .before .before .before))
 
 same-length : tie.Need-same-length
 same-length c = search needs
 
 returns : tie.Need-returns
-returns c = (refl, whole-as _ _ _ _ _ (replied (c .before .before .before .before .before) .0) (replied (c .before .before .before .before .before) .1))
+returns c = (refl, whole-as _ _ _ _ _ (replied (c .before .before .before .before .before)))
 
 slice-aggregate-say : tie.Need-slice-aggregate-say
 slice-aggregate-say c = search needs
@@ -78,7 +75,7 @@ same-length-2 : tie.Need-same-length-2
 same-length-2 c = search needs
 
 returns-2 : tie.Need-returns-2
-returns-2 c = (refl, whole-as _ _ _ _ _ (replied (c .before .before .before .before .before .before .before) .0) (replied (c .before .before .before .before .before .before .before) .1) .1)
+returns-2 c = (refl, whole-as _ _ _ _ _ (replied (c .before .before .before .before .before .before .before)) .1)
 
 same-length-3 : tie.Need-same-length-3
 same-length-3 c = search needs

@@ -16,7 +16,9 @@ same-length-2 : tie.Need-same-length-2
 same-length-2 c = search needs
 
 returns : tie.Need-returns
-returns c = record { read = c .before .before .before .before .before .before .before .fill .result; within = c .before .before .before .before .before .before .before .fill .ensures; answered = c .before .before .answer .ensures }
+returns c =
+    let read = c .before .before .before .before .before .before .before .fill in
+    record { read = read .result; within = read .ensures; answered = c .before .before .answer .ensures }
 
 pub serve-spec : {M : Type 1} → statement M
 serve-spec = tie.close (tie.spec fill-requires answer-requires same-length same-length-2 returns)

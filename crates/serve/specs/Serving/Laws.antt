@@ -11,28 +11,33 @@ use lib.ListN.{length, take, drop, replicate, length-replicate}
 use lib.Seq.{take-at}
 use Rattle.number.specs.Put.{put, fitted}
 use Rattle.number.specs.Put.Laws.{fits, fits-not, put-fits}
-use Rattle.replay.specs.Replay.{reply, Begun, largest-journal, reply-room}
+use Rattle.replay.specs.Replay.{reply, Begun, reply-room}
 use Rattle.serve.specs.declared.Filled.{Filled}
 use Rattle.serve.specs.declared.Filled.the-variants.{Ended, Full, Failed}
 use Rattle.serve.specs.declared.Served.{Served}
 use Rattle.serve.specs.declared.Served.the-variants.{Replied, Unwritten, NoRoom, Unended, Unread}
-use Rattle.serve.specs.Serving.{Whole, Cut, Replying, Answering, Serving, Sized, Ran, Roomy}
+use Rattle.serve.specs.Serving.{Whole, Cut, Replying, Answering, Sized, Ran, Roomy}
 
 pub zeros-sized : (n : ℕ) → Sized n (replicate n 0)
 zeros-sized n = record { size = sym (length-replicate n 0) }
 
 -- ── the reply ──
 module _ (n : ℕ) (journal first out : List ℕ) where
+  -- it was written, and has k bytes
+  abbrev pub Put : ℕ → Type 0
+  Put k = (some k ≡ fitted (reply (take n journal)) first) × (out ≡ put (reply (take n journal)) first)
+
   -- what is handed to the write
-  pub sent-is : (k : ℕ) → some k ≡ fitted (reply (take n journal)) first → out ≡ put (reply (take n journal)) first → take k out ≡ reply (take n journal)
-  sent-is k answer wrote =
-      let (count, room) = fits (reply (take n journal)) first k (sym answer) in
-      ap (take k) (wrote ∙ put-fits (reply (take n journal)) first room)
+  pub sent-is : (k : ℕ) → Put k → take k out ≡ reply (take n journal)
+  sent-is k w =
+      let (count, room) = fits (reply (take n journal)) first k (sym (w .0)) in
+      ap (take k) (w .1 ∙ put-fits (reply (take n journal)) first room)
       ∙ take-at (reply (take n journal)) (drop (length (reply (take n journal))) first) k (sym count)
 
-  pub whole-as : (k : ℕ) → some k ≡ fitted (reply (take n journal)) first → out ≡ put (reply (take n journal)) first
-      → (k ≡ length (reply (take n journal))) × Whole n journal first out
-  whole-as k answer wrote = let (count, room) = fits (reply (take n journal)) first k (sym answer) in (count, record { fits = room; wrote = wrote })
+  pub whole-as : (k : ℕ) → Put k → (k ≡ length (reply (take n journal))) × Whole n journal first out
+  whole-as k w =
+      let (count, room) = fits (reply (take n journal)) first k (sym (w .0)) in
+      (count, record { fits = room; wrote = w .1 })
 
   pub cut-as : none ≡ fitted (reply (take n journal)) first → Begun (reply (take n journal)) first out
       → (reply-room ≤ length first → length (reply (take n journal)) ≤ length first) → Cut n journal first out
