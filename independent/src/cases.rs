@@ -250,6 +250,15 @@ pub fn named(name: &str) -> Option<Case> {
     all().into_iter().find(|case| case.name == name)
 }
 
+/// DWARF's examples, a line for each: the number, and its bytes in hex.
+pub fn numbers() -> String {
+    let line = |value: u32, bytes: &[u8]| {
+        let hex: String = bytes.iter().map(|byte| format!(" {byte:02x}")).collect();
+        format!("{value}{hex}\n")
+    };
+    DWARF_NUMBERS.iter().map(|&(value, bytes)| line(value, bytes)).collect()
+}
+
 fn lines(replies: &str) -> String {
     replies.split(';').map(|line| format!("{}\n", line.trim())).collect()
 }

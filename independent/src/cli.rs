@@ -277,7 +277,7 @@ fn fault_text(name: &str, text: &[u8], fault: &Fault) -> String {
 }
 
 fn cases_command(arguments: Vec<OsString>) -> Done {
-    let switches = ["--hex", "--replies", "--journal"];
+    let switches = ["--hex", "--replies", "--journal", "--numbers"];
     let arguments = Arguments::sort("cases", arguments, &[], &switches)?;
     let name = arguments.file()?.map(|name| name.to_string_lossy().into_owned());
     let chosen: Vec<Case> = match &name {
@@ -293,8 +293,14 @@ fn cases_command(arguments: Vec<OsString>) -> Done {
     let mode = match arguments.switches.as_slice() {
         [] => "",
         [mode] => mode,
-        _ => return Err(arguments.wrong("expected one of --hex, --replies and --journal")),
+        _ => return Err(arguments.wrong("expected one of --hex, --replies, --journal and --numbers")),
     };
+    if mode == "--numbers" {
+        if name.is_some() {
+            return Err(arguments.wrong("--numbers takes no name: it has every number of the cases"));
+        }
+        return write_output(cases::numbers().as_bytes());
+    }
     let mut output = Vec::new();
     for case in &chosen {
         match mode {

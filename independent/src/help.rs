@@ -111,12 +111,13 @@ Example:
 const CASES: &str = "\
 gk cases - the worked cases of document 01 and DWARF's examples of numbers
 
-Usage: gk cases [--hex | --replies | --journal] [NAME]
+Usage: gk cases [--hex | --replies | --journal | --numbers] [NAME]
 
 Without an option: each case with what it shows, its calls and its replies. A NAME picks one case.
   --hex      a line for each case: its name and its journal in hex
   --replies  each case's replies alone
   --journal  the journal itself, for one NAME
+  --numbers  DWARF's examples alone, a line for each: the number and its bytes in hex
 
 Example: the same bytes for another program
   gk cases --journal K6 | other-program | diff - <(gk cases --replies K6)

@@ -78,6 +78,7 @@ fn a_bad_command_line_has_status_2() {
         &["cases", "K99"],
         &["cases", "--journal"],
         &["cases", "--hex", "--replies"],
+        &["cases", "--numbers", "K1"],
         &["variants", "more"],
         &["bite", "--journals", "-1"],
         &["compare"],
@@ -148,6 +149,8 @@ fn cases_are_printed_for_other_programs() {
     }
     assert!(out(&gk(&["cases", "--hex"], b"")).contains("K10 8000\n"));
     assert!(out(&gk(&["cases"], b"")).contains("K1: 0 opens file 0 for writing"));
+    let numbers = out(&gk(&["cases", "--numbers"], b""));
+    assert_eq!(numbers, "2 02\n127 7f\n128 80 01\n129 81 01\n130 82 01\n12857 b9 64\n");
 }
 
 #[test]

@@ -1,5 +1,5 @@
-// The cases of document 01 that its line 4 leaves to a program, and DWARF's examples of numbers: each journal's replies, one after the other. Over each
-// journal stands the name that the independent program has for it.
+// The cases of document 01 that its line 4 leaves to a program, and DWARF's examples of numbers, read and written: each journal's replies, one after the
+// other, then each number with its bytes. Over each journal stands the name that the independent program has for it.
 use number::Written;
 
 // Longer than any reply here.
@@ -91,8 +91,51 @@ fn numbers() {
     show(b"\x02\xb9\x64");
 }
 
+// Writes some bytes in hex, each after a space.
+fn show_bytes(bytes: &[u8]) {
+    let mut i: usize = 0;
+    while i < bytes.len() {
+        io::write_all(libc::STDOUT_FILENO, b" ");
+        io::print_hex(libc::STDOUT_FILENO, wide(bytes[i]), 2);
+        i += 1;
+    }
+}
+
+fn wide(byte: u8) -> u64 {
+    byte as u64
+}
+
+// Writes a number into a buffer as a record has it; then, on a line, the number and its bytes.
+fn written(n: u32) {
+    let mut bytes = [0u8; number::LONGEST];
+    match number::write_number(&mut bytes, n) {
+        Written::Bytes(k) => {
+            io::print_decimal(libc::STDOUT_FILENO, n as u64);
+            show_bytes(&bytes[..k]);
+            io::write_all(libc::STDOUT_FILENO, b"\n");
+        }
+        Written::NoRoom => {
+            io::write_all(
+                libc::STDERR_FILENO,
+                b"cases: a number is longer than the room for it\n",
+            );
+        }
+    }
+}
+
+// DWARF 5, section 7.6: the same numbers, written.
+fn numbers_written() {
+    written(2);
+    written(127);
+    written(128);
+    written(129);
+    written(130);
+    written(12857);
+}
+
 fn main() {
     limits();
     journals();
     numbers();
+    numbers_written();
 }
