@@ -1,0 +1,151 @@
+//! The plain program beside the independent one: the same replies to every journal, and after each direct call the
+//! same answer, the same tally, and the needs as the independent program works them out.
+
+use gatekeeper_independent::calls::SHAPES;
+use gatekeeper_independent::cases;
+use gatekeeper_independent::generate::{self, Style, Wish, STYLES};
+use gatekeeper_independent::monitor::{Answer as AnswerBeside, Monitor as MonitorBeside};
+use gatekeeper_independent::needs::{Needs, Thing};
+use gatekeeper_independent::random::Random;
+use gatekeeper_independent::records::{self, Body, Reader};
+use gatekeeper_independent::replies::replies as replies_beside;
+use gatekeeper_independent::variants::Rules;
+use gatekeeper_plain::{replies, Answer, Monitor, When};
+
+const SEED: u64 = 1;
+
+/// How many generated journals of each style are replayed, and how many calls are made directly.
+const JOURNALS: u64 = 60;
+const CALLS: u32 = 20_000;
+
+const BOTH: [When; 2] = [When::EachCall, When::Asked];
+
+fn reply(journal: &[u8], when: When) -> String {
+    let mut text = Vec::new();
+    replies(journal, when, &mut text);
+    String::from_utf8(text).expect("letters, digits and spaces")
+}
+
+fn beside(answer: AnswerBeside) -> Answer {
+    match answer {
+        AnswerBeside::Allowed(level) => Answer::Allowed(level as u8),
+        AnswerBeside::Lowered(level) => Answer::Lowered(level as u8),
+        AnswerBeside::Refused(number) => Answer::Refused(number as u8),
+    }
+}
+
+#[test]
+fn the_worked_cases_get_their_replies() {
+    for case in cases::all() {
+        for when in BOTH {
+            assert_eq!(reply(&case.journal, when), case.replies, "{}: {}", case.name, case.what);
+        }
+    }
+}
+
+#[test]
+fn generated_journals_get_the_same_replies() {
+    for &(style, name, _) in STYLES {
+        let journals = if style == Style::Long { JOURNALS / 10 } else { JOURNALS };
+        for index in 0..journals {
+            let journal = generate::journal(SEED, index, Wish { style, ..Wish::default() });
+            let replies = replies_beside(&journal);
+            for when in BOTH {
+                assert_eq!(reply(&journal, when), replies, "{name}, seed {SEED}, index {index}, {when:?}");
+            }
+        }
+    }
+}
+
+/// A monitor of each program, in the same state.
+struct Pair {
+    plain: Monitor,
+    independent: MonitorBeside,
+}
+
+impl Pair {
+    fn new(when: When) -> Pair {
+        Pair { plain: Monitor::new(when), independent: MonitorBeside::new() }
+    }
+
+    fn call(&mut self, code: u32, numbers: [u32; 4]) -> Answer {
+        let before = self.plain.tables().clone();
+        let answer = self.plain.direct(code, numbers);
+        assert_eq!(
+            answer,
+            beside(self.independent.call(code, numbers)),
+            "code {code}, numbers {numbers:?}"
+        );
+        let (tally, tally_beside) = (self.plain.tally(), self.independent.tally());
+        assert_eq!((tally.made, tally.gone), (tally_beside.made, tally_beside.gone));
+        assert_eq!(tally.open(), self.independent.tables().handle_count());
+        if let Answer::Refused(_) = answer {
+            assert_eq!(self.plain.tables(), &before, "a refused call changed a table");
+        }
+        answer
+    }
+
+    /// Sees that the needs worked out last are those of the tables.
+    fn compare_needs(&self) {
+        let needs = Needs::of_tables(self.independent.tables());
+        let subjects = (0..).map(Thing::Subject).zip(self.plain.needs().subjects);
+        let objects = (0..).map(Thing::Object).zip(self.plain.needs().objects);
+        for (thing, need) in subjects.chain(objects) {
+            assert_eq!(u32::from(need), needs.of(thing), "{thing:?}");
+        }
+    }
+}
+
+/// The calls of a generated journal; records that hold none are left out.
+fn calls_of(journal: &[u8]) -> Vec<(u32, [u32; 4])> {
+    let mut reader = Reader::new(journal, Rules::default());
+    let mut calls = Vec::new();
+    while let Some(Ok(span)) = reader.next_record() {
+        if let Body::Call { code, numbers } = records::read_body(journal, span, Rules::default()) {
+            calls.push((code, numbers));
+        }
+    }
+    calls
+}
+
+#[test]
+fn direct_calls_get_the_same_answers_and_needs() {
+    for style in [Style::Full, Style::Rings, Style::Payrun, Style::Edges] {
+        for index in 0..4 {
+            let journal = generate::journal(SEED, index, Wish { style, ..Wish::default() });
+            let mut pair = Pair::new(When::EachCall);
+            for (code, numbers) in calls_of(&journal) {
+                pair.call(code, numbers);
+                // Code 13 for an object out of range: a refused call that seeks no handle.
+                pair.call(13, [64, 0, 0, 0]);
+                pair.compare_needs();
+            }
+        }
+    }
+}
+
+/// A number of a call: mostly small, sometimes just in or out of a range, sometimes any.
+fn drawn(random: &mut Random) -> u32 {
+    match random.below(12) {
+        0 => random.pick(&[15, 16, 31, 32, 63, 64]).unwrap_or(0),
+        1 => random.between(0, u32::MAX - 1),
+        _ => random.below(9),
+    }
+}
+
+#[test]
+fn any_numbers_get_the_same_answers() {
+    for when in BOTH {
+        let mut random = Random::new(SEED, 0);
+        let mut pair = Pair::new(when);
+        let mut refused = [0; 11];
+        for _ in 0..CALLS {
+            let code = random.between(0, SHAPES.len() as u32 + 1);
+            let numbers = [0; 4].map(|_: u32| drawn(&mut random));
+            if let Answer::Refused(number) = pair.call(code, numbers) {
+                refused[usize::from(number)] += 1;
+            }
+        }
+        assert!(refused[1..].iter().all(|&times| times > 0), "a refusal was never drawn: {refused:?}");
+    }
+}
