@@ -1,21 +1,17 @@
-//! What is timed: the same work for the proved program and for the plain one, made from fixed settings.
+//! What is measured: the same work for each program, made from fixed settings.
 
 use std::hint::black_box;
 
 use gatekeeper::{Answer, Call, Monitor};
 use gatekeeper_independent::generate::{self, Style, Wish};
-use gatekeeper_independent::monitor::{Answer as PlainAnswer, Monitor as PlainMonitor};
 use gatekeeper_independent::numbers;
 use gatekeeper_independent::random::Random;
-use gatekeeper_independent::replies::replies;
+use gatekeeper_plain::{replies, Answer as PlainAnswer, Monitor as PlainMonitor, When};
 
 use crate::layouts::{Layout, LAYOUTS};
 use crate::leb::{self, Form};
 
 const SEED: u64 = 1;
-
-/// How many rounds follow the filling of the tables in a journal.
-const ROUNDS_IN_JOURNAL: usize = 3;
 
 /// The bytes of the generated journal.
 const GENERATED_BYTES: usize = 65_000;
@@ -23,27 +19,53 @@ const GENERATED_BYTES: usize = 65_000;
 /// How many numbers are read.
 const NUMBERS: usize = 100_000;
 
-/// What is timed, by name.
+/// The programs that are measured.
+#[derive(Clone, Copy, Debug, PartialEq, Eq)]
+pub enum Side {
+    /// The proved library, through the archive for hosts.
+    Proved,
+    /// The plain program, which works needs out at each call.
+    Plain,
+    /// The plain program, where it works needs out only at calls that go by them.
+    Sparing,
+}
+
+pub const SIDES: [Side; 3] = [Side::Proved, Side::Plain, Side::Sparing];
+
+impl Side {
+    pub fn name(self) -> &'static str {
+        match self {
+            Side::Proved => "proved",
+            Side::Plain => "plain",
+            Side::Sparing => "sparing",
+        }
+    }
+}
+
+/// What is measured, by name.
 #[derive(Clone, Copy, Debug)]
 pub enum Work {
-    /// Full tables as a journal, through `gatekeeper_replay` and the independent program's replay.
-    Journal(Layout),
-    /// Full tables call by call, through `gatekeeper_call` and the independent monitor.
+    /// A round over full tables, call by call.
     Calls(Layout),
-    /// A generated journal, replayed likewise.
+    /// The filling of the tables and a round, as a journal.
+    Journal(Layout),
+    /// A generated journal.
     Generated,
     /// Numbers alone, of at most so many bytes, beside a plain reader in one of its forms.
     Numbers(u32, Form),
 }
 
 /// Every piece of work, in the order of the table.
-pub const WORKS: [Work; 13] = [
-    Work::Journal(LAYOUTS[0]),
-    Work::Journal(LAYOUTS[1]),
-    Work::Journal(LAYOUTS[2]),
+pub const WORKS: [Work; 12] = [
     Work::Calls(LAYOUTS[0]),
     Work::Calls(LAYOUTS[1]),
     Work::Calls(LAYOUTS[2]),
+    Work::Calls(LAYOUTS[3]),
+    Work::Calls(LAYOUTS[4]),
+    Work::Calls(LAYOUTS[5]),
+    Work::Calls(LAYOUTS[6]),
+    Work::Journal(LAYOUTS[0]),
+    Work::Journal(LAYOUTS[1]),
     Work::Generated,
     Work::Numbers(leb::LONGEST, Form::Called),
     Work::Numbers(leb::LONGEST, Form::Packed),
@@ -56,18 +78,19 @@ pub const WORKS: [Work; 13] = [
 impl Work {
     pub fn name(self) -> String {
         match self {
+            Work::Calls(layout) => layout.name.to_string(),
             Work::Journal(layout) => format!("journal, {}", layout.name),
-            Work::Calls(layout) => format!("calls, {}", layout.name),
-            Work::Generated => "journal, generated, mixed".to_string(),
-            Work::Numbers(most, form) => leb::name(most, form),
+            Work::Generated => "journal, generated".to_string(),
+            Work::NumbersCalled => "numbers, plain reader called".to_string(),
+            Work::NumbersInlined => "numbers, plain reader inlined".to_string(),
         }
     }
 
     /// Makes what the work needs.
     pub fn input(self) -> Input {
         match self {
-            Work::Journal(layout) => replayed(rounds_as_journal(layout)),
             Work::Calls(layout) => called(layout),
+            Work::Journal(layout) => replayed(as_journal(layout)),
             Work::Generated => replayed(generated()),
             Work::Numbers(most, Form::Called) => numbers_read(most, leb::read_called),
             Work::Numbers(most, Form::Packed) => numbers_read(most, leb::read_unpacked),
@@ -76,75 +99,111 @@ impl Work {
     }
 }
 
-/// One piece of work, done in two ways. Each way answers with a sum over what it found, and both sums are equal.
+/// Work as one program does it. It answers with a sum over what it found, and each program finds the same.
+pub type Run = Box<dyn FnMut() -> u64>;
+
+/// One piece of work, done in two ways or three.
 pub struct Input {
     /// How many calls, records or numbers it has.
     pub calls: usize,
-    pub proved: Box<dyn Fn() -> u64>,
-    pub plain: Box<dyn Fn() -> u64>,
+    pub proved: Run,
+    pub plain: Run,
+    /// None where no needs are worked out.
+    pub sparing: Option<Run>,
 }
 
-/// A journal through `gatekeeper_replay`, and through the independent program's replay.
+impl Input {
+    pub fn run(&mut self, side: Side) -> Option<&mut Run> {
+        match side {
+            Side::Proved => Some(&mut self.proved),
+            Side::Plain => Some(&mut self.plain),
+            Side::Sparing => self.sparing.as_mut(),
+        }
+    }
+}
+
+/// A journal, replayed into a buffer that is kept.
 fn replayed(journal: Vec<u8>) -> Input {
-    let reply = replies(&journal);
-    assert_eq!(gatekeeper::replay(&journal), reply, "the two programs differ");
-    let journal_beside = journal.clone();
+    let reply = gatekeeper::replay(&journal);
+    let plain = |when| {
+        let mut text = Vec::new();
+        replies(&journal, when, &mut text);
+        assert_eq!(text, reply.as_bytes(), "the two programs differ");
+        let journal = journal.clone();
+        Box::new(move || {
+            text.clear();
+            replies(black_box(&journal), when, &mut text);
+            text.len() as u64
+        })
+    };
+    let mut text = vec![0; reply.len()];
     Input {
         calls: reply.lines().count() - 1,
-        proved: Box::new(move || gatekeeper::replay(black_box(&journal)).len() as u64),
-        plain: Box::new(move || replies(black_box(&journal_beside)).len() as u64),
+        plain: plain(When::EachCall),
+        sparing: Some(plain(When::Asked)),
+        proved: Box::new(move || match gatekeeper::replay_into(black_box(&journal), &mut text) {
+            Some(bytes) => bytes as u64,
+            None => 0,
+        }),
     }
 }
 
-/// The tables filled, then some rounds over them.
-fn rounds_as_journal(layout: Layout) -> Vec<u8> {
-    let mut journal = as_journal(&layout.filling());
-    let round = as_journal(&layout.round());
-    for _ in 0..ROUNDS_IN_JOURNAL {
-        journal.extend_from_slice(&round);
-    }
-    journal
-}
-
-fn as_journal(calls: &[Call]) -> Vec<u8> {
+/// The tables filled, then a round over them.
+fn as_journal(layout: Layout) -> Vec<u8> {
     let mut journal = Vec::new();
-    for call in calls {
+    for call in layout.filling().into_iter().chain(layout.round()) {
         call.write_record(&mut journal);
     }
     journal
 }
 
-/// A round on full tables through `gatekeeper_call`, its state lent at each call, and through the independent monitor.
+/// A round over full tables, call by call.
 fn called(layout: Layout) -> Input {
-    let mut monitor = Monitor::new();
-    let mut plain_monitor = PlainMonitor::new();
-    for call in layout.filling() {
-        monitor.call(call);
-        plain_monitor.call(call.code(), call.numbers());
+    let numbered = |call: Call| (call.code(), call.numbers());
+    let filling: Vec<(u32, [u32; 4])> = layout.filling().into_iter().map(numbered).collect();
+    let round: Vec<(u32, [u32; 4])> = layout.round().into_iter().map(numbered).collect();
+
+    let mut proved = Monitor::new();
+    for &(code, numbers) in &filling {
+        proved.direct(code, numbers);
     }
-    let calls: Vec<(u32, [u32; 4])> =
-        layout.round().into_iter().map(|call| (call.code(), call.numbers())).collect();
-    let calls_beside = calls.clone();
+    let plain = |when| {
+        let mut monitor = PlainMonitor::new(when);
+        for &(code, numbers) in &filling {
+            monitor.direct(code, numbers);
+        }
+        let round = round.clone();
+        Box::new(move || {
+            let answers = black_box(&round).iter().map(|&(code, numbers)| monitor.direct(code, numbers));
+            answers.map(plain_figure).sum()
+        })
+    };
     Input {
-        calls: calls.len(),
+        calls: round.len(),
+        plain: plain(When::EachCall),
+        sparing: Some(plain(When::Asked)),
         proved: Box::new(move || {
-            let mut monitor = monitor.clone();
-            let answers =
-                black_box(&calls).iter().map(|&(code, numbers)| match monitor.direct(code, numbers) {
-                    Answer::Allowed(level) | Answer::Lowered(level) => u64::from(level),
-                    Answer::Refused(refusal) => 100 * u64::from(refusal.number()),
-                });
-            answers.sum()
+            let answers = black_box(&round).iter().map(|&(code, numbers)| proved.direct(code, numbers));
+            answers.map(figure).sum()
         }),
-        plain: Box::new(move || {
-            let mut monitor = plain_monitor.clone();
-            let answers =
-                black_box(&calls_beside).iter().map(|&(code, numbers)| match monitor.call(code, numbers) {
-                    PlainAnswer::Allowed(level) | PlainAnswer::Lowered(level) => u64::from(level),
-                    PlainAnswer::Refused(number) => 100 * u64::from(number),
-                });
-            answers.sum()
-        }),
+    }
+}
+
+/// An answer as one number.
+pub fn figure(answer: Answer) -> u64 {
+    match answer {
+        Answer::Allowed(level) => level.into(),
+        Answer::Lowered(level) => 100 + u64::from(level),
+        Answer::Refused(refusal) => 200 + u64::from(refusal.number()),
+    }
+}
+
+/// The same of the plain program's.
+pub fn plain_figure(answer: PlainAnswer) -> u64 {
+    match answer {
+        PlainAnswer::Allowed(level) => level.into(),
+        PlainAnswer::Lowered(level) => 100 + u64::from(level),
+        PlainAnswer::Refused(number) => 200 + u64::from(number),
     }
 }
 
@@ -173,6 +232,7 @@ fn numbers_read(most: u32, plain: impl Fn(&[u8]) -> Option<(u32, usize)> + 'stat
         calls: NUMBERS,
         proved: Box::new(move || sum(black_box(&bytes), gatekeeper::read_number)),
         plain: Box::new(move || sum(black_box(&bytes_beside), &plain)),
+        sparing: None,
     }
 }
 
@@ -190,14 +250,22 @@ fn sum(mut bytes: &[u8], read: impl Fn(&[u8]) -> Option<(u32, usize)>) -> u64 {
 #[cfg(test)]
 mod tests {
     use super::*;
+    use gatekeeper_independent::replies::replies as replies_beside;
 
     #[test]
-    fn both_ways_find_the_same() {
+    fn each_program_finds_the_same() {
         for work in WORKS {
-            let input = work.input();
-            let (proved, plain) = ((input.proved)(), (input.plain)());
-            assert_eq!(proved, plain, "{}", work.name());
-            assert!(proved > 0, "{}", work.name());
+            let mut input = work.input();
+            let found = (input.proved)();
+            assert!(found > 0, "{}", work.name());
+            for side in SIDES {
+                // Twice, as a round leaves the tables as they were.
+                for _ in 0..2 {
+                    if let Some(run) = input.run(side) {
+                        assert_eq!(run(), found, "{}, {}", work.name(), side.name());
+                    }
+                }
+            }
         }
     }
 
@@ -205,6 +273,8 @@ mod tests {
     fn the_generated_journal_is_run_to_its_end() {
         let journal = generated();
         assert_eq!(journal.len(), GENERATED_BYTES);
-        assert!(replies(&journal).lines().count() > 13_000);
+        let reply = replies_beside(&journal);
+        assert!(reply.lines().count() > 13_000);
+        assert_eq!(gatekeeper::replay(&journal), reply);
     }
 }

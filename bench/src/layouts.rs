@@ -1,120 +1,248 @@
-//! Full tables: 32 subjects, 64 objects, 512 handles, with rings of pipes.
+//! Tables full of handles: which object each place of each subject holds, and for which direction.
 //!
-//! Each subject reads one pipe and writes another, so that the pipes join the subjects in rings. Its other 14 places
-//! hold files, by turns for writing and for reading. One subject in each ring, its end, writes a file of level 12, the
-//! highest that anyone writes; so every need in the ring is 12, and from the end it has to travel all the way round.
-//! Files that are read have level 12 to 15, and subjects and pipes 15: every open of a round is allowed.
+//! Subjects and pipes have level 12, and so has the highest file that anyone writes: no need is above 12. Files that
+//! are only read have level 12 to 15. So every open of a round is allowed, and no read lowers its subject.
+//!
+//! In rings, each subject reads one pipe and writes another. The end of a ring writes the file of level 12, and from
+//! there the need of 12 has to travel all the way round, from the reader of each pipe to its writer.
 
 use gatekeeper::Call;
 use gatekeeper_independent::tables::LIMITS;
 
-/// The file of level 12 that the ends write; the other files that are written follow, then those that are read.
+/// The level of all subjects and pipes, and of the file that the end of a ring writes.
+const LEVEL: u32 = 12;
 const END_FILE: u32 = 32;
-const WRITTEN: u32 = 33;
-const READ: u32 = 48;
 
-/// How the subjects are joined, and at which places they hold the pipes. A need travels from the reader of a pipe to
-/// its writer, and a pass over the handles goes by rising subject, then place.
+/// A file of level 0: nobody whose need is above 0 may open it for reading.
+pub const LOW_FILE: u32 = 33;
+
+/// What one place of a subject holds.
+#[derive(Clone, Copy, Debug, PartialEq, Eq)]
+pub struct Held {
+    pub object: u32,
+    pub writes: bool,
+}
+
+/// Which subjects hold which objects. Every one of the first `subjects` holds a handle at each of its places.
 #[derive(Clone, Copy, Debug)]
 pub struct Layout {
     pub name: &'static str,
-    /// How many subjects a ring has; 32 is a multiple of it.
-    ring: u32,
-    /// Whether a need travels to a higher subject, in the order of a pass.
-    with_order: bool,
+    subjects: u32,
+    shape: Shape,
 }
 
-pub const LAYOUTS: [Layout; 3] = [
-    Layout { name: "8 rings of 4, against the order", ring: 4, with_order: false },
-    Layout { name: "1 ring of 32, against the order", ring: 32, with_order: false },
-    Layout { name: "1 ring of 32, with the order", ring: 32, with_order: true },
+#[derive(Clone, Copy, Debug)]
+enum Shape {
+    /// Rings of so many subjects. A pass over the handles goes by rising subject, then place: with the order, it hands
+    /// a need on from pipe to pipe; against it, each subject takes two more passes.
+    Rings { size: u32, with_order: bool, files: Files },
+    /// Rings of 8 against the order, and in each 4 pipes across it. Each subject of a ring writes a file of another level.
+    Chords,
+    /// No file is open: each subject reads 8 pipes and writes 8, those of its neighbours in one ring.
+    Pipes,
+    /// The same, but for one handle, of the last subject, which writes the only file.
+    PipesAndOneFile,
+}
+
+/// What the other places of a subject in a ring hold.
+#[derive(Clone, Copy, Debug, PartialEq, Eq)]
+enum Files {
+    /// Files for reading: only the end of the ring writes one.
+    One,
+    /// By turns files of level 0 to 11 for writing, and files for reading.
+    Several,
+    /// The same, but everyone writes the file of level 12 too.
+    Everyone,
+}
+
+const fn rings(name: &'static str, size: u32, with_order: bool, files: Files) -> Layout {
+    Layout { name, subjects: LIMITS.subjects, shape: Shape::Rings { size, with_order, files } }
+}
+
+const fn full(name: &'static str, shape: Shape) -> Layout {
+    Layout { name, subjects: LIMITS.subjects, shape }
+}
+
+/// Full tables: 32 subjects, 64 objects, 512 handles.
+pub const LAYOUTS: [Layout; 7] = [
+    rings("8 rings of 4", 4, false, Files::Several),
+    full("4 rings of 8 with chords", Shape::Chords),
+    rings("1 ring of 32, one file, against the order", 32, false, Files::One),
+    rings("1 ring of 32, one file, with the order", 32, true, Files::One),
+    rings("1 ring of 32, everyone writes a file", 32, false, Files::Everyone),
+    full("pipes alone", Shape::Pipes),
+    full("pipes and one file", Shape::PipesAndOneFile),
 ];
 
+/// Tables of so many subjects with 16 handles each, in rings of 4, or of fewer where there are not so many.
+pub fn rings_of_4(subjects: u32) -> Layout {
+    let shape = Shape::Rings { size: subjects.min(4), with_order: false, files: Files::Several };
+    Layout { name: "rings of 4", subjects, shape }
+}
+
+/// The same, all in one ring, where one file is written.
+pub fn one_ring(subjects: u32) -> Layout {
+    let shape = Shape::Rings { size: subjects, with_order: false, files: Files::One };
+    Layout { name: "one ring", subjects, shape }
+}
+
 impl Layout {
-    /// The place of the handle that reads a pipe, and of the one that writes one. With the order, what a pass finds at
-    /// the written pipe it hands on to the read one; against it, that takes another pass.
-    fn places(self) -> (u32, u32) {
-        if self.with_order {
-            (LIMITS.places - 1, 0)
-        } else {
-            (0, LIMITS.places - 1)
+    /// Every subject and place that holds a handle, in the order of a pass.
+    pub fn places(self) -> impl Iterator<Item = (u32, u32)> {
+        (0..self.subjects).flat_map(|subject| (0..LIMITS.places).map(move |place| (subject, place)))
+    }
+
+    /// What a place of a subject holds.
+    pub fn held(self, subject: u32, place: u32) -> Held {
+        match self.shape {
+            Shape::Rings { size, with_order, files } => in_rings(subject, place, size, with_order, files),
+            Shape::Chords => with_chords(subject, place),
+            Shape::Pipes => on_pipes(subject, place),
+            Shape::PipesAndOneFile => match on_pipes(subject, place) {
+                held if held.object < LAST => held,
+                Held { writes: true, .. } if subject == LIMITS.subjects - 1 => {
+                    Held { object: LAST, writes: true }
+                }
+                held => Held { object: LAST - 1, ..held },
+            },
         }
     }
 
-    /// The subject that reads what s writes.
-    fn reader_of(self, s: u32) -> u32 {
-        let first = s - s % self.ring;
-        let step = if self.with_order { self.ring - 1 } else { 1 };
-        first + (s - first + step) % self.ring
-    }
-
-    /// Whether a need starts at this subject: it is the first of its ring in the direction that needs travel.
-    fn is_end(self, s: u32) -> bool {
-        s % self.ring == if self.with_order { 0 } else { self.ring - 1 }
+    /// The level of an object that is a file; none for a pipe.
+    fn file(self, object: u32) -> Option<u32> {
+        match self.shape {
+            Shape::Rings { files, .. } => match object {
+                ..END_FILE => None,
+                END_FILE => Some(LEVEL),
+                _ if object < first_read(files) => Some((object - LOW_FILE) % LEVEL),
+                _ => Some(LEVEL + object % 4),
+            },
+            Shape::Chords => match object {
+                ..CHORD_FILES => None,
+                CHORD_FILES..CHORD_READ => Some(CHORD_LEVELS[(object - CHORD_FILES) as usize]),
+                _ => Some(LEVEL + object % 4),
+            },
+            Shape::Pipes => None,
+            Shape::PipesAndOneFile => (object == LAST).then_some(LEVEL),
+        }
     }
 
     /// The call that opens the handle at a place of a subject.
-    fn opening(self, subject: u32, place: u32) -> Call {
-        let (reads, writes) = self.places();
-        if place == writes {
-            return Call::OpenWrite { subject, object: subject, place };
-        }
-        if place == reads {
-            let written_by = (0..LIMITS.subjects).find(|&s| self.reader_of(s) == subject);
-            return Call::OpenRead { subject, object: written_by.unwrap_or(subject), place };
-        }
-        if place == 1 && self.is_end(subject) {
-            return Call::OpenWrite { subject, object: END_FILE, place };
-        }
-        let turn = 7 * subject + place / 2;
-        if place % 2 == 1 {
-            Call::OpenWrite { subject, object: WRITTEN + turn % (READ - WRITTEN), place }
-        } else {
-            Call::OpenRead { subject, object: READ + turn % (LIMITS.objects - READ), place }
+    pub fn opening(self, subject: u32, place: u32) -> Call {
+        match self.held(subject, place) {
+            Held { object, writes: true } => Call::OpenWrite { subject, object, place },
+            Held { object, writes: false } => Call::OpenRead { subject, object, place },
         }
     }
 
-    /// The calls that fill empty tables.
+    /// The calls that fill empty tables. A pipe is made by the first who writes it; the reading end that this subject
+    /// gets with it, at a place that is still empty, is closed again.
     pub fn filling(self) -> Vec<Call> {
-        let (reads, writes) = self.places();
-        let mut calls = Vec::new();
-        for object in END_FILE..LIMITS.objects {
-            let level = match object {
-                END_FILE => 12,
-                WRITTEN..READ => (object - WRITTEN) % 12,
-                _ => 12 + object % 4,
+        let files = (0..LIMITS.objects).filter_map(|object| Some((object, self.file(object)?)));
+        let mut calls: Vec<Call> = files.map(|(object, level)| Call::Register { object, level }).collect();
+        calls.extend((0..self.subjects).map(|subject| Call::Admit { subject, level: LEVEL }));
+        let mut made = Vec::new();
+        for object in (0..LIMITS.objects).filter(|&object| self.file(object).is_none()) {
+            let written = Held { object, writes: true };
+            let Some((subject, writes)) = self.places().find(|&(s, p)| self.held(s, p) == written) else {
+                continue;
             };
-            calls.push(Call::Register { object, level });
-        }
-        for subject in 0..LIMITS.subjects {
-            calls.push(Call::Admit { subject, level: 15 });
-            calls.push(Call::Pipe { subject, object: subject, reads, writes });
+            made.push((subject, writes));
+            let is_empty = |place: &u32| !made.contains(&(subject, *place));
+            let Some(reads) = (0..LIMITS.places).find(is_empty) else { continue };
+            calls.push(Call::Pipe { subject, object, reads, writes });
             calls.push(Call::Close { subject, place: reads });
         }
-        for subject in 0..LIMITS.subjects {
-            let other_places = (0..LIMITS.places).filter(|&place| place != writes);
-            calls.extend(other_places.map(|place| self.opening(subject, place)));
-        }
+        let others = self.places().filter(|place| !made.contains(place));
+        calls.extend(others.map(|(subject, place)| self.opening(subject, place)));
         calls
     }
 
-    /// A round over full tables: each handle is closed, and opened again at its place.
+    /// A round: each handle is closed, and opened again at its place.
     pub fn round(self) -> Vec<Call> {
-        let places =
-            (0..LIMITS.subjects).flat_map(|subject| (0..LIMITS.places).map(move |place| (subject, place)));
-        places
-            .flat_map(|(subject, place)| [Call::Close { subject, place }, self.opening(subject, place)])
-            .collect()
+        let close_and_open =
+            |(subject, place)| [Call::Close { subject, place }, self.opening(subject, place)];
+        self.places().flat_map(close_and_open).collect()
     }
+}
+
+/// The first file that is only read, of those in the layouts of rings.
+fn first_read(files: Files) -> u32 {
+    match files {
+        Files::One => LOW_FILE + 1,
+        Files::Several | Files::Everyone => 48,
+    }
+}
+
+/// Subject s writes pipe s.
+fn in_rings(subject: u32, place: u32, size: u32, with_order: bool, files: Files) -> Held {
+    let last = LIMITS.places - 1;
+    let (reads, writes) = if with_order { (last, 0) } else { (0, last) };
+    // Needs travel against the flow: to a lower subject where the flow goes to a higher one.
+    let (back, end) = if with_order { (1, 0) } else { (size - 1, size - 1) };
+    let (first, position) = (subject - subject % size, subject % size);
+    if place == writes {
+        return Held { object: subject, writes: true };
+    }
+    if place == reads {
+        return Held { object: first + (position + back) % size, writes: false };
+    }
+    if place == 1 && (position == end || files == Files::Everyone) {
+        return Held { object: END_FILE, writes: true };
+    }
+    let turn = 7 * subject + place / 2;
+    let read = first_read(files);
+    if place % 2 == 1 && files != Files::One {
+        Held { object: LOW_FILE + turn % (read - LOW_FILE), writes: true }
+    } else {
+        Held { object: read + turn % (LIMITS.objects - read), writes: false }
+    }
+}
+
+/// In the layout with chords: the pipes across rings start here, then the files that are written, with their levels,
+/// then those that are read.
+const CHORDS: u32 = 32;
+const CHORD_FILES: u32 = 48;
+const CHORD_READ: u32 = 56;
+const CHORD_LEVELS: [u32; 8] = [12, 3, 9, 0, 11, 5, 8, 2];
+
+/// Chord j of a ring goes from its subject 2j to its subject 2j + 5.
+fn with_chords(subject: u32, place: u32) -> Held {
+    let (ring, position) = (subject / 8, subject % 8);
+    match place {
+        0 | 15 => in_rings(subject, place, 8, false, Files::One),
+        1 => Held { object: CHORD_FILES + (position + 2 * ring) % 8, writes: true },
+        14 if position % 2 == 0 => Held { object: CHORDS + 4 * ring + position / 2, writes: true },
+        14 => Held { object: CHORDS + 4 * ring + (position + 3) % 8 / 2, writes: false },
+        _ if place % 2 == 1 => {
+            // The files of the three lowest levels.
+            let low = [CHORD_FILES + 1, CHORD_FILES + 3, CHORD_FILES + 7];
+            Held { object: low[((subject + place / 2) % 3) as usize], writes: true }
+        }
+        _ => Held { object: CHORD_READ + (subject + place / 2) % 8, writes: false },
+    }
+}
+
+/// The last object.
+const LAST: u32 = LIMITS.objects - 1;
+
+/// Subject s has pipes 2s and 2s + 1. It writes them and those of the next three subjects, and reads those of the four
+/// subjects before it.
+fn on_pipes(subject: u32, place: u32) -> Held {
+    let (index, writes) = (place / 2, place % 2 == 1);
+    let steps = if writes { index / 2 } else { LIMITS.subjects - 1 - index / 2 };
+    let neighbour = (subject + steps) % LIMITS.subjects;
+    Held { object: 2 * neighbour + index % 2, writes }
 }
 
 #[cfg(test)]
 mod tests {
     use super::*;
     use gatekeeper::{Answer, Monitor};
-    use gatekeeper_independent::monitor::Monitor as PlainMonitor;
+    use gatekeeper_independent::monitor::{Answer as AnswerBeside, Monitor as MonitorBeside};
     use gatekeeper_independent::needs::{live_things, Flow, Needs, Thing};
     use gatekeeper_independent::tables::{Kind, Tables};
+    use gatekeeper_plain::{Answer as PlainAnswer, Monitor as PlainMonitor, When};
 
     /// How many passes over the handles it takes until no need changes, the last one counted.
     fn passes(tables: &Tables) -> u32 {
@@ -142,43 +270,68 @@ mod tests {
         0
     }
 
-    fn filled(layout: Layout) -> PlainMonitor {
-        let mut monitor = PlainMonitor::new();
+    fn filled(layout: Layout) -> MonitorBeside {
+        let mut monitor = MonitorBeside::new();
         for call in layout.filling() {
-            monitor.call(call.code(), call.numbers());
+            let answer = monitor.call(call.code(), call.numbers());
+            assert!(matches!(answer, AnswerBeside::Allowed(_)), "{}: {call:?}", layout.name);
         }
         monitor
     }
 
     #[test]
-    fn the_tables_are_full_and_every_need_is_12() {
+    fn the_tables_are_full_and_needs_are_12_where_a_file_is_written() {
         for layout in LAYOUTS {
             let monitor = filled(layout);
             let tables = monitor.tables();
-            assert_eq!(tables.live_subjects().count(), 32);
-            assert_eq!(tables.live_objects().count(), 64);
-            assert_eq!(tables.handle_count(), 512);
+            assert_eq!(tables.live_subjects().count(), 32, "{}", layout.name);
+            assert_eq!(tables.live_objects().count(), 64, "{}", layout.name);
+            assert_eq!(tables.handle_count(), 512, "{}", layout.name);
             let needs = Needs::of_tables(tables);
+            let need = if layout.name == "pipes alone" { 0 } else { LEVEL };
             for s in 0..32 {
-                assert_eq!(needs.of(Thing::Subject(s)), 12, "{}, subject {s}", layout.name);
+                assert_eq!(needs.of(Thing::Subject(s)), need, "{}, subject {s}", layout.name);
             }
         }
     }
 
     #[test]
-    fn needs_travel_all_the_way_round() {
+    fn the_layouts_differ_in_how_many_passes_they_take() {
         let passes = LAYOUTS.map(|layout| passes(filled(layout).tables()));
-        assert_eq!(passes, [9, 65, 2]);
+        assert_eq!(passes, [9, 12, 65, 2, 3, 1, 7]);
     }
 
     #[test]
-    fn every_call_of_a_round_is_allowed_and_leaves_the_tables_full() {
+    fn every_call_of_a_round_is_allowed_and_answered_alike() {
         for layout in LAYOUTS {
-            let mut monitor = Monitor::new();
+            let mut proved = Monitor::new();
+            let mut plain = [PlainMonitor::new(When::EachCall), PlainMonitor::new(When::Asked)];
+            let mut independent = MonitorBeside::new();
             for call in layout.filling().into_iter().chain(layout.round()) {
-                assert!(matches!(monitor.call(call), Answer::Allowed(_)), "{}: {call:?}", layout.name);
+                let Answer::Allowed(level) = proved.call(call) else {
+                    panic!("{}: {call:?} is not allowed", layout.name);
+                };
+                for plain in &mut plain {
+                    assert_eq!(plain.direct(call.code(), call.numbers()), PlainAnswer::Allowed(level));
+                }
+                let beside = independent.call(call.code(), call.numbers());
+                assert_eq!(beside, AnswerBeside::Allowed(u32::from(level)), "{}: {call:?}", layout.name);
             }
-            assert_eq!(monitor.open(), 512);
+            assert_eq!(proved.open(), 512);
+            assert_eq!(plain.map(|plain| plain.tally().open()), [512; 2]);
+        }
+    }
+
+    #[test]
+    fn tables_that_grow_have_16_handles_for_each_subject() {
+        for subjects in [1, 2, 4, 8, 16, 32] {
+            for layout in [rings_of_4(subjects), one_ring(subjects)] {
+                let mut monitor = filled(layout);
+                assert_eq!(monitor.tables().handle_count(), u64::from(16 * subjects), "{}", layout.name);
+                // The low file is not for those whose need is 12.
+                monitor.call(11, [0, 2, 0, 0]);
+                assert_eq!(monitor.call(5, [0, LOW_FILE, 2, 0]), AnswerBeside::Refused(9));
+            }
         }
     }
 }

@@ -1,7 +1,7 @@
 //! The thirteen calls. Each is a method that first refuses, by rising refusal number, and then takes effect.
 
 use crate::needs::Needs;
-use crate::tables::{Direction, Handle, Kind, Level, Object, Tables, Tally, LEVELS, PLACES};
+use crate::tables::{Direction, Kind, Level, Object, Place, Tables, Tally, LEVELS, PLACES};
 
 /// What a call is answered with.
 #[derive(Clone, Copy, Debug, PartialEq, Eq)]
@@ -138,7 +138,7 @@ impl Monitor {
     /// Makes a call. A refused one changes no table.
     pub fn call(&mut self, call: Call) -> Answer {
         if self.when == When::EachCall {
-            self.needs = Needs::work_out(&self.tables, self.sought(call));
+            self.needs = Needs::work_out(&self.tables, self.sought(call).unwrap_or(Place::EMPTY));
         }
         let answer = match call {
             Call::Admit { s, level } => self.admit(s, level),
@@ -189,8 +189,8 @@ impl Monitor {
             return Err(Refusal::PlaceUnfit);
         }
         self.tables.objects[o] = Some(Object { kind: Kind::Pipe, level, handles: 0 });
-        self.tables.place(s, r, Handle { object: o as u8, direction: Direction::Reading });
-        self.tables.place(s, w, Handle { object: o as u8, direction: Direction::Writing });
+        self.tables.fill(s, r, o, Direction::Reading);
+        self.tables.fill(s, w, o, Direction::Writing);
         Ok(Answer::Allowed(level))
     }
 
@@ -198,32 +198,31 @@ impl Monitor {
         let (s, _) = self.subject(s)?;
         let (o, object) = self.object(o)?;
         let p = self.empty_place(s, p)?;
-        let handle = Handle { object: o as u8, direction };
-        self.ask(Some((s, handle)));
+        self.ask(Place::of(s, o, direction));
         if !self.needs.are_met(&self.tables) {
             return Err(Refusal::Flow);
         }
-        self.tables.place(s, p, handle);
+        self.tables.fill(s, p, o, direction);
         Ok(Answer::Allowed(object.level))
     }
 
     fn read(&mut self, s: u32, p: u32) -> Result<Answer, Refusal> {
         let (s, level) = self.subject(s)?;
-        let (_, handle) = self.handle(s, p)?;
-        if handle.direction != Direction::Reading {
+        let (_, o, direction) = self.handle(s, p)?;
+        if direction != Direction::Reading {
             return Err(Refusal::WrongDirection);
         }
-        let object = self.tables.objects[usize::from(handle.object)].ok_or(Refusal::NoObject)?;
+        let object = self.tables.objects[o].ok_or(Refusal::NoObject)?;
         Ok(fall(level, object.level, |level| self.tables.subjects[s] = Some(level)))
     }
 
     fn write(&mut self, s: u32, p: u32) -> Result<Answer, Refusal> {
         let (s, level) = self.subject(s)?;
-        let (_, handle) = self.handle(s, p)?;
-        if handle.direction != Direction::Writing {
+        let (_, o, direction) = self.handle(s, p)?;
+        if direction != Direction::Writing {
             return Err(Refusal::WrongDirection);
         }
-        let object = self.tables.objects[usize::from(handle.object)].as_mut().ok_or(Refusal::NoObject)?;
+        let object = self.tables.objects[o].as_mut().ok_or(Refusal::NoObject)?;
         Ok(match object.kind {
             Kind::File => Answer::Allowed(object.level),
             Kind::Pipe => fall(object.level, level, |level| object.level = level),
@@ -235,8 +234,8 @@ impl Monitor {
         let c = self.new_subject(c)?;
         self.tables.subjects[c] = Some(level);
         for place in 0..PLACES {
-            if let Some(handle) = self.tables.handles[s][place] {
-                self.tables.place(c, place, handle);
+            if let Some((o, direction)) = self.tables.places[s][place].handle() {
+                self.tables.fill(c, place, o, direction);
             }
         }
         Ok(Answer::Allowed(level))
@@ -245,8 +244,8 @@ impl Monitor {
     fn exec(&mut self, s: u32, o: u32) -> Result<Answer, Refusal> {
         let (s, level) = self.subject(s)?;
         let (_, object) = self.file(o)?;
-        self.ask(None);
-        if object.level < self.needs.subjects[s] {
+        self.ask(Place::EMPTY);
+        if object.level < self.needs.subject(s) {
             return Err(Refusal::Flow);
         }
         Ok(fall(level, object.level, |level| self.tables.subjects[s] = Some(level)))
@@ -254,7 +253,7 @@ impl Monitor {
 
     fn close(&mut self, s: u32, p: u32) -> Result<Answer, Refusal> {
         let (s, level) = self.subject(s)?;
-        let (p, _) = self.handle(s, p)?;
+        let (p, ..) = self.handle(s, p)?;
         self.tables.empty(s, p);
         Ok(Answer::Allowed(level))
     }
@@ -319,33 +318,31 @@ impl Monitor {
 
     /// Refusal 7: the place is in range and empty.
     fn empty_place(&self, s: usize, p: u32) -> Result<usize, Refusal> {
-        match self.tables.handles[s].get(p as usize) {
-            Some(None) => Ok(p as usize),
+        match self.tables.places[s].get(p as usize) {
+            Some(&Place::EMPTY) => Ok(p as usize),
             _ => Err(Refusal::PlaceUnfit),
         }
     }
 
-    /// Refusal 7: the place is in range and holds a handle.
-    fn handle(&self, s: usize, p: u32) -> Result<(usize, Handle), Refusal> {
-        match self.tables.handles[s].get(p as usize) {
-            Some(Some(handle)) => Ok((p as usize, *handle)),
-            _ => Err(Refusal::PlaceUnfit),
-        }
+    /// Refusal 7: the place is in range and holds a handle; with its object and its direction.
+    fn handle(&self, s: usize, p: u32) -> Result<(usize, usize, Direction), Refusal> {
+        let handle = self.tables.places[s].get(p as usize).and_then(|place| place.handle());
+        handle.map(|(o, direction)| (p as usize, o, direction)).ok_or(Refusal::PlaceUnfit)
     }
 
     /// Refusal 9: asks for the needs, unless each call works them out before all else.
-    fn ask(&mut self, sought: Option<(usize, Handle)>) {
+    fn ask(&mut self, sought: Place) {
         if self.when == When::Asked {
             self.needs = Needs::work_out(&self.tables, sought);
         }
     }
 
     /// The handle that an open seeks, where its subject and its object are live.
-    fn sought(&self, call: Call) -> Option<(usize, Handle)> {
+    fn sought(&self, call: Call) -> Option<Place> {
         let Call::Open { s, o, direction, .. } = call else { return None };
         let (s, _) = self.subject(s).ok()?;
         let (o, _) = self.object(o).ok()?;
-        Some((s, Handle { object: o as u8, direction }))
+        Some(Place::of(s, o, direction))
     }
 }
 

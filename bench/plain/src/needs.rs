@@ -2,26 +2,36 @@
 //!
 //! One thing reaches another by a chain of flows: from a subject to what it writes, from what is read to its reader.
 
-use crate::tables::{Direction, Handle, Kind, Level, Tables, OBJECTS, SUBJECTS};
+use crate::tables::{object, subject, Kind, Level, Place, Tables, Thing};
 
-/// A need for every number; 0 for those that are free.
+/// A need for every thing; 0 for those that are not live.
 #[derive(Clone, Debug, PartialEq, Eq)]
 pub struct Needs {
-    pub subjects: [Level; SUBJECTS],
-    pub objects: [Level; OBJECTS],
+    /// By thing. It is longer than there are things, so that no index is out of its range.
+    levels: [Level; Thing::MAX as usize + 1],
 }
 
 impl Needs {
-    pub const NONE: Needs = Needs { subjects: [0; SUBJECTS], objects: [0; OBJECTS] };
+    pub const NONE: Needs = Needs { levels: [0; Thing::MAX as usize + 1] };
 
-    /// Works every need out from nothing, in passes over all handles until none changes. The sought handle, of the
-    /// subject beside it, counts as one of the tables'.
-    pub fn work_out(tables: &Tables, sought: Option<(usize, Handle)>) -> Needs {
+    /// The need of a subject.
+    pub fn subject(&self, s: usize) -> Level {
+        self.levels[usize::from(subject(s))]
+    }
+
+    /// The need of an object.
+    pub fn object(&self, o: usize) -> Level {
+        self.levels[usize::from(object(o))]
+    }
+
+    /// Works every need out from nothing, in passes over all handles until none changes. A handle that is sought counts
+    /// as one that is held.
+    pub fn work_out(tables: &Tables, sought: Place) -> Needs {
         let mut needs = Needs::NONE;
         // A file reaches itself.
-        for (need, object) in needs.objects.iter_mut().zip(&tables.objects) {
-            if let Some(object) = object.filter(|object| object.kind == Kind::File) {
-                *need = object.level;
+        for (o, entry) in tables.objects.iter().enumerate() {
+            if let Some(file) = entry.filter(|entry| entry.kind == Kind::File) {
+                needs.levels[usize::from(object(o))] = file.level;
             }
         }
         // What is reached from the end of a flow is reached from its beginning.
@@ -30,40 +40,42 @@ impl Needs {
     }
 
     /// One pass over all handles; whether a need changed.
-    fn pass(&mut self, tables: &Tables, sought: Option<(usize, Handle)>) -> bool {
-        let Needs { subjects, objects } = self;
+    fn pass(&mut self, tables: &Tables, sought: Place) -> bool {
         let mut changed = false;
-        for (subject, places) in subjects.iter_mut().zip(&tables.handles) {
-            for handle in places.iter().flatten() {
-                changed |= carry(subject, objects, handle);
+        self.carry(sought, &mut changed);
+        for (level, places) in tables.subjects.iter().zip(&tables.places) {
+            if level.is_some() {
+                for &place in places {
+                    self.carry(place, &mut changed);
+                }
             }
-        }
-        if let Some((subject, handle)) = &sought {
-            changed |= carry(&mut subjects[*subject], objects, handle);
         }
         changed
     }
 
+    /// Raises the need at the beginning of a flow to the need at its end, and tells if it was lower.
+    #[inline(always)]
+    fn carry(&mut self, flow: Place, changed: &mut bool) {
+        let need = self.levels[usize::from(flow.to)];
+        let from = &mut self.levels[usize::from(flow.from)];
+        if *from < need {
+            raise(from, need, changed);
+        }
+    }
+
     /// Whether every live subject and object has at least the level of its need.
     pub fn are_met(&self, tables: &Tables) -> bool {
-        let mut subjects = tables.subjects.iter().zip(&self.subjects);
-        let mut objects = tables.objects.iter().zip(&self.objects);
-        subjects.all(|(level, need)| level.is_none_or(|level| level >= *need))
-            && objects.all(|(object, need)| object.is_none_or(|object| object.level >= *need))
+        let mut subjects = tables.subjects.iter().enumerate();
+        let mut objects = tables.objects.iter().enumerate();
+        subjects.all(|(s, level)| level.is_none_or(|level| level >= self.subject(s)))
+            && objects.all(|(o, entry)| entry.is_none_or(|entry| entry.level >= self.object(o)))
     }
 }
 
-/// Raises the need at the beginning of a handle's flow to the need at its end; whether it was lower.
-#[inline(always)]
-fn carry(subject: &mut Level, objects: &mut [Level; OBJECTS], handle: &Handle) -> bool {
-    let object = &mut objects[usize::from(handle.object)];
-    let (from, to) = match handle.direction {
-        Direction::Writing => (subject, object),
-        Direction::Reading => (object, subject),
-    };
-    let raised = *from < *to;
-    if raised {
-        *from = *to;
-    }
-    raised
+/// Few flows of a pass raise a need. As a function of its own, this is kept out of the loop.
+#[cold]
+#[inline(never)]
+fn raise(need: &mut Level, to: Level, changed: &mut bool) {
+    *need = to;
+    *changed = true;
 }

@@ -32,11 +32,50 @@ pub enum Direction {
     Writing,
 }
 
-/// What one place of a subject holds: an object's number, below `OBJECTS`, and a direction.
+/// A subject or an object as one number: the subjects, then the objects.
+pub type Thing = u8;
+
+/// How many subjects and objects there are.
+pub const THINGS: usize = SUBJECTS + OBJECTS;
+
+pub fn subject(s: usize) -> Thing {
+    s as Thing
+}
+
+pub fn object(o: usize) -> Thing {
+    (SUBJECTS + o) as Thing
+}
+
+/// What a place holds, kept as the flow that it makes: from a subject to an object that it writes, from an object to a
+/// subject that reads it. An empty place is a flow from a thing to itself, which carries nothing anywhere.
 #[derive(Clone, Copy, Debug, PartialEq, Eq)]
-pub struct Handle {
-    pub object: u8,
-    pub direction: Direction,
+pub struct Place {
+    pub from: Thing,
+    pub to: Thing,
+}
+
+impl Place {
+    pub const EMPTY: Place = Place { from: 0, to: 0 };
+
+    /// A handle of a subject on an object.
+    pub fn of(s: usize, o: usize, direction: Direction) -> Place {
+        match direction {
+            Direction::Reading => Place { from: object(o), to: subject(s) },
+            Direction::Writing => Place { from: subject(s), to: object(o) },
+        }
+    }
+
+    /// The handle's object and its direction; none for an empty place.
+    pub fn handle(self) -> Option<(usize, Direction)> {
+        let (from, to) = (usize::from(self.from), usize::from(self.to));
+        if from >= SUBJECTS {
+            Some((from - SUBJECTS, Direction::Reading))
+        } else if to >= SUBJECTS {
+            Some((to - SUBJECTS, Direction::Writing))
+        } else {
+            None
+        }
+    }
 }
 
 /// Handles made and gone over all calls, modulo 2 to the 64th.
@@ -52,15 +91,14 @@ impl Tally {
     }
 }
 
-/// Every table. None stands for a number that is free and for a place that is empty. A subject that is not live holds
-/// no handle, and every handle's object is live.
+/// Every table. A subject that is not live holds no handle, and every handle's object is live.
 #[derive(Clone, Debug, PartialEq, Eq)]
 pub struct Tables {
-    /// The levels of the live subjects.
+    /// The levels of the live subjects; none for a number that is free.
     pub subjects: [Option<Level>; SUBJECTS],
     pub objects: [Option<Object>; OBJECTS],
     /// By subject, then by place.
-    pub handles: [[Option<Handle>; PLACES]; SUBJECTS],
+    pub places: [[Place; PLACES]; SUBJECTS],
     pub tally: Tally,
 }
 
@@ -68,23 +106,24 @@ impl Tables {
     pub const EMPTY: Tables = Tables {
         subjects: [None; SUBJECTS],
         objects: [None; OBJECTS],
-        handles: [[None; PLACES]; SUBJECTS],
+        places: [[Place::EMPTY; PLACES]; SUBJECTS],
         tally: Tally { made: 0, gone: 0 },
     };
 
     /// Places a handle on a live object at an empty place of a live subject.
-    pub fn place(&mut self, subject: usize, place: usize, handle: Handle) {
-        self.handles[subject][place] = Some(handle);
-        if let Some(object) = &mut self.objects[usize::from(handle.object)] {
+    pub fn fill(&mut self, s: usize, p: usize, o: usize, direction: Direction) {
+        self.places[s][p] = Place::of(s, o, direction);
+        if let Some(object) = &mut self.objects[o] {
             object.handles += 1;
         }
         self.tally.made = self.tally.made.wrapping_add(1);
     }
 
     /// Empties a place. A pipe ends, and its number is free, when its last handle goes.
-    pub fn empty(&mut self, subject: usize, place: usize) {
-        let Some(handle) = self.handles[subject][place].take() else { return };
-        let entry = &mut self.objects[usize::from(handle.object)];
+    pub fn empty(&mut self, s: usize, p: usize) {
+        let Some((o, _)) = self.places[s][p].handle() else { return };
+        self.places[s][p] = Place::EMPTY;
+        let entry = &mut self.objects[o];
         if let Some(object) = entry {
             object.handles -= 1;
             if object.kind == Kind::Pipe && object.handles == 0 {
@@ -100,8 +139,13 @@ mod tests {
     use super::*;
 
     #[test]
-    fn a_place_takes_two_bytes() {
-        assert_eq!(size_of::<Option<Handle>>(), 2);
+    fn a_place_is_what_was_put_there() {
+        assert_eq!(Place::EMPTY.handle(), None);
+        for (s, o) in [(0, 0), (0, 63), (31, 0), (31, 63)] {
+            for direction in [Direction::Reading, Direction::Writing] {
+                assert_eq!(Place::of(s, o, direction).handle(), Some((o, direction)));
+            }
+        }
     }
 
     #[test]
@@ -110,8 +154,8 @@ mod tests {
             let mut tables = Tables::EMPTY;
             tables.subjects[0] = Some(9);
             tables.objects[5] = Some(Object { kind, level: 9, handles: 0 });
-            tables.place(0, 0, Handle { object: 5, direction: Direction::Reading });
-            tables.place(0, 1, Handle { object: 5, direction: Direction::Writing });
+            tables.fill(0, 0, 5, Direction::Reading);
+            tables.fill(0, 1, 5, Direction::Writing);
             tables.empty(0, 0);
             assert_eq!(tables.objects[5], Some(Object { kind, level: 9, handles: 1 }));
             tables.empty(0, 1);

@@ -88,10 +88,11 @@ impl Pair {
     /// Sees that the needs worked out last are those of the tables.
     fn compare_needs(&self) {
         let needs = Needs::of_tables(self.independent.tables());
-        let subjects = (0..).map(Thing::Subject).zip(self.plain.needs().subjects);
-        let objects = (0..).map(Thing::Object).zip(self.plain.needs().objects);
-        for (thing, need) in subjects.chain(objects) {
-            assert_eq!(u32::from(need), needs.of(thing), "{thing:?}");
+        for s in 0..32 {
+            assert_eq!(u32::from(self.plain.needs().subject(s)), needs.of(Thing::Subject(s as u32)));
+        }
+        for o in 0..64 {
+            assert_eq!(u32::from(self.plain.needs().object(o)), needs.of(Thing::Object(o as u32)));
         }
     }
 }

@@ -1,0 +1,104 @@
+//! The command line.
+
+use crate::inputs::{Side, SIDES};
+
+pub const HELP: &str = "\
+bench/run - the proved gatekeeper beside a plain Rust program: time and instructions
+
+Usage: bench/run [--rounds N] [--only WORDS] [--alone PROGRAM]         processor time per call
+       bench/run --instructions [--only WORDS] [--alone PROGRAM]       instructions per call; needs valgrind
+       bench/run --markdown [--rounds N] [--only WORDS]                both, and more, as docs/PERFORMANCE.md has them
+       bench/run --plot FILE.svg                                       instructions by number of open handles
+
+The programs:
+  proved     the proved library, through the archive for hosts
+  plain      a plain Rust program (bench/plain), which works every need out from nothing at each call, in passes over
+             all handles until none changes
+  sparing    the same, but it does so only at an open or exec that nothing else refuses
+
+Times are of the processor, and the best of N rounds; the programs take turns. They are rough on a shared machine.
+Instructions are the same on every run. A figure is per call: per record for a journal, per number for numbers. The
+last columns divide the proved program's by the others': below 1, it is the faster one. docs/PERFORMANCE.md says what
+the inputs are. bench/page takes all figures anew and puts them on that page.
+
+  --rounds N       how many rounds (default 15)
+  --only WORDS     only the inputs whose name has these words
+  --alone PROGRAM  run one of the three only, as for a profiler
+";
+
+/// What is to be done.
+#[derive(Clone, Debug, PartialEq, Eq)]
+pub enum Task {
+    Help,
+    Times,
+    Instructions,
+    Markdown,
+    Plot(String),
+    /// The work of `Instructions`, under valgrind; and that of `Plot`.
+    Counted,
+    CountedGrowth,
+}
+
+#[derive(Clone, Debug, PartialEq, Eq)]
+pub struct Options {
+    pub task: Task,
+    pub rounds: u32,
+    pub only: String,
+    pub alone: Option<Side>,
+}
+
+impl Options {
+    pub fn read(mut words: impl Iterator<Item = String>) -> Result<Options, String> {
+        let mut options = Options { task: Task::Times, rounds: 15, only: String::new(), alone: None };
+        while let Some(option) = words.next() {
+            let mut value = || words.next().ok_or(format!("'{option}' needs a value"));
+            match option.as_str() {
+                "-h" | "--help" => options.task = Task::Help,
+                "--instructions" => options.task = Task::Instructions,
+                "--markdown" => options.task = Task::Markdown,
+                "--plot" => options.task = Task::Plot(value()?),
+                "--counted" => options.task = Task::Counted,
+                "--counted-growth" => options.task = Task::CountedGrowth,
+                "--rounds" => {
+                    let value = value()?;
+                    let rounds = value.parse().ok().filter(|&rounds| rounds > 0);
+                    options.rounds = rounds.ok_or(format!("'{value}' is not a number of rounds"))?;
+                }
+                "--only" => options.only = value()?,
+                "--alone" => {
+                    let value = value()?;
+                    let side = SIDES.into_iter().find(|side| side.name() == value);
+                    options.alone =
+                        Some(side.ok_or(format!("'{value}' is not 'proved', 'plain' or 'sparing'"))?);
+                }
+                _ => return Err(format!("unknown option '{option}'")),
+            }
+        }
+        Ok(options)
+    }
+}
+
+#[cfg(test)]
+mod tests {
+    use super::*;
+
+    fn read(words: &str) -> Result<Options, String> {
+        Options::read(words.split_whitespace().map(str::to_string))
+    }
+
+    #[test]
+    fn options_are_read() {
+        assert_eq!(read("").map(|options| (options.task, options.rounds)), Ok((Task::Times, 15)));
+        let options = read("--instructions --only rings --alone sparing").unwrap();
+        assert_eq!((options.task, options.alone), (Task::Instructions, Some(Side::Sparing)));
+        assert_eq!(options.only, "rings");
+        assert_eq!(read("--plot a.svg").map(|options| options.task), Ok(Task::Plot("a.svg".to_string())));
+    }
+
+    #[test]
+    fn faults_are_told() {
+        for words in ["--plots", "--rounds 0", "--rounds", "--alone both", "--plot"] {
+            assert!(read(words).is_err(), "{words}");
+        }
+    }
+}
