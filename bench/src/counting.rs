@@ -47,6 +47,13 @@ pub struct Part {
 }
 
 impl Part {
+    /// The instructions without those of the loop that calls what is measured.
+    pub fn without_loop(&self) -> u64 {
+        let of_loop = |name: &str| name.starts_with("gatekeeper_bench::inputs") || name == COUNTED;
+        let functions = self.functions.iter().filter(|function| !of_loop(&function.0));
+        functions.map(|function| function.1).sum()
+    }
+
     /// The functions that take a twentieth or more, each with its share.
     pub fn shares(&self) -> String {
         let share = |instructions: u64| 100.0 * instructions as f64 / self.instructions as f64;

@@ -86,6 +86,11 @@ impl Work {
         }
     }
 
+    /// Whether the loop around the calls takes a part of the instructions that matters, and can be told from them.
+    pub fn is_without_loop(self) -> bool {
+        matches!(self, Work::NumbersCalled)
+    }
+
     /// Makes what the work needs.
     pub fn input(self) -> Input {
         match self {

@@ -2,29 +2,7 @@
 
 use crate::inputs::{Side, SIDES};
 
-pub const HELP: &str = "\
-bench/run - the proved gatekeeper beside a plain Rust program: time and instructions
-
-Usage: bench/run [--rounds N] [--only WORDS] [--alone PROGRAM]         processor time per call
-       bench/run --instructions [--only WORDS] [--alone PROGRAM]       instructions per call; needs valgrind
-       bench/run --markdown [--rounds N] [--only WORDS]                both, and more, as docs/PERFORMANCE.md has them
-       bench/run --plot FILE.svg                                       instructions by number of open handles
-
-The programs:
-  proved     the proved library, through the archive for hosts
-  plain      a plain Rust program (bench/plain), which works every need out from nothing at each call, in passes over
-             all handles until none changes
-  sparing    the same, but it does so only at an open or exec that nothing else refuses
-
-Times are of the processor, and the best of N rounds; the programs take turns. They are rough on a shared machine.
-Instructions are the same on every run. A figure is per call: per record for a journal, per number for numbers. The
-last columns divide the proved program's by the others': below 1, it is the faster one. docs/PERFORMANCE.md says what
-the inputs are. bench/page takes all figures anew and puts them on that page.
-
-  --rounds N       how many rounds (default 15)
-  --only WORDS     only the inputs whose name has these words
-  --alone PROGRAM  run one of the three only, as for a profiler
-";
+pub const HELP: &str = include_str!("../help.txt");
 
 /// What is to be done.
 #[derive(Clone, Debug, PartialEq, Eq)]

@@ -60,12 +60,18 @@ pub fn time(nanoseconds: f64) -> String {
     }
 }
 
-/// A number of instructions, with commas; where they are few, with a decimal.
-pub fn instructions(count: f64) -> String {
-    if count < 1000.0 {
-        return format!("{count:.1}");
+/// A number of instructions; where they are few, with a decimal.
+pub fn count(number: f64) -> String {
+    if number < 1000.0 {
+        format!("{number:.1}")
+    } else {
+        whole(number)
     }
-    let digits = format!("{count:.0}");
+}
+
+/// A whole number, with commas.
+pub fn whole(number: f64) -> String {
+    let digits = format!("{number:.0}");
     let mut text = String::new();
     for (index, digit) in digits.chars().enumerate() {
         if index > 0 && (digits.len() - index) % 3 == 0 {
@@ -83,8 +89,8 @@ mod tests {
     #[test]
     fn figures_are_written() {
         assert_eq!([time(8.54), time(43_390.0)], ["8.5 ns", "43.39 µs"]);
-        assert_eq!(instructions(112.94), "112.9");
-        assert_eq!([instructions(1000.0), instructions(2_886_270.4)], ["1,000", "2,886,270"]);
+        assert_eq!([count(112.94), count(999.96)], ["112.9", "1000.0"]);
+        assert_eq!([whole(16.0), count(1000.0), count(2_886_270.4)], ["16", "1,000", "2,886,270"]);
     }
 
     #[test]

@@ -15,6 +15,8 @@
 //! To add a call: a variant, its code and its numbers in `Call::new` and `Call::numbers_of`, and a method that first
 //! refuses, by rising number, and then takes effect.
 
+#![forbid(unsafe_code)]
+
 pub mod calls;
 pub mod journal;
 pub mod needs;
