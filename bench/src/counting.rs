@@ -7,6 +7,7 @@
 use std::env;
 use std::fs;
 use std::hint::black_box;
+use std::io;
 use std::path::{Path, PathBuf};
 use std::process::{self, Command, Stdio};
 
@@ -64,10 +65,21 @@ impl Part {
     }
 }
 
-/// A function's name without the folders and the crate that it stands in, and without the marks behind it.
-fn short(name: &str) -> &str {
-    let name = name.split(['\'', '@']).next().unwrap_or(name);
-    name.split_once("::").map_or(name, |(_, rest)| rest)
+/// A function's name without what it stands in, but for a type or the last module.
+fn short(name: &str) -> String {
+    let mut words: Vec<&str> = name.rsplit("::").take(2).collect();
+    words.reverse();
+    words.join("::")
+}
+
+/// Valgrind's name and version.
+pub fn version() -> Result<String, String> {
+    let output = Command::new("valgrind").arg("--version").output().map_err(not_started)?;
+    Ok(String::from_utf8_lossy(&output.stdout).trim().to_string())
+}
+
+fn not_started(error: io::Error) -> String {
+    format!("instructions are counted by 'valgrind', which does not start: {error}")
 }
 
 /// Runs this program with these arguments under callgrind: its parts, in their order.
@@ -85,9 +97,7 @@ pub fn parts(arguments: &[String], expected: usize) -> Result<Vec<Part>, String>
         .stdin(Stdio::null())
         .stdout(Stdio::null())
         .status()
-        .map_err(|error| {
-            format!("instructions are counted by 'valgrind', which does not start: {error}")
-        })?;
+        .map_err(not_started)?;
     if !status.success() {
         return Err(format!("valgrind ended with {status}"));
     }
@@ -126,6 +136,8 @@ fn parse(text: &str) -> Option<Part> {
     let mut of_a_call = false;
     for line in text.lines() {
         if let Some(name) = line.strip_prefix("fn=") {
+            // A function that calls itself has a name of its own for that, with a mark behind it.
+            let name = name.split('\'').next().unwrap_or(name);
             let index = part.functions.iter().position(|(known, _)| known == name);
             function = Some(index.unwrap_or(part.functions.len()));
             if index.is_none() {
@@ -166,7 +178,9 @@ fi=other.rs
 18 4
 
 fn=inner
-40 60
+40 50
+41 10
+fn=inner'2
 41 10
 
 totals: 77
@@ -174,5 +188,13 @@ totals: 77
         let functions = vec![("inner".to_string(), 70), ("outer".to_string(), 7)];
         assert_eq!(parse(text), Some(Part { instructions: 77, functions }));
         assert_eq!(parse("12 13"), None);
+    }
+
+    #[test]
+    fn shares_are_told() {
+        let functions = [("gatekeeper::Monitor::needs", 90), ("memcpy", 6), ("gatekeeper_call", 4)];
+        let functions = functions.map(|(name, count)| (name.to_string(), count)).to_vec();
+        let part = Part { instructions: 100, functions };
+        assert_eq!(part.shares(), "`Monitor::needs` 90 %, `memcpy` 6 %");
     }
 }

@@ -33,7 +33,7 @@ impl Row {
 /// The figures of each program and their ratios; a dash for what was not run.
 pub fn table(rows: &[Row], text: fn(f64) -> String) -> Table {
     let titles = ["input", "calls", "proved", "plain", "sparing", "proved/plain", "proved/sparing"];
-    let mut table = Table::new(&titles);
+    let mut table = Table::of_figures(&titles);
     let or_dash = |cell: Option<String>| cell.unwrap_or("-".to_string());
     for row in rows {
         let mut cells = vec![row.work.name(), report::whole(row.calls as f64)];
@@ -47,7 +47,7 @@ pub fn table(rows: &[Row], text: fn(f64) -> String) -> Table {
 
 /// On how many inputs the proved program takes at most what the plain one takes, and at most half; numbers apart.
 pub fn verdict(rows: &[Row]) -> String {
-    let calls = rows.iter().filter(|row| row.of(Side::Sparing).is_some());
+    let calls = rows.iter().filter(|row| !row.work.is_numbers());
     let ratios: Vec<f64> = calls.filter_map(|row| row.ratio(Side::Plain)).collect();
     let at_most = |limit: f64| ratios.iter().filter(|&&ratio| ratio <= limit).count();
     format!(
@@ -148,10 +148,10 @@ pub fn instructions(counts: &[Count]) -> Vec<Row> {
     counts.iter().map(row).collect()
 }
 
-/// Which functions the instructions are in.
+/// Which functions the instructions of calls are in.
 pub fn shares(counts: &[Count]) -> Table {
-    let mut table = Table::new(&["input", "proved", "plain"]);
-    for Count { work, parts, .. } in counts {
+    let mut table = Table::of_words(&["input", "proved", "plain"]);
+    for Count { work, parts, .. } in counts.iter().filter(|count| !count.work.is_numbers()) {
         let of = |side: Side| {
             let part = parts.iter().find(|part| part.0 == side);
             part.map_or("-".to_string(), |(_, part)| part.shares())
@@ -174,7 +174,7 @@ pub fn growth_table(figures: &[(Point, f64)]) -> Table {
         SUBJECTS.iter().map(|subjects| format!("{} handles", 16 * subjects)).collect();
     let mut header = vec!["call"];
     header.extend(titles.iter().map(String::as_str));
-    let mut table = Table::new(&header);
+    let mut table = Table::of_figures(&header);
     for (family, (name, _)) in FAMILIES.iter().enumerate() {
         for kind in KINDS {
             for side in growth::COMPARED {

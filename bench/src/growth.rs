@@ -10,8 +10,10 @@ use crate::layouts::{one_ring, rings_of_4, Layout, LOW_FILE};
 /// How many subjects hold handles, 16 each.
 pub const SUBJECTS: [u32; 6] = [1, 2, 4, 8, 16, 32];
 
-/// How they are joined.
-pub const FAMILIES: [(&str, fn(u32) -> Layout); 2] = [("rings of 4", rings_of_4), ("one ring", one_ring)];
+/// Tables by number of subjects, with the name of how these are joined.
+type Family = (&'static str, fn(u32) -> Layout);
+
+pub const FAMILIES: [Family; 2] = [("rings of 4", rings_of_4), ("one ring", one_ring)];
 
 /// The programs that are compared.
 pub const COMPARED: [Side; 2] = [Side::Proved, Side::Plain];

@@ -86,6 +86,11 @@ impl Work {
         }
     }
 
+    /// Whether numbers are read, and no calls made.
+    pub fn is_numbers(self) -> bool {
+        matches!(self, Work::NumbersCalled | Work::NumbersInlined)
+    }
+
     /// Whether the loop around the calls takes a part of the instructions that matters, and can be told from them.
     pub fn is_without_loop(self) -> bool {
         matches!(self, Work::NumbersCalled)

@@ -77,7 +77,7 @@ fn markdown(options: &Options, works: &[Work]) -> Result<(), String> {
     let instructions = figures::instructions(&counts);
     let grown = figures::grown()?;
 
-    println!("Taken with {} on {}.\n", env!("GATEKEEPER_RUSTC"), processor());
+    println!("Taken with {} and {} on {}.\n", env!("GATEKEEPER_RUSTC"), counting::version()?, processor());
     println!("### Time\n\nProcessor time per call, the best of {} rounds.\n", options.rounds);
     println!("{}\n{}\n", figures::table(&times, report::time).text(true), figures::verdict(&times));
     println!("### Instructions\n\nInstructions per call, the same on every run.\n");

@@ -1,13 +1,18 @@
 //! Tables of figures, for a terminal or as markdown.
 
-/// Columns of text; the first is set to the left, all others to the right.
+/// Columns of text. The first is set to the left, and so are the others if they are words; figures are set to the right.
 pub struct Table {
     rows: Vec<Vec<String>>,
+    words: bool,
 }
 
 impl Table {
-    pub fn new(header: &[&str]) -> Table {
-        Table { rows: vec![header.iter().map(|title| title.to_string()).collect()] }
+    pub fn of_figures(header: &[&str]) -> Table {
+        Table { rows: vec![header.iter().map(|title| title.to_string()).collect()], words: false }
+    }
+
+    pub fn of_words(header: &[&str]) -> Table {
+        Table { words: true, ..Table::of_figures(header) }
     }
 
     pub fn row(&mut self, cells: Vec<String>) {
@@ -27,7 +32,8 @@ impl Table {
         for (index, row) in self.rows.iter().enumerate() {
             text += &format!("| {} |\n", row.join(" | "));
             if index == 0 {
-                text += &format!("|---|{}\n", "---:|".repeat(row.len() - 1));
+                let column = if self.words { "---|" } else { "---:|" };
+                text += &format!("|---|{}\n", column.repeat(row.len() - 1));
             }
         }
         text
@@ -41,7 +47,7 @@ impl Table {
         let mut text = String::new();
         for row in &self.rows {
             let cells = row.iter().zip(&widths).enumerate().map(|(column, (cell, &width))| match column {
-                0 => format!("{cell:width$}"),
+                column if column == 0 || self.words => format!("{cell:width$}"),
                 _ => format!("{cell:>width$}"),
             });
             text += cells.collect::<Vec<String>>().join("  ").trim_end();
@@ -95,7 +101,7 @@ mod tests {
 
     #[test]
     fn a_table_is_written_in_both_ways() {
-        let mut table = Table::new(&["input", "calls"]);
+        let mut table = Table::of_figures(&["input", "calls"]);
         table.row(vec!["8 rings".to_string(), "9".to_string()]);
         assert_eq!(table.text(false), "input    calls\n8 rings      9\n");
         assert_eq!(table.text(true), "| input | calls |\n|---|---:|\n| 8 rings | 9 |\n");

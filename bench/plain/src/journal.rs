@@ -1,6 +1,7 @@
 //! Journals: numbers, records and the calls in them.
 
-use crate::calls::{Call, Refusal, NUMBERS};
+use crate::calls::{Call, NUMBERS};
+use crate::refusals::Refusal;
 
 /// The longest journal that is run, in bytes.
 pub const LONGEST: usize = 65_536;

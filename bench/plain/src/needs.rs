@@ -2,7 +2,7 @@
 //!
 //! One thing reaches another by a chain of flows: from a subject to what it writes, from what is read to its reader.
 
-use crate::tables::{object, subject, Kind, Level, Place, Tables, Thing};
+use crate::tables::{object_as_thing, subject_as_thing, Kind, Level, Place, Tables, Thing};
 
 /// A need for every thing; 0 for those that are not live.
 #[derive(Clone, Debug, PartialEq, Eq)]
@@ -16,12 +16,12 @@ impl Needs {
 
     /// The need of a subject.
     pub fn subject(&self, s: usize) -> Level {
-        self.levels[usize::from(subject(s))]
+        self.levels[usize::from(subject_as_thing(s))]
     }
 
     /// The need of an object.
     pub fn object(&self, o: usize) -> Level {
-        self.levels[usize::from(object(o))]
+        self.levels[usize::from(object_as_thing(o))]
     }
 
     /// Works every need out from nothing, in passes over all handles until none changes. A handle that is sought counts
@@ -31,7 +31,7 @@ impl Needs {
         // A file reaches itself.
         for (o, entry) in tables.objects.iter().enumerate() {
             if let Some(file) = entry.filter(|entry| entry.kind == Kind::File) {
-                needs.levels[usize::from(object(o))] = file.level;
+                needs.levels[usize::from(object_as_thing(o))] = file.level;
             }
         }
         // What is reached from the end of a flow is reached from its beginning.
@@ -78,4 +78,59 @@ impl Needs {
 fn raise(need: &mut Level, to: Level, changed: &mut bool) {
     *need = to;
     *changed = true;
+}
+
+#[cfg(test)]
+mod tests {
+    use super::*;
+    use crate::tables::{Direction, Object};
+
+    /// Subjects 0 to 2 of level 12 in a ring of pipes 0 to 2, s reading pipe s and writing the next one; file 3 of level 9.
+    fn ring() -> Tables {
+        let mut tables = Tables::EMPTY;
+        tables.objects[3] = Some(Object { kind: Kind::File, level: 9, handles: 0 });
+        for s in 0..3 {
+            tables.subjects[s] = Some(12);
+            tables.objects[s] = Some(Object { kind: Kind::Pipe, level: 12, handles: 0 });
+        }
+        for s in 0..3 {
+            tables.fill(s, 0, s, Direction::Reading);
+            tables.fill(s, 1, (s + 1) % 3, Direction::Writing);
+        }
+        tables
+    }
+
+    fn of_subjects(needs: &Needs) -> [Level; 4] {
+        [0, 1, 2, 3].map(|s| needs.subject(s))
+    }
+
+    #[test]
+    fn a_need_travels_round_a_ring_and_sinks_again() {
+        let mut tables = ring();
+        assert_eq!(of_subjects(&Needs::work_out(&tables, Place::EMPTY)), [0; 4]);
+        tables.fill(1, 2, 3, Direction::Writing);
+        let needs = Needs::work_out(&tables, Place::EMPTY);
+        assert_eq!(of_subjects(&needs), [9, 9, 9, 0]);
+        assert_eq!([0, 1, 2, 3].map(|o| needs.object(o)), [9; 4]);
+        tables.empty(1, 2);
+        assert_eq!(of_subjects(&Needs::work_out(&tables, Place::EMPTY)), [0; 4]);
+    }
+
+    #[test]
+    fn a_sought_handle_counts_and_is_not_kept() {
+        let tables = ring();
+        let needs = Needs::work_out(&tables, Place::of(2, 3, Direction::Writing));
+        assert_eq!(of_subjects(&needs), [9, 9, 9, 0]);
+        assert_eq!(of_subjects(&Needs::work_out(&tables, Place::EMPTY)), [0; 4]);
+    }
+
+    #[test]
+    fn needs_are_met_up_to_the_level() {
+        let mut tables = ring();
+        tables.fill(1, 2, 3, Direction::Writing);
+        for (level, met) in [(8, false), (9, true)] {
+            tables.subjects[0] = Some(level);
+            assert_eq!(Needs::work_out(&tables, Place::EMPTY).are_met(&tables), met);
+        }
+    }
 }

@@ -1,7 +1,9 @@
 //! The reply to a journal: a line for each record, then the tally.
 
-use crate::calls::{Answer, Monitor, Refusal, When};
+use crate::calls::Answer;
 use crate::journal::{Record, Records, LONGEST};
+use crate::monitor::{Monitor, When};
+use crate::refusals::Refusal;
 use crate::tables::Tally;
 
 /// Runs a journal from empty tables and writes the reply at the end of `text`.

@@ -35,14 +35,11 @@ pub enum Direction {
 /// A subject or an object as one number: the subjects, then the objects.
 pub type Thing = u8;
 
-/// How many subjects and objects there are.
-pub const THINGS: usize = SUBJECTS + OBJECTS;
-
-pub fn subject(s: usize) -> Thing {
+pub fn subject_as_thing(s: usize) -> Thing {
     s as Thing
 }
 
-pub fn object(o: usize) -> Thing {
+pub fn object_as_thing(o: usize) -> Thing {
     (SUBJECTS + o) as Thing
 }
 
@@ -60,8 +57,8 @@ impl Place {
     /// A handle of a subject on an object.
     pub fn of(s: usize, o: usize, direction: Direction) -> Place {
         match direction {
-            Direction::Reading => Place { from: object(o), to: subject(s) },
-            Direction::Writing => Place { from: subject(s), to: object(o) },
+            Direction::Reading => Place { from: object_as_thing(o), to: subject_as_thing(s) },
+            Direction::Writing => Place { from: subject_as_thing(s), to: object_as_thing(o) },
         }
     }
 

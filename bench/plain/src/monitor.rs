@@ -1,0 +1,250 @@
+//! The monitor: each call is a method that first refuses, by rising refusal number, and then takes effect.
+
+use crate::calls::{Answer, Call, NUMBERS};
+use crate::needs::Needs;
+use crate::refusals::{level_in_range, Held, Refusal};
+use crate::tables::{Direction, Kind, Level, Object, Place, Tables, Tally, PLACES};
+
+/// When needs are worked out.
+#[derive(Clone, Copy, Debug, PartialEq, Eq)]
+pub enum When {
+    /// At each call, refused ones too.
+    EachCall,
+    /// Where a call goes by them: an open or an exec that nothing else refuses.
+    Asked,
+}
+
+/// The tables, and the calls on them.
+#[derive(Clone, Debug)]
+pub struct Monitor {
+    tables: Tables,
+    when: When,
+    /// The needs worked out last. No call goes by those of an earlier one.
+    needs: Needs,
+}
+
+impl Monitor {
+    /// Nothing live, nothing open, nothing counted.
+    pub fn new(when: When) -> Monitor {
+        Monitor { tables: Tables::EMPTY, when, needs: Needs::NONE }
+    }
+
+    pub fn tables(&self) -> &Tables {
+        &self.tables
+    }
+
+    pub fn tally(&self) -> Tally {
+        self.tables.tally
+    }
+
+    /// The needs worked out last: for an open, as if it were allowed.
+    pub fn needs(&self) -> &Needs {
+        &self.needs
+    }
+
+    /// The direct call: a code and four numbers.
+    pub fn direct(&mut self, code: u32, numbers: [u32; NUMBERS]) -> Answer {
+        match Call::new(code, numbers) {
+            Some(call) => self.call(call),
+            None => Refusal::UnknownCode.into(),
+        }
+    }
+
+    /// Makes a call. A refused one changes no table.
+    pub fn call(&mut self, call: Call) -> Answer {
+        if self.when == When::EachCall {
+            self.needs = Needs::work_out(&self.tables, self.sought(call).unwrap_or(Place::EMPTY));
+        }
+        let answer = match call {
+            Call::Admit { s, level } => self.admit(s, level),
+            Call::Register { o, level } => self.register(o, level),
+            Call::Create { s, o } => self.create(s, o),
+            Call::Pipe { s, o, r, w } => self.pipe(s, o, r, w),
+            Call::Open { s, o, p, direction } => self.open(s, o, p, direction),
+            Call::Read { s, p } => self.read(s, p),
+            Call::Write { s, p } => self.write(s, p),
+            Call::Fork { s, c } => self.fork(s, c),
+            Call::Exec { s, o } => self.exec(s, o),
+            Call::Close { s, p } => self.close(s, p),
+            Call::Exit { s } => self.exit(s),
+            Call::Retire { o } => self.retire(o),
+        };
+        answer.unwrap_or_else(Answer::from)
+    }
+}
+
+/// The calls.
+impl Monitor {
+    fn admit(&mut self, s: u32, level: u32) -> Result<Answer, Refusal> {
+        let s = self.tables.new_subject(s)?;
+        let level = level_in_range(level)?;
+        self.tables.subjects[s] = Some(level);
+        Ok(Answer::Allowed(level))
+    }
+
+    fn register(&mut self, o: u32, level: u32) -> Result<Answer, Refusal> {
+        let o = self.tables.new_object(o)?;
+        let level = level_in_range(level)?;
+        self.tables.objects[o] = Some(Object { kind: Kind::File, level, handles: 0 });
+        Ok(Answer::Allowed(level))
+    }
+
+    fn create(&mut self, s: u32, o: u32) -> Result<Answer, Refusal> {
+        let (_, level) = self.tables.subject(s)?;
+        let o = self.tables.new_object(o)?;
+        self.tables.objects[o] = Some(Object { kind: Kind::File, level, handles: 0 });
+        Ok(Answer::Allowed(level))
+    }
+
+    fn pipe(&mut self, s: u32, o: u32, r: u32, w: u32) -> Result<Answer, Refusal> {
+        let (s, level) = self.tables.subject(s)?;
+        let o = self.tables.new_object(o)?;
+        let (r, w) = (self.tables.empty_place(s, r)?, self.tables.empty_place(s, w)?);
+        if r == w {
+            return Err(Refusal::PlaceUnfit);
+        }
+        self.tables.objects[o] = Some(Object { kind: Kind::Pipe, level, handles: 0 });
+        self.tables.fill(s, r, o, Direction::Reading);
+        self.tables.fill(s, w, o, Direction::Writing);
+        Ok(Answer::Allowed(level))
+    }
+
+    fn open(&mut self, s: u32, o: u32, p: u32, direction: Direction) -> Result<Answer, Refusal> {
+        let (s, _) = self.tables.subject(s)?;
+        let (o, object) = self.tables.object(o)?;
+        let p = self.tables.empty_place(s, p)?;
+        self.ask(Place::of(s, o, direction));
+        if !self.needs.are_met(&self.tables) {
+            return Err(Refusal::Flow);
+        }
+        self.tables.fill(s, p, o, direction);
+        Ok(Answer::Allowed(object.level))
+    }
+
+    fn read(&mut self, s: u32, p: u32) -> Result<Answer, Refusal> {
+        let (s, level) = self.tables.subject(s)?;
+        let Held { object, .. } = self.tables.held_for(s, p, Direction::Reading)?;
+        Ok(fall(level, object.level, |level| self.tables.subjects[s] = Some(level)))
+    }
+
+    fn write(&mut self, s: u32, p: u32) -> Result<Answer, Refusal> {
+        let (s, level) = self.tables.subject(s)?;
+        let Held { o, object, .. } = self.tables.held_for(s, p, Direction::Writing)?;
+        Ok(match object.kind {
+            Kind::File => Answer::Allowed(object.level),
+            Kind::Pipe => {
+                fall(object.level, level, |level| self.tables.objects[o] = Some(Object { level, ..object }))
+            }
+        })
+    }
+
+    fn fork(&mut self, s: u32, c: u32) -> Result<Answer, Refusal> {
+        let (s, level) = self.tables.subject(s)?;
+        let c = self.tables.new_subject(c)?;
+        self.tables.subjects[c] = Some(level);
+        for place in 0..PLACES {
+            if let Some((o, direction)) = self.tables.places[s][place].handle() {
+                self.tables.fill(c, place, o, direction);
+            }
+        }
+        Ok(Answer::Allowed(level))
+    }
+
+    fn exec(&mut self, s: u32, o: u32) -> Result<Answer, Refusal> {
+        let (s, level) = self.tables.subject(s)?;
+        let (_, object) = self.tables.file(o)?;
+        self.ask(Place::EMPTY);
+        if object.level < self.needs.subject(s) {
+            return Err(Refusal::Flow);
+        }
+        Ok(fall(level, object.level, |level| self.tables.subjects[s] = Some(level)))
+    }
+
+    fn close(&mut self, s: u32, p: u32) -> Result<Answer, Refusal> {
+        let (s, level) = self.tables.subject(s)?;
+        let Held { p, .. } = self.tables.held(s, p)?;
+        self.tables.empty(s, p);
+        Ok(Answer::Allowed(level))
+    }
+
+    fn exit(&mut self, s: u32) -> Result<Answer, Refusal> {
+        let (s, level) = self.tables.subject(s)?;
+        for place in 0..PLACES {
+            self.tables.empty(s, place);
+        }
+        self.tables.subjects[s] = None;
+        Ok(Answer::Allowed(level))
+    }
+
+    fn retire(&mut self, o: u32) -> Result<Answer, Refusal> {
+        let (o, object) = self.tables.file(o)?;
+        if object.handles > 0 {
+            return Err(Refusal::StillOpen);
+        }
+        self.tables.objects[o] = None;
+        Ok(Answer::Allowed(object.level))
+    }
+}
+
+/// When needs are worked out, and of what.
+impl Monitor {
+    /// Works needs out for the test of a call, unless that was done before all else.
+    fn ask(&mut self, sought: Place) {
+        if self.when == When::Asked {
+            self.needs = Needs::work_out(&self.tables, sought);
+        }
+    }
+
+    /// The handle that an open seeks, where its subject and its object are live.
+    fn sought(&self, call: Call) -> Option<Place> {
+        let Call::Open { s, o, direction, .. } = call else { return None };
+        let (s, _) = self.tables.subject(s).ok()?;
+        let (o, _) = self.tables.object(o).ok()?;
+        Some(Place::of(s, o, direction))
+    }
+}
+
+/// A level falls to another if that is lower.
+fn fall(from: Level, to: Level, set: impl FnOnce(Level)) -> Answer {
+    if to < from {
+        set(to);
+        Answer::Lowered(to)
+    } else {
+        Answer::Allowed(from)
+    }
+}
+
+#[cfg(test)]
+mod tests {
+    use super::*;
+
+    /// Makes calls on new tables, some allowed and a last one; the answer to that.
+    fn last(calls: &[(u32, [u32; NUMBERS])]) -> Answer {
+        let answers = [When::EachCall, When::Asked].map(|when| {
+            let mut monitor = Monitor::new(when);
+            calls.iter().map(|&(code, numbers)| monitor.direct(code, numbers)).last()
+        });
+        assert_eq!(answers[0], answers[1]);
+        answers[0].expect("there is a call")
+    }
+
+    #[test]
+    fn the_smallest_number_is_given() {
+        assert_eq!(last(&[(99, [0; 4])]), Answer::Refused(1));
+        // An open whose subject, object and place are all unfit, and with less and less of that.
+        assert_eq!(last(&[(5, [0, 0, 16, 0])]), Answer::Refused(2));
+        assert_eq!(last(&[(1, [0, 9, 0, 0]), (5, [0, 0, 16, 0])]), Answer::Refused(4));
+        assert_eq!(last(&[(1, [0, 9, 0, 0]), (2, [0, 9, 0, 0]), (5, [0, 0, 16, 0])]), Answer::Refused(7));
+        // A new subject whose number and level are unfit.
+        assert_eq!(last(&[(1, [32, 16, 0, 0])]), Answer::Refused(3));
+        assert_eq!(last(&[(1, [31, 16, 0, 0])]), Answer::Refused(6));
+    }
+
+    #[test]
+    fn a_read_lowers_and_an_open_does_not() {
+        let open = [(2, [0, 2, 0, 0]), (1, [0, 9, 0, 0]), (5, [0, 0, 15, 0])];
+        assert_eq!(last(&open), Answer::Allowed(2));
+        assert_eq!(last(&[&open[..], &[(7, [0, 15, 0, 0])]].concat()), Answer::Lowered(2));
+        assert_eq!(last(&[&open[..], &[(11, [0, 15, 0, 0])]].concat()), Answer::Allowed(9));
+    }
+}
