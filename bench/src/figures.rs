@@ -4,7 +4,7 @@ use std::time::Duration;
 
 use crate::clock;
 use crate::counting::{self, counted, part_ends, Part};
-use crate::growth::{self, Point, FAMILIES, KINDS, SUBJECTS};
+use crate::growth::{self, Family, Point, FAMILIES, KINDS, SUBJECTS};
 use crate::inputs::{Input, Side, Work, SIDES};
 use crate::options::Options;
 use crate::report::{self, Table};
@@ -175,7 +175,7 @@ pub fn growth_table(figures: &[(Point, f64)]) -> Table {
     let mut header = vec!["call"];
     header.extend(titles.iter().map(String::as_str));
     let mut table = Table::of_figures(&header);
-    for (family, (name, _)) in FAMILIES.iter().enumerate() {
+    for (family, Family { name, .. }) in FAMILIES.iter().enumerate() {
         for kind in KINDS {
             for side in growth::COMPARED {
                 let of_row =

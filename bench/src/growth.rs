@@ -10,10 +10,23 @@ use crate::layouts::{one_ring, rings_of_4, Layout, LOW_FILE};
 /// How many subjects hold handles, 16 each.
 pub const SUBJECTS: [u32; 6] = [1, 2, 4, 8, 16, 32];
 
-/// Tables by number of subjects, with the name of how these are joined.
-type Family = (&'static str, fn(u32) -> Layout);
+/// Tables that grow, subject by subject.
+pub struct Family {
+    pub name: &'static str,
+    /// What they are, above their panels of the plot.
+    pub caption: &'static str,
+    layout: fn(u32) -> Layout,
+}
 
-pub const FAMILIES: [Family; 2] = [("rings of 4", rings_of_4), ("one ring", one_ring)];
+pub const FAMILIES: [Family; 2] = [
+    Family { name: "rings of 4", caption: "Rings of 4 subjects, 16 handles each", layout: rings_of_4 },
+    Family {
+        name: "one ring",
+        caption: "One ring of all subjects, 16 handles each, where one file is written: \
+                  the need travels all the way round",
+        layout: one_ring,
+    },
+];
 
 /// The programs that are compared.
 pub const COMPARED: [Side; 2] = [Side::Proved, Side::Plain];
@@ -65,7 +78,7 @@ pub fn points() -> Vec<Point> {
 
 impl Point {
     fn layout(self) -> Layout {
-        FAMILIES[self.family].1(self.subjects)
+        (FAMILIES[self.family].layout)(self.subjects)
     }
 
     pub fn handles(self) -> u32 {

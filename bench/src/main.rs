@@ -46,13 +46,11 @@ fn main() -> ExitCode {
 fn run(options: &Options, works: &[Work]) -> Result<(), String> {
     match &options.task {
         Task::Help => print!("{}", options::HELP),
-        Task::Times => {
-            println!("Processor time per call, the best of {} rounds", options.rounds);
-            print!("{}", figures::table(&figures::times(options, works), report::time).text(false));
-        }
+        Task::Times => print_times(options, works),
         Task::Instructions => {
+            print_times(options, works);
             let counts = figures::counts(options, works)?;
-            println!("Instructions per call");
+            println!("\nInstructions per call");
             print!("{}", figures::table(&figures::instructions(&counts), report::count).text(false));
         }
         Task::Markdown => markdown(options, works)?,
@@ -67,6 +65,11 @@ fn run(options: &Options, works: &[Work]) -> Result<(), String> {
         Task::CountedGrowth => growth::points().into_iter().for_each(Point::run),
     }
     Ok(())
+}
+
+fn print_times(options: &Options, works: &[Work]) {
+    println!("Processor time per call, the best of {} rounds", options.rounds);
+    print!("{}", figures::table(&figures::times(options, works), report::time).text(false));
 }
 
 /// All tables, as docs/PERFORMANCE.md has them.

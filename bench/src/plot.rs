@@ -21,14 +21,6 @@ fn look(side: Side) -> (&'static str, &'static str, bool) {
     }
 }
 
-/// What the tables of a family are, above its row of panels.
-fn caption(family: &str) -> String {
-    match family {
-        "one ring" => "One ring of all subjects, 16 handles each, where one file is written: the need travels all the way round".into(),
-        _ => format!("{family} subjects, 16 handles each").replacen('r', "R", 1),
-    }
-}
-
 /// The powers of ten below and above every figure.
 struct Range {
     low: i32,
@@ -75,9 +67,9 @@ pub fn svg(figures: &[(Point, f64)]) -> String {
         "Instructions of one call by number of open handles",
     );
     svg += &legend(LEFT, 50.0);
-    for (row, (family, _)) in FAMILIES.iter().enumerate() {
+    for (row, family) in FAMILIES.iter().enumerate() {
         let top = TOP + row as f64 * (PANEL.1 + GAP.1);
-        svg += &text(LEFT, top - 24.0, "start", "font-weight=\"bold\"", &caption(family));
+        svg += &text(LEFT, top - 24.0, "start", "font-weight=\"bold\"", family.caption);
         for (column, kind) in KINDS.into_iter().enumerate() {
             let left = LEFT + column as f64 * (PANEL.0 + GAP.0);
             let of_panel = |point: &Point| point.family == row && point.kind == kind;
