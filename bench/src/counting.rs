@@ -1,4 +1,5 @@
-//! Instructions, counted by valgrind's tool callgrind: the same on every run of the same build on the same machine.
+//! Instructions, counted by valgrind's tool callgrind. They are the same on every run but for a few of C's `memcpy`, which
+//! goes by where things lie in memory.
 //!
 //! The benchmark starts itself anew under valgrind. There it runs the pieces of work one after the other, in an order
 //! that both processes know. What is done within `counted` is counted, and each `part_ends` makes callgrind write

@@ -83,7 +83,7 @@ fn markdown(options: &Options, works: &[Work]) -> Result<(), String> {
     println!("Taken with {} and {} on {}.\n", env!("GATEKEEPER_RUSTC"), counting::version()?, processor());
     println!("### Time\n\nProcessor time per call, the best of {} rounds.\n", options.rounds);
     println!("{}\n{}\n", figures::table(&times, report::time).text(true), figures::verdict(&times));
-    println!("### Instructions\n\nInstructions per call, the same on every run.\n");
+    println!("### Instructions\n\nInstructions per call; another run moves them by less than one in a thousand.\n");
     println!(
         "{}\n{}\n",
         figures::table(&instructions, report::count).text(true),
