@@ -1,5 +1,5 @@
-// The cases of document 01 that its line 4 leaves to a program, and DWARF's examples of numbers, read and written: each journal's replies, one after the
-// other, then each number with its bytes. Over each journal stands the name that the independent program has for it.
+// The worked cases that are left to a program (RULES K10 to K17, G7), and DWARF's examples of numbers, read and written: each journal's
+// replies, one after the other, then each number with its bytes. Over each journal stands the name that the independent program has for it.
 use number::Written;
 
 // Longer than any reply here.
@@ -57,7 +57,7 @@ fn limits() {
 fn journals() {
     // case empty: empty journal: end 0 0 0 alone
     show(b"");
-    // case example: the input hex of document 01, "Journal"
+    // case example: the journal of RULES K17
     show(b"\x03\x02\x00\x02\x03\x01\x00\x09\x04\x05\x00\x00\x00\x03\x07\x00\x00");
     // case K10: a padded length: 11
     show(b"\x80\x00");

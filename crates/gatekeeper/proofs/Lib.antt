@@ -1,14 +1,6 @@
--- The laws that this crate's proofs cite: arrays as tables (Owned, Views, Maps, Nodes), what inner functions work out (Pick, Cleaning, Ending, Short),
--- how a call meets the rules (Meeting, Shapes, Allowed), and the tally (Counting). Assumes nothing.
+-- The laws that this crate's proofs cite: what owning a monitor tells (Owned), what each call does (Doing), how a method meets the rules (Acting). Assumes
+-- nothing.
 pub mod Owned
-pub mod Views
-pub mod Pick
-pub mod Maps
-pub mod Cleaning
-pub mod Ending
-pub mod Nodes
-pub mod Short
-pub mod Meeting
-pub mod Shapes
-pub mod Allowed
-pub mod Counting
+pub mod Doing
+pub mod Acting
+pub mod Storing

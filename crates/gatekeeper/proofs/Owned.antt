@@ -1,4 +1,4 @@
--- What owning a monitor tells of its arrays: how long they are, and that each level is a byte. Assumes nothing.
+-- What owning a monitor tells of its arrays: how long they are. Assumes nothing.
 use mathlib.Core.Path.{_≡_, sym, _∙_}
 use mathlib.Core.List.{List, map}
 use Prim.Native.Nat.{ℕ}
@@ -11,7 +11,7 @@ use Rattle.gatekeeper.specs.declared.Monitor.{Monitor}
 use Rattle.gatekeeper.proofs.Monitor as K
 use Rattle.gatekeeper.proofs.Monitor.Laws as K′
 
-pub unmapped : (X Y : Type 0) (f : X → Y) (l : List X) (n : ℕ) → length (map f l) ≡ n → length l ≡ n
+unmapped : (X Y : Type 0) (f : X → Y) (l : List X) (n : ℕ) → length (map f l) ≡ n → length l ≡ n
 unmapped X Y f l n p = sym (length-map l f) ∙ p
 
 abbrev pub Owned : Monitor → Type 0

@@ -1,6 +1,4 @@
--- What this crate's contracts cite: the monitor as tables (View), a counted call (Counting); the enums as tests (Kinds) and what inner functions work out
--- (Working), which no caller needs. Assumes nothing.
+-- What this crate's contracts cite: the monitor as tables (View); and what a call does on tables in which nothing dangles (Acting), which no caller needs.
+-- Assumes nothing.
 pub mod View
-pub mod Counting
-pub mod Kinds
-pub mod Working
+pub mod Acting

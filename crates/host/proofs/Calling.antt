@@ -12,9 +12,10 @@ use Rattle.model.specs.Calls.Refusals.{answered-refused}
 use Rattle.model.specs.Promise.{Meets}
 use Rattle.model.specs.Tally.{tallied}
 use Rattle.gatekeeper.specs.declared.Monitor.{Monitor}
-use Rattle.gatekeeper.specs.declared.Tally.{Tally}
-use Rattle.gatekeeper.specs.View.{view, counts-of, letter-of}
-use Rattle.host.specs.State.{state-bytes, Sized, monitor-of, tally-of, bytes-of, Stands, state-view, Stored}
+use Rattle.tally.specs.declared.Tally.{Tally}
+use Rattle.gatekeeper.specs.View.{view, letter-of}
+use Rattle.tally.specs.Counting.{counts-of}
+use Rattle.host.specs.State.{state-bytes, Sized, monitor-of, tally-of, Stands, state-view, Stored}
 use Rattle.host.specs.Numbers.{answer-number, answer-in, call-number}
 use Rattle.host.specs.Demand3.{Called}
 
@@ -66,12 +67,12 @@ module _ {s : List ℕ} {c : Call} {m : Monitor} {y : Tally} {a : Answer} {n : M
     meets = record {
       answered = refl;
       unchanged = λ j w. absurd (h (ap letter-of (answered ∙ answered-refused t c j .1 w)));
-      moved = λ w. ap view (k .monitor) ∙ subst (λ (x : Monitor). Meets view x c a n) (p .from-monitor) (p .meets) .moved w;
+      moved = λ w. k .tables ∙ subst (λ (x : Monitor). Meets view x c a n) (p .from-monitor) (p .meets) .moved w;
     };
     counts = ap counts-of (k .tally)
         ∙ p .counts
         ∙ ap₂ (λ (x : Monitor) (v : Tally). tallied (clean (view x)) c (counts-of v)) (p .from-monitor) (p .from-tally);
-    exact = λ w. k .bytes ∙ ap₂ bytes-of (sym (k .monitor)) (sym (k .tally));
+    exact = λ w. k .again;
   }
 
 -- what is returned of a, and read off it

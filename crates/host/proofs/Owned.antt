@@ -8,11 +8,11 @@ use denote.Struct.Declared.{row}
 use denote.Struct.Laws as S
 use borrow.Author.Needs.{needs}
 use Rattle.gatekeeper.specs.declared.Monitor.{Monitor}
-use Rattle.gatekeeper.specs.declared.Tally.{Tally}
+use Rattle.tally.specs.declared.Tally.{Tally}
 use Rattle.gatekeeper.proofs.Monitor as K
 use Rattle.gatekeeper.proofs.Monitor.Laws as K′
-use Rattle.gatekeeper.proofs.Tally as Y
-use Rattle.gatekeeper.proofs.Tally.Laws as Y′
+use Rattle.tally.proofs.Tally as Y
+use Rattle.tally.proofs.Tally.Laws as Y′
 use Rattle.host.specs.State.Laws.{Long, Fits}
 
 pub unmapped : (X Y : Type 0) (f : X → Y) (l : List X) (n : ℕ) → length (map f l) ≡ n → length l ≡ n

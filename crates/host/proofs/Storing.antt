@@ -10,7 +10,7 @@ use lib.ListN.{length-append, length-take, length-drop, length-replicate, take-a
 use borrow.Author.Fill.{fill-none, fill-more}
 use lib.Seq.{take-suc, take-all, drop-cons, set-at}
 use Rattle.gatekeeper.specs.declared.Monitor.{Monitor}
-use Rattle.gatekeeper.specs.declared.Tally.{Tally}
+use Rattle.tally.specs.declared.Tally.{Tally}
 use Rattle.host.specs.State.{state-bytes, flat, digits, subject-bytes, object-bytes, handle-bytes, bytes-of}
 use Rattle.host.specs.State.Laws.{Long, length-flat, flat-append, subject-bytes-length, object-bytes-length, handle-bytes-length, length-digits}
 use Rattle.host.specs.Over.{over}

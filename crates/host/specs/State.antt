@@ -1,36 +1,34 @@
--- A monitor and its tally as the bytes that a host lends. Document 01, "Tables": "one struct that holds its tables as arrays: 32 subjects, 64
--- objects, 512 handles"; "A monitor value that no calls could have made goes by the same rules", so that every byte string of the length is one.
+-- A monitor and its tally as the bytes that a host lends. States RULES H4 to H10. Every value of the monitor goes by the rules (RULES T16),
+-- so that every byte string of the length is one.
 --
 -- The layout: the subjects, then the objects, then the handles, two bytes each, in the order of the struct; then made and gone, eight bytes each,
 -- lowest first. In order: records of two bytes; numbers; from bytes, and to bytes; the empty state, and what a call leaves. The laws are in
 -- State/Laws. Assumes nothing.
 use mathlib.Core.Path.{_≡_}
-use mathlib.Core.Bool.{Bool, cond}
+use mathlib.Core.Bool.{cond}
 use mathlib.Core.Option.{none}
 use mathlib.Core.List.{List, [], _∷_, _++_}
 use Prim.Native.Nat.{ℕ, zero, suc, _+_, _*_, _/_, _%_}
-use lib.Dec.{eqb}
+use lib.Dec.{ltb, eqb}
 use lib.ListN.{length, take, drop}
-use Rattle.model.specs.Tables.{Tables, empty, clean}
+use Rattle.model.specs.Tables.{subjects, objects, places, Tables, empty, clean}
 use Rattle.model.specs.Calls.{Call, refusal, answer}
 use Rattle.model.specs.Promise.{Meets}
 use Rattle.model.specs.Tally.{zeroed, tallied}
-use Rattle.gatekeeper.specs.declared.Kind.{Kind}
-use Rattle.gatekeeper.specs.declared.Kind.the-variants.{Free, File, Pipe}
-use Rattle.gatekeeper.specs.declared.Way.{Way}
-use Rattle.gatekeeper.specs.declared.Way.the-variants.{Empty, Reads, Writes}
-use Rattle.gatekeeper.specs.declared.Subject.{Subject}
-use Rattle.gatekeeper.specs.declared.Object.{Object}
-use Rattle.gatekeeper.specs.declared.Handle.{Handle}
+use Rattle.tables.specs.declared.Subject.{Subject}
+use Rattle.tables.specs.declared.Object.{Object}
+use Rattle.tables.specs.declared.Handle.{Handle}
 use Rattle.gatekeeper.specs.declared.Monitor.{Monitor}
-use Rattle.gatekeeper.specs.declared.Tally.{Tally}
-use Rattle.gatekeeper.specs.View.{view, counts-of}
+use Rattle.tally.specs.declared.Tally.{Tally}
+use Rattle.gatekeeper.specs.View.{view}
+use Rattle.tally.specs.Counting.{counts-of}
 pub mod Laws
 
+-- RULES H4
 abbrev pub state-bytes : ℕ
-state-bytes = 1232
+state-bytes = 2 * subjects + 2 * objects + 2 * (subjects * places) + 2 * 8
 
--- bytes that are a state
+-- RULES H10: bytes that are a state
 abbrev pub Sized : List ℕ → Type 0
 Sized s = length s ≡ state-bytes
 
@@ -44,36 +42,29 @@ unfoldable pub flat : {A : Type 0} → (A → ℕ) → (A → ℕ) → List A �
 flat f g [] = []
 flat f g (x ∷ l) = f x ∷ g x ∷ flat f g l
 
--- live: 1 is live, anything else is not
-abbrev pub subject-of : ℕ → ℕ → Subject
-subject-of live level = record { live = eqb live 1; level = level }
+-- RULES H6: 1 is live, anything else is not
+abbrev pub live-of : ℕ → ℕ
+live-of n = cond (eqb n 1) 1 0
 
--- kind: 1 a file, 2 a pipe, anything else free
-abbrev pub kind-of : ℕ → Kind
-kind-of n = cond (eqb n 1) File (cond (eqb n 2) Pipe Free)
+abbrev pub subject-of : ℕ → ℕ → Subject
+subject-of live level = record { live = live-of live; level = level }
+
+-- RULES H7, H8: of an object, 1 is a file, 2 a pipe, anything else free; of a handle, 1 reads, 2 writes, anything else is an empty place
+abbrev pub sort-of : ℕ → ℕ
+sort-of n = cond (eqb n 1) 1 (cond (eqb n 2) 2 0)
 
 abbrev pub object-of : ℕ → ℕ → Object
-object-of kind level = record { kind = kind-of kind; level = level }
-
--- way: 1 reads, 2 writes, anything else empty
-abbrev pub way-of : ℕ → Way
-way-of n = cond (eqb n 1) Reads (cond (eqb n 2) Writes Empty)
+object-of kind level = record { kind = sort-of kind; level = level }
 
 abbrev pub handle-of : ℕ → ℕ → Handle
-handle-of way object = record { way = way-of way; object = object }
+handle-of way object = record { way = sort-of way; object = object }
 
-abbrev pub live-byte : Bool → ℕ
-live-byte live = cond live 1 0
+-- as what byte each is stored
+abbrev pub live-byte : ℕ → ℕ
+live-byte n = cond (eqb n 0) 0 1
 
-abbrev pub kind-byte : Kind → ℕ
-kind-byte Free = 0
-kind-byte File = 1
-kind-byte Pipe = 2
-
-abbrev pub way-byte : Way → ℕ
-way-byte Empty = 0
-way-byte Reads = 1
-way-byte Writes = 2
+abbrev pub sort-byte : ℕ → ℕ
+sort-byte n = cond (ltb n 2) n 2
 
 -- ── numbers, lowest byte first ──
 unfoldable pub whole : List ℕ → ℕ
@@ -101,6 +92,7 @@ made-of s = whole (take 8 (drop 1216 s))
 unfoldable pub gone-of : List ℕ → ℕ
 gone-of s = whole (take 8 (drop 1224 s))
 
+-- RULES H5, H9
 abbrev pub monitor-of : List ℕ → Monitor
 monitor-of s = record { subjects = subjects-of s; objects = objects-of s; handles = handles-of s }
 
@@ -112,19 +104,21 @@ unfoldable pub subject-bytes : List Subject → List ℕ
 subject-bytes l = flat (λ (x : Subject). live-byte (x .live)) (λ (x : Subject). x .level) l
 
 unfoldable pub object-bytes : List Object → List ℕ
-object-bytes l = flat (λ (x : Object). kind-byte (x .kind)) (λ (x : Object). x .level) l
+object-bytes l = flat (λ (x : Object). sort-byte (x .kind)) (λ (x : Object). x .level) l
 
 unfoldable pub handle-bytes : List Handle → List ℕ
-handle-bytes l = flat (λ (x : Handle). way-byte (x .way)) (λ (x : Handle). x .object) l
+handle-bytes l = flat (λ (x : Handle). sort-byte (x .way)) (λ (x : Handle). x .object) l
 
+-- RULES H5, H9
 unfoldable pub bytes-of : Monitor → Tally → List ℕ
 bytes-of m y = subject-bytes (m .subjects) ++ object-bytes (m .objects) ++ handle-bytes (m .handles) ++ digits 8 (y .made) ++ digits 8 (y .gone)
 
--- the bytes s are those of a monitor and a tally, and stand for them
+-- the bytes s are those of a monitor and a tally, and stand for them: for the monitor's tables, and for the tally
 pub record Stands (s : List ℕ) (m : Monitor) (y : Tally) : Type 0 where
   pub size : Sized s
   pub bytes : s ≡ bytes-of m y
-  pub monitor : monitor-of s ≡ m
+  pub again : s ≡ bytes-of (monitor-of s) (tally-of s)
+  pub tables : view (monitor-of s) ≡ view m
   pub tally : tally-of s ≡ y
 
 -- ── the empty state, and a call ──
@@ -132,15 +126,15 @@ pub record Stands (s : List ℕ) (m : Monitor) (y : Tally) : Type 0 where
 abbrev pub state-view : List ℕ → Tables
 state-view s = view (monitor-of s)
 
--- 01, Journal: "Both counts .. start at 0 with the empty tables"
+-- RULES T12, Y8: empty tables, and counts of 0
 pub record Blank (s : List ℕ) : Type 0 where
   pub size : Sized s
   pub tables : state-view s ≡ empty
   pub counts : counts-of (tally-of s) ≡ zeroed
 
--- call c on the bytes s leaves the bytes s′. They meet the rules as a monitor does, so that a refused call leaves every byte; the tally in them is
--- the history's; and what an allowed or lowered call leaves is the bytes of a monitor and a tally. Which level stands beside a number that is not in
--- use, and which object beside an empty place, is the free part of `Promise`.
+-- RULES T16, T23, R102, R103: call c on the bytes s leaves the bytes s′. They meet the rules as a monitor does, so that a refused call
+-- leaves every byte; the tally in them is the history's; and what an allowed or lowered call leaves is the bytes of a monitor and a tally.
+-- Which level stands beside a number that is not in use, and which object beside an empty place, is the free part of `Promise`.
 pub record Stored (s : List ℕ) (c : Call) (s′ : List ℕ) : Type 0 where
   pub size : Sized s′
   pub meets : Meets state-view s c (answer (clean (state-view s)) c) s′

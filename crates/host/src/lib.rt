@@ -1,4 +1,4 @@
-// The gatekeeper for a host in C or Rust (document 01, "Part of the product": the tables, the thirteen calls, the journal reader and writer). Each
+// The gatekeeper for a host in C or Rust (RULES S1, H4 to H14): the tables, the thirteen calls, the journal reader and writer. Each
 // function below "exported" has its plain name in the archive; a slice crosses as a pointer and a length, and an answer as a number
 // (specs/Numbers.antt). The monitor with its tally crosses as lent bytes, laid out as in specs/State.antt. Every byte string of that length is a
 // monitor, so that a host can hand in nothing wrong but the length, and then nothing is touched.
@@ -13,85 +13,83 @@ ghost use Rattle.number.specs.Put.{put, fitted};
 ghost use Rattle.journal.specs.Record.{longest-record, recording, recorded};
 ghost use Rattle.replay.specs.Replay.{reply, reply-room, Begun};
 ghost use Rattle.gatekeeper.specs.View.{told, direct};
-ghost use Rattle.host.specs.State.{state-bytes, Sized, kind-of, way-of, live-byte, kind-byte, way-byte, whole, digits};
+ghost use Rattle.host.specs.State.{state-bytes, Sized, live-of, sort-of, live-byte, sort-byte, whole, digits};
 ghost use Rattle.host.specs.State.{subjects-of, objects-of, handles-of, made-of, gone-of, monitor-of, tally-of};
 ghost use Rattle.host.specs.State.{subject-bytes, object-bytes, handle-bytes, Stands, Blank};
 ghost use Rattle.host.specs.Over.{over};
 ghost use Rattle.host.specs.Numbers.{sized, answer-number, answer-in, record-number, roomy-number, reading-number};
 ghost use Rattle.host.specs.Demand3.{Called};
 use gatekeeper::Answer;
-use gatekeeper::Handle;
-use gatekeeper::Kind;
 use gatekeeper::Monitor;
-use gatekeeper::Object;
-use gatekeeper::Subject;
-use gatekeeper::Tally;
-use gatekeeper::Way;
 use journal::Call;
 use journal::Numbers;
 use journal::Recorded;
 use number::Number;
 use number::Written;
+use tables::HANDLES;
+use tables::Handle;
+use tables::OBJECTS;
+use tables::Object;
+use tables::SUBJECTS;
+use tables::Subject;
+use tally::Tally;
+
+// Where the parts of a state stand: the subjects at 0, two bytes each; the objects and the handles likewise; the two counts, eight bytes each.
+const OBJECTS_AT: usize = 2 * SUBJECTS;
+
+const HANDLES_AT: usize = OBJECTS_AT + 2 * OBJECTS;
+
+const MADE_AT: usize = HANDLES_AT + 2 * HANDLES;
+
+const GONE_AT: usize = MADE_AT + 8;
 
 // How many bytes a monitor and its tally take.
-const STATE_BYTES: usize = 1232;
+const STATE_BYTES: usize = GONE_AT + 8;
 
 // The answer to a call on bytes of another length, which is no answer of a call.
 const UNSIZED: u32 = 0;
 
 // ---- one record, from bytes and to bytes
 
-fn to_kind(b: u8) -> Kind
-    ensures { λ r. ⌜ r ≡ kind-of b ⌝ }
+// What a first byte of a pair means: of a subject 1 is live; of an object 1 is a file and 2 a pipe; of a handle 1 reads and 2 writes.
+fn to_live(b: u8) -> u8
+    ensures { λ r. ⌜ r ≡ live-of b ⌝ }
 {
     if b == 1 {
-        return Kind::File;
-    }
-    if b == 2 {
-        return Kind::Pipe;
-    }
-    Kind::Free
-}
-
-fn to_way(b: u8) -> Way
-    ensures { λ r. ⌜ r ≡ way-of b ⌝ }
-{
-    if b == 1 {
-        return Way::Reads;
-    }
-    if b == 2 {
-        return Way::Writes;
-    }
-    Way::Empty
-}
-
-fn from_live(live: bool) -> u8
-    ensures { λ r. ⌜ r ≡ live-byte live ⌝ }
-{
-    if live {
         return 1;
     }
     0
 }
 
-fn from_kind(k: Kind) -> u8
-    ensures { λ r. ⌜ r ≡ kind-byte k ⌝ }
+fn to_sort(b: u8) -> u8
+    ensures { λ r. ⌜ r ≡ sort-of b ⌝ }
 {
-    match k {
-        Kind::Free => 0,
-        Kind::File => 1,
-        Kind::Pipe => 2,
+    if b == 1 {
+        return 1;
     }
+    if b == 2 {
+        return 2;
+    }
+    0
 }
 
-fn from_way(w: Way) -> u8
-    ensures { λ r. ⌜ r ≡ way-byte w ⌝ }
+// And as what byte it is stored.
+fn from_live(live: u8) -> u8
+    ensures { λ r. ⌜ r ≡ live-byte live ⌝ }
 {
-    match w {
-        Way::Empty => 0,
-        Way::Reads => 1,
-        Way::Writes => 2,
+    if live == 0 {
+        return 0;
     }
+    1
+}
+
+fn from_sort(b: u8) -> u8
+    ensures { λ r. ⌜ r ≡ sort-byte b ⌝ }
+{
+    if b < 2 {
+        return b;
+    }
+    2
 }
 
 fn wide(b: u8) -> u64
@@ -102,18 +100,15 @@ fn wide(b: u8) -> u64
 
 // ---- from bytes
 
-fn load_subjects(state: &[u8]) -> [Subject; 32]
+fn load_subjects(state: &[u8]) -> [Subject; SUBJECTS]
     requires { ⌜ Sized (now state) ⌝ }
     ensures { λ r. ⌜ r ≡ subjects-of (now (state .entry)) ⌝ }
 {
-    let mut r = [Subject {
-        live: false,
-        level: 0,
-    }; 32];
+    let mut r = [Subject { live: 0, level: 0 }; SUBJECTS];
     let mut i: usize = 0;
-    while i < 32 {
+    while i < SUBJECTS {
         let at = 2 * i;
-        let live = state[at] == 1;
+        let live = to_live(state[at]);
         let level = state[at + 1];
         r[i] = Subject { live, level };
         i += 1;
@@ -121,18 +116,15 @@ fn load_subjects(state: &[u8]) -> [Subject; 32]
     r
 }
 
-fn load_objects(state: &[u8]) -> [Object; 64]
+fn load_objects(state: &[u8]) -> [Object; OBJECTS]
     requires { ⌜ Sized (now state) ⌝ }
     ensures { λ r. ⌜ r ≡ objects-of (now (state .entry)) ⌝ }
 {
-    let mut r = [Object {
-        kind: Kind::Free,
-        level: 0,
-    }; 64];
+    let mut r = [Object { kind: 0, level: 0 }; OBJECTS];
     let mut i: usize = 0;
-    while i < 64 {
-        let at = 64 + 2 * i;
-        let kind = to_kind(state[at]);
+    while i < OBJECTS {
+        let at = OBJECTS_AT + 2 * i;
+        let kind = to_sort(state[at]);
         let level = state[at + 1];
         r[i] = Object { kind, level };
         i += 1;
@@ -140,18 +132,15 @@ fn load_objects(state: &[u8]) -> [Object; 64]
     r
 }
 
-fn load_handles(state: &[u8]) -> [Handle; 512]
+fn load_handles(state: &[u8]) -> [Handle; HANDLES]
     requires { ⌜ Sized (now state) ⌝ }
     ensures { λ r. ⌜ r ≡ handles-of (now (state .entry)) ⌝ }
 {
-    let mut r = [Handle {
-        way: Way::Empty,
-        object: 0,
-    }; 512];
+    let mut r = [Handle { way: 0, object: 0 }; HANDLES];
     let mut i: usize = 0;
-    while i < 512 {
-        let at = 192 + 2 * i;
-        let way = to_way(state[at]);
+    while i < HANDLES {
+        let at = HANDLES_AT + 2 * i;
+        let way = to_sort(state[at]);
         let object = state[at + 1];
         r[i] = Handle { way, object };
         i += 1;
@@ -191,8 +180,8 @@ fn load_tally(state: &[u8]) -> Tally
     requires { ⌜ Sized (now state) ⌝ }
     ensures { λ r. ⌜ r ≡ tally-of (now (state .entry)) ⌝ }
 {
-    let made = load_number(state, 1216);
-    let gone = load_number(state, 1224);
+    let made = load_number(state, MADE_AT);
+    let gone = load_number(state, GONE_AT);
     Tally {
         made: made,
         gone: gone,
@@ -201,12 +190,12 @@ fn load_tally(state: &[u8]) -> Tally
 
 // ---- to bytes
 
-fn store_subjects(state: &mut [u8], subjects: [Subject; 32])
+fn store_subjects(state: &mut [u8], subjects: [Subject; SUBJECTS])
     requires { ⌜ Sized (now state) ⌝ }
     ensures { λ _. ⌜ now (state .exit) ≡ over 0 (subject-bytes subjects) (now (state .entry)) ⌝ }
 {
     let mut i: usize = 0;
-    while i < 32 {
+    while i < SUBJECTS {
         let x = subjects[i];
         let place = 2 * i;
         let next = place + 1;
@@ -216,33 +205,33 @@ fn store_subjects(state: &mut [u8], subjects: [Subject; 32])
     }
 }
 
-fn store_objects(state: &mut [u8], objects: [Object; 64])
+fn store_objects(state: &mut [u8], objects: [Object; OBJECTS])
     requires { ⌜ Sized (now state) ⌝ }
     ensures { λ _. ⌜ now (state .exit) ≡ over 64 (object-bytes objects) (now (state .entry)) ⌝ }
 {
     let mut i: usize = 0;
-    while i < 64 {
+    while i < OBJECTS {
         let x = objects[i];
         let kind = x.kind;
-        let place = 64 + 2 * i;
+        let place = OBJECTS_AT + 2 * i;
         let next = place + 1;
-        state[place] = from_kind(kind);
+        state[place] = from_sort(kind);
         state[next] = x.level;
         i += 1;
     }
 }
 
-fn store_handles(state: &mut [u8], handles: [Handle; 512])
+fn store_handles(state: &mut [u8], handles: [Handle; HANDLES])
     requires { ⌜ Sized (now state) ⌝ }
     ensures { λ _. ⌜ now (state .exit) ≡ over 192 (handle-bytes handles) (now (state .entry)) ⌝ }
 {
     let mut i: usize = 0;
-    while i < 512 {
+    while i < HANDLES {
         let x = handles[i];
         let way = x.way;
-        let place = 192 + 2 * i;
+        let place = HANDLES_AT + 2 * i;
         let next = place + 1;
-        state[place] = from_way(way);
+        state[place] = from_sort(way);
         state[next] = x.object;
         i += 1;
     }
@@ -273,8 +262,8 @@ fn store(state: &mut [u8], monitor: Monitor, tally: Tally)
     store_subjects(state, subjects);
     store_objects(state, objects);
     store_handles(state, handles);
-    store_number(state, 1216, tally.made);
-    store_number(state, 1224, tally.gone);
+    store_number(state, MADE_AT, tally.made);
+    store_number(state, GONE_AT, tally.gone);
 }
 
 // ---- answers as numbers
@@ -334,7 +323,7 @@ pub extern "C" fn gatekeeper_call(
     }
     let m = load_monitor(&state[..]);
     let tally = load_tally(&state[..]);
-    let counted = m.counted_call(tally, code, a, b, c, d);
+    let counted = tally::counted_call(m, tally, code, a, b, c, d);
     let reply = counted.reply;
     let answer = reply.answer;
     let r = to_number(answer);
@@ -355,7 +344,7 @@ pub extern "C" fn gatekeeper_made(state: &[u8]) -> u64
     if state.len() != STATE_BYTES {
         return 0;
     }
-    load_number(state, 1216)
+    load_number(state, MADE_AT)
 }
 
 // Handles gone, over the history of calls; 0 where the bytes have another length.
@@ -366,7 +355,7 @@ pub extern "C" fn gatekeeper_gone(state: &[u8]) -> u64
     if state.len() != STATE_BYTES {
         return 0;
     }
-    load_number(state, 1224)
+    load_number(state, GONE_AT)
 }
 
 // The reply to a journal, from empty tables: the text's length, or 0 where the buffer has no room for it: then its front stands there. A buffer of

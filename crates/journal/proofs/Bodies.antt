@@ -44,7 +44,8 @@ numbers-step (suc n) s z = ap (λ (k : ℕ). and-then (number largest s) s (numb
 pub arguments-malformed : (n : ℕ) (s : List ℕ) → (n ≡ 0 → ⊥) → malformed ≡ number largest s → none ≡ arguments-in n s
 unfolding arguments-in
 arguments-malformed n s z e =
-    ap (λ (r : Reading). Option·map (filled most-numbers) (and-then r s (numbers-in (n - 1)))) e ∙ ap (Option·map (filled most-numbers)) (sym (numbers-step n s z))
+    ap (λ (r : Reading). Option·map (filled most-numbers) (and-then r s (numbers-in (n - 1)))) e ∙ ap (Option·map (filled most-numbers))
+    (sym (numbers-step n s z))
 
 -- a number v of u bytes was read, and o is what was found after it
 pub arguments-next : (n : ℕ) (s : List ℕ) → (n ≡ 0 → ⊥) → (v u : ℕ) → good v u ≡ number largest s

@@ -1,4 +1,4 @@
--- The calls that a journal has, by their codes (document 01, "Calls"). In order: the table of arities; which codes are known;
+-- The calls that a journal has, by their codes (RULES C1 to C13, C106 to C108, R1). In order: the table of arities; which codes are known;
 -- a call's numbers, filled up. The laws are in Calls/Laws. Assumes nothing.
 use Prim.Native.Nat.{ℕ, zero, suc}
 use mathlib.Core.Bool.{Bool, _&&_}
@@ -7,7 +7,7 @@ use lib.Dec.{leb, ltb}
 use lib.ListN.{length, take, getD}
 pub mod Laws
 
--- "The journal's order of numbers is given": how many the call of each code takes, from code 1 on
+-- RULES C1 to C13, J9: how many numbers the call of each code takes, from code 1 on
 abbrev pub arities : List ℕ
 arities =
     2  -- admit s, level
@@ -25,7 +25,7 @@ arities =
     ∷ 1  -- retire o
     ∷ []
 
--- "A direct call takes a code and four 32-bit numbers"
+-- RULES C106: as many as a direct call has
 abbrev pub most-numbers : ℕ
 most-numbers = 4
 
@@ -33,16 +33,16 @@ most-numbers = 4
 unfoldable pub arity-of : ℕ → ℕ
 arity-of code = getD (0 ∷ arities) code 0
 
--- a code "1 to 13"
+-- RULES R1: a code that section C has a row for
 unfoldable pub known : ℕ → Bool
 known code = ltb 0 code && leb code (length arities)
 
--- m numbers: those given, then 0 in the place of those that a call "ignores"
+-- RULES C107, C108: m numbers, those given, then 0 in the place of those that are not
 unfoldable pub filled : ℕ → List ℕ → List ℕ
 filled zero ns = []
 filled (suc m) [] = 0 ∷ filled m []
 filled (suc m) (n ∷ ns) = n ∷ filled m ns
 
--- a call's numbers, with 0 for those that its code does not use
+-- RULES C107, C108, J17: a call's numbers, with 0 for those that its code does not use
 abbrev pub arguments-of : ℕ → List ℕ → List ℕ
 arguments-of code ns = filled most-numbers (take (arity-of code) ns)

@@ -1,4 +1,4 @@
--- Records as the writer makes them (document 01, "Journal", second paragraph). In order: the bytes of a record; what the writer
+-- Records as the writer makes them (RULES J8, J9, J20 to J24, R13). In order: the bytes of a record; what the writer
 -- answers, and what it leaves in the buffer. The laws are in Record/Laws. Assumes nothing.
 use Prim.Native.Nat.{ℕ}
 use mathlib.Core.Bool.{cond}
@@ -11,7 +11,7 @@ use Rattle.journal.specs.Answers.{Answer, answers, refused}
 use Rattle.journal.specs.Calls.{arity-of, known}
 pub mod Laws
 
--- "A record it makes has at most 22 bytes"
+-- RULES J22: a record has at most 22 bytes
 abbrev pub longest-record : ℕ
 longest-record = 22
 
@@ -20,22 +20,22 @@ unfoldable pub encodes : List ℕ → List ℕ
 encodes [] = []
 encodes (n ∷ ns) = encode n ++ encodes ns
 
--- "the body: code, then the call's numbers", the first ones of ns
+-- RULES J9, J21: the code, then the call's numbers, the first ones of ns
 unfoldable pub body-of : ℕ → List ℕ → List ℕ
 body-of code ns = encodes (code ∷ take (arity-of code) ns)
 
--- "A record is the body's length in bytes, then the body"
+-- RULES J8, J20: the body's length, then the body
 unfoldable pub record-of : ℕ → List ℕ → List ℕ
 record-of code ns = encode (length (body-of code ns)) ++ body-of code ns
 
--- 13, "the record is longer than the buffer"
+-- RULES R13, J22: a record with more bytes than the buffer is refused; else its length
 unfoldable pub fitting : List ℕ → List ℕ → Answer ℕ
 fitting bytes out = cond (ltb (length out) (length bytes)) (refused 13) (answers (length bytes))
 
--- "For a code not 1 to 13 it answers 1."
+-- RULES J22, J24: an unknown code is refused, however long the buffer is
 unfoldable pub recording : ℕ → List ℕ → List ℕ → Answer ℕ
 recording code ns out = cond (known code) (fitting (record-of code ns) out) (refused 1)
 
--- "the bytes after the record keep their values"; a refusal leaves "every lent buffer unchanged"
+-- RULES J23, R104: the bytes behind the record stay; a refusal leaves the buffer as it was
 unfoldable pub recorded : ℕ → List ℕ → List ℕ → List ℕ
 recorded code ns out = cond (known code) (put (record-of code ns) out) out

@@ -1,4 +1,4 @@
-// The journal's records (document 01, "Journal"): what stands at an offset, what a body says, and the writer.
+// The journal's records (RULES J8 to J24, G11): what stands at an offset, what a body says, and the writer.
 // What the bytes mean is in specs/Calls.antt, Record.antt and Journal.antt, and what each answer means in specs/Answers.antt.
 ghost use mathlib.Core.Path.{_≡_};
 ghost use Prim.Native.Nat.{_+_, _*_, _≤_};

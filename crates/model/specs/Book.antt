@@ -1,5 +1,5 @@
--- The book. Document 01, "Contents, in the model only": "Demand 3 is measured by a book." (A reference model of the tables with
--- contents.)
+-- The book: the rules' term for what demand 3 is measured by. (A reference model of the tables with contents.) States RULES B1 to B21, and
+-- of B28 which outside contents differ only below a level.
 --
 -- What is kept; the handling of data; what each step does to contents; the book run over a list of calls; where contents are
 -- brought in. The book is fed the calls, the outside contents and the handling, and nothing else. Assumes nothing.
@@ -8,46 +8,46 @@ use mathlib.Core.Bool.{cond}
 use mathlib.Core.Option.{Option, none, some}
 use mathlib.Core.List.{List, [], _∷_}
 use Prim.Native.Nat.{ℕ, suc}
-use Rattle.model.specs.Label.{Label, _⊑_, label}
+use Rattle.model.specs.Label.{Label, _⊑_}
 use Rattle.model.specs.Flow.{Thing, same}
 use Rattle.model.specs.Tables.{Tables, empty}
 use Rattle.model.specs.Steps.{Origin, outside, blank, copied, Access, Step, enter, leave, hold, holds, mix}
 use Rattle.model.specs.Calls.{Call, Raw, decode, steps, refusal, effect, next, Answer, answer}
 pub mod Laws
 
--- 01, Contents: "for every live thing a whole number, its content"; what stands at other things is never looked at
+-- RULES B4: a whole number for each live thing; what stands at other things is never looked at
 abbrev pub Contents : Type 0
 Contents = Thing → ℕ
 
--- 01, Contents: "It keeps the live things with kind and level, the handles by place, and for every live thing .. its content"
+-- RULES B2, B3, B4, B5: the live things and the handles are in the tables; nothing is kept that can be worked out
 pub record Book : Type 0 where
   pub tables : Tables
   pub content : Contents
 
--- 01, Contents: "It starts empty"
+-- RULES B6
 abbrev pub blank-book : Book
 blank-book = record { tables = empty; content = λ x. 0 }
 
--- 01, Contents: "The handling of data is any fixed rule": from the position in the list, refused calls counted; whether it
--- reads, writes or runs; the receiver and the source; the receiver's content and the source's
+-- RULES B19: any one function, of the position in the list, refused calls counted; whether it reads, writes or runs; the receiver and the
+-- source; the receiver's content and the source's
 abbrev pub Handling : Type 0
 Handling = ℕ → Access → Thing → Thing → ℕ → ℕ → ℕ
 
--- the outside contents, by position in the list
+-- RULES B1: the outside contents, by position in the list
 abbrev pub Outside : Type 0
 Outside = ℕ → ℕ
 
 abbrev pub store : Contents → Thing → ℕ → Contents
 store c x v y = cond (same x y) v (c y)
 
--- 01, Contents: "Admit and register bring a content in from outside ..; created files and new pipes start at 0", "Fork copies"
+-- RULES B11, B12, B16: a new thing's content, by where it comes from
 abbrev pub born : Origin → ℕ → Contents → ℕ
 born outside o c = o
 born blank o c = 0
 born (copied y) o c = c y
 
--- 01, Contents: "A read gives s a content worked out from s's and the object's. A write does the same for the object, and an exec
--- for s from its own and the file's. .. A read takes nothing away, and no other call changes a content."
+-- RULES B13, B14, B15: where data moves, the receiver's content is worked out from its own and the source's; RULES B17, B18: the source
+-- keeps its own, and no other step changes a content
 abbrev pub carry : Handling → ℕ → ℕ → Step → Contents → Contents
 carry h i o (enter x e g) c = store c x (born g o c)
 carry h i o (leave x) c = c
@@ -59,15 +59,15 @@ abbrev pub carries : Handling → ℕ → ℕ → List Step → Contents → Con
 carries h i o [] c = c
 carries h i o (k ∷ ks) c = carries h i o ks (carry h i o k c)
 
--- 01, Contents: "At each call it goes by 'Refused calls' on what it keeps: a refused call changes nothing, any other has its effect
--- under 'Calls'." The call stands at position i.
+-- RULES B7, B8, B9, B10: refused by the book's own tables, a call changes nothing; any other has its effect on them. It stands at
+-- position i.
 abbrev pub turn : Handling → Outside → ℕ → Book → Call → Book
 turn h out i b c = elim (refusal (b .tables) c) [
   | none ↦ record { tables = effect (b .tables) c; content = carries h i (out i) (steps (b .tables) c) (b .content) }
   | some n ↦ b
 ]
 
--- the book after a list, and its answers
+-- RULES B1, B20: the book after a list, and its answers; positions count from i on, refused calls too
 abbrev pub book-from : Handling → Outside → ℕ → Book → List Raw → Book
 book-from h out i b [] = b
 book-from h out i b (r ∷ rs) = book-from h out (suc i) (turn h out i b (decode r)) rs
@@ -83,7 +83,7 @@ abbrev pub book-answers : Handling → Outside → List Raw → List Answer
 book-answers h out rs = answers-from h out 0 blank-book rs
 
 -- ── where contents are brought in ──
--- the label at which the steps bring a content in from outside
+-- RULES B11: the label at which the steps bring a content in from outside
 abbrev pub brought-by : List Step → Option Label
 brought-by [] = none
 brought-by (enter x e outside ∷ ks) = some (e .label)
@@ -94,12 +94,12 @@ brought-by (hold s p v ∷ ks) = brought-by ks
 brought-by (holds s r ∷ ks) = brought-by ks
 brought-by (mix m a b y x ∷ ks) = brought-by ks
 
--- a refused call brings nothing in
+-- RULES B21: a refused call brings nothing in
 abbrev pub brought : Tables → Call → Option Label
 brought t c = elim (refusal t c) [ none ↦ brought-by (steps t c) | some n ↦ none ]
 
--- 01, Contents: "contents that differ only where brought in below that level": they agree at each position whose call brings one
--- in at or above it. (The tables do not depend on contents: `Book.Laws`, `book-tables`.)
+-- RULES B28: outside contents that are equal at each position whose call brings one in at ℓ or above. (The tables do not depend on
+-- contents: `Book.Laws`, `book-tables`.)
 abbrev pub Alike-from : Label → Outside → Outside → ℕ → Tables → List Raw → Type 0
 Alike-from ℓ p q i t [] = Unit {0}
 Alike-from ℓ p q i t (r ∷ rs) = ((l : Label) → brought t (decode r) ≡ some l → ℓ ⊑ l → p i ≡ q i) × Alike-from ℓ p q (suc i) (next t (decode r)) rs

@@ -1,7 +1,8 @@
--- The thirteen calls: what each asks, what it tests, what it does, what it answers. Document 01, "Calls" and "Refused calls".
+-- The thirteen calls: what each asks, what it tests, what it does, what it answers. States RULES C1 to C13 and C101 to C109, R1 to R10,
+-- and of the sentences about all refusals RULES R101, R102, R105 and R108.
 --
--- In the document's order: the calls by code; the effect of each row as a list of steps; the conditions of "Refused calls" and
--- which of them each call tests; the refusal; the tables after; the answer. A new call is a row in `rows`, `steps`, `tests`,
+-- In order: the calls by code; the effect of each row as a list of steps; the conditions of the refusals and which of them each call
+-- tests; the refusal; the tables after; the answer. A new call is a row in `rows`, `steps`, `tests`,
 -- `shown`, and in `makes` and `removes` of `Tally`. Assumes nothing.
 use mathlib.Core.Bool.{Bool, true, false, not, _||_, _&&_}
 use mathlib.Core.Option.{Option, none, some}
@@ -20,6 +21,7 @@ pub mod Dangling
 pub mod Scale
 pub mod Kept
 pub mod Sayable
+pub mod Codes
 
 -- ── the calls ──
 pub data Call : Type 0 where
@@ -31,12 +33,12 @@ pub data Call : Type 0 where
   exit retire : ℕ → Call
   unknown : Call
 
--- 01, Calls: "A direct call takes a code and four 32-bit numbers and ignores those its code does not use."
+-- RULES C106, C107: a direct call, its code and its numbers; the call uses the first ones
 pub record Raw : Type 0 where
   pub code : ℕ
   pub numbers : List ℕ
 
--- a number that is not given is 0
+-- RULES C108: a number that is not given is 0
 abbrev pub arg : ℕ → Raw → ℕ
 arg i r = getD (r .numbers) i 0
 
@@ -47,7 +49,7 @@ pub record Row : Type 0 where
 abbrev pub coded : ℕ → Call → Row
 coded n c = record { code = n; call = c }
 
--- 01, Calls, columns "Code" and "Call"
+-- RULES C1 to C13: the code, the call and its numbers
 abbrev pub rows : Raw → List Row
 rows r = let a : ℕ = arg 0 r in let b : ℕ = arg 1 r in let c : ℕ = arg 2 r in let d : ℕ = arg 3 r in
     coded 1 (admit a b)
@@ -69,6 +71,7 @@ abbrev pub lookup : ℕ → List Row → Call
 lookup n [] = unknown
 lookup n (k ∷ ks) = elim (eqb (k .code) n) [ true ↦ k .call | false ↦ lookup n ks ]
 
+-- RULES C1 to C13, R1: the call that a code asks for, `unknown` where no row has the code
 unfoldable pub decode : Raw → Call
 decode r = lookup (r .code) (rows r)
 
@@ -86,7 +89,7 @@ moves writing s c o = mix writes o s o c
 unfoldable pub sheds : Tables → ℕ → List Step
 sheds t s = []
 
--- 01, Calls, column "Effect if allowed", row by row
+-- RULES C1 to C13: the effect, row by row
 abbrev pub steps : Tables → Call → List Step
 steps t (admit s n) = enter (subject s) (entry running (label n)) outside ∷ []
 steps t (register o n) = enter (object o) (entry file (label n)) outside ∷ []
@@ -101,6 +104,7 @@ steps t (exit s) = holds s (λ p. none) ∷ leave (subject s) ∷ []
 steps t (retire o) = leave (object o) ∷ []
 steps t unknown = []
 
+-- RULES C102, C109: the steps of the row, the end of the pipes that they leave without a handle, and nothing else
 unfoldable pub effect : Tables → Call → Tables
 effect t c = reap (handles t) (applies (steps t c) t)
 
@@ -115,7 +119,7 @@ pub data Test : Type 0 where
   suits : ℕ → ℕ → Test
   idle : ℕ → Test
 
--- 01, Refused calls, column "Returned"
+-- RULES R1 to R10: the number of the refusal that the test is of
 abbrev pub number : Test → ℕ
 number known = 1
 number (alive s) = 2
@@ -137,12 +141,12 @@ faces reading writing = false
 faces writing reading = false
 faces writing writing = true
 
--- a handle for the other direction
+-- RULES R8, R108: a handle for the other direction; an empty place has none
 abbrev pub turned : Dir → Option Handle → Bool
 turned d none = false
 turned d (some k) = not (faces d (k .dir))
 
--- 01, Refused calls, column "Condition": the test fails
+-- RULES R1 to R10: the test fails, as the row says
 abbrev pub broken : Tables → Test → Bool
 -- (asked of unknown codes alone)
 broken t known = true
@@ -159,7 +163,7 @@ broken t (enough c) = not (safe (applies (steps t c) t))
 broken t (suits s o) = not (leq (needs (applies (sheds t s) t) (cell t s)) (label-of (t .at (object o))))
 broken t (idle o) = open-on (handles t) o
 
--- 01, Refused calls: which conditions speak of which call
+-- RULES R1 to R10, C101, C103: which conditions speak of which call
 abbrev pub tests : Call → List Test
 tests (admit s n) = new (subject s) ∷ leveled n ∷ []
 tests (register o n) = new (object o) ∷ leveled n ∷ []
@@ -174,7 +178,7 @@ tests (exit s) = alive s ∷ []
 tests (retire o) = present o ∷ no-pipe o ∷ idle o ∷ []
 tests unknown = known ∷ []
 
--- 01, Refused calls: "Where several conditions hold, the smallest number is given"
+-- RULES R105: the smallest number first
 abbrev pub order : List ℕ
 order = 1 ∷ 2 ∷ 3 ∷ 4 ∷ 5 ∷ 6 ∷ 7 ∷ 8 ∷ 9 ∷ 10 ∷ []
 
@@ -199,12 +203,12 @@ In-order t c n = (e : Test) → In e (tests c) → T (earlier (number e) n order
 unfoldable pub refusal : Tables → Call → Option ℕ
 refusal t c = first t (tests c) order
 
--- 01, Refused calls: the monitor is unchanged; else the effect
+-- RULES R102: refused, the tables as they were; else the effect
 abbrev pub next : Tables → Call → Tables
 next t c = elim (refusal t c) [ none ↦ effect t c | some n ↦ t ]
 
 -- ── answers ──
--- 01, Calls, column "Level in the answer": the thing whose level it is
+-- RULES C1 to C13: the thing whose level the answer gives
 abbrev pub shown : Tables → Call → Thing
 shown t (admit s n) = subject s
 shown t (register o n) = object o
@@ -224,13 +228,14 @@ shown t unknown = object 0
 pub data Answer : Type 0 where
   allowed lowered refused : ℕ → Answer
 
--- 01, Calls: "*lowered* if calls 7, 8 or 10 made a level smaller, otherwise *allowed*", from what the shown thing was and is; no
--- other call makes a level smaller. A thing that is gone shows its last level.
+-- RULES C104, C105: lowered or allowed, from what the shown thing was and is; no call but C7, C8 and C10 makes a level smaller. A thing
+-- that is gone shows its last level.
 abbrev pub outcome : Option Entry → Option Entry → Answer
 outcome b none = allowed (level (label-of b))
 outcome none (some a) = allowed (level (a .label))
 outcome (some b) (some a) = elim (leq (b .label) (a .label)) [ true ↦ allowed (level (a .label)) | false ↦ lowered (level (a .label)) ]
 
+-- RULES R101, C104, C105: the refusal's number, or the outcome
 unfoldable pub answer : Tables → Call → Answer
 answer t c = elim (refusal t c) [ none ↦ (let x = shown t c in outcome (t .at x) (effect t c .at x)) | some n ↦ refused n ]
 

@@ -1,4 +1,4 @@
--- The pay-run cases K1 to K9 of document 01, "Pay-run cases", in one table, proved by one computed fact about the definitions.
+-- The worked cases, RULES K0 to K9, in one table, proved by one computed fact about the definitions.
 --
 -- A row is either calls or the bytes of a journal. What a journal is answered is a parameter, `journal`, so that K10 and K11, whose
 -- rows are bytes, join the table where the journal is defined; the fact here holds whichever it is. Assumes nothing.
@@ -39,11 +39,11 @@ L n = lowered n
 abbrev pub R : ℕ → Answer
 R n = refused n
 
--- 01, Pay-run cases: "File 0 has level 9, file 1 level 2, subject 0 level 9."
+-- RULES K0
 abbrev pub start : List Raw
 start = call 2 (0 ∷ 9 ∷ []) ∷ call 2 (1 ∷ 2 ∷ []) ∷ call 1 (0 ∷ 9 ∷ []) ∷ []
 
--- 01, Pay-run cases, K1 to K9: register 2, admit 1, pipe 4, open 5 and 6, read 7, fork 9, exec 10, close 11
+-- RULES K1 to K9: register 2, admit 1, pipe 4, open 5 and 6, read 7, fork 9, exec 10, close 11
 unfoldable pub table : List Case
 table =
     case 1 (calls (call 6 (0 ∷ 0 ∷ 0 ∷ []) ∷ call 5 (0 ∷ 1 ∷ 1 ∷ []) ∷ [])) (A 9 ∷ R 9 ∷ [])

@@ -1,6 +1,5 @@
--- Demand 2, the flow rule both ways. Document 01, "Refused calls", row 9: "flow: after 5 or 6 some thing would have a level below its
--- need; for 10, o's level is below s's need". What the rule says in terms of chains of flows; `Demand2.Laws` proves that the refusals
--- of the definitions are exactly these. Assumes nothing.
+-- Demand 2, the flow rule both ways: what RULES R9, R109 and R110 say, in terms of chains of flows (RULES F4). `Demand2.Laws` proves that
+-- the refusals of the definitions are exactly these. Assumes nothing.
 use mathlib.Core.Path.{_≡_}
 use mathlib.Core.Bool.{not}
 use mathlib.Core.Option.{some}
@@ -13,7 +12,7 @@ use Rattle.model.specs.Tables.{Dir, Entry, handle, Tables, label-of, is-
 use Rattle.model.specs.Steps.{hold, apply}
 pub mod Laws
 
--- x reaches, through open handles, a file that a thing of label a must not reach: one of a higher level
+-- RULES F4, R9: x reaches, through open handles, a file that a thing of label a must not reach: one of a higher level
 -- (of labels that are levels, `not (leq b a)` says that a's level is below b's: `Label.Laws`, `not-least-is-below`)
 pub record Leaks (u : Tables) (a : Label) (x : Thing) : Type 0 where
   pub high : Thing
@@ -23,7 +22,7 @@ pub record Leaks (u : Tables) (a : Label) (x : Thing) : Type 0 where
   pub higher : T (not (leq (high-entry .label) a))
   pub reaches : Reaches (edges u) x high
 
--- some live thing reaches a file of a higher level
+-- RULES R9, R109: some live thing reaches a file of a higher level
 pub record Offends (u : Tables) : Type 0 where
   pub low : Thing
   pub low-live : In low (things u)

@@ -1,7 +1,7 @@
--- Demand 3, as one claim about a list of direct calls. Document 01, "Contents, in the model only", third paragraph.
+-- Demand 3, as one claim about a list of direct calls. States RULES B22 and B24 to B28.
 --
 -- The claim is a record over the list, the answers that a monitor gave and the tables that it ended with. Each field is a
--- sentence of the document and speaks of the book. `Demand3.Laws` proves it for any monitor whose single calls keep their promise.
+-- sentence of the rules and speaks of the book. `Demand3.Laws` proves it for any monitor whose single calls keep their promise.
 -- Assumes nothing.
 use mathlib.Core.Path.{_≡_}
 use mathlib.Core.Option.{some}
@@ -15,7 +15,7 @@ use Rattle.model.specs.Calls.{Raw, decode, access, Answer, refused}
 use Rattle.model.specs.Book.{Book, Handling, Outside, book, book-answers, Alike}
 pub mod Laws
 
--- the call is a read or a write whose caller has, in the book, a handle for that direction at that place
+-- RULES B10, B27: the call is a read or a write whose caller has, in the book, a handle for that direction at that place
 pub record Held (b : Book) (r : Raw) : Type 0 where
   pub dir : Dir
   pub caller : ℕ
@@ -25,15 +25,15 @@ pub record Held (b : Book) (r : Raw) : Type 0 where
   pub at-place : b .tables .hand caller place ≡ some handle
   pub that-direction : handle .dir ≡ dir
 
+-- RULES B22, B24: one claim about a whole list, of any codes and numbers
 pub record Demand3 (calls : List Raw) (answers : List Answer) (end : Tables) : Type 0 where
-  -- "The monitor's list of answers .. equals the book's, whichever contents and handling the book is fed"
+  -- RULES B25: the answers are the book's, for all contents and every handling
   pub answers-are-the-book's : (h : Handling) (out : Outside) → answers ≡ book-answers h out calls
-  -- "the monitor at the end has the book's live things with kind and level, and its handles"
+  -- RULES B26: the tables at the end are the book's
   pub end-is-the-book's : (h : Handling) (out : Outside) → end ≡ book h out calls .tables
-  -- "No answer refuses a read or write whose caller has, in the book just before, a handle for that direction at that place"
+  -- RULES B27: a read or write for which the book has the handle just before it is not refused
   pub none-cut-off : (h : Handling) (out : Outside) (before : List Raw) (r : Raw) (rest : List Raw) → calls ≡ before ++ r ∷ rest
       → Held (book h out before) r → (n : ℕ) → getElem? answers (length before) ≡ some (refused n) → ⊥
-  -- "For every level, two books fed the same list and handling, and contents that differ only where brought in below that level,
-  -- end with equal contents in every live thing that is then at or above it"
+  -- RULES B28: where the outside contents are alike from ℓ on, the two books agree on each live thing that is at ℓ or above at the end
   pub contents-unmoved : (ℓ : Label) (h : Handling) (p q : Outside) → Alike ℓ p q calls
       → (x : Thing) (e : Entry) → book h p calls .tables .at x ≡ some e → ℓ ⊑ e .label → book h p calls .content x ≡ book h q calls .content x

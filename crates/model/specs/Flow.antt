@@ -1,8 +1,8 @@
--- Things, the flows between them, what a thing reaches, and its need. Document 01, "Flow and need".
+-- Things, the flows between them, what a thing reaches, and its need. States RULES F4 to F7.
 --
--- In the order of the document: things; flows (edges of a graph); `Reaches`; all that a thing reaches, computed; `need`.
--- That `reached` is what `Reaches` says, and that `need` is "the highest level among the files it reaches, 0 if it reaches
--- none", is proved in `Flow.Laws` (`reached-is`, `need-upper`, `need-least`). Assumes nothing.
+-- In order: things; flows (edges of a graph); `Reaches`; all that a thing reaches, computed; `need`.
+-- That `reached` is what `Reaches` says, and that `need` is the least label that is at least that of each file reached, is
+-- proved in `Flow.Laws` (`reached-is`, `need-upper`, `need-least`). Assumes nothing.
 use mathlib.Core.Path.{_≡_}
 use mathlib.Core.Bool.{Bool, false, not}
 use mathlib.Core.List.{List, [], _∷_, _++_}
@@ -13,7 +13,7 @@ use Rattle.model.specs.Label.{Label, join, bot}
 use Rattle.model.specs.Lists.{In, keep, any}
 pub mod Laws
 
--- 01, Tables: subjects and objects, by number
+-- RULES T1, T2: subjects and objects, by number
 pub data Thing : Type 0 where
   subject object : ℕ → Thing
 
@@ -23,13 +23,12 @@ same (subject a) (object b) = false
 same (object a) (subject b) = false
 same (object a) (object b) = eqb a b
 
--- 01, Flow and need: "Data can flow from a subject to an object .., and from an object to a subject .."
+-- RULES F1, F2: a flow, from one thing to another
 pub record Edge : Type 0 where
   pub src : Thing
   pub dst : Thing
 
--- 01, Flow and need: "One thing *reaches* another by a chain of such flows of any length, none included."
--- (Reachability in the graph of flows.)
+-- RULES F4: the rules' *reaches*, by a chain of flows of any length, none included. (Reachability in the graph of flows.)
 pub data Reaches (es : List Edge) : Thing → Thing → Type 0 where
   here : {x y : Thing} → x ≡ y → Reaches es x y
   step : {x y : Thing} (e : Edge) → In e es → e .src ≡ x → Reaches es (e .dst) y → Reaches es x y
@@ -65,7 +64,7 @@ abbrev pub joins : (Thing → Label) → List Thing → Label
 joins f [] = bot
 joins f (x ∷ l) = join (f x) (joins f l)
 
--- 01, Flow and need: "The *need* of a thing is the highest level among the files it reaches, 0 if it reaches none."
--- (The minimum label that it may have.) Here f is a file's label, and the least label for any other thing.
+-- RULES F5, F6, F7: the rules' *need*, the largest label of the files reached, the least label where there are none. (The minimum label
+-- that a thing may have.) Here f is a file's label, and the least label for any other thing.
 unfoldable pub need : (Thing → Label) → List Edge → Thing → Label
 need f es x = joins f (reached es x)

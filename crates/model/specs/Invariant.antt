@@ -1,7 +1,5 @@
--- What every state from empty tables has. Document 01, "Flow and need": "In every state from empty tables each live thing's level
--- is at least its need"; "Tables": a handle joins a place of a live subject to a live object, "Levels are 0 (lowest) to 15"; "Calls": "A
--- pipe ends .. when its last handle goes", so a live pipe has one. And what every answer has. Proved of every list of calls in
--- `Calls.Kept` and `Calls.Sayable`. Assumes nothing.
+-- What all tables have to which a list of calls leads from empty ones, and what every answer has. States RULES F8, T25, T26 and T27.
+-- Proved of every list of calls in `Calls.Kept` and `Calls.Sayable`. Assumes nothing.
 use mathlib.Core.Path.{_≡_}
 use mathlib.Core.Option.{some}
 use Prim.Native.Nat.{ℕ, _<_, _≤_}
@@ -19,20 +17,20 @@ pub record Ends (t : Tables) (s p : ℕ) (k : Handle) : Type 0 where
   pub to : T (live t (object (k .to)))
   pub place : p < places
 
--- no handle dangles, and what is live has a number in range
+-- RULES T25: no handle dangles, and what is live has a number in range
 pub record Wf (t : Tables) : Type 0 where
   pub ends : (s p : ℕ) (k : Handle) → t .hand s p ≡ some k → Ends t s p k
   pub ranged : (x : Thing) (e : Entry) → t .at x ≡ some e → T (in-range x)
 
--- each live thing's level is at least its need
+-- RULES F8: each live thing's level is at least its need
 pub record Safe (t : Tables) : Type 0 where
   pub above : (x : Thing) (e : Entry) → t .at x ≡ some e → needs t x ⊑ e .label
 
--- a live pipe has a handle
+-- RULES T26: a live pipe has a handle
 pub record Piped (t : Tables) : Type 0 where
   pub joined : (o : ℕ) → T (is-pipe (object o) (t .at (object o))) → T (open-on (handles t) o)
 
--- each live thing's label is one that a call may name: its level is 0 to 15
+-- RULES T27: each live thing's label is one that a call may name: its level is 0 to 15
 pub record Scaled (t : Tables) : Type 0 where
   pub within : (x : Thing) (e : Entry) → t .at x ≡ some e → T (in-scale (e .label))
 
@@ -42,7 +40,7 @@ pub record Kept (t : Tables) : Type 0 where
   pub piped : Piped t
   pub scaled : Scaled t
 
--- an answer gives a level of 0 to 15, or the number of a refusal that calls have
+-- RULES T27, R112: an answer gives a level of 0 to 15, or the number of a refusal that calls have
 abbrev pub Sayable : Answer → Type 0
 Sayable (allowed l) = l ≤ highest
 Sayable (lowered l) = l ≤ highest

@@ -1,4 +1,4 @@
--- Labels. Document 01, "Tables": "Levels are 0 (lowest) to 15."
+-- Labels. States RULES T4; T21 by the order.
 --
 -- The carrier, the labels that calls may name, the order as a test, meet, join, the least label, and the label that a call's number
 -- names. In this version a label is a level. Every other file knows labels by these names and by the laws of `Label.Laws` alone. Assumes nothing.
@@ -10,7 +10,7 @@ pub mod Laws
 unfoldable pub Label : Type 0
 Label = ℕ
 
--- 01, Tables: the highest level that a call may name
+-- RULES T4: the highest level that a call may name
 abbrev pub highest : ℕ
 highest = 15
 
@@ -23,12 +23,12 @@ unfoldable pub level : Label → ℕ
 unfolding Label
 level a = a
 
--- 01, Tables: "Levels are 0 (lowest) to 15": a label that a call may name
+-- RULES T4: a label that a call may name
 unfoldable pub in-scale : Label → Bool
 unfolding Label
 in-scale a = leb a highest
 
--- b is at least a
+-- RULES T4, T21: b is at least a; labels that no call names are compared too
 unfoldable pub leq : Label → Label → Bool
 unfolding Label
 leq a b = leb a b
@@ -37,12 +37,12 @@ infix 40 _⊑_
 pub record _⊑_ (a b : Label) : Type 0 where
   pub tested : T (leq a b)
 
--- 01, Calls, rows 7, 8, 10: what a thing falls to, "if that is lower"
+-- RULES C7, C8, C10: what a thing falls to, the smaller of two
 unfoldable pub meet : Label → Label → Label
 unfolding Label
 meet a b = min a b
 
--- 01, Flow and need: "the highest level among ..., 0 if ... none"
+-- RULES F5, F6: the larger of two, and the least label
 unfoldable pub join : Label → Label → Label
 unfolding Label
 join a b = max a b

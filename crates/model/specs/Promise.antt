@@ -1,6 +1,4 @@
--- What one call of a monitor promises towards the rules. Document 01, "Tables": "A monitor value that no calls could have made goes by
--- the same rules; in it a handle .. counts as an empty place, and every allowed call empties it"; "Refused calls": "The monitor .. [is]
--- unchanged."
+-- What one call of a monitor promises towards the rules, whichever value the monitor has. States RULES T15, T16, T19, T23 and R102.
 --
 -- A monitor is a value of any type with a view of it as tables. What of it the view does not read is its *free part*: of the struct of arrays,
 -- the level beside a number that is not in use and the object beside an empty place, for the tables have none there. What an allowed call
@@ -14,17 +12,17 @@ use Rattle.model.specs.Tables.{Tables, clean}
 use Rattle.model.specs.Calls.{Call, Raw, decode, refusal, effect, Answer, answer}
 pub mod Laws
 
--- monitors m and n differ in the free part alone
+-- RULES T23: monitors m and n differ in the free part alone
 abbrev pub Same-but-free : {M : Type 0} → (M → Tables) → M → M → Type 0
 Same-but-free view m n = view m ≡ view n
 
--- call c on monitor m is answered a, and monitor n is handed back
+-- RULES T15: call c on monitor m is answered a, and monitor n is handed back
 pub record Meets {M : Type 0} (view : M → Tables) (m : M) (c : Call) (a : Answer) (n : M) : Type 0 where
-  -- the answer is the rules' on the tables as the document reads them
+  -- RULES T16: the answer is the rules' on the tables as T17 and T18 read them
   pub answered : a ≡ answer (clean (view m)) c
-  -- a refused call hands the same monitor back
+  -- RULES R102: a refused call hands the same monitor back
   pub unchanged : (k : ℕ) → refusal (clean (view m)) c ≡ some k → n ≡ m
-  -- any other hands back the rules' next tables, in which nothing dangles (`effect-wf` in Calls/Dangling); the free part is any
+  -- RULES T19: any other hands back the rules' next tables, in which nothing dangles (`effect-wf` in Calls/Dangling); the free part is any
   pub moved : refusal (clean (view m)) c ≡ none → view n ≡ effect (clean (view m)) c
 
 -- the calls of a list, made one after the other

@@ -1,5 +1,5 @@
--- Every row of document 01's table "Calls", and rows 1 to 10 of "Refused calls", tried once: one list of calls from empty tables with the answer to each, and
--- the contents and the tally after a few short lists. Not cases of the document: they pin the definitions down where no law does, so that
+-- Every row of RULES C1 to C13 and of R1 to R10, tried once: one list of calls from empty tables with the answer to each, and
+-- the contents and the tally after a few short lists. Not cases of the rules' own: they pin the definitions down where no law does, so that
 -- a slip in a row does not go unseen. Assumes nothing.
 use mathlib.Core.Path.{_≡_, refl}
 use mathlib.Core.Bool.{Bool, true, _&&_}
@@ -83,7 +83,7 @@ unfolding Label label level leq meet join bot need used cell speaks things handl
 contents-right = (refl, refl, refl, refl, refl)
 
 -- ── the tally ──
--- 01, Journal, the example: `end 1 0 1`; and a pipe, a fork, a close and an exit
+-- RULES K17: its last line, `end 1 0 1`; and a pipe, a fork, a close and an exit
 abbrev counting-list : List Raw
 counting-list = call 1 (0 ∷ 9 ∷ []) ∷ call 4 (0 ∷ 5 ∷ 0 ∷ 1 ∷ []) ∷ call 9 (0 ∷ 1 ∷ []) ∷ call 4 (0 ∷ 5 ∷ 2 ∷ 3 ∷ []) ∷ call 11 (0 ∷ 0 ∷ []) ∷ call 12 (1 ∷ []) ∷ []
 

@@ -1,5 +1,5 @@
--- The primitive steps that calls are made of, and what each does to the tables. Document 01, "Calls" and "Contents, in the
--- model only". What a step does to contents is in `Book`. Assumes nothing.
+-- The primitive steps that calls are made of, and what each does to the tables. States RULES C102, and how a level falls in
+-- RULES C7, C8 and C10. What a step does to contents is in `Book`. Assumes nothing.
 use mathlib.Core.Bool.{Bool, true, false, not, _&&_, cond}
 use mathlib.Core.Option.{Option, none, some}
 use mathlib.Core.List.{List, [], _∷_}
@@ -10,13 +10,12 @@ use Rattle.model.specs.Flow.{Thing, subject, object, same}
 use Rattle.model.specs.Tables.{Kind, running, file, pipe, Entry, entry, Handle, Tables, with-at, with-hand, is-pipe, handles, open-on}
 pub mod Laws
 
--- 01, Contents: where a new thing's content comes from ("Admit and register bring a content in from outside ..; created files and
--- new pipes start at 0", "Fork copies")
+-- RULES B11, B12, B16: where a new thing's content comes from
 pub data Origin : Type 0 where
   outside blank : Origin
   copied : Thing → Origin
 
--- 01, Contents: "whether it reads, writes or runs"
+-- RULES B19: the three ways in which data moves
 pub data Access : Type 0 where
   reads writes runs : Access
 
@@ -43,14 +42,14 @@ abbrev pub place : (ℕ → ℕ → Option Handle) → ℕ → ℕ → Option Ha
 place h s p v = row h s (λ q. cond (eqb p q) v (h s q))
 
 -- ── falling ──
--- 01, Tables: "A file has a level that never changes. A pipe has a level that can fall."
+-- RULES T7, T8, T9: whose level may fall; a file's stays
 abbrev pub falls : Thing → Kind → Bool
 falls (subject n) k = true
 falls (object n) running = true
 falls (object n) file = false
 falls (object n) pipe = true
 
--- 01, Calls, rows 7, 8, 10: a subject and a pipe fall to the label of what they take in, if that is lower; "a file keeps its own"
+-- RULES C7, C8, C10: a subject and a pipe take the smaller of their label and that of what they take in
 abbrev pub sunk : Thing → Kind → Label → Label → Label
 sunk x k a b = cond (falls x k) (meet a b) a
 
@@ -72,7 +71,7 @@ applies [] t = t
 applies (k ∷ ks) t = applies ks (apply k t)
 
 -- ── a pipe ends ──
--- 01, Calls: "A pipe ends, and its number is free, when its last handle goes." The handles before and after the steps tell.
+-- RULES C102, T22: a pipe that had a handle and has none any more. The handles before and after the steps tell.
 unfoldable pub ended : List Handle → List Handle → Thing → Option Entry → Bool
 ended before after (subject n) o = false
 ended before after (object n) o = elim (is-pipe (object n) o) [ true ↦ open-on before n && not (open-on after n) | false ↦ false ]

@@ -1,4 +1,5 @@
--- The tables, and what the rules read off them. Document 01, "Tables" and "Flow and need".
+-- The tables, and what the rules read off them. States RULES T1 to T3, T6 to T12, T17, T18, T20 and T24, and RULES F1 to F3
+-- and F5 to F8.
 --
 -- What is kept (live things with kind and label, handles by place); what is in use and live; the lists of live things, of
 -- handles and of flows; the need of a thing and the test that every live thing has enough; and `clean`, which reads tables that
@@ -14,28 +15,30 @@ use Rattle.model.specs.Flow.{Thing, subject, object, Edge, need}
 pub mod Laws
 
 -- ── what is kept ──
--- 01, Tables: subjects are running steps, objects are files and pipes. A subject's kind is never looked at.
+-- RULES T2, T24: subjects are running steps, objects are files and pipes. A subject's kind is never looked at.
 pub data Kind : Type 0 where
   running file pipe : Kind
 
--- 01, Tables: "for reading or for writing only"
+-- RULES T10: what a handle is for
 pub data Dir : Type 0 where
   reading writing : Dir
 
--- a live thing
+-- RULES T7, T8, T9: what a live thing has
 pub record Entry : Type 0 where
   pub kind : Kind
   pub label : Label
 
--- 01, Tables: "A handle joins one place of one subject to one object": by its place, the direction and the object
+-- RULES T10: a handle stands at one place of one subject; at its place, the direction and the object
 pub record Handle : Type 0 where
   pub dir : Dir
   pub to : ℕ
 
+-- RULES T6, T11: the entries under the numbers in use; at each place one handle or none
 pub record Tables : Type 0 where
   pub at : Thing → Option Entry
   pub hand : ℕ → ℕ → Option Handle
 
+-- RULES T12
 abbrev pub empty : Tables
 empty = record { at = λ x. none; hand = λ s p. none }
 
@@ -53,7 +56,7 @@ abbrev pub with-hand : Tables → (ℕ → ℕ → Option Handle) → Tables
 with-hand t h = record { at = t .at; hand = h }
 
 -- ── ranges, in use, live ──
--- 01, Tables: "Subjects .. have numbers 0 to 31. Objects .. 0 to 63. Each subject has handle places 0 to 15."
+-- RULES T1, T2, T3: how many there are of each; their numbers are those below
 abbrev pub subjects : ℕ
 subjects = 32
 
@@ -71,7 +74,7 @@ abbrev pub is-some : {A : Type 0} → Option A → Bool
 is-some none = false
 is-some (some a) = true
 
--- 01, Calls: "'New' means a number not in use."
+-- RULES T6, C101: in use, and live; a number is new where it is in range and not in use
 unfoldable pub used : Tables → Thing → Bool
 used t x = is-some (t .at x)
 
@@ -125,8 +128,7 @@ abbrev pub open-on : List Handle → ℕ → Bool
 open-on hs o = any (λ k. eqb (k .to) o) hs
 
 -- ── flows and needs ──
--- 01, Flow and need: "from a subject to an object it holds a writing handle on, and from an object to a subject that holds a
--- reading handle on it"
+-- RULES F1, F2: a writing handle is a flow from its subject to its object, a reading handle one from its object to its subject
 abbrev pub arc : Dir → Thing → Thing → Edge
 arc reading x y = record { src = y; dst = x }
 arc writing x y = record { src = x; dst = y }
@@ -144,10 +146,12 @@ flows-of none v = []
 flows-of (some x) none = []
 flows-of (some x) (some k) = flow x k ∷ []
 
+-- RULES F3: the flows are those of the handles, and no others
 unfoldable pub edges : Tables → List Edge
 edges t = each subjects (λ s. each places (λ p. flows-of (speaks t s) (t .hand s p)))
 
--- what a thing demands of all that reach it: a file its label, any other thing nothing
+-- RULES F5, F6, F7: what a thing demands of all that reach it, a file its label, any other thing nothing; and the need of a thing, by the
+-- handles that there are now
 abbrev pub demand : Thing → Option Entry → Label
 demand x none = bot
 demand x (some e) = cond (is-file x (e .kind)) (e .label) bot
@@ -155,13 +159,13 @@ demand x (some e) = cond (is-file x (e .kind)) (e .label) bot
 abbrev pub needs : Tables → Thing → Label
 needs t x = need (λ y. demand y (t .at y)) (edges t) x
 
--- 01, Flow and need: "each live thing's level is at least its need"
+-- RULES F8, R9, R109: no live thing has a level below its need
 unfoldable pub safe : Tables → Bool
 safe t = let es : List Edge = edges t in not (any (λ x. not (leq (need (λ y. demand y (t .at y)) es x) (label-of (t .at x)))) (things t))
 
 -- ── tables that no calls made ──
--- 01, Tables: "in it a handle on an object out of range or not live, or in a place of a subject not live, counts as an empty
--- place"
+-- RULES T17, T18, T20: a handle whose object is not live, or that stands at a place beyond 15 or of a subject that is not live, is taken for
+-- an empty place
 abbrev pub counted : Bool → (ℕ → Bool) → Option Handle → Option Handle
 counted b f none = none
 counted b f (some k) = cond (b && f (k .to)) (some k) none

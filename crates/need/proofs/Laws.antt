@@ -45,12 +45,15 @@ module _ (from to n m : List ℕ) (k : ℕ) (b : Bool) (p : Passed from to n m k
   pub keep : figure m (node to k) ≤ figure m (node from k) → Passed from to n m (k + 1) b
   keep h = record { between = p .between; total = p .total; grew = p .grew; still = λ e. (p .still e .0, below-more _ _ (p .still e .1) h) }
 
-  pub grow : k < 512 → node from k < length m → figure m (node from k) < figure m (node to k) → Passed from to n (set m (node from k) (figure m (node to k))) (k + 1) true
+  pub grow : k < 512 → node from k < length m → figure m (node from k) < figure m (node to k) → Passed from to n
+      (set m (node from k) (figure m (node to k))) (k + 1) true
   grow hk ha h = record {
     between = record {
       long = simp length-set (p .between .long);
-      above = λ x. set-cases (λ y w. figure n y ≤ w) m (node from k) (figure m (node to k)) x ha (omega (arith, p .between .above (node from k))) (p .between .above x);
-      under = λ ψ q x. set-cases (λ y w. w ≤ ψ y) m (node from k) (figure m (node to k)) x ha (le-trans (p .between .under ψ q (node to k)) (q .settled k hk)) (p .between .under ψ q x);
+      above = λ x. set-cases (λ y w. figure n y ≤ w) m (node from k) (figure m (node to k)) x ha
+          (omega (arith, p .between .above (node from k))) (p .between .above x);
+      under = λ ψ q x. set-cases (λ y w. w ≤ ψ y) m (node from k) (figure m (node to k)) x ha
+          (le-trans (p .between .under ψ q (node to k)) (q .settled k hk)) (p .between .under ψ q x);
     };
     total = omega (arith, sum-set m (node from k) (figure m (node to k)) ha, p .total);
     grew = λ e. omega (arith, sum-set m (node from k) (figure m (node to k)) ha, p .total);
@@ -86,4 +89,5 @@ module _ (from to n m m′ : List ℕ) (b : Bool) (s : Between from to n m) (p :
   stop e = record { between = one-more from to n m m′ s (p .between); settled = p .still e .1 }
 
   pub falls : length n ≡ 96 → ((x : ℕ) → figure n x < 256) → b ≡ true → 24480 - sum m′ < 24480 - sum m
-  falls l h e = let t : Between from to n m′ = one-more from to n m m′ s (p .between) in omega (arith, p .grew e, sum-low m′ (low-still from to n m′ t h), t .long)
+  falls l h e = let t : Between from to n m′ = one-more from to n m m′ s (p .between) in omega
+      (arith, p .grew e, sum-low m′ (low-still from to n m′ t h), t .long)

@@ -1,6 +1,6 @@
 -- Figures for 96 things joined by edges, given as two lists: edge i leads from thing `node from i` to thing `node to i`. What figures are
--- the least that are at least the starting ones and fall along every edge: the form in which the gatekeeper uses needs (document 01,
--- "Flow and need"). Assumes nothing.
+-- the least that are at least the starting ones and fall along every edge: the form in which the gatekeeper uses needs
+-- (RULES F5, F6, F7). Assumes nothing.
 use mathlib.Core.Path.{_≡_}
 use mathlib.Core.Bool.{Bool, true, false}
 use mathlib.Core.List.{List, [], _∷_}
@@ -28,7 +28,7 @@ pub record Between (from to start r : List ℕ) : Type 0 where
   pub above : (x : ℕ) → figure start x ≤ figure r x
   pub under : (ψ : ℕ → ℕ) → Potential from to start ψ → (x : ℕ) → figure r x ≤ ψ x
 
--- the least potential
+-- RULES F5, F6, F7: the least potential
 pub record Least (from to start r : List ℕ) : Type 0 where
   pub between : Between from to start r
   pub settled : Settled from to (figure r) 512

@@ -1,4 +1,4 @@
-// The program on an empty journal (document 01, "Pay-run cases", last line).
+// The program on an empty journal (RULES K16).
 fn main() {
     serve::program();
 }

@@ -49,7 +49,7 @@ module _ (most : ℕ) (s : List ℕ) (h : 0 < length s) (l : getD s 0 0 < 128) w
 
 -- ---- a first group g, then the rest
 
--- "the first group plus 128 × the value of the rest", which is not 0
+-- RULES J3: the first group and 128 times the value of the rest, which is not 0
 abbrev joined : ℕ → Reading → Reading
 joined g malformed = malformed
 joined g (good zero k) = malformed

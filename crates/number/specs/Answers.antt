@@ -1,5 +1,5 @@
--- What the cases of this crate's enums mean, in the terms of document 01. It gives a malformed number and a number without
--- room no refusal number of their own: those are its callers' (11, 12, 13). Assumes nothing.
+-- What the cases of this crate's enums mean (RULES G9). The rules give a malformed number and a number without
+-- room no refusal number of their own: those are its callers' (RULES R11, R12, R13). Assumes nothing.
 use Prim.Native.Nat.{ℕ}
 use mathlib.Core.Option.{Option, none, some}
 use Rattle.number.specs.declared.Number.{Number}
@@ -8,7 +8,7 @@ use Rattle.number.specs.declared.Written.{Written}
 use Rattle.number.specs.declared.Written.the-variants.{Bytes, NoRoom}
 use Rattle.number.specs.Leb.{Reading, good, malformed}
 
--- "Its value ..", "A good number takes 1 to 5 bytes", "It is malformed .."
+-- RULES J3, J7: a good number's value and how many bytes it has, or a malformed one
 abbrev pub reading : Number → Reading
 reading (Good v k) = good v k
 reading Malformed = malformed

@@ -1,4 +1,4 @@
--- The journal's numbers: unsigned LEB128 as in DWARF 5 (document 01, "Journal", first paragraph).
+-- The journal's numbers: unsigned LEB128 as in DWARF 5. States RULES J1 to J7.
 -- In order: bytes; the two constants of the format; the coding of a number; what stands at the front of some bytes. A byte is
 -- a number below 256. The laws are in Leb/Laws. Assumes nothing.
 use Prim.Native.Nat.{ℕ, zero, suc, _+_, _*_, _/_, _%_, _≤_}
@@ -16,25 +16,25 @@ AtMost m ns = (i : ℕ) → getD ns i 0 ≤ m
 abbrev pub AreBytes : List ℕ → Type 0
 AreBytes bs = AtMost 255 bs
 
--- "above 4,294,967,295"
+-- RULES J5: the largest value of a number
 abbrev pub largest : ℕ
 largest = 4294967295
 
--- "A good number takes 1 to 5 bytes."
+-- RULES J7: the most bytes of a good number
 abbrev pub longest : ℕ
 longest = 5
 
 -- ---- the coding of a number
 
--- "A number is coded in groups of seven bits, lowest group first, one group a byte; the top bit is 1 on every byte but the
--- last". The fuel bounds how many groups stand before the last.
+-- RULES J1, J2: groups of seven bits, lowest first, one a byte, the top bit 1 on all but the last. The fuel bounds how many groups stand
+-- before the last.
 unfoldable pub groups : ℕ → ℕ → List ℕ
 groups zero n = n ∷ []
 groups (suc fuel) n =
     let longer = (n % 128 + 128) ∷ groups fuel (n / 128) in
     cond (ltb n 128) (n ∷ []) longer
 
--- the bytes of n, which has no more groups than its value
+-- RULES J1, J2: the bytes of n, which has no more groups than its value
 unfoldable pub encode : ℕ → List ℕ
 encode n = groups n n
 
@@ -45,21 +45,21 @@ pub data Reading : Type 0 where
   good : (value used : ℕ) → Reading
   malformed : Reading
 
--- the number's bytes: to the first whose top bit is 0; none where it is "cut off"
+-- RULES J2, J4: the number's bytes, to the first whose top bit is 0; none where it is cut off
 unfoldable pub numeral : List ℕ → Option (List ℕ)
 numeral [] = none
 numeral (b ∷ bs) = cond (ltb b 128) (some (b ∷ [])) (Option·map (λ rest. b ∷ rest) (numeral bs))
 
--- "Its value is the first group plus 128 × the value of the rest"
+-- RULES J3
 unfoldable pub value : List ℕ → ℕ
 value [] = 0
 value (b ∷ bs) = b % 128 + 128 * value bs
 
--- "longer than it need be"
+-- RULES J6: a coding of the value with fewer bytes exists
 unfoldable pub padded : List ℕ → Bool
 padded bs = ltb (length (encode (value bs))) (length bs)
 
--- "It is malformed if cut off, above 4,294,967,295, or longer than it need be."
+-- RULES J4, J5, J6, J7: malformed if cut off, too large or padded; else good
 abbrev pub judged : ℕ → Option (List ℕ) → Reading
 judged most none = malformed
 judged most (some bs) = cond (ltb most (value bs) || padded bs) malformed (good (value bs) (length bs))

@@ -1,4 +1,4 @@
-// The journal's numbers: unsigned LEB128 (document 01, "Journal"), read from a slice and written into a lent one.
+// The journal's numbers: unsigned LEB128 (RULES J1 to J7, G10), read from a slice and written into a lent one.
 // What the bytes mean is in specs/Leb.antt, and what each answer means in specs/Answers.antt.
 ghost use mathlib.Core.Path.{_≡_};
 ghost use Prim.Native.Nat.{_+_, _*_, _≤_};

@@ -1,5 +1,5 @@
--- The pay-run cases K1 to K11 in one table, and the document's journals. Document 01, "Pay-run cases", "Journal" and line 4 of "Four lines on
--- promises": "K1 to K11 go in one table, proved by a single fact about the model's definitions." Assumes nothing.
+-- The worked cases, RULES K1 to K11, in one table, proved by one fact about the definitions (RULES G6); and the journals of
+-- RULES K16 and K17. Assumes nothing.
 use mathlib.Core.Path.{_≡_, refl}
 use mathlib.Core.Bool.{true}
 use mathlib.Core.List.{List, [], _∷_, _++_, map}
@@ -23,7 +23,7 @@ use Rattle.replay.specs.Replay.{Replied, records-of, replies, reply}
 abbrev pub journal-answers : List ℕ → List Answer
 journal-answers bs = map (λ (r : Replied). r .answer) (replies empty (records-of bs))
 
--- "K10: journal hex `80 00`: 11. K11: hex `00`: 12."
+-- RULES K1 to K11: the cases of `table`, and K10 and K11, which are journals
 unfoldable pub whole-table : List Case
 whole-table = table ++ case 10 (bytes (128 ∷ 0 ∷ [])) (R 11 ∷ []) ∷ case 11 (bytes (0 ∷ [])) (R 12 ∷ []) ∷ []
 
@@ -31,18 +31,18 @@ pub all-cases-right : right journal-answers whole-table ≡ true
 unfolding whole-table table Label label level leq meet join bot need used cell speaks things handles edges safe decode sheds ended effect refusal answer groups encode numeral value padded number arity-of known filled entry-at numbers-in arguments-in body-in
 all-cases-right = refl
 
--- ── the document's journals ──
--- "Input hex `03 02 00 02 03 01 00 09 04 05 00 00 00 03 07 00 00`"
+-- ── the journals of the rules ──
+-- RULES K17: `03 02 00 02 03 01 00 09 04 05 00 00 00 03 07 00 00`
 abbrev pub example : List ℕ
 example = 3 ∷ 2 ∷ 0 ∷ 2 ∷ 3 ∷ 1 ∷ 0 ∷ 9 ∷ 4 ∷ 5 ∷ 0 ∷ 0 ∷ 0 ∷ 3 ∷ 7 ∷ 0 ∷ 0 ∷ []
 
--- "1 2 A 2", "2 1 A 9", "3 5 A 2", "4 7 L 2", "end 1 0 1"
+-- `1 2 A 2`, `2 1 A 9`, `3 5 A 2`, `4 7 L 2`, `end 1 0 1`
 pub example-right : reply example ≡ 49 ∷ 32 ∷ 50 ∷ 32 ∷ 65 ∷ 32 ∷ 50 ∷ 10 ∷ 50 ∷ 32 ∷ 49 ∷ 32 ∷ 65 ∷ 32 ∷ 57 ∷ 10 ∷ 51 ∷ 32 ∷ 53 ∷ 32 ∷ 65 ∷ 32 ∷ 50 ∷ 10 ∷ 52 ∷ 32 ∷ 55 ∷ 32 ∷ 76 ∷ 32 ∷ 50 ∷ 10
     ∷ 101 ∷ 110 ∷ 100 ∷ 32 ∷ 49 ∷ 32 ∷ 48 ∷ 32 ∷ 49 ∷ 10 ∷ []
 unfolding reply line ending digits decimal tallied Label label level leq meet join bot need used cell speaks things handles edges safe decode sheds ended effect refusal answer groups encode numeral value padded number arity-of known filled entry-at numbers-in arguments-in body-in
 example-right = refl
 
--- "Empty journal: `end 0 0 0` alone."
+-- RULES K16: `end 0 0 0`
 pub empty-right : reply [] ≡ 101 ∷ 110 ∷ 100 ∷ 32 ∷ 48 ∷ 32 ∷ 48 ∷ 32 ∷ 48 ∷ 10 ∷ []
 unfolding reply ending digits decimal
 empty-right = refl

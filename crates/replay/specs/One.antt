@@ -1,5 +1,4 @@
--- What one record does to a monitor and a tally. Document 01, "Journal", second paragraph; "Refused calls", rows 1 and 12, and "The monitor, the
--- tally .. unchanged". Assumes nothing.
+-- What one record does to a monitor and a tally. States RULES J13 to J16 of a run, and RULES R102 and R103. Assumes nothing.
 use mathlib.Core.Path.{_≡_}
 use Prim.Native.Nat.{ℕ}
 use Rattle.model.specs.Tables.{clean}

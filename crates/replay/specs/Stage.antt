@@ -27,7 +27,7 @@ use Rattle.text.specs.Reply.{line, ending, longest-line, longest-end}
 use Rattle.text.specs.Decimal.{decimal, digits}
 use Rattle.text.specs.Parts.{Over}
 use Rattle.text.specs.Parts.Laws.{untouched, put-over, over-count, over-put, rest-length, put-after, none-after}
-use Rattle.replay.specs.Replay.{records, records-of, calls-of, last-line, reply, Begun, reply-room}
+use Rattle.replay.specs.Replay.{records, records-of, calls-of, last-line, largest-journal, reply, Begun, reply-room}
 use Rattle.replay.specs.Replay.Laws.{records-more, records-end, records-stop, Plain, body-plain, eleven-plain, left, left-more, kept-more, ends-more}
 use Rattle.replay.specs.One.{One}
 
@@ -195,7 +195,7 @@ module _ (j first out : List ℕ) (at p used : ℕ) (m : Monitor) (y : Tally) (g
           let (i, far, g′) = here in
           no-more j first out p used m n y z s (records i j next) code a (body-plain (take len (drop start j))) o g′ answer
 
-      pub record-ends : length j ≤ 65536 → (ys : List ℕ)
+      pub record-ends : length j ≤ largest-journal → (ys : List ℕ)
           → none ≡ fitted (line p code (letter-of a) (value-of a)) (take (length out - used) (drop used out))
           → ys ≡ put (line p code (letter-of a) (value-of a)) (take (length out - used) (drop used out))
           → Ends (whole j) first (putMid used (length out - used) out ys) none
@@ -222,7 +222,7 @@ module _ (j first out : List ℕ) (at p used : ℕ) (m : Monitor) (y : Tally) (g
     broken-short : none ≡ fitted (line p 0 82 11) (take (length out - used) (drop used out)) → none ≡ fitted (whole j) first
     broken-short answer = no-more j first out p used m m y y (said 0 (bad 11)) [] 0 (refused 11) eleven-plain (refl, refl, refl, refl) there answer
 
-    pub broken-ends : length j ≤ 65536 → (ys : List ℕ) → none ≡ fitted (line p 0 82 11) (take (length out - used) (drop used out))
+    pub broken-ends : length j ≤ largest-journal → (ys : List ℕ) → none ≡ fitted (line p 0 82 11) (take (length out - used) (drop used out))
         → ys ≡ put (line p 0 82 11) (take (length out - used) (drop used out)) → Ends (whole j) first (putMid used (length out - used) out ys) none
     broken-ends small ys answer = short-ends j first out p used (view m) y (records (g .most) j at) (g .stage) (line p 0 82 11) longest-line thin
         (λ room. omega (arith, g .short, room, small)) (broken-short answer) ys answer
@@ -239,7 +239,7 @@ module _ (j first out : List ℕ) (at p used : ℕ) (m : Monitor) (y : Tally) (g
 
 -- the last line has no room
 pub end-short : (j first out : List ℕ) (t : Tables) (y : Tally) (at p used : ℕ) → Going j first out t y at p used false
-    → length (last-line y) ≤ longest-end → length j ≤ 65536
+    → length (last-line y) ≤ longest-end → length j ≤ largest-journal
     → (ys : List ℕ) → none ≡ fitted (last-line y) (take (length out - used) (drop used out)) → ys ≡ put (last-line y)
     (take (length out - used) (drop used out))
     → Ends (whole j) first (putMid used (length out - used) out ys) none
@@ -288,10 +288,10 @@ nineteen = refl
 pub refusal-thin : length refusal ≤ reply-room
 refusal-thin = omega (arith, nineteen)
 
-pub reply-long : (j : List ℕ) → 65536 < length j → refusal ≡ reply j
+pub reply-long : (j : List ℕ) → largest-journal < length j → refusal ≡ reply j
 unfolding reply
-reply-long j h = rw (lt-ltb 65536 (length j) h) (ap (λ (x : List ℕ). x ++ ending 0 0 0) (sym (append-nil (line 1 0 82 14))))
+reply-long j h = rw (lt-ltb largest-journal (length j) h) (ap (λ (x : List ℕ). x ++ ending 0 0 0) (sym (append-nil (line 1 0 82 14))))
 
-pub reply-whole : (j : List ℕ) → length j ≤ 65536 → whole j ≡ reply j
+pub reply-whole : (j : List ℕ) → length j ≤ largest-journal → whole j ≡ reply j
 unfolding reply
-reply-whole j h = rw (le-ltb 65536 (length j) h)
+reply-whole j h = rw (le-ltb largest-journal (length j) h)

@@ -1,4 +1,4 @@
-// Journals, replayed on the monitor (document 01, "Journal"). The reply to a whole journal is a definition in specs/Replay.antt; what one record
+// Journals, replayed on the monitor (RULES P2 to P22). The reply to a whole journal is a definition in specs/Replay.antt; what one record
 // does is in specs/One.antt.
 ghost use mathlib.Core.Path.{_≡_};
 ghost use mathlib.Core.Option.{some};
@@ -8,20 +8,29 @@ ghost use Rattle.model.specs.Tally.{difference};
 ghost use Rattle.number.specs.Put.{put, fitted};
 ghost use Rattle.number.specs.Answers.{writing};
 ghost use Rattle.journal.specs.Journal.{body-in};
-ghost use Rattle.gatekeeper.specs.View.{view, told, counts-of};
+ghost use Rattle.gatekeeper.specs.View.{view, told};
+ghost use Rattle.tally.specs.Counting.{counts-of};
 ghost use Rattle.replay.specs.One.{One};
-ghost use Rattle.replay.specs.Replay.{reply, Begun};
+ghost use Rattle.replay.specs.Replay.{reply, largest-journal, Begun};
 ghost use Rattle.replay.specs.Demand3.{Ended};
 ghost use Rattle.replay.specs.Stage.{whole, refusal, Ends};
 use gatekeeper::Answer;
 use gatekeeper::Monitor;
-use gatekeeper::Tally;
 use journal::Body;
 use journal::Entry;
 use number::Written;
+use tally::Tally;
 
-// Room for the longest reply: 28 bytes for each of 65,536 records, and 67 for the last line.
-pub const REPLY_ROOM: usize = 1835075;
+// The longest journal that is run, in bytes. It has no more records than bytes.
+pub const LARGEST_JOURNAL: usize = 65536;
+
+// The longest line of a reply, and the longest last line, in bytes.
+const LONGEST_LINE: usize = 28;
+
+const LONGEST_END: usize = 67;
+
+// Room for the longest reply.
+pub const REPLY_ROOM: usize = LONGEST_LINE * LARGEST_JOURNAL + LONGEST_END;
 
 // A record's reply: the code as it was read and the answer; and what the record leaves, the next monitor and tally.
 pub struct Replied {
@@ -39,7 +48,7 @@ pub fn one(m: Monitor, tally: Tally, body: &[u8]) -> Replied
         Body::Whole(call) => {
             let code = call.code;
             let ns = call.numbers;
-            let c = m.counted_call(tally, code, ns.a, ns.b, ns.c, ns.d);
+            let c = tally::counted_call(m, tally, code, ns.a, ns.b, ns.c, ns.d);
             let reply = c.reply;
             let answer = reply.answer;
             let monitor = reply.monitor;
@@ -86,7 +95,7 @@ pub struct Ran {
 // Answers the records of a journal one after the other, from empty tables, and writes the text. Where there is no room for all of it, its first
 // lines stand in the buffer, and the run stops there.
 fn records(journal: &[u8], out: &mut [u8]) -> Ran
-    requires { ⌜ length (now journal) ≤ 65536 ⌝ }
+    requires { ⌜ length (now journal) ≤ largest-journal ⌝ }
     ensures text { λ r. ⌜ Ends (whole (now (journal .entry))) (now (out .entry)) (now (out .exit)) (writing (r .written)) ⌝ }
     ensures end { λ r. ⌜ ((k : ℕ) → writing (r .written) ≡ some k → Ended (now (journal .entry)) (view (r .monitor)) (counts-of (r .tally))) ⌝ }
 {
@@ -182,7 +191,7 @@ pub fn run(journal: &[u8], out: &mut [u8]) -> Ran
     ensures room { λ _. do ⌜ ((← ⟦REPLY_ROOM⟧ .entry) ≤ length (now (out .entry)) → length (reply (now (journal .entry))) ≤ length (now (out .entry))) ⌝ }
     ensures end { λ r. ⌜ ((k : ℕ) → writing (r .written) ≡ some k → Ended (now (journal .entry)) (view (r .monitor)) (counts-of (r .tally))) ⌝ }
 {
-    if 65536 < journal.len() {
+    if LARGEST_JOURNAL < journal.len() {
         let written = too_long(out);
         return Ran {
             monitor: Monitor::empty(),

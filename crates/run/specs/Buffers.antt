@@ -1,5 +1,4 @@
--- The two buffers of a list run: the calls in the one, the answers in the other. Document 01, "Calls": "A direct call takes a code and
--- four 32-bit numbers". Assumes nothing.
+-- The two buffers of a list run: the calls in the one, the answers in the other. States RULES H1 and H2. Assumes nothing.
 use mathlib.Core.Bool.{cond}
 use mathlib.Core.List.{List, [], _∷_}
 use Prim.Native.Nat.{ℕ, _+_, _*_}
@@ -13,7 +12,7 @@ pub mod Laws
 abbrev pub lesser : ℕ → ℕ → ℕ
 lesser a b = cond (ltb a b) a b
 
--- call i of the list is the five numbers from 5 i on
+-- RULES H1, C106: call i of the list is the five numbers from 5 i on
 abbrev pub call-at : List ℕ → ℕ → Raw
 call-at l i = direct (getD l (i * 5) 0) (getD l (i * 5 + 1) 0) (getD l (i * 5 + 2) 0) (getD l (i * 5 + 3) 0) (getD l (i * 5 + 4) 0)
 
@@ -21,7 +20,7 @@ call-at l i = direct (getD l (i * 5) 0) (getD l (i * 5 + 1) 0) (getD l (i * 5 + 
 abbrev pub calls-in : List ℕ → ℕ → List Raw
 calls-in l n = each n (λ i. call-at l i ∷ [])
 
--- two bytes for each answer
+-- RULES H2: two bytes for each answer
 abbrev pub bytes : List Answer → List ℕ
 bytes [] = []
 bytes (a ∷ l) = letter-of a ∷ value-of a ∷ bytes l

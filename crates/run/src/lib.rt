@@ -1,4 +1,4 @@
-// A list of direct calls, run from empty tables (document 01, "Calls" and "Contents, in the model only").
+// A list of direct calls, run from empty tables (RULES H1 to H3, B24).
 // What stands in the two buffers is in specs/Buffers.antt.
 ghost use mathlib.Core.Path.{_≡_};
 ghost use mathlib.Core.List.{_++_};

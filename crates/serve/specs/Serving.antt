@@ -1,4 +1,4 @@
--- What comes of a run of the program (document 01, "Part of the product": a program over standard input). Two things are left to the host and are
+-- What comes of a run of the program over standard input (RULES P1, P15, P17 to P21). Two things are left to the host and are
 -- free here: what the reads bring, by the name `read`, and whether the writes take all that they are handed, which is whether a run is `Replied` or
 -- `Unwritten`. What is made of the bytes that were read is settled. In order: what reading comes to; the reply to some bytes; a run. The laws are in
 -- Serving/Laws. Assumes nothing.
@@ -27,7 +27,7 @@ pub record Whole (n : ℕ) (journal first out : List ℕ) : Type 0 where
   pub fits : length (reply (take n journal)) ≤ length first
   pub wrote : out ≡ put (reply (take n journal)) first
 
--- there was no room for it: only its front stands there
+-- RULES P20: there was no room for it: only its front stands there
 pub record Cut (n : ℕ) (journal first out : List ℕ) : Type 0 where
   pub long : length first < length (reply (take n journal))
   pub small : length first < reply-room
@@ -42,7 +42,7 @@ Replying n Unended journal first out = ⊥
 Replying n Unread journal first out = ⊥
 
 -- ── a run ──
--- by what reading came to. A full buffer is a journal that is too long, or says nothing of where the journal ends
+-- RULES P1, P15, P17, P18: by what reading came to. A full buffer is a journal that is too long, or says nothing of where the journal ends
 abbrev pub Answering : Filled → Served → (journal first out : List ℕ) → Type 0
 Answering (Ended n) r journal first out = Replying n r journal first out
 Answering Full r journal first out = (length journal ≤ largest-journal → (r ≡ Unended) × (out ≡ first))
@@ -55,7 +55,7 @@ pub record Serving (r : Served) (journal first out : List ℕ) : Type 0 where
   pub within : Within read journal
   pub answered : Answering read r journal first out
 
--- room for the longest journal and one byte more
+-- RULES P19: room for the longest journal and one byte more
 abbrev pub journal-room : ℕ
 journal-room = 1 + largest-journal
 
@@ -72,7 +72,7 @@ pub record Ran (r : Served) : Type 0 where
   pub wide : Sized reply-room first
   pub served : Serving r journal first out
 
--- a run that never lacks room, for the journal or for the reply
+-- RULES P19, P21: a run that never lacks room, for the journal or for the reply
 abbrev pub Roomy : Served → Type 0
 Roomy (Replied n k) = Unit {0}
 Roomy (Unwritten n) = Unit {0}

@@ -1,4 +1,4 @@
-// The program over standard input (document 01, "Part of the product"): a journal in, the replies out. Which bytes come in, and which of the bytes
+// The program over standard input (RULES S1, P1, P15, P16): a journal in, the replies out. Which bytes come in, and which of the bytes
 // handed to a write it takes, is the host's. What is made of the bytes that came, and what is handed to the write, is promised here.
 ghost use mathlib.Core.Path.{_≡_};
 ghost use Prim.Native.Nat.{_≤_};
@@ -6,12 +6,10 @@ ghost use lib.ListN.{length};
 ghost use Rattle.replay.specs.Replay.{reply, reply-room};
 ghost use Rattle.serve.specs.Serving.{Within, journal-room, Sized, Replying, Answering, Serving, Ran, Roomy};
 use number::Written;
-
-// The longest journal that is run, in bytes.
-const LARGEST_JOURNAL: usize = 65536;
+use replay::LARGEST_JOURNAL;
 
 // Room for the longest journal and one byte more, by which a longer one is known.
-const JOURNAL_ROOM: usize = 65537;
+const JOURNAL_ROOM: usize = LARGEST_JOURNAL + 1;
 
 // What reading came to.
 enum Filled {

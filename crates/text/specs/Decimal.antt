@@ -1,4 +1,4 @@
--- A number in decimal, as the lines of the reply have it (document 01, "Journal", the example): its digits as ASCII bytes, the
+-- A number in decimal, as the lines of the reply have it (RULES P11): its digits as ASCII bytes, the
 -- highest first, with no zero in front; 0 is one digit. The laws are in Decimal/Laws. Assumes nothing.
 use Prim.Native.Nat.{ℕ, zero, suc, _+_, _/_, _%_}
 use mathlib.Core.Bool.{cond}

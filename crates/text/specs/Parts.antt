@@ -1,5 +1,5 @@
--- Writing some bytes after others into one buffer, by lending `&mut out[at..]` for each part: "the bytes after the record keep
--- their values" (document 01, "Journal"). The laws are in Parts/Laws. Assumes nothing.
+-- Writing some bytes after others into one buffer, by lending `&mut out[at..]` for each part; the bytes behind the last one
+-- stay (RULES J23, P20). The laws are in Parts/Laws. Assumes nothing.
 use mathlib.Core.Path.{_≡_}
 use Prim.Native.Nat.{ℕ, _≤_}
 use mathlib.Core.List.{List}

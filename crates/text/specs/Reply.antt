@@ -1,11 +1,10 @@
--- The lines of the reply (document 01, "Journal", the paragraph "The program replies ..", and its example). The laws are in
--- Reply/Laws. Assumes nothing.
+-- The lines of the reply. States RULES P4, P9, P12 and P13. The laws are in Reply/Laws. Assumes nothing.
 use Prim.Native.Nat.{ℕ}
 use mathlib.Core.List.{List, [], _∷_, _++_}
 use Rattle.text.specs.Decimal.{decimal}
 pub mod Laws
 
--- the bytes between and after the words of a line
+-- RULES P12, P13: the bytes between and after the fields of a line
 abbrev pub space : ℕ
 space = 32
 
@@ -16,8 +15,7 @@ newline = 10
 abbrev pub field : ℕ → ℕ → List ℕ
 field n mark = decimal n ++ (mark ∷ [])
 
--- "The program replies to each record with its position from 1, code (0 if none was read), A, L or R, and the level or
--- refusal number." The letter is given by its byte: 65, 76 or 82.
+-- RULES P4: position, code, letter and value. The letter is given by its byte: 65, 76 or 82.
 unfoldable pub line : ℕ → ℕ → ℕ → ℕ → List ℕ
 line position code letter value =
     field position space ++ field code space ++ (letter ∷ space ∷ []) ++ field value newline
@@ -26,14 +24,14 @@ line position code letter value =
 abbrev pub end-word : List ℕ
 end-word = 101 ∷ 110 ∷ 100 ∷ space ∷ []
 
--- "The last line is `end`, handles made, handles gone, handles open."
+-- RULES P9: the last line
 unfoldable pub ending : ℕ → ℕ → ℕ → List ℕ
 ending made gone held = end-word ++ field made space ++ field gone space ++ field held newline
 
--- the longest line for a position and a code of 32 bits and a value of 8
+-- RULES P21: the longest line for a position and a code of 32 bits and a value of 8
 abbrev pub longest-line : ℕ
 longest-line = 28
 
--- the longest last line for counts of 64 bits
+-- RULES P21: the longest last line for counts of 64 bits
 abbrev pub longest-end : ℕ
 longest-end = 67

@@ -1,4 +1,4 @@
-// The lines of the reply (document 01, "Journal"), written into a lent slice.
+// The lines of the reply (RULES P4 to P13), written into a lent slice.
 // What stands in them is in specs/Reply.antt, and a number's digits are in specs/Decimal.antt.
 ghost use mathlib.Core.Path.{_≡_};
 ghost use Prim.Native.Nat.{_≤_};

@@ -1,4 +1,4 @@
-// The program on a journal of 65,537 bytes, one too many (document 01, row 14 of "Refused calls").
+// The program on a journal of 65,537 bytes, one too many (RULES R14, P14).
 fn main() {
     serve::program();
 }

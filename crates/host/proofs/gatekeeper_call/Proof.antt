@@ -49,7 +49,9 @@ same-length-2 c = search needs
 
 returns-3 : tie.Need-returns-3
 returns-3 c =
-    let test = c .before .before .before .before .before .before in
+    let c2 = c .before .before in
+    let c6 = c2 .before .before .before .before in
+    let test = c6 in
     let counted = test .before .before .before .before in
     let loaded = counted .before .before .before in
     let long = loaded .before .before .if1 .left in
@@ -59,7 +61,7 @@ returns-3 c =
     let p = made (a .state .now) {c = decode call} (loaded .load-monitor .ensures) (counted .before .load-tally .ensures) (k .ensures .0) (k .ensures .1) in
     let n = test .before .before .to-number .ensures in
     called-moved {r = call} p long (record { number = n .0; back = n .1 })
-    (λ e. test .if2 .left (test .before .letter .ensures ∙ e)) (c .before .before .store .ensures)
+    (λ e. test .if2 .left (test .before .letter .ensures ∙ e)) (c2 .store .ensures)
 
 pub gatekeeper-call-spec : {M : Type 1} → statement M
 gatekeeper-call-spec =

@@ -1,11 +1,10 @@
 -- `host::load_handles` meets its contract. Assumes nothing.
 use mathlib.Core.Path.{refl, ap}
-use Prim.Native.Nat.{_+_, _*_, _-_}
+use Prim.Native.Nat.{ℕ, _+_, _*_, _-_}
 use native.Mathlib.Omega.{arith}
 use lib.ListN.{getD}
-use Rattle.gatekeeper.specs.declared.Way.{Way}
 use borrow.Author.Needs.{needs}
-use Rattle.gatekeeper.specs.View.{no-handle}
+use Rattle.tables.specs.Records.{no-handle}
 use Rattle.host.specs.State.{handle-of, handles-of}
 use Rattle.host.proofs.Loading.{Loaded, loaded-none, loaded-more, loaded-all}
 use Rattle.host.proofs.load_handles.Statement.{statement}
@@ -26,11 +25,11 @@ mul-at c = search needs
 add-at : tie.Need-add-at Inv-loop μ-loop
 add-at c = search needs
 
-shared-slice-read-to-way : tie.Need-shared-slice-read-to-way Inv-loop μ-loop
-shared-slice-read-to-way c = search needs
+shared-slice-read-to-sort : tie.Need-shared-slice-read-to-sort Inv-loop μ-loop
+shared-slice-read-to-sort c = search needs
 
-to-way-requires : tie.Need-to-way-requires Inv-loop μ-loop
-to-way-requires c κs = search needs
+to-sort-requires : tie.Need-to-sort-requires Inv-loop μ-loop
+to-sort-requires c κs = search needs
 
 add-object : tie.Need-add-object Inv-loop μ-loop
 add-object c = search needs
@@ -55,7 +54,7 @@ loop-again c =
     let turn = c .before .before .before in
     let object = getD (turn .before .before .before .args .state .now) (192 + 2 * turn .before .loop .i + 1) 0 in
     loaded-more _ _ (turn .before .loop .inv) (turn .loop-test .taken) refl
-    (ap (λ (k : Way). record { way = k; object = object }) (c .before .to-way .ensures))
+    (ap (λ (k : ℕ). record { way = k; object = object }) (c .before .to-sort .ensures))
 
 returns : tie.Need-returns Inv-loop μ-loop
 unfolding handles-of
@@ -70,8 +69,8 @@ load-handles-spec =
     loop-holds
     mul-at
     add-at
-    shared-slice-read-to-way
-    to-way-requires
+    shared-slice-read-to-sort
+    to-sort-requires
     add-object
     shared-slice-read-object
     mul-r

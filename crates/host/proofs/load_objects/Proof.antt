@@ -1,11 +1,10 @@
 -- `host::load_objects` meets its contract. Assumes nothing.
 use mathlib.Core.Path.{refl, ap}
-use Prim.Native.Nat.{_+_, _*_, _-_}
+use Prim.Native.Nat.{ℕ, _+_, _*_, _-_}
 use native.Mathlib.Omega.{arith}
 use lib.ListN.{getD}
-use Rattle.gatekeeper.specs.declared.Kind.{Kind}
 use borrow.Author.Needs.{needs}
-use Rattle.gatekeeper.specs.View.{no-object}
+use Rattle.tables.specs.Records.{no-object}
 use Rattle.host.specs.State.{object-of, objects-of}
 use Rattle.host.proofs.Loading.{Loaded, loaded-none, loaded-more, loaded-all}
 use Rattle.host.proofs.load_objects.Statement.{statement}
@@ -26,11 +25,11 @@ mul-at c = search needs
 add-at : tie.Need-add-at Inv-loop μ-loop
 add-at c = search needs
 
-shared-slice-read-to-kind : tie.Need-shared-slice-read-to-kind Inv-loop μ-loop
-shared-slice-read-to-kind c = search needs
+shared-slice-read-to-sort : tie.Need-shared-slice-read-to-sort Inv-loop μ-loop
+shared-slice-read-to-sort c = search needs
 
-to-kind-requires : tie.Need-to-kind-requires Inv-loop μ-loop
-to-kind-requires c κs = search needs
+to-sort-requires : tie.Need-to-sort-requires Inv-loop μ-loop
+to-sort-requires c κs = search needs
 
 add-level : tie.Need-add-level Inv-loop μ-loop
 add-level c = search needs
@@ -55,7 +54,7 @@ loop-again c =
     let turn = c .before .before .before in
     let level = getD (turn .before .before .before .args .state .now) (64 + 2 * turn .before .loop .i + 1) 0 in
     loaded-more _ _ (turn .before .loop .inv) (turn .loop-test .taken) refl
-    (ap (λ (k : Kind). record { kind = k; level = level }) (c .before .to-kind .ensures))
+    (ap (λ (k : ℕ). record { kind = k; level = level }) (c .before .to-sort .ensures))
 
 returns : tie.Need-returns Inv-loop μ-loop
 unfolding objects-of
@@ -70,8 +69,8 @@ load-objects-spec =
     loop-holds
     mul-at
     add-at
-    shared-slice-read-to-kind
-    to-kind-requires
+    shared-slice-read-to-sort
+    to-sort-requires
     add-level
     shared-slice-read-level
     mul-r

@@ -1,9 +1,12 @@
 -- `host::store` meets its contract. Assumes nothing.
-use mathlib.Core.Path.{ap, _∙_}
+use mathlib.Core.Path.{sym, ap, ap₂, _∙_}
+use mathlib.Core.List.{List}
+use Prim.Native.Nat.{ℕ}
 use lib.ListN.{length}
 use borrow.Author.Needs.{needs}
-use Rattle.host.specs.State.{monitor-of, tally-of}
-use Rattle.host.specs.State.Laws.{bytes-length, monitor-back, tally-back}
+use Rattle.gatekeeper.specs.View.{view}
+use Rattle.host.specs.State.{monitor-of, tally-of, bytes-of}
+use Rattle.host.specs.State.Laws.{bytes-length, view-back, tally-back, bytes-again}
 use Rattle.host.proofs.Owned.{monitor-long, tally-fits}
 use Rattle.host.proofs.Storing.{laid-whole}
 use Rattle.host.proofs.store.Statement.{statement}
@@ -29,7 +32,8 @@ same-length c = search needs
 
 returns : tie.Need-returns
 returns c =
-    let gone = c .before .before in
+    let c2 = c .before .before in
+    let gone = c2 in
     let made = gone .before .before .before .before in
     let handles = made .before .before .before .before in
     let objects = handles .before .before .before .before in
@@ -38,6 +42,7 @@ returns c =
     let m = start .args .monitor in
     let y = start .args .tally in
     let long = monitor-long m (start .good .1 .0) in
+    let fits = tally-fits y (start .good .1 .1 .0) in
     let is =
     laid-whole m y long (start .args .state .now) (start .pre) _ _ _ _ _
     (subjects .store-subjects .ensures)
@@ -48,8 +53,9 @@ returns c =
     record {
       size = ap length is ∙ bytes-length m y long;
       bytes = is;
-      monitor = ap monitor-of is ∙ monitor-back m y long;
-      tally = ap tally-of is ∙ tally-back m y long (tally-fits y (start .good .1 .1 .0));
+      again = is ∙ bytes-again m y long fits ∙ ap₂ bytes-of (ap monitor-of (sym is)) (ap tally-of (sym is));
+      tables = ap (λ (s : List ℕ). view (monitor-of s)) is ∙ view-back m y long;
+      tally = ap tally-of is ∙ tally-back m y long fits;
     }
 
 pub store-spec : {M : Type 1} → statement M

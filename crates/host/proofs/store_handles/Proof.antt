@@ -4,16 +4,16 @@ use Prim.Native.Nat.{_-_}
 use native.Mathlib.Omega.{arith}
 use lib.ListN.{length, length-set}
 use borrow.Author.Needs.{needs}
-use Rattle.gatekeeper.specs.declared.Handle.{Handle}
-use Rattle.gatekeeper.specs.View.{no-handle}
-use Rattle.host.specs.State.{way-byte, handle-bytes}
+use Rattle.tables.specs.declared.Handle.{Handle}
+use Rattle.tables.specs.Records.{no-handle}
+use Rattle.host.specs.State.{sort-byte, handle-bytes}
 use Rattle.host.proofs.Owned.{unmapped}
 use Rattle.host.proofs.Storing.{Laid, laid-none, laid-long, laid-more, laid-all}
 use Rattle.host.proofs.store_handles.Statement.{statement}
 use Rattle.host.proofs.store_handles.Tie as tie
 
 abbrev Inv-loop : tie.InvT-loop
-Inv-loop state₀ handles i₀ state i = Laid (λ (x : Handle). way-byte (x .way)) (λ (x : Handle). x .object) 192 512 handles state₀ state i
+Inv-loop state₀ handles i₀ state i = Laid (λ (x : Handle). sort-byte (x .way)) (λ (x : Handle). x .object) 192 512 handles state₀ state i
 
 abbrev μ-loop : tie.MeasureT-loop
 μ-loop state₀ handles i₀ state i = 512 - i
@@ -21,7 +21,7 @@ abbrev μ-loop : tie.MeasureT-loop
 loop-holds : tie.Need-loop-holds Inv-loop μ-loop
 loop-holds c =
     let long : length (c .before .args .t2) ≡ 512 = search (needs, unmapped) in
-    laid-none (λ (x : Handle). way-byte (x .way)) (λ (x : Handle). x .object) 192 512 _ _ long (omega (arith, c .before .pre))
+    laid-none (λ (x : Handle). sort-byte (x .way)) (λ (x : Handle). x .object) 192 512 _ _ long (omega (arith, c .before .pre))
 
 mul-x : tie.Need-mul-x Inv-loop μ-loop
 mul-x c = search needs
@@ -38,8 +38,8 @@ add-place c = search needs
 add-next : tie.Need-add-next Inv-loop μ-loop
 add-next c = search needs
 
-from-way-requires : tie.Need-from-way-requires Inv-loop μ-loop
-from-way-requires c κs = search needs
+from-sort-requires : tie.Need-from-sort-requires Inv-loop μ-loop
+from-sort-requires c κs = search needs
 
 slice-write-state : tie.Need-slice-write-state Inv-loop μ-loop
 slice-write-state c = omega (arith, laid-long (c .before .before .before .loop .inv), c .before .before .before .before .before .pre)
@@ -56,7 +56,7 @@ loop-less c = search needs
 loop-again : tie.Need-loop-again Inv-loop μ-loop
 loop-again c =
     let turn = c .before .before in
-    laid-more (turn .before .loop .inv) _ _ _ _ no-handle (turn .loop-test .taken) refl refl (c .from-way .ensures) refl
+    laid-more (turn .before .loop .inv) _ _ _ _ no-handle (turn .loop-test .taken) refl refl (c .from-sort .ensures) refl
 
 same-length : tie.Need-same-length Inv-loop μ-loop
 same-length c = laid-long (c .before .loop .inv)
@@ -77,7 +77,7 @@ store-handles-spec =
     mul-place
     add-place
     add-next
-    from-way-requires
+    from-sort-requires
     slice-write-state
     slice-write-state-2
     add-i

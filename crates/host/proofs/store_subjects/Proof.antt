@@ -4,8 +4,8 @@ use Prim.Native.Nat.{_-_}
 use native.Mathlib.Omega.{arith}
 use lib.ListN.{length, length-set}
 use borrow.Author.Needs.{needs}
-use Rattle.gatekeeper.specs.declared.Subject.{Subject}
-use Rattle.gatekeeper.specs.View.{no-subject}
+use Rattle.tables.specs.declared.Subject.{Subject}
+use Rattle.tables.specs.Records.{no-subject}
 use Rattle.host.specs.State.{live-byte, subject-bytes}
 use Rattle.host.proofs.Owned.{unmapped}
 use Rattle.host.proofs.Storing.{Laid, laid-none, laid-long, laid-more, laid-all}

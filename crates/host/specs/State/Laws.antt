@@ -2,29 +2,29 @@
 -- nothing.
 use mathlib.Core.Path.{_≡_, refl, sym, ap, ap₂, _∙_, fun-ext}
 use mathlib.Core.Bool.{Bool, true, false, cond}
-use mathlib.Core.Option.{Option, none}
-use mathlib.Core.List.{List, [], _∷_, _++_, append-nil, append-assoc}
-use Prim.Native.Nat.{ℕ, zero, suc, _+_, _*_, _/_, _^_, _<_}
+use mathlib.Core.Option.{Option, none, some}
+use mathlib.Core.List.{List, [], _∷_, _++_, map, append-nil, append-assoc}
+use Prim.Native.Nat.{ℕ, zero, suc, _+_, _*_, _/_, _^_, _≤_, _<_}
 use native.Mathlib.Omega.{arith}
-use native.Mathlib.Decide.{decLt}
-use lib.Dec.{ltb}
-use lib.ListN.{length, take, drop, getD, replicate, length-append, length-replicate, getD-replicate, List·getD-eq-default}
+use borrow.Author.Tests.{le-ltb, ne-eqb}
+use lib.Dec.{ltb, eqb}
+use lib.ListN.{length, take, drop, getD, replicate, length-append, length-replicate, List·getD-map}
 use lib.Seq.{take-at, drop-at, drop-drop}
 use Rattle.model.specs.Flow.{Thing, subject, object}
-use Rattle.model.specs.Tables.{Entry, empty, places}
+use Rattle.model.specs.Label.{label}
+use Rattle.model.specs.Tables.{running, Entry, entry, empty, places}
 use Rattle.model.specs.Tally.{zeroed}
 use Rattle.model.specs.Tables.{Handle as Held}
-use Rattle.gatekeeper.specs.declared.Kind.{Kind}
-use Rattle.gatekeeper.specs.declared.Kind.the-variants.{Free, File, Pipe}
-use Rattle.gatekeeper.specs.declared.Way.{Way}
-use Rattle.gatekeeper.specs.declared.Way.the-variants.{Empty, Reads, Writes}
-use Rattle.gatekeeper.specs.declared.Subject.{Subject}
-use Rattle.gatekeeper.specs.declared.Object.{Object}
-use Rattle.gatekeeper.specs.declared.Handle.{Handle}
+use Rattle.tables.specs.declared.Subject.{Subject}
+use Rattle.tables.specs.declared.Object.{Object}
+use Rattle.tables.specs.declared.Handle.{Handle}
 use Rattle.gatekeeper.specs.declared.Monitor.{Monitor}
-use Rattle.gatekeeper.specs.declared.Tally.{Tally}
-use Rattle.gatekeeper.specs.View.{view, counts-of, subject-entry, object-entry, held, no-subject, no-object, no-handle, entries}
-use Rattle.host.specs.State.{state-bytes, pairs, flat, subject-of, object-of, handle-of, live-byte, kind-byte, way-byte, whole, digits}
+use Rattle.tally.specs.declared.Tally.{Tally}
+use Rattle.tables.specs.Records.{subject-entry, object-entry, held, no-subject, no-object, no-handle, entries, tables-of}
+use Rattle.tables.specs.Records.Laws.{empty-tables}
+use Rattle.gatekeeper.specs.View.{view}
+use Rattle.tally.specs.Counting.{counts-of}
+use Rattle.host.specs.State.{state-bytes, pairs, flat, subject-of, object-of, handle-of, live-of, sort-of, live-byte, sort-byte, whole, digits}
 use Rattle.host.specs.State.{subjects-of, objects-of, handles-of, made-of, gone-of, monitor-of, tally-of}
 use Rattle.host.specs.State.{subject-bytes, object-bytes, handle-bytes, bytes-of, state-view, Blank}
 
@@ -40,11 +40,17 @@ module _ {A : Type 0} (f g : A → ℕ) where
   flat-append [] k = refl
   flat-append (x ∷ l) k = ap (λ (t : List ℕ). f x ∷ g x ∷ t) (flat-append l k)
 
-  -- what was stored is loaded
-  pub pairs-flat : (h : ℕ → ℕ → A) → ((x : A) → h (f x) (g x) ≡ x) → (l : List A) → pairs h (flat f g l) ≡ l
+  -- what was stored is loaded, as a record with the bytes that it is stored as
+  pub pairs-flat : (h : ℕ → ℕ → A) (l : List A) → pairs h (flat f g l) ≡ map (λ x. h (f x) (g x)) l
   unfolding pairs flat
-  pairs-flat h e [] = refl
-  pairs-flat h e (x ∷ l) = ap₂ (λ (y : A) (t : List A). y ∷ t) (e x) (pairs-flat h e l)
+  pairs-flat h [] = refl
+  pairs-flat h (x ∷ l) = ap (λ (t : List A). h (f x) (g x) ∷ t) (pairs-flat h l)
+
+  -- such a record is stored as the same bytes
+  pub flat-map : (k : A → A) → ((x : A) → f (k x) ≡ f x) → ((x : A) → g (k x) ≡ g x) → (l : List A) → flat f g (map k l) ≡ flat f g l
+  unfolding flat
+  flat-map k a b [] = refl
+  flat-map k a b (x ∷ l) = λ i. a x i ∷ b x i ∷ flat-map k a b l i
 
 module _ {A : Type 0} (f : ℕ → ℕ → A) where
   pub length-pairs : (n : ℕ) (l : List ℕ) → length l ≡ 2 * n → length (pairs f l) ≡ n
@@ -71,11 +77,11 @@ subject-bytes-length l = length-flat (λ (x : Subject). live-byte (x .live)) (λ
 
 pub object-bytes-length : (l : List Object) → length (object-bytes l) ≡ 2 * length l
 unfolding object-bytes
-object-bytes-length l = length-flat (λ (x : Object). kind-byte (x .kind)) (λ (x : Object). x .level) l
+object-bytes-length l = length-flat (λ (x : Object). sort-byte (x .kind)) (λ (x : Object). x .level) l
 
 pub handle-bytes-length : (l : List Handle) → length (handle-bytes l) ≡ 2 * length l
 unfolding handle-bytes
-handle-bytes-length l = length-flat (λ (x : Handle). way-byte (x .way)) (λ (x : Handle). x .object) l
+handle-bytes-length l = length-flat (λ (x : Handle). sort-byte (x .way)) (λ (x : Handle). x .object) l
 
 -- ── numbers ──
 pub length-digits : (k n : ℕ) → length (digits k n) ≡ k
@@ -100,28 +106,66 @@ pub record Fits (y : Tally) : Type 0 where
   pub made : y .made < 2 ^ 64
   pub gone : y .gone < 2 ^ 64
 
-subject-back : (x : Subject) → subject-of (live-byte (x .live)) (x .level) ≡ x
-subject-back x = go (x .live) (x .level)
-  where
-    go : (b : Bool) (l : ℕ) → _≡_ {A = Subject} (subject-of (live-byte b) l) (record { live = b; level = l })
-    go true l = refl
-    go false l = refl
+-- ── records as they are stored ──
+abbrev plain-subject : Subject → Subject
+plain-subject x = subject-of (live-byte (x .live)) (x .level)
 
-object-back : (x : Object) → object-of (kind-byte (x .kind)) (x .level) ≡ x
-object-back x = go (x .kind) (x .level)
-  where
-    go : (k : Kind) (l : ℕ) → _≡_ {A = Object} (object-of (kind-byte k) l) (record { kind = k; level = l })
-    go Free l = refl
-    go File l = refl
-    go Pipe l = refl
+abbrev plain-object : Object → Object
+plain-object x = object-of (sort-byte (x .kind)) (x .level)
 
-handle-back : (x : Handle) → handle-of (way-byte (x .way)) (x .object) ≡ x
-handle-back x = go (x .way) (x .object)
+abbrev plain-handle : Handle → Handle
+plain-handle x = handle-of (sort-byte (x .way)) (x .object)
+
+live-same : (n : ℕ) → live-byte (live-of (live-byte n)) ≡ live-byte n
+live-same n = go (eqb n 0)
   where
-    go : (w : Way) (o : ℕ) → _≡_ {A = Handle} (handle-of (way-byte w) o) (record { way = w; object = o })
-    go Empty o = refl
-    go Reads o = refl
-    go Writes o = refl
+    go : (b : Bool) → live-byte (live-of (cond b 0 1)) ≡ cond b 0 1
+    go true = refl
+    go false = refl
+
+sort-cases : {A : Type 0} (f g : ℕ → A) → f 0 ≡ g 0 → f 1 ≡ g 1 → ((n : ℕ) → 2 ≤ n → f n ≡ g n) → (n : ℕ) → f n ≡ g n
+sort-cases f g a b c zero = a
+sort-cases f g a b c (suc zero) = b
+sort-cases f g a b c (suc (suc n)) = c (suc (suc n)) (omega arith)
+
+sort-same : (n : ℕ) → sort-byte (sort-of (sort-byte n)) ≡ sort-byte n
+sort-same = sort-cases (λ n. sort-byte (sort-of (sort-byte n))) sort-byte refl refl (λ n h. rw (le-ltb n 2 h))
+
+subject-same : (x : Subject) → subject-entry (plain-subject x) ≡ subject-entry x
+subject-same x = go (eqb (x .live) 0)
+  where
+    go : (b : Bool) → subject-entry (subject-of (cond b 0 1) (x .level)) ≡ cond b none (some (entry running (label (x .level))))
+    go true = refl
+    go false = refl
+
+object-same : (x : Object) → object-entry (plain-object x) ≡ object-entry x
+object-same x = sort-cases (λ k. object-entry (object-of (sort-byte k) (x .level))) (λ k. object-entry (record { kind = k; level = x .level })) refl refl
+    (λ n h. rw (le-ltb n 2 h, ne-eqb n 0 (λ e. omega arith), ne-eqb n 1 (λ e. omega arith))) (x .kind)
+
+handle-same : (x : Handle) → held (plain-handle x) ≡ held x
+handle-same x = sort-cases (λ k. held (handle-of (sort-byte k) (x .object))) (λ k. held (record { way = k; object = x .object })) refl refl
+    (λ n h. rw (le-ltb n 2 h, ne-eqb n 0 (λ e. omega arith), ne-eqb n 1 (λ e. omega arith))) (x .way)
+
+abbrev plain : Monitor → Monitor
+plain m = record { subjects = map plain-subject (m .subjects); objects = map plain-object (m .objects); handles = map plain-handle (m .handles) }
+
+plain-view : (m : Monitor) → view (plain m) ≡ view m
+unfolding tables-of
+plain-view m = ap₂ (λ (a : Thing → Option Entry) (h : ℕ → ℕ → Option Held). record { at = a; hand = h }) (fun-ext at)
+    (fun-ext (λ s. fun-ext (λ p. ap (λ (v : Option Held). cond (ltb p places) v none)
+    (ap held (List·getD-map plain-handle (m .handles) (s * 16 + p) no-handle) ∙ handle-same (getD (m .handles) (s * 16 + p) no-handle)))))
+  where
+    at : (x : Thing) → entries (map plain-subject (m .subjects)) (map plain-object (m .objects)) x ≡ entries (m .subjects) (m .objects) x
+    at (subject n) = ap subject-entry (List·getD-map plain-subject (m .subjects) n no-subject) ∙ subject-same (getD (m .subjects) n no-subject)
+    at (object n) = ap object-entry (List·getD-map plain-object (m .objects) n no-object) ∙ object-same (getD (m .objects) n no-object)
+
+plain-bytes : (m : Monitor) (y : Tally) → bytes-of (plain m) y ≡ bytes-of m y
+unfolding bytes-of subject-bytes object-bytes handle-bytes
+plain-bytes m y = λ i. flat-map (λ (x : Subject). live-byte (x .live)) (λ (x : Subject). x .level) plain-subject (λ x. live-same (x .live))
+    (λ x. refl) (m .subjects) i
+    ++ flat-map (λ (x : Object). sort-byte (x .kind)) (λ (x : Object). x .level) plain-object (λ x. sort-same (x .kind)) (λ x. refl) (m .objects) i
+    ++ flat-map (λ (x : Handle). sort-byte (x .way)) (λ (x : Handle). x .object) plain-handle (λ x. sort-same (x .way)) (λ x. refl)
+    (m .handles) i ++ digits 8 (y .made) ++ digits 8 (y .gone)
 
 -- p stands at index n, and t after it
 module _ (n m : ℕ) (s p t : List ℕ) (e : drop n s ≡ p ++ t) (h : length p ≡ m) where
@@ -182,24 +226,27 @@ module _ (m : Monitor) (y : Tally) (long : Long m) where
     length-digits 8 (y .gone),
   )
 
-  subjects-back : subjects-of s ≡ m .subjects
+  subjects-back : subjects-of s ≡ map plain-subject (m .subjects)
   unfolding subjects-of subject-bytes
   subjects-back = ap (pairs subject-of) (front 0 64 s (subject-bytes (m .subjects)) (object-bytes (m .objects) ++ after-objects) from-0 subjects-count)
-      ∙ pairs-flat _ _ subject-of subject-back (m .subjects)
+      ∙ pairs-flat _ _ subject-of (m .subjects)
 
-  objects-back : objects-of s ≡ m .objects
+  objects-back : objects-of s ≡ map plain-object (m .objects)
   unfolding objects-of object-bytes
   objects-back = ap (pairs object-of) (front 64 128 s (object-bytes (m .objects)) after-objects from-64 objects-count)
-      ∙ pairs-flat _ _ object-of object-back (m .objects)
+      ∙ pairs-flat _ _ object-of (m .objects)
 
-  handles-back : handles-of s ≡ m .handles
+  handles-back : handles-of s ≡ map plain-handle (m .handles)
   unfolding handles-of handle-bytes
   handles-back = ap (pairs handle-of) (front 192 1024 s (handle-bytes (m .handles)) numbers from-192 handles-count)
-      ∙ pairs-flat _ _ handle-of handle-back (m .handles)
+      ∙ pairs-flat _ _ handle-of (m .handles)
 
-  -- a monitor's bytes are its own
-  pub monitor-back : monitor-of (bytes-of m y) ≡ m
+  monitor-back : monitor-of (bytes-of m y) ≡ plain m
   monitor-back = λ i. record { subjects = subjects-back i; objects = objects-back i; handles = handles-back i }
+
+  -- a monitor's bytes stand for its tables
+  pub view-back : view (monitor-of (bytes-of m y)) ≡ view m
+  view-back = ap view monitor-back ∙ plain-view m
 
   made-back : y .made < 2 ^ 64 → made-of s ≡ y .made
   unfolding made-of
@@ -215,6 +262,10 @@ module _ (m : Monitor) (y : Tally) (long : Long m) where
   -- and a tally's too
   pub tally-back : Fits y → tally-of (bytes-of m y) ≡ y
   tally-back h = ap₂ (λ (a b : ℕ). record { made = a; gone = b }) (made-back (h .made)) (gone-back (h .gone))
+
+  -- and are those of what is read back
+  pub bytes-again : Fits y → bytes-of m y ≡ bytes-of (monitor-of (bytes-of m y)) (tally-of (bytes-of m y))
+  bytes-again h = sym (ap₂ bytes-of monitor-back (tally-back h) ∙ plain-bytes m y)
 
 -- ── the empty state ──
 module _ (s : List ℕ) (z : s ≡ replicate state-bytes 0) where
@@ -232,25 +283,7 @@ module _ (s : List ℕ) (z : s ≡ replicate state-bytes 0) where
 
   -- no number is in use
   zeros-view : state-view s ≡ empty
-  unfolding view
-  zeros-view = ap₂ (λ (a : Thing → Option Entry) (h : ℕ → ℕ → Option Held). record { at = a; hand = h }) (fun-ext at) (
-      fun-ext (λ q. fun-ext (λ p. hand q p (ltb p places)))
-      )
-    where
-      any : {A : Type 0} (n i : ℕ) (a : A) → getD (replicate n a) i a ≡ a
-      any n i a = go (decLt i n)
-        where
-          go : Dec (i < n) → getD (replicate n a) i a ≡ a
-          go (yes l) = getD-replicate n i a a l
-          go (no h) = List·getD-eq-default (replicate n a) a {n = i} (omega (arith, length-replicate n a))
-
-      at : (x : Thing) → entries (subjects-of s) (objects-of s) x ≡ none
-      at (subject n) = ap (λ (l : List Subject). subject-entry (getD l n no-subject)) no-subjects ∙ ap subject-entry (any 32 n no-subject)
-      at (object n) = ap (λ (l : List Object). object-entry (getD l n no-object)) no-objects ∙ ap object-entry (any 64 n no-object)
-
-      hand : (q p : ℕ) (b : Bool) → cond b (held (getD (handles-of s) (q * 16 + p) no-handle)) none ≡ none
-      hand q p true = ap (λ (l : List Handle). held (getD l (q * 16 + p) no-handle)) no-handles ∙ ap held (any 512 (q * 16 + p) no-handle)
-      hand q p false = refl
+  zeros-view = (λ i. tables-of (no-subjects i) (no-objects i) (no-handles i)) ∙ empty-tables
 
   -- no handle was made, none is gone
   zeros-tally : counts-of (tally-of s) ≡ zeroed

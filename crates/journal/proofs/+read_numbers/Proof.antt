@@ -117,7 +117,8 @@ read-numbers-read-numbers-requires : (t : ℕ) → read-numbers-lts.Need-read-nu
   read-numbers-below t,
   read-numbers.Post,
 ) (read-numbers-at t) read-numbers.Post
-read-numbers-read-numbers-requires t c κs = (omega (arith, c .before .before .before .before .before .if1 .left, c .before .before .before .before .before .before .before .pre .0), tt)
+read-numbers-read-numbers-requires t c κs =
+    (omega (arith, c .before .before .before .before .before .if1 .left, c .before .before .before .before .before .before .before .pre .0), tt)
 
 read-numbers-enum-known-rest : (t : ℕ) → read-numbers-lts.Need-enum-known-rest (
   read-number-reads.Asked,

@@ -133,7 +133,8 @@ module _ {M : Type 1} (𝓤 : URA M) (H : Heap 𝓤) (A : Atoms 𝓤) (W : Given
         (from ! (stop !)) (init ! 0 refl (tt, (shr-slice-lawful 𝓤 H A W (named 0) κ u8 .typed s (v ∷ []) p .0 .1, (record { fits = ok }, tt)))) $
         move ! (8 ∷ []) $ use1 W (raw (Next 𝓤 H A mem run .pre to-next) ⊛ ‵ Own) apart $ split ! $
         calls-at ! fm (Next 𝓤 H A mem run) known to-next (and-then ! (load ! (from ! (stop !)) (look ! 2 refl)) (no-more !)) (λ w.
-        use1 W (later (some (λ (t : Entry). ((‵ (flft κ q) ⊛ ‵ ftrue) ⊛ ‵ (S.the-row .own t (w ∷ []))) ⊛ raw (ensured 𝓤 H A next.ended (next.clauses 𝓤 H A mem run) (κ, tt) (r, tt) tt t)))) (id⊢ 𝓤 _) $ await ! tt $ pick ! (λ t.
+        use1 W (later (some (λ (t : Entry). ((‵ (flft κ q) ⊛ ‵ ftrue) ⊛ ‵ (S.the-row .own t (w ∷ []))) ⊛ raw
+        (ensured 𝓤 H A next.ended (next.clauses 𝓤 H A mem run) (κ, tt) (r, tt) tt t)))) (id⊢ 𝓤 _) $ await ! tt $ pick ! (λ t.
         split ! $ move ! (1 ∷ []) $ use1 W (raw (fact 𝓤 (entry-answer t ≡ found))) (next-said t) $ heard ! (entry-answer t ≡ found) (λ e. split ! $
         move ! (1 ∷ []) $
         -- [the result; the token; what s owns; _3; …; _2; …; _1; …; room for _0; …]

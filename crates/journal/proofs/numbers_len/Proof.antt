@@ -58,9 +58,12 @@ loop-less c = search needs
 
 loop-again : tie.Need-loop-again Inv-loop μ-loop
 loop-again c =
-    let a = c .before .before .before .before .before .args .numbers .now in
-    let i = c .before .before .before .loop .i in
-    let more = encodes-suc a i (c .before .before .loop-test .taken) in
+    let c2 = c .before .before in
+    let c3 = c2 .before in
+    let c5 = c3 .before .before in
+    let a = c5 .args .numbers .now in
+    let i = c3 .loop .i in
+    let more = encodes-suc a i (c2 .loop-test .taken) in
     let next = ap length more ∙ length-append (encodes (take i a)) (encode (getD a i 0)) in
     (omega arith, omega (arith, next, c .number-len .ensures), omega (arith, bytes c, c .number-len .ensures))
 

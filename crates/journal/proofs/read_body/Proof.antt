@@ -62,9 +62,13 @@ enum-told-2 c = search needs
 
 returns-2 : tie.Need-returns-2
 returns-2 c =
-    let code = first (c .before .before .before .before .before .before .before .before) in
-    let all = ap args-answer (sym (c .before .numbers .given .1)) ∙ c .before .before .before .read-numbers .ensures in
-    body-known _ _ _ code _ (c .before .before .before .before .before .before .arity .ensures) (c .before .before .before .before .before .if1 .left) (some (numbers-of (c .before .numbers .given .0 .0))) all
+    let c3 = c .before .before .before in
+    let c5 = c3 .before .before in
+    let c6 = c5 .before in
+    let c8 = c6 .before .before in
+    let code = first (c8) in
+    let all = ap args-answer (sym (c .before .numbers .given .1)) ∙ c3 .read-numbers .ensures in
+    body-known _ _ _ code _ (c6 .arity .ensures) (c5 .if1 .left) (some (numbers-of (c .before .numbers .given .0 .0))) all
 
 returns-3 : tie.Need-returns-3
 returns-3 c =

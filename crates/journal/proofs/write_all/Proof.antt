@@ -21,8 +21,11 @@ same-length c = search needs
 
 returns-2 : tie.Need-returns-2
 returns-2 c =
-    let w = c .before .before .write-numbers in
-    (ap answers (w .ensures .0) ∙ all-fit _ _ (omega (arith, c .before .before .before .before .before .numbers-len .ensures, c .before .before .before .before .if1 .left)), w .ensures .1)
+    let w = c .before .before .write-numbers in (
+      ap answers (w .ensures .0) ∙ all-fit _ _
+          (omega (arith, c .before .before .before .before .before .numbers-len .ensures, c .before .before .before .before .if1 .left)),
+      w .ensures .1,
+    )
 
 pub write-all-spec : {M : Type 1} → statement M
 write-all-spec =

@@ -91,15 +91,20 @@ same-length c = search needs
 
 returns-2 : tie.Need-returns-2
 returns-2 c =
-    let start = c .before .before .before .before .before .before .before .before .before .before .before in
+    let c2 = c .before .before in
+    let c5 = c2 .before .before .before in
+    let c8 = c5 .before .before .before in
+    let c9 = c8 .before in
+    let c11 = c9 .before .before in
+    let start = c11 in
     let code = start .args .call .code in
     let ns = numbers-of (start .args .call .numbers) in
     let out = start .args .out .now in
-    let arity = c .before .before .before .before .before .before .before .before .before .arity .ensures in
-    let len = c .before .before .before .before .before .numbers-len in
-    let w = c .before .before .write-all in
+    let arity = c9 .arity .ensures in
+    let len = c5 .numbers-len in
+    let w = c2 .write-all in
     let is = record-is code ns _ arity (len .result) (len .ensures .0) in
-    let (answer, buffer) = record-fitted code ns _ arity _ out (c .before .before .before .before .before .before .before .before .if1 .left) is in
+    let (answer, buffer) = record-fitted code ns _ arity _ out (c8 .if1 .left) is in
     let answered = w .ensures .0 ∙ answer in
     let short = recording-length code ns out (numbers start) in
     (answered, (w .ensures .1 ∙ buffer, subst (λ (r : Answer ℕ). length-in r ≤ longest-record) (sym answered) short))

@@ -115,7 +115,8 @@ body-back code ns k l enough are =
     let count : length numbers ≡ arity-of code = length-take-le (arity-of code) ns enough in
     let back = sym (ap (λ (j : ℕ). numbers-in j (encodes numbers)) count) ∙ numbers-back numbers (at-most-take largest (arity-of code) ns are) in
     ap (λ (r : Reading). coded r (encode code ++ encodes numbers)) (number-encode largest code (encodes numbers) l)
-    ∙ ap (λ (t : List ℕ). said code (cond (known code) (call-with (arguments-in (arity-of code) t)) (refused 1))) (drop-append-seam (encode code) (encodes numbers))
+    ∙ ap (λ (t : List ℕ). said code (cond (known code) (call-with (arguments-in (arity-of code) t)) (refused 1)))
+    (drop-append-seam (encode code) (encodes numbers))
     ∙ ap (λ (t : Bool). said code (cond t (call-with (arguments-in (arity-of code) (encodes numbers))) (refused 1))) k
     ∙ ap (λ (o : Option (List ℕ)). said code (call-with (Option·map (filled most-numbers) o))) back
 

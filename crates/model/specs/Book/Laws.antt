@@ -27,7 +27,14 @@ use Rattle.model.specs.Book.{Contents, Book, blank-book, Handling, Outsi
 turn-tables : (h : Handling) (out : Outside) (i : ℕ) (b : Book) (c : Call) → turn h out i b c .tables ≡ next (b .tables) c
 turn-tables h out i b c = go (refusal (b .tables) c)
   where
-    go : (o : Option ℕ) → (elim o as (λ _. Book) [ none ↦ record { tables = effect (b .tables) c; content = carries h i (out i) (steps (b .tables) c) (b .content) } | some n ↦ b ]) .tables
+    go : (o : Option ℕ) → (elim o as (λ _. Book) [
+      | none ↦ record {
+        tables = effect (b .tables) c;
+        content = carries h i (out i)
+            (steps (b .tables) c) (b .content);
+      }
+      | some n ↦ b
+    ]) .tables
         ≡ elim o as (λ _. Tables) [ none ↦ effect (b .tables) c | some n ↦ b .tables ]
     go none = refl
     go (some n) = refl
@@ -41,7 +48,8 @@ book-tables h out rs = tables-from h out 0 blank-book rs
 
 from-answers : (h : Handling) (out : Outside) (i : ℕ) (b : Book) (rs : List Raw) → answers-from h out i b rs ≡ answers (b .tables) rs
 from-answers h out i b [] = refl
-from-answers h out i b (r ∷ rs) = ap {B = List Answer} (λ l. answer (b .tables) (decode r) ∷ l) (from-answers h out (suc i) (turn h out i b (decode r)) rs ∙ ap (λ (t : Tables). answers t rs) (turn-tables h out i b (decode r)))
+from-answers h out i b (r ∷ rs) = ap {B = List Answer} (λ l. answer (b .tables) (decode r) ∷ l)
+    (from-answers h out (suc i) (turn h out i b (decode r)) rs ∙ ap (λ (t : Tables). answers t rs) (turn-tables h out i b (decode r)))
 
 pub book-answered : (h : Handling) (out : Outside) (rs : List Raw) → book-answers h out rs ≡ answers empty rs
 book-answered h out rs = from-answers h out 0 blank-book rs
@@ -79,16 +87,25 @@ store-agree ℓ t c d x n v w a h y e q l = go (same x y) q
 
 module _ (ℓ : Label) (h : Handling) (i o₁ o₂ : ℕ) where
   step-agree : (t : Tables) (c d : Contents) (k : Step) → Guard ℓ o₁ o₂ t k → Agree ℓ t c d → Agree ℓ (apply k t) (carry h i o₁ k c) (carry h i o₂ k d)
-  step-agree t c d (enter x e outside) g a = record { same-at = store-agree ℓ t c d x (some e) o₁ o₂ a (λ f q l. g (subst (λ (z : Entry). ℓ ⊑ z .label) (sym (Option·some-injective e f q)) l)) }
+  step-agree t c d (enter x e outside) g a = record {
+    same-at = store-agree ℓ t c d x (some e) o₁ o₂ a
+        (λ f q l. g (subst (λ (z : Entry). ℓ ⊑ z .label) (sym (Option·some-injective e f q)) l));
+  }
   step-agree t c d (enter x e blank) g a = record { same-at = store-agree ℓ t c d x (some e) 0 0 a (λ f q l. refl) }
   step-agree t c d (enter x e (copied y)) g a = record {
     same-at = store-agree ℓ t c d x (some e) (c y) (d y) a
         (λ f q l. a .same-at y (g .0) (g .1) (⊑-trans (subst (λ (z : Entry). ℓ ⊑ z .label) (sym (Option·some-injective e f q)) l) (g .2)));
   }
-  step-agree t c d (leave x) g a = record { same-at = λ y e q l. elim (put-cases (t .at) x none y (some e) q) [ inl p ↦ absurd (Option·none-ne-some e (p .1)) | inr p ↦ a .same-at y e (p .1) l ] }
+  step-agree t c d (leave x) g a = record {
+    same-at = λ y e q l. elim
+        (put-cases (t .at) x none y (some e) q) [ inl p ↦ absurd (Option·none-ne-some e (p .1)) | inr p ↦ a .same-at y e (p .1) l ];
+  }
   step-agree t c d (hold s p v) g a = record { same-at = a .same-at }
   step-agree t c d (holds s r) g a = record { same-at = a .same-at }
-  step-agree t c d (mix m n o y x) g a = record { same-at = store-agree ℓ t c d y (fall y (t .at y) (t .at x)) (h i m n o (c y) (c x)) (h i m n o (d y) (d x)) a equal }
+  step-agree t c d (mix m n o y x) g a = record {
+    same-at = store-agree ℓ t c d y (fall y (t .at y) (t .at x)) (h i m n o (c y) (c x))
+        (h i m n o (d y) (d x)) a equal;
+  }
     where
       w : Feeds t (g .0) y x
       w = g .2
@@ -99,7 +116,8 @@ module _ (ℓ : Label) (h : Handling) (i o₁ o₂ : ℕ) where
           let fed : c x ≡ d x = a .same-at x (w .source) (w .source-is) (⊑-trans l (f .under-source (⊑-trans (g .1 .low y) (w .under)))) in
           ap₂ (λ u v. h i m n o u v) own fed
 
-  steps-agree : (t : Tables) (c d : Contents) (ks : List Step) → Guards ℓ o₁ o₂ t ks → Agree ℓ t c d → Agree ℓ (applies ks t) (carries h i o₁ ks c) (carries h i o₂ ks d)
+  steps-agree : (t : Tables) (c d : Contents) (ks : List Step) → Guards ℓ o₁ o₂ t ks → Agree ℓ t c d → Agree ℓ (applies ks t)
+      (carries h i o₁ ks c) (carries h i o₂ ks d)
   steps-agree t c d [] g a = a
   steps-agree t c d (k ∷ ks) g a = steps-agree (apply k t) (carry h i o₁ k c) (carry h i o₂ k d) ks (g .1) (step-agree t c d k (g .0) a)
 
@@ -116,22 +134,37 @@ unfolding sheds
 sheds-guards ℓ o₁ o₂ t s = tt
 
 module _ (ℓ : Label) (o₁ o₂ : ℕ) (t : Tables) (v : Kept t) where
-  guarded : (k : Call) → ((l : Label) → brought-by (steps t k) ≡ some l → ℓ ⊑ l → o₁ ≡ o₂) → ((e : Test) → In e (tests k) → T (not (broken t e))) → Guards ℓ o₁ o₂ t (steps t k)
+  guarded : (k : Call) → ((l : Label) → brought-by (steps t k) ≡ some l → ℓ ⊑ l → o₁ ≡ o₂) →
+      ((e : Test) → In e (tests k) → T (not (broken t e))) → Guards ℓ o₁ o₂ t (steps t k)
   guarded (admit s n) b m = (b _ refl, tt)
   guarded (register o n) b m = (b _ refl, tt)
   guarded (create s o) b m = (tt, tt)
   guarded (make-pipe s o r w) b m = (tt, (tt, (tt, tt)))
   guarded (opens d s o p) b m = (tt, tt)
-  guarded (access d s p) b m = (go d (let r = is-facing t d s p (m (taken s p) (inr (inl refl))) (m (facing d s p) (inr (inr (inl refl)))) in access-feeds t (needs t) (v .wf) pot d s p (r .0) (r .1) (r .2)), tt)
+  guarded (access d s p) b m = (
+    go d (let r = is-facing t d s p (m (taken s p) (inr (inl refl)))
+        (m (facing d s p) (inr (inr (inl refl)))) in access-feeds t (needs t) (v .wf) pot d s p (r .0) (r .1) (r .2)),
+    tt,
+  )
     where
       pot : Pot t (needs t)
       pot = needs-pot (v .wf) (v .safe)
 
-      go : (d : Dir) → Feeds t (needs t) (arc d (cell t s) (target (t .hand s p)) .dst) (arc d (cell t s) (target (t .hand s p)) .src) → Guard ℓ o₁ o₂ t (moves d (subject s) (cell t s) (target (t .hand s p)))
+      go : (d : Dir) → Feeds t (needs t) (arc d (cell t s) (target (t .hand s p)) .dst) (arc d (cell t s) (target (t .hand s p)) .src)
+          → Guard ℓ o₁ o₂ t (moves d (subject s) (cell t s) (target (t .hand s p)))
       go reading f = (needs t, pot, f)
       go writing f = (needs t, pot, f)
-  guarded (fork s c) b m = let r = cell-entry t s (is-alive t s (m (alive s) (inl refl))) in ((r .0, r .1, subst (λ (o : Option Entry). label-of o ⊑ r .0 .label) (sym (r .1)) ⊑-refl), (tt, tt))
-  guarded (exec s o) b m = guards-append ℓ o₁ o₂ (sheds t s) _ t (sheds-guards ℓ o₁ o₂ t s) ((needs u, needs-pot (less-wf l (v .wf)) safe, exec-feeds t s o (m (present o) (inr (inl refl))) (m (suits s o) (inr (inr (inr (inl refl)))))), tt)
+  guarded (fork s c) b m = let r = cell-entry t s (is-alive t s (m (alive s) (inl refl))) in
+      ((r .0, r .1, subst (λ (o : Option Entry). label-of o ⊑ r .0 .label) (sym (r .1)) ⊑-refl), (tt, tt))
+  guarded (exec s o) b m = guards-append ℓ o₁ o₂ (sheds t s) _ t (sheds-guards ℓ o₁ o₂ t s) (
+    (
+      needs u,
+      needs-pot (less-wf l (v .wf)) safe,
+      exec-feeds t s o (m (present o) (inr (inl refl)))
+          (m (suits s o) (inr (inr (inr (inl refl))))),
+    ),
+    tt,
+  )
     where
       u : Tables
       u = applies (sheds t s) t
@@ -153,22 +186,27 @@ opened t c = record { tables = t; content = c }
 abbrev content-next : Handling → Outside → ℕ → Tables → Contents → Call → Contents
 content-next h out i t c k = elim (refusal t k) as (λ _. Contents) [ none ↦ carries h i (out i) (steps t k) c | some n ↦ c ]
 
-turn-is : (h : Handling) (out : Outside) (i : ℕ) (t : Tables) (c : Contents) (k : Call) → turn h out i (opened t c) k ≡ opened (next t k) (content-next h out i t c k)
+turn-is : (h : Handling) (out : Outside) (i : ℕ) (t : Tables) (c : Contents) (k : Call) → turn h out i (opened t c) k ≡ opened (next t k)
+    (content-next h out i t c k)
 turn-is h out i t c k = go (refusal t k)
   where
     go : (o : Option ℕ) → (elim o as (λ _. Book) [ none ↦ opened (effect t k) (carries h i (out i) (steps t k) c) | some n ↦ opened t c ])
-        ≡ opened (elim o as (λ _. Tables) [ none ↦ effect t k | some n ↦ t ]) (elim o as (λ _. Contents) [ none ↦ carries h i (out i) (steps t k) c | some n ↦ c ])
+        ≡ opened (elim o as (λ _. Tables) [ none ↦ effect t k | some n ↦ t ])
+        (elim o as (λ _. Contents) [ none ↦ carries h i (out i) (steps t k) c | some n ↦ c ])
     go none = refl
     go (some n) = refl
 
 module _ (ℓ : Label) (h : Handling) (p q : Outside) where
-  next-agree : (i : ℕ) (t : Tables) (c d : Contents) (k : Call) → Kept t → ((l : Label) → brought t k ≡ some l → ℓ ⊑ l → p i ≡ q i) → Agree ℓ t c d → Agree ℓ (next t k) (content-next h p i t c k) (content-next h q i t d k)
+  next-agree : (i : ℕ) (t : Tables) (c d : Contents) (k : Call) → Kept t → ((l : Label) → brought t k ≡ some l → ℓ ⊑ l → p i ≡ q i)
+      → Agree ℓ t c d → Agree ℓ (next t k) (content-next h p i t c k) (content-next h q i t d k)
   unfolding effect
   next-agree i t c d k v b a = go (refusal t k) refl
     where
       go : (o : Option ℕ) → refusal t k ≡ o → Agree ℓ (elim o as (λ _. Tables) [ none ↦ effect t k | some n ↦ t ])
-          (elim o as (λ _. Contents) [ none ↦ carries h i (p i) (steps t k) c | some n ↦ c ]) (elim o as (λ _. Contents) [ none ↦ carries h i (q i) (steps t k) d | some n ↦ d ])
-      go none r = reap-agree ℓ (handles t) (applies (steps t k) t) _ _ (steps-agree ℓ h i (p i) (q i) t c d (steps t k) (guarded ℓ (p i) (q i) t v k (λ l z. b l (brings ∙ z)) (allowed-iff t k .0 r)) a)
+          (elim o as (λ _. Contents) [ none ↦ carries h i (p i) (steps t k) c | some n ↦ c ])
+          (elim o as (λ _. Contents) [ none ↦ carries h i (q i) (steps t k) d | some n ↦ d ])
+      go none r = reap-agree ℓ (handles t) (applies (steps t k) t) _ _
+          (steps-agree ℓ h i (p i) (q i) t c d (steps t k) (guarded ℓ (p i) (q i) t v k (λ l z. b l (brings ∙ z)) (allowed-iff t k .0 r)) a)
         where
           brings : brought t k ≡ brought-by (steps t k)
           brings = ap (λ (o : Option ℕ). elim o as (λ _. Option Label) [ none ↦ brought-by (steps t k) | some n ↦ none ]) r
@@ -177,11 +215,12 @@ module _ (ℓ : Label) (h : Handling) (p q : Outside) where
   agree-from : (i : ℕ) (t : Tables) (c d : Contents) (rs : List Raw) → Kept t → Alike-from ℓ p q i t rs → Agree ℓ t c d
       → Agree ℓ (book-from h p i (opened t c) rs .tables) (book-from h p i (opened t c) rs .content) (book-from h q i (opened t d) rs .content)
   agree-from i t c d [] v w a = a
-  agree-from i t c d (r ∷ rs) v w a = subst₂ (λ x y. Agree ℓ (book-from h p (suc i) x rs .tables) (book-from h p (suc i) x rs .content) (book-from h q (suc i) y rs .content))
+  agree-from i t c d (r ∷ rs) v w a = subst₂ (λ x y. Agree ℓ (book-from h p (suc i) x rs .tables) (book-from h p (suc i) x rs .content)
+      (book-from h q (suc i) y rs .content))
       (sym (turn-is h p i t c (decode r))) (sym (turn-is h q i t d (decode r)))
-      (agree-from (suc i) (next t (decode r)) (content-next h p i t c (decode r)) (content-next h q i t d (decode r)) rs (next-kept t (decode r) v) (w .1) (next-agree i t c d (decode r) v (w .0) a))
+      (agree-from (suc i) (next t (decode r)) (content-next h p i t c (decode r)) (content-next h q i t d (decode r)) rs
+      (next-kept t (decode r) v) (w .1) (next-agree i t c d (decode r) v (w .0) a))
 
-  -- 01, Contents: "contents that differ only where brought in below that level, end with equal contents in every live thing that is then
-  -- at or above it"
+  -- RULES B28: two books whose outside contents are alike from ℓ on agree on each live thing that is at ℓ or above at the end
   pub unmoved : (rs : List Raw) → Alike ℓ p q rs → Agree ℓ (book h p rs .tables) (book h p rs .content) (book h q rs .content)
   unmoved rs w = agree-from 0 empty (λ x. 0) (λ x. 0) rs empty-kept w (record { same-at = λ x e r l. refl })

@@ -1,4 +1,4 @@
--- Nothing dangles after an allowed call, whichever tables it was made on (document 01, "Tables": "every allowed call empties it"). Assumes nothing.
+-- Nothing dangles after an allowed call, whichever tables it was made on (RULES T19). Assumes nothing.
 use mathlib.Core.Path.{_≡_, refl, sym, subst}
 use mathlib.Core.Bool.{not}
 use mathlib.Core.Logic.{_⊎_, inl, inr}
@@ -120,7 +120,7 @@ module _ (t : Tables) (w : Wf t) where
   call-wf unknown m = w
 
 -- ── calls ──
--- 01, Tables: "every allowed call empties it": nothing dangles in the tables after an allowed call, whichever tables it was made on
+-- RULES T19: nothing dangles in the tables after an allowed call, whichever tables it was made on
 pub effect-wf : (t : Tables) (c : Call) → Wf t → refusal t c ≡ none → Wf (effect t c)
 unfolding effect
 effect-wf t c w q = wf-reap (handles t) (applies (steps t c) t) (call-wf t w c (allowed-iff t c .0 q))

@@ -1,5 +1,5 @@
 -- Every call keeps the invariant, so every state from empty tables has it: each live thing's level is at least its need, no handle
--- dangles, a pipe has a handle, and levels are 0 to 15 (document 01, "Flow and need", "Tables"). Call by call, then the list. That
+-- dangles, a pipe has a handle, and levels are 0 to 15 (RULES F8, T25, T26, T27). Call by call, then the list. That
 -- nothing dangles is in `Dangling`, levels are in `Scale`. Assumes nothing.
 use mathlib.Core.Path.{_≡_, refl, sym, _∙_, ap, subst}
 use mathlib.Core.Bool.{Bool, true, false, not, cond}
@@ -49,7 +49,8 @@ old-pipes : (t u : Tables) → Piped t → ((o : ℕ) → T (is-pipe (object o) 
 old-pipes t u v f o h = inl (v .joined o (f o h))
 
 -- one entry changed: the pipes are the old ones but for it
-put-pipes : (t : Tables) (x : Thing) (v : Option Entry) (o : ℕ) → T (is-pipe (object o) (put (t .at) x v (object o))) → ((x ≡ object o) × T (is-pipe (object o) v)) ⊎ T (is-pipe (object o) (t .at (object o)))
+put-pipes : (t : Tables) (x : Thing) (v : Option Entry) (o : ℕ) → T (is-pipe (object o) (put (t .at) x v (object o))) →
+    ((x ≡ object o) × T (is-pipe (object o) v)) ⊎ T (is-pipe (object o) (t .at (object o)))
 put-pipes t x v o h = elim (put-cases (t .at) x v (object o) (put (t .at) x v (object o)) refl) [
   | inl c ↦ inl (c .0, subst (λ (z : Option Entry). T (is-pipe (object o) z)) (sym (c .1)) h)
   | inr c ↦ inr (subst (λ (z : Option Entry). T (is-pipe (object o) z)) (sym (c .1)) h)
@@ -60,10 +61,12 @@ module _ (t : Tables) (v : Kept t) where
   pot = needs-pot (v .wf) (v .safe)
 
   -- ── admit, register, create ──
-  enter-stepped : (x : Thing) (e : Entry) (g : Origin) → T (not (broken t (new x))) → ((o : ℕ) → T (not (is-pipe (object o) (some e)))) → Stepped t (apply (enter x e g) t)
+  enter-stepped : (x : Thing) (e : Entry) (g : Origin) → T (not (broken t (new x))) → ((o : ℕ) → T (not (is-pipe (object o) (some e))))
+      → Stepped t (apply (enter x e g) t)
   unfolding pot
   enter-stepped x e g h n = let f = is-new t x h in stepped (pot-enter t (needs t) x e g (e .label) (v .wf) pot (f .1) (demand-label x e) ⊑-refl)
-      (old-pipes t (apply (enter x e g) t) (v .piped) (λ o p. elim (put-pipes t x (some e) o p) [ inl c ↦ absurd (T-not (is-pipe (object o) (some e)) (n o) (c .1)) | inr c ↦ c ]))
+      (old-pipes t (apply (enter x e g) t) (v .piped) (λ o p. elim
+      (put-pipes t x (some e) o p) [ inl c ↦ absurd (T-not (is-pipe (object o) (some e)) (n o) (c .1)) | inr c ↦ c ]))
 
   -- ── handles go: close, and what exec drops ──
   less-stepped : (u : Tables) → Less t u → Stepped t u
@@ -88,7 +91,10 @@ module _ (t : Tables) (v : Kept t) where
 
 -- tables that pass the test
 pub safe-sound : (u : Tables) → Wf u → T (safe u) → Safe u
-safe-sound u w h = record { above = λ x e q. subst (λ (o : Option Entry). needs u x ⊑ label-of o) q (safe-above u h x (thing-listed u x e (w .ranged x e q) q)) }
+safe-sound u w h = record {
+  above = λ x e q. subst (λ (o : Option Entry). needs u x ⊑ label-of o) q
+      (safe-above u h x (thing-listed u x e (w .ranged x e q) q));
+}
 
 module _ (t : Tables) (v : Kept t) where
   -- ── open ──
@@ -130,21 +136,26 @@ module _ (t : Tables) (v : Kept t) where
 pub access-feeds : (t : Tables) (φ : Thing → Label) → Wf t → Pot t φ → (d : Dir) (s p : ℕ) (k : Handle) → t .hand s p ≡ some k → k .dir ≡ d
     → Feeds t φ (arc d (cell t s) (target (t .hand s p)) .dst) (arc d (cell t s) (target (t .hand s p)) .src)
 access-feeds t φ w i d s p k q e = subst (λ (o : Option Handle). Feeds t φ (arc d (cell t s) (target o) .dst) (arc d (cell t s) (target o) .src)) (sym q)
-    (subst (λ (z : Dir). Feeds t φ (arc z (cell t s) (object (k .to)) .dst) (arc z (cell t s) (object (k .to)) .src)) e (flow-feeds t φ w i s p (cell t s) k (speaks-cell t s) q))
+    (subst (λ (z : Dir). Feeds t φ (arc z (cell t s) (object (k .to)) .dst) (arc z (cell t s) (object (k .to)) .src)) e
+    (flow-feeds t φ w i s p (cell t s) k (speaks-cell t s) q))
 
 -- and an exec, in the tables that are left once it dropped what it drops
-pub exec-feeds : (t : Tables) (s o : ℕ) → T (not (broken t (present o))) → T (not (broken t (suits s o))) → Feeds (applies (sheds t s) t) (needs (applies (sheds t s) t)) (cell t s) (object o)
+pub exec-feeds : (t : Tables) (s o : ℕ) → T (not (broken t (present o))) → T (not (broken t (suits s o))) → Feeds (applies (sheds t s) t)
+    (needs (applies (sheds t s) t)) (cell t s) (object o)
 exec-feeds t s o h g = let r = object-entry t o (is-present t o h) in record {
   source = r .0;
   source-is = sheds-less t s .same-at (object o) ∙ r .1;
-  under = subst (λ (e : Option Entry). needs (applies (sheds t s) t) (cell t s) ⊑ label-of e) (r .1) (record { tested = not-not (leq (needs (applies (sheds t s) t) (cell t s)) (label-of (t .at (object o)))) g });
+  under = subst (λ (e : Option Entry). needs (applies (sheds t s) t) (cell t s) ⊑ label-of e) (r .1)
+      (record { tested = not-not (leq (needs (applies (sheds t s) t) (cell t s)) (label-of (t .at (object o)))) g });
 }
 
 module _ (t : Tables) (v : Kept t) where
   access-stepped : (d : Dir) (s p : ℕ) → Passed t (access d s p) → Stepped t (applies (steps t (access d s p)) t)
-  access-stepped d s p m = go d (let r = is-facing t d s p (m (taken s p) (inr (inl refl))) (m (facing d s p) (inr (inr (inl refl)))) in access-feeds t (needs t) (v .wf) (pot t v) d s p (r .0) (r .1) (r .2))
+  access-stepped d s p m = go d (let r = is-facing t d s p (m (taken s p) (inr (inl refl)))
+      (m (facing d s p) (inr (inr (inl refl)))) in access-feeds t (needs t) (v .wf) (pot t v) d s p (r .0) (r .1) (r .2))
     where
-      go : (d : Dir) → Feeds t (needs t) (arc d (cell t s) (target (t .hand s p)) .dst) (arc d (cell t s) (target (t .hand s p)) .src) → Stepped t (apply (moves d (subject s) (cell t s) (target (t .hand s p))) t)
+      go : (d : Dir) → Feeds t (needs t) (arc d (cell t s) (target (t .hand s p)) .dst) (arc d (cell t s) (target (t .hand s p)) .src)
+          → Stepped t (apply (moves d (subject s) (cell t s) (target (t .hand s p))) t)
       go reading f = mix-stepped t v (needs t) reads (subject s) (target (t .hand s p)) (cell t s) (target (t .hand s p)) t (none-stepped t v) (pot t v) f
       go writing f = mix-stepped t v (needs t) writes (target (t .hand s p)) (subject s) (target (t .hand s p)) (cell t s) t (none-stepped t v) (pot t v) f
 
@@ -198,13 +209,17 @@ module _ (t : Tables) (v : Kept t) where
         same-need : needs t (cell t s) ≡ ψ (subject c)
         same-need = sym (raise-same (needs t) (subject c) (needs t (cell t s)))
 
-        falls-child : (k : Handle) (d : Dir) → needs t (arc d (cell t s) (object (k .to)) .dst) ⊑ needs t (arc d (cell t s) (object (k .to)) .src) → ψ (arc d (subject c) (object (k .to)) .dst) ⊑ ψ (arc d (subject c) (object (k .to)) .src)
+        falls-child : (k : Handle) (d : Dir) → needs t (arc d (cell t s) (object (k .to)) .dst) ⊑ needs t
+            (arc d (cell t s) (object (k .to)) .src) → ψ (arc d (subject c) (object (k .to)) .dst) ⊑ ψ
+            (arc d (subject c) (object (k .to)) .src)
         falls-child k reading h = subst (λ (a : Label). a ⊑ needs t (object (k .to))) same-need h
         falls-child k writing h = subst (λ (a : Label). needs t (object (k .to)) ⊑ a) same-need h
 
-        falls′ : (s′ p : ℕ) (x : Thing) (k : Handle) → speaks u s′ ≡ some x → row (t .hand) c (t .hand s) s′ p ≡ some k → (t .hand s′ p ≡ some k) ⊎ (ψ (flow x k .dst) ⊑ ψ (flow x k .src))
+        falls′ : (s′ p : ℕ) (x : Thing) (k : Handle) → speaks u s′ ≡ some x → row (t .hand) c (t .hand s) s′ p ≡ some k →
+            (t .hand s′ p ≡ some k) ⊎ (ψ (flow x k .dst) ⊑ ψ (flow x k .src))
         falls′ s′ p x k z q = elim (row-cases (t .hand) c (t .hand s) s′ p (some k) q) [
-          | inl r ↦ inr (subst (λ (y : Thing). ψ (flow y k .dst) ⊑ ψ (flow y k .src)) (child x (ap (speaks u) (r .0) ∙ z)) (falls-child k (k .dir) (pot t v .falls s p (cell t s) k (speaks-cell t s) (r .1))))
+          | inl r ↦ inr (subst (λ (y : Thing). ψ (flow y k .dst) ⊑ ψ (flow y k .src)) (child x (ap (speaks u) (r .0) ∙ z))
+              (falls-child k (k .dir) (pot t v .falls s p (cell t s) k (speaks-cell t s) (r .1))))
           | inr r ↦ inl (r .1)
         ]
 
@@ -274,7 +289,10 @@ reap-kept t u w l k = record {
   wf = wf-reap (handles t) u w;
   safe = pot-safe (pot-reap (handles t) u (needs u) (needs-pot w (k .safe)));
   scaled = scaled-without gone u l;
-  piped = record { joined = λ o h. subst (λ (hs : List Handle). T (open-on hs o)) (sym (handles-at u (λ x. cond (gone x) none (u .at x)))) (still o (gone (object o)) refl h) };
+  piped = record {
+    joined = λ o h. subst (λ (hs : List Handle). T (open-on hs o)) (sym (handles-at u (λ x. cond (gone x) none (u .at x))))
+        (still o (gone (object o)) refl h);
+  };
 }
   where
     gone : Thing → Bool
@@ -312,7 +330,7 @@ pub after-kept : (t : Tables) (rs : List Raw) → Kept t → Kept (after t rs)
 after-kept t [] v = v
 after-kept t (r ∷ rs) v = after-kept (next t (decode r)) rs (next-kept t (decode r) v)
 
--- 01, Flow and need: "In every state from empty tables each live thing's level is at least its need." Nor does a handle dangle,
--- a pipe has a handle, and levels are 0 to 15.
+-- RULES F8, T25, T26, T27: after every list of calls from empty tables no level is below its need, no handle dangles, a pipe has a handle,
+-- and levels are 0 to 15.
 pub always-kept : (rs : List Raw) → Kept (after empty rs)
 always-kept rs = after-kept empty rs empty-kept

@@ -22,7 +22,8 @@ pub is-present : (t : Tables) (o : ℕ) → T (not (broken t (present o))) → T
 is-present t o h = not-not (live t (object o)) h
 
 pub is-new : (t : Tables) (x : Thing) → T (not (broken t (new x))) → T (in-range x) × (t .at x ≡ none)
-is-new t x h = let r = neither (not (in-range x)) (used t x) h in (not-not (in-range x) (r .0), go (t .at x) (subst (λ (b : Bool). T (not b)) (used-is t x) (r .1)))
+is-new t x h = let r = neither (not (in-range x)) (used t x) h in
+    (not-not (in-range x) (r .0), go (t .at x) (subst (λ (b : Bool). T (not b)) (used-is t x) (r .1)))
   where
     go : (o : Option Entry) → T (not (is-some o)) → o ≡ none
     go none u = refl
@@ -38,7 +39,8 @@ faces→eq writing reading t = absurd t
 faces→eq writing writing t = refl
 
 -- a taken place that faces d holds a handle for d
-pub is-facing : (t : Tables) (d : Dir) (s p : ℕ) → T (not (broken t (taken s p))) → T (not (broken t (facing d s p))) → (k : Handle) × (t .hand s p ≡ some k) × (k .dir ≡ d)
+pub is-facing : (t : Tables) (d : Dir) (s p : ℕ) → T (not (broken t (taken s p))) → T (not (broken t (facing d s p))) → (k : Handle) ×
+    (t .hand s p ≡ some k) × (k .dir ≡ d)
 is-facing t d s p h f = let r = some-of (t .hand s p) (not-not (is-some (t .hand s p)) (neither (not (ltb p places)) (not (is-some (t .hand s p))) h .1)) in
     (r .0, r .1, sym (faces→eq d (r .0 .dir) (not-not (faces d (r .0 .dir)) (subst (λ (o : Option Handle). T (not (turned d o))) (r .1) f))))
 

@@ -24,11 +24,13 @@ breaks-of t n (e ∷ ds) d (inl z) q b = or-left (elim (eqb (number e) n) as (λ
     go : (a : Bool) → T a → T (elim a as (λ _. Bool) [ true ↦ broken t e | false ↦ false ])
     go true u = subst (λ (x : Test). T (broken t x)) (sym z) b
     go false u = absurd u
-breaks-of t n (e ∷ ds) d (inr i) q b = or-right (elim (eqb (number e) n) as (λ _. Bool) [ true ↦ broken t e | false ↦ false ]) (breaks t n ds) (breaks-of t n ds d i q b)
+breaks-of t n (e ∷ ds) d (inr i) q b = or-right (elim (eqb (number e) n) as (λ _. Bool) [ true ↦ broken t e | false ↦ false ])
+    (breaks t n ds) (breaks-of t n ds d i q b)
 
 breaks-at : (t : Tables) (n : ℕ) (ds : List Test) → T (breaks t n ds) → (d : Test) × In d ds × (number d ≡ n) × T (broken t d)
 breaks-at t n [] h = absurd h
-breaks-at t n (e ∷ ds) h = go (eqb (number e) n) (eqb→eq (number e) n) (breaks-at t n ds) (or-cases (elim (eqb (number e) n) as (λ _. Bool) [ true ↦ broken t e | false ↦ false ]) (breaks t n ds) h)
+breaks-at t n (e ∷ ds) h = go (eqb (number e) n) (eqb→eq (number e) n) (breaks-at t n ds)
+    (or-cases (elim (eqb (number e) n) as (λ _. Bool) [ true ↦ broken t e | false ↦ false ]) (breaks t n ds) h)
   where
     go : (a : Bool) → (T a → number e ≡ n) → (T (breaks t n ds) → (d : Test) × In d ds × (number d ≡ n) × T (broken t d))
         → T (elim a as (λ _. Bool) [ true ↦ broken t e | false ↦ false ]) ⊎ T (breaks t n ds) → (d : Test) × In d (e ∷ ds) × (number d ≡ n) × T (broken t d)
@@ -41,7 +43,11 @@ abbrev Passed : Tables → List Test → ℕ → List ℕ → Type 0
 Passed t ds n ns = (e : Test) → In e ds → T (earlier (number e) n ns) → T (not (broken t e))
 
 unmet : (t : Tables) (ds : List Test) (n : ℕ) → ((e : Test) → In e ds → number e ≡ n → T (not (broken t e))) → T (not (breaks t n ds))
-unmet t ds n f = elim (test (breaks t n ds)) [ inl h ↦ (let r = breaks-at t n ds h in absurd (T-not (broken t (r .0)) (f (r .0) (r .1) (r .2)) (r .3))) | inr h ↦ h ]
+unmet t ds n f = elim (test (breaks t n ds)) [
+  | inl h ↦ (let r = breaks-at t n ds h in absurd
+      (T-not (broken t (r .0)) (f (r .0) (r .1) (r .2)) (r .3)))
+  | inr h ↦ h
+]
 
 first-is : (t : Tables) (ds : List Test) (ns : List ℕ) (n : ℕ) → In n ns → T (breaks t n ds) → Passed t ds n ns → first t ds ns ≡ some n
 first-is t ds [] n j b h = absurd j
@@ -55,9 +61,12 @@ first-is t ds (k ∷ ks) n j b h = go (test (eqb k n)) (first-is t ds ks n)
     miss true u = absurd u
     miss false u = refl
 
-    go : T (eqb k n) ⊎ T (not (eqb k n)) → (In n ks → T (breaks t n ds) → ((e : Test) → In e ds → T (earlier (number e) n ks) → T (not (broken t e))) → first t ds ks ≡ some n) → first t ds (k ∷ ks) ≡ some n
+    go : T (eqb k n) ⊎ T (not (eqb k n)) → (In n ks → T (breaks t n ds) →
+        ((e : Test) → In e ds → T (earlier (number e) n ks) → T (not (broken t e))) → first t ds ks ≡ some n) → first t ds (k ∷ ks) ≡ some n
     go (inl e) ih = hit (breaks t k ds) (subst (λ (z : ℕ). T (breaks t z ds)) (sym (eqb→eq k n e)) b) ∙ ap {B = Option ℕ} some (eqb→eq k n e)
-    go (inr e) ih = miss (breaks t k ds) (unmet t ds k (λ c m q. h c m (both (not (eqb k n)) (eqb k (number c) || earlier (number c) n ks) e (or-left (eqb k (number c)) (earlier (number c) n ks) (subst (λ (z : ℕ). T (eqb z (number c))) q (eqb-refl (number c)))))))
+    go (inr e) ih = miss (breaks t k ds) (unmet t ds k (λ c m q. h c m
+        (both (not (eqb k n)) (eqb k (number c) || earlier (number c) n ks) e
+        (or-left (eqb k (number c)) (earlier (number c) n ks) (subst (λ (z : ℕ). T (eqb z (number c))) q (eqb-refl (number c)))))))
         ∙ ih (elim j [ inl q ↦ absurd (T-not (eqb k n) e (subst (λ (z : ℕ). T (eqb k z)) q (eqb-refl k))) | inr q ↦ q ]) b
         (λ c m q. h c m (both (not (eqb k n)) (eqb k (number c) || earlier (number c) n ks) e (or-right (eqb k (number c)) (earlier (number c) n ks) q)))
 
@@ -66,15 +75,22 @@ first-hit t ds [] n q = absurd (Option·none-ne-some n q)
 first-hit t ds (k ∷ ks) n q = go (breaks t k ds) refl q (first-hit t ds ks n)
   where
     go : (z : Bool) → breaks t k ds ≡ z → _≡_ {A = Option ℕ} (elim z as (λ _. Option ℕ) [ true ↦ some k | false ↦ first t ds ks ]) (some n)
-        → (first t ds ks ≡ some n → T (breaks t n ds) × ((e : Test) → In e ds → T (earlier (number e) n ks) → T (not (broken t e)))) → T (breaks t n ds) × ((e : Test) → In e ds → T (earlier (number e) n (k ∷ ks)) → T (not (broken t e)))
+        → (first t ds ks ≡ some n → T (breaks t n ds) × ((e : Test) → In e ds → T (earlier (number e) n ks) → T (not (broken t e)))) → T
+        (breaks t n ds) × ((e : Test) → In e ds → T (earlier (number e) n (k ∷ ks)) → T (not (broken t e)))
     go true e r ih = (
       subst (λ (z : ℕ). T (breaks t z ds)) (Option·some-injective k n r) (subst T (sym e) tt),
-      λ c m l. absurd (T-not (eqb k n) (both-of (not (eqb k n)) (eqb k (number c) || earlier (number c) n ks) l .0) (subst (λ (z : ℕ). T (eqb k z)) (Option·some-injective k n r) (eqb-refl k))),
+      λ c m l. absurd (T-not (eqb k n) (both-of (not (eqb k n)) (eqb k (number c) || earlier (number c) n ks) l .0)
+          (subst (λ (z : ℕ). T (eqb k z)) (Option·some-injective k n r) (eqb-refl k))),
     )
     go false e r ih = (
       ih r .0,
       λ c m l. elim (or-cases (eqb k (number c)) (earlier (number c) n ks) (both-of (not (eqb k n)) (eqb k (number c) || earlier (number c) n ks) l .1)) [
-        | inl d ↦ (elim (test (broken t c)) [ inl b ↦ absurd (T-not (breaks t k ds) (subst (λ (z : Bool). T (not z)) (sym e) tt) (breaks-of t k ds c m (sym (eqb→eq k (number c) d)) b)) | inr b ↦ b ])
+        | inl d ↦ (elim (test (broken t c)) [
+          | inl b ↦ absurd
+              (T-not (breaks t k ds) (subst (λ (z : Bool). T (not z)) (sym e) tt)
+              (breaks-of t k ds c m (sym (eqb→eq k (number c) d)) b))
+          | inr b ↦ b
+        ])
         | inr d ↦ ih r .1 c m d
       ],
     )
@@ -94,7 +110,11 @@ none-first t ds (n ∷ ns) d q i j = go (breaks t n ds) refl q j (λ r k. none-f
     go : (b : Bool) → breaks t n ds ≡ b → _≡_ {A = Option ℕ} (elim b as (λ _. Option ℕ) [ true ↦ some n | false ↦ first t ds ns ]) none → In (number d) (n ∷ ns)
         → (first t ds ns ≡ none → In (number d) ns → T (not (broken t d))) → T (not (broken t d))
     go true e r k ih = absurd (Option·some-ne-none n r)
-    go false e r (inl k) ih = elim (test (broken t d)) [ inl b ↦ absurd (T-not (breaks t n ds) (subst (λ (z : Bool). T (not z)) (sym e) tt) (breaks-of t n ds d i (sym k) b)) | inr b ↦ b ]
+    go false e r (inl k) ih = elim (test (broken t d)) [
+      | inl b ↦ absurd
+          (T-not (breaks t n ds) (subst (λ (z : Bool). T (not z)) (sym e) tt) (breaks-of t n ds d i (sym k) b))
+      | inr b ↦ b
+    ]
     go false e r (inr k) ih = ih r k
 
 -- ── every number of a test stands in the order ──
@@ -154,6 +174,10 @@ answered-refused t c n = go (refusal t c)
         by-test true e = let z : _≡_ {A = ℕ} 0 1 = cc in omega arith
         by-test false e = let z : _≡_ {A = ℕ} 0 1 = cc in omega arith
 
-    go : (o : Option ℕ) → ((elim o as (λ _. Answer) [ none ↦ outcome (t .at (shown t c)) (effect t c .at (shown t c)) | some m ↦ refused m ]) ≡ refused n) ↔ (o ≡ some n)
+    go : (o : Option ℕ) → ((elim o as (λ _. Answer) [
+      | none ↦ outcome (t .at (shown t c))
+          (effect t c .at (shown t c))
+      | some m ↦ refused m
+    ]) ≡ refused n) ↔ (o ≡ some n)
     go none = (λ e. absurd (given (t .at (shown t c)) (effect t c .at (shown t c)) e), λ e. absurd (Option·none-ne-some n e))
     go (some m) = (λ e. cc, λ e. cc)

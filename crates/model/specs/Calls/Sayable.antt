@@ -41,7 +41,7 @@ answer-sayable t c v = go (refusal t c) refl
     go none q = given (t .at x) (effect t c .at x) (v .scaled .within x) (effect-kept t c v q .scaled .within x)
     go (some n) q = refused-listed t c n q
 
--- every answer from empty tables gives a level of 0 to 15, or the number of a refusal that calls have
+-- RULES T27, R112: every answer from empty tables gives a level of 0 to 15, or the number of a refusal that calls have
 pub always-sayable : (rs : List Raw) (a : Answer) → In a (answers empty rs) → Sayable a
 always-sayable rs = from empty rs empty-kept
   where

@@ -1,4 +1,4 @@
--- Levels stay 0 to 15 (document 01, "Tables"): what an allowed call enters is in scale, and nothing rises. Assumes nothing.
+-- Levels stay 0 to 15 (RULES T27): what an allowed call enters is in scale, and nothing rises. Assumes nothing.
 use mathlib.Core.Path.{_≡_, refl, sym, subst}
 use mathlib.Core.Logic.{inl, inr}
 use mathlib.Core.Option.{Option, none, some}

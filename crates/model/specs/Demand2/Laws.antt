@@ -67,21 +67,33 @@ only-fourth t a b c d na nb nc r = go (r .1)
     go (inr (inr (inr (inr q)))) = absurd q
 
 -- ── the flow rule ──
+-- RULES R9, R109: an open
 pub open-refused-iff : (t : Tables) (d : Dir) (s o p : ℕ) → (refusal t (opens d s o p) ≡ some 9) ↔ (In-order t (opens d s o p) 9 × Offends (opened t d s o p))
 open-refused-iff t d s o p = (
-  λ q. (let r = refused-by t (opens d s o p) 9 q in (r .1, unsafe-iff (opened t d s o p) .0 (only-fourth t (alive s) (present o) (vacant s p) (enough (opens d s o p)) tt tt tt (r .0)))),
+  λ q. (let r = refused-by t (opens d s o p) 9 q in (
+    r .1,
+    unsafe-iff (opened t d s o p) .0
+        (only-fourth t (alive s) (present o) (vacant s p) (enough (opens d s o p)) tt tt tt (r .0)),
+  )),
   λ r. refused-is t (opens d s o p) (enough (opens d s o p)) (inr (inr (inr (inl refl)))) (unsafe-iff (opened t d s o p) .1 (r .1)) (r .0),
 )
 
--- the need is taken in the tables that are left once the exec dropped what it drops (in this version nothing)
-pub exec-refused-iff : (t : Tables) (s o : ℕ) → (refusal t (exec s o) ≡ some 9) ↔ (In-order t (exec s o) 9 × T (not (leq (needs (applies (sheds t s) t) (cell t s)) (label-of (t .at (object o))))))
+-- RULES R9, R110: an exec. The need is taken in the tables that are left once the exec dropped what it drops (in this version nothing)
+pub exec-refused-iff : (t : Tables) (s o : ℕ) → (refusal t (exec s o) ≡ some 9) ↔
+    (In-order t (exec s o) 9 × T (not (leq (needs (applies (sheds t s) t) (cell t s)) (label-of (t .at (object o))))))
 exec-refused-iff t s o = (
   λ q. (let r = refused-by t (exec s o) 9 q in (r .1, only-fourth t (alive s) (present o) (no-pipe o) (suits s o) tt tt tt (r .0))),
   λ r. refused-is t (exec s o) (suits s o) (inr (inr (inr (inl refl)))) (r .1) (r .0),
 )
 
-pub exec-leaks-iff : (t : Tables) (s o : ℕ) → (refusal t (exec s o) ≡ some 9) ↔ (In-order t (exec s o) 9 × Leaks (applies (sheds t s) t) (label-of (t .at (object o))) (cell t s))
-exec-leaks-iff t s o = (λ q. (let r = exec-refused-iff t s o .0 q in (r .0, over-leaks u l (cell t s) (r .1))), λ r. exec-refused-iff t s o .1 (r .0, leaks-over u l (cell t s) (r .1)))
+-- RULES R9, R110: the same, by a chain of flows
+pub exec-leaks-iff : (t : Tables) (s o : ℕ) → (refusal t (exec s o) ≡ some 9) ↔
+    (In-order t (exec s o) 9 × Leaks (applies (sheds t s) t) (label-of (t .at (object o))) (cell t s))
+exec-leaks-iff t s o = (
+  λ q. (let r = exec-refused-iff t s o .0 q in
+      (r .0, over-leaks u l (cell t s) (r .1))),
+  λ r. exec-refused-iff t s o .1 (r .0, leaks-over u l (cell t s) (r .1)),
+)
   where
     u : Tables
     u = applies (sheds t s) t

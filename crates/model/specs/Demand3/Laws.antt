@@ -36,8 +36,11 @@ held-allowed t w s p k q = allowed-iff t (access (k .dir) s p) .1 each
 
     each : (e : Test) → In e (tests (access (k .dir) s p)) → T (not (broken t e))
     each e (inl z) = subst (λ (x : Test). T (not (broken t x))) z (yes-not-not (live t (subject s)) (f .from))
-    each e (inr (inl z)) = subst (λ (x : Test). T (not (broken t x))) z (nor (not (ltb p places)) (not (is-some (t .hand s p))) (yes-not-not (ltb p places) (lt→ltb p places (f .place))) (yes-not-not (is-some (t .hand s p)) (some-is q)))
-    each e (inr (inr (inl z))) = subst (λ (x : Test). T (not (broken t x))) z (subst (λ (o : Option Handle). T (not (turned (k .dir) o))) (sym q) (yes-not-not (faces (k .dir) (k .dir)) (faces-self (k .dir))))
+    each e (inr (inl z)) = subst (λ (x : Test). T (not (broken t x))) z
+        (nor (not (ltb p places)) (not (is-some (t .hand s p))) (yes-not-not (ltb p places) (lt→ltb p places (f .place)))
+        (yes-not-not (is-some (t .hand s p)) (some-is q)))
+    each e (inr (inr (inl z))) = subst (λ (x : Test). T (not (broken t x))) z
+        (subst (λ (o : Option Handle). T (not (turned (k .dir) o))) (sym q) (yes-not-not (faces (k .dir) (k .dir)) (faces-self (k .dir))))
     each e (inr (inr (inr z))) = absurd z
 
 not-refused : (t : Tables) (c : Call) (n : ℕ) → refusal t c ≡ none → answer t c ≡ refused n → ⊥
@@ -45,13 +48,18 @@ not-refused t c n q e = Option·none-ne-some n (sym q ∙ answered-refused t c n
 
 -- ── the rules ──
 -- the answer at a position is the answer to the call there, in the tables just before
-answer-at : (t : Tables) (before : List Raw) (r : Raw) (rest : List Raw) → getElem? (answers t (before ++ r ∷ rest)) (length before) ≡ some (answer (after t before) (decode r))
+answer-at : (t : Tables) (before : List Raw) (r : Raw) (rest : List Raw) → getElem? (answers t (before ++ r ∷ rest)) (length before) ≡ some
+    (answer (after t before) (decode r))
 answer-at t [] r rest = refl
 answer-at t (b ∷ before) r rest = answer-at (next t (decode b)) before r rest
 
-none-cut : (h : Handling) (out : Outside) (before : List Raw) (r : Raw) → Held (book h out before) r → (n : ℕ) → answer (after empty before) (decode r) ≡ refused n → ⊥
-none-cut h out before r w n = subst (λ (c : Call). answer t c ≡ refused n → ⊥) (ap (λ (d : Dir). access d (w .caller) (w .place)) (w .that-direction) ∙ sym (w .is-access))
-    (not-refused t (access (w .handle .dir) (w .caller) (w .place)) n (held-allowed t (always-kept before .wf) (w .caller) (w .place) (w .handle) (ap (λ (u : Tables). u .hand (w .caller) (w .place)) (sym (book-tables h out before)) ∙ w .at-place)))
+none-cut : (h : Handling) (out : Outside) (before : List Raw) (r : Raw) → Held (book h out before) r → (n : ℕ) → answer (after empty before)
+    (decode r) ≡ refused n → ⊥
+none-cut h out before r w n = subst (λ (c : Call). answer t c ≡ refused n → ⊥)
+    (ap (λ (d : Dir). access d (w .caller) (w .place)) (w .that-direction) ∙ sym (w .is-access))
+    (not-refused t (access (w .handle .dir) (w .caller) (w .place)) n
+    (held-allowed t (always-kept before .wf) (w .caller) (w .place) (w .handle)
+    (ap (λ (u : Tables). u .hand (w .caller) (w .place)) (sym (book-tables h out before)) ∙ w .at-place)))
   where
     t : Tables
     t = after empty before
@@ -60,7 +68,9 @@ pub rules-demand3 : (rs : List Raw) → Demand3 rs (answers empty rs) (after emp
 rules-demand3 rs = record {
   answers-are-the-book's = λ h out. sym (book-answered h out rs);
   end-is-the-book's = λ h out. sym (book-tables h out rs);
-  none-cut-off = λ h out before r rest q w n e. none-cut h out before r w n (Option·some-injective _ _ (sym (answer-at empty before r rest) ∙ ap (λ (l : List Raw). getElem? (answers empty l) (length before)) (sym q) ∙ e));
+  none-cut-off = λ h out before r rest q w n e. none-cut h out before r w n
+      (Option·some-injective _ _ (sym (answer-at empty before r rest) ∙ ap (λ (l : List Raw). getElem? (answers empty l) (length before))
+      (sym q) ∙ e));
   contents-unmoved = λ ℓ h p q w. unmoved ℓ h p q rs w .same-at;
 }
 
@@ -86,7 +96,8 @@ module _ {M : Type 0} (view : M → Tables) where
       go none q = k .moved (ap (λ (u : Tables). refusal u c) cleaned ∙ q) ∙ ap (λ (u : Tables). effect u c) cleaned
       go (some j) q = ap view (k .unchanged j (ap (λ (u : Tables). refusal u c) cleaned ∙ q)) ∙ e
 
-  runs-rules : (m : M) (rs : List Raw) (l : List Answer) (n : M) (t : Tables) → view m ≡ t → Kept t → Runs view m rs l n → (l ≡ answers t rs) × (view n ≡ after t rs)
+  runs-rules : (m : M) (rs : List Raw) (l : List Answer) (n : M) (t : Tables) → view m ≡ t → Kept t → Runs view m rs l n →
+      (l ≡ answers t rs) × (view n ≡ after t rs)
   runs-rules m rs l n t e v done = (refl, e)
   runs-rules m rs l n t e v (then {n = m′} {r = r} {rs = rs′} {a = a} {l = l′} k s) = let f = meets-next m (decode r) a m′ t e v k in
       let g = runs-rules m′ rs′ l′ n (next t (decode r)) (f .1) (next-kept t (decode r) v) s in

@@ -58,12 +58,14 @@ targets-length S (e ∷ es) = keep-length (has S (e .src)) (e .dst) e (targets S
 
 in-targets : (S : List Thing) (es : List Edge) (e : Edge) → In e es → T (has S (e .src)) → In (e .dst) (targets S es)
 in-targets S [] e h t = absurd h
-in-targets S (d ∷ es) e (inl q) t = subst (λ (z : Edge). In (z .dst) (targets S (d ∷ es))) q (keep-here (has S (d .src)) (d .dst) (targets S es) (subst (λ (z : Edge). T (has S (z .src))) (sym q) t))
+in-targets S (d ∷ es) e (inl q) t = subst (λ (z : Edge). In (z .dst) (targets S (d ∷ es))) q
+    (keep-here (has S (d .src)) (d .dst) (targets S es) (subst (λ (z : Edge). T (has S (z .src))) (sym q) t))
 in-targets S (d ∷ es) e (inr h) t = keep-there (has S (d .src)) (d .dst) (targets S es) (e .dst) (in-targets S es e h t)
 
 in-others : (S : List Thing) (es : List Edge) (e : Edge) → In e es → T (not (has S (e .src))) → In e (others S es)
 in-others S [] e h t = absurd h
-in-others S (d ∷ es) e (inl q) t = subst (λ (z : Edge). In z (others S (d ∷ es))) q (keep-here (not (has S (d .src))) d (others S es) (subst (λ (z : Edge). T (not (has S (z .src)))) (sym q) t))
+in-others S (d ∷ es) e (inl q) t = subst (λ (z : Edge). In z (others S (d ∷ es))) q
+    (keep-here (not (has S (d .src))) d (others S es) (subst (λ (z : Edge). T (not (has S (z .src)))) (sym q) t))
 in-others S (d ∷ es) e (inr h) t = keep-there (not (has S (d .src))) d (others S es) e (in-others S es e h t)
 
 others-in : (S : List Thing) (es : List Edge) (e : Edge) → In e (others S es) → In e es
@@ -83,9 +85,11 @@ targets-in P S (e ∷ es) c s x h = go (targets-in P S es (λ d i. c d (inr i)) 
     go ih (inr k) = ih k
 
 -- ── spread: the least set that holds S and that no flow leaves ──
-spread-within : (P : Thing → Type 0) (n : ℕ) (es : List Edge) (S : List Thing) → Closed es P → ((x : Thing) → In x S → P x) → (x : Thing) → In x (spread n es S) → P x
+spread-within : (P : Thing → Type 0) (n : ℕ) (es : List Edge) (S : List Thing) → Closed es P → ((x : Thing) → In x S → P x) → (x : Thing)
+    → In x (spread n es S) → P x
 spread-within P zero es S c s x h = s x h
-spread-within P (suc n) es S c s x h = go (targets S es) (targets-in P S es c s) (λ S′ s′. spread-within P n (others S es) S′ (λ e i. c e (others-in S es e i)) s′ x) h
+spread-within P (suc n) es S c s x h = go (targets S es) (targets-in P S es c s)
+    (λ S′ s′. spread-within P n (others S es) S′ (λ e i. c e (others-in S es e i)) s′ x) h
   where
     go : (H : List Thing) → ((y : Thing) → In y H → P y)
         → ((S′ : List Thing) → ((y : Thing) → In y S′ → P y) → In x (spread n (others S es) S′) → P x)
@@ -120,6 +124,7 @@ spread-closed (suc n) es S le e i h = go (targets S es) refl (λ S′. spread-cl
     ]
 
 -- ── reached ──
+-- RULES F4: what is computed is what `Reaches` says
 pub reached-is : (es : List Edge) (x y : Thing) → In y (reached es x) ↔ Reaches es x y
 reached-is es x y = (
   spread-within (Reaches es x) (length es) es (x ∷ []) (λ e i r. reaches-snoc e i r refl) start y,
@@ -151,7 +156,7 @@ joins-over f v (y ∷ l) h = go (test (leq (f y) v)) (test (leq (joins f l) v)) 
     go (inl a) (inl b) ih = absurd (T-not (leq (joins f (y ∷ l)) v) h (join-lub (record { tested = a }) (record { tested = b }) .tested))
 
 module _ (es : List Edge) (f : Thing → Label) where
-  -- the need is at least what each thing reached demands ..
+  -- RULES F5, F6: the need is at least what each thing reached demands ..
   pub need-upper : {x y : Thing} → Reaches es x y → f y ⊑ need f es x
   unfolding need
   need-upper {x} {y} r = joins-upper f (reached es x) y (reached-is es x y .1 r)

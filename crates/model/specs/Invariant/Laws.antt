@@ -1,4 +1,4 @@
--- How the invariant is kept, step by step. "Each live thing's level is at least its need" is carried by a *potential*: a label for
+-- How the invariant is kept, step by step. That each live thing's level is at least its need (RULES F8) is carried by a *potential*: a label for
 -- each thing that is at least what the thing demands, at most a live thing's label, and falls along every flow. The need is the least
 -- one, so tables with a potential are safe. Each step has one law for `Wf`, one for potentials and one for `Scaled`. Assumes nothing.
 use mathlib.Core.Path.{_≡_, refl, sym, _∙_, ap, subst, subst₂, fun-ext}
@@ -48,7 +48,8 @@ needs-pot {t} w v = record {
 
 -- what a flow leads from and to has an entry
 speaker-entry : {t : Tables} {s p : ℕ} {x : Thing} {k : Handle} → Ends t s p k → speaks t s ≡ some x → (e : Entry) × (t .at x ≡ some e)
-speaker-entry {t} {s} {x = x} f z = subst (λ (y : Thing). (e : Entry) × (t .at y ≡ some e)) (Option·some-injective (cell t s) x (sym (speaks-cell t s) ∙ z)) (cell-entry t s (f .from))
+speaker-entry {t} {s} {x = x} f z = subst (λ (y : Thing). (e : Entry) × (t .at y ≡ some e))
+    (Option·some-injective (cell t s) x (sym (speaks-cell t s) ∙ z)) (cell-entry t s (f .from))
 
 -- ── empty tables ──
 pub empty-wf : Wf empty
@@ -69,11 +70,19 @@ clean-wf t r = record { ends = λ s p k q. joins s p (t .hand s p) k q; ranged =
     h : ℕ → ℕ → Option Handle
     h s p = counted (ltb p places && live t (subject s)) (λ o. live t (object o)) (t .hand s p)
 
-    joins : (s p : ℕ) (o : Option Handle) (k : Handle) → counted (ltb p places && live t (subject s)) (λ o. live t (object o)) o ≡ some k → Ends (with-hand t h) s p k
+    joins : (s p : ℕ) (o : Option Handle) (k : Handle) → counted (ltb p places && live t (subject s)) (λ o. live t (object o)) o ≡ some k
+        → Ends (with-hand t h) s p k
     joins s p none k q = absurd (Option·none-ne-some k q)
     joins s p (some j) k q = elim (cond-cases ((ltb p places && live t (subject s)) && live t (object (j .to))) (some j) none (some k) q) [
-      | inl c ↦ (let a = both-of (ltb p places && live t (subject s)) (live t (object (j .to))) (c .0) in let b = both-of (ltb p places) (live t (subject s)) (a .0) in
-          record { from = live-hand t h (subject s) (b .1); to = live-hand t h (object (k .to)) (subst (λ (z : Handle). T (live t (object (z .to)))) (Option·some-injective j k (c .1)) (a .1)); place = ltb→lt p places (b .0) })
+      | inl c ↦ (let a = both-of (ltb p places && live t (subject s)) (live t (object (j .to))) (c .0) in let b = both-of (ltb p places)
+          (live t (subject s)) (a .0) in
+          record {
+            from = live-hand t h (subject s) (b .1);
+            to = live-hand t h (object (k .to))
+                (subst (λ (z : Handle). T (live t (object (z .to)))) (Option·some-injective j k (c .1)) (a .1));
+            place = ltb→lt p places
+                (b .0);
+          })
       | inr c ↦ absurd (Option·none-ne-some k (c .1))
     ]
 
@@ -85,12 +94,18 @@ clean-same t w = ap (with-hand t) (fun-ext (λ s. fun-ext (λ p. point s p (t .h
     point : (s p : ℕ) (o : Option Handle) → t .hand s p ≡ o → counted (ltb p places && live t (subject s)) (λ n. live t (object n)) o ≡ o
     point s p none q = refl
     point s p (some k) q = let f = w .ends s p k q in cond-yes ((ltb p places && live t (subject s)) && live t (object (k .to))) (some k) none
-        (both (ltb p places && live t (subject s)) (live t (object (k .to))) (both (ltb p places) (live t (subject s)) (lt→ltb p places (f .place)) (f .from)) (f .to))
+        (both (ltb p places && live t (subject s)) (live t (object (k .to)))
+        (both (ltb p places) (live t (subject s)) (lt→ltb p places (f .place)) (f .from)) (f .to))
 
 -- ── enter ──
 pub wf-enter : (t : Tables) (x : Thing) (e : Entry) (g : Origin) → T (in-range x) → Wf t → Wf (apply (enter x e g) t)
 wf-enter t x e g r w = record {
-  ends = λ s p k q. let f = w .ends s p k q in record { from = live-at t a (subject s) (more (subject s)) (f .from); to = live-at t a (object (k .to)) (more (object (k .to))) (f .to); place = f .place };
+  ends = λ s p k q. let f = w .ends s p k q in record {
+    from = live-at t a (subject s) (more (subject s)) (f .from);
+    to = live-at t a
+        (object (k .to)) (more (object (k .to))) (f .to);
+    place = f .place;
+  };
   ranged = λ y d q. elim (put-cases (t .at) x (some e) y (some d) q) [ inl c ↦ subst (λ (z : Thing). T (in-range z)) (c .0) r | inr c ↦ w .ranged y d (c .1) ];
 }
   where
@@ -126,7 +141,8 @@ apart t x y e n q = not-T (same x y) (λ s. Option·none-ne-some e (sym n ∙ ap
 pub raise-other : (t : Tables) (φ : Thing → Label) (x : Thing) (v : Label) (y : Thing) → t .at x ≡ none → (e : Entry) × (t .at y ≡ some e) → raise φ x v y ≡ φ y
 raise-other t φ x v y n r = cond-no (same x y) v (φ y) (apart t x y (r .0) n (r .1))
 
-arc-falls : (φ ψ : Thing → Label) (d : Dir) (x y : Thing) → φ x ≡ ψ x → φ y ≡ ψ y → φ (arc d x y .dst) ⊑ φ (arc d x y .src) → ψ (arc d x y .dst) ⊑ ψ (arc d x y .src)
+arc-falls : (φ ψ : Thing → Label) (d : Dir) (x y : Thing) → φ x ≡ ψ x → φ y ≡ ψ y → φ (arc d x y .dst) ⊑ φ (arc d x y .src) → ψ
+    (arc d x y .dst) ⊑ ψ (arc d x y .src)
 arc-falls φ ψ reading x y p q h = subst₂ (λ a b. a ⊑ b) p q h
 arc-falls φ ψ writing x y p q h = subst₂ (λ a b. a ⊑ b) q p h
 
@@ -145,12 +161,15 @@ pot-enter t φ x e g v w i n lo hi = record { low = λ y. low′ y (same x y) (s
     kept : (y : Thing) → (d : Entry) × (t .at y ≡ some d) → φ y ≡ raise φ x v y
     kept y r = sym (raise-other t φ x v y n r)
 
-    falls′ : (s p : ℕ) (y : Thing) (k : Handle) → speaks (apply (enter x e g) t) s ≡ some y → t .hand s p ≡ some k → raise φ x v (flow y k .dst) ⊑ raise φ x v (flow y k .src)
+    falls′ : (s p : ℕ) (y : Thing) (k : Handle) → speaks (apply (enter x e g) t) s ≡ some y → t .hand s p ≡ some k → raise φ x v
+        (flow y k .dst) ⊑ raise φ x v (flow y k .src)
     falls′ s p y k z q = let z′ = sym (speaks-at t (put (t .at) x (some e)) s) ∙ z in let f = w .ends s p k q in
-        arc-falls φ (raise φ x v) (k .dir) y (object (k .to)) (kept y (speaker-entry f z′)) (kept (object (k .to)) (object-entry t (k .to) (f .to))) (i .falls s p y k z′ q)
+        arc-falls φ (raise φ x v) (k .dir) y (object (k .to)) (kept y (speaker-entry f z′))
+        (kept (object (k .to)) (object-entry t (k .to) (f .to))) (i .falls s p y k z′ q)
 
 -- ── handles change, entries stay: hold, holds ──
-pub wf-hand : (t : Tables) (h : ℕ → ℕ → Option Handle) → Wf t → ((s p : ℕ) (k : Handle) → h s p ≡ some k → (t .hand s p ≡ some k) ⊎ Ends t s p k) → Wf (with-hand t h)
+pub wf-hand : (t : Tables) (h : ℕ → ℕ → Option Handle) → Wf t →
+    ((s p : ℕ) (k : Handle) → h s p ≡ some k → (t .hand s p ≡ some k) ⊎ Ends t s p k) → Wf (with-hand t h)
 wf-hand t h w f = record {
   ends = λ s p k q. (let g = elim (f s p k q) as (λ _. Ends t s p k) [ inl o ↦ w .ends s p k o | inr n ↦ n ] in
       record { from = live-hand t h (subject s) (g .from); to = live-hand t h (object (k .to)) (g .to); place = g .place });
@@ -158,7 +177,8 @@ wf-hand t h w f = record {
 }
 
 pub pot-hand : (t : Tables) (φ : Thing → Label) (h : ℕ → ℕ → Option Handle) → Pot t φ
-    → ((s p : ℕ) (x : Thing) (k : Handle) → speaks t s ≡ some x → h s p ≡ some k → (t .hand s p ≡ some k) ⊎ (φ (flow x k .dst) ⊑ φ (flow x k .src))) → Pot (with-hand t h) φ
+    → ((s p : ℕ) (x : Thing) (k : Handle) → speaks t s ≡ some x → h s p ≡ some k → (t .hand s p ≡ some k) ⊎
+    (φ (flow x k .dst) ⊑ φ (flow x k .src))) → Pot (with-hand t h) φ
 pot-hand t φ h i f = record {
   low = i .low;
   cap = i .cap;
@@ -176,7 +196,8 @@ wf-hold t s p k w f = wf-hand t (place (t .hand) s p (some k)) w (λ s′ p′ k
   | inr c ↦ inl c
 ])
 
-pub pot-hold : (t : Tables) (φ : Thing → Label) (s p : ℕ) (k : Handle) → Pot t φ → ((x : Thing) → speaks t s ≡ some x → φ (flow x k .dst) ⊑ φ (flow x k .src)) → Pot (apply (hold s p (some k)) t) φ
+pub pot-hold : (t : Tables) (φ : Thing → Label) (s p : ℕ) (k : Handle) → Pot t φ →
+    ((x : Thing) → speaks t s ≡ some x → φ (flow x k .dst) ⊑ φ (flow x k .src)) → Pot (apply (hold s p (some k)) t) φ
 pot-hold t φ s p k i f = pot-hand t φ (place (t .hand) s p (some k)) i (λ s′ p′ x k′ z q. elim (place-cases (t .hand) s p (some k) s′ p′ (some k′) q) [
   | inl c ↦ inr (subst (λ (m : Handle). φ (flow x m .dst) ⊑ φ (flow x m .src)) (Option·some-injective k k′ (c .2)) (f x (ap (speaks t) (c .0) ∙ z)))
   | inr c ↦ inl c
@@ -198,10 +219,12 @@ less-hand t h f = record {
 }
 
 pub less-close : (t : Tables) (s p : ℕ) → Less t (apply (hold s p none) t)
-less-close t s p = less-hand t (place (t .hand) s p none) (λ s′ p′ k q. elim (place-cases (t .hand) s p none s′ p′ (some k) q) [ inl c ↦ absurd (Option·none-ne-some k (c .2)) | inr c ↦ c ])
+less-close t s p = less-hand t (place (t .hand) s p none) (λ s′ p′ k q. elim
+    (place-cases (t .hand) s p none s′ p′ (some k) q) [ inl c ↦ absurd (Option·none-ne-some k (c .2)) | inr c ↦ c ])
 
 pub less-row : (t : Tables) (s : ℕ) → Less t (apply (holds s (λ p. none)) t)
-less-row t s = less-hand t (row (t .hand) s (λ p. none)) (λ s′ p k q. elim (row-cases (t .hand) s (λ p. none) s′ p (some k) q) [ inl c ↦ absurd (Option·none-ne-some k (c .1)) | inr c ↦ c .1 ])
+less-row t s = less-hand t (row (t .hand) s (λ p. none)) (λ s′ p k q. elim
+    (row-cases (t .hand) s (λ p. none) s′ p (some k) q) [ inl c ↦ absurd (Option·none-ne-some k (c .1)) | inr c ↦ c .1 ])
 
 pub less-wf : {t u : Tables} → Less t u → Wf t → Wf u
 less-wf l w = record { ends = λ s p k q. l .ends s p k q (w .ends s p k (l .hands s p k q)); ranged = λ x e q. w .ranged x e (sym (l .same-at x) ∙ q) }
@@ -223,7 +246,8 @@ left true o e q = absurd (Option·none-ne-some e q)
 left false o e q = q
 
 -- no handle joins a thing that goes
-pub wf-without : (gone : Thing → Bool) (t : Tables) → Wf t → ((s p : ℕ) (k : Handle) → t .hand s p ≡ some k → T (not (gone (subject s))) × T (not (gone (object (k .to))))) → Wf (without gone t)
+pub wf-without : (gone : Thing → Bool) (t : Tables) → Wf t →
+    ((s p : ℕ) (k : Handle) → t .hand s p ≡ some k → T (not (gone (subject s))) × T (not (gone (object (k .to))))) → Wf (without gone t)
 wf-without gone t w n = record {
   ends = λ s p k q. (let f = w .ends s p k q in record {
     from = live-at t a (subject s) (stays (gone (subject s)) (t .at (subject s)) (n s p k q .0)) (f .from);
@@ -241,7 +265,12 @@ wf-without gone t w n = record {
     stays false o u l = l
 
 pub pot-without : (gone : Thing → Bool) (t : Tables) (φ : Thing → Label) → Pot t φ → Pot (without gone t) φ
-pot-without gone t φ i = record { low = λ y. low′ (gone y) y; cap = λ y d q. cap′ (gone y) y d q; falls = λ s p x k z q. i .falls s p x k (sym (speaks-at t (λ x. cond (gone x) none (t .at x)) s) ∙ z) q }
+pot-without gone t φ i = record {
+  low = λ y. low′ (gone y) y;
+  cap = λ y d q. cap′ (gone y) y d q;
+  falls = λ s p x k z q. i .falls s p x k
+      (sym (speaks-at t (λ x. cond (gone x) none (t .at x)) s) ∙ z) q;
+}
   where
     low′ : (b : Bool) (y : Thing) → demand y (cond b none (t .at y)) ⊑ φ y
     low′ true y = bot-least
@@ -266,9 +295,15 @@ pot-reap before t φ i = pot-without (λ x. ended before (handles t) x (t .at x)
 -- ── data moves: mix ──
 pub wf-mix : (t : Tables) (m : Access) (a b y x : Thing) → Wf t → Wf (apply (mix m a b y x) t)
 wf-mix t m a b y x w = record {
-  ends = λ s p k q. (let f = w .ends s p k q in record { from = live-at t c (subject s) (more (subject s)) (f .from); to = live-at t c (object (k .to)) (more (object (k .to))) (f .to); place = f .place });
+  ends = λ s p k q. (let f = w .ends s p k q in record {
+    from = live-at t c (subject s) (more (subject s)) (f .from);
+    to = live-at t c
+        (object (k .to)) (more (object (k .to))) (f .to);
+    place = f .place;
+  });
   ranged = λ z e q. elim (put-cases (t .at) y (fall y (t .at y) (t .at x)) z (some e) q) [
-    | inl d ↦ (let r = some-of (t .at y) (some-fall y (t .at y) (t .at x) (some-is (d .1))) in subst (λ (v : Thing). T (in-range v)) (d .0) (w .ranged y (r .0) (r .1)))
+    | inl d ↦ (let r = some-of (t .at y) (some-fall y (t .at y) (t .at x) (some-is (d .1))) in subst (λ (v : Thing). T (in-range v)) (d .0)
+        (w .ranged y (r .0) (r .1)))
     | inr d ↦ w .ranged z e (d .1)
   ];
 }
@@ -298,7 +333,12 @@ pub record Feeds (t : Tables) (φ : Thing → Label) (y x : Thing) : Type 0 wher
   pub under : φ y ⊑ source .label
 
 pub pot-mix : (t : Tables) (φ : Thing → Label) (m : Access) (a b y x : Thing) → Pot t φ → Feeds t φ y x → Pot (apply (mix m a b y x) t) φ
-pot-mix t φ m a b y x i v = record { low = λ z. low′ z (same y z) (same→eq y z); cap = cap′; falls = λ s p z k u q. i .falls s p z k (sym (speaks-at t (put (t .at) y new) s) ∙ u) q }
+pot-mix t φ m a b y x i v = record {
+  low = λ z. low′ z (same y z) (same→eq y z);
+  cap = cap′;
+  falls = λ s p z k u q. i .falls s p z k
+      (sym (speaks-at t (put (t .at) y new) s) ∙ u) q;
+}
   where
     new : Option Entry
     new = fall y (t .at y) (t .at x)
@@ -309,17 +349,25 @@ pot-mix t φ m a b y x i v = record { low = λ z. low′ z (same y z) (same→eq
 
     cap′ : (z : Thing) (r : Entry) → put (t .at) y new z ≡ some r → φ z ⊑ r .label
     cap′ z r f = elim (put-cases (t .at) y new z (some r) f) [
-      | inl c ↦ (let g = fell y (t .at y) (t .at x) (v .source) r (v .source-is) (c .1) in subst (λ (w : Thing). φ w ⊑ r .label) (c .0) (g .over (φ y) (i .cap y (g .was) (g .was-is)) (v .under)))
+      | inl c ↦ (let g = fell y (t .at y) (t .at x) (v .source) r (v .source-is) (c .1) in subst (λ (w : Thing). φ w ⊑ r .label) (c .0)
+          (g .over (φ y) (i .cap y (g .was) (g .was-is)) (v .under)))
       | inr c ↦ i .cap z r (c .1)
     ]
 
 -- along a flow data may move
-pub flow-feeds : (t : Tables) (φ : Thing → Label) → Wf t → Pot t φ → (s p : ℕ) (x : Thing) (k : Handle) → speaks t s ≡ some x → t .hand s p ≡ some k → Feeds t φ (flow x k .dst) (flow x k .src)
+pub flow-feeds : (t : Tables) (φ : Thing → Label) → Wf t → Pot t φ → (s p : ℕ) (x : Thing) (k : Handle) → speaks t s ≡ some x
+    → t .hand s p ≡ some k → Feeds t φ (flow x k .dst) (flow x k .src)
 flow-feeds t φ w i s p x k z q = go (k .dir) (i .falls s p x k z q)
   where
     f : Ends t s p k
     f = w .ends s p k q
 
-    go : (d : Dir) → φ (arc d x (object (k .to)) .dst) ⊑ φ (arc d x (object (k .to)) .src) → Feeds t φ (arc d x (object (k .to)) .dst) (arc d x (object (k .to)) .src)
-    go reading h = let r = object-entry t (k .to) (f .to) in record { source = r .0; source-is = r .1; under = ⊑-trans h (i .cap (object (k .to)) (r .0) (r .1)) }
+    go : (d : Dir) → φ (arc d x (object (k .to)) .dst) ⊑ φ (arc d x (object (k .to)) .src) → Feeds t φ (arc d x (object (k .to)) .dst)
+        (arc d x (object (k .to)) .src)
+    go reading h = let r = object-entry t (k .to) (f .to) in record {
+      source = r .0;
+      source-is = r .1;
+      under = ⊑-trans h
+          (i .cap (object (k .to)) (r .0) (r .1));
+    }
     go writing h = let r = speaker-entry f z in record { source = r .0; source-is = r .1; under = ⊑-trans h (i .cap x (r .0) (r .1)) }

@@ -64,7 +64,8 @@ module _ {A : Type 0} where
     where
       go : (i < n → In x (f i) → In x (each n f)) → T (eqb i n) ⊎ T (not (eqb i n)) → In x (each n f ++ f n)
       go ih (inl q) = in-right x (each n f) (f n) (subst (λ (z : ℕ). In x (f z)) (eqb→eq i n q) h)
-      go ih (inr q) = in-left x (each n f) (f n) (ih (let apart : (i ≡ n → ⊥) = (λ e. T-not (eqb i n) q (subst (λ (z : ℕ). T (eqb i z)) e (eqb-refl i))) in omega (arith, apart)) h)
+      go ih (inr q) = in-left x (each n f) (f n) (ih (let apart : (i ≡ n → ⊥) =
+          (λ e. T-not (eqb i n) q (subst (λ (z : ℕ). T (eqb i z)) e (eqb-refl i))) in omega (arith, apart)) h)
 
   pub each-in : (n : ℕ) (f : ℕ → List A) (x : A) → In x (each n f) → (i : ℕ) × (i < n) × In x (f i)
   each-in zero f x h = absurd h

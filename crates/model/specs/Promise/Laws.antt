@@ -1,8 +1,8 @@
 -- What follows from the promise of single calls for any monitor, made up or not: nothing goes by the free part, and a list of calls goes by the
--- rules on the tables as the document reads them. Assumes nothing.
+-- rules on the tables as RULES T17 and T18 read them. Assumes nothing.
 use mathlib.Core.Path.{_≡_, refl, sym, _∙_, ap, ap₂, subst}
 use mathlib.Core.Option.{Option, none, some}
-use mathlib.Core.List.{List, [], _∷_}
+use mathlib.Core.List.{List, _∷_}
 use Prim.Native.Nat.{ℕ}
 use Rattle.model.specs.Tables.{Tables, clean}
 use Rattle.model.specs.Invariant.{Wf}
@@ -26,7 +26,7 @@ module _ {M : Type 0} (view : M → Tables) where
       go none q = k .moved q ∙ ap (λ (t : Tables). effect (clean t) c) e ∙ sym (k′ .moved (other none q))
       go (some j) q = ap view (k .unchanged j q) ∙ e ∙ ap view (sym (k′ .unchanged j (other (some j) q)))
 
-  -- no answer and no later tables go by the free part
+  -- RULES T23: no answer and no later tables go by the free part
   pub free-unseen : (rs : List Raw) (m m′ n n′ : M) (l l′ : List Answer) → Same-but-free view m m′ → Runs view m rs l n → Runs view m′ rs l′ n′
       → (l ≡ l′) × Same-but-free view n n′
   free-unseen rs m m′ n n′ l l′ e done done = (refl, e)
@@ -46,7 +46,7 @@ module _ {M : Type 0} (view : M → Tables) where
       go none q = ap clean (k .moved q) ∙ clean-same (effect t c) (effect-wf t c w q)
       go (some j) q = ap (λ (x : M). clean (view x)) (k .unchanged j q)
 
-  -- 01, Tables: "A monitor value that no calls could have made goes by the same rules", over a list of calls
+  -- RULES T16, over a list of calls: every value of the monitor goes by the rules
   pub cleaned-runs : (rs : List Raw) (m n : M) (l : List Answer) → Wf (clean (view m)) → Runs view m rs l n
       → (l ≡ answers (clean (view m)) rs) × (clean (view n) ≡ after (clean (view m)) rs)
   cleaned-runs rs m n l w done = (refl, refl)

@@ -30,7 +30,11 @@ row-cases h s r s′ p k q = elim (cond-cases (eqb s s′) (r p) (h s′ p) k q)
 
 pub place-cases : (h : ℕ → ℕ → Option Handle) (s p : ℕ) (v : Option Handle) (s′ p′ : ℕ) (k : Option Handle) → place h s p v s′ p′ ≡ k
     → ((s ≡ s′) × (p ≡ p′) × (v ≡ k)) ⊎ (h s′ p′ ≡ k)
-place-cases h s p v s′ p′ k q = elim (row-cases h s (λ q. cond (eqb p q) v (h s q)) s′ p′ k q) [ inl c ↦ inner (c .0) (cond-cases (eqb p p′) v (h s p′) k (c .1)) | inr c ↦ inr (c .1) ]
+place-cases h s p v s′ p′ k q = elim (row-cases h s (λ q. cond (eqb p q) v (h s q)) s′ p′ k q) [
+  | inl c ↦ inner (c .0)
+      (cond-cases (eqb p p′) v (h s p′) k (c .1))
+  | inr c ↦ inr (c .1)
+]
   where
     inner : s ≡ s′ → (T (eqb p p′) × (v ≡ k)) ⊎ (T (not (eqb p p′)) × (h s p′ ≡ k)) → ((s ≡ s′) × (p ≡ p′) × (v ≡ k)) ⊎ (h s′ p′ ≡ k)
     inner e (inl c) = inl (e, eqb→eq p p′ (c .0), c .1)
@@ -45,7 +49,8 @@ live-hand t h x l = let r = live-of t x l in both (in-range x) (used (with-hand 
 
 -- entries that stay where they were leave live what was live
 pub live-at : (t : Tables) (a : Thing → Option Entry) (x : Thing) → (T (is-some (t .at x)) → T (is-some (a x))) → T (live t x) → T (live (with-at t a) x)
-live-at t a x f l = let r = live-of t x l in both (in-range x) (used (with-at t a) x) (r .0) (subst T (sym (used-is (with-at t a) x)) (f (subst T (used-is t x) (r .1))))
+live-at t a x f l = let r = live-of t x l in both (in-range x) (used (with-at t a) x) (r .0)
+    (subst T (sym (used-is (with-at t a) x)) (f (subst T (used-is t x) (r .1))))
 
 -- ── lists of steps ──
 pub applies-append : (xs ys : List Step) (t : Tables) → applies (xs ++ ys) t ≡ applies ys (applies xs t)
@@ -53,11 +58,13 @@ applies-append [] ys t = refl
 applies-append (k ∷ xs) ys t = applies-append xs ys (apply k t)
 
 -- ── a pipe ends with its last handle, and no sooner ──
-pub ended-last : (before after : List Handle) (n : ℕ) (o : Option Entry) → T (is-pipe (object n) o) → T (open-on before n) → T (not (open-on after n)) → T (ended before after (object n) o)
+pub ended-last : (before after : List Handle) (n : ℕ) (o : Option Entry) → T (is-pipe (object n) o) → T (open-on before n) → T
+    (not (open-on after n)) → T (ended before after (object n) o)
 unfolding ended
 ended-last before after n o p b a = go (is-pipe (object n) o) p (both (open-on before n) (not (open-on after n)) b a)
   where
-    go : (f : Bool) → T f → T (open-on before n && not (open-on after n)) → T (elim f as (λ _. Bool) [ true ↦ open-on before n && not (open-on after n) | false ↦ false ])
+    go : (f : Bool) → T f → T (open-on before n && not (open-on after n)) → T
+        (elim f as (λ _. Bool) [ true ↦ open-on before n && not (open-on after n) | false ↦ false ])
     go true p h = h
     go false p h = absurd p
 
@@ -75,7 +82,8 @@ pub ended-of : (before after : List Handle) (n : ℕ) (o : Option Entry) → T (
 unfolding ended
 ended-of before after n o h = go (is-pipe (object n) o) h
   where
-    go : (f : Bool) → T (elim f as (λ _. Bool) [ true ↦ open-on before n && not (open-on after n) | false ↦ false ]) → T (open-on before n) × T (not (open-on after n))
+    go : (f : Bool) → T (elim f as (λ _. Bool) [ true ↦ open-on before n && not (open-on after n) | false ↦ false ]) → T
+        (open-on before n) × T (not (open-on after n))
     go true h = both-of (open-on before n) (not (open-on after n)) h
     go false h = absurd h
 
@@ -88,8 +96,10 @@ pub reap-more : (t u : Tables) → ((n : ℕ) → T (open-on (handles t) n) → 
 reap-more t u f = ap (with-at u) (fun-ext stays)
   where
     stays : (x : Thing) → cond (ended (handles t) (handles u) x (u .at x)) none (u .at x) ≡ u .at x
-    stays (subject n) = cond-no (ended (handles t) (handles u) (subject n) (u .at (subject n))) none (u .at (subject n)) (ended-subject (handles t) (handles u) n (u .at (subject n)))
-    stays (object n) = cond-no (ended (handles t) (handles u) (object n) (u .at (object n))) none (u .at (object n)) (not-T (ended (handles t) (handles u) (object n) (u .at (object n)))
+    stays (subject n) = cond-no (ended (handles t) (handles u) (subject n) (u .at (subject n))) none (u .at (subject n))
+        (ended-subject (handles t) (handles u) n (u .at (subject n)))
+    stays (object n) = cond-no (ended (handles t) (handles u) (object n) (u .at (object n))) none (u .at (object n))
+        (not-T (ended (handles t) (handles u) (object n) (u .at (object n)))
         (λ e. let r = ended-of (handles t) (handles u) n (u .at (object n)) e in T-not (open-on (handles u) n) (r .1) (f n (r .0))))
 
 -- ── fall ──
@@ -151,12 +161,14 @@ fell x (some e) (some d′) d r q f = record {
   was = e;
   was-is = refl;
   under-was = fall-under x (some e) (some d′) r f .2;
-  under-source = λ h. subst (λ (z : Label). z ⊑ d .label) l (right (falls x (e .kind)) (λ n. subst (λ (z : Label). z ⊑ d .label) (cond-yes (is-file x (e .kind)) (e .label) bot (falls-or-file x (e .kind) n)) h));
+  under-source = λ h. subst (λ (z : Label). z ⊑ d .label) l (right (falls x (e .kind))
+      (λ n. subst (λ (z : Label). z ⊑ d .label) (cond-yes (is-file x (e .kind)) (e .label) bot (falls-or-file x (e .kind) n)) h));
   over = λ v p q. subst (λ (z : Label). v ⊑ z) l (least v (falls x (e .kind)) p q);
 }
   where
     l : cond (falls x (e .kind)) (meet (e .label) (d .label)) (e .label) ≡ r .label
-    l = subst (λ (z : Entry). sunk x (e .kind) (e .label) (z .label) ≡ r .label) (Option·some-injective d′ d q) (ap (λ (z : Entry). z .label) (Option·some-injective _ r f))
+    l = subst (λ (z : Entry). sunk x (e .kind) (e .label) (z .label) ≡ r .label) (Option·some-injective d′ d q)
+        (ap (λ (z : Entry). z .label) (Option·some-injective _ r f))
 
     right : (f : Bool) → (T (not f) → e .label ⊑ d .label) → cond f (meet (e .label) (d .label)) (e .label) ⊑ d .label
     right true h = meet-right (e .label) (d .label)

@@ -51,7 +51,8 @@ cell-self t s = refl
 
 -- a live subject's cell and a live object have an entry
 pub cell-entry : (t : Tables) (s : ℕ) → T (live t (subject s)) → (e : Entry) × (t .at (cell t s) ≡ some e)
-cell-entry t s h = subst (λ (x : Thing). (e : Entry) × (t .at x ≡ some e)) (sym (cell-self t s)) (some-of (t .at (subject s)) (subst T (used-is t (subject s)) (live-of t (subject s) h .1)))
+cell-entry t s h = subst (λ (x : Thing). (e : Entry) × (t .at x ≡ some e)) (sym (cell-self t s))
+    (some-of (t .at (subject s)) (subst T (used-is t (subject s)) (live-of t (subject s) h .1)))
 
 pub object-entry : (t : Tables) (o : ℕ) → T (live t (object o)) → (e : Entry) × (t .at (object o) ≡ some e)
 object-entry t o h = some-of (t .at (object o)) (subst T (used-is t (object o)) (live-of t (object o) h .1))
@@ -67,9 +68,11 @@ handle-in t s p k ls lp q = in-each subjects (handles-of t) k s ls (in-each plac
 pub open-here : (t : Tables) (s p : ℕ) (k : Handle) → s < subjects → p < places → t .hand s p ≡ some k → T (open-on (handles t) (k .to))
 open-here t s p k ls lp q = any-of (λ z. eqb (z .to) (k .to)) (handles t) k (handle-in t s p k ls lp q) (eqb-refl (k .to))
 
-pub open-at : (t : Tables) (o : ℕ) → T (open-on (handles t) o) → (s : ℕ) × (p : ℕ) × (k : Handle) × (s < subjects) × (p < places) × (t .hand s p ≡ some k) × (k .to ≡ o)
+pub open-at : (t : Tables) (o : ℕ) → T (open-on (handles t) o) → (s : ℕ) × (p : ℕ) × (k : Handle) × (s < subjects) × (p < places) ×
+    (t .hand s p ≡ some k) × (k .to ≡ o)
 unfolding handles
-open-at t o h = let r = any-at (λ z. eqb (z .to) o) (handles t) h in let a = each-in subjects (handles-of t) (r .0) (r .1) in let b = each-in places (λ p. one (t .hand (a .0) p)) (r .0) (a .2) in
+open-at t o h = let r = any-at (λ z. eqb (z .to) o) (handles t) h in let a = each-in subjects (handles-of t) (r .0)
+    (r .1) in let b = each-in places (λ p. one (t .hand (a .0) p)) (r .0) (a .2) in
     (a .0, b .0, r .0, a .1, b .1, of-one (t .hand (a .0) (b .0)) (r .0) (b .2), eqb→eq (r .0 .to) o (r .2))
   where
     of-one : {A : Type 0} (v : Option A) (k : A) → In k (one v) → v ≡ some k
@@ -83,10 +86,13 @@ unfolding handles
 handles-at t a = refl
 
 -- ── edges ──
-pub flow-edge : (t : Tables) (s p : ℕ) (x : Thing) (k : Handle) → s < subjects → p < places → speaks t s ≡ some x → t .hand s p ≡ some k → In (flow x k) (edges t)
+pub flow-edge : (t : Tables) (s p : ℕ) (x : Thing) (k : Handle) → s < subjects → p < places → speaks t s ≡ some x → t .hand s p ≡ some k
+    → In (flow x k) (edges t)
 unfolding edges
 flow-edge t s p x k ls lp z q = in-each subjects (λ s. each places (λ p. flows-of (speaks t s) (t .hand s p))) (flow x k) s ls
-    (in-each places (λ p. flows-of (speaks t s) (t .hand s p)) (flow x k) p lp (subst (λ (v : Option Thing). In (flow x k) (flows-of v (t .hand s p))) (sym z) (subst (λ (v : Option Handle). In (flow x k) (flows-of (some x) v)) (sym q) (inl refl))))
+    (in-each places (λ p. flows-of (speaks t s) (t .hand s p)) (flow x k) p lp
+    (subst (λ (v : Option Thing). In (flow x k) (flows-of v (t .hand s p))) (sym z)
+    (subst (λ (v : Option Handle). In (flow x k) (flows-of (some x) v)) (sym q) (inl refl))))
 
 -- an edge is the flow of a handle
 pub record Flows (t : Tables) (e : Edge) : Type 0 where
@@ -113,14 +119,20 @@ edge-flow t e i = let r = each-in subjects (λ s. each places (λ p. flows-of (s
 -- ── things ──
 pub thing-listed : (t : Tables) (x : Thing) (e : Entry) → T (in-range x) → t .at x ≡ some e → In x (things t)
 unfolding things used cell
-thing-listed t (subject n) e r q = in-left (subject n) (live-subjects t) (live-objects t) (in-each subjects (λ s. keep (used t (subject s)) (cell t s) []) (subject n) n (ltb→lt n subjects r) (keep-here (is-some (t .at (subject n))) (subject n) [] (some-is q)))
-thing-listed t (object n) e r q = in-right (object n) (live-subjects t) (live-objects t) (in-each objects (λ o. keep (used t (object o)) (object o) []) (object n) n (ltb→lt n objects r) (keep-here (is-some (t .at (object n))) (object n) [] (some-is q)))
+thing-listed t (subject n) e r q = in-left (subject n) (live-subjects t) (live-objects t)
+    (in-each subjects (λ s. keep (used t (subject s)) (cell t s) []) (subject n) n (ltb→lt n subjects r)
+    (keep-here (is-some (t .at (subject n))) (subject n) [] (some-is q)))
+thing-listed t (object n) e r q = in-right (object n) (live-subjects t) (live-objects t)
+    (in-each objects (λ o. keep (used t (object o)) (object o) []) (object n) n (ltb→lt n objects r)
+    (keep-here (is-some (t .at (object n))) (object n) [] (some-is q)))
 
 pub listed-thing : (t : Tables) (x : Thing) → In x (things t) → (e : Entry) × (t .at x ≡ some e)
 unfolding things used cell
 listed-thing t x i = elim (in-cases x (live-subjects t) (live-objects t) i) [
-  | inl j ↦ (let r = each-in subjects (λ s. keep (used t (subject s)) (cell t s) []) x j in kept (subject (r .0)) (keep-cases (is-some (t .at (subject (r .0)))) (subject (r .0)) [] x (r .2)))
-  | inr j ↦ (let r = each-in objects (λ o. keep (used t (object o)) (object o) []) x j in kept (object (r .0)) (keep-cases (is-some (t .at (object (r .0)))) (object (r .0)) [] x (r .2)))
+  | inl j ↦ (let r = each-in subjects (λ s. keep (used t (subject s)) (cell t s) []) x j in kept (subject (r .0))
+      (keep-cases (is-some (t .at (subject (r .0)))) (subject (r .0)) [] x (r .2)))
+  | inr j ↦ (let r = each-in objects (λ o. keep (used t (object o)) (object o) []) x j in kept (object (r .0))
+      (keep-cases (is-some (t .at (object (r .0)))) (object (r .0)) [] x (r .2)))
 ]
   where
     kept : (y : Thing) → (T (is-some (t .at y)) × (y ≡ x)) ⊎ In x [] → (e : Entry) × (t .at x ≡ some e)
@@ -142,11 +154,21 @@ short t x = not (leq (needs t x) (label-of (t .at x)))
 -- some live thing has a label below its need, exactly where the test fails
 pub not-safe : (t : Tables) → T (not (safe t)) ↔ ((x : Thing) × In x (things t) × T (not (leq (needs t x) (label-of (t .at x)))))
 unfolding safe
-not-safe t = (λ h. any-at (short t) (things t) (not-not (any (short t) (things t)) h), λ r. back (any (short t) (things t)) (any-of (short t) (things t) (r .0) (r .1) (r .2)))
+not-safe t = (
+  λ h. any-at (short t) (things t) (not-not (any (short t) (things t)) h),
+  λ r. back (any (short t) (things t))
+      (any-of (short t) (things t) (r .0) (r .1) (r .2)),
+)
   where
     back : (b : Bool) → T b → T (not (not b))
     back true t = tt
     back false t = t
 
 pub safe-above : (t : Tables) → T (safe t) → (x : Thing) → In x (things t) → needs t x ⊑ label-of (t .at x)
-safe-above t h x i = record { tested = elim (test (leq (needs t x) (label-of (t .at x)))) [ inl y ↦ y | inr n ↦ absurd (T-not (safe t) (not-safe t .1 (x, i, n)) h) ] }
+safe-above t h x i = record {
+  tested = elim (test (leq (needs t x) (label-of (t .at x)))) [
+    | inl y ↦ y
+    | inr n ↦ absurd
+        (T-not (safe t) (not-safe t .1 (x, i, n)) h)
+  ];
+}

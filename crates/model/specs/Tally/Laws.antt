@@ -1,5 +1,5 @@
 -- Made minus gone is the number of handles in the tables, modulo 2 to the 64th, after every list of calls from empty tables; from any tables in
--- which nothing dangles it moves as that number does (document 01, "Journal"). How many handles a step places or removes; then call by call; then
+-- which nothing dangles it moves as that number does (RULES Y10, Y11). How many handles a step places or removes; then call by call; then
 -- the list. Assumes nothing.
 use mathlib.Core.Path.{_≡_, refl, _∙_, ap, subst}
 use mathlib.Core.Bool.{Bool, not, cond}
@@ -30,11 +30,13 @@ use Rattle.model.specs.Tally.{held, makes, removes, wrapped, Tally, zero
 module _ {A : Type 0} where
   each-same : (n : ℕ) (f g : ℕ → List A) → ((j : ℕ) → j < n → length (g j) ≡ length (f j)) → length (each n g) ≡ length (each n f)
   each-same zero f g h = refl
-  each-same (suc n) f g h = let a : length (each n g) ≡ length (each n f) = each-same n f g (λ j l. h j (omega arith)) in let b : length (g n) ≡ length (f n) = h n (omega arith) in
+  each-same (suc n) f g h = let a : length (each n g) ≡ length (each n f) = each-same n f g (λ j l. h j (omega arith)) in let b : length
+      (g n) ≡ length (f n) = h n (omega arith) in
       omega (arith, length-append (each n g) (g n), length-append (each n f) (f n))
 
   -- one of them changed
-  each-swap : (n i : ℕ) (f g : ℕ → List A) → i < n → ((j : ℕ) → T (not (eqb i j)) → length (g j) ≡ length (f j)) → length (each n g) + length (f i) ≡ length (each n f) + length (g i)
+  each-swap : (n i : ℕ) (f g : ℕ → List A) → i < n → ((j : ℕ) → T (not (eqb i j)) → length (g j) ≡ length (f j)) → length
+      (each n g) + length (f i) ≡ length (each n f) + length (g i)
   each-swap zero i f g lt h = absurd (omega arith)
   each-swap (suc n) i f g lt h = go (test (eqb i n)) (each-swap n i f g)
     where
@@ -44,14 +46,16 @@ module _ {A : Type 0} where
       fa : length (each n f ++ f n) ≡ length (each n f) + length (f n)
       fa = length-append (each n f) (f n)
 
-      go : T (eqb i n) ⊎ T (not (eqb i n)) → (i < n → ((j : ℕ) → T (not (eqb i j)) → length (g j) ≡ length (f j)) → length (each n g) + length (f i) ≡ length (each n f) + length (g i))
+      go : T (eqb i n) ⊎ T (not (eqb i n)) → (i < n → ((j : ℕ) → T (not (eqb i j)) → length (g j) ≡ length (f j)) → length
+          (each n g) + length (f i) ≡ length (each n f) + length (g i))
           → length (each n g ++ g n) + length (f i) ≡ length (each n f ++ f n) + length (g i)
       go (inl q) ih = let e : i ≡ n = eqb→eq i n q in
           let a : length (each n g) ≡ length (each n f) = each-same n f g (λ j l. h j (not-T (eqb i j) (λ t. let z : i ≡ j = eqb→eq i j t in omega arith))) in
           let b : length (f i) ≡ length (f n) = ap (λ (z : ℕ). length (f z)) e in let c : length (g i) ≡ length (g n) = ap (λ (z : ℕ). length (g z)) e in
           omega (arith, ga, fa)
       go (inr q) ih = let ne : (i ≡ n → ⊥) = (λ e. T-not (eqb i n) q (subst (λ (z : ℕ). T (eqb i z)) e (eqb-refl i))) in
-          let a : length (each n g) + length (f i) ≡ length (each n f) + length (g i) = ih (omega (arith, ne)) h in let b : length (g n) ≡ length (f n) = h n q in
+          let a : length (each n g) + length (f i) ≡ length (each n f) + length (g i) = ih (omega (arith, ne)) h in let b : length
+          (g n) ≡ length (f n) = h n q in
           omega (arith, ga, fa)
 
 -- ── steps ──
@@ -59,15 +63,20 @@ abbrev count : Tables → ℕ
 count t = length (handles t)
 
 -- all places of s changed
-count-row : (t : Tables) (s : ℕ) (r : ℕ → Option Handle) → s < subjects → count (apply (holds s r) t) + held t s ≡ count t + length (each places (λ p. one (r p)))
+count-row : (t : Tables) (s : ℕ) (r : ℕ → Option Handle) → s < subjects → count (apply (holds s r) t) + held t s ≡ count t + length
+    (each places (λ p. one (r p)))
 unfolding handles
-count-row t s r l = each-swap subjects s (handles-of t) (handles-of (apply (holds s r) t)) l (λ j n. ap (λ (b : Bool). length (each places (λ p. one (cond b (r p) (t .hand j p))))) (is-false (eqb s j) n))
+count-row t s r l = each-swap subjects s (handles-of t) (handles-of (apply (holds s r) t)) l
+    (λ j n. ap (λ (b : Bool). length (each places (λ p. one (cond b (r p) (t .hand j p))))) (is-false (eqb s j) n))
     ∙ ap (λ (m : ℕ). count t + m) (ap (λ (b : Bool). length (each places (λ p. one (cond b (r p) (t .hand s p))))) (is-true (eqb s s) (eqb-refl s)))
 
 -- place p of s changed
-count-hold : (t : Tables) (s p : ℕ) (v : Option Handle) → s < subjects → p < places → count (apply (hold s p v) t) + length (one (t .hand s p)) ≡ count t + length (one v)
+count-hold : (t : Tables) (s p : ℕ) (v : Option Handle) → s < subjects → p < places → count (apply (hold s p v) t) + length
+    (one (t .hand s p)) ≡ count t + length (one v)
 count-hold t s p v ls lp = let a : count (apply (hold s p v) t) + held t s ≡ count t + length (each places (λ q. one (r q))) = count-row t s r ls in
-    let b : length (each places (λ q. one (r q))) + length (one (t .hand s p)) ≡ held t s + length (one (r p)) = each-swap places p (λ q. one (t .hand s q)) (λ q. one (r q)) lp (λ q n. ap (λ (o : Option Handle). length (one o)) (cond-no (eqb p q) v (t .hand s q) n)) in
+    let b : length (each places (λ q. one (r q))) + length (one (t .hand s p)) ≡ held t s + length (one (r p)) = each-swap places p
+    (λ q. one (t .hand s q)) (λ q. one (r q)) lp (λ q n. ap (λ (o : Option Handle). length (one o))
+    (cond-no (eqb p q) v (t .hand s q) n)) in
     let c : length (one (r p)) ≡ length (one v) = ap (λ (o : Option Handle). length (one o)) (cond-yes (eqb p p) v (t .hand s p) (eqb-refl p)) in
     omega arith
   where
@@ -108,7 +117,9 @@ each-none (suc n) f h = let a : length (each n f) ≡ 0 = each-none n f h in let
 
 -- a number not in use holds nothing
 holds-none : (t : Tables) → Wf t → (c : ℕ) → t .at (subject c) ≡ none → held t c ≡ 0
-holds-none t v c n = each-none places (λ p. one (t .hand c p)) (λ p. ap (λ (o : Option Handle). length (one o)) (none-of (t .hand c p) (not-T (is-some (t .hand c p)) (λ h. unheld p (some-of (t .hand c p) h)))))
+holds-none t v c n = each-none places (λ p. one (t .hand c p))
+    (λ p. ap (λ (o : Option Handle). length (one o)) (none-of (t .hand c p)
+    (not-T (is-some (t .hand c p)) (λ h. unheld p (some-of (t .hand c p) h)))))
   where
     unheld : (p : ℕ) → (k : Handle) × (t .hand c p ≡ some k) → ⊥
     unheld p r = subst (λ (o : Option Entry). T (is-some o)) n (subst T (used-is t (subject c)) (live-of t (subject c) (v .ends c p (r .0) (r .1) .from) .1))
@@ -118,7 +129,8 @@ module _ (t : Tables) (v : Wf t) where
   entered-count : (a : Thing → Option Entry) → count (with-at t a) + 0 ≡ count t + 0
   entered-count a = ap (λ (k : ℕ). k + 0) (count-at t a)
 
-  pipe-count : (s o r w : ℕ) → ((e : Test) → In e (tests (make-pipe s o r w)) → T (not (broken t e))) → count (applies (steps t (make-pipe s o r w)) t) + 0 ≡ count t + 2
+  pipe-count : (s o r w : ℕ) → ((e : Test) → In e (tests (make-pipe s o r w)) → T (not (broken t e))) → count
+      (applies (steps t (make-pipe s o r w)) t) + 0 ≡ count t + 2
   pipe-count s o r w m = let a : count u₁ ≡ count u + 1 = count-placed u s r (handle reading o) ls (is-place t s r hr) (empty-place t s r hr) in
       let b : count (apply (hold s w (some (handle writing o))) u₁) ≡ count u₁ + 1 = count-placed u₁ s w (handle writing o) ls (is-place t s w hw) still in
       let c : count u ≡ count t = count-at t (put (t .at) (object o) (some e)) in
@@ -170,7 +182,8 @@ module _ (t : Tables) (v : Wf t) where
       omega arith
 
   exit-count : (s : ℕ) → ((e : Test) → In e (tests (exit s)) → T (not (broken t e))) → count (applies (steps t (exit s)) t) + held t s ≡ count t + 0
-  exit-count s m = let a : count u + held t s ≡ count t + length (each places (λ p. one {A = Handle} none)) = count-row t s (λ p. none) (row-of t s (m (alive s) (inl refl))) in
+  exit-count s m = let a : count u + held t s ≡ count t + length (each places (λ p. one {A = Handle} none)) = count-row t s (λ p. none)
+      (row-of t s (m (alive s) (inl refl))) in
       let b : count (apply (leave (subject s)) u) ≡ count u = count-at u (put (u .at) (subject s) none) in
       let c : length (each places (λ p. one {A = Handle} none)) ≡ 0 = each-none places (λ p. one none) (λ j. refl) in
       omega arith
@@ -187,7 +200,8 @@ module _ (t : Tables) (v : Wf t) where
   stepped-count (register o n) m = entered-count _
   stepped-count (create s o) m = entered-count _
   stepped-count (make-pipe s o r w) m = pipe-count s o r w m
-  stepped-count (opens d s o p) m = let h = m (vacant s p) (inr (inr (inl refl))) in let a = count-placed t s p (handle d o) (row-of t s (m (alive s) (inl refl))) (is-place t s p h) (empty-place t s p h) in omega arith
+  stepped-count (opens d s o p) m = let h = m (vacant s p) (inr (inr (inl refl))) in let a = count-placed t s p (handle d o)
+      (row-of t s (m (alive s) (inl refl))) (is-place t s p h) (empty-place t s p h) in omega arith
   stepped-count (access d s p) m = access-count d (subject s) (cell t s) (target (t .hand s p))
   stepped-count (fork s c) m = fork-count s c m
   stepped-count (exec s o) m = exec-count s o
@@ -252,7 +266,7 @@ pub tally-moves : (t : Tables) (y : Tally) (rs : List Raw) → Wf t →
     wrapped (z .made + y .gone + length (handles t)) ≡ wrapped (y .made + z .gone + length (handles (after t rs)))
 tally-moves t y rs v = let m = list-moves t y rs v .moved in omega (arith, m .sums)
 
--- 01, Journal: "Made minus gone equals the handles in the table."
+-- RULES Y10: made minus gone is the number of handles in the tables
 pub made-minus-gone : (rs : List Raw) → difference (tally empty zeroed rs) ≡ wrapped (length (handles (after empty rs)))
 made-minus-gone rs = let m = list-moves empty zeroed rs empty-wf in
     go (tally empty zeroed rs) (count empty) (count (after empty rs)) none-open (m .gone-wrapped (lit< tt)) (m .moved)

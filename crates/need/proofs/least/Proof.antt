@@ -26,7 +26,11 @@ returns : tie.Need-returns Inv-loop μ-loop
 returns c = stop _ _ _ _ _ _ (c .before .before .before .before .loop .inv) (c .before .before .before .pass .ensures) (not-true _ (c .if1 .taken))
 
 loop-less : tie.Need-loop-less Inv-loop μ-loop
-loop-less c = let low : ((x : ℕ) → getD (c .before .before .before .before .before .args .start) x 0 < 256) = (λ x. let f : Fits w8 (getD (c .before .before .before .before .before .args .start) x 0) = search needs in omega arith) in falls _ _ _ _ _ _ (c .before .before .before .before .loop .inv) (c .before .before .before .pass .ensures) (search needs) low (not-false _ (c .if1 .left))
+loop-less c = let low : ((x : ℕ) → getD (c .before .before .before .before .before .args .start) x 0 < 256) =
+    (λ x. let f : Fits w8 (getD
+    (c .before .before .before .before .before .args .start) x 0) = search needs in omega arith) in falls _ _ _ _ _ _
+    (c .before .before .before .before .loop .inv) (c .before .before .before .pass .ensures) (search needs) low
+    (not-false _ (c .if1 .left))
 
 loop-again : tie.Need-loop-again Inv-loop μ-loop
 loop-again c = one-more _ _ _ _ _ (c .before .before .before .before .loop .inv) (c .before .before .before .pass .ensures .between)

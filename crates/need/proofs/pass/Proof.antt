@@ -46,7 +46,11 @@ loop-less : tie.Need-loop-less Inv-loop μ-loop
 loop-less c = search needs
 
 loop-again : tie.Need-loop-again Inv-loop μ-loop
-loop-again c = let p = c .before .before .loop .inv .1 in let l : length (c .before .before .before .args .figures) ≡ 96 = search needs in (omega arith, ⊎-elim (λ w. moved (w .1) (w .2) (grow _ _ _ _ _ _ p (omega arith) (omega (arith, p .between .long)) (w .0 .taken))) (λ w. moved (w .1) (w .2) (keep _ _ _ _ _ _ p (w .0 .left))) (c .if1 .came))
+loop-again c = let p = c .before .before .loop .inv .1 in let l : length (c .before .before .before .args .figures) ≡ 96 = search needs in (
+  omega arith,
+  ⊎-elim (λ w. moved (w .1) (w .2) (grow _ _ _ _ _ _ p (omega arith) (omega (arith, p .between .long)) (w .0 .taken)))
+      (λ w. moved (w .1) (w .2) (keep _ _ _ _ _ _ p (w .0 .left))) (c .if1 .came),
+)
 
 returns : tie.Need-returns Inv-loop μ-loop
 returns c = at (omega arith) (c .before .loop .inv .1)

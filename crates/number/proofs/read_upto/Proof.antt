@@ -28,13 +28,16 @@ value : (c : tie.After-read-rest)
     → let a = c .before .before .before .before .before .before .before .before .args in
     c .read-rest .result ≡ worth (number (a .most) (a .from .now))
 value c =
-    let start = c .before .before .before .before .before .before .before .before in
+    let c2 = c .before .before in
+    let c4 = c2 .before .before in
+    let c8 = c4 .before .before .before .before in
+    let start = c8 in
     let s = start .args .from .now in
     let most = start .args .most in
-    let g = c .before .before .before .before .groups .given .0 .0 in
-    let l = long (c .before .before .before .before) in
+    let g = c4 .groups .given .0 .0 in
+    let l = long (c4) in
     c .read-rest .ensures
-    ∙ ap (λ (k : ℕ). worth (after g (number ((most - g) / 16384) (take (k - 2) (drop 2 s))))) (c .before .before .reach .ensures)
+    ∙ ap (λ (k : ℕ). worth (after g (number ((most - g) / 16384) (take (k - 2) (drop 2 s))))) (c2 .reach .ensures)
     ∙ ap (λ (r : Reading). worth (after g r)) (reached ((most - g) / 16384) s (l .full) (omega (arith, start .fits .most)))
     ∙ ap worth (sym (l .goes-on))
 
@@ -92,11 +95,13 @@ returns-3 c =
 
 returns-4 : tie.Need-returns-4
 returns-4 c =
-    let v = value (c .before .before) in
-    let known = c .before .before .before .before .before .before .before .before .before in
+    let c2 = c .before .before in
+    let c9 = c2 .before .before .before .before .before .before .before in
+    let v = value (c2) in
+    let known = c9 in
     let a = known .before .args in
     let are : AreBytes (a .from .now) = λ i. omega (arith, known .shared-slice-known .given i) in
-    ap (good (c .before .before .read-rest .result)) (c .long-len .ensures)
+    ap (good (c2 .read-rest .result)) (c .long-len .ensures)
     ∙ ap (λ (x : ℕ). good x (length (encode x))) v
     ∙ sym (number-length (a .most) (a .from .now) are (omega (arith, v, c .before .if1 .left)))
 

@@ -3,7 +3,8 @@ use mathlib.Core.Path.{refl, sym, _∙_, ap, subst}
 use borrow.Author.Needs.{needs}
 use Rattle.model.specs.Calls.{refused}
 use Rattle.journal.specs.Answers.{Said, body-answer}
-use Rattle.gatekeeper.specs.View.{told, counts-of}
+use Rattle.gatekeeper.specs.View.{told}
+use Rattle.tally.specs.Counting.{counts-of}
 use Rattle.replay.specs.One.{One}
 use Rattle.replay.proofs.one.Statement.{statement}
 use Rattle.replay.proofs.one.Tie as tie
@@ -25,12 +26,16 @@ enum-known-code-2 c = search needs
 
 returns : tie.Need-returns
 returns c =
-    let a = c .before .before .before .before .before .before .before .before .before .before .args in
-    let k = c .before .before .before .counted-call in
-    let call = c .before .before .before .before .before .before .call .given .0 .0 in
+    let c3 = c .before .before .before in
+    let c6 = c3 .before .before .before in
+    let c8 = c6 .before .before in
+    let c10 = c8 .before .before in
+    let a = c10 .args in
+    let k = c3 .counted-call in
+    let call = c6 .call .given .0 .0 in
     subst (λ (s : Said). One (a .m) (counts-of (a .tally)) s (call .code) (told (k .result .reply .answer)) (k .result .reply .monitor)
     (counts-of (k .result .tally)))
-    (ap body-answer (sym (c .before .before .before .before .before .before .call .given .1)) ∙ c .before .before .before .before .before .before .before .before .read-body .ensures)
+    (ap body-answer (sym (c6 .call .given .1)) ∙ c8 .read-body .ensures)
     (refl, k .ensures .0, k .ensures .1)
 
 returns-2 : tie.Need-returns-2

@@ -1,7 +1,7 @@
 -- `replay::records` meets its contract. Assumes nothing.
 use mathlib.Core.Path.{_≡_, sym, _∙_, ap, ap₂, subst}
 use Rattle.text.specs.Parts.Laws.{put-after, none-after}
-use Rattle.replay.specs.Replay.{last-line}
+use Rattle.replay.specs.Replay.{last-line, largest-journal}
 use Rattle.replay.specs.Replay.Laws.{bad-inside}
 use mathlib.Core.Bool.{Bool, cond}
 use mathlib.Core.Option.{Option·none-ne-some}
@@ -17,14 +17,16 @@ use Rattle.journal.specs.Answers.{answers as reads, refused as bad}
 use Rattle.journal.specs.Journal.{entry-at, body-in}
 use Rattle.replay.specs.One.{One}
 use Rattle.journal.specs.Journal.Laws.{entry-next}
-use Rattle.gatekeeper.specs.View.{view, told, letter-of, value-of, counts-of}
+use Rattle.gatekeeper.specs.View.{view, told, letter-of, value-of}
+use Rattle.tally.specs.Counting.{counts-of}
 use Rattle.replay.specs.Demand3.Laws.{run-ended}
 use Rattle.replay.specs.Stage.{Going, going-begun, at-test, record-turn, record-ends, broken-turn, broken-ends, end-turn, ended, end-short}
 use Rattle.replay.proofs.records.Statement.{statement}
 use Rattle.replay.proofs.records.Tie as tie
 
 abbrev Inv-loop : tie.InvT-loop
-Inv-loop journal out₀ m₀ tally₀ at₀ position₀ used₀ going₀ out m tally at position used going = (length journal ≤ 65536) × Going journal out₀ out (view m) (counts-of tally) at position used going
+Inv-loop journal out₀ m₀ tally₀ at₀ position₀ used₀ going₀ out m tally at position used going =
+    (length journal ≤ largest-journal) × Going journal out₀ out (view m) (counts-of tally) at position used going
 
 abbrev μ-loop : tie.MeasureT-loop
 μ-loop journal out₀ m₀ tally₀ at₀ position₀ used₀ going₀ out m tally at position used going = (length journal - at) + cond going 1 0
@@ -72,56 +74,82 @@ enum-known-n c = search needs
 
 add-used : tie.Need-add-used Inv-loop μ-loop
 add-used c =
-    let l = c .before .before .before .before .before .before .before .before .before .before .before .before .before .before .before .before .loop in
-    let a = c .before .before .before .before .before .before .before .before .before .before .before .before .before .before .before .before .before .before .before .before .args in
-    let g = at-test (c .before .before .before .before .before .before .before .before .before .before .before .before .before .before .before .loop-test .taken) (l .inv .1) in
-    let w = c .before .before .before .before .before .write-line in
+    let c5 = c .before .before .before .before .before in
+    let c15 = c5 .before .before .before .before .before .before .before .before .before .before in
+    let c16 = c15 .before in
+    let c20 = c16 .before .before .before .before in
+    let l = c16 .loop in
+    let a = c20 .args in
+    let g = at-test (c15 .loop-test .taken) (l .inv .1) in
+    let w = c5 .write-line in
     omega (
       arith,
       put-after (g .stage .over) _ (w .last .0) (c .before .n .given .0 .0) (ap writing (sym (c .before .n .given .1)) ∙ w .ensures .0)
           (w .ensures .1 .0) .within,
-      c .before .before .before .before .before .before .before .before .before .before .before .before .before .before .before .before .before .before .before .before .good,
+      c20 .good,
     )
 
 add-position : tie.Need-add-position Inv-loop μ-loop
 add-position c =
-    let l = c .before .before .before .before .before .before .before .before .before .before .before .before .before .before .before .before .loop in
-    let a = c .before .before .before .before .before .before .before .before .before .before .before .before .before .before .before .before .before .before .before .before .args in
-    let g = at-test (c .before .before .before .before .before .before .before .before .before .before .before .before .before .before .before .loop-test .taken) (l .inv .1) in
+    let c15 = c .before .before .before .before .before .before .before .before .before .before .before .before .before .before .before in
+    let c16 = c15 .before in
+    let c20 = c16 .before .before .before .before in
+    let l = c16 .loop in
+    let a = c20 .args in
+    let g = at-test (c15 .loop-test .taken) (l .inv .1) in
     omega (arith, g .early, g .inside, l .inv .0)
 
 loop-less : tie.Need-loop-less Inv-loop μ-loop
 loop-less c =
-    let l = c .before .before .before .before .before .before .before .before .before .before .before .before .before .before .before .before .before .before .loop in
-    let a = c .before .before .before .before .before .before .before .before .before .before .before .before .before .before .before .before .before .before .before .before .before .before .args in
-    let g = at-test (c .before .before .before .before .before .before .before .before .before .before .before .before .before .before .before .before .before .loop-test .taken) (l .inv .1) in
-    let q = c .before .before .before .before .before .before .before .before .before .before .before .before .before .before .start .given in
+    let c14 = c .before .before .before .before .before .before .before .before .before .before .before .before .before .before in
+    let c16 = c14 .before .before in
+    let c17 = c16 .before in
+    let c18 = c17 .before in
+    let c22 = c18 .before .before .before .before in
+    let l = c18 .loop in
+    let a = c22 .args in
+    let g = at-test (c17 .loop-test .taken) (l .inv .1) in
+    let q = c14 .start .given in
     let e : entry-at (a .journal .now) (l .at) ≡ reads (body (q .0 .0) (q .0 .1 .0)
-    (q .0 .1 .1 .0)) = sym (c .before .before .before .before .before .before .before .before .before .before .before .before .before .before .before .before .entry-at .ensures) ∙ ap entry-answer (q .1) in
+    (q .0 .1 .1 .0)) = sym (c16 .entry-at .ensures) ∙ ap entry-answer (q .1) in
     omega (arith, entry-next _ _ _ _ _ e .0, entry-next _ _ _ _ _ e .1)
 
 loop-again : tie.Need-loop-again Inv-loop μ-loop
 loop-again c =
-    let l = c .before .before .before .before .before .before .before .before .before .before .before .before .before .before .before .before .before .before .loop in
-    let a = c .before .before .before .before .before .before .before .before .before .before .before .before .before .before .before .before .before .before .before .before .before .before .args in
-    let g = at-test (c .before .before .before .before .before .before .before .before .before .before .before .before .before .before .before .before .before .loop-test .taken) (l .inv .1) in
-    let q = c .before .before .before .before .before .before .before .before .before .before .before .before .before .before .start .given in
+    let c3 = c .before .before .before in
+    let c7 = c3 .before .before .before .before in
+    let c9 = c7 .before .before in
+    let c10 = c9 .before in
+    let c11 = c10 .before in
+    let c12 = c11 .before in
+    let c14 = c12 .before .before in
+    let c16 = c14 .before .before in
+    let c17 = c16 .before in
+    let c18 = c17 .before in
+    let c22 = c18 .before .before .before .before in
+    let l = c18 .loop in
+    let a = c22 .args in
+    let g = at-test (c17 .loop-test .taken) (l .inv .1) in
+    let q = c14 .start .given in
     let e : entry-at (a .journal .now) (l .at) ≡ reads (body (q .0 .0) (q .0 .1 .0)
-    (q .0 .1 .1 .0)) = sym (c .before .before .before .before .before .before .before .before .before .before .before .before .before .before .before .before .entry-at .ensures) ∙ ap entry-answer (q .1) in
-    let k = c .before .before .before .before .before .before .before .before .before .before .before .one in
-    let w = c .before .before .before .before .before .before .before .write-line in
+    (q .0 .1 .1 .0)) = sym (c16 .entry-at .ensures) ∙ ap entry-answer (q .1) in
+    let k = c11 .one in
+    let w = c7 .write-line in
     let x = told (k .result .answer) in
-    let is : line (l .position) (k .result .code) (c .before .before .before .before .before .before .before .before .before .before .letter .result)
-    (c .before .before .before .before .before .before .before .before .before .value .result) ≡ line (l .position) (k .result .code)
+    let is : line (l .position) (k .result .code) (c10 .letter .result)
+    (c9 .value .result) ≡ line (l .position) (k .result .code)
     (letter-of x) (value-of x) = ap₂ (λ u v. line (l .position) (k .result .code) u v)
-    (c .before .before .before .before .before .before .before .before .before .before .letter .ensures)
-    (c .before .before .before .before .before .before .before .before .before .value .ensures) in
+    (c10 .letter .ensures)
+    (c9 .value .ensures) in
     let o = subst (λ bs. One (l .m) (counts-of (l .tally)) (body-in bs) (k .result .code) x (k .result .monitor) (counts-of (k .result .tally)))
-    (c .before .before .before .before .before .before .before .before .before .before .before .before .body-at .ensures .bytes) (k .ensures) in
+    (c12 .body-at .ensures .bytes) (k .ensures) in
     let thin = subst (λ y. length y ≤ longest-line) is (w .ensures .1 .1) in
     let rest = take (length (l .out) - l .used) (drop (l .used) (l .out)) in (
       l .inv .0,
-      at-test (sym (c .before .before .before .before .before .before .before .before .before .before .before .before .before .before .before .before .before .loop-test .taken)) (record-turn (a .journal .now) (a .out .now) (l .out) (l .at) (l .position) (l .used) (l .m) (counts-of (l .tally)) g (q .0 .0) (q .0 .1 .0) (q .0 .1 .1 .0) e (k .result .monitor) (counts-of (k .result .tally)) (k .result .code) x o thin (w .last .0) (c .before .before .before .n .given .0 .0) (ap writing (sym (c .before .before .before .n .given .1)) ∙ w .ensures .0 ∙ ap (λ y. fitted y rest) is) (w .ensures .1 .0 ∙ ap (λ y. put y rest) is)),
+      at-test (sym (c17 .loop-test .taken)) (record-turn (a .journal .now) (a .out .now) (l .out) (l .at) (l .position) (l .used) (l .m)
+          (counts-of (l .tally)) g (q .0 .0) (q .0 .1 .0) (q .0 .1 .1 .0) e (k .result .monitor) (counts-of (k .result .tally))
+          (k .result .code) x o thin (w .last .0) (c3 .n .given .0 .0)
+          (ap writing (sym (c3 .n .given .1)) ∙ w .ensures .0 ∙ ap (λ y. fitted y rest) is) (w .ensures .1 .0 ∙ ap (λ y. put y rest) is)),
     )
 
 enum-told : tie.Need-enum-told Inv-loop μ-loop
@@ -129,32 +157,46 @@ enum-told c = search needs
 
 same-length : tie.Need-same-length Inv-loop μ-loop
 same-length c =
-    let l = c .before .before .before .before .before .before .before .before .before .before .before .before .before .before .before .loop in
-    let a = c .before .before .before .before .before .before .before .before .before .before .before .before .before .before .before .before .before .before .before .args in
-    let g = at-test (c .before .before .before .before .before .before .before .before .before .before .before .before .before .before .loop-test .taken) (l .inv .1) in
-    let w = c .before .before .before .before .write-line in
+    let c4 = c .before .before .before .before in
+    let c14 = c4 .before .before .before .before .before .before .before .before .before .before in
+    let c15 = c14 .before in
+    let c19 = c15 .before .before .before .before in
+    let l = c15 .loop in
+    let a = c19 .args in
+    let g = at-test (c14 .loop-test .taken) (l .inv .1) in
+    let w = c4 .write-line in
     ap length (none-after (g .stage .over) _ (w .last .0) (ap writing (sym (c .enum-told .given .1)) ∙ w .ensures .0)
     (w .ensures .1 .0)) ∙ g .stage .over .size
 
 returns : tie.Need-returns Inv-loop μ-loop
 returns c =
-    let l = c .before .before .before .before .before .before .before .before .before .before .before .before .before .before .before .loop in
-    let a = c .before .before .before .before .before .before .before .before .before .before .before .before .before .before .before .before .before .before .before .args in
-    let g = at-test (c .before .before .before .before .before .before .before .before .before .before .before .before .before .before .loop-test .taken) (l .inv .1) in
-    let q = c .before .before .before .before .before .before .before .before .before .before .before .start .given in
+    let c4 = c .before .before .before .before in
+    let c6 = c4 .before .before in
+    let c7 = c6 .before in
+    let c8 = c7 .before in
+    let c9 = c8 .before in
+    let c11 = c9 .before .before in
+    let c13 = c11 .before .before in
+    let c14 = c13 .before in
+    let c15 = c14 .before in
+    let c19 = c15 .before .before .before .before in
+    let l = c15 .loop in
+    let a = c19 .args in
+    let g = at-test (c14 .loop-test .taken) (l .inv .1) in
+    let q = c11 .start .given in
     let e : entry-at (a .journal .now) (l .at) ≡ reads (body (q .0 .0) (q .0 .1 .0)
-    (q .0 .1 .1 .0)) = sym (c .before .before .before .before .before .before .before .before .before .before .before .before .before .entry-at .ensures) ∙ ap entry-answer (q .1) in
-    let k = c .before .before .before .before .before .before .before .before .one in
-    let w = c .before .before .before .before .write-line in
+    (q .0 .1 .1 .0)) = sym (c13 .entry-at .ensures) ∙ ap entry-answer (q .1) in
+    let k = c8 .one in
+    let w = c4 .write-line in
     let x = told (k .result .answer) in
-    let is : line (l .position) (k .result .code) (c .before .before .before .before .before .before .before .letter .result)
-    (c .before .before .before .before .before .before .value .result) ≡ line (l .position) (k .result .code) (letter-of x)
+    let is : line (l .position) (k .result .code) (c7 .letter .result)
+    (c6 .value .result) ≡ line (l .position) (k .result .code) (letter-of x)
     (value-of x) = ap₂ (λ u v. line (l .position) (k .result .code) u v)
-    (c .before .before .before .before .before .before .before .letter .ensures)
-    (c .before .before .before .before .before .before .value .ensures) in
+    (c7 .letter .ensures)
+    (c6 .value .ensures) in
     let rest = take (length (l .out) - l .used) (drop (l .used) (l .out)) in
     let o = subst (λ bs. One (l .m) (counts-of (l .tally)) (body-in bs) (k .result .code) x (k .result .monitor) (counts-of (k .result .tally)))
-    (c .before .before .before .before .before .before .before .before .before .body-at .ensures .bytes) (k .ensures) in
+    (c9 .body-at .ensures .bytes) (k .ensures) in
     let thin = subst (λ y. length y ≤ longest-line) is (w .ensures .1 .1) in (
       record-ends (a .journal .now) (a .out .now) (l .out) (l .at) (l .position) (l .used) (l .m) (counts-of (l .tally)) g (q .0 .0) (q .0 .1 .0)
           (q .0 .1 .1 .0) e (k .result .monitor) (counts-of (k .result .tally)) (k .result .code) x o thin (l .inv .0) (w .last .0)
@@ -182,33 +224,46 @@ enum-known-n-2 c = search needs
 
 add-used-2 : tie.Need-add-used-2 Inv-loop μ-loop
 add-used-2 c =
-    let l = c .before .before .before .before .before .before .before .before .before .before .before .loop in
-    let a = c .before .before .before .before .before .before .before .before .before .before .before .before .before .before .before .args in
-    let g = at-test (c .before .before .before .before .before .before .before .before .before .before .loop-test .taken) (l .inv .1) in
-    let w = c .before .before .before .before .before .write-line2 in
+    let c5 = c .before .before .before .before .before in
+    let c10 = c5 .before .before .before .before .before in
+    let c11 = c10 .before in
+    let c15 = c11 .before .before .before .before in
+    let l = c11 .loop in
+    let a = c15 .args in
+    let g = at-test (c10 .loop-test .taken) (l .inv .1) in
+    let w = c5 .write-line2 in
     omega (
       arith,
       put-after (g .stage .over) _ (w .last .0) (c .before .n2 .given .0 .0) (ap writing (sym (c .before .n2 .given .1)) ∙ w .ensures .0)
           (w .ensures .1 .0) .within,
-      c .before .before .before .before .before .before .before .before .before .before .before .before .before .before .before .good,
+      c15 .good,
     )
 
 loop-less-2 : tie.Need-loop-less-2 Inv-loop μ-loop
 loop-less-2 c =
-    let l = c .before .before .before .before .before .before .before .before .before .before .before .loop in
-    let a = c .before .before .before .before .before .before .before .before .before .before .before .before .before .before .before .args in
-    let g = at-test (c .before .before .before .before .before .before .before .before .before .before .loop-test .taken) (l .inv .1) in
+    let c10 = c .before .before .before .before .before .before .before .before .before .before in
+    let c11 = c10 .before in
+    let c15 = c11 .before .before .before .before in
+    let l = c11 .loop in
+    let a = c15 .args in
+    let g = at-test (c10 .loop-test .taken) (l .inv .1) in
     let one : _≡_ {A = ℕ} (cond (l .going) 1 0) 1 = ap (λ (b : Bool). cond b 1 0)
-    (c .before .before .before .before .before .before .before .before .before .before .loop-test .taken) in
+    (c10 .loop-test .taken) in
     omega (arith, one)
 
 loop-again-2 : tie.Need-loop-again-2 Inv-loop μ-loop
 loop-again-2 c =
-    let l = c .before .before .before .before .before .before .before .before .before .before .before .loop in
-    let a = c .before .before .before .before .before .before .before .before .before .before .before .before .before .before .before .args in
-    let g = at-test (c .before .before .before .before .before .before .before .before .before .before .loop-test .taken) (l .inv .1) in
-    let e : entry-at (a .journal .now) (l .at) ≡ bad 11 = sym (c .before .before .before .before .before .before .before .before .before .entry-at .ensures) ∙ ap entry-answer (c .before .before .before .before .before .before .before .enum-told2 .given .1) in
-    let w = c .before .before .before .before .before .write-line2 in (
+    let c5 = c .before .before .before .before .before in
+    let c7 = c5 .before .before in
+    let c9 = c7 .before .before in
+    let c10 = c9 .before in
+    let c11 = c10 .before in
+    let c15 = c11 .before .before .before .before in
+    let l = c11 .loop in
+    let a = c15 .args in
+    let g = at-test (c10 .loop-test .taken) (l .inv .1) in
+    let e : entry-at (a .journal .now) (l .at) ≡ bad 11 = sym (c9 .entry-at .ensures) ∙ ap entry-answer (c7 .enum-told2 .given .1) in
+    let w = c5 .write-line2 in (
       l .inv .0,
       broken-turn (a .journal .now) (a .out .now) (l .out) (l .at) (l .position) (l .used) (l .m)
           (counts-of (l .tally)) g e (bad-inside _ _ _ e) (w .ensures .1 .1) (w .last .0) (c .before .n2 .given .0 .0)
@@ -223,11 +278,17 @@ same-length-2 c = search needs
 
 returns-2 : tie.Need-returns-2 Inv-loop μ-loop
 returns-2 c =
-    let l = c .before .before .before .before .before .before .before .before .before .before .loop in
-    let a = c .before .before .before .before .before .before .before .before .before .before .before .before .before .before .args in
-    let g = at-test (c .before .before .before .before .before .before .before .before .before .loop-test .taken) (l .inv .1) in
-    let e : entry-at (a .journal .now) (l .at) ≡ bad 11 = sym (c .before .before .before .before .before .before .before .before .entry-at .ensures) ∙ ap entry-answer (c .before .before .before .before .before .before .enum-told2 .given .1) in
-    let w = c .before .before .before .before .write-line2 in (
+    let c4 = c .before .before .before .before in
+    let c6 = c4 .before .before in
+    let c8 = c6 .before .before in
+    let c9 = c8 .before in
+    let c10 = c9 .before in
+    let c14 = c10 .before .before .before .before in
+    let l = c10 .loop in
+    let a = c14 .args in
+    let g = at-test (c9 .loop-test .taken) (l .inv .1) in
+    let e : entry-at (a .journal .now) (l .at) ≡ bad 11 = sym (c8 .entry-at .ensures) ∙ ap entry-answer (c6 .enum-told2 .given .1) in
+    let w = c4 .write-line2 in (
       broken-ends (a .journal .now) (a .out .now) (l .out) (l .at) (l .position) (l .used) (l .m) (counts-of (l .tally)) g e (bad-inside _ _ _ e)
           (w .ensures .1 .1) (l .inv .0) (w .last .0) (ap writing (sym (c .enum-told3 .given .1)) ∙ w .ensures .0) (w .ensures .1 .0),
       λ k z. absurd (Option·none-ne-some k z),
@@ -246,12 +307,16 @@ loop-less-3 c =
 
 loop-again-3 : tie.Need-loop-again-3 Inv-loop μ-loop
 loop-again-3 c =
-    let l = c .before .before .before .before .loop in
-    let a = c .before .before .before .before .before .before .before .before .args in
-    let g = at-test (c .before .before .before .loop-test .taken) (l .inv .1) in (
+    let c2 = c .before .before in
+    let c3 = c2 .before in
+    let c4 = c3 .before in
+    let c8 = c4 .before .before .before .before in
+    let l = c4 .loop in
+    let a = c8 .args in
+    let g = at-test (c3 .loop-test .taken) (l .inv .1) in (
       l .inv .0,
       end-turn (a .journal .now) (a .out .now) (l .out) (l .at) (l .position) (l .used) (l .m)
-          (counts-of (l .tally)) g (sym (c .before .before .entry-at .ensures) ∙ ap entry-answer (c .enum-told4 .given .1)),
+          (counts-of (l .tally)) g (sym (c2 .entry-at .ensures) ∙ ap entry-answer (c .enum-told4 .given .1)),
     )
 
 sub-write-end : tie.Need-sub-write-end Inv-loop μ-loop
@@ -274,15 +339,19 @@ enum-known-n-3 c = search needs
 
 add-total : tie.Need-add-total Inv-loop μ-loop
 add-total c =
-    let l = c .before .before .before .before .before .before .before .before .before .loop in
-    let a = c .before .before .before .before .before .before .before .before .before .before .before .before .before .args in
-    let g = at-test (c .before .before .before .before .before .before .before .before .loop-test .left) (l .inv .1) in
-    let w = c .before .before .before .before .before .write-end in
+    let c5 = c .before .before .before .before .before in
+    let c8 = c5 .before .before .before in
+    let c9 = c8 .before in
+    let c13 = c9 .before .before .before .before in
+    let l = c9 .loop in
+    let a = c13 .args in
+    let g = at-test (c8 .loop-test .left) (l .inv .1) in
+    let w = c5 .write-end in
     omega (
       arith,
       put-after (g .stage .over) _ (w .last .0) (c .before .n3 .given .0 .0) (ap writing (sym (c .before .n3 .given .1)) ∙ w .ensures .0)
           (w .ensures .1 .0) .within,
-      c .before .before .before .before .before .before .before .before .before .before .before .before .before .good,
+      c13 .good,
     )
 
 enum-told-5 : tie.Need-enum-told-5 Inv-loop μ-loop
@@ -293,13 +362,18 @@ same-length-3 c = search needs
 
 returns-3 : tie.Need-returns-3 Inv-loop μ-loop
 returns-3 c =
-    let l = c .before .before .before .before .before .before .before .before .before .loop in
-    let a = c .before .before .before .before .before .before .before .before .before .before .before .before .before .args in
-    let g = at-test (c .before .before .before .before .before .before .before .before .loop-test .left) (l .inv .1) in
-    let w = c .before .before .before .before .before .write-end in
+    let c5 = c .before .before .before .before .before in
+    let c6 = c5 .before in
+    let c8 = c6 .before .before in
+    let c9 = c8 .before in
+    let c13 = c9 .before .before .before .before in
+    let l = c9 .loop in
+    let a = c13 .args in
+    let g = at-test (c8 .loop-test .left) (l .inv .1) in
+    let w = c5 .write-end in
     let is : ending (l .tally .made) (l .tally .gone)
-    (c .before .before .before .before .before .before .open-now .result) ≡ last-line (counts-of (l .tally)) = ap (λ d. ending (l .tally .made)
-    (l .tally .gone) d) (c .before .before .before .before .before .before .open-now .ensures) in
+    (c6 .open-now .result) ≡ last-line (counts-of (l .tally)) = ap (λ d. ending (l .tally .made)
+    (l .tally .gone) d) (c6 .open-now .ensures) in
     let rest = take (length (l .out) - l .used) (drop (l .used) (l .out)) in (
       ended (a .journal .now) (a .out .now) (l .out) (l .position) (l .used) (view (l .m)) (counts-of (l .tally)) (g .stage) (w .last .0)
           (c .before .n3 .given .0 .0) (ap writing (sym (c .before .n3 .given .1)) ∙ w .ensures .0 ∙ ap (λ y. fitted y rest) is)
@@ -312,13 +386,18 @@ same-length-4 c = search needs
 
 returns-4 : tie.Need-returns-4 Inv-loop μ-loop
 returns-4 c =
-    let l = c .before .before .before .before .before .before .before .before .loop in
-    let a = c .before .before .before .before .before .before .before .before .before .before .before .before .args in
-    let g = at-test (c .before .before .before .before .before .before .before .loop-test .left) (l .inv .1) in
-    let w = c .before .before .before .before .write-end in
+    let c4 = c .before .before .before .before in
+    let c5 = c4 .before in
+    let c7 = c5 .before .before in
+    let c8 = c7 .before in
+    let c12 = c8 .before .before .before .before in
+    let l = c8 .loop in
+    let a = c12 .args in
+    let g = at-test (c7 .loop-test .left) (l .inv .1) in
+    let w = c4 .write-end in
     let is : ending (l .tally .made) (l .tally .gone)
-    (c .before .before .before .before .before .open-now .result) ≡ last-line (counts-of (l .tally)) = ap (λ d. ending (l .tally .made)
-    (l .tally .gone) d) (c .before .before .before .before .before .open-now .ensures) in
+    (c5 .open-now .result) ≡ last-line (counts-of (l .tally)) = ap (λ d. ending (l .tally .made)
+    (l .tally .gone) d) (c5 .open-now .ensures) in
     let rest = take (length (l .out) - l .used) (drop (l .used) (l .out)) in
     let thin = subst (λ y. length y ≤ longest-end) is (w .ensures .1 .1) in (
       end-short (a .journal .now) (a .out .now) (l .out) (view (l .m)) (counts-of (l .tally)) (l .at) (l .position) (l .used) g thin (l .inv .0)

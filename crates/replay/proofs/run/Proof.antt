@@ -20,9 +20,12 @@ same-length c = search needs
 
 returns : tie.Need-returns
 returns c =
-    let a = c .before .before .before .before .before .before .before .before .args in
-    let k = c .before .before .before .too-long in
-    let long = c .before .before .before .before .before .if1 .taken in
+    let c3 = c .before .before .before in
+    let c5 = c3 .before .before in
+    let c8 = c5 .before .before .before in
+    let a = c8 .args in
+    let k = c3 .too-long in
+    let long = c5 .if1 .taken in
     let e = subst (λ x. Ends x (a .out .now) (k .last .0) (writing (k .result))) (reply-long (a .journal .now) long) (k .ensures) in
     (e .0, (e .1 .0, (e .1 .1 .0, (e .1 .1 .1, λ n z. none-ended (a .journal .now) long (view (c .empty .result)) (c .empty .ensures)))))
 
@@ -34,9 +37,12 @@ same-length-2 c = search needs
 
 returns-2 : tie.Need-returns-2
 returns-2 c =
-    let a = c .before .before .before .before .before .before .before .args in
-    let k = c .before .before .records in
-    let short = reply-whole (a .journal .now) (omega (arith, c .before .before .before .before .if1 .left)) in
+    let c2 = c .before .before in
+    let c4 = c2 .before .before in
+    let c7 = c4 .before .before .before in
+    let a = c7 .args in
+    let k = c2 .records in
+    let short = reply-whole (a .journal .now) (omega (arith, c4 .if1 .left)) in
     let e = subst (λ x. Ends x (a .out .now) (k .last .1 .0) (writing (k .result .written))) short (k .ensures .0) in
     (e .0, (e .1 .0, (e .1 .1 .0, (e .1 .1 .1, k .ensures .1))))
 

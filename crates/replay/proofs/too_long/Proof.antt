@@ -39,17 +39,21 @@ enum-known-k c = search needs
 
 add-t14 : tie.Need-add-t14
 add-t14 c =
-    let f = c .before .before .before .before .before .before .before .before .before .before .before .before .before .before .before .args .out .now in
-    let v = c .before .before .before .before .before .before .before .before .before .before .before .before .write-line in
-    let w = c .before .before .before .before .before .write-end in
+    let c5 = c .before .before .before .before .before in
+    let c8 = c5 .before .before .before in
+    let c12 = c8 .before .before .before .before in
+    let c15 = c12 .before .before .before in
+    let f = c15 .args .out .now in
+    let v = c12 .write-line in
+    let w = c5 .write-end in
     omega (
       arith,
       both-over (line 1 0 82 14) (ending 0 0 0) f refusal-thin (v .last .0)
-          (c .before .before .before .before .before .before .before .before .n .given .0 .0)
-          (ap writing (sym (c .before .before .before .before .before .before .before .before .n .given .1)) ∙ v .ensures .0) (v .ensures .1 .0)
+          (c8 .n .given .0 .0)
+          (ap writing (sym (c8 .n .given .1)) ∙ v .ensures .0) (v .ensures .1 .0)
           (w .last .0) (c .before .k .given .0 .0) (ap writing (sym (c .before .k .given .1)) ∙ w .ensures .0)
           (w .ensures .1 .0) .within,
-      c .before .before .before .before .before .before .before .before .before .before .before .before .before .before .before .good,
+      c15 .good,
     )
 
 enum-told : tie.Need-enum-told
@@ -63,12 +67,16 @@ same-length c = search needs
 
 returns : tie.Need-returns
 returns c =
-    let f = c .before .before .before .before .before .before .before .before .before .before .before .before .before .before .before .args .out .now in
-    let v = c .before .before .before .before .before .before .before .before .before .before .before .before .write-line in
-    let w = c .before .before .before .before .before .write-end in
+    let c5 = c .before .before .before .before .before in
+    let c8 = c5 .before .before .before in
+    let c12 = c8 .before .before .before .before in
+    let c15 = c12 .before .before .before in
+    let f = c15 .args .out .now in
+    let v = c12 .write-line in
+    let w = c5 .write-end in
     all-ends _ f _ _ (both-over (line 1 0 82 14) (ending 0 0 0) f refusal-thin (v .last .0)
-    (c .before .before .before .before .before .before .before .before .n .given .0 .0)
-    (ap writing (sym (c .before .before .before .before .before .before .before .before .n .given .1)) ∙ v .ensures .0) (v .ensures .1 .0)
+    (c8 .n .given .0 .0)
+    (ap writing (sym (c8 .n .given .1)) ∙ v .ensures .0) (v .ensures .1 .0)
     (w .last .0) (c .before .k .given .0 .0) (ap writing (sym (c .before .k .given .1)) ∙ w .ensures .0) (w .ensures .1 .0))
 
 same-length-2 : tie.Need-same-length-2
@@ -76,12 +84,16 @@ same-length-2 c = search needs
 
 returns-2 : tie.Need-returns-2
 returns-2 c =
-    let f = c .before .before .before .before .before .before .before .before .before .before .before .before .before .before .args .out .now in
-    let v = c .before .before .before .before .before .before .before .before .before .before .before .write-line in
-    let w = c .before .before .before .before .write-end in
+    let c4 = c .before .before .before .before in
+    let c7 = c4 .before .before .before in
+    let c11 = c7 .before .before .before .before in
+    let c14 = c11 .before .before .before in
+    let f = c14 .args .out .now in
+    let v = c11 .write-line in
+    let w = c4 .write-end in
     second-short (line 1 0 82 14) (ending 0 0 0) f refusal-thin (v .last .0)
-    (c .before .before .before .before .before .before .before .n .given .0 .0)
-    (ap writing (sym (c .before .before .before .before .before .before .before .n .given .1)) ∙ v .ensures .0) (v .ensures .1 .0) (w .last .0)
+    (c7 .n .given .0 .0)
+    (ap writing (sym (c7 .n .given .1)) ∙ v .ensures .0) (v .ensures .1 .0) (w .last .0)
     (ap writing (sym (c .enum-told .given .1)) ∙ w .ensures .0) (w .ensures .1 .0)
 
 same-length-3 : tie.Need-same-length-3

@@ -11,10 +11,11 @@ use lib.Dec.{T, ltb, eqb}
 use lib.ListN.{length, take, drop}
 use Rattle.model.specs.Tables.{Tables, clean}
 use Rattle.model.specs.Invariant.{Kept}
+use Rattle.model.specs.Invariant.Laws.{clean-same}
 use Rattle.model.specs.Calls.{Call, unknown, Raw, Row, rows, lookup, decode, refusal, next, Answer, refused, answer, after}
 use Rattle.model.specs.Calls.Kept.{next-kept}
 use Rattle.model.specs.Tally.{Tally, tallied, tally}
-use Rattle.model.specs.Demand3.Laws.{clean-same, meets-next}
+use Rattle.model.specs.Demand3.Laws.{meets-next}
 use Rattle.number.specs.Leb.{number, largest, Reading, good, malformed}
 use Rattle.journal.specs.Answers.{Said, said, Next, body, end}
 use Rattle.journal.specs.Answers.{Answer as Read, answers as reads, refused as bad}
@@ -151,8 +152,10 @@ left p t y l = lines p (replies t l) ++ last-line (tally t y (calls-of l))
 abbrev pub line-and-left : ℕ → List Said → ℕ → Answer → Tables → Tally → List ℕ
 line-and-left p l code a t y = line p code (letter-of a) (value-of a) ++ left (suc p) t y l
 
-same-all : (p : ℕ) (l : List Said) {c code : ℕ} {a b : Answer} {t u : Tables} {y z : Tally} → code ≡ c → b ≡ a → u ≡ t → z ≡ y → line-and-left p l c a t y ≡ line-and-left p l code b u z
-same-all p l {c} {code} {a} {b} {t} {u} {y} {z} e f g h = ap (λ (x : ℕ). line-and-left p l x a t y) (sym e) ∙ ap (λ (x : Answer). line-and-left p l code x t y) (sym f)
+same-all : (p : ℕ) (l : List Said) {c code : ℕ} {a b : Answer} {t u : Tables} {y z : Tally} → code ≡ c → b ≡ a → u ≡ t → z ≡ y
+    → line-and-left p l c a t y ≡ line-and-left p l code b u z
+same-all p l {c} {code} {a} {b} {t} {u} {y} {z} e f g h = ap (λ (x : ℕ). line-and-left p l x a t y) (sym e) ∙ ap
+    (λ (x : Answer). line-and-left p l code x t y) (sym f)
     ∙ ap (λ (x : Tables). line-and-left p l code b x y) (sym g)
     ∙ ap (λ (x : Tally). line-and-left p l code b u x) (sym h)
 
@@ -185,7 +188,8 @@ module _ (m n : Monitor) (y z : Tally) (code : ℕ) (a : Answer) (k : Kept (view
       ∙ same-all p l (o .0) (o .1) (ap view (o .2)) (o .3)
 
   pub kept-more : (s : Said) → One m y s code a n z → Kept (view n)
-  kept-more (said c (reads ns)) o = subst Kept (sym (meets-next view m (decode (raw c ns)) a n (view m) refl k (o .1) .1)) (next-kept (view m) (decode (raw c ns)) k)
+  kept-more (said c (reads ns)) o = subst Kept (sym (meets-next view m (decode (raw c ns)) a n (view m) refl k (o .1) .1))
+      (next-kept (view m) (decode (raw c ns)) k)
   kept-more (said c (bad j)) o = subst Kept (ap view (sym (o .2))) k
 
   -- the tables and the tally that the calls lead to stay what they are

@@ -58,11 +58,15 @@ same-length-2 c = search needs
 
 returns-3 : tie.Need-returns-3
 returns-3 c =
-    let a = c .before .before .before .before .before .before .before .before .before .args in
-    let r = c .before .before .respond2 in
+    let c2 = c .before .before in
+    let c4 = c2 .before .before in
+    let c5 = c4 .before in
+    let c9 = c5 .before .before .before .before in
+    let a = c9 .args in
+    let r = c2 .respond2 in
     subst (λ (f : Filled). Answering f (r .result) (a .journal .now) (a .out .now) (r .last .1 .1 .0))
-    (sym (c .before .before .before .before .before .enum-told .given .1))
-    (λ short. absurd (omega (arith, c .before .before .before .before .if1 .left, short)), λ _. r .ensures)
+    (sym (c5 .enum-told .given .1))
+    (λ short. absurd (omega (arith, c4 .if1 .left, short)), λ _. r .ensures)
 
 returns-4 : tie.Need-returns-4
 returns-4 c =

@@ -142,7 +142,12 @@ write-field-requires c κs = rest-room (first (c .before .before .before))
     (room (c .before .before .before .before .before .before) .two)
 
 add-at : tie.Need-add-at
-add-at c = omega (arith, second (c .before .before) .within, c .before .before .before .before .before .before .before .before .before .before .before .before .before .before .good)
+add-at c = omega (
+  arith,
+  second
+      (c .before .before) .within,
+  c .before .before .before .before .before .before .before .before .before .before .before .before .before .before .good,
+)
 
 sub-write-field-2 : tie.Need-sub-write-field-2
 sub-write-field-2 c = let o = second (c .before .before) in omega (arith, o .within, o .size)
@@ -154,10 +159,16 @@ part-write-field-end-2 : tie.Need-part-write-field-end-2
 part-write-field-end-2 c = search needs
 
 write-field-requires-2 : tie.Need-write-field-requires-2
-write-field-requires-2 c κs = rest-room (second (c .before .before .before)) _ (room (c .before .before .before .before .before .before .before .before .before .before) .three)
+write-field-requires-2 c κs = rest-room (second (c .before .before .before)) _
+    (room (c .before .before .before .before .before .before .before .before .before .before) .three)
 
 add-at-2 : tie.Need-add-at-2
-add-at-2 c = omega (arith, third (c .before .before) .within, c .before .before .before .before .before .before .before .before .before .before .before .before .before .before .before .before .before .before .good)
+add-at-2 c = omega (
+  arith,
+  third
+      (c .before .before) .within,
+  c .before .before .before .before .before .before .before .before .before .before .before .before .before .before .before .before .before .before .good,
+)
 
 sub-write-field-3 : tie.Need-sub-write-field-3
 sub-write-field-3 c = let o = third (c .before .before) in omega (arith, o .within, o .size)
@@ -169,10 +180,16 @@ part-write-field-end-3 : tie.Need-part-write-field-end-3
 part-write-field-end-3 c = search needs
 
 write-field-requires-3 : tie.Need-write-field-requires-3
-write-field-requires-3 c κs = rest-room (third (c .before .before .before)) _ (room (c .before .before .before .before .before .before .before .before .before .before .before .before .before .before) .four)
+write-field-requires-3 c κs = rest-room (third (c .before .before .before)) _
+    (room (c .before .before .before .before .before .before .before .before .before .before .before .before .before .before) .four)
 
 add-at-3 : tie.Need-add-at-3
-add-at-3 c = omega (arith, fourth (c .before .before) .within, c .before .before .before .before .before .before .before .before .before .before .before .before .before .before .before .before .before .before .before .before .before .before .good)
+add-at-3 c = omega (
+  arith,
+  fourth
+      (c .before .before) .within,
+  c .before .before .before .before .before .before .before .before .before .before .before .before .before .before .before .before .before .before .before .before .before .before .good,
+)
 
 same-length : tie.Need-same-length
 same-length c = search needs

@@ -73,10 +73,13 @@ third :
     Over (a .out .now) (field (a .position) space ++ field (a .code) space ++ (a .letter ∷ space ∷ [])) (u .result + v .result + w .result)
     (joined (u .result + v .result) (joined (u .result) (u .last .0) (v .last .0)) (w .last .1 .0))
 third c =
+    let c5 = c .before .before .before .before .before in
+    let c11 = c5 .before .before .before .before .before .before in
+    let c16 = c11 .before .before .before .before .before in
     let w = c .copy in
-    let letter = c .before .before .before .before .before .before .before .before .before .before .before .before .before .before .before .before .args .letter ∷ space ∷ [] in
-    let o = second (c .before .before .before .before .before) in
-    let fits = room (c .before .before .before .before .before .before .before .before .before .before .before) .three in
+    let letter = c16 .args .letter ∷ space ∷ [] in
+    let o = second (c5) in
+    let fits = room (c11) .three in
     part-after o letter _ _ (w .ensures .0) fits (w .ensures .1 ∙ sym (put-fits letter _ (rest-room o letter fits)))
 
 fourth :
@@ -139,7 +142,12 @@ write-field-requires-2 : tie.Need-write-field-requires-2
 write-field-requires-2 c κs = rest-room (first (c .before .before .before)) _ (room (c .before .before .before .before .before) .two)
 
 add-at : tie.Need-add-at
-add-at c = omega (arith, second (c .before .before) .within, c .before .before .before .before .before .before .before .before .before .before .before .before .before .good)
+add-at c = omega (
+  arith,
+  second
+      (c .before .before) .within,
+  c .before .before .before .before .before .before .before .before .before .before .before .before .before .good,
+)
 
 slice-aggregate-copy : tie.Need-slice-aggregate-copy
 slice-aggregate-copy c = search needs
@@ -158,7 +166,12 @@ copy-requires c κs = rest-room (second (c .before .before .before .before)) (_ 
     (room (c .before .before .before .before .before .before .before .before .before .before) .three)
 
 add-at-2 : tie.Need-add-at-2
-add-at-2 c = omega (arith, third (c .before .before) .within, c .before .before .before .before .before .before .before .before .before .before .before .before .before .before .before .before .before .before .good)
+add-at-2 c = omega (
+  arith,
+  third
+      (c .before .before) .within,
+  c .before .before .before .before .before .before .before .before .before .before .before .before .before .before .before .before .before .before .good,
+)
 
 sub-write-field-2 : tie.Need-sub-write-field-2
 sub-write-field-2 c = let o = third (c .before .before) in omega (arith, o .within, o .size)
@@ -170,10 +183,16 @@ part-write-field-end-2 : tie.Need-part-write-field-end-2
 part-write-field-end-2 c = search needs
 
 write-field-requires-3 : tie.Need-write-field-requires-3
-write-field-requires-3 c κs = rest-room (third (c .before .before .before)) _ (room (c .before .before .before .before .before .before .before .before .before .before .before .before .before .before) .four)
+write-field-requires-3 c κs = rest-room (third (c .before .before .before)) _
+    (room (c .before .before .before .before .before .before .before .before .before .before .before .before .before .before) .four)
 
 add-at-3 : tie.Need-add-at-3
-add-at-3 c = omega (arith, fourth (c .before .before) .within, c .before .before .before .before .before .before .before .before .before .before .before .before .before .before .before .before .before .before .before .before .before .before .good)
+add-at-3 c = omega (
+  arith,
+  fourth
+      (c .before .before) .within,
+  c .before .before .before .before .before .before .before .before .before .before .before .before .before .before .before .before .before .before .before .before .before .before .good,
+)
 
 same-length : tie.Need-same-length
 same-length c = search needs

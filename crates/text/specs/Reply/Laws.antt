@@ -1,4 +1,4 @@
--- Laws of the lines of the reply. In order: how long they are; document 01's example. Assumes nothing.
+-- Laws of the lines of the reply. In order: how long they are; the example of RULES K17. Assumes nothing.
 use mathlib.Core.Path.{_≡_, refl}
 use Prim.Native.Nat.{ℕ, _+_, _^_, _≤_, _<_}
 use native.Mathlib.Omega.{arith}
@@ -47,7 +47,7 @@ ending-longest = refl
 
 -- ---- the example
 
--- the five lines that document 01 gives, "1 2 A 2" to "end 1 0 1"
+-- RULES K17: its five lines, `1 2 A 2` to `end 1 0 1`
 pub example : line 1 2 65 2 ++ line 2 1 65 9 ++ line 3 5 65 2 ++ line 4 7 76 2 ++ ending 1 0 1 ≡
     (49 ∷ 32 ∷ 50 ∷ 32 ∷ 65 ∷ 32 ∷ 50 ∷ 10 ∷ [])
     ++ (50 ∷ 32 ∷ 49 ∷ 32 ∷ 65 ∷ 32 ∷ 57 ∷ 10 ∷ [])

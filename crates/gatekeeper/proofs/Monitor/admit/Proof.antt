@@ -1,67 +1,70 @@
 -- `gatekeeper::Monitor::admit` meets its contract. Assumes nothing.
-use mathlib.Core.Path.{refl, sym, _∙_}
-use mathlib.Core.Logic.{inl, inr}
-use borrow.Author.Needs.{needs}
-use borrow.Author.Tests.{lt-ltb, le-ltb}
-use Rattle.model.specs.Flow.{subject}
-use Rattle.model.specs.Calls.{admit, close, new, leveled, taken}
-use Rattle.gatekeeper.proofs.Meeting.{refuse}
-use Rattle.gatekeeper.proofs.Shapes.{new-row}
-use Rattle.gatekeeper.proofs.Allowed as Y
+use Rattle.model.specs.Calls.{admit}
 use Rattle.gatekeeper.specs.View.{view}
+use Rattle.gatekeeper.proofs.Acting.{stops, goes}
+use Rattle.gatekeeper.proofs.Storing.{subject-got, admits}
+use borrow.Author.Needs.{needs}
 use Rattle.gatekeeper.proofs.Monitor.admit.Statement.{statement}
 use Rattle.gatekeeper.proofs.Monitor.admit.Tie as tie
 
-cleaned-requires : tie.Need-cleaned-requires
-cleaned-requires c κs = search needs
+mul-there : tie.Need-mul-there
+mul-there c = search needs
 
-subject-taken-requires : tie.Need-subject-taken-requires
-subject-taken-requires c κs = search needs
+element-copy-out-there : tie.Need-element-copy-out-there
+element-copy-out-there c = search needs
+
+subject-at-requires : tie.Need-subject-at-requires
+subject-at-requires c κs = search needs
+
+of-admit-requires : tie.Need-of-admit-requires
+of-admit-requires c κs = search needs
 
 refuse-requires : tie.Need-refuse-requires
 refuse-requires c κs = search needs
 
 returns : tie.Need-returns
 returns c =
-    let a = c .before .before .before .before .args in
-    let c-cleaned = c .before .before .before .cleaned in
-    refuse (a .self) (c .refuse .result) (view (c-cleaned .result)) (admit (a .s) (a .level)) (new (subject (a .s))) (c .refuse .ensures) (c-cleaned .ensures) (inl refl)
-    (sym (c .before .before .subject-taken .ensures) ∙ c .before .if1 .taken) (tt, (tt, tt))
-
-refuse-requires-2 : tie.Need-refuse-requires-2
-refuse-requires-2 c κs = search needs
-
-returns-2 : tie.Need-returns-2
-returns-2 c =
-    let a = c .before .before .before .before .before .args in
-    let c-cleaned = c .before .before .before .before .cleaned in
-    refuse (a .self) (c .refuse2 .result) (view (c-cleaned .result)) (admit (a .s) (a .level)) (leveled (a .level)) (c .refuse2 .ensures) (c-cleaned .ensures) (inr (inl refl))
-    (lt-ltb 15 (a .level) (c .before .if2 .taken)) (sym (c .before .before .before .subject-taken .ensures) ∙ c .before .before .if1 .left, (tt, tt))
+    let c2 = c .before .before in
+    let c3 = c2 .before in
+    let c5 = c3 .before .before in
+    let a = c5 .args in
+    let g = c5 .good .0 in
+    let w = c5 .pre in
+    stops (a .t1) (admit (a .s) (a .level)) (c2 .of-admit .result) (c .refuse .result)
+    (c2 .of-admit .ensures (view (a .t1)) w (subject-got (a .t1) g (a .s) (c3 .subject-at .result) (c3 .subject-at .ensures)))
+    (c .before .if1 .taken) (c .refuse .ensures)
 
 cast-l : tie.Need-cast-l
 cast-l c = search needs
 
-with-subject-requires : tie.Need-with-subject-requires
-with-subject-requires c κs = search needs
+mul-t10 : tie.Need-mul-t10
+mul-t10 c = search needs
 
-returns-3 : tie.Need-returns-3
-returns-3 c =
-    let a = c .before .before .before .before .before .args in
-    let c-cleaned = c .before .before .before .before .cleaned in
-    let c-subject-taken = c .before .before .before .subject-taken in
-    let c-if1 = c .before .before .if1 in
-    let passed-subject-taken = sym (c-subject-taken .ensures) ∙ c-if1 .left in
-    Y.admitted (a .self) (c-cleaned .result) (c-cleaned .ensures) (a .s) (a .level) (c .with-subject .result) passed-subject-taken
-    (le-ltb 15 (a .level) (c .before .if2 .left)) (c .with-subject .ensures (new-row (view (c-cleaned .result)) (a .s) passed-subject-taken))
+element-set-from-self : tie.Need-element-set-from-self
+element-set-from-self c = search needs
+
+returns-2 : tie.Need-returns-2
+returns-2 c =
+    let c2 = c .before .before in
+    let c4 = c2 .before .before in
+    let a = c4 .args in
+    let g = c4 .good .0 in
+    let w = c4 .pre in
+    let z = goes (c .before .of-admit .ensures (view (a .t1)) w
+    (subject-got (a .t1) g (a .s) (c2 .subject-at .result) (c2 .subject-at .ensures))) (c .if1 .left) in
+    admits (a .t1) g (a .s) (a .level) z
 
 pub admit-spec : {M : Type 1} → statement M
 admit-spec =
     tie.close
     (tie.spec
-    cleaned-requires
-    subject-taken-requires
-    refuse-requires returns
-    refuse-requires-2 returns-2
+    mul-there
+    element-copy-out-there
+    subject-at-requires
+    of-admit-requires
+    refuse-requires
+    returns
     cast-l
-    with-subject-requires
-    returns-3)
+    mul-t10
+    element-set-from-self
+    returns-2)

@@ -1,83 +1,116 @@
 -- `gatekeeper::Monitor::close` meets its contract. Assumes nothing.
-use mathlib.Core.Path.{refl, sym, _∙_, ap}
-use mathlib.Core.Logic.{inl, inr}
-use borrow.Author.Needs.{needs}
-use Rattle.model.specs.Tables.{handles}
-use Rattle.model.specs.Steps.{reap}
-use Rattle.model.specs.Calls.{close, alive, taken}
-use Rattle.gatekeeper.proofs.Meeting.{refuse}
-use Rattle.gatekeeper.proofs.Shapes.{in-row, taken-column}
-use Rattle.gatekeeper.proofs.Allowed as Y
+use Rattle.model.specs.Calls.{close}
 use Rattle.gatekeeper.specs.View.{view}
+use Rattle.gatekeeper.proofs.Acting.{stops, goes}
+use Rattle.gatekeeper.proofs.Storing.{subject-got, handle-got, closes}
+use borrow.Author.Needs.{needs}
 use Rattle.gatekeeper.proofs.Monitor.close.Statement.{statement}
 use Rattle.gatekeeper.proofs.Monitor.close.Tie as tie
 
-cleaned-requires : tie.Need-cleaned-requires
-cleaned-requires c κs = search needs
+mul-at : tie.Need-mul-at
+mul-at c = search needs
 
-lacks-subject-requires : tie.Need-lacks-subject-requires
-lacks-subject-requires c κs = search needs
+add-at : tie.Need-add-at
+add-at c = search needs
+
+mul-step : tie.Need-mul-step
+mul-step c = search needs
+
+element-copy-out-step : tie.Need-element-copy-out-step
+element-copy-out-step c = search needs
+
+mul-there : tie.Need-mul-there
+mul-there c = search needs
+
+element-copy-out-there : tie.Need-element-copy-out-there
+element-copy-out-there c = search needs
+
+subject-at-requires : tie.Need-subject-at-requires
+subject-at-requires c κs = search needs
+
+handle-at-requires : tie.Need-handle-at-requires
+handle-at-requires c κs = search needs
+
+of-close-requires : tie.Need-of-close-requires
+of-close-requires c κs = search needs
 
 refuse-requires : tie.Need-refuse-requires
 refuse-requires c κs = search needs
 
 returns : tie.Need-returns
 returns c =
-    let a = c .before .before .before .before .args in
-    let c-cleaned = c .before .before .before .cleaned in
-    refuse (a .self) (c .refuse .result) (view (c-cleaned .result)) (close (a .s) (a .p)) (alive (a .s)) (c .refuse .ensures) (c-cleaned .ensures) (inl refl)
-    (sym (c .before .before .lacks-subject .ensures) ∙ c .before .if1 .taken) (tt, (tt, tt))
+    let c2 = c .before .before in
+    let c3 = c2 .before in
+    let c4 = c3 .before in
+    let c7 = c4 .before .before .before in
+    let a = c7 .args in
+    let g = c7 .good .0 in
+    let w = c7 .pre in
+    stops (a .t1) (close (a .s) (a .p)) (c2 .of-close .result) (c .refuse .result)
+    (c2 .of-close .ensures (view (a .t1)) (a .s) (a .p) w (subject-got (a .t1) g (a .s) (c4 .subject-at .result) (c4 .subject-at .ensures))
+    (handle-got (a .t1) g (a .s) (a .p) (c3 .handle-at .result) (c3 .handle-at .ensures))) (c .before .if1 .taken) (c .refuse .ensures)
 
-place-empty-requires : tie.Need-place-empty-requires
-place-empty-requires c κs = search needs
+mul-t17 : tie.Need-mul-t17
+mul-t17 c = search needs
 
-refuse-requires-2 : tie.Need-refuse-requires-2
-refuse-requires-2 c κs = search needs
+element-set-from-self : tie.Need-element-set-from-self
+element-set-from-self c = search needs
+
+cast-j : tie.Need-cast-j
+cast-j c = search needs
+
+mul-y : tie.Need-mul-y
+mul-y c = search needs
+
+element-copy-out-y : tie.Need-element-copy-out-y
+element-copy-out-y c = search needs
+
+outlived-requires : tie.Need-outlived-requires
+outlived-requires c κs = search needs
+
+mul-left : tie.Need-mul-left
+mul-left c = search needs
+
+element-set-from-left : tie.Need-element-set-from-left
+element-set-from-left c = search needs
 
 returns-2 : tie.Need-returns-2
 returns-2 c =
-    let a = c .before .before .before .before .before .before .args in
-    let c-cleaned = c .before .before .before .before .before .cleaned in
-    refuse (a .self) (c .refuse2 .result) (view (c-cleaned .result)) (close (a .s) (a .p)) (taken (a .s) (a .p)) (c .refuse2 .ensures) (c-cleaned .ensures) (inr (inl refl))
-    (sym (c .before .before .place-empty .ensures) ∙ c .before .if2 .taken)
-    (sym (c .before .before .before .before .lacks-subject .ensures) ∙ c .before .before .before .if1 .left, (tt, tt))
-
-subject-level-requires : tie.Need-subject-level-requires
-subject-level-requires c κs = search needs
-
-with-handle-requires : tie.Need-with-handle-requires
-with-handle-requires c κs = search needs
-
-reaped-requires : tie.Need-reaped-requires
-reaped-requires c κs = search needs
-
-returns-3 : tie.Need-returns-3
-returns-3 c =
-    let a = c .before .before .before .before .before .before .before .before .args in
-    let c-cleaned = c .before .before .before .before .before .before .before .cleaned in
-    let c-lacks-subject = c .before .before .before .before .before .before .lacks-subject in
-    let c-if1 = c .before .before .before .before .before .if1 in
-    let c-place-empty = c .before .before .before .before .place-empty in
-    let c-if2 = c .before .before .before .if2 in
-    let c-subject-level = c .before .before .subject-level in
-    let t = view (c-cleaned .result) in
-    let passed-lacks-subject = sym (c-lacks-subject .ensures) ∙ c-if1 .left in
-    let passed-place-empty = sym (c-place-empty .ensures) ∙ c-if2 .left in
-    Y.closed (a .self) (c-cleaned .result) (c-cleaned .ensures) (a .s) (a .p) (c-subject-level .result) (c .reaped .result) passed-lacks-subject
-    passed-place-empty (c-subject-level .ensures)
-    (c .reaped .ensures ∙ ap (reap (handles t))
-    (c .before .with-handle .ensures (in-row t (a .s) passed-lacks-subject) (taken-column t (a .s) (a .p) passed-place-empty)))
+    let c4 = c .before .before .before .before in
+    let c5 = c4 .before in
+    let c6 = c5 .before in
+    let c7 = c6 .before in
+    let c10 = c7 .before .before .before in
+    let a = c10 .args in
+    let g = c10 .good .0 in
+    let w = c10 .pre in
+    let z = goes (c5 .of-close .ensures (view (a .t1)) (a .s) (a .p) w (subject-got (a .t1) g (a .s) (c7 .subject-at .result) (c7 .subject-at .ensures))
+    (handle-got (a .t1) g (a .s) (a .p) (c6 .handle-at .result) (c6 .handle-at .ensures))) (c4 .if1 .left) in
+    closes (a .t1) g (a .s) (a .p) (c7 .subject-at .result) (c6 .handle-at .result) (c .outlived .result) w z
+    (subject-got (a .t1) g (a .s) (c7 .subject-at .result) (c7 .subject-at .ensures))
+    (handle-got (a .t1) g (a .s) (a .p) (c6 .handle-at .result) (c6 .handle-at .ensures)) (c .outlived .ensures)
 
 pub close-spec : {M : Type 1} → statement M
 close-spec =
     tie.close
     (tie.spec
-    cleaned-requires
-    lacks-subject-requires
-    refuse-requires returns
-    place-empty-requires
-    refuse-requires-2 returns-2
-    subject-level-requires
-    with-handle-requires
-    reaped-requires
-    returns-3)
+    mul-at
+    add-at
+    mul-step
+    element-copy-out-step
+    mul-there
+    element-copy-out-there
+    subject-at-requires
+    handle-at-requires
+    of-close-requires
+    refuse-requires
+    returns
+    mul-t17
+    element-set-from-self
+    cast-j
+    mul-y
+    element-copy-out-y
+    outlived-requires
+    mul-left
+    element-set-from-left
+    returns-2)

@@ -1,71 +1,80 @@
 -- `gatekeeper::Monitor::exit` meets its contract. Assumes nothing.
-use mathlib.Core.Path.{refl, sym, _∙_, ap}
-use mathlib.Core.Logic.{inl}
-use mathlib.Core.Option.{none}
-use borrow.Author.Needs.{needs}
-use Rattle.model.specs.Flow.{subject}
-use Rattle.model.specs.Tables.{with-at, handles}
-use Rattle.model.specs.Steps.{put, reap}
-use Rattle.model.specs.Calls.{close, exit, alive, taken}
-use Rattle.gatekeeper.proofs.Meeting.{refuse}
-use Rattle.gatekeeper.proofs.Shapes.{in-row}
-use Rattle.gatekeeper.proofs.Allowed as Y
+use lib.ListN.{replicate}
+use Rattle.model.specs.Calls.{exit}
+use Rattle.tables.specs.Records.{no-handle}
 use Rattle.gatekeeper.specs.View.{view}
+use Rattle.gatekeeper.proofs.Acting.{stops, goes}
+use Rattle.gatekeeper.proofs.Storing.{subject-got, no-places, exits}
+use borrow.Author.Needs.{needs}
 use Rattle.gatekeeper.proofs.Monitor.exit.Statement.{statement}
 use Rattle.gatekeeper.proofs.Monitor.exit.Tie as tie
 
-cleaned-requires : tie.Need-cleaned-requires
-cleaned-requires c κs = search needs
+mul-step : tie.Need-mul-step
+mul-step c = search needs
 
-lacks-subject-requires : tie.Need-lacks-subject-requires
-lacks-subject-requires c κs = search needs
+element-copy-out-step : tie.Need-element-copy-out-step
+element-copy-out-step c = search needs
+
+subject-at-requires : tie.Need-subject-at-requires
+subject-at-requires c κs = search needs
+
+of-exit-requires : tie.Need-of-exit-requires
+of-exit-requires c κs = search needs
 
 refuse-requires : tie.Need-refuse-requires
 refuse-requires c κs = search needs
 
 returns : tie.Need-returns
 returns c =
-    let a = c .before .before .before .before .args in
-    let c-cleaned = c .before .before .before .cleaned in
-    refuse (a .self) (c .refuse .result) (view (c-cleaned .result)) (exit (a .s)) (alive (a .s)) (c .refuse .ensures) (c-cleaned .ensures) (inl refl)
-    (sym (c .before .before .lacks-subject .ensures) ∙ c .before .if1 .taken) (tt, tt)
+    let c2 = c .before .before in
+    let c3 = c2 .before in
+    let c5 = c3 .before .before in
+    let a = c5 .args in
+    let g = c5 .good .0 in
+    let w = c5 .pre in
+    stops (a .t1) (exit (a .s)) (c2 .of-exit .result) (c .refuse .result)
+    (c2 .of-exit .ensures (view (a .t1)) (a .s) w (subject-got (a .t1) g (a .s) (c3 .subject-at .result) (c3 .subject-at .ensures)))
+    (c .before .if1 .taken) (c .refuse .ensures)
 
-subject-level-requires : tie.Need-subject-level-requires
-subject-level-requires c κs = search needs
-
-row-emptied-requires : tie.Need-row-emptied-requires
-row-emptied-requires c κs = search needs
-
-with-subject-requires : tie.Need-with-subject-requires
-with-subject-requires c κs = search needs
+with-row-requires : tie.Need-with-row-requires
+with-row-requires c κs = search needs
 
 reaped-requires : tie.Need-reaped-requires
 reaped-requires c κs = search needs
 
+mul-t13 : tie.Need-mul-t13
+mul-t13 c = search needs
+
+element-set-from-self : tie.Need-element-set-from-self
+element-set-from-self c = search needs
+
 returns-2 : tie.Need-returns-2
 returns-2 c =
-    let a = c .before .before .before .before .before .before .before .args in
-    let c-cleaned = c .before .before .before .before .before .before .cleaned in
-    let c-lacks-subject = c .before .before .before .before .before .lacks-subject in
-    let c-if1 = c .before .before .before .before .if1 in
-    let c-subject-level = c .before .before .before .subject-level in
-    let t = view (c-cleaned .result) in
-    let passed-lacks-subject = sym (c-lacks-subject .ensures) ∙ c-if1 .left in
-    Y.exited (a .self) (c-cleaned .result) (c-cleaned .ensures) (a .s) (c-subject-level .result) (c .reaped .result) passed-lacks-subject
-    (c-subject-level .ensures)
-    (c .reaped .ensures ∙ ap (reap (handles t))
-    (c .before .with-subject .ensures (in-row t (a .s) passed-lacks-subject) ∙ ap (λ u. with-at u (put (u .at) (subject (a .s)) none))
-    (c .before .before .row-emptied .ensures (in-row t (a .s) passed-lacks-subject))))
+    let c4 = c .before .before .before .before in
+    let c5 = c4 .before in
+    let c6 = c5 .before in
+    let c8 = c6 .before .before in
+    let a = c8 .args in
+    let g = c8 .good .0 in
+    let w = c8 .pre in
+    let z = goes (c5 .of-exit .ensures (view (a .t1)) (a .s) w
+    (subject-got (a .t1) g (a .s) (c6 .subject-at .result) (c6 .subject-at .ensures))) (c4 .if1 .left) in
+    exits (a .t1) g (a .s) (c6 .subject-at .result) (replicate 16 no-handle) (c .before .with-row .result) (c .reaped .result) z
+    (subject-got (a .t1) g (a .s) (c6 .subject-at .result) (c6 .subject-at .ensures))
+    no-places (c .before .with-row .ensures) (c .reaped .ensures)
 
 pub exit-spec : {M : Type 1} → statement M
 exit-spec =
     tie.close
     (tie.spec
-    cleaned-requires
-    lacks-subject-requires
-    refuse-requires returns
-    subject-level-requires
-    row-emptied-requires
-    with-subject-requires
+    mul-step
+    element-copy-out-step
+    subject-at-requires
+    of-exit-requires
+    refuse-requires
+    returns
+    with-row-requires
     reaped-requires
+    mul-t13
+    element-set-from-self
     returns-2)

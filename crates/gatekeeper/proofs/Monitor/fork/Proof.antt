@@ -1,87 +1,92 @@
 -- `gatekeeper::Monitor::fork` meets its contract. Assumes nothing.
-use mathlib.Core.Path.{refl, sym, _∙_, ap}
-use mathlib.Core.Logic.{inl, inr}
-use borrow.Author.Needs.{needs}
-use Rattle.model.specs.Flow.{subject}
-use Rattle.model.specs.Tables.{with-hand}
-use Rattle.model.specs.Steps.{row}
-use Rattle.model.specs.Calls.{fork, close, alive, new, taken}
-use Rattle.gatekeeper.proofs.Meeting.{refuse}
-use Rattle.gatekeeper.proofs.Shapes.{cleaned-wf, in-row, new-row}
-use Rattle.gatekeeper.proofs.Allowed as Y
+use Rattle.model.specs.Calls.{fork}
 use Rattle.gatekeeper.specs.View.{view}
-use Rattle.gatekeeper.proofs.Owned as O
+use Rattle.gatekeeper.proofs.Acting.{stops, goes}
+use Rattle.gatekeeper.proofs.Storing.{subject-got, forks}
+use borrow.Author.Needs.{needs}
 use Rattle.gatekeeper.proofs.Monitor.fork.Statement.{statement}
 use Rattle.gatekeeper.proofs.Monitor.fork.Tie as tie
 
-cleaned-requires : tie.Need-cleaned-requires
-cleaned-requires c κs = search needs
+mul-step : tie.Need-mul-step
+mul-step c = search needs
 
-lacks-subject-requires : tie.Need-lacks-subject-requires
-lacks-subject-requires c κs = search needs
+element-copy-out-step : tie.Need-element-copy-out-step
+element-copy-out-step c = search needs
+
+mul-there : tie.Need-mul-there
+mul-there c = search needs
+
+element-copy-out-there : tie.Need-element-copy-out-there
+element-copy-out-there c = search needs
+
+subject-at-requires : tie.Need-subject-at-requires
+subject-at-requires c κs = search needs
+
+subject-at-requires-2 : tie.Need-subject-at-requires-2
+subject-at-requires-2 c κs = search needs
+
+of-fork-requires : tie.Need-of-fork-requires
+of-fork-requires c κs = search needs
 
 refuse-requires : tie.Need-refuse-requires
 refuse-requires c κs = search needs
 
 returns : tie.Need-returns
 returns c =
-    let a = c .before .before .before .before .args in
-    let c-cleaned = c .before .before .before .cleaned in
-    refuse (a .self) (c .refuse .result) (view (c-cleaned .result)) (fork (a .s) (a .c)) (alive (a .s)) (c .refuse .ensures) (c-cleaned .ensures) (inl refl)
-    (sym (c .before .before .lacks-subject .ensures) ∙ c .before .if1 .taken) (tt, (tt, tt))
+    let c2 = c .before .before in
+    let c3 = c2 .before in
+    let c4 = c3 .before in
+    let c7 = c4 .before .before .before in
+    let a = c7 .args in
+    let g = c7 .good .0 in
+    let w = c7 .pre in
+    stops (a .t1) (fork (a .s) (a .c)) (c2 .of-fork .result) (c .refuse .result)
+    (c2 .of-fork .ensures (view (a .t1)) (a .s) w (subject-got (a .t1) g (a .s) (c4 .subject-at .result) (c4 .subject-at .ensures))
+    (subject-got (a .t1) g (a .c) (c3 .subject-at2 .result) (c3 .subject-at2 .ensures))) (c .before .if1 .taken) (c .refuse .ensures)
 
-subject-taken-requires : tie.Need-subject-taken-requires
-subject-taken-requires c κs = search needs
+mul-t15 : tie.Need-mul-t15
+mul-t15 c = search needs
 
-refuse-requires-2 : tie.Need-refuse-requires-2
-refuse-requires-2 c κs = search needs
+element-set-from-self : tie.Need-element-set-from-self
+element-set-from-self c = search needs
+
+row-of-requires : tie.Need-row-of-requires
+row-of-requires c κs = search needs
+
+with-row-requires : tie.Need-with-row-requires
+with-row-requires c κs = search needs
 
 returns-2 : tie.Need-returns-2
 returns-2 c =
-    let a = c .before .before .before .before .before .before .args in
-    let c-cleaned = c .before .before .before .before .before .cleaned in
-    refuse (a .self) (c .refuse2 .result) (view (c-cleaned .result)) (fork (a .s) (a .c)) (new (subject (a .c))) (c .refuse2 .ensures) (c-cleaned .ensures) (inr (inl refl))
-    (sym (c .before .before .subject-taken .ensures) ∙ c .before .if2 .taken)
-    (sym (c .before .before .before .before .lacks-subject .ensures) ∙ c .before .before .before .if1 .left, (tt, tt))
-
-subject-level-requires : tie.Need-subject-level-requires
-subject-level-requires c κs = search needs
-
-with-subject-requires : tie.Need-with-subject-requires
-with-subject-requires c κs = search needs
-
-row-copied-requires : tie.Need-row-copied-requires
-row-copied-requires c κs = search needs
-
-returns-3 : tie.Need-returns-3
-returns-3 c =
-    let a = c .before .before .before .before .before .before .before .before .args in
-    let good = c .before .before .before .before .before .before .before .before .good in
-    let c-cleaned = c .before .before .before .before .before .before .before .cleaned in
-    let c-lacks-subject = c .before .before .before .before .before .before .lacks-subject in
-    let c-if1 = c .before .before .before .before .before .if1 in
-    let c-subject-taken = c .before .before .before .before .subject-taken in
-    let c-if2 = c .before .before .before .if2 in
-    let c-subject-level = c .before .before .subject-level in
-    let t = view (c-cleaned .result) in
-    let passed-lacks-subject = sym (c-lacks-subject .ensures) ∙ c-if1 .left in
-    let passed-subject-taken = sym (c-subject-taken .ensures) ∙ c-if2 .left in
-    Y.forked (a .self) (c-cleaned .result) (c-cleaned .ensures) (a .s) (a .c) (c-subject-level .result) (c .row-copied .result)
-    (cleaned-wf (a .self) t (O.subjects-long (a .self) (good .0)) (O.objects-long (a .self) (good .0)) (c-cleaned .ensures)) passed-lacks-subject
-    passed-subject-taken (c-subject-level .ensures)
-    (c .row-copied .ensures (in-row t (a .s) passed-lacks-subject) (new-row t (a .c) passed-subject-taken) ∙ ap
-    (λ u. with-hand u (row (u .hand) (a .c) (u .hand (a .s)))) (c .before .with-subject .ensures (new-row t (a .c) passed-subject-taken)))
+    let c3 = c .before .before .before in
+    let c4 = c3 .before in
+    let c5 = c4 .before in
+    let c6 = c5 .before in
+    let c9 = c6 .before .before .before in
+    let a = c9 .args in
+    let g = c9 .good .0 in
+    let w = c9 .pre in
+    let z = goes (c4 .of-fork .ensures (view (a .t1)) (a .s) w (subject-got (a .t1) g (a .s) (c6 .subject-at .result) (c6 .subject-at .ensures))
+    (subject-got (a .t1) g (a .c) (c5 .subject-at2 .result) (c5 .subject-at2 .ensures))) (c3 .if1 .left) in
+    forks (a .t1) g (a .s) (a .c) (c6 .subject-at .result) (c .before .row-of .result) (c .with-row .result) w z
+    (subject-got (a .t1) g (a .s) (c6 .subject-at .result) (c6 .subject-at .ensures)) (c .before .row-of .ensures)
+    (c .with-row .ensures)
 
 pub fork-spec : {M : Type 1} → statement M
 fork-spec =
     tie.close
     (tie.spec
-    cleaned-requires
-    lacks-subject-requires
-    refuse-requires returns
-    subject-taken-requires
-    refuse-requires-2 returns-2
-    subject-level-requires
-    with-subject-requires
-    row-copied-requires
-    returns-3)
+    mul-step
+    element-copy-out-step
+    mul-there
+    element-copy-out-there
+    subject-at-requires
+    subject-at-requires-2
+    of-fork-requires
+    refuse-requires
+    returns
+    mul-t15
+    element-set-from-self
+    row-of-requires
+    with-row-requires
+    returns-2)

@@ -1,160 +1,149 @@
 -- `gatekeeper::Monitor::pipe` meets its contract. Assumes nothing.
-use mathlib.Core.Path.{refl, sym, _∙_}
-use mathlib.Core.Logic.{inl, inr}
-use borrow.Author.Needs.{needs}
-use borrow.Author.Tests.{eq-eqb, ne-eqb}
-use Rattle.model.specs.Flow.{object}
-use Rattle.model.specs.Calls.{make-pipe, close, alive, new, vacant, taken, apart}
-use Rattle.gatekeeper.proofs.Meeting.{refuse}
-use Rattle.gatekeeper.proofs.Shapes.{in-row, new-column, vacant-column}
-use Rattle.gatekeeper.proofs.Allowed as Y
+use Rattle.model.specs.Calls.{make-pipe}
 use Rattle.gatekeeper.specs.View.{view}
+use Rattle.gatekeeper.proofs.Acting.{stops, goes}
+use Rattle.gatekeeper.proofs.Storing.{subject-got, object-got, handle-got, pipes}
+use borrow.Author.Needs.{needs}
 use Rattle.gatekeeper.proofs.Monitor.pipe.Statement.{statement}
 use Rattle.gatekeeper.proofs.Monitor.pipe.Tie as tie
 
-cleaned-requires : tie.Need-cleaned-requires
-cleaned-requires c κs = search needs
+mul-reader : tie.Need-mul-reader
+mul-reader c = search needs
 
-lacks-subject-requires : tie.Need-lacks-subject-requires
-lacks-subject-requires c κs = search needs
+add-reader : tie.Need-add-reader
+add-reader c = search needs
+
+mul-writer : tie.Need-mul-writer
+mul-writer c = search needs
+
+add-writer : tie.Need-add-writer
+add-writer c = search needs
+
+mul-step : tie.Need-mul-step
+mul-step c = search needs
+
+element-copy-out-step : tie.Need-element-copy-out-step
+element-copy-out-step c = search needs
+
+mul-there : tie.Need-mul-there
+mul-there c = search needs
+
+element-copy-out-there : tie.Need-element-copy-out-there
+element-copy-out-there c = search needs
+
+mul-at-reader : tie.Need-mul-at-reader
+mul-at-reader c = search needs
+
+element-copy-out-at-reader : tie.Need-element-copy-out-at-reader
+element-copy-out-at-reader c = search needs
+
+mul-at-writer : tie.Need-mul-at-writer
+mul-at-writer c = search needs
+
+element-copy-out-at-writer : tie.Need-element-copy-out-at-writer
+element-copy-out-at-writer c = search needs
+
+subject-at-requires : tie.Need-subject-at-requires
+subject-at-requires c κs = search needs
+
+object-at-requires : tie.Need-object-at-requires
+object-at-requires c κs = search needs
+
+handle-at-requires : tie.Need-handle-at-requires
+handle-at-requires c κs = search needs
+
+handle-at-requires-2 : tie.Need-handle-at-requires-2
+handle-at-requires-2 c κs = search needs
+
+of-pipe-requires : tie.Need-of-pipe-requires
+of-pipe-requires c κs = search needs
 
 refuse-requires : tie.Need-refuse-requires
 refuse-requires c κs = search needs
 
 returns : tie.Need-returns
 returns c =
-    let a = c .before .before .before .before .args in
-    let c-cleaned = c .before .before .before .cleaned in
-    refuse (a .self) (c .refuse .result) (view (c-cleaned .result)) (make-pipe (a .s) (a .o) (a .r) (a .w)) (alive (a .s)) (c .refuse .ensures) (c-cleaned .ensures) (inl refl)
-    (sym (c .before .before .lacks-subject .ensures) ∙ c .before .if1 .taken) (tt, (tt, (tt, (tt, (tt, tt)))))
+    let c2 = c .before .before in
+    let c3 = c2 .before in
+    let c4 = c3 .before in
+    let c5 = c4 .before in
+    let c6 = c5 .before in
+    let c11 = c6 .before .before .before .before .before in
+    let a = c11 .args in
+    let g = c11 .good .0 in
+    let w = c11 .pre in
+    stops (a .t1) (make-pipe (a .s) (a .o) (a .r) (a .w)) (c2 .of-pipe .result) (c .refuse .result)
+    (c2 .of-pipe .ensures (view (a .t1)) (a .s) w (subject-got (a .t1) g (a .s) (c6 .subject-at .result) (c6 .subject-at .ensures))
+    (object-got (a .t1) g (a .o) (c5 .object-at .result) (c5 .object-at .ensures))
+    (handle-got (a .t1) g (a .s) (a .r) (c4 .handle-at .result) (c4 .handle-at .ensures))
+    (handle-got (a .t1) g (a .s) (a .w) (c3 .handle-at2 .result) (c3 .handle-at2 .ensures))) (c .before .if1 .taken) (c .refuse .ensures)
 
-object-taken-requires : tie.Need-object-taken-requires
-object-taken-requires c κs = search needs
+cast-number : tie.Need-cast-number
+cast-number c = search needs
 
-refuse-requires-2 : tie.Need-refuse-requires-2
-refuse-requires-2 c κs = search needs
+mul-t23 : tie.Need-mul-t23
+mul-t23 c = search needs
+
+element-set-from-self : tie.Need-element-set-from-self
+element-set-from-self c = search needs
+
+mul-self : tie.Need-mul-self
+mul-self c = search needs
+
+element-set-from-self-2 : tie.Need-element-set-from-self-2
+element-set-from-self-2 c = search needs
+
+mul-t21 : tie.Need-mul-t21
+mul-t21 c = search needs
+
+element-set-from-self-3 : tie.Need-element-set-from-self-3
+element-set-from-self-3 c = search needs
 
 returns-2 : tie.Need-returns-2
 returns-2 c =
-    let a = c .before .before .before .before .before .before .args in
-    let c-cleaned = c .before .before .before .before .before .cleaned in
-    refuse (a .self) (c .refuse2 .result) (view (c-cleaned .result)) (make-pipe (a .s) (a .o) (a .r) (a .w)) (new (object (a .o))) (c .refuse2 .ensures) (c-cleaned .ensures) (inr (inl refl))
-    (sym (c .before .before .object-taken .ensures) ∙ c .before .if2 .taken)
-    (sym (c .before .before .before .before .lacks-subject .ensures) ∙ c .before .before .before .if1 .left, (tt, (tt, (tt, (tt, tt)))))
-
-place-taken-requires : tie.Need-place-taken-requires
-place-taken-requires c κs = search needs
-
-refuse-requires-3 : tie.Need-refuse-requires-3
-refuse-requires-3 c κs = search needs
-
-returns-3 : tie.Need-returns-3
-returns-3 c =
-    let a = c .before .before .before .before .before .before .before .before .args in
-    let c-cleaned = c .before .before .before .before .before .before .before .cleaned in
-    refuse (a .self) (c .refuse3 .result) (view (c-cleaned .result)) (make-pipe (a .s) (a .o) (a .r) (a .w)) (vacant (a .s) (a .r)) (c .refuse3 .ensures) (c-cleaned .ensures)
-    (inr (inr (inl refl))) (sym (c .before .before .place-taken .ensures) ∙ c .before .if3 .taken) (
-      sym (c .before .before .before .before .before .before .lacks-subject .ensures) ∙ c .before .before .before .before .before .if1 .left,
-      (sym (c .before .before .before .before .object-taken .ensures) ∙ c .before .before .before .if2 .left, (tt, (tt, (tt, tt)))),
-    )
-
-place-taken-requires-2 : tie.Need-place-taken-requires-2
-place-taken-requires-2 c κs = search needs
-
-refuse-requires-4 : tie.Need-refuse-requires-4
-refuse-requires-4 c κs = search needs
-
-returns-4 : tie.Need-returns-4
-returns-4 c =
-    let a = c .before .before .before .before .before .before .before .before .before .before .args in
-    let c-cleaned = c .before .before .before .before .before .before .before .before .before .cleaned in
-    let c-lacks-subject = c .before .before .before .before .before .before .before .before .lacks-subject in
-    refuse (a .self) (c .refuse4 .result) (view (c-cleaned .result)) (make-pipe (a .s) (a .o) (a .r) (a .w)) (vacant (a .s) (a .w)) (c .refuse4 .ensures) (c-cleaned .ensures)
-    (inr (inr (inr (inl refl)))) (sym (c .before .before .place-taken2 .ensures) ∙ c .before .if4 .taken) (
-      sym (c-lacks-subject .ensures) ∙ c .before .before .before .before .before .before .before .if1 .left,
-      (
-        sym (c .before .before .before .before .before .before .object-taken .ensures) ∙ c .before .before .before .before .before .if2 .left,
-        (tt, (tt, (tt, tt))),
-      ),
-    )
-
-refuse-requires-5 : tie.Need-refuse-requires-5
-refuse-requires-5 c κs = search needs
-
-returns-5 : tie.Need-returns-5
-returns-5 c =
-    let a = c .before .before .before .before .before .before .before .before .before .before .before .args in
-    let c-cleaned = c .before .before .before .before .before .before .before .before .before .before .cleaned in
-    let c-lacks-subject = c .before .before .before .before .before .before .before .before .before .lacks-subject in
-    let c-if1 = c .before .before .before .before .before .before .before .before .if1 in
-    let c-object-taken = c .before .before .before .before .before .before .before .object-taken in
-    refuse (a .self) (c .refuse5 .result) (view (c-cleaned .result)) (make-pipe (a .s) (a .o) (a .r) (a .w)) (apart (a .r) (a .w)) (c .refuse5 .ensures) (c-cleaned .ensures)
-    (inr (inr (inr (inr (inl refl))))) (eq-eqb (a .r) (a .w) (c .before .if5 .taken)) (
-      sym (c-lacks-subject .ensures) ∙ c-if1 .left,
-      (sym (c-object-taken .ensures) ∙ c .before .before .before .before .before .before .if2 .left, (tt, (tt, (tt, tt)))),
-    )
-
-subject-level-requires : tie.Need-subject-level-requires
-subject-level-requires c κs = search needs
-
-cast-n : tie.Need-cast-n
-cast-n c = search needs
-
-with-object-requires : tie.Need-with-object-requires
-with-object-requires c κs = search needs
-
-with-handle-requires : tie.Need-with-handle-requires
-with-handle-requires c κs = search needs
-
-with-handle-requires-2 : tie.Need-with-handle-requires-2
-with-handle-requires-2 c κs = search needs
-
-returns-6 : tie.Need-returns-6
-returns-6 c =
-    let a = c .before .before .before .before .before .before .before .before .before .before .before .before .before .before .args in
-    let c-cleaned = c .before .before .before .before .before .before .before .before .before .before .before .before .before .cleaned in
-    let c-lacks-subject = c .before .before .before .before .before .before .before .before .before .before .before .before .lacks-subject in
-    let c-if1 = c .before .before .before .before .before .before .before .before .before .before .before .if1 in
-    let c-object-taken = c .before .before .before .before .before .before .before .before .before .before .object-taken in
-    let c-if2 = c .before .before .before .before .before .before .before .before .before .if2 in
-    let c-place-taken = c .before .before .before .before .before .before .before .before .place-taken in
-    let c-if3 = c .before .before .before .before .before .before .before .if3 in
-    let c-place-taken2 = c .before .before .before .before .before .before .place-taken2 in
-    let c-if4 = c .before .before .before .before .before .if4 in
-    let c-subject-level = c .before .before .before .subject-level in
-    let c-with-object = c .before .before .with-object in
-    let c-with-handle = c .before .with-handle in
-    let c-with-handle2 = c .with-handle2 in
-    let t = view (c-cleaned .result) in
-    let passed-lacks-subject = sym (c-lacks-subject .ensures) ∙ c-if1 .left in
-    let passed-object-taken = sym (c-object-taken .ensures) ∙ c-if2 .left in
-    let passed-place-taken = sym (c-place-taken .ensures) ∙ c-if3 .left in
-    let passed-place-taken2 = sym (c-place-taken2 .ensures) ∙ c-if4 .left in
-    Y.piped (a .self) (c-cleaned .result) (c-cleaned .ensures) (a .s) (a .o) (a .r) (a .w) (c-subject-level .result) (c-with-handle2 .result)
-    passed-lacks-subject passed-object-taken passed-place-taken passed-place-taken2
-    (ne-eqb (a .r) (a .w) (c .before .before .before .before .if5 .left)) (c-subject-level .ensures)
-    (Y.piped-view t (view (c-with-object .result)) (view (c-with-handle .result)) (view (c-with-handle2 .result)) (a .s) (a .o) (a .r) (a .w)
-    (c-subject-level .result) (new-column t (a .o) passed-object-taken) (c-with-object .ensures (new-column t (a .o) passed-object-taken))
-    (c-with-handle .ensures (in-row t (a .s) passed-lacks-subject) (vacant-column t (a .s) (a .r) passed-place-taken))
-    (c-with-handle2 .ensures (in-row t (a .s) passed-lacks-subject) (vacant-column t (a .s) (a .w) passed-place-taken2)))
+    let c2 = c .before .before in
+    let c3 = c2 .before in
+    let c4 = c3 .before in
+    let c5 = c4 .before in
+    let c10 = c5 .before .before .before .before .before in
+    let a = c10 .args in
+    let g = c10 .good .0 in
+    let w = c10 .pre in
+    let z = goes (c .before .of-pipe .ensures (view (a .t1)) (a .s) w
+    (subject-got (a .t1) g (a .s) (c5 .subject-at .result) (c5 .subject-at .ensures))
+    (object-got (a .t1) g (a .o) (c4 .object-at .result) (c4 .object-at .ensures))
+    (handle-got (a .t1) g (a .s) (a .r) (c3 .handle-at .result) (c3 .handle-at .ensures))
+    (handle-got (a .t1) g (a .s) (a .w) (c2 .handle-at2 .result) (c2 .handle-at2 .ensures))) (c .if1 .left) in
+    pipes (a .t1) g (a .s) (a .o) (a .r) (a .w) (c5 .subject-at .result) z (subject-got (a .t1) g (a .s) (c5 .subject-at .result) (c5 .subject-at .ensures))
 
 pub pipe-spec : {M : Type 1} → statement M
 pipe-spec =
     tie.close
     (tie.spec
-    cleaned-requires
-    lacks-subject-requires
-    refuse-requires returns
-    object-taken-requires
-    refuse-requires-2 returns-2
-    place-taken-requires
-    refuse-requires-3 returns-3
-    place-taken-requires-2
-    refuse-requires-4 returns-4
-    refuse-requires-5 returns-5
-    subject-level-requires
-    cast-n
-    with-object-requires
-    with-handle-requires
-    with-handle-requires-2
-    returns-6)
+    mul-reader
+    add-reader
+    mul-writer
+    add-writer
+    mul-step
+    element-copy-out-step
+    mul-there
+    element-copy-out-there
+    mul-at-reader
+    element-copy-out-at-reader
+    mul-at-writer
+    element-copy-out-at-writer
+    subject-at-requires
+    object-at-requires
+    handle-at-requires
+    handle-at-requires-2
+    of-pipe-requires
+    refuse-requires
+    returns
+    cast-number
+    mul-t23
+    element-set-from-self
+    mul-self
+    element-set-from-self-2
+    mul-t21
+    element-set-from-self-3
+    returns-2)

@@ -1,0 +1,175 @@
+-- `gatekeeper::Monitor::dispatch` meets its contract. Assumes nothing.
+use mathlib.Core.Path.{sym, subst}
+use Rattle.model.specs.Calls.{Call, unknown, decode}
+use Rattle.model.specs.Calls.Codes.{decode-unknown, unknown-refused}
+use Rattle.gatekeeper.specs.View.{view, told, direct}
+use Rattle.gatekeeper.specs.Acting.{Acts}
+use Rattle.gatekeeper.proofs.Acting.{halts}
+use borrow.Author.Needs.{needs}
+use Rattle.gatekeeper.proofs.Monitor.dispatch.Statement.{statement}
+use Rattle.gatekeeper.proofs.Monitor.dispatch.Tie as tie
+
+admit-requires : tie.Need-admit-requires
+admit-requires c κs = c .before .pre
+
+register-requires : tie.Need-register-requires
+register-requires c κs = c .before .pre
+
+create-requires : tie.Need-create-requires
+create-requires c κs = c .before .pre
+
+pipe-requires : tie.Need-pipe-requires
+pipe-requires c κs = c .before .pre
+
+open-requires : tie.Need-open-requires
+open-requires c κs = c .before .pre
+
+open-requires-2 : tie.Need-open-requires-2
+open-requires-2 c κs = c .before .pre
+
+read-requires : tie.Need-read-requires
+read-requires c κs = c .before .pre
+
+write-requires : tie.Need-write-requires
+write-requires c κs = c .before .pre
+
+fork-requires : tie.Need-fork-requires
+fork-requires c κs = c .before .pre
+
+exec-requires : tie.Need-exec-requires
+exec-requires c κs = c .before .pre
+
+close-requires : tie.Need-close-requires
+close-requires c κs = c .before .pre
+
+exit-requires : tie.Need-exit-requires
+exit-requires c κs = c .before .pre
+
+retire-requires : tie.Need-retire-requires
+retire-requires c κs = c .before .pre
+
+refuse-requires : tie.Need-refuse-requires
+refuse-requires c κs = search needs
+
+returns : tie.Need-returns
+unfolding decode
+returns c = rw (c .before .match .keys1) (c .admit .ensures)
+
+returns-2 : tie.Need-returns-2
+unfolding decode
+returns-2 c = rw (c .before .match .keys2) (c .register .ensures)
+
+returns-3 : tie.Need-returns-3
+unfolding decode
+returns-3 c = rw (c .before .match .keys3) (c .create .ensures)
+
+returns-4 : tie.Need-returns-4
+unfolding decode
+returns-4 c = rw (c .before .match .keys4) (c .pipe .ensures)
+
+returns-5 : tie.Need-returns-5
+unfolding decode
+returns-5 c = rw (c .before .match .keys5) (c .open .ensures)
+
+returns-6 : tie.Need-returns-6
+unfolding decode
+returns-6 c = rw (c .before .match .keys6) (c .open2 .ensures)
+
+returns-7 : tie.Need-returns-7
+unfolding decode
+returns-7 c = rw (c .before .match .keys7) (c .read .ensures)
+
+returns-8 : tie.Need-returns-8
+unfolding decode
+returns-8 c = rw (c .before .match .keys8) (c .write .ensures)
+
+returns-9 : tie.Need-returns-9
+unfolding decode
+returns-9 c = rw (c .before .match .keys9) (c .fork .ensures)
+
+returns-10 : tie.Need-returns-10
+unfolding decode
+returns-10 c = rw (c .before .match .keys10) (c .exec .ensures)
+
+returns-11 : tie.Need-returns-11
+unfolding decode
+returns-11 c = rw (c .before .match .keys11) (c .close .ensures)
+
+returns-12 : tie.Need-returns-12
+unfolding decode
+returns-12 c = rw (c .before .match .keys12) (c .exit .ensures)
+
+returns-13 : tie.Need-returns-13
+unfolding decode
+returns-13 c = rw (c .before .match .keys13) (c .retire .ensures)
+
+returns-14 : tie.Need-returns-14
+returns-14 c =
+    let c2 = c .before .before in
+    let a = c2 .args in
+    subst (λ (k : Call). Acts (a .self) k (told (c .refuse .result .answer)) (c .refuse .result .monitor))
+    (sym (decode-unknown (direct (a .code) (a .a) (a .b) (a .c) (a .d)) (
+      c .before .match .rest .0 .0 .0 .0 .0 .0 .0 .0 .0 .0 .0 .0 .1,
+      (
+        c .before .match .rest .0 .0 .0 .0 .0 .0 .0 .0 .0 .0 .0 .1,
+        (
+          c .before .match .rest .0 .0 .0 .0 .0 .0 .0 .0 .0 .0 .1,
+          (
+            c .before .match .rest .0 .0 .0 .0 .0 .0 .0 .0 .0 .1,
+            (
+              c .before .match .rest .0 .0 .0 .0 .0 .0 .0 .0 .1,
+              (
+                c .before .match .rest .0 .0 .0 .0 .0 .0 .0 .1,
+                (
+                  c .before .match .rest .0 .0 .0 .0 .0 .0 .1,
+                  (
+                    c .before .match .rest .0 .0 .0 .0 .0 .1,
+                    (
+                      c .before .match .rest .0 .0 .0 .0 .1,
+                      (
+                        c .before .match .rest .0 .0 .0 .1,
+                        (c .before .match .rest .0 .0 .1, (c .before .match .rest .0 .1, (c .before .match .rest .1, tt))),
+                      ),
+                    ),
+                  ),
+                ),
+              ),
+            ),
+          ),
+        ),
+      ),
+    )))
+    (halts (a .self) unknown 1 (c .refuse .result) (unknown-refused (view (a .self))) (c .refuse .ensures))
+
+pub dispatch-spec : {M : Type 1} → statement M
+dispatch-spec =
+    tie.close
+    (tie.spec
+    admit-requires
+    register-requires
+    create-requires
+    pipe-requires
+    open-requires
+    open-requires-2
+    read-requires
+    write-requires
+    fork-requires
+    exec-requires
+    close-requires
+    exit-requires
+    retire-requires
+    refuse-requires
+    returns
+    returns-2
+    returns-3
+    returns-4
+    returns-5
+    returns-6
+    returns-7
+    returns-8
+    returns-9
+    returns-10
+    returns-11
+    returns-12
+    returns-13
+    returns-14)

@@ -1,0 +1,38 @@
+-- A call on tables in which nothing dangles, and how its reply is settled for any monitor. No caller of a public function needs these. Assumes nothing.
+use mathlib.Core.Path.{_≡_}
+use mathlib.Core.Bool.{Bool, cond}
+use mathlib.Core.Option.{none, some}
+use Prim.Native.Nat.{ℕ}
+use lib.Dec.{ltb}
+use Rattle.model.specs.Tables.{Dir, reading, writing}
+use Rattle.model.specs.Calls.{Call, refusal, effect, answer, allowed, lowered}
+use Rattle.model.specs.Calls.{Answer as Told}
+use Rattle.gatekeeper.specs.declared.Monitor.{Monitor}
+use Rattle.gatekeeper.specs.declared.Reply.{Reply}
+use Rattle.gatekeeper.specs.declared.Answer.the-variants.{Refused}
+use Rattle.gatekeeper.specs.View.{view, told, refuses}
+
+-- call c on monitor m, as its tables stand, is answered a, and monitor n is handed back
+pub record Acts (m : Monitor) (c : Call) (a : Told) (n : Monitor) : Type 0 where
+  pub answered : a ≡ answer (view m) c
+  pub unchanged : (k : ℕ) → refusal (view m) c ≡ some k → n ≡ m
+  pub moved : refusal (view m) c ≡ none → view n ≡ effect (view m) c
+
+-- a refusal: its number, and the monitor as it came
+abbrev pub back : Monitor → ℕ → Reply
+back m n = record { monitor = m; answer = Refused n }
+
+-- the reply, or the monitor as it came where that is a refusal
+abbrev pub settled : Monitor → Reply → Reply
+settled m r = record { monitor = cond (refuses (told (r .answer))) m (r .monitor); answer = r .answer }
+
+-- the answer of a call after which a level that was b is a
+abbrev pub fell : ℕ → ℕ → Told
+fell b a = cond (ltb a b) (lowered a) (allowed a)
+
+-- an open, and the way of its handle
+abbrev pub direction : Bool → Dir
+direction r = cond r reading writing
+
+abbrev pub way-by : Bool → ℕ
+way-by r = cond r 1 2

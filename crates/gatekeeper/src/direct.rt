@@ -1,0 +1,57 @@
+// The direct call, for every monitor value: it cleans the tables, makes the call, and hands the very same monitor back where it is refused.
+ghost use mathlib.Core.Path.{_≡_};
+ghost use Rattle.model.specs.Tables.{clean};
+ghost use Rattle.model.specs.Invariant.{Wf};
+ghost use Rattle.model.specs.Calls.{decode};
+ghost use Rattle.model.specs.Promise.{Meets};
+ghost use Rattle.gatekeeper.specs.View.{view, told, direct};
+ghost use Rattle.gatekeeper.specs.Acting.{Acts};
+use crate::Monitor;
+use crate::Reply;
+
+impl Monitor {
+    // No dangling handle remains.
+    fn cleaned(mut self) -> Monitor
+        ensures { λ r. ⌜ view r ≡ clean (view self) ⌝ }
+    {
+        let subjects = self.subjects;
+        let objects = self.objects;
+        let handles = self.handles;
+        let kept = handles::cleaned(subjects, objects, handles);
+        self.handles = kept;
+        self
+    }
+
+    // A code and four numbers; those that the code does not use are ignored. Nothing dangles in the tables.
+    fn dispatch(self, code: u32, a: u32, b: u32, c: u32, d: u32) -> Reply
+        requires { ⌜ Wf (view self) ⌝ }
+        ensures { λ r. ⌜ Acts self (decode (direct code a b c d)) (told (r .answer)) (r .monitor) ⌝ }
+    {
+        match code {
+            1 => self.admit(a, b),
+            2 => self.register(a, b),
+            3 => self.create(a, b),
+            4 => self.pipe(a, b, c, d),
+            5 => self.open(true, a, b, c),
+            6 => self.open(false, a, b, c),
+            7 => self.read(a, b),
+            8 => self.write(a, b),
+            9 => self.fork(a, b),
+            10 => self.exec(a, b),
+            11 => self.close(a, b),
+            12 => self.exit(a),
+            13 => self.retire(a),
+            _ => self.refuse(1),
+        }
+    }
+
+    // A code and four numbers; those that the code does not use are ignored. A refused call hands the same struct back, free part included;
+    // any other hands back the rules' next tables, and its free part is any (model, `Promise`).
+    pub fn call(self, code: u32, a: u32, b: u32, c: u32, d: u32) -> Reply
+        ensures { λ r. ⌜ Meets view self (decode (direct code a b c d)) (told (r .answer)) (r .monitor) ⌝ }
+    {
+        let t = self.cleaned();
+        let r = t.dispatch(code, a, b, c, d);
+        self.settle(r)
+    }
+}

@@ -1,0 +1,42 @@
+-- The row of one subject: sixteen places read one by one are its handles, and stored one by one are a row of the tables. Assumes nothing.
+use mathlib.Core.Path.{_≡_, refl, ap, fun-ext}
+use mathlib.Core.Bool.{Bool, true, false}
+use mathlib.Core.Logic.{_⊎_, inl, inr}
+use mathlib.Core.List.{List}
+use Prim.Native.Nat.{ℕ, _+_, _*_, _≤_, _<_}
+use native.Mathlib.Omega.{arith}
+use native.Mathlib.Decide.{ℕ-discrete, decLt}
+use borrow.Author.Tests.{eq-eqb, ne-eqb, ltb-true}
+use lib.ListN.{getD}
+use lib.Dec.{ltb}
+use Rattle.model.specs.Tables.{with-hand}
+use Rattle.model.specs.Steps.{row}
+use Rattle.tables.specs.declared.Subject.{Subject}
+use Rattle.tables.specs.declared.Object.{Object}
+use Rattle.tables.specs.declared.Handle.{Handle}
+use Rattle.tables.specs.Records.{no-handle, hands, along, tables-of}
+use Rattle.tables.proofs.Maps.{Mapped, Rowed}
+
+-- ── reading ──
+pub row-along : (hs l r : List Handle) (s i : ℕ) → 16 ≤ i → Mapped no-handle (λ j x. getD hs (s * 16 + j) no-handle) l r i
+    → (p : ℕ) → along r p ≡ hands hs s p
+row-along hs l r s i full m p = go (ltb p 16) refl
+  where
+    go : (b : Bool) → ltb p 16 ≡ b → along r p ≡ hands hs s p
+    go true e = rw (e, m .done p (omega (arith, ltb-true p 16 e)))
+    go false e = rw e
+
+-- ── storing ──
+module _ (hs r places : List Handle) (c i : ℕ) (full : i ≡ 16) (m : Rowed no-handle (λ q. getD places q no-handle) hs r (c * 16) i) where
+  row-at : (s q : ℕ) (b : Bool) → ltb q 16 ≡ b → Dec (c ≡ s) → hands r s q ≡ row (hands hs) c (along places) s q
+  row-at s q true e (yes z) = rw (← z, eq-eqb c c refl, e, m .inside q (omega (arith, ltb-true q 16 e)))
+  row-at s q true e (no nz) = rw (ne-eqb c s nz, e, m .outside (s * 16 + q) (apart (ltb-true q 16 e)))
+    where
+      apart : q < 16 → (s * 16 + q < c * 16) ⊎ (c * 16 + i ≤ s * 16 + q)
+      apart l = elim (decLt s c) [ yes h ↦ inl (omega arith) | no h ↦ inr (omega arith) ]
+  row-at s q false e (yes z) = rw (← z, eq-eqb c c refl, e)
+  row-at s q false e (no nz) = rw (ne-eqb c s nz, e)
+
+  pub rowed-tables : (ss : List Subject) (os : List Object) → tables-of ss os r ≡ with-hand (tables-of ss os hs) (row (hands hs) c (along places))
+  unfolding tables-of
+  rowed-tables ss os = ap (with-hand (tables-of ss os hs)) (fun-ext (λ s. fun-ext (λ q. row-at s q (ltb q 16) refl (ℕ-discrete c s))))

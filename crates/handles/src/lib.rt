@@ -1,0 +1,224 @@
+// Whole arrays of handles: those that dangle, those on one object, the row of one subject, the pipes that end.
+ghost use mathlib.Core.Path.{_≡_};
+ghost use mathlib.Core.List.{List};
+ghost use Prim.Native.Nat.{ℕ, _<_};
+ghost use Rattle.model.specs.Tables.{Tables, clean, empty, with-hand, open-on};
+ghost use Rattle.model.specs.Tables.{handles as all-handles};
+ghost use Rattle.model.specs.Steps.{reap, row};
+ghost use Rattle.tables.specs.declared.Subject.{Subject};
+ghost use Rattle.tables.specs.declared.Object.{Object};
+ghost use Rattle.tables.specs.Records.{hands, along, tables-of};
+ghost use Rattle.tables.specs.Working.{Outlives};
+ghost use Rattle.handles.specs.Working.{kept-of, on, slot-of, Mapping, outlived-by};
+use tables::EMPTY;
+use tables::FREE;
+use tables::HANDLES;
+use tables::Handle;
+use tables::OBJECTS;
+use tables::Object;
+use tables::PIPE;
+use tables::PLACES;
+use tables::SUBJECTS;
+use tables::Subject;
+
+// ---- tables that no calls made ----
+
+// A handle record, or an empty one where it dangles: `object` is the one at its number modulo OBJECTS.
+fn kept(h: Handle, subject: Subject, object: Object) -> Handle
+    ensures { λ r. ⌜ r ≡ kept-of h subject object ⌝ }
+{
+    if subject.live == 0 {
+        return Handle {
+            way: EMPTY,
+            object: 0,
+        };
+    }
+    if OBJECTS as u8 <= h.object {
+        return Handle {
+            way: EMPTY,
+            object: 0,
+        };
+    }
+    if object.kind == FREE {
+        return Handle {
+            way: EMPTY,
+            object: 0,
+        };
+    }
+    h
+}
+
+// The handles with every dangling one emptied.
+pub fn cleaned(
+    subjects: [Subject; SUBJECTS],
+    objects: [Object; OBJECTS],
+    handles: [Handle; HANDLES],
+) -> [Handle; HANDLES]
+    ensures { λ r. ⌜ tables-of subjects objects r ≡ clean (tables-of subjects objects handles) ⌝ }
+{
+    let mut r = handles;
+    let mut i: usize = 0;
+    while i < HANDLES {
+        let h = r[i];
+        let s = i / PLACES;
+        let subject = subjects[s];
+        let o = h.object as usize % OBJECTS;
+        let object = objects[o];
+        let k = kept(h, subject, object);
+        r[i] = k;
+        i += 1;
+    }
+    r
+}
+
+// ---- handles on an object, and the end of a pipe ----
+
+// A handle on object o.
+fn is_on(h: Handle, o: u8) -> bool
+    ensures { λ r. ⌜ r ≡ on h o ⌝ }
+{
+    if h.way == EMPTY {
+        return false;
+    }
+    h.object == o
+}
+
+// A handle is open on object o.
+pub fn is_open(handles: [Handle; HANDLES], o: u8) -> bool
+    ensures { λ r. ⌜ r ≡ open-on (all-handles (with-hand empty (hands handles))) o ⌝ }
+{
+    let mut i: usize = 0;
+    while i < HANDLES {
+        let h = handles[i];
+        if is_on(h, o) {
+            return true;
+        }
+        i += 1;
+    }
+    false
+}
+
+// The record of object o, or a free one where it is a pipe on which no handle is open.
+pub fn outlived(handles: [Handle; HANDLES], object: Object, o: u8) -> Object
+    ensures { λ r. ⌜ Outlives handles object o r ⌝ }
+{
+    if object.kind < PIPE {
+        return object;
+    }
+    if is_open(handles, o) {
+        return object;
+    }
+    Object {
+        kind: FREE,
+        level: 0,
+    }
+}
+
+// The object that a handle is on; OBJECTS for an empty place and for an object out of range.
+fn slot(h: Handle) -> usize
+    ensures { λ r. ⌜ r ≡ slot-of h ⌝ }
+{
+    if h.way == EMPTY {
+        return OBJECTS;
+    }
+    if OBJECTS as u8 <= h.object {
+        return OBJECTS;
+    }
+    h.object as usize
+}
+
+// Of each object, whether a handle is open on it. The last element stands for none.
+fn open_map(handles: [Handle; HANDLES]) -> [bool; OBJECTS + 1]
+    ensures { λ r. ⌜ Mapping handles r 512 ⌝ }
+{
+    let mut r = [false; OBJECTS + 1];
+    let mut i: usize = 0;
+    while i < HANDLES {
+        let h = handles[i];
+        let at = slot(h);
+        r[at] = true;
+        i += 1;
+    }
+    r
+}
+
+// An object record, or a free one where it is a pipe whose last handle went.
+fn left(x: Object, was: bool, is: bool) -> Object
+    ensures { λ r. ⌜ r ≡ outlived-by x was is ⌝ }
+{
+    if x.kind < PIPE {
+        return x;
+    }
+    if is {
+        return x;
+    }
+    if was {
+        return Object {
+            kind: FREE,
+            level: 0,
+        };
+    }
+    x
+}
+
+// The objects without the pipes that had a handle in `before` and have none in `after`.
+pub fn reaped(
+    objects: [Object; OBJECTS],
+    before: [Handle; HANDLES],
+    after: [Handle; HANDLES],
+) -> [Object; OBJECTS]
+    ensures { λ r. ⌜ ((ss : List Subject) (t : Tables) → all-handles t ≡ all-handles (with-hand empty (hands before)) →
+        tables-of ss r after ≡ reap (all-handles t) (tables-of ss objects after)) ⌝ }
+{
+    let was = open_map(before);
+    let is = open_map(after);
+    let mut r = objects;
+    let mut i: usize = 0;
+    while i < OBJECTS {
+        let object = r[i];
+        let x = left(object, was[i], is[i]);
+        r[i] = x;
+        i += 1;
+    }
+    r
+}
+
+// ---- the row of one subject ----
+
+// The places of subject s.
+pub fn row_of(handles: [Handle; HANDLES], s: usize) -> [Handle; PLACES]
+    requires { ⌜ s < 32 ⌝ }
+    ensures { λ r. ⌜ ((p : ℕ) → along r p ≡ hands handles s p) ⌝ }
+{
+    let mut r = [Handle {
+        way: EMPTY,
+        object: 0,
+    }; PLACES];
+    let base = s * PLACES;
+    let mut p: usize = 0;
+    while p < PLACES {
+        let at = base + p;
+        let h = handles[at];
+        r[p] = h;
+        p += 1;
+    }
+    r
+}
+
+// The handles with those of subject s made these.
+pub fn with_row(handles: [Handle; HANDLES], s: usize, places: [Handle; PLACES]) -> [Handle; HANDLES]
+    requires { ⌜ s < 32 ⌝ }
+    ensures { λ r. ⌜ ((ss : List Subject) (os : List Object) →
+        tables-of ss os r ≡ with-hand (tables-of ss os handles) (row (hands handles) s (along places))) ⌝ }
+{
+    let mut r = handles;
+    let base = s * PLACES;
+    let mut p: usize = 0;
+    while p < PLACES {
+        let at = base + p;
+        let h = places[p];
+        r[at] = h;
+        p += 1;
+    }
+    r
+}

@@ -1,0 +1,6 @@
+-- The laws that the proofs of this crate and of those above it cite: loops over arrays (Maps), a test of some number below another (Below); what records tell of
+-- tests (Testing), the first test that fails (Finding). Assumes nothing.
+pub mod Maps
+pub mod Below
+pub mod Testing
+pub mod Finding

@@ -1,0 +1,55 @@
+// The records that the tables are made of, by bytes, and what is worked out from whole arrays of them and from the few records that
+// a call looks at.
+//
+// Every byte is a value: no record is malformed. Promises go through `tables-of`, which reads the three arrays as the tables of the
+// rules (crate `model`).
+pub mod looks;
+pub mod refusals;
+
+// How many there are of each. Place p of subject s is handle PLACES * s + p.
+pub const SUBJECTS: usize = 32;
+
+pub const OBJECTS: usize = 64;
+
+pub const PLACES: usize = 16;
+
+pub const HANDLES: usize = SUBJECTS * PLACES;
+// Subjects and objects together, as the nodes of the flows: a subject by its number, an object by SUBJECTS more.
+pub const THINGS: usize = SUBJECTS + OBJECTS;
+
+pub const HIGHEST: u32 = 15;
+// OBJECTS, for a call's number of an object.
+pub const OBJECT_NUMBERS: u32 = 64;
+
+// The kinds of an object; any other byte is a pipe, too.
+pub const FREE: u8 = 0;
+
+pub const FILE: u8 = 1;
+
+pub const PIPE: u8 = 2;
+
+// The ways of a handle; any other byte writes, too.
+pub const EMPTY: u8 = 0;
+
+pub const READS: u8 = 1;
+
+pub const WRITES: u8 = 2;
+
+// `live` is 0 for a number that is not in use.
+#[repr(C)]
+pub struct Subject {
+    pub live: u8,
+    pub level: u8,
+}
+
+#[repr(C)]
+pub struct Object {
+    pub kind: u8,
+    pub level: u8,
+}
+
+#[repr(C)]
+pub struct Handle {
+    pub way: u8,
+    pub object: u8,
+}

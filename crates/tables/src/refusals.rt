@@ -1,0 +1,222 @@
+// The conditions of RULES R2 to R10 over the few records that a call looks at: for each call the number of its refusal, 0 where
+// none of R2 to R8 holds. R9 and R10 ask whole tables, and the caller asks them next.
+//
+// The records are those at the numbers that the call names, empty ones where a number is out of range (`looks`).
+ghost use mathlib.Core.Path.{_≡_};
+ghost use mathlib.Core.Bool.{_||_};
+ghost use Prim.Native.Nat.{ℕ};
+ghost use Rattle.model.specs.Flow.{subject, object};
+ghost use Rattle.model.specs.Tables.{Tables, Dir, reading, writing};
+ghost use Rattle.model.specs.Invariant.{Wf};
+ghost use Rattle.model.specs.Calls.{admit, register, create, make-pipe, opens, access, fork, exec, close, exit, retire};
+ghost use Rattle.tables.specs.Records.{subject-entry, object-entry, held};
+ghost use Rattle.tables.specs.Refusing.{found, Refuses};
+ghost use Rattle.tables.specs.Working.{used-subject, used-object, used-place};
+use crate::EMPTY;
+use crate::FREE;
+use crate::HIGHEST;
+use crate::Handle;
+use crate::OBJECTS;
+use crate::Object;
+use crate::PIPE;
+use crate::PLACES;
+use crate::READS;
+use crate::SUBJECTS;
+use crate::Subject;
+
+// The number of the first condition that holds, in the order of the rules; 0 where none does.
+fn first(
+    absent: bool,
+    used: bool,
+    missing: bool,
+    pipe: bool,
+    high: bool,
+    place: bool,
+    turned: bool,
+) -> u8
+    ensures { λ r. ⌜ r ≡ found absent used missing pipe high place turned ⌝ }
+{
+    if absent {
+        return 2;
+    }
+    if used {
+        return 3;
+    }
+    if missing {
+        return 4;
+    }
+    if pipe {
+        return 5;
+    }
+    if high {
+        return 6;
+    }
+    if place {
+        return 7;
+    }
+    if turned {
+        return 8;
+    }
+    0
+}
+
+fn either(a: bool, b: bool) -> bool
+    ensures { λ r. ⌜ r ≡ (a || b) ⌝ }
+{
+    if a {
+        return true;
+    }
+    b
+}
+
+// RULES R3, and RULES R7 of a place that a handle is to take.
+fn subject_used(s: u32, x: Subject) -> bool
+    ensures { λ r. ⌜ r ≡ used-subject s x ⌝ }
+{
+    if SUBJECTS as u32 <= s {
+        return true;
+    }
+    x.live != 0
+}
+
+fn object_used(o: u32, y: Object) -> bool
+    ensures { λ r. ⌜ r ≡ used-object o y ⌝ }
+{
+    if OBJECTS as u32 <= o {
+        return true;
+    }
+    y.kind != FREE
+}
+
+fn place_used(p: u32, h: Handle) -> bool
+    ensures { λ r. ⌜ r ≡ used-place p h ⌝ }
+{
+    if PLACES as u32 <= p {
+        return true;
+    }
+    h.way != EMPTY
+}
+
+// Call 1; x stands at s.
+pub fn of_admit(s: u32, level: u32, x: Subject) -> u8
+    ensures { λ r. ⌜ ((t : Tables) → Wf t → t .at (subject s) ≡ subject-entry x → Refuses t (admit s level) r) ⌝ }
+{
+    let used = subject_used(s, x);
+    let high = HIGHEST < level;
+    first(false, used, false, false, high, false, false)
+}
+
+// Call 2; y stands at o.
+pub fn of_register(o: u32, level: u32, y: Object) -> u8
+    ensures { λ r. ⌜ ((t : Tables) → Wf t → t .at (object o) ≡ object-entry y → Refuses t (register o level) r) ⌝ }
+{
+    let used = object_used(o, y);
+    let high = HIGHEST < level;
+    first(false, used, false, false, high, false, false)
+}
+
+// Call 3; x stands at s, y at o.
+pub fn of_create(o: u32, x: Subject, y: Object) -> u8
+    ensures { λ r. ⌜ ((t : Tables) (s : ℕ) → Wf t → t .at (subject s) ≡ subject-entry x → t .at (object o) ≡ object-entry y →
+        Refuses t (create s o) r) ⌝ }
+{
+    let absent = x.live == 0;
+    let used = object_used(o, y);
+    first(absent, used, false, false, false, false, false)
+}
+
+// Call 4; x stands at s, y at o, h at place r and k at place w.
+pub fn of_pipe(o: u32, r: u32, w: u32, x: Subject, y: Object, h: Handle, k: Handle) -> u8
+    ensures { λ n. ⌜ ((t : Tables) (s : ℕ) → Wf t → t .at (subject s) ≡ subject-entry x → t .at (object o) ≡ object-entry y →
+        t .hand s r ≡ held h → t .hand s w ≡ held k → Refuses t (make-pipe s o r w) n) ⌝ }
+{
+    let absent = x.live == 0;
+    let used = object_used(o, y);
+    let at_r = place_used(r, h);
+    let at_w = place_used(w, k);
+    let same = r == w;
+    let w_or_same = either(at_w, same);
+    let place = either(at_r, w_or_same);
+    first(absent, used, false, false, false, place, false)
+}
+
+// Calls 5 and 6; x stands at s, y at o, h at place p.
+pub fn of_open(p: u32, x: Subject, y: Object, h: Handle) -> u8
+    ensures { λ r. ⌜ ((t : Tables) (d : Dir) (s o : ℕ) → Wf t → t .at (subject s) ≡ subject-entry x → t .at (object o) ≡ object-entry y →
+        t .hand s p ≡ held h → Refuses t (opens d s o p) r) ⌝ }
+{
+    let absent = x.live == 0;
+    let missing = y.kind == FREE;
+    let place = place_used(p, h);
+    first(absent, false, missing, false, false, place, false)
+}
+
+// Call 7; x stands at s, h at place p.
+pub fn of_read(x: Subject, h: Handle) -> u8
+    ensures { λ r. ⌜ ((t : Tables) (s p : ℕ) → Wf t → t .at (subject s) ≡ subject-entry x → t .hand s p ≡ held h →
+        Refuses t (access reading s p) r) ⌝ }
+{
+    let absent = x.live == 0;
+    let empty = h.way == EMPTY;
+    let turned = READS < h.way;
+    first(absent, false, false, false, false, empty, turned)
+}
+
+// Call 8; x stands at s, h at place p.
+pub fn of_write(x: Subject, h: Handle) -> u8
+    ensures { λ r. ⌜ ((t : Tables) (s p : ℕ) → Wf t → t .at (subject s) ≡ subject-entry x → t .hand s p ≡ held h →
+        Refuses t (access writing s p) r) ⌝ }
+{
+    let absent = x.live == 0;
+    let empty = h.way == EMPTY;
+    let turned = h.way == READS;
+    first(absent, false, false, false, false, empty, turned)
+}
+
+// Call 9; x stands at s, z at c.
+pub fn of_fork(c: u32, x: Subject, z: Subject) -> u8
+    ensures { λ r. ⌜ ((t : Tables) (s : ℕ) → Wf t → t .at (subject s) ≡ subject-entry x → t .at (subject c) ≡ subject-entry z →
+        Refuses t (fork s c) r) ⌝ }
+{
+    let absent = x.live == 0;
+    let used = subject_used(c, z);
+    first(absent, used, false, false, false, false, false)
+}
+
+// Call 10; x stands at s, y at o.
+pub fn of_exec(x: Subject, y: Object) -> u8
+    ensures { λ r. ⌜ ((t : Tables) (s o : ℕ) → Wf t → t .at (subject s) ≡ subject-entry x → t .at (object o) ≡ object-entry y →
+        Refuses t (exec s o) r) ⌝ }
+{
+    let absent = x.live == 0;
+    let missing = y.kind == FREE;
+    let pipe = PIPE <= y.kind;
+    first(absent, false, missing, pipe, false, false, false)
+}
+
+// Call 11; x stands at s, h at place p.
+pub fn of_close(x: Subject, h: Handle) -> u8
+    ensures { λ r. ⌜ ((t : Tables) (s p : ℕ) → Wf t → t .at (subject s) ≡ subject-entry x → t .hand s p ≡ held h →
+        Refuses t (close s p) r) ⌝ }
+{
+    let absent = x.live == 0;
+    let empty = h.way == EMPTY;
+    first(absent, false, false, false, false, empty, false)
+}
+
+// Call 12; x stands at s.
+pub fn of_exit(x: Subject) -> u8
+    ensures { λ r. ⌜ ((t : Tables) (s : ℕ) → Wf t → t .at (subject s) ≡ subject-entry x → Refuses t (exit s) r) ⌝ }
+{
+    let absent = x.live == 0;
+    first(absent, false, false, false, false, false, false)
+}
+
+// Call 13; y stands at o.
+pub fn of_retire(y: Object) -> u8
+    ensures { λ r. ⌜ ((t : Tables) (o : ℕ) → Wf t → t .at (object o) ≡ object-entry y → Refuses t (retire o) r) ⌝ }
+{
+    let missing = y.kind == FREE;
+    let pipe = PIPE <= y.kind;
+    first(false, false, missing, pipe, false, false, false)
+}

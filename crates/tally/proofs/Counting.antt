@@ -1,0 +1,160 @@
+-- The tally: what a call of a code makes and removes, by its code and by how many handles its first subject holds. Assumes nothing.
+use mathlib.Core.Path.{_≡_, refl, sym, _∙_, ap, ap₂, subst, fun-ext}
+use mathlib.Core.Bool.{true, false}
+use mathlib.Core.Option.{Option, none, some}
+use mathlib.Core.List.{List}
+use Prim.Native.Nat.{ℕ, zero, suc, _+_, _≤_, _<_}
+use native.Mathlib.Omega.{arith}
+use Rattle.tally.proofs.Pick.{past}
+use native.Mathlib.Numerals.{add-one}
+use borrow.Author.Tests.{ne-eqb}
+use lib.ListN.{length, length-append}
+use lib.Dec.{T, eqb, ltb→lt}
+use Rattle.model.specs.Lists.{each}
+use Rattle.model.specs.Flow.{subject}
+use Rattle.model.specs.Tables.{Tables, one, clean}
+use Rattle.model.specs.Tables.Laws.{live-of}
+use Rattle.model.specs.Invariant.{Wf}
+use Rattle.model.specs.Calls.{Call, unknown, decode, refusal, Answer, allowed, lowered, refused, answer}
+use Rattle.model.specs.Calls.Codes.{decode-unknown}
+use Rattle.model.specs.Calls.Refusals.{answered-refused}
+use Rattle.model.specs.Tally.{held, makes, removes, wrapped, tallied}
+use Rattle.model.specs.Tally.Laws.{each-none}
+use Rattle.model.specs.Tables.{Handle as Held}
+use Rattle.model.specs.Tally.{Tally as Counts}
+use Rattle.tables.specs.declared.Subject.{Subject}
+use Rattle.tables.specs.declared.Object.{Object}
+use Rattle.tables.specs.declared.Handle.{Handle}
+use Rattle.tables.specs.Records.{hands, along, tables-of}
+use Rattle.gatekeeper.specs.View.{direct, refuses}
+use Rattle.tally.specs.Counting.{made-by, gone-by}
+
+-- ── unknown codes ──
+above : (code a b c d : ℕ) → 13 < code → decode (direct code a b c d) ≡ unknown
+above code a b c d h = decode-unknown (direct code a b c d) (
+  (λ e. omega arith),
+  (
+    (λ e. omega arith),
+    (
+      (λ e. omega arith),
+      (
+        (λ e. omega arith),
+        (
+          (λ e. omega arith),
+          (
+            (λ e. omega arith),
+            (
+              (λ e. omega arith),
+              (
+                (λ e. omega arith),
+                (
+                  (λ e. omega arith),
+                  (
+                    (λ e. omega arith),
+                    ((λ e. omega arith), ((λ e. omega arith), ((λ e. omega arith), tt))),
+                  ),
+                ),
+              ),
+            ),
+          ),
+        ),
+      ),
+    ),
+  ),
+)
+
+-- ── what a code makes and removes ──
+none-made : (code h : ℕ) → 13 < code → 0 ≡ made-by code h
+none-made code h q = past (eqb code 4) 2 _ (ne-eqb code 4 (λ e. omega arith))
+    (past (eqb code 5) 1 _ (ne-eqb code 5 (λ e. omega arith))
+    (past (eqb code 6) 1 _ (ne-eqb code 6 (λ e. omega arith)) (past (eqb code 9) h _ (ne-eqb code 9 (λ e. omega arith)) refl)))
+
+none-gone : (code h : ℕ) → 13 < code → 0 ≡ gone-by code h
+none-gone code h q = past (eqb code 11) 1 _ (ne-eqb code 11 (λ e. omega arith)) (past (eqb code 12) h _ (ne-eqb code 12 (λ e. omega arith)) refl)
+
+pub makes-is : (t : Tables) (code a b c d : ℕ) → makes t (decode (direct code a b c d)) ≡ made-by code (held t a)
+unfolding decode
+makes-is t zero a b c d = refl
+makes-is t (suc zero) a b c d = refl
+makes-is t (suc (suc zero)) a b c d = refl
+makes-is t (suc (suc (suc zero))) a b c d = refl
+makes-is t (suc (suc (suc (suc zero)))) a b c d = refl
+makes-is t (suc (suc (suc (suc (suc zero))))) a b c d = refl
+makes-is t (suc (suc (suc (suc (suc (suc zero)))))) a b c d = refl
+makes-is t (suc (suc (suc (suc (suc (suc (suc zero))))))) a b c d = refl
+makes-is t (suc (suc (suc (suc (suc (suc (suc (suc zero)))))))) a b c d = refl
+makes-is t (suc (suc (suc (suc (suc (suc (suc (suc (suc zero))))))))) a b c d = refl
+makes-is t (suc (suc (suc (suc (suc (suc (suc (suc (suc (suc zero)))))))))) a b c d = refl
+makes-is t (suc (suc (suc (suc (suc (suc (suc (suc (suc (suc (suc zero))))))))))) a b c d = refl
+makes-is t (suc (suc (suc (suc (suc (suc (suc (suc (suc (suc (suc (suc zero)))))))))))) a b c d = refl
+makes-is t (suc (suc (suc (suc (suc (suc (suc (suc (suc (suc (suc (suc (suc zero))))))))))))) a b c d = refl
+makes-is t (suc (suc (suc (suc (suc (suc (suc (suc (suc (suc (suc (suc (suc (suc n)))))))))))))) a b c d = ap (makes t)
+    (above (suc (suc (suc (suc (suc (suc (suc (suc (suc (suc (suc (suc (suc (suc n)))))))))))))) a b c d (omega arith)) ∙ none-made
+    (suc (suc (suc (suc (suc (suc (suc (suc (suc (suc (suc (suc (suc (suc n)))))))))))))) (held t a) (omega arith)
+
+pub removes-is : (t : Tables) (code a b c d : ℕ) → removes t (decode (direct code a b c d)) ≡ gone-by code (held t a)
+unfolding decode
+removes-is t zero a b c d = refl
+removes-is t (suc zero) a b c d = refl
+removes-is t (suc (suc zero)) a b c d = refl
+removes-is t (suc (suc (suc zero))) a b c d = refl
+removes-is t (suc (suc (suc (suc zero)))) a b c d = refl
+removes-is t (suc (suc (suc (suc (suc zero))))) a b c d = refl
+removes-is t (suc (suc (suc (suc (suc (suc zero)))))) a b c d = refl
+removes-is t (suc (suc (suc (suc (suc (suc (suc zero))))))) a b c d = refl
+removes-is t (suc (suc (suc (suc (suc (suc (suc (suc zero)))))))) a b c d = refl
+removes-is t (suc (suc (suc (suc (suc (suc (suc (suc (suc zero))))))))) a b c d = refl
+removes-is t (suc (suc (suc (suc (suc (suc (suc (suc (suc (suc zero)))))))))) a b c d = refl
+removes-is t (suc (suc (suc (suc (suc (suc (suc (suc (suc (suc (suc zero))))))))))) a b c d = refl
+removes-is t (suc (suc (suc (suc (suc (suc (suc (suc (suc (suc (suc (suc zero)))))))))))) a b c d = refl
+removes-is t (suc (suc (suc (suc (suc (suc (suc (suc (suc (suc (suc (suc (suc zero))))))))))))) a b c d = refl
+removes-is t (suc (suc (suc (suc (suc (suc (suc (suc (suc (suc (suc (suc (suc (suc n)))))))))))))) a b c d = ap (removes t)
+    (above (suc (suc (suc (suc (suc (suc (suc (suc (suc (suc (suc (suc (suc (suc n)))))))))))))) a b c d (omega arith)) ∙ none-gone
+    (suc (suc (suc (suc (suc (suc (suc (suc (suc (suc (suc (suc (suc (suc n)))))))))))))) (held t a) (omega arith)
+
+-- ── the handles of a subject ──
+abbrev pub held-below : (ℕ → Option Held) → ℕ → ℕ
+held-below f p = length (each p (λ q. one (f q)))
+
+pub held-more : (f : ℕ → Option Held) (p n k : ℕ) → n ≡ held-below f p → k ≡ length (one (f p)) → n + k ≡ held-below f (p + 1)
+held-more f p n k e g = omega (arith, length-append (each p (λ q. one (f q))) (one (f p))) ∙ ap (held-below f) (sym (add-one p))
+
+pub one-short : (o : Option Held) → length (one o) ≤ 1
+one-short none = omega arith
+one-short (some k) = omega arith
+
+-- a subject out of range holds none
+pub held-none : (t : Tables) → Wf t → (s : ℕ) → 32 ≤ s → 0 ≡ held t s
+held-none t w s h = sym (each-none 16 (λ p. one (t .hand s p)) (λ p. point p (t .hand s p) refl))
+  where
+    point : (p : ℕ) (o : Option Held) → t .hand s p ≡ o → length (one (t .hand s p)) ≡ 0
+    point p none q = ap (λ (o : Option Held). length (one o)) q
+    point p (some k) q = absurd (omega (arith, ltb→lt s 32 (live-of t (subject s) (w .ends s p k q .from) .0)))
+
+-- ── the tally after a call ──
+false-true : false ≡ true → ⊥
+false-true e = subst T (sym e) tt
+
+pub tally-same : (x : Answer) (t : Tables) (c : Call) (y : Counts) → x ≡ answer t c → refuses x ≡ true → y ≡ tallied t c y
+unfolding tallied
+tally-same (allowed l) t c y e q = absurd (false-true q)
+tally-same (lowered l) t c y e q = absurd (false-true q)
+tally-same (refused n) t c y e q = rw (answered-refused t c n .0 (sym e), tallied)
+
+pub tally-moved : (x : Answer) (t : Tables) (c : Call) (y : Counts) (m g : ℕ) → x ≡ answer t c → refuses x ≡ false → m ≡ wrapped (y .made + makes t c)
+    → g ≡ wrapped (y .gone + removes t c) → _≡_ {A = Counts} (record { made = m; gone = g }) (tallied t c y)
+unfolding tallied
+tally-moved x t c y m g e q em eg = go (refusal t c) refl
+  where
+    go : (o : Option ℕ) → refusal t c ≡ o → _≡_ {A = Counts} (record { made = m; gone = g }) (elim o as (λ _. Counts) [
+      | none ↦ record { made = wrapped (y .made + makes t c); gone = wrapped (y .gone + removes t c) }
+      | some n ↦ y
+    ])
+    go none z = ap₂ (λ (u v : ℕ). record { made = u; gone = v }) em eg
+    go (some n) z = absurd (false-true (sym q ∙ ap refuses (e ∙ answered-refused t c n .1 z)))
+
+-- the row of s in the cleaned handles, counted
+pub row-held : (ss : List Subject) (os : List Object) (hs kept places : List Handle) (s n : ℕ) → tables-of ss os kept ≡ clean (tables-of ss os hs)
+    → ((p : ℕ) → along places p ≡ hands kept s p) → n ≡ length (each 16 (λ p. one (along places p))) → n ≡ held (clean (tables-of ss os hs)) s
+unfolding tables-of
+row-held ss os hs kept places s n e f q = q ∙ ap (λ (g : ℕ → Option Held). length (each 16 (λ p. one (g p)))) (fun-ext f) ∙ ap (λ (u : Tables). held u s) e

@@ -1,0 +1,28 @@
+-- `tally::gone_by` meets its contract. Assumes nothing.
+use mathlib.Core.Path.{refl}
+use borrow.Author.Needs.{needs}
+use borrow.Author.Tests.{eq-eqb, ne-eqb}
+use Rattle.tally.proofs.Pick.{here, past}
+use Rattle.tally.proofs.gone_by.Statement.{statement}
+use Rattle.tally.proofs.gone_by.Tie as tie
+
+returns : tie.Need-returns
+returns c = here _ _ _ (eq-eqb _ _ (c .if1 .taken)) refl
+
+held-by-requires : tie.Need-held-by-requires
+held-by-requires c κs = search needs
+
+returns-2 : tie.Need-returns-2
+returns-2 c = past _ _ _ (ne-eqb _ _ (c .before .before .if1 .left)) (here _ _ _ (eq-eqb _ _ (c .before .if2 .taken)) (c .held-by .ensures))
+
+returns-3 : tie.Need-returns-3
+returns-3 c = past _ _ _ (ne-eqb _ _ (c .before .if1 .left)) (past _ _ _ (ne-eqb _ _ (c .if2 .left)) refl)
+
+pub gone-by-spec : {M : Type 1} → statement M
+gone-by-spec =
+    tie.close
+    (tie.spec
+    returns
+    held-by-requires
+    returns-2
+    returns-3)

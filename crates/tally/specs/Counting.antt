@@ -1,0 +1,30 @@
+-- A counted call. States RULES Y9 and Y12. Assumes nothing.
+use mathlib.Core.Path.{_≡_}
+use mathlib.Core.Bool.{cond}
+use Prim.Native.Nat.{ℕ}
+use lib.Dec.{eqb}
+use Rattle.model.specs.Tables.{clean}
+use Rattle.model.specs.Calls.{decode}
+use Rattle.model.specs.Promise.{Meets}
+use Rattle.model.specs.Tally.{tallied}
+use Rattle.model.specs.Tally.{Tally as Counts}
+use Rattle.gatekeeper.specs.declared.Monitor.{Monitor}
+use Rattle.gatekeeper.specs.declared.Reply.{Reply}
+use Rattle.gatekeeper.specs.View.{view, told, direct}
+use Rattle.tally.specs.declared.Tally.{Tally}
+
+abbrev pub counts-of : Tally → Counts
+counts-of x = record { made = x .made; gone = x .gone }
+
+-- RULES Y9, Y12: the direct call's reply by the rules, and the lent tally after it by the history of calls, modulo 2 to the 64th
+abbrev pub Counting : Monitor → Tally → (code a b c d : ℕ) → Reply → Tally → Type 0
+Counting m y code a b c d reply after =
+    let k = decode (direct code a b c d) in
+    Meets view m k (told (reply .answer)) (reply .monitor) × (counts-of after ≡ tallied (clean (view m)) k (counts-of y))
+
+-- ── by the code: inner functions alone cite these ──
+abbrev pub made-by : ℕ → ℕ → ℕ
+made-by code held = cond (eqb code 4) 2 (cond (eqb code 5) 1 (cond (eqb code 6) 1 (cond (eqb code 9) held 0)))
+
+abbrev pub gone-by : ℕ → ℕ → ℕ
+gone-by code held = cond (eqb code 11) 1 (cond (eqb code 12) held 0)

@@ -1,0 +1,2 @@
+-- What this crate's contracts cite: a counted call (Counting). Assumes nothing.
+pub mod Counting

@@ -1,0 +1,165 @@
+// The counted call: handles made and handles gone, over the history of calls (RULES Y1 to Y12).
+ghost use mathlib.Core.Path.{_≡_};
+ghost use lib.ListN.{length};
+ghost use Rattle.model.specs.Lists.{each};
+ghost use Rattle.model.specs.Tables.{one, clean};
+ghost use Rattle.model.specs.Tally.{held as held-count};
+ghost use Rattle.tables.specs.Records.{held, along};
+ghost use Rattle.gatekeeper.specs.View.{view};
+ghost use Rattle.tally.specs.Counting.{Counting, made-by, gone-by};
+use gatekeeper::Monitor;
+use gatekeeper::Reply;
+use tables::EMPTY;
+use tables::Handle;
+use tables::PLACES;
+use tables::SUBJECTS;
+
+// Handles made and handles gone, over the history of calls.
+pub struct Tally {
+    pub made: u64,
+    pub gone: u64,
+}
+
+// What a counted call hands back.
+pub struct Counted {
+    pub reply: Reply,
+    pub tally: Tally,
+}
+
+// One where the place holds a handle.
+fn one(h: Handle) -> u64
+    ensures { λ r. ⌜ r ≡ length (one (held h)) ⌝ }
+{
+    if h.way == EMPTY {
+        return 0;
+    }
+    1
+}
+
+// How many handles the places of one subject hold.
+fn count(row: [Handle; PLACES]) -> u64
+    ensures { λ r. ⌜ r ≡ length (each 16 (λ p. one (along row p))) ⌝ }
+{
+    let mut n: u64 = 0;
+    let mut p: usize = 0;
+    while p < PLACES {
+        let h = row[p];
+        let k = one(h);
+        n = n + k;
+        p += 1;
+    }
+    n
+}
+
+// How many handles subject s holds, in the tables as they are read.
+fn held_by(monitor: Monitor, s: u32) -> u64
+    ensures { λ r. ⌜ r ≡ held-count (clean (view monitor)) s ⌝ }
+{
+    if SUBJECTS as u32 <= s {
+        return 0;
+    }
+    let subjects = monitor.subjects;
+    let objects = monitor.objects;
+    let handles = monitor.handles;
+    let kept = handles::cleaned(subjects, objects, handles);
+    let i = s as usize;
+    let row = handles::row_of(kept, i);
+    count(row)
+}
+
+// How many handles an allowed call of this code by subject s makes, and removes.
+fn made_by(monitor: Monitor, code: u32, s: u32) -> u64
+    ensures { λ r. ⌜ r ≡ made-by code (held-count (clean (view monitor)) s) ⌝ }
+{
+    if code == 4 {
+        return 2;
+    }
+    if code == 5 {
+        return 1;
+    }
+    if code == 6 {
+        return 1;
+    }
+    if code == 9 {
+        return held_by(monitor, s);
+    }
+    0
+}
+
+fn gone_by(monitor: Monitor, code: u32, s: u32) -> u64
+    ensures { λ r. ⌜ r ≡ gone-by code (held-count (clean (view monitor)) s) ⌝ }
+{
+    if code == 11 {
+        return 1;
+    }
+    if code == 12 {
+        return held_by(monitor, s);
+    }
+    0
+}
+
+// The work of a counted call, with the tally by value.
+fn tallied_call(
+    monitor: Monitor,
+    tally: Tally,
+    code: u32,
+    a: u32,
+    b: u32,
+    c: u32,
+    d: u32,
+) -> Counted
+    ensures { λ r. ⌜ Counting monitor tally code a b c d (r .reply) (r .tally) ⌝ }
+{
+    let r = monitor.call(code, a, b, c, d);
+    let answer = r.answer;
+    if gatekeeper::is_refused(answer) {
+        return Counted {
+            reply: r,
+            tally: tally,
+        };
+    }
+    let made = std::num::wrapping_add_u64(tally.made, made_by(monitor, code, a));
+    let gone = std::num::wrapping_add_u64(tally.gone, gone_by(monitor, code, a));
+    Counted {
+        reply: r,
+        tally: Tally {
+            made: made,
+            gone: gone,
+        },
+    }
+}
+
+// A direct call that counts: the tally is lent, and has the history's counts after it. A refused call leaves it as it was.
+pub fn lent_call(
+    monitor: Monitor,
+    tally: &mut Tally,
+    code: u32,
+    a: u32,
+    b: u32,
+    c: u32,
+    d: u32,
+) -> Reply
+    ensures { λ r. ⌜ Counting monitor (now (tally .entry)) code a b c d r (now (tally .exit)) ⌝ }
+{
+    let was = *tally;
+    let out = tallied_call(monitor, was, code, a, b, c, d);
+    *tally = out.tally;
+    out.reply
+}
+
+// The same for a caller that has a tally of its own: it is lent from here, and handed back.
+pub fn counted_call(
+    monitor: Monitor,
+    tally: Tally,
+    code: u32,
+    a: u32,
+    b: u32,
+    c: u32,
+    d: u32,
+) -> Counted
+    ensures { λ r. ⌜ Counting monitor tally code a b c d (r .reply) (r .tally) ⌝ }
+{
+    let mut mine = tally;
+    let reply = lent_call(monitor, &mut mine, code, a, b, c, d);
+    Counted { reply, tally: mine }
+}
