@@ -1,7 +1,7 @@
 /*
  * The pay-run gatekeeper for a host in C or C++: the proved functions of target/staticlib/libhost.a (x86-64).
  *
- *   rt staticlib host                                     proves the crate and writes the archive
+ *   tools/archive                                         proves the crate and writes the archive
  *   cc host.c -I host target/staticlib/libhost.a          links it; it needs nothing but the C library
  *
  * A host keeps a monitor as GATEKEEPER_STATE_BYTES bytes of its own and lends them to each call. Every byte string of
@@ -20,6 +20,13 @@
 
 #ifdef __cplusplus
 extern "C" {
+#endif
+
+/* An answer is there to be looked at: a compiler that knows how says where one is dropped. */
+#if defined(__GNUC__)
+#define GATEKEEPER_MUST_USE __attribute__((warn_unused_result))
+#else
+#define GATEKEEPER_MUST_USE
 #endif
 
 /* Sizes, in bytes. */
@@ -96,17 +103,27 @@ size_t gatekeeper_state_bytes(void);
 
 /* Makes the lent bytes the empty monitor, with nothing made and nothing gone, and returns true. Where `len` is not
  * GATEKEEPER_STATE_BYTES: false, and no byte is touched. */
+GATEKEEPER_MUST_USE
 bool gatekeeper_empty(uint8_t *state, size_t len);
 
 /* Makes one call on the monitor that the lent bytes are, and counts the handles it makes and removes. Numbers that the
  * code does not use are ignored. The answer is 256 times the outcome's letter, and the level or the number of the
- * refusal: see the two functions below. A refused call changes no byte. Where `len` is not GATEKEEPER_STATE_BYTES: 0,
- * and no byte is touched. */
+ * refusal: see the three functions below. A refused call changes no byte. Where `len` is not GATEKEEPER_STATE_BYTES: 0,
+ * which allows nothing, and no byte is touched. */
+GATEKEEPER_MUST_USE
 uint32_t gatekeeper_call(uint8_t *state, size_t len, uint32_t code, uint32_t a, uint32_t b, uint32_t c, uint32_t d);
 
-/* The outcome in an answer of gatekeeper_call: an `enum gatekeeper_outcome`. What this function and the next read off an
- * answer that is not 0 is the rules' answer, whatever the lent bytes were. */
+/* The outcome in an answer of gatekeeper_call: an `enum gatekeeper_outcome`, or 0 for a wrong length. What this function
+ * and the next two read off an answer that is not 0 is the rules' answer, whatever the lent bytes were. */
 static inline uint32_t gatekeeper_letter(uint32_t answer) { return answer / 256; }
+
+/* Whether the host may carry the call out: true for an allowed and for a lowered call, and for nothing else. A host asks
+ * this, and does not go on where it is false: a test for GATEKEEPER_REFUSED alone would let a wrong length pass. */
+GATEKEEPER_MUST_USE
+static inline bool gatekeeper_allows(uint32_t answer)
+{
+    return gatekeeper_letter(answer) == GATEKEEPER_ALLOWED || gatekeeper_letter(answer) == GATEKEEPER_LOWERED;
+}
 
 /* The level in an answer of gatekeeper_call, or where it was refused the `enum gatekeeper_refusal`. On a monitor that
  * started empty a level is below GATEKEEPER_LEVELS. */
@@ -122,11 +139,13 @@ uint64_t gatekeeper_gone(const uint8_t *state, size_t len);
  * position, code, A, L or R, and the level or refusal number; then `end`, handles made, gone and open. Returns how many
  * bytes the text has. Where it has more than `room`: 0, and only its front stands in `out`, what lies behind it keeps
  * its value. GATEKEEPER_REPLY_ROOM bytes are enough for every journal. */
+GATEKEEPER_MUST_USE
 size_t gatekeeper_replay(const uint8_t *journal, size_t len, uint8_t *out, size_t room);
 
 /* Writes the record of a call over the front of `out`: 256 and its length in bytes; what lies behind it keeps its
  * value. Else GATEKEEPER_UNKNOWN_CODE or GATEKEEPER_RECORD_TOO_LONG, and no byte is touched. GATEKEEPER_RECORD_ROOM
  * bytes are enough for every record. */
+GATEKEEPER_MUST_USE
 uint32_t gatekeeper_record(uint8_t *out, size_t room, uint32_t code, uint32_t a, uint32_t b, uint32_t c, uint32_t d);
 
 /* Reads the number at the front of some bytes, unsigned LEB128 as in a journal: its value, and 2 to the 32nd for each

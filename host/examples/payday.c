@@ -6,6 +6,7 @@
  */
 #include <inttypes.h>
 #include <stdio.h>
+#include <stdlib.h>
 
 #include "gatekeeper.h"
 
@@ -37,10 +38,22 @@ static bool ask(struct host *host, const char *what, uint32_t code, uint32_t a, 
     uint32_t answer = gatekeeper_call(host->monitor, sizeof host->monitor, code, a, b, c, d);
     uint32_t value = gatekeeper_value(answer);
     printf("%-66s ", what);
-    switch (gatekeeper_letter(answer)) {
-    case GATEKEEPER_ALLOWED: printf("allowed, level %" PRIu32 "\n", value); return true;
-    case GATEKEEPER_LOWERED: printf("lowered to level %" PRIu32 "\n", value); return true;
-    default: printf("refused (%" PRIu32 "): %s\n", value, refusal_words(value)); return false;
+    if (!gatekeeper_allows(answer)) {
+        printf("refused (%" PRIu32 "): %s\n", value, refusal_words(value));
+        return false;
+    }
+    bool lowered = gatekeeper_letter(answer) == GATEKEEPER_LOWERED;
+    printf(lowered ? "lowered to level %" PRIu32 "\n" : "allowed, level %" PRIu32 "\n", value);
+    return true;
+}
+
+/* The same for a call without which this host cannot go on. */
+static void must(struct host *host, const char *what, uint32_t code, uint32_t a, uint32_t b, uint32_t c, uint32_t d)
+{
+    if (!ask(host, what, code, a, b, c, d)) {
+        fflush(stdout);
+        fputs("payday: a call that the pay run needs was refused\n", stderr);
+        exit(EXIT_FAILURE);
     }
 }
 
@@ -52,45 +65,46 @@ int main(void)
         return 1;
 
     puts("What comes from outside");
-    ask(&host, "The pay book is file 0.", GATEKEEPER_REGISTER, PAY_BOOK, 9, 0, 0);
-    ask(&host, "The hours sheet of shop 3, which nobody has checked, is file 1.", GATEKEEPER_REGISTER, SHEET, 2, 0, 0);
-    ask(&host, "The checked hours of all other shops are file 2.", GATEKEEPER_REGISTER, HOURS, 12, 0, 0);
-    ask(&host, "The shell is subject 0.", GATEKEEPER_ADMIT, SHELL, 12, 0, 0);
+    must(&host, "The pay book is file 0.", GATEKEEPER_REGISTER, PAY_BOOK, 9, 0, 0);
+    must(&host, "The hours sheet of shop 3, which nobody has checked, is file 1.", GATEKEEPER_REGISTER, SHEET, 2, 0, 0);
+    must(&host, "The checked hours of all other shops are file 2.", GATEKEEPER_REGISTER, HOURS, 12, 0, 0);
+    must(&host, "The shell is step 0.", GATEKEEPER_ADMIT, SHELL, 12, 0, 0);
 
     puts("\nThe shell starts a step that adds up the hours");
-    ask(&host, "The shell makes pipe 8: place 0 reads it, place 1 writes it.", GATEKEEPER_PIPE, SHELL, PIPE, 0, 1);
-    ask(&host, "It forks the adder, subject 1.", GATEKEEPER_FORK, SHELL, ADDER, 0, 0);
-    ask(&host, "The adder closes its reading end.", GATEKEEPER_CLOSE, ADDER, 0, 0, 0);
-    ask(&host, "The shell closes its writing end.", GATEKEEPER_CLOSE, SHELL, 1, 0, 0);
-    ask(&host, "The shell opens the pay book for writing.", GATEKEEPER_OPEN_WRITE, SHELL, PAY_BOOK, 2, 0);
-    ask(&host, "The adder opens the checked hours for reading.", GATEKEEPER_OPEN_READ, ADDER, HOURS, 2, 0);
+    must(&host, "The shell makes pipe 8: place 0 reads it, place 1 writes it.", GATEKEEPER_PIPE, SHELL, PIPE, 0, 1);
+    must(&host, "It forks the adder, step 1.", GATEKEEPER_FORK, SHELL, ADDER, 0, 0);
+    must(&host, "The adder closes its reading end.", GATEKEEPER_CLOSE, ADDER, 0, 0, 0);
+    must(&host, "The shell closes its writing end.", GATEKEEPER_CLOSE, SHELL, 1, 0, 0);
+    must(&host, "The shell opens the pay book for writing.", GATEKEEPER_OPEN_WRITE, SHELL, PAY_BOOK, 2, 0);
+    must(&host, "The adder opens the checked hours for reading.", GATEKEEPER_OPEN_READ, ADDER, HOURS, 2, 0);
 
     puts("\nThe adder asks for the unchecked sheet: through pipe 8 it would reach the pay book");
     if (!ask(&host, "The adder opens the sheet of shop 3 for reading.", GATEKEEPER_OPEN_READ, ADDER, SHEET, 3, 0)) {
         puts("\nThe way out: a step with no way to the pay book reads it");
-        ask(&host, "The shell forks the lister, subject 2.", GATEKEEPER_FORK, SHELL, LISTER, 0, 0);
-        ask(&host, "The lister closes its end of pipe 8.", GATEKEEPER_CLOSE, LISTER, 0, 0, 0);
-        ask(&host, "The lister closes the pay book.", GATEKEEPER_CLOSE, LISTER, 2, 0, 0);
-        ask(&host, "The lister opens the sheet of shop 3 for reading.", GATEKEEPER_OPEN_READ, LISTER, SHEET, 0, 0);
-        ask(&host, "The lister reads it.", GATEKEEPER_READ, LISTER, 0, 0, 0);
-        ask(&host, "The lister creates file 3, a list for the clerk.", GATEKEEPER_CREATE, LISTER, LIST, 0, 0);
-        ask(&host, "The lister opens the list for writing.", GATEKEEPER_OPEN_WRITE, LISTER, LIST, 1, 0);
-        ask(&host, "The lister writes it.", GATEKEEPER_WRITE, LISTER, 1, 0, 0);
-        ask(&host, "The lister opens the pay book for writing.", GATEKEEPER_OPEN_WRITE, LISTER, PAY_BOOK, 2, 0);
-        ask(&host, "The lister exits.", GATEKEEPER_EXIT, LISTER, 0, 0, 0);
+        must(&host, "The shell forks the lister, step 2.", GATEKEEPER_FORK, SHELL, LISTER, 0, 0);
+        must(&host, "The lister closes its end of pipe 8.", GATEKEEPER_CLOSE, LISTER, 0, 0, 0);
+        must(&host, "The lister closes the pay book.", GATEKEEPER_CLOSE, LISTER, 2, 0, 0);
+        must(&host, "The lister opens the sheet of shop 3 for reading.", GATEKEEPER_OPEN_READ, LISTER, SHEET, 0, 0);
+        must(&host, "The lister reads it.", GATEKEEPER_READ, LISTER, 0, 0, 0);
+        must(&host, "The lister creates file 3, a list for the clerk.", GATEKEEPER_CREATE, LISTER, LIST, 0, 0);
+        must(&host, "The lister opens the list for writing.", GATEKEEPER_OPEN_WRITE, LISTER, LIST, 1, 0);
+        must(&host, "The lister writes it.", GATEKEEPER_WRITE, LISTER, 1, 0, 0);
+        if (ask(&host, "The lister opens the pay book for writing.", GATEKEEPER_OPEN_WRITE, LISTER, PAY_BOOK, 2, 0))
+            must(&host, "The lister writes it.", GATEKEEPER_WRITE, LISTER, 2, 0, 0);
+        must(&host, "The lister exits.", GATEKEEPER_EXIT, LISTER, 0, 0, 0);
     }
 
     puts("\nThe pay run goes on, and nobody has fallen");
-    ask(&host, "The adder reads the checked hours.", GATEKEEPER_READ, ADDER, 2, 0, 0);
-    ask(&host, "The adder writes the sums to pipe 8.", GATEKEEPER_WRITE, ADDER, 1, 0, 0);
-    ask(&host, "The adder exits.", GATEKEEPER_EXIT, ADDER, 0, 0, 0);
-    ask(&host, "The shell reads the sums.", GATEKEEPER_READ, SHELL, 0, 0, 0);
-    ask(&host, "The shell writes the pay book.", GATEKEEPER_WRITE, SHELL, 2, 0, 0);
-    ask(&host, "The shell exits.", GATEKEEPER_EXIT, SHELL, 0, 0, 0);
+    must(&host, "The adder reads the checked hours.", GATEKEEPER_READ, ADDER, 2, 0, 0);
+    must(&host, "The adder writes the sums to pipe 8.", GATEKEEPER_WRITE, ADDER, 1, 0, 0);
+    must(&host, "The adder exits.", GATEKEEPER_EXIT, ADDER, 0, 0, 0);
+    must(&host, "The shell reads the sums.", GATEKEEPER_READ, SHELL, 0, 0, 0);
+    must(&host, "The shell writes the pay book.", GATEKEEPER_WRITE, SHELL, 2, 0, 0);
+    must(&host, "The shell exits.", GATEKEEPER_EXIT, SHELL, 0, 0, 0);
 
     puts("\nA clerk has looked over the sheet: it comes in again as checked");
-    ask(&host, "The sheet of shop 3 is retired.", GATEKEEPER_RETIRE, SHEET, 0, 0, 0);
-    ask(&host, "The checked sheet is file 1.", GATEKEEPER_REGISTER, SHEET, 12, 0, 0);
+    must(&host, "The sheet of shop 3 is retired.", GATEKEEPER_RETIRE, SHEET, 0, 0, 0);
+    must(&host, "The checked sheet is file 1.", GATEKEEPER_REGISTER, SHEET, 12, 0, 0);
 
     uint64_t made = gatekeeper_made(host.monitor, sizeof host.monitor);
     uint64_t gone = gatekeeper_gone(host.monitor, sizeof host.monitor);

@@ -17,7 +17,7 @@ fn main() {
         println!("cargo::rustc-link-lib=static=host");
     } else {
         println!(
-            "cargo::error=the proved gatekeeper is not built: there is no {}. Type 'rt staticlib host' in the \
+            "cargo::error=the proved gatekeeper is not built: there is no {}. Type 'tools/archive' in the \
              repository's folder, or set GATEKEEPER_LIB to the full name of the folder that has libhost.a",
             archive.display()
         );

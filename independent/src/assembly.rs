@@ -5,6 +5,10 @@
 
 use crate::calls::{shape_of_word, Shape, SHAPES};
 use crate::records;
+use crate::text::{meant, shown};
+
+/// A mark that some editors put before a text; it says nothing.
+const BYTE_ORDER_MARK: &[u8] = b"\xef\xbb\xbf";
 
 /// Where a text is wrong, what was expected there, and what to type.
 #[derive(Clone, Debug, PartialEq, Eq)]
@@ -23,10 +27,15 @@ struct Word<'a> {
     text: &'a str,
 }
 
+/// The lines of a text, without a byte-order mark.
+pub fn lines(text: &[u8]) -> impl Iterator<Item = &[u8]> {
+    text.strip_prefix(BYTE_ORDER_MARK).unwrap_or(text).split(|&byte| byte == b'\n')
+}
+
 /// The journal that a text describes.
 pub fn assemble(text: &[u8]) -> Result<Vec<u8>, Fault> {
     let mut journal = Vec::new();
-    for (index, line) in text.split(|&byte| byte == b'\n').enumerate() {
+    for (index, line) in lines(text).enumerate() {
         assemble_line(line, &mut journal).map_err(|fault| Fault { line: index + 1, ..fault })?;
     }
     Ok(journal)
@@ -77,11 +86,11 @@ fn assemble_call(shape: &Shape, words: &[Word], behind: usize, journal: &mut Vec
         let given: Vec<&str> = words.iter().map(|word| word.text).collect();
         return Err(fault(
             word.column,
-            &format!("expected the end of the line, found \"{}\"", word.text),
+            &format!("expected the end of the line, found \"{}\"", shown(word.text)),
             &format!(
                 "Type: {usage}. For a record with numbers left over: call {} {}",
                 shape.code,
-                given.join(" ")
+                shown(&given.join(" "))
             ),
         ));
     }
@@ -126,7 +135,7 @@ fn assemble_bytes(first: Word, words: &[Word], behind: usize, journal: &mut Vec<
             _ => {
                 return Err(fault(
                     word.column,
-                    &format!("expected two hex digits for each byte, found \"{}\"", word.text),
+                    &format!("expected two hex digits for each byte, found \"{}\"", shown(word.text)),
                     "Type each byte as two of the digits 0 to 9 and a to f, for example: bytes 80 00",
                 ));
             }
@@ -141,41 +150,26 @@ fn number(word: Word, what: &str, usage: &str) -> Result<u32, Fault> {
         Ok(number) if is_decimal => Ok(number),
         _ if is_decimal => Err(fault(
             word.column,
-            &format!("expected {what}, at most 4294967295, found \"{}\"", word.text),
+            &format!("expected {what}, at most 4294967295, found \"{}\"", shown(word.text)),
             "A larger number is malformed in a journal; to write it all the same, use: bytes XX ...",
         )),
         _ => Err(fault(
             word.column,
-            &format!("expected {what} in decimal, found \"{}\"", word.text),
+            &format!("expected {what} in decimal, found \"{}\"", shown(word.text)),
             &format!("Type: {usage}, each a number from 0 to 4294967295"),
         )),
     }
 }
 
 fn unknown_word(word: Word) -> Fault {
-    let known = || SHAPES.iter().map(|shape| shape.word).chain(["call", "bytes"]);
-    let nearest = known().min_by_key(|candidate| distance(word.text, candidate));
-    let advice = match nearest {
-        Some(nearest) if distance(word.text, nearest) <= 2 => format!("Did you mean: {nearest}"),
-        _ => format!("The words are: {}", known().collect::<Vec<_>>().join(", ")),
+    let known: Vec<&str> = SHAPES.iter().map(|shape| shape.word).chain(["call", "bytes"]).collect();
+    let meant = meant(word.text, &known);
+    let advice = if meant.is_empty() {
+        format!("The words are: {}", known.join(", "))
+    } else {
+        format!("Did you mean: {}", meant.join(" or "))
     };
-    fault(word.column, &format!("expected a call's word, found \"{}\"", word.text), &advice)
-}
-
-/// How many letters must be changed, added or taken away to make one word of the other.
-fn distance(one: &str, other: &str) -> usize {
-    let other: Vec<char> = other.chars().collect();
-    let mut row: Vec<usize> = (0..=other.len()).collect();
-    for (index, letter) in one.chars().enumerate() {
-        let mut diagonal = row[0];
-        row[0] = index + 1;
-        for (column, &wanted) in other.iter().enumerate() {
-            let changed = diagonal + usize::from(letter != wanted);
-            diagonal = row[column + 1];
-            row[column + 1] = changed.min(diagonal + 1).min(row[column] + 1);
-        }
-    }
-    row[other.len()]
+    fault(word.column, &format!("expected a call's word, found \"{}\"", shown(word.text)), &advice)
 }
 
 fn fault(column: usize, expected: &str, advice: &str) -> Fault {
@@ -222,7 +216,7 @@ mod tests {
 
     #[test]
     fn words_become_records() {
-        let text = "# the example of document 01\nregister 0 2\n\nadmit 0 9 # a step\r\nopen-read 0 0 0\n  read 0 0";
+        let text = "# the worked example, RULES K17\nregister 0 2\n\nadmit 0 9 # a step\r\nopen-read 0 0 0\n  read 0 0";
         let journal = assemble(text.as_bytes()).unwrap();
         let expected = [3, 2, 0, 2, 3, 1, 0, 9, 4, 5, 0, 0, 0, 3, 7, 0, 0];
         assert_eq!(journal, expected);
@@ -243,8 +237,30 @@ mod tests {
         assert_eq!((line, column), (2, 3));
         assert!(message.contains("found \"opne-read\""), "{message}");
         assert!(message.contains("Did you mean: open-read"), "{message}");
+        assert!(wrong("ADMIT 0 9").2.contains("Did you mean: admit"));
+        assert!(wrong("open 0 9 1").2.contains("Did you mean: open-read or open-write"));
         let (_, _, message) = wrong("payroll");
         assert!(message.contains("The words are: admit, register"), "{message}");
+    }
+
+    #[test]
+    fn a_byte_order_mark_is_passed_over() {
+        assert_eq!(assemble(b"\xef\xbb\xbfadmit 0 9").unwrap(), [3, 1, 0, 9]);
+        assert_eq!(wrong("\u{feff}admit x 9").1, 7);
+        assert!(assemble(b"admit 0 9\n\xef\xbb\xbfadmit 0 9").is_err());
+    }
+
+    #[test]
+    fn a_wrong_word_is_shown_escaped_and_cut() {
+        let (_, _, message) = wrong("\u{1b}[31madmit 0 9");
+        assert!(message.contains("found \"\\u{1b}[31madmit\""), "{message}");
+        for text in [
+            &"a".repeat(100_000),
+            &format!("exit {}", "9".repeat(100_000)),
+            &format!("exit{}", " 1".repeat(50_000)),
+        ] {
+            assert!(wrong(text).2.chars().count() < 400);
+        }
     }
 
     #[test]

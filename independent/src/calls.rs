@@ -1,12 +1,12 @@
-//! The thirteen calls: 01, "Calls", columns "Code" and "Call".
+//! The thirteen calls: RULES C1 to C13, codes and numbers.
 //!
 //! Which numbers a call takes and what each of them names. The effects are in `monitor`, the conditions
 //! in `refusals`.
 
 use crate::tables::{Direction, Handle};
 
-/// A call's code, the word it has in assembly text, and the names of its numbers in "the journal's
-/// order of numbers".
+/// A call's code, the word it has in assembly text, and the names of its numbers in their order,
+/// in a direct call as in a record.
 #[derive(Debug)]
 pub struct Shape {
     pub code: u32,
@@ -18,7 +18,7 @@ const fn shape(code: u32, word: &'static str, numbers: &'static [&'static str]) 
     Shape { code, word, numbers }
 }
 
-/// 01, "Calls", in the order of their codes.
+/// RULES C1 to C13, in the order of their codes.
 pub const SHAPES: [Shape; 13] = [
     shape(1, "admit", &["s", "level"]),
     shape(2, "register", &["o", "level"]),
@@ -35,7 +35,7 @@ pub const SHAPES: [Shape; 13] = [
     shape(13, "retire", &["o"]),
 ];
 
-/// The shape of the call with this code; none for a "code not 1 to 13".
+/// The shape of the call with this code; none for a code not 1 to 13 (RULES R1).
 pub fn shape_of_code(code: u32) -> Option<&'static Shape> {
     SHAPES.iter().find(|shape| shape.code == code)
 }
@@ -45,7 +45,7 @@ pub fn shape_of_word(word: &str) -> Option<&'static Shape> {
     SHAPES.iter().find(|shape| shape.word == word)
 }
 
-/// A call with its numbers by name, as document 01 names them.
+/// A call with its numbers by name, as RULES C1 to C13 name them.
 #[derive(Clone, Copy, Debug, PartialEq, Eq)]
 pub enum Call {
     Admit { s: u32, level: u32 },
@@ -64,7 +64,7 @@ pub enum Call {
 }
 
 impl Call {
-    /// "A direct call takes a code and four 32-bit numbers and ignores those its code does not use."
+    /// RULES C106, C107: a code and four numbers, of which the call uses as many as its row has.
     pub fn new(code: u32, numbers: [u32; 4]) -> Option<Call> {
         let [a, b, c, d] = numbers;
         Some(match code {
@@ -85,7 +85,7 @@ impl Call {
         })
     }
 
-    /// The subject s that asks: "calls 3 to 12".
+    /// The subject s that asks, in C3 to C12.
     pub fn asker(self) -> Option<u32> {
         match self {
             Call::Create { s, .. }
@@ -102,7 +102,7 @@ impl Call {
         }
     }
 
-    /// The "number for a new subject".
+    /// The number for a new subject: C1, C9.
     pub fn new_subject(self) -> Option<u32> {
         match self {
             Call::Admit { s, .. } => Some(s),
@@ -111,7 +111,7 @@ impl Call {
         }
     }
 
-    /// The "number for a new object".
+    /// The number for a new object: C2, C3, C4.
     pub fn new_object(self) -> Option<u32> {
         match self {
             Call::Register { o, .. } | Call::Create { o, .. } | Call::Pipe { o, .. } => Some(o),
@@ -119,7 +119,7 @@ impl Call {
         }
     }
 
-    /// The "object of calls 5, 6, 10, 13".
+    /// The object of C5, C6, C10 and C13.
     pub fn named_object(self) -> Option<u32> {
         match self {
             Call::OpenRead { o, .. }

@@ -1,6 +1,6 @@
-//! Worked cases: 01, "Pay-run cases", the example under "Journal", and DWARF's examples of numbers.
+//! Worked cases: RULES K0 to K17, and DWARF's examples of numbers.
 //!
-//! The replies stand here as the document settles them; they are not worked out by this program.
+//! The replies stand here as the rules settle them; they are not worked out by this program.
 
 use crate::assembly::assemble;
 
@@ -24,7 +24,7 @@ pub struct Case {
     pub replies: String,
 }
 
-/// "File 0 has level 9, file 1 level 2, subject 0 level 9."
+/// RULES K0.
 const START: &str = "register 0 9; register 1 2; admit 0 9";
 const START_REPLIES: &str = "1 2 A 9; 2 2 A 2; 3 1 A 9";
 
@@ -32,7 +32,7 @@ const START_REPLIES: &str = "1 2 A 9; 2 2 A 2; 3 1 A 9";
 const K6: &str = "pipe 0 5 0 1; fork 0 1; open-write 0 0 2";
 const K6_REPLIES: &str = "4 4 A 9; 5 9 A 9; 6 6 A 9";
 
-/// K7's state: "with 0's reading end and 1's writing end closed first". The step that writes to file 0 is
+/// The state of RULES K7: 0's reading end and 1's writing end are closed first. The step that writes to file 0 is
 /// then upstream of the one that reads file 1.
 const K7: &str = "pipe 0 5 0 1; fork 0 1; close 0 0; close 1 1; open-write 0 0 2";
 const K7_REPLIES: &str = "4 4 A 9; 5 9 A 9; 6 11 A 9; 7 11 A 9; 8 6 A 9";
@@ -133,7 +133,7 @@ const FROM_EMPTY: &[(&str, &str, &str, &str)] = &[
     ("K11", "a record without a body: 12", "bytes 00", "1 0 R 12; end 0 0 0"),
     (
         "example",
-        "the input hex of document 01, \"Journal\"",
+        "the journal of RULES K17",
         "bytes 03 02 00 02 03 01 00 09 04 05 00 00 00 03 07 00 00",
         "1 2 A 2; 2 1 A 9; 3 5 A 2; 4 7 L 2; end 1 0 1",
     ),

@@ -3,10 +3,11 @@
 use std::ffi::{OsStr, OsString};
 use std::fs::File;
 use std::io::{self, Read, Write};
+use std::path::Path;
 use std::process::ExitCode;
 use std::time::{Duration, SystemTime, UNIX_EPOCH};
 
-use crate::assembly::{assemble, Fault};
+use crate::assembly::{assemble, lines, Fault};
 use crate::bite;
 use crate::cases::{self, Case};
 use crate::compare::{self, Program};
@@ -15,14 +16,19 @@ use crate::explain::explain;
 use crate::generate::{self, Style, Wish, STYLES};
 use crate::help;
 use crate::replies::{replies_by, LONGEST_JOURNAL};
-use crate::text::indented;
+use crate::text::{excerpt, indented, meant, shown};
 use crate::variants::{Rules, ALL};
 
 /// Lines of a case that are printed in full.
 const CASE_LINES: usize = 20;
 
+/// The longest text that is assembled, in bytes: comments take room, but input without end is no text.
+const LONGEST_TEXT: usize = 1 << 24;
+
 /// Why the program ends with a status other than 0.
 enum Failure {
+    /// Who reads the output has stopped: status 141, as of a program that the broken pipe ends, and no word.
+    Unread,
     /// The command line is wrong: status 2.
     Usage(String),
     /// Something else failed, or a difference was found: status 1.
@@ -37,6 +43,7 @@ pub fn main(arguments: Vec<OsString>) -> ExitCode {
         Ok(()) => ExitCode::SUCCESS,
         Err(failure) => {
             let (message, status) = match failure {
+                Failure::Unread => return ExitCode::from(141),
                 Failure::Usage(message) => (format!("gk: {message}"), 2),
                 Failure::Failed(message) => (format!("gk: {message}"), 1),
             };
@@ -69,9 +76,9 @@ fn dispatch(arguments: Vec<OsString>) -> Done {
     }
     match command.as_str() {
         "run" => run(rest),
-        "explain" => through(rest, "explain", |journal| Ok(explain(journal).into_bytes())),
+        "explain" => through(rest, "explain", explain),
         "assemble" => assemble_command(rest),
-        "disassemble" => through(rest, "disassemble", |journal| Ok(disassemble(journal).into_bytes())),
+        "disassemble" => through(rest, "disassemble", disassemble),
         "cases" => cases_command(rest),
         "generate" => generate_command(rest),
         "compare" => compare_command(rest),
@@ -85,10 +92,11 @@ fn help_of(command: &str) -> Result<&'static str, Failure> {
         Some((_, text)) => Ok(text),
         None => {
             let names: Vec<&str> = help::COMMANDS.iter().map(|(name, _)| *name).collect();
-            Err(Failure::Usage(format!(
-                "there is no command \"{command}\". The commands are: {}",
-                names.join(", ")
-            )))
+            let advice = match meant(command, &names).as_slice() {
+                [] => format!("The commands are: {}", names.join(", ")),
+                meant => format!("Did you mean: {}", meant.join(" or ")),
+            };
+            Err(Failure::Usage(format!("there is no command \"{}\". {advice}", shown(command))))
         }
     }
 }
@@ -124,7 +132,7 @@ impl Arguments {
             let text = argument.to_string_lossy().into_owned();
             if text == "--" {
                 sorted.behind_dashes = arguments.by_ref().collect();
-            } else if !text.starts_with("--") {
+            } else if !text.starts_with('-') || text == "-" {
                 sorted.files.push(argument);
             } else if switches.contains(&text.as_str()) {
                 sorted.switches.push(text);
@@ -134,8 +142,12 @@ impl Arguments {
                     None => return Err(sorted.wrong(&format!("{text} needs a value"))),
                 }
             } else {
-                return Err(sorted.wrong(&format!("there is no option \"{text}\"")));
+                return Err(sorted.wrong(&format!("there is no option \"{}\"", shown(&text))));
             }
+        }
+        // Behind -- stand the arguments of the other program, and elsewhere files.
+        if command != "compare" {
+            sorted.files.append(&mut sorted.behind_dashes);
         }
         Ok(sorted)
     }
@@ -158,7 +170,7 @@ impl Arguments {
         let text = value.to_string_lossy();
         match text.parse() {
             Ok(number) => Ok(Some(number)),
-            Err(_) => Err(self.wrong(&format!("{option} needs a number, not \"{text}\""))),
+            Err(_) => Err(self.wrong(&format!("{option} needs a number, not \"{}\"", shown(&text)))),
         }
     }
 
@@ -168,7 +180,7 @@ impl Arguments {
             [] => Ok(None),
             [file] => Ok(Some(file)),
             [_, second, ..] => {
-                let second = second.to_string_lossy();
+                let second = shown(&second.to_string_lossy());
                 Err(self.wrong(&format!("expected one file, found \"{second}\" as well")))
             }
         }
@@ -178,7 +190,7 @@ impl Arguments {
         match self.files.first() {
             None => Ok(()),
             Some(file) => {
-                let file = file.to_string_lossy();
+                let file = shown(&file.to_string_lossy());
                 Err(self.wrong(&format!("\"{file}\" is not expected")))
             }
         }
@@ -192,9 +204,12 @@ fn read_input(file: Option<&OsStr>, most: u64) -> Result<Vec<u8>, Failure> {
     let mut bytes = Vec::new();
     let (name, outcome) = match file {
         Some(path) if path != "-" => {
+            let name = shown(&path.to_string_lossy());
+            if Path::new(path).is_dir() {
+                return Err(Failure::Failed(format!("cannot read {name}: it is a folder")));
+            }
             let opened = File::open(path);
-            let outcome = opened.and_then(|file| file.take(most).read_to_end(&mut bytes));
-            (path.to_string_lossy().into_owned(), outcome)
+            (name, opened.and_then(|file| file.take(most).read_to_end(&mut bytes)))
         }
         _ => {
             let outcome = io::stdin().lock().take(most).read_to_end(&mut bytes);
@@ -209,21 +224,30 @@ fn read_input(file: Option<&OsStr>, most: u64) -> Result<Vec<u8>, Failure> {
 
 fn write_output(bytes: &[u8]) -> Done {
     let mut output = io::stdout().lock();
-    output
-        .write_all(bytes)
-        .and_then(|()| output.flush())
-        .map_err(|error| Failure::Failed(format!("cannot write standard output: {error}")))
+    output.write_all(bytes).and_then(|()| output.flush()).map_err(|error| match error.kind() {
+        io::ErrorKind::BrokenPipe => Failure::Unread,
+        _ => Failure::Failed(format!("cannot write standard output: {error}")),
+    })
 }
 
-/// A command without options that turns its input into its output.
-fn through(
-    arguments: Vec<OsString>,
-    command: &'static str,
-    work: impl Fn(&[u8]) -> Result<Vec<u8>, Failure>,
-) -> Done {
+/// A word on standard error beside the output. Where it cannot be written, the output still stands.
+fn remark(text: &str) {
+    let _ = writeln!(io::stderr(), "gk: {text}");
+}
+
+/// A journal; one byte past the limit is enough to know that it is above it.
+fn read_journal(file: Option<&OsStr>) -> Result<Vec<u8>, Failure> {
+    read_input(file, LONGEST_JOURNAL as u64 + 1)
+}
+
+/// A command without options that turns a journal into a text.
+fn through(arguments: Vec<OsString>, command: &'static str, work: impl Fn(&[u8]) -> String) -> Done {
     let arguments = Arguments::sort(command, arguments, &[], &[])?;
-    let input = read_input(arguments.file()?, u64::MAX)?;
-    write_output(&work(&input)?)
+    let journal = read_journal(arguments.file()?)?;
+    if journal.len() > LONGEST_JOURNAL {
+        remark(&format!("{command}: the journal is longer than 65536 bytes; the first 65537 were read"));
+    }
+    write_output(work(&journal).as_bytes())
 }
 
 // Commands.
@@ -234,45 +258,43 @@ fn run(arguments: Vec<OsString>) -> Done {
         None => Rules::default(),
         Some(name) => {
             let name = name.to_string_lossy();
-            let unknown = || Failure::Usage(format!("there is no variant \"{name}\". Type: gk variants"));
+            let unknown =
+                || Failure::Usage(format!("there is no variant \"{}\". Type: gk variants", shown(&name)));
             Rules::named(&name).ok_or_else(unknown)?
         }
     };
-    // One byte past the limit is enough to know that the journal is above it.
-    let journal = read_input(arguments.file()?, LONGEST_JOURNAL as u64 + 1)?;
+    let journal = read_journal(arguments.file()?)?;
     write_output(replies_by(&journal, rules).as_bytes())
 }
 
 fn assemble_command(arguments: Vec<OsString>) -> Done {
     let arguments = Arguments::sort("assemble", arguments, &[], &[])?;
     let file = arguments.file()?;
-    let text = read_input(file, u64::MAX)?;
+    let text = read_input(file, LONGEST_TEXT as u64 + 1)?;
     let name = match file {
-        Some(path) if path != "-" => path.to_string_lossy().into_owned(),
+        Some(path) if path != "-" => shown(&path.to_string_lossy()),
         _ => "standard input".to_string(),
     };
+    if text.len() > LONGEST_TEXT {
+        return Err(Failure::Failed(format!("{name}: the text is longer than {LONGEST_TEXT} bytes")));
+    }
     let journal = assemble(&text).map_err(|fault| Failure::Failed(fault_text(&name, &text, &fault)))?;
+    if journal.len() > LONGEST_JOURNAL {
+        remark(&format!(
+            "assemble: the journal has {} bytes. Above 65536 it is refused (14), and nothing of it is run: split it",
+            journal.len()
+        ));
+    }
     write_output(&journal)
 }
 
 /// A fault with its line, and a mark under the column.
 fn fault_text(name: &str, text: &[u8], fault: &Fault) -> String {
-    let line = text.split(|&byte| byte == b'\n').nth(fault.line - 1).unwrap_or(&[]);
-    let line = String::from_utf8_lossy(line);
-    // Tabs stay tabs, so that the mark stands under its column.
-    let mark: String = line
-        .chars()
-        .chain(std::iter::repeat(' '))
-        .take(fault.column - 1)
-        .map(|character| if character == '\t' { '\t' } else { ' ' })
-        .collect();
+    let line = lines(text).nth(fault.line - 1).unwrap_or(&[]);
+    let (part, blanks) = excerpt(&String::from_utf8_lossy(line), fault.column);
     format!(
-        "{name}:{}:{}: {}\n    {}\n    {mark}^\n{}",
-        fault.line,
-        fault.column,
-        fault.expected,
-        line.trim_end(),
-        fault.advice
+        "{name}:{}:{}: {}\n    {part}\n    {blanks}^\n{}",
+        fault.line, fault.column, fault.expected, fault.advice
     )
 }
 
@@ -285,7 +307,7 @@ fn cases_command(arguments: Vec<OsString>) -> Done {
         Some(name) => match cases::named(name) {
             Some(case) => vec![case],
             None => {
-                let message = format!("there is no case \"{name}\"; gk cases --hex lists them");
+                let message = format!("there is no case \"{}\"; gk cases --hex lists them", shown(name));
                 return Err(arguments.wrong(&message));
             }
         },
@@ -354,7 +376,7 @@ fn style_of(arguments: &Arguments) -> Result<Style, Failure> {
         Some((style, _, _)) => Ok(*style),
         None => {
             let names: Vec<&str> = STYLES.iter().map(|(_, word, _)| *word).collect();
-            let name = name.to_string_lossy();
+            let name = shown(&name.to_string_lossy());
             let message = format!("there is no style \"{name}\". The styles are: {}", names.join(", "));
             Err(arguments.wrong(&message))
         }

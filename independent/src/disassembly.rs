@@ -19,10 +19,7 @@ pub fn disassemble(journal: &[u8]) -> String {
     let rules = Rules::default();
     let mut text = String::new();
     if journal.len() > LONGEST_JOURNAL {
-        let length = journal.len();
-        text.push_str(&format!(
-            "# refusal 14: the journal has {length} bytes, above 65536, and nothing is run\n"
-        ));
+        text.push_str("# refusal 14: the journal is longer than 65536 bytes, and nothing is run\n");
     }
     let mut reader = Reader::new(journal, rules);
     loop {

@@ -1,6 +1,6 @@
 //! A journal's replies in plain words, for a payroll clerk: who asked what, what was answered, and for
 //! a refusal what can be done about it. For refusal 9 it shows the chain of flows that was in the way
-//! (01, "Flow and need").
+//! (RULES F4).
 
 mod flow;
 mod names;
@@ -92,33 +92,33 @@ fn request(call: Call, tables: &Tables) -> String {
     let object = |o| name(Thing::Object(o), tables);
     match call {
         Call::Admit { s, level } => {
-            format!("Subject {s} is admitted from outside at level {level}")
+            format!("Step {s} is admitted from outside at level {level}")
         }
         Call::Register { o, level } => {
             format!("File {o} is registered from outside at level {level}")
         }
-        Call::Create { s, o } => format!("Subject {s} creates file {o}"),
+        Call::Create { s, o } => format!("Step {s} creates file {o}"),
         Call::Pipe { s, o, r, w } => {
-            format!("Subject {s} makes pipe {o}, reading at place {r} and writing at place {w}")
+            format!("Step {s} makes pipe {o}, reading at place {r} and writing at place {w}")
         }
         Call::OpenRead { s, o, p } => {
-            format!("Subject {s} opens {} for reading at place {p}", object(o))
+            format!("Step {s} opens {} for reading at place {p}", object(o))
         }
         Call::OpenWrite { s, o, p } => {
-            format!("Subject {s} opens {} for writing at place {p}", object(o))
+            format!("Step {s} opens {} for writing at place {p}", object(o))
         }
         Call::Read { s, p } => {
-            format!("Subject {s} reads at place {p}, {}", at_place(s, p, tables))
+            format!("Step {s} reads at place {p}, {}", at_place(s, p, tables))
         }
         Call::Write { s, p } => {
-            format!("Subject {s} writes at place {p}, {}", at_place(s, p, tables))
+            format!("Step {s} writes at place {p}, {}", at_place(s, p, tables))
         }
-        Call::Fork { s, c } => format!("Subject {s} forks subject {c}"),
-        Call::Exec { s, o } => format!("Subject {s} runs {}", object(o)),
+        Call::Fork { s, c } => format!("Step {s} forks step {c}"),
+        Call::Exec { s, o } => format!("Step {s} runs {}", object(o)),
         Call::Close { s, p } => {
-            format!("Subject {s} closes place {p}, {}", at_place(s, p, tables))
+            format!("Step {s} closes place {p}, {}", at_place(s, p, tables))
         }
-        Call::Exit { s } => format!("Subject {s} exits"),
+        Call::Exit { s } => format!("Step {s} exits"),
         Call::Retire { o } => format!("{} is retired", capital(&object(o))),
     }
 }
@@ -139,24 +139,24 @@ fn outcome(call: Call, before: &Tables, after: &Tables) -> String {
         }
     };
     match call {
-        Call::Admit { s, level } => format!("Subject {s} runs at level {level}, with no handles."),
+        Call::Admit { s, level } => format!("Step {s} runs at level {level}, with no handles."),
         Call::Register { o, level } => format!("File {o} has level {level} for good."),
         Call::Create { s, o } => {
             let level = new(object(o));
-            format!("File {o} is empty and has subject {s}'s level, {level}, for good.")
+            format!("File {o} is empty and has step {s}'s level, {level}, for good.")
         }
         Call::Pipe { s, o, .. } => {
             let level = new(object(o));
-            format!("Pipe {o} is empty and starts at subject {s}'s level, {level}.")
+            format!("Pipe {o} is empty and starts at step {s}'s level, {level}.")
         }
         Call::OpenRead { s, o, .. } => format!(
-            "{} has level {}; subject {s} keeps level {} until it reads.",
+            "{} has level {}; step {s} keeps level {} until it reads.",
             capital(&name(object(o), before)),
             old(object(o)),
             old(subject(s))
         ),
         Call::OpenWrite { s, o, .. } => format!(
-            "{} has level {}, subject {s} level {}.",
+            "{} has level {}, step {s} level {}.",
             capital(&name(object(o), before)),
             old(object(o)),
             old(subject(s))
@@ -170,10 +170,10 @@ fn outcome(call: Call, before: &Tables, after: &Tables) -> String {
             let level = new(subject(c));
             let handles = match after.handles_of(c).count() {
                 0 => "no handles".to_string(),
-                1 => format!("a copy of subject {s}'s handle"),
-                count => format!("copies of subject {s}'s {count} handles"),
+                1 => format!("a copy of step {s}'s handle"),
+                count => format!("copies of step {s}'s {count} handles"),
             };
-            format!("Subject {c} starts at level {level} with {handles}.")
+            format!("Step {c} starts at level {level} with {handles}.")
         }
         Call::Close { s, p } => match before.handle(s, p) {
             Some(handle) => format!("Place {p} is empty.{}", ended(&[handle.object], before, after)),

@@ -206,7 +206,8 @@ impl Draft {
         if self.random.once_in(self.damage) {
             self.damaged_record(code, numbers);
         } else {
-            self.good_record(code, numbers);
+            // A refused record is as good for a comparison.
+            let _ = self.good_record(code, numbers);
         }
     }
 

@@ -4,7 +4,7 @@
 pub const WHOLE: &str = "\
 gk - the pay-run gatekeeper, written a second time from its rules alone
 
-It answers journals exactly as document 01 settles, so that the proved program can be compared with it
+It answers journals exactly as docs/RULES.md settles, so that the proved program can be compared with it
 byte for byte.
 
 Usage: gk COMMAND [OPTIONS] [FILE]
@@ -18,18 +18,19 @@ Journals as text
   disassemble  from a journal to words
 
 Comparing programs
-  cases        the worked cases of document 01, with their replies
+  cases        the worked cases of the rules, with their replies
   generate     a journal by seed
   compare      another program beside this one, on the cases and on generated journals
   variants     the wrong programs that the generated journals must tell apart
   bite         how many generated journals it takes to tell each of them apart
 
 A first try:
-  printf 'admit 0 9\\nregister 1 2\\nopen-read 0 1 0\\nread 0 0\\n' | gk assemble | gk run
+  printf 'admit 0 9\\nregister 1 2\\nopen-read 0 1 0\\nread 0 0\\n' | tools/gk assemble | tools/gk run
 
+In the repository's folder it is tools/gk, which builds it first, and the examples are typed there.
 FILE is read from standard input if it is - or not given. `gk COMMAND --help` says more.
-Exit status: 0 if all went well; 1 for a bad text, a failed read or write, or a difference; 2 for a bad
-command line.
+Exit status: 0 if all went well, whatever the replies; 1 for a bad text, a failed read or write, or a
+difference; 2 for a bad command line; 141, without a word, where the reader of the output has stopped.
 ";
 
 /// Every command with its help text.
@@ -55,8 +56,8 @@ or the refusal number. The last line has the handles made, gone and open.
 
   --variant NAME  answer by a rule that is wrong on purpose; see `gk variants`
 
-Example, the journal of document 01:
-  printf '\\003\\002\\000\\002\\003\\001\\000\\011\\004\\005\\000\\000\\000\\003\\007\\000\\000' | gk run
+Example, the journal of RULES K17:
+  printf '\\003\\002\\000\\002\\003\\001\\000\\011\\004\\005\\000\\000\\000\\003\\007\\000\\000' | tools/gk run
     1 2 A 2
     2 1 A 9
     3 5 A 2
@@ -73,7 +74,7 @@ Says who asked what and what was answered. For refusal 9 it shows the way that d
 from a low thing to a higher file, and which handles to close so that the call is allowed.
 
 Example:
-  gk assemble examples/march.txt | gk explain | grep -A 5 'Refused'
+  tools/gk assemble independent/examples/march.txt | tools/gk explain | grep -A 5 'Refused'
 ";
 
 const ASSEMBLE: &str = "\
@@ -86,12 +87,13 @@ One call a line; # starts a comment. The calls and their numbers:
   open-read s o p     open-write s o p     read s p           write s p
   fork s c            exec s o             close s p          exit s
   retire o
-s and c are subjects, o is a file or pipe, p, r and w are places. For a record with any code and any
-numbers write `call 77 1 2`, for any bytes `bytes 80 00` (hex).
+s and c are steps, o is a file or pipe, p, r and w are places. For a record with any code and any
+numbers write `call 77 1 2`, for any bytes `bytes 80 00` (hex). A journal above 65,536 bytes is written, and
+standard error says that it will be refused.
 
 Example: a step of level 9 reads a sheet of level 2
-  printf 'admit 0 9\\nregister 1 2\\nopen-read 0 1 0\\nread 0 0\\n' | gk assemble > sheet.journal
-  gk run sheet.journal
+  printf 'admit 0 9\\nregister 1 2\\nopen-read 0 1 0\\nread 0 0\\n' | tools/gk assemble > sheet.journal
+  tools/gk run sheet.journal
 ";
 
 const DISASSEMBLE: &str = "\
@@ -100,16 +102,17 @@ gk disassemble - from a journal to words
 Usage: gk disassemble [FILE]
 
 Every byte is accounted for: `gk disassemble | gk assemble` gives the same bytes for every journal. What
-is malformed stands as `bytes` or `call`, with a comment that says why.
+is malformed stands as `bytes` or `call`, with a comment that says why. Of a journal above 65,536 bytes the
+first 65,537 are read.
 
 Example:
-  printf '\\003\\001\\000\\011\\200\\000' | gk disassemble
+  printf '\\003\\001\\000\\011\\200\\000' | tools/gk disassemble
     admit 0 9
     bytes 80 00              # refusal 11: the length is longer than it need be; the run stops here
 ";
 
 const CASES: &str = "\
-gk cases - the worked cases of document 01 and DWARF's examples of numbers
+gk cases - the worked cases of the rules and DWARF's examples of numbers
 
 Usage: gk cases [--hex | --replies | --journal | --numbers] [NAME]
 
@@ -120,7 +123,7 @@ Without an option: each case with what it shows, its calls and its replies. A NA
   --numbers  DWARF's examples alone, a line for each: the number and its bytes in hex
 
 Example: the same bytes for another program
-  gk cases --journal K6 | other-program | diff - <(gk cases --replies K6)
+  tools/gk cases --journal K6 | ./run - | diff - <(tools/gk cases --replies K6)
 ";
 
 const GENERATE: &str = "\
@@ -136,7 +139,7 @@ The same options give the same journal on every machine.
   --style NAME  mixed (the default), payrun, calls, edges, full, rings, garbled, bytes, long
 
 Example:
-  gk generate --seed 1 --style rings | gk disassemble
+  tools/gk generate --seed 1 --style rings | tools/gk disassemble
 ";
 
 const COMPARE: &str = "\
@@ -156,7 +159,7 @@ difference the journal is made shorter while the two still differ, and shown wit
   -- ARGUMENT   what to hand to the program
 
 Example: a wrong program is found out
-  gk compare --program \"$(command -v gk)\" --seed 1 -- run --variant opener-only
+  tools/gk compare --program tools/gk --seed 1 -- run --variant opener-only
 ";
 
 const VARIANTS: &str = "\
@@ -167,7 +170,7 @@ Usage: gk variants
 A line for each: its name, for `gk run --variant NAME`, and what it does wrong.
 
 Example:
-  gk cases --journal K1 | gk run --variant opener-only
+  tools/gk cases --journal K1 | tools/gk run --variant opener-only
 ";
 
 const BITE: &str = "\
@@ -180,5 +183,5 @@ Exit status 1 if some variant is not told apart.
   --journals N  how many at most (2000)
 
 Example:
-  gk bite --seed 7
+  tools/gk bite --seed 7
 ";

@@ -1,21 +1,21 @@
-//! The pay-run gatekeeper, written a second time from document 01 alone.
+//! The pay-run gatekeeper, written a second time from the rules alone.
 //!
 //! It is compared byte for byte with the proved program, so it shares nothing with it: it is plain Rust,
 //! it keeps no figure from one call to the next, and at each call it works every need out from nothing.
-//! It is written to be read beside the document: over each rule stands the sentence or row it states.
+//! It is written to be read beside docs/RULES.md: over each rule stands the number of its sentence.
 //!
-//! In the order of document 01:
+//! In the order of the rules:
 //!
 //! | module | states |
 //! |---|---|
-//! | [`tables`] | "Tables": subjects, objects, handles and their limits |
-//! | [`needs`] | "Flow and need" |
-//! | [`calls`] | "Calls": the thirteen codes and what their numbers name |
-//! | [`monitor`] | "Calls": effects and answers; the direct call |
-//! | [`refusals`] | "Refused calls": conditions and which is said |
-//! | [`numbers`], [`records`] | "Journal": numbers and records |
-//! | [`replies`] | "Journal": the program's reply lines |
-//! | [`cases`] | "Pay-run cases", and DWARF's examples of numbers |
+//! | [`tables`] | T: subjects, objects, handles and their limits |
+//! | [`needs`] | F: flow and need |
+//! | [`calls`] | C: the thirteen codes and what their numbers name |
+//! | [`monitor`] | C: effects and answers; the direct call |
+//! | [`refusals`] | R: conditions and which is said |
+//! | [`numbers`], [`records`] | J: numbers and records |
+//! | [`replies`] | P: the program's reply lines |
+//! | [`cases`] | K: worked cases, and DWARF's examples of numbers |
 //!
 //! Tools around it: [`assembly`] and [`disassembly`] (journals as text), [`explain`] (replies in plain
 //! words), [`generate`] (journals by seed), [`variants`] and [`bite`] (wrong programs that the generated

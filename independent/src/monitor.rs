@@ -1,5 +1,5 @@
-//! The monitor: 01, "Calls", columns "Effect if allowed" and "Level in the answer"; and the counting of
-//! handles from 01, "Journal".
+//! The monitor: RULES C1 to C13, effects and levels in the answers; and the counting of handles,
+//! RULES Y1 to Y9.
 //!
 //! `Monitor::call` is the direct call: a code and four numbers in, an answer out.
 
@@ -10,18 +10,19 @@ use crate::tables::{Direction, Handle, Kind, Object, Subject, Tables, Tally};
 use crate::variants::Rules;
 
 /// What a call is answered with.
+#[must_use]
 #[derive(Clone, Copy, Debug, PartialEq, Eq)]
 pub enum Answer {
     /// Allowed, with a level.
     Allowed(u32),
-    /// "The outcome is lowered if calls 7, 8 or 10 made a level smaller": with the level after.
+    /// RULES C104: C7, C8 or C10 made a level smaller; with the level after.
     Lowered(u32),
     /// Refused, with the refusal number.
     Refused(u32),
 }
 
 impl Answer {
-    /// "A, L or R".
+    /// RULES P7.
     pub fn letter(self) -> char {
         match self {
             Answer::Allowed(_) => 'A',
@@ -30,14 +31,14 @@ impl Answer {
         }
     }
 
-    /// "the level or refusal number".
+    /// RULES P8.
     pub fn number(self) -> u32 {
         match self {
             Answer::Allowed(number) | Answer::Lowered(number) | Answer::Refused(number) => number,
         }
     }
 
-    /// The level in the answer: "A refusal answers with its number and level 0."
+    /// The level in the answer; a refusal's is 0 (RULES R101).
     pub fn level(self) -> u32 {
         match self {
             Answer::Allowed(level) | Answer::Lowered(level) => level,
@@ -63,7 +64,7 @@ impl Default for Monitor {
 }
 
 impl Monitor {
-    /// Empty tables and a tally of 0 and 0, by the rules of document 01.
+    /// Empty tables and a tally of 0 and 0, by the rules as they are.
     pub fn new() -> Monitor {
         Monitor::by(Rules::default())
     }
@@ -86,10 +87,9 @@ impl Monitor {
         self.tally
     }
 
-    /// The direct call. "A direct call takes a code and four 32-bit numbers and ignores those its code
-    /// does not use."
+    /// The direct call: RULES C106, C107.
     pub fn call(&mut self, code: u32, numbers: [u32; 4]) -> Answer {
-        // Row 1: "code not 1 to 13".
+        // RULES R1: an unknown code.
         let Some(call) = Call::new(code, self.rules.bend_numbers(numbers)) else {
             return Answer::Refused(1);
         };
@@ -105,39 +105,39 @@ impl Monitor {
     fn make(&mut self, call: Call) -> Answer {
         let sought = refusals::sought_flow(&self.tables, call);
         let needs = Needs::work_out(&self.tables, sought, self.rules, &self.kept);
-        // "The monitor, the tally and every lent buffer are unchanged."
+        // RULES R102, R103: the monitor and the tally stay as they were.
         if let Some(number) = refusals::refusal(&self.tables, call, &needs, self.rules) {
             return Answer::Refused(number);
         }
         self.kept = needs;
-        // "and every allowed call empties it".
+        // RULES T19: places that count as empty are emptied first.
         self.tables.empty_uncounted_places();
         self.effect(call)
     }
 
-    /// 01, "Calls", row by row, for a call that is not refused.
+    /// RULES C1 to C13, row by row, for a call that is not refused.
     fn effect(&mut self, call: Call) -> Answer {
         match call {
-            // Row 1: "new subject from outside, no handles"; "its level".
+            // RULES C1.
             Call::Admit { s, level } => {
                 self.tables.set_subject(s, Some(Subject { level }));
                 Answer::Allowed(level)
             }
 
-            // Row 2: "new file from outside"; "its level".
+            // RULES C2.
             Call::Register { o, level } => {
                 self.new_object(o, Kind::File, level);
                 Answer::Allowed(level)
             }
 
-            // Row 3: "new empty file at s's level, no handle"; "its level".
+            // RULES C3.
             Call::Create { s, o } => {
                 let level = self.subject_level(s);
                 self.new_object(o, Kind::File, level);
                 Answer::Allowed(level)
             }
 
-            // Row 4: "new empty pipe at s's level; place r reads, w writes"; "its level".
+            // RULES C4.
             Call::Pipe { s, o, r, w } => {
                 let level = self.subject_level(s);
                 self.new_object(o, Kind::Pipe, level);
@@ -146,26 +146,25 @@ impl Monitor {
                 Answer::Allowed(level)
             }
 
-            // Row 5: "reading handle; no level falls"; "the object's".
+            // RULES C5.
             Call::OpenRead { s, o, p } => {
                 self.place_handle(s, p, o, Direction::Reading);
                 Answer::Allowed(self.object_level(o))
             }
 
-            // Row 6: "writing handle; no level falls"; "the object's".
+            // RULES C6.
             Call::OpenWrite { s, o, p } => {
                 self.place_handle(s, p, o, Direction::Writing);
                 Answer::Allowed(self.object_level(o))
             }
 
-            // Row 7: "s falls to the object's level if that is lower"; "s's after".
+            // RULES C7.
             Call::Read { s, p } => {
                 let level = self.held_object(s, p).map_or(0, |(_, object)| object.level);
                 self.lower_subject(s, level)
             }
 
-            // Row 8: "a pipe falls to s's level if that is lower; a file keeps its own"; "the object's
-            // after".
+            // RULES C8.
             Call::Write { s, p } => {
                 let level = self.subject_level(s);
                 match self.held_object(s, p) {
@@ -178,7 +177,7 @@ impl Monitor {
                 }
             }
 
-            // Row 9: "new subject c: s's level, the same handles at the same places"; "c's".
+            // RULES C9.
             Call::Fork { s, c } => {
                 let level = self.subject_level(s);
                 self.tables.set_subject(c, Some(Subject { level }));
@@ -189,19 +188,19 @@ impl Monitor {
                 Answer::Allowed(level)
             }
 
-            // Row 10: "file o is run; s falls to o's level if lower; handles are kept"; "s's after".
+            // RULES C10.
             Call::Exec { s, o } => {
                 let level = self.object_level(o);
                 self.lower_subject(s, level)
             }
 
-            // Row 11: "the place is empty"; "s's".
+            // RULES C11.
             Call::Close { s, p } => {
                 self.remove_handle(s, p);
                 Answer::Allowed(self.subject_level(s))
             }
 
-            // Row 12: "all handles closed, number free"; "s's last".
+            // RULES C12.
             Call::Exit { s } => {
                 let level = self.subject_level(s);
                 for p in 0..self.tables.limits().places {
@@ -211,7 +210,7 @@ impl Monitor {
                 Answer::Allowed(level)
             }
 
-            // Row 13: "file gone, number free"; "its last".
+            // RULES C13.
             Call::Retire { o } => {
                 let level = self.object_level(o);
                 self.tables.set_object(o, None);
@@ -224,15 +223,14 @@ impl Monitor {
         self.tables.set_object(o, Some(Object { kind, level }));
     }
 
-    /// Places a handle. "4 makes two, 5 and 6 one, 9 as many as s held".
+    /// Places a handle, and counts it: RULES Y2, Y3, Y4.
     fn place_handle(&mut self, s: u32, p: u32, object: u32, direction: Direction) {
         let handle = Handle { object, direction };
         self.tables.set_handle(s, p, Some(handle));
         self.tally.count_made(1);
     }
 
-    /// Empties a place. "11 removes one, 12 as many as s held". "A pipe ends, and its number is free,
-    /// when its last handle goes."
+    /// Empties a place, and counts it: RULES Y5, Y6. A pipe ends when its last handle goes: RULES C102.
     fn remove_handle(&mut self, s: u32, p: u32) {
         let Some((o, object)) = self.held_object(s, p) else {
             return;
@@ -244,7 +242,7 @@ impl Monitor {
         }
     }
 
-    /// The level that a subject has after falling to `level` "if that is lower".
+    /// The level that a subject has after falling to `level`: the smaller of the two.
     fn lower_subject(&mut self, s: u32, level: u32) -> Answer {
         let own = self.subject_level(s);
         if level < own {

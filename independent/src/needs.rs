@@ -1,4 +1,4 @@
-//! Flow and need: 01, "Flow and need".
+//! Flow and need: RULES F1 to F7.
 //!
 //! Where data can flow, and the need of every thing, worked out from nothing in passes over all handles
 //! until none changes.
@@ -13,7 +13,7 @@ pub enum Thing {
     Object(u32),
 }
 
-/// "Data can flow" from one thing to another.
+/// Data can flow from one thing to another.
 #[derive(Clone, Copy, Debug, PartialEq, Eq)]
 pub struct Flow {
     pub from: Thing,
@@ -21,8 +21,7 @@ pub struct Flow {
 }
 
 impl Flow {
-    /// "Data can flow from a subject to an object it holds a writing handle on, and from an object to a
-    /// subject that holds a reading handle on it."
+    /// RULES F1, F2: the flow that a handle is.
     pub fn of(s: u32, handle: Handle) -> Flow {
         let (subject, object) = (Thing::Subject(s), Thing::Object(handle.object));
         match handle.direction {
@@ -54,7 +53,7 @@ pub struct Needs {
 }
 
 impl Needs {
-    /// "0 if it reaches none".
+    /// RULES F6: 0 where no file is reached.
     pub fn none(tables: &Tables) -> Needs {
         Needs {
             subjects: vec![0; tables.limits().subjects as usize],
@@ -92,8 +91,8 @@ impl Needs {
         }
     }
 
-    /// "One thing reaches another by a chain of such flows of any length, none included. The need of a
-    /// thing is the highest level among the files it reaches, 0 if it reaches none."
+    /// RULES F4, F5, F6: the largest of the levels of all files that a chain of flows leads to, 0 if there
+    /// are none.
     ///
     /// `sought` is a flow that is tried beside those of the handles in the table.
     pub fn work_out(tables: &Tables, sought: Option<Flow>, rules: Rules, kept: &Needs) -> Needs {

@@ -1,11 +1,11 @@
-//! Numbers in a journal: 01, "Journal", first paragraph ("unsigned LEB128 as in DWARF 5").
+//! Numbers in a journal: RULES J1 to J7 (unsigned LEB128, as in DWARF 5).
 
 use crate::variants::{Rules, Variant};
 
 /// The largest number a journal can hold.
 pub const LARGEST: u64 = 4_294_967_295;
 
-/// "It is malformed if cut off, above 4,294,967,295, or longer than it need be."
+/// RULES J4, J5, J6: what makes a number malformed.
 #[derive(Clone, Copy, Debug, PartialEq, Eq)]
 pub enum Malformed {
     CutOff,
@@ -26,13 +26,13 @@ impl Malformed {
 
 /// Reads the number at the start of the bytes: its value, and how many bytes it takes.
 pub fn read(bytes: &[u8], rules: Rules) -> Result<(u32, usize), Malformed> {
-    // "the top bit is 1 on every byte but the last"
+    // RULES J2: the high bit is 0 in the last byte alone.
     let last = bytes.iter().position(|byte| byte & 0x80 == 0).ok_or(Malformed::CutOff)?;
-    // A last group of 0 adds nothing: the number is "longer than it need be".
+    // A last group of 0 adds nothing: the number is longer than it need be (RULES J6).
     if last > 0 && bytes[last] == 0 && !rules.has(Variant::PaddedAccepted) {
         return Err(Malformed::Padded);
     }
-    // "Its value is the first group plus 128 × the value of the rest": from the last group to the first.
+    // RULES J3: from the last group to the first.
     let mut value: u64 = 0;
     for byte in bytes[..=last].iter().rev() {
         value = value * 128 + u64::from(byte & 0x7f);

@@ -1,4 +1,4 @@
-//! Records of a journal: 01, "Journal", second paragraph; rows 11 and 12 of "Refused calls".
+//! Records of a journal: RULES J8 to J17, R11 and R12.
 //!
 //! `Reader` cuts a journal into records, `read_body` turns a record's body into a call's code and
 //! numbers, `write` makes a record.
@@ -7,7 +7,7 @@ use crate::calls::shape_of_code;
 use crate::numbers::{self, Malformed};
 use crate::variants::{Rules, Variant};
 
-/// Row 11: "a length is malformed or runs past the end".
+/// RULES R11: what is wrong with a length.
 #[derive(Clone, Copy, Debug, PartialEq, Eq)]
 pub enum LengthFault {
     Malformed(Malformed),
@@ -43,8 +43,8 @@ impl<'a> Reader<'a> {
         self.offset
     }
 
-    /// "A record is the body's length in bytes, then the body". None at the journal's end; after a fault
-    /// there is nothing more to read: "the run stops there".
+    /// RULES J8, J11: the next record, or none at the journal's end. After a fault there is nothing more to
+    /// read: RULES R113.
     pub fn next_record(&mut self) -> Option<Result<Span, LengthFault>> {
         let start = self.offset;
         let rest = self.journal.get(start..).filter(|rest| !rest.is_empty())?;
@@ -73,7 +73,7 @@ impl<'a> Reader<'a> {
     }
 }
 
-/// Row 12: "a number is malformed, missing or left over".
+/// RULES R12: what is wrong with a body.
 #[derive(Clone, Copy, Debug, PartialEq, Eq)]
 pub enum BodyFault {
     /// The body is empty: there is no code.
@@ -93,19 +93,19 @@ pub enum BodyFault {
 pub enum Body {
     /// A known code and its numbers, 0 for those it does not use.
     Call { code: u32, numbers: [u32; 4] },
-    /// "an unknown code is 1 and its rest is skipped".
+    /// RULES J14: an unknown code; what follows it is not looked at.
     UnknownCode { code: u32 },
-    /// Row 12. "code (0 if none was read)".
+    /// RULES R12, with the code, 0 where none was read (RULES J13).
     Bad { code: u32, fault: BodyFault },
 }
 
-/// Reads the body of the record at `span`: "code, then the call's numbers".
+/// Reads the body of the record at `span`: RULES J9.
 pub fn read_body(journal: &[u8], span: Span, rules: Rules) -> Body {
     let end = if rules.has(Variant::ReadsPastBody) { journal.len() } else { span.end };
     let body = journal.get(span.body..end).unwrap_or(&[]);
     let length = span.end - span.body;
 
-    // "A body without a good code is 12".
+    // RULES J13: no good code.
     if length == 0 {
         let fault = BodyFault::Empty;
         return Body::Bad { code: 0, fault };
@@ -118,7 +118,7 @@ pub fn read_body(journal: &[u8], span: Span, rules: Rules) -> Body {
         }
     };
 
-    // "an unknown code is 1 and its rest is skipped".
+    // RULES J14: an unknown code.
     let Some(shape) = shape_of_code(code) else {
         return rules.bend_unknown_code(code, &body[taken..]);
     };

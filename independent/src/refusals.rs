@@ -1,7 +1,7 @@
-//! Which calls are refused: 01, "Refused calls", rows 2 to 10.
+//! Which calls are refused: RULES R2 to R10.
 //!
-//! Row 1 is in `monitor`, where a code becomes a call. Rows 11, 12 and 14 speak of journals and are in
-//! `records` and `replies`. Row 13 speaks of the writer's buffer; the writer here has no limit.
+//! R1 is in `monitor`, where a code becomes a call. R11, R12 and R14 speak of journals and are in
+//! `records` and `replies`. R13 speaks of the writer's buffer; the writer here has no limit.
 
 use crate::calls::Call;
 use crate::needs::{Flow, Needs, Thing};
@@ -12,9 +12,9 @@ use crate::variants::Rules;
 pub fn meaning(number: u32) -> &'static str {
     match number {
         1 => "no call has this code",
-        2 => "the subject that asks is not there",
+        2 => "the step that asks is not there",
         3 => "the number for the new thing cannot be used",
-        4 => "the object is not there",
+        4 => "the file or pipe is not there",
         5 => "a pipe cannot be run or retired",
         6 => "the level is above 15",
         7 => "the place does not fit",
@@ -32,7 +32,7 @@ pub fn meaning(number: u32) -> &'static str {
 /// A row's number and whether its condition holds.
 pub type Condition = (u32, bool);
 
-/// Rows 2 to 10 for a call. `needs` has been worked out with the flow that an open asks for.
+/// RULES R2 to R10 for a call. `needs` has been worked out with the flow that an open asks for.
 pub fn conditions(tables: &Tables, call: Call, needs: &Needs) -> [Condition; 9] {
     [
         (2, asker_is_missing(tables, call)),
@@ -47,7 +47,7 @@ pub fn conditions(tables: &Tables, call: Call, needs: &Needs) -> [Condition; 9] 
     ]
 }
 
-/// "Where several conditions hold, the smallest number is given".
+/// RULES R105: of several, the smallest number.
 pub fn refusal(tables: &Tables, call: Call, needs: &Needs, rules: Rules) -> Option<u32> {
     let mut conditions = conditions(tables, call, needs);
     rules.bend_conditions(tables, call, needs, &mut conditions);
@@ -55,12 +55,12 @@ pub fn refusal(tables: &Tables, call: Call, needs: &Needs, rules: Rules) -> Opti
     holding.min_by_key(|&number| rules.rank(number))
 }
 
-/// Row 2: "calls 3 to 12: s not 0 to 31, or not live".
+/// RULES R2: the caller is out of range or not live.
 fn asker_is_missing(tables: &Tables, call: Call) -> bool {
     call.asker().is_some_and(|s| tables.subject(s).is_none())
 }
 
-/// Row 3: "number for a new subject or object out of range or in use".
+/// RULES R3: the new number is out of range or in use.
 fn new_number_is_unfit(tables: &Tables, call: Call) -> bool {
     let limits = tables.limits();
     let subject = call.new_subject();
@@ -69,12 +69,12 @@ fn new_number_is_unfit(tables: &Tables, call: Call) -> bool {
         || object.is_some_and(|o| o >= limits.objects || tables.object(o).is_some())
 }
 
-/// Row 4: "object of calls 5, 6, 10, 13 out of range or not live".
+/// RULES R4: the object is out of range or not live.
 fn object_is_missing(tables: &Tables, call: Call) -> bool {
     call.named_object().is_some_and(|o| tables.object(o).is_none())
 }
 
-/// Row 5: "calls 10, 13 name a pipe".
+/// RULES R5: a pipe where a file is asked for.
 fn pipe_is_run_or_retired(tables: &Tables, call: Call) -> bool {
     match call {
         Call::Exec { o, .. } | Call::Retire { o } => {
@@ -84,12 +84,12 @@ fn pipe_is_run_or_retired(tables: &Tables, call: Call) -> bool {
     }
 }
 
-/// Row 6: "level above 15".
+/// RULES R6: the level is too high.
 fn level_is_too_high(tables: &Tables, call: Call) -> bool {
     call.level().is_some_and(|level| level >= tables.limits().levels)
 }
 
-/// Row 7: "place above 15; in 4, 5, 6 taken; in 4 also r = w; in 7, 8, 11 empty".
+/// RULES R7: a place is out of range, taken, named twice or empty.
 fn place_is_unfit(tables: &Tables, call: Call) -> bool {
     let above = |p: u32| p >= tables.limits().places;
     let taken = |s: u32, p: u32| tables.handle(s, p).is_some();
@@ -101,7 +101,7 @@ fn place_is_unfit(tables: &Tables, call: Call) -> bool {
     }
 }
 
-/// Row 8: "read on a writing handle, or write on a reading one".
+/// RULES R8, R108: the handle is for the other direction.
 fn direction_is_wrong(tables: &Tables, call: Call) -> bool {
     let held = |s: u32, p: u32, direction: Direction| {
         tables.handle(s, p).is_some_and(|handle| handle.direction == direction)
@@ -121,8 +121,7 @@ pub fn sought_flow(tables: &Tables, call: Call) -> Option<Flow> {
     Some(Flow::of(s, handle))
 }
 
-/// Row 9: "flow: after 5 or 6 some thing would have a level below its need; for 10, o's level is below
-/// s's need".
+/// RULES R9, R109, R110: a level would be below a need.
 fn flow_is_unsafe(tables: &Tables, call: Call, needs: &Needs) -> bool {
     match call {
         Call::OpenRead { .. } | Call::OpenWrite { .. } => {
@@ -135,7 +134,7 @@ fn flow_is_unsafe(tables: &Tables, call: Call, needs: &Needs) -> bool {
     }
 }
 
-/// Row 10: "retire of a file on which a handle is open".
+/// RULES R10: a handle is on the file.
 fn retired_file_is_held(tables: &Tables, call: Call) -> bool {
     match call {
         Call::Retire { o } => {

@@ -1,11 +1,11 @@
-//! The program's replies: 01, "Journal", third paragraph; row 14 of "Refused calls".
+//! The program's replies: RULES P1 to P14, R14 and R113 to R115.
 
 use crate::monitor::{Answer, Monitor};
 use crate::records::{self, Body, BodyFault, LengthFault, Reader, Span};
 use crate::tables::Tally;
 use crate::variants::{Rules, Variant};
 
-/// Row 14: "journal above 65,536 bytes; nothing is run".
+/// RULES R14, R115: a journal above 65,536 bytes is not run.
 pub const LONGEST_JOURNAL: usize = 65_536;
 
 /// What stood in a record: its call, or why there is none.
@@ -13,25 +13,25 @@ pub const LONGEST_JOURNAL: usize = 65_536;
 pub enum Content {
     /// The record lies there and holds this.
     Body(Span, Body),
-    /// Row 11, with the offset of the length.
+    /// RULES R11, with the offset of the length.
     Stop(usize, LengthFault),
-    /// Row 14.
+    /// RULES R14.
     TooLong,
 }
 
 /// One reply and what it replies to.
 #[derive(Clone, Copy, Debug, PartialEq, Eq)]
 pub struct Step {
-    /// The record's "position from 1".
+    /// RULES P5: the record's position, from 1.
     pub position: u64,
-    /// "code (0 if none was read)".
+    /// RULES P6: the code, 0 where none was read.
     pub code: u32,
     pub content: Content,
     pub answer: Answer,
 }
 
 impl Step {
-    /// "its position from 1, code (0 if none was read), A, L or R, and the level or refusal number".
+    /// RULES P4: position, code, letter, value.
     pub fn line(&self) -> String {
         let Step { position, code, answer, .. } = self;
         format!("{position} {code} {} {}\n", answer.letter(), answer.number())
@@ -81,7 +81,7 @@ impl<'a> Run<'a> {
     }
 
     fn reply(&mut self) -> Option<Step> {
-        // "14 is tested before all others".
+        // RULES R106: before all others.
         if self.position == 0 && self.journal.len() > self.rules.longest_journal() {
             return Some(self.refused(1, 0, Content::TooLong, 14));
         }
@@ -90,7 +90,7 @@ impl<'a> Run<'a> {
         self.position += 1;
         let position = self.position;
         Some(match record {
-            // Row 11; the reader has stopped.
+            // RULES R11, R113: the reader has stopped.
             Err(fault) => self.refused(position, 0, Content::Stop(start, fault), 11),
             Ok(span) => {
                 let body = records::read_body(self.journal, span, self.rules);
@@ -99,9 +99,9 @@ impl<'a> Run<'a> {
                     Body::Call { code, numbers } => {
                         Step { position, code, content, answer: self.monitor.call(code, numbers) }
                     }
-                    // Row 1.
+                    // RULES R1, R114.
                     Body::UnknownCode { code } => self.refused(position, code, content, 1),
-                    // Row 12.
+                    // RULES R12, R114.
                     Body::Bad { code, fault } => {
                         let number = self.twelve_or(code, fault);
                         self.refused(position, code, content, number)
@@ -116,7 +116,7 @@ impl<'a> Run<'a> {
         Step { position, code, content, answer }
     }
 
-    /// "12 in a record comes before 2 to 10": the call is not looked at.
+    /// RULES R107: the call is not looked at.
     fn twelve_or(&self, code: u32, fault: BodyFault) -> u32 {
         match fault {
             BodyFault::LeftOver { numbers, .. } if self.rules.has(Variant::TwelveLast) => {
@@ -129,7 +129,7 @@ impl<'a> Run<'a> {
         }
     }
 
-    /// "The last line is `end`, handles made, handles gone, handles open."
+    /// RULES P9, P10: the last line.
     pub fn end_line(&self) -> String {
         let tally = self.tally();
         let open = if self.rules.has(Variant::OpenAsMade) { tally.made } else { tally.open() };
@@ -137,7 +137,7 @@ impl<'a> Run<'a> {
     }
 }
 
-/// The replies to a journal, by the rules of document 01.
+/// The replies to a journal, by the rules as they are.
 pub fn replies(journal: &[u8]) -> String {
     replies_by(journal, Rules::default())
 }

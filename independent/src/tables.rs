@@ -1,10 +1,9 @@
-//! The tables: 01, "Tables".
+//! The tables: RULES T1 to T20; and the tally: RULES Y1 to Y10.
 //!
 //! Subjects, objects and handles by number, what counts as a handle, and the tally of handles made and
 //! gone. No rule of a call is here; see `monitor` and `refusals`.
 
-/// How many of each there may be. 01, "Tables": "Subjects have numbers 0 to 31. Objects have 0 to 63.
-/// Each subject has handle places 0 to 15. Levels are 0 to 15."
+/// How many of each there may be, and the highest level: RULES T1 to T4.
 #[derive(Clone, Copy, Debug, PartialEq, Eq)]
 pub struct Limits {
     pub subjects: u32,
@@ -13,37 +12,37 @@ pub struct Limits {
     pub levels: u32,
 }
 
-/// The limits of document 01.
+/// The limits of the rules.
 pub const LIMITS: Limits = Limits { subjects: 32, objects: 64, places: 16, levels: 16 };
 
-/// A running step. "A subject has a level."
+/// RULES T1, T7: a running step, and its level.
 #[derive(Clone, Copy, Debug, PartialEq, Eq)]
 pub struct Subject {
     pub level: u32,
 }
 
-/// "Objects (files and pipes, one number space)".
+/// RULES T2: files and pipes share the numbers.
 #[derive(Clone, Copy, Debug, PartialEq, Eq)]
 pub enum Kind {
     File,
     Pipe,
 }
 
-/// "A file has a level that never changes. A pipe has a level that can fall."
+/// RULES T8, T9: a file's level stays, a pipe's may fall.
 #[derive(Clone, Copy, Debug, PartialEq, Eq)]
 pub struct Object {
     pub kind: Kind,
     pub level: u32,
 }
 
-/// "for reading or for writing only".
+/// RULES T10: one of the two.
 #[derive(Clone, Copy, Debug, PartialEq, Eq)]
 pub enum Direction {
     Reading,
     Writing,
 }
 
-/// "A handle joins one place of one subject to one object". The place is where it stands in the table.
+/// RULES T10: what a handle is on, and what for. The place is where it stands in the table.
 #[derive(Clone, Copy, Debug, PartialEq, Eq)]
 pub struct Handle {
     pub object: u32,
@@ -85,8 +84,7 @@ impl Tables {
         *self.objects.get(o as usize)?
     }
 
-    /// The handle at this place. "a handle on an object out of range or not live, or in a place of a
-    /// subject not live, counts as an empty place".
+    /// The handle at this place. RULES T17, T18: one whose object or subject is not live counts as none.
     pub fn handle(&self, s: u32, p: u32) -> Option<Handle> {
         self.subject(s)?;
         let handle = (*self.handles.get(self.index(s, p)?)?)?;
@@ -151,7 +149,7 @@ impl Tables {
         }
     }
 
-    /// "and every allowed call empties it": the places that only count as empty become empty. Tables
+    /// RULES T19: the places that only count as empty become empty. Tables
     /// made by calls have no such places.
     pub fn empty_uncounted_places(&mut self) {
         let Tables { limits, subjects, objects, handles } = self;
@@ -170,8 +168,7 @@ impl Tables {
     }
 }
 
-/// Handles made and gone "over the history of calls". "Both counts are 64 bits wide and start at 0 with
-/// the empty tables; they, and their difference, are taken modulo 2 to the 64th."
+/// Handles made and gone, over the calls so far: RULES Y1, Y8, Y9.
 #[derive(Clone, Copy, Debug, Default, PartialEq, Eq)]
 pub struct Tally {
     pub made: u64,
@@ -179,7 +176,7 @@ pub struct Tally {
 }
 
 impl Tally {
-    /// "Made minus gone equals the handles in the table."
+    /// RULES Y9, Y10: made minus gone.
     pub fn open(self) -> u64 {
         self.made.wrapping_sub(self.gone)
     }

@@ -1,7 +1,7 @@
 //! Deliberately wrong variants of the program, to show that the generated journals find mistakes.
 //!
 //! `Rules` says which variant is on; by default none is, and then every function here leaves the rules
-//! of document 01 as they are. Each variant is read at exactly one place: here, in `outcomes`, or at the
+//! as they are. Each variant is read at exactly one place: here, in `outcomes`, or at the
 //! one place in the reader that it speaks of.
 
 mod outcomes;
@@ -147,7 +147,7 @@ variants! {
     FourteenAtZero "14-at-0" "writes 14 with position 0";
 }
 
-/// Which rules hold: those of document 01, or one variant of them.
+/// Which rules hold: those of docs/RULES.md, or one variant of them.
 #[derive(Clone, Copy, Debug, Default, PartialEq, Eq)]
 pub struct Rules {
     variant: Option<Variant>,
@@ -166,7 +166,7 @@ impl Rules {
         Some(Rules::from(*variant))
     }
 
-    /// Whether these are the rules of document 01.
+    /// Whether these are the rules of docs/RULES.md.
     pub fn are_right(self) -> bool {
         self.variant.is_none()
     }
@@ -234,7 +234,7 @@ impl Rules {
         }
     }
 
-    /// The conditions of "Refused calls" for one call.
+    /// The conditions of RULES R2 to R10 for one call.
     pub fn bend_conditions(self, tables: &Tables, call: Call, needs: &Needs, conditions: &mut [Condition]) {
         let Some(variant) = self.variant else {
             return;

@@ -1,4 +1,4 @@
-//! The worked cases and single sentences of document 01.
+//! The worked cases and single sentences of the rules (docs/RULES.md).
 
 use gatekeeper_independent::cases;
 use gatekeeper_independent::monitor::{Answer, Monitor};
@@ -55,7 +55,7 @@ fn a_direct_call_ignores_the_numbers_its_code_does_not_use() {
 #[test]
 fn a_refusal_answers_with_level_0_and_changes_nothing() {
     let mut monitor = Monitor::new();
-    monitor.call(1, [0, 9, 0, 0]);
+    assert_eq!(monitor.call(1, [0, 9, 0, 0]), Answer::Allowed(9));
     let (tables, tally) = (monitor.tables().clone(), monitor.tally());
     for code in 0..=15 {
         let answer = monitor.call(code, [99, 99, 99, 99]);
@@ -136,7 +136,7 @@ fn where_a_thing_is_below_its_need_already_every_open_is_refused() {
     // Exec looks at the caller's need alone.
     assert_eq!(monitor.call(10, [0, 1, 0, 0]), Answer::Lowered(2));
     assert_eq!(monitor.call(10, [1, 1, 0, 0]), Answer::Refused(9));
-    // "a file keeps its own"
+    // RULES C8: a file stays.
     assert_eq!(monitor.call(8, [1, 0, 0, 0]), Answer::Allowed(9));
 }
 

@@ -62,7 +62,7 @@ fn a_refused_call_changes_nothing() {
     }
 }
 
-/// "The need of a thing is the highest level among the files it reaches", by a search from the thing.
+/// RULES F5, F6: the need, by a search from the thing.
 fn need_by_search(tables: &Tables, start: Thing) -> u32 {
     let mut reached = vec![start];
     let mut next = 0;

@@ -68,6 +68,8 @@ fn a_bad_command_line_has_status_2() {
         &["payroll"],
         &["help", "payroll"],
         &["run", "--fast"],
+        &["run", "-x"],
+        &["assemble", "-x"],
         &["run", "one", "two"],
         &["run", "--variant"],
         &["run", "--variant", "none"],
@@ -113,11 +115,130 @@ fn a_bad_text_or_a_failed_read_has_status_1() {
         assert!(err(&output).contains("cannot read no/such/file"), "{command}");
         let output = gk(&[command, env!("CARGO_MANIFEST_DIR")], b"");
         assert_eq!(output.status.code(), Some(1), "{command}");
+        assert!(err(&output).contains("it is a folder"), "{command}");
     }
 }
 
 #[test]
-fn a_closed_output_has_status_1() {
+fn what_is_foreign_is_shown_escaped_and_cut() {
+    let long = "x".repeat(1 << 20);
+    let wrong: &[(&[&str], &[u8])] = &[
+        (&["assemble"], b"\x1b]0;title\x07 0 9"),
+        (&["assemble"], b"admit \x1b[2J 9"),
+        (&["assemble"], b"admit 0 9 # \x1b[2J\x9b\xff"),
+        (&["assemble"], long.as_bytes()),
+        (&["\x1b[2J"], b""),
+        (&["run", "--\x1b[2J"], b""),
+        (&["run", "no/such/\x1b[2J"], b""),
+        (&["cases", "\x1b[2J"], b""),
+        (&["bite", "--seed", "\x1b[2J"], b""),
+    ];
+    for (arguments, input) in wrong {
+        let output = gk(arguments, input);
+        assert_ne!(output.status.code(), Some(0), "{arguments:?}");
+        let message = err(&output);
+        assert!(message.chars().all(|letter| letter == '\n' || !letter.is_control()), "{message:?}");
+        assert!(message.len() < 1000, "{arguments:?}");
+    }
+}
+
+#[test]
+fn a_word_that_was_meant_is_named() {
+    assert!(err(&gk(&["assemble"], b"ADMIT 0 9")).contains("Did you mean: admit"));
+    assert!(err(&gk(&["assemble"], b"open 0 9 1")).contains("Did you mean: open-read or open-write"));
+    assert!(err(&gk(&["exlain"], b"")).contains("Did you mean: explain"));
+    assert!(err(&gk(&["payroll"], b"")).contains("The commands are: run, explain"));
+}
+
+#[test]
+fn a_byte_order_mark_is_no_part_of_a_text() {
+    assert_eq!(gk(&["assemble"], b"\xef\xbb\xbfadmit 0 9\r\n").stdout, [3, 1, 0, 9]);
+    let message = err(&gk(&["assemble"], b"\xef\xbb\xbfadmit x 9"));
+    assert!(message.contains(":1:7: ") && message.contains("    admit x 9\n          ^\n"), "{message}");
+}
+
+#[test]
+fn input_without_end_is_not_read_to_its_end() {
+    for (command, status, words) in [
+        ("run", 0, "1 0 R 14\nend 0 0 0\n"),
+        ("explain", 0, "The journal is refused (14)"),
+        ("disassemble", 0, "# refusal 14: the journal is longer than 65536 bytes"),
+        ("assemble", 1, ""),
+    ] {
+        let output = gk(&[command, "/dev/zero"], b"");
+        assert_eq!(output.status.code(), Some(status), "{command}");
+        assert!(out(&output).starts_with(words), "{command}");
+        assert_eq!(err(&output).is_empty(), command == "run", "{command}");
+    }
+}
+
+#[test]
+fn a_journal_that_will_be_refused_is_written_with_a_word() {
+    let line = b"admit 0 9\n";
+    let output = gk(&["assemble"], &line.repeat(65_536 / 4));
+    assert_eq!((output.status.code(), output.stdout.len(), err(&output)), (Some(0), 65_536, String::new()));
+    let output = gk(&["assemble"], &line.repeat(65_536 / 4 + 1));
+    assert_eq!((output.status.code(), output.stdout.len()), (Some(0), 65_540));
+    assert!(err(&output).contains("the journal has 65540 bytes"), "{}", err(&output));
+}
+
+#[test]
+fn behind_two_dashes_stands_a_file() {
+    for command in ["run", "assemble", "disassemble", "explain"] {
+        let output = gk(&[command, "-x"], b"");
+        assert_eq!(output.status.code(), Some(2), "{command}");
+        assert!(err(&output).contains("there is no option \"-x\""), "{command}");
+        let output = gk(&[command, "--", "-x"], b"");
+        assert_eq!(output.status.code(), Some(1), "{command}");
+        assert!(err(&output).contains("cannot read -x"), "{command}");
+    }
+}
+
+/// The examples in the help texts do what they say, typed in the repository's folder.
+#[test]
+fn the_examples_of_the_help_run() {
+    let root = concat!(env!("CARGO_MANIFEST_DIR"), "/..");
+    let mut tried = 0;
+    for (command, text) in help::COMMANDS.iter().chain([&("--help", help::WHOLE)]) {
+        for line in text.lines().filter(|line| line.starts_with("  ") && line.contains("tools/gk ")) {
+            // The proved program is built by other means.
+            let line = line.replace("./run -", "tools/gk run").replace("sheet.journal", "\"$SHEET\"");
+            let line = line.replace("tools/gk", env!("CARGO_BIN_EXE_gk"));
+            let output = Command::new("bash")
+                .args(["-c", &format!("set -o pipefail; {line}")])
+                .env("SHEET", std::env::temp_dir().join(format!("sheet.{}.journal", std::process::id())))
+                .current_dir(root)
+                .stdin(Stdio::null())
+                .output()
+                .unwrap();
+            // A difference is what the example of compare shows.
+            let status = if *command == "compare" { 1 } else { 0 };
+            assert_eq!(output.status.code(), Some(status), "{command}: {line}\n{}", err(&output));
+            assert!(
+                line.contains("> ") || *command == "cases" || !output.stdout.is_empty(),
+                "{command}: {line}"
+            );
+            tried += 1;
+        }
+    }
+    let _ =
+        std::fs::remove_file(std::env::temp_dir().join(format!("sheet.{}.journal", std::process::id())));
+    assert!(tried >= 10, "only {tried} examples were found");
+}
+
+#[test]
+fn an_output_that_is_full_has_status_1() {
+    let output = Command::new(env!("CARGO_BIN_EXE_gk"))
+        .args(["cases", "--hex"])
+        .stdout(std::fs::File::create("/dev/full").unwrap())
+        .output()
+        .unwrap();
+    assert_eq!(output.status.code(), Some(1));
+    assert!(err(&output).contains("cannot write standard output"), "{}", err(&output));
+}
+
+#[test]
+fn a_reader_that_stops_ends_the_program_without_a_word() {
     let mut child = Command::new(env!("CARGO_BIN_EXE_gk"))
         .args(["cases", "--hex"])
         .stdin(Stdio::null())
@@ -128,8 +249,7 @@ fn a_closed_output_has_status_1() {
     drop(child.stdout.take());
     let mut message = String::new();
     child.stderr.take().unwrap().read_to_string(&mut message).unwrap();
-    assert_eq!(child.wait().unwrap().code(), Some(1));
-    assert!(message.contains("cannot write standard output"), "{message}");
+    assert_eq!((child.wait().unwrap().code(), message), (Some(141), String::new()));
 }
 
 #[test]

@@ -24,6 +24,7 @@ struct Host {
 
 impl Host {
     /// Makes a call, adds its record to the journal, and says what came of it; whether it may be done.
+    #[must_use]
     fn ask(&mut self, what: &str, call: Call) -> bool {
         call.write_record(&mut self.journal);
         print!("{what:66} ");
@@ -37,36 +38,44 @@ impl Host {
         }
         true
     }
+
+    /// The same for a call without which this host cannot go on.
+    fn must(&mut self, what: &str, call: Call) {
+        if !self.ask(what, call) {
+            eprintln!("payday: a call that the pay run needs was refused");
+            std::process::exit(1);
+        }
+    }
 }
 
 fn main() {
     let mut host = Host::default();
 
     println!("What comes from outside");
-    host.ask("The pay book is file 0.", Call::Register { object: PAY_BOOK, level: 9 });
-    host.ask(
+    host.must("The pay book is file 0.", Call::Register { object: PAY_BOOK, level: 9 });
+    host.must(
         "The hours sheet of shop 3, which nobody has checked, is file 1.",
         Call::Register { object: SHEET, level: 2 },
     );
-    host.ask(
+    host.must(
         "The checked hours of all other shops are file 2.",
         Call::Register { object: HOURS, level: 12 },
     );
-    host.ask("The shell is subject 0.", Call::Admit { subject: SHELL, level: 12 });
+    host.must("The shell is step 0.", Call::Admit { subject: SHELL, level: 12 });
 
     println!("\nThe shell starts a step that adds up the hours");
-    host.ask(
+    host.must(
         "The shell makes pipe 8: place 0 reads it, place 1 writes it.",
         Call::Pipe { subject: SHELL, object: PIPE, reads: 0, writes: 1 },
     );
-    host.ask("It forks the adder, subject 1.", Call::Fork { subject: SHELL, child: ADDER });
-    host.ask("The adder closes its reading end.", Call::Close { subject: ADDER, place: 0 });
-    host.ask("The shell closes its writing end.", Call::Close { subject: SHELL, place: 1 });
-    host.ask(
+    host.must("It forks the adder, step 1.", Call::Fork { subject: SHELL, child: ADDER });
+    host.must("The adder closes its reading end.", Call::Close { subject: ADDER, place: 0 });
+    host.must("The shell closes its writing end.", Call::Close { subject: SHELL, place: 1 });
+    host.must(
         "The shell opens the pay book for writing.",
         Call::OpenWrite { subject: SHELL, object: PAY_BOOK, place: 2 },
     );
-    host.ask(
+    host.must(
         "The adder opens the checked hours for reading.",
         Call::OpenRead { subject: ADDER, object: HOURS, place: 2 },
     );
@@ -77,41 +86,43 @@ fn main() {
         Call::OpenRead { subject: ADDER, object: SHEET, place: 3 },
     ) {
         println!("\nThe way out: a step with no way to the pay book reads it");
-        host.ask("The shell forks the lister, subject 2.", Call::Fork { subject: SHELL, child: LISTER });
-        host.ask("The lister closes its end of pipe 8.", Call::Close { subject: LISTER, place: 0 });
-        host.ask("The lister closes the pay book.", Call::Close { subject: LISTER, place: 2 });
-        host.ask(
+        host.must("The shell forks the lister, step 2.", Call::Fork { subject: SHELL, child: LISTER });
+        host.must("The lister closes its end of pipe 8.", Call::Close { subject: LISTER, place: 0 });
+        host.must("The lister closes the pay book.", Call::Close { subject: LISTER, place: 2 });
+        host.must(
             "The lister opens the sheet of shop 3 for reading.",
             Call::OpenRead { subject: LISTER, object: SHEET, place: 0 },
         );
-        host.ask("The lister reads it.", Call::Read { subject: LISTER, place: 0 });
-        host.ask(
+        host.must("The lister reads it.", Call::Read { subject: LISTER, place: 0 });
+        host.must(
             "The lister creates file 3, a list for the clerk.",
             Call::Create { subject: LISTER, object: LIST },
         );
-        host.ask(
+        host.must(
             "The lister opens the list for writing.",
             Call::OpenWrite { subject: LISTER, object: LIST, place: 1 },
         );
-        host.ask("The lister writes it.", Call::Write { subject: LISTER, place: 1 });
-        host.ask(
+        host.must("The lister writes it.", Call::Write { subject: LISTER, place: 1 });
+        if host.ask(
             "The lister opens the pay book for writing.",
             Call::OpenWrite { subject: LISTER, object: PAY_BOOK, place: 2 },
-        );
-        host.ask("The lister exits.", Call::Exit { subject: LISTER });
+        ) {
+            host.must("The lister writes it.", Call::Write { subject: LISTER, place: 2 });
+        }
+        host.must("The lister exits.", Call::Exit { subject: LISTER });
     }
 
     println!("\nThe pay run goes on, and nobody has fallen");
-    host.ask("The adder reads the checked hours.", Call::Read { subject: ADDER, place: 2 });
-    host.ask("The adder writes the sums to pipe 8.", Call::Write { subject: ADDER, place: 1 });
-    host.ask("The adder exits.", Call::Exit { subject: ADDER });
-    host.ask("The shell reads the sums.", Call::Read { subject: SHELL, place: 0 });
-    host.ask("The shell writes the pay book.", Call::Write { subject: SHELL, place: 2 });
-    host.ask("The shell exits.", Call::Exit { subject: SHELL });
+    host.must("The adder reads the checked hours.", Call::Read { subject: ADDER, place: 2 });
+    host.must("The adder writes the sums to pipe 8.", Call::Write { subject: ADDER, place: 1 });
+    host.must("The adder exits.", Call::Exit { subject: ADDER });
+    host.must("The shell reads the sums.", Call::Read { subject: SHELL, place: 0 });
+    host.must("The shell writes the pay book.", Call::Write { subject: SHELL, place: 2 });
+    host.must("The shell exits.", Call::Exit { subject: SHELL });
 
     println!("\nA clerk has looked over the sheet: it comes in again as checked");
-    host.ask("The sheet of shop 3 is retired.", Call::Retire { object: SHEET });
-    host.ask("The checked sheet is file 1.", Call::Register { object: SHEET, level: 12 });
+    host.must("The sheet of shop 3 is retired.", Call::Retire { object: SHEET });
+    host.must("The checked sheet is file 1.", Call::Register { object: SHEET, level: 12 });
 
     let Host { monitor, journal } = host;
     println!("\nHandles made: {}, gone: {}, open: {}.", monitor.made(), monitor.gone(), monitor.open());

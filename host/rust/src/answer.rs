@@ -3,7 +3,8 @@
 use std::error::Error;
 use std::fmt;
 
-/// The answer to a call.
+/// The answer to a call. A host carries the call out where it is `Allowed` or `Lowered`, and nowhere else.
+#[must_use = "a call may be refused: carry it out only where it is allowed or lowered"]
 #[derive(Clone, Copy, Debug, PartialEq, Eq)]
 pub enum Answer {
     /// Allowed, with a level: that of the new, opened, written or retired thing, or else the subject's.
@@ -93,12 +94,12 @@ impl Refusal {
     pub fn words(self) -> &'static str {
         match self {
             Refusal::UnknownCode => "no call has this code",
-            Refusal::NoSubject => "the subject that asks is not there",
-            Refusal::NumberTaken => "the number for the new thing is out of range or in use",
-            Refusal::NoObject => "the object is not there",
+            Refusal::NoSubject => "the step that asks is not there",
+            Refusal::NumberTaken => "the number for the new thing cannot be used",
+            Refusal::NoObject => "the file or pipe is not there",
             Refusal::IsPipe => "a pipe cannot be run or retired",
             Refusal::LevelTooHigh => "the level is above 15",
-            Refusal::PlaceUnfit => "the place is out of range, taken, or empty",
+            Refusal::PlaceUnfit => "the place does not fit",
             Refusal::WrongDirection => "the handle is for the other direction",
             Refusal::Flow => "low data could reach a higher file",
             Refusal::StillOpen => "a handle is still open on the file",

@@ -19,6 +19,7 @@ pub const RECORD_ROOM: usize = 22;
 /// let journal = [3, 2, 0, 2, 3, 1, 0, 9, 4, 5, 0, 0, 0, 3, 7, 0, 0];
 /// assert_eq!(gatekeeper::replay(&journal), "1 2 A 2\n2 1 A 9\n3 5 A 2\n4 7 L 2\nend 1 0 1\n");
 /// ```
+#[must_use]
 pub fn replay(journal: &[u8]) -> String {
     let mut text = vec![0; REPLY_ROOM];
     let bytes = archive::replay(journal, &mut text);
@@ -29,6 +30,7 @@ pub fn replay(journal: &[u8]) -> String {
 
 /// The same over the front of a buffer: how many bytes the text has, or none where there is no room for it. Some of
 /// its lines may stand there then.
+#[must_use = "there may be no room for the reply"]
 pub fn replay_into(journal: &[u8], out: &mut [u8]) -> Option<usize> {
     match archive::replay(journal, out) {
         0 => None,
@@ -53,6 +55,7 @@ pub fn write_record(out: &mut [u8], code: u32, numbers: [u32; 4]) -> Result<usiz
 /// assert_eq!(gatekeeper::read_number(&[0x80, 0x00]), None);
 /// ```
 #[inline]
+#[must_use]
 pub fn read_number(bytes: &[u8]) -> Option<(u32, usize)> {
     match archive::number(bytes) {
         0 => None,

@@ -8,16 +8,17 @@
 //! use gatekeeper::{Answer, Monitor, Refusal};
 //!
 //! let mut monitor = Monitor::new();
-//! monitor.admit(0, 9); // a step of level 9
-//! monitor.register(0, 9); // the pay book, which takes nothing from below level 9
-//! monitor.register(1, 2); // an hours sheet that nobody has checked
+//! monitor.admit(0, 9).granted()?; // a step of level 9
+//! monitor.register(0, 9).granted()?; // the pay book, which takes nothing from below level 9
+//! monitor.register(1, 2).granted()?; // an hours sheet that nobody has checked
 //!
 //! assert_eq!(monitor.open_write(0, 0, 0), Answer::Allowed(9));
 //! assert_eq!(monitor.open_read(0, 1, 1), Answer::Refused(Refusal::Flow));
 //!
-//! monitor.close(0, 0); // with the pay book closed, the sheet may be read
+//! monitor.close(0, 0).granted()?; // with the pay book closed, the sheet may be read
 //! assert_eq!(monitor.open_read(0, 1, 1), Answer::Allowed(2));
 //! assert_eq!(monitor.read(0, 1), Answer::Lowered(2));
+//! # Ok::<(), Refusal>(())
 //! ```
 //!
 //! [`replay`] answers a whole journal, [`Call::write_record`] writes one, [`read_number`] reads its numbers.

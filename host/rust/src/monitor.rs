@@ -167,7 +167,7 @@ mod tests {
     #[test]
     fn a_refused_call_changes_no_byte() {
         let mut monitor = Monitor::new();
-        monitor.admit(0, 9);
+        assert_eq!(monitor.admit(0, 9), Answer::Allowed(9));
         let before = monitor.clone();
         assert_eq!(monitor.admit(0, 9), Answer::Refused(Refusal::NumberTaken));
         assert_eq!(monitor.direct(14, [0; 4]), Answer::Refused(Refusal::UnknownCode));
@@ -177,8 +177,8 @@ mod tests {
     #[test]
     fn bytes_are_kept_and_taken_up_again() {
         let mut monitor = Monitor::new();
-        monitor.admit(0, 9);
-        monitor.pipe(0, 0, 0, 1);
+        assert_eq!(monitor.admit(0, 9), Answer::Allowed(9));
+        assert_eq!(monitor.pipe(0, 0, 0, 1), Answer::Allowed(9));
         let mut again = Monitor::from_bytes(*monitor.as_bytes());
         assert_eq!(again, monitor);
         assert_eq!(again.exit(0), Answer::Allowed(9));

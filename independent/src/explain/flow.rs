@@ -177,7 +177,7 @@ fn close_words(handles: &[(u32, u32, Handle)], tables: &Tables) -> String {
         .iter()
         .map(|&(s, p, handle)| {
             format!(
-                "place {p} of subject {s} ({} {})",
+                "place {p} of step {s} ({} {})",
                 direction_word(handle.direction),
                 name(Thing::Object(handle.object), tables)
             )
@@ -202,16 +202,16 @@ fn other_asker(call: Call, tables: &Tables, chain: &Chain) -> String {
                 _ => None,
             });
             match fit {
-                Some(other) => format!("let subject {other} open {file}: it may."),
+                Some(other) => format!("let step {other} open {file}: it may."),
                 None => format!("let a step of level {high_level} or above open {file}."),
             }
         }
         Call::OpenWrite { s, .. } => format!(
-            "let a step open {high_name} that, unlike subject {s}, takes in nothing from below level \
+            "let a step open {high_name} that, unlike step {s}, takes in nothing from below level \
              {high_level}."
         ),
         Call::Exec { s, .. } => format!(
-            "fork a step from subject {s}, let it close its ways to {high_name}, and let it run the file."
+            "let step {s} fork another one, which closes its ways to {high_name} and runs the file."
         ),
         _ => format!("let another step read it, one with no way to {high_name}."),
     }

@@ -5,11 +5,11 @@ use crate::tables::{Direction, Kind, Tables};
 
 pub fn name(thing: Thing, tables: &Tables) -> String {
     match thing {
-        Thing::Subject(s) => format!("subject {s}"),
+        Thing::Subject(s) => format!("step {s}"),
         Thing::Object(o) => match tables.object(o).map(|object| object.kind) {
             Some(Kind::File) => format!("file {o}"),
             Some(Kind::Pipe) => format!("pipe {o}"),
-            None => format!("object {o}"),
+            None => format!("file or pipe {o}"),
         },
     }
 }

@@ -1,7 +1,7 @@
 //! Refusals 2 to 10: the reason in plain words and a way out. Refusal 9 is in `flow`.
 
 use super::flow::flow_refusal;
-use super::names::{at_place, capital, direction_word};
+use super::names::{at_place, direction_word};
 use crate::calls::Call;
 use crate::refusals::meaning;
 use crate::tables::{Direction, Tables, LIMITS};
@@ -30,13 +30,13 @@ fn missing_subject(call: Call) -> (String, String) {
     let s = call.asker().unwrap_or(0);
     if s >= LIMITS.subjects {
         (
-            format!("Subjects have numbers 0 to 31, and {s} is none of them."),
+            format!("Steps have numbers 0 to 31, and {s} is none of them."),
             "use the number under which the step was admitted or forked.".to_string(),
         )
     } else {
         (
-            format!("Subject {s} was not admitted or forked, or it has exited."),
-            format!("admit or fork subject {s} first, or use the number of a running step."),
+            format!("Step {s} was not admitted or forked, or it has exited."),
+            format!("admit or fork step {s} first, or use the number of a running step."),
         )
     }
 }
@@ -45,21 +45,21 @@ fn unfit_number(call: Call, tables: &Tables) -> (String, String) {
     let (kind, number, limit, free) = match (call.new_subject(), call.new_object()) {
         (Some(s), _) => {
             let free = (0..LIMITS.subjects).find(|&s| tables.subject(s).is_none());
-            ("subject", s, LIMITS.subjects, free)
+            ("step", s, LIMITS.subjects, free)
         }
         (None, o) => {
             let free = (0..LIMITS.objects).find(|&o| tables.object(o).is_none());
-            ("object", o.unwrap_or(0), LIMITS.objects, free)
+            ("file or pipe", o.unwrap_or(0), LIMITS.objects, free)
         }
     };
     let why = if number >= limit {
-        format!("{} numbers are 0 to {}.", capital(kind), limit - 1)
+        format!("The number of a {kind} is 0 to {}.", limit - 1)
     } else {
-        format!("{} {number} is in use.", capital(kind))
+        format!("Number {number} is in use for a {kind}.")
     };
     let advice = match free {
         Some(free) => format!("use a free number, for example {free}."),
-        None if kind == "subject" => "all 32 are in use: let a step exit first.".to_string(),
+        None if kind == "step" => "all 32 are in use: let a step exit first.".to_string(),
         None => "all 64 are in use: retire a file or close a pipe's handles first.".to_string(),
     };
     (why, advice)
@@ -69,13 +69,13 @@ fn missing_object(call: Call) -> (String, String) {
     let o = call.named_object().unwrap_or(0);
     if o >= LIMITS.objects {
         (
-            format!("Objects have numbers 0 to 63, and {o} is none of them."),
+            format!("Files and pipes have numbers 0 to 63, and {o} is none of them."),
             "use the number under which the file or pipe was made.".to_string(),
         )
     } else {
         (
             format!("There is no file or pipe {o}, or it is gone."),
-            format!("register, create or make object {o} first, or use another number."),
+            format!("register, create or make it first, or use another number."),
         )
     }
 }
@@ -92,20 +92,20 @@ fn unfit_place(call: Call, tables: &Tables) -> (String, String) {
     let why = match (above, taken) {
         (Some(p), _) => format!("Places are 0 to 15, and {p} is none of them."),
         (None, Some(p)) if wants_empty => {
-            format!("Place {p} of subject {s} is taken by {}.", at_place(s, *p, tables))
+            format!("Place {p} of step {s} is taken by {}.", at_place(s, *p, tables))
         }
         _ if wants_empty => "The two ends of a pipe need two places.".to_string(),
-        _ => format!("That place of subject {s} is empty."),
+        _ => format!("That place of step {s} is empty."),
     };
     let places: Vec<String> = (0..LIMITS.places)
         .filter(|&p| tables.handle(s, p).is_none() == wants_empty)
         .map(|p| p.to_string())
         .collect();
     let advice = match (wants_empty, places.is_empty()) {
-        (true, false) => format!("use an empty place of subject {s}: {}.", places.join(", ")),
-        (true, true) => format!("all 16 places of subject {s} are taken: close one first."),
-        (false, false) => format!("use a place that subject {s} holds: {}.", places.join(", ")),
-        (false, true) => format!("subject {s} holds no handle: open something first."),
+        (true, false) => format!("use an empty place of step {s}: {}.", places.join(", ")),
+        (true, true) => format!("all 16 places of step {s} are taken: close one first."),
+        (false, false) => format!("use a place that step {s} holds: {}.", places.join(", ")),
+        (false, true) => format!("step {s} holds no handle: open something first."),
     };
     (why, advice)
 }
@@ -128,7 +128,7 @@ fn wrong_direction(call: Call, tables: &Tables) -> (String, String) {
     let advice = if fitting.is_empty() {
         format!("open it for {word} at another place.")
     } else {
-        format!("use a {word} handle of subject {s}, at place {}.", fitting.join(" or "))
+        format!("use a {word} handle of step {s}, at place {}.", fitting.join(" or "))
     };
     (format!("Place {p} holds {}.", at_place(s, p, tables)), advice)
 }
@@ -138,7 +138,7 @@ fn held_file(call: Call, tables: &Tables) -> (String, String) {
     let holders: Vec<String> = tables
         .handles()
         .filter(|(_, _, handle)| handle.object == o)
-        .map(|(s, p, _)| format!("subject {s} at place {p}"))
+        .map(|(s, p, _)| format!("step {s} at place {p}"))
         .collect();
     (
         format!("File {o} is held open by {}.", holders.join(", ")),
