@@ -56,7 +56,7 @@ pub enum Work {
 }
 
 /// Every piece of work, in the order of the table.
-pub const WORKS: [Work; 12] = [
+pub const WORKS: [Work; 16] = [
     Work::Calls(LAYOUTS[0]),
     Work::Calls(LAYOUTS[1]),
     Work::Calls(LAYOUTS[2]),
@@ -81,19 +81,19 @@ impl Work {
             Work::Calls(layout) => layout.name.to_string(),
             Work::Journal(layout) => format!("journal, {}", layout.name),
             Work::Generated => "journal, generated".to_string(),
-            Work::NumbersCalled => "numbers, plain reader called".to_string(),
-            Work::NumbersInlined => "numbers, plain reader inlined".to_string(),
+            Work::Numbers(most, form) => leb::name(most, form),
         }
     }
 
     /// Whether numbers are read, and no calls made.
     pub fn is_numbers(self) -> bool {
-        matches!(self, Work::NumbersCalled | Work::NumbersInlined)
+        matches!(self, Work::Numbers(..))
     }
 
-    /// Whether the loop around the calls takes a part of the instructions that matters, and can be told from them.
+    /// Whether the loop around the calls takes a part of the instructions that matters, and can be told from them: not where
+    /// the plain reader is inlined into it.
     pub fn is_without_loop(self) -> bool {
-        matches!(self, Work::NumbersCalled)
+        matches!(self, Work::Numbers(_, Form::Called | Form::Packed))
     }
 
     /// Makes what the work needs.
@@ -175,7 +175,7 @@ fn called(layout: Layout) -> Input {
 
     let mut proved = Monitor::new();
     for &(code, numbers) in &filling {
-        proved.direct(code, numbers);
+        proved.direct(code, numbers).granted().expect("the calls that fill the tables are allowed");
     }
     let plain = |when| {
         let mut monitor = PlainMonitor::new(when);
