@@ -11,7 +11,7 @@ use Prim.Native.Nat.{ℕ, suc}
 use Rattle.model.specs.Label.{Label, _⊑_}
 use Rattle.model.specs.Flow.{Thing, same}
 use Rattle.model.specs.Tables.{Tables, empty}
-use Rattle.model.specs.Steps.{Origin, outside, blank, copied, Access, Step, enter, leave, hold, holds, mix}
+use Rattle.model.specs.Steps.{Origin, outside, blank, copied, Access, Step, enter, leave, hold, holds, mix, freezes}
 use Rattle.model.specs.Calls.{Call, Raw, decode, steps, refusal, effect, next, Answer, answer}
 pub mod Laws
 
@@ -19,7 +19,7 @@ pub mod Laws
 abbrev pub Contents : Type 0
 Contents = Thing → ℕ
 
--- RULES B2, B3, B4, B5: the live things and the handles are in the tables; nothing is kept that can be worked out
+-- RULES B2, B3, B4, B5: the live things, the handles and the freeze are in the tables; nothing is kept that can be worked out
 pub record Book : Type 0 where
   pub tables : Tables
   pub content : Contents
@@ -54,6 +54,7 @@ carry h i o (leave x) c = c
 carry h i o (hold s p v) c = c
 carry h i o (holds s r) c = c
 carry h i o (mix m a b y x) c = store c y (h i m a b (c y) (c x))
+carry h i o (freezes n) c = c
 
 abbrev pub carries : Handling → ℕ → ℕ → List Step → Contents → Contents
 carries h i o [] c = c
@@ -93,6 +94,7 @@ brought-by (leave x ∷ ks) = brought-by ks
 brought-by (hold s p v ∷ ks) = brought-by ks
 brought-by (holds s r ∷ ks) = brought-by ks
 brought-by (mix m a b y x ∷ ks) = brought-by ks
+brought-by (freezes n ∷ ks) = brought-by ks
 
 -- RULES B21: a refused call brings nothing in
 abbrev pub brought : Tables → Call → Option Label

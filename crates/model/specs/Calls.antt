@@ -1,5 +1,5 @@
--- The thirteen calls: what each asks, what it tests, what it does, what it answers. States RULES C1 to C13 and C101 to C109, R1 to R10,
--- and of the sentences about all refusals RULES R101, R102, R105 and R108.
+-- The fourteen calls: what each asks, what it tests, what it does, what it answers. States RULES C1 to C13, C16 and C101 to C109, R1 to R10 and R15,
+-- and of the sentences about all refusals RULES R101, R102, R105, R108, R117 and R118.
 --
 -- In order: the calls by code; the effect of each row as a list of steps; the conditions of the refusals and which of them each call
 -- tests; the refusal; the tables after; the answer. A new call is a row in `rows`, `steps`, `tests`,
@@ -9,12 +9,12 @@ use mathlib.Core.Option.{Option, none, some}
 use mathlib.Core.List.{List, [], _∷_, _++_}
 use Prim.Native.Nat.{ℕ}
 use lib.ListN.{getD}
-use lib.Dec.{T, eqb, ltb}
+use lib.Dec.{T, eqb, ltb, leb}
 use Rattle.model.specs.Label.{leq, label, level, highest}
 use Rattle.model.specs.Lists.{In}
 use Rattle.model.specs.Flow.{Thing, subject, object}
-use Rattle.model.specs.Tables.{running, file, pipe, Dir, reading, writing, Entry, entry, Handle, handle, Tables, places, in-range, is-some, used, live, label-of, is-pipe, cell, handles, open-on, needs, safe}
-use Rattle.model.specs.Steps.{outside, blank, copied, reads, writes, runs, Step, enter, leave, hold, holds, mix, applies, reap}
+use Rattle.model.specs.Tables.{running, file, pipe, Dir, reading, writing, Entry, entry, Handle, handle, Tables, no-freeze, places, in-range, is-some, used, live, label-of, is-file, is-pipe, cell, handles, open-on, needs, safe}
+use Rattle.model.specs.Steps.{outside, blank, copied, reads, writes, runs, Step, enter, leave, hold, holds, mix, freezes, applies, reap}
 pub mod Refusals
 pub mod Passed
 pub mod Dangling
@@ -30,7 +30,7 @@ pub data Call : Type 0 where
   opens : Dir → ℕ → ℕ → ℕ → Call
   access : Dir → ℕ → ℕ → Call
   fork exec close : ℕ → ℕ → Call
-  exit retire : ℕ → Call
+  exit retire freeze : ℕ → Call
   unknown : Call
 
 -- RULES C106, C107: a direct call, its code and its numbers; the call uses the first ones
@@ -49,7 +49,7 @@ pub record Row : Type 0 where
 abbrev pub coded : ℕ → Call → Row
 coded n c = record { code = n; call = c }
 
--- RULES C1 to C13: the code, the call and its numbers
+-- RULES C1 to C13, C16: the code, the call and its numbers
 abbrev pub rows : Raw → List Row
 rows r = let a : ℕ = arg 0 r in let b : ℕ = arg 1 r in let c : ℕ = arg 2 r in let d : ℕ = arg 3 r in
     coded 1 (admit a b)
@@ -65,13 +65,14 @@ rows r = let a : ℕ = arg 0 r in let b : ℕ = arg 1 r in let c : ℕ = arg 2 r
     ∷ coded 11 (close a b)
     ∷ coded 12 (exit a)
     ∷ coded 13 (retire a)
+    ∷ coded 16 (freeze a)
     ∷ []
 
 abbrev pub lookup : ℕ → List Row → Call
 lookup n [] = unknown
 lookup n (k ∷ ks) = elim (eqb (k .code) n) [ true ↦ k .call | false ↦ lookup n ks ]
 
--- RULES C1 to C13, R1: the call that a code asks for, `unknown` where no row has the code
+-- RULES C1 to C13, C16, R1: the call that a code asks for, `unknown` where no row has the code
 unfoldable pub decode : Raw → Call
 decode r = lookup (r .code) (rows r)
 
@@ -89,7 +90,7 @@ moves writing s c o = mix writes o s o c
 unfoldable pub sheds : Tables → ℕ → List Step
 sheds t s = []
 
--- RULES C1 to C13: the effect, row by row
+-- RULES C1 to C13, C16: the effect, row by row
 abbrev pub steps : Tables → Call → List Step
 steps t (admit s n) = enter (subject s) (entry running (label n)) outside ∷ []
 steps t (register o n) = enter (object o) (entry file (label n)) outside ∷ []
@@ -102,6 +103,7 @@ steps t (exec s o) = sheds t s ++ (mix runs (subject s) (object o) (cell t s) (o
 steps t (close s p) = hold s p none ∷ []
 steps t (exit s) = holds s (λ p. none) ∷ leave (subject s) ∷ []
 steps t (retire o) = leave (object o) ∷ []
+steps t (freeze n) = freezes n ∷ []
 steps t unknown = []
 
 -- RULES C102, C109: the steps of the row, the end of the pipes that they leave without a handle, and nothing else
@@ -111,15 +113,16 @@ effect t c = reap (handles t) (applies (steps t c) t)
 -- ── refusals ──
 pub data Test : Type 0 where
   known : Test
-  alive present no-pipe leveled : ℕ → Test
+  alive present no-pipe leveled freezable : ℕ → Test
   new : Thing → Test
   vacant taken apart : ℕ → ℕ → Test
   facing : Dir → ℕ → ℕ → Test
   enough : Call → Test
   suits : ℕ → ℕ → Test
   idle : ℕ → Test
+  thawed : Dir → ℕ → Test
 
--- RULES R1 to R10: the number of the refusal that the test is of
+-- RULES R1 to R10, R15: the number of the refusal that the test is of
 abbrev pub number : Test → ℕ
 number known = 1
 number (alive s) = 2
@@ -127,6 +130,7 @@ number (new x) = 3
 number (present o) = 4
 number (no-pipe o) = 5
 number (leveled n) = 6
+number (freezable n) = 6
 number (vacant s p) = 7
 number (taken s p) = 7
 number (apart r w) = 7
@@ -134,6 +138,7 @@ number (facing d s p) = 8
 number (enough c) = 9
 number (suits s o) = 9
 number (idle o) = 10
+number (thawed d o) = 15
 
 abbrev pub faces : Dir → Dir → Bool
 faces reading reading = true
@@ -146,7 +151,17 @@ abbrev pub turned : Dir → Option Handle → Bool
 turned d none = false
 turned d (some k) = not (faces d (k .dir))
 
--- RULES R1 to R10: the test fails, as the row says
+-- RULES R15, T32, T33: a file whose level is at or above the freeze; a freeze that is not below 16 freezes none
+abbrev pub frozen : ℕ → Thing → Option Entry → Bool
+frozen f x none = false
+frozen f x (some e) = ltb f no-freeze && (is-file x (e .kind) && leb f (level (e .label)))
+
+-- RULES R118: it is asked of opens for writing alone
+abbrev pub shut : ℕ → Dir → Thing → Option Entry → Bool
+shut f reading x v = false
+shut f writing x v = frozen f x v
+
+-- RULES R1 to R10, R15: the test fails, as the row says
 abbrev pub broken : Tables → Test → Bool
 -- (asked of unknown codes alone)
 broken t known = true
@@ -155,6 +170,7 @@ broken t (new x) = not (in-range x) || used t x
 broken t (present o) = not (live t (object o))
 broken t (no-pipe o) = is-pipe (object o) (t .at (object o))
 broken t (leveled n) = ltb highest n
+broken t (freezable n) = ltb no-freeze n
 broken t (vacant s p) = not (ltb p places) || is-some (t .hand s p)
 broken t (taken s p) = not (ltb p places) || not (is-some (t .hand s p))
 broken t (apart r w) = eqb r w
@@ -162,25 +178,27 @@ broken t (facing d s p) = turned d (t .hand s p)
 broken t (enough c) = not (safe (applies (steps t c) t))
 broken t (suits s o) = not (leq (needs (applies (sheds t s) t) (cell t s)) (label-of (t .at (object o))))
 broken t (idle o) = open-on (handles t) o
+broken t (thawed d o) = shut (t .freeze) d (object o) (t .at (object o))
 
--- RULES R1 to R10, C101, C103: which conditions speak of which call
+-- RULES R1 to R10, R15, C101, C103: which conditions speak of which call
 abbrev pub tests : Call → List Test
 tests (admit s n) = new (subject s) ∷ leveled n ∷ []
 tests (register o n) = new (object o) ∷ leveled n ∷ []
 tests (create s o) = alive s ∷ new (object o) ∷ []
 tests (make-pipe s o r w) = alive s ∷ new (object o) ∷ vacant s r ∷ vacant s w ∷ apart r w ∷ []
-tests (opens d s o p) = alive s ∷ present o ∷ vacant s p ∷ enough (opens d s o p) ∷ []
+tests (opens d s o p) = alive s ∷ present o ∷ vacant s p ∷ enough (opens d s o p) ∷ thawed d o ∷ []
 tests (access d s p) = alive s ∷ taken s p ∷ facing d s p ∷ []
 tests (fork s c) = alive s ∷ new (subject c) ∷ []
 tests (exec s o) = alive s ∷ present o ∷ no-pipe o ∷ suits s o ∷ []
 tests (close s p) = alive s ∷ taken s p ∷ []
 tests (exit s) = alive s ∷ []
 tests (retire o) = present o ∷ no-pipe o ∷ idle o ∷ []
+tests (freeze n) = freezable n ∷ []
 tests unknown = known ∷ []
 
--- RULES R105: the smallest number first
+-- RULES R105, R117: the smallest number first
 abbrev pub order : List ℕ
-order = 1 ∷ 2 ∷ 3 ∷ 4 ∷ 5 ∷ 6 ∷ 7 ∷ 8 ∷ 9 ∷ 10 ∷ []
+order = 1 ∷ 2 ∷ 3 ∷ 4 ∷ 5 ∷ 6 ∷ 7 ∷ 8 ∷ 9 ∷ 10 ∷ 15 ∷ []
 
 -- some test of this number fails
 abbrev pub breaks : Tables → ℕ → List Test → Bool
@@ -208,21 +226,27 @@ abbrev pub next : Tables → Call → Tables
 next t c = elim (refusal t c) [ none ↦ effect t c | some n ↦ t ]
 
 -- ── answers ──
--- RULES C1 to C13: the thing whose level the answer gives
-abbrev pub shown : Tables → Call → Thing
-shown t (admit s n) = subject s
-shown t (register o n) = object o
-shown t (create s o) = object o
-shown t (make-pipe s o r w) = object o
-shown t (opens d s o p) = object o
-shown t (access reading s p) = cell t s
-shown t (access writing s p) = target (t .hand s p)
-shown t (fork s c) = subject c
-shown t (exec s o) = cell t s
-shown t (close s p) = cell t s
-shown t (exit s) = cell t s
-shown t (retire o) = object o
-shown t unknown = object 0
+-- what an answer gives: the level of a thing, or a number of the call
+pub data Shown : Type 0 where
+  level-at : Thing → Shown
+  given : ℕ → Shown
+
+-- RULES C1 to C13, C16: of which thing the answer gives the level, or which number it gives
+abbrev pub shown : Tables → Call → Shown
+shown t (admit s n) = level-at (subject s)
+shown t (register o n) = level-at (object o)
+shown t (create s o) = level-at (object o)
+shown t (make-pipe s o r w) = level-at (object o)
+shown t (opens d s o p) = level-at (object o)
+shown t (access reading s p) = level-at (cell t s)
+shown t (access writing s p) = level-at (target (t .hand s p))
+shown t (fork s c) = level-at (subject c)
+shown t (exec s o) = level-at (cell t s)
+shown t (close s p) = level-at (cell t s)
+shown t (exit s) = level-at (cell t s)
+shown t (retire o) = level-at (object o)
+shown t (freeze n) = given n
+shown t unknown = given 0
 
 -- the outcome with the level in the answer, or the number of the refusal (whose level is 0)
 pub data Answer : Type 0 where
@@ -235,9 +259,14 @@ outcome b none = allowed (level (label-of b))
 outcome none (some a) = allowed (level (a .label))
 outcome (some b) (some a) = elim (leq (b .label) (a .label)) [ true ↦ allowed (level (a .label)) | false ↦ lowered (level (a .label)) ]
 
+-- what is said of tables t that became u
+abbrev pub said : Tables → Tables → Shown → Answer
+said t u (level-at x) = outcome (t .at x) (u .at x)
+said t u (given n) = allowed n
+
 -- RULES R101, C104, C105: the refusal's number, or the outcome
 unfoldable pub answer : Tables → Call → Answer
-answer t c = elim (refusal t c) [ none ↦ (let x = shown t c in outcome (t .at x) (effect t c .at x)) | some n ↦ refused n ]
+answer t c = elim (refusal t c) [ none ↦ said t (effect t c) (shown t c) | some n ↦ refused n ]
 
 -- ── lists of calls ──
 abbrev pub after : Tables → List Raw → Tables

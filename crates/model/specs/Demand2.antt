@@ -1,14 +1,14 @@
--- Demand 2, the flow rule both ways: what RULES R9, R109 and R110 say, in terms of chains of flows (RULES F4). `Demand2.Laws` proves that
--- the refusals of the definitions are exactly these. Assumes nothing.
+-- Demand 2, the flow rule both ways: what RULES R9, R109 and R110 say, in terms of chains of flows (RULES F4); and what a file that is frozen is (RULES R15).
+-- `Demand2.Laws` proves that the refusals of the definitions are exactly these. Assumes nothing.
 use mathlib.Core.Path.{_≡_}
 use mathlib.Core.Bool.{not}
 use mathlib.Core.Option.{some}
-use Prim.Native.Nat.{ℕ}
+use Prim.Native.Nat.{ℕ, _≤_, _<_}
 use lib.Dec.{T}
 use Rattle.model.specs.Lists.{In}
-use Rattle.model.specs.Label.{Label, leq}
-use Rattle.model.specs.Flow.{Thing, Reaches}
-use Rattle.model.specs.Tables.{Dir, Entry, handle, Tables, label-of, is-file, things, edges}
+use Rattle.model.specs.Label.{Label, leq, level}
+use Rattle.model.specs.Flow.{Thing, object, Reaches}
+use Rattle.model.specs.Tables.{Dir, Entry, handle, Tables, no-freeze, label-of, is-file, things, edges}
 use Rattle.model.specs.Steps.{hold, apply}
 pub mod Laws
 
@@ -31,3 +31,11 @@ pub record Offends (u : Tables) : Type 0 where
 -- the tables after an open
 abbrev pub opened : Tables → Dir → ℕ → ℕ → ℕ → Tables
 opened t d s o p = apply (hold s p (some (handle d o))) t
+
+-- RULES R15, T32: o is a live file whose level is at or above the freeze, which is set
+pub record Closed (t : Tables) (o : ℕ) : Type 0 where
+  pub entry : Entry
+  pub there : t .at (object o) ≡ some entry
+  pub is-a-file : T (is-file (object o) (entry .kind))
+  pub set : t .freeze < no-freeze
+  pub at-or-above : t .freeze ≤ level (entry .label)

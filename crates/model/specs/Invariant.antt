@@ -1,13 +1,15 @@
--- What all tables have to which a list of calls leads from empty ones, and what every answer has. States RULES F8, T25, T26 and T27.
+-- What all tables have to which a list of calls leads from empty ones, and what every answer has. States RULES F8, T25, T26, T27 and T34.
 -- Proved of every list of calls in `Calls.Kept` and `Calls.Sayable`. Assumes nothing.
 use mathlib.Core.Path.{_≡_}
 use mathlib.Core.Option.{some}
+use mathlib.Core.List.{List, [], _∷_}
 use Prim.Native.Nat.{ℕ, _<_, _≤_}
 use lib.Dec.{T}
 use Rattle.model.specs.Label.{highest, in-scale, _⊑_}
 use Rattle.model.specs.Lists.{In}
 use Rattle.model.specs.Flow.{Thing, subject, object}
-use Rattle.model.specs.Tables.{Entry, Handle, Tables, places, in-range, live, is-pipe, handles, open-on, needs}
+use Rattle.model.specs.Tables.{Entry, Handle, Tables, no-freeze, places, in-range, live, is-pipe, handles, open-on, needs}
+use Rattle.model.specs.Calls.{Call, admit, register, create, make-pipe, opens, access, fork, exec, close, exit, retire, freeze, unknown, Raw, decode}
 use Rattle.model.specs.Calls.{Answer, allowed, lowered, refused, order}
 pub mod Laws
 
@@ -34,14 +36,41 @@ pub record Piped (t : Tables) : Type 0 where
 pub record Scaled (t : Tables) : Type 0 where
   pub within : (x : Thing) (e : Entry) → t .at x ≡ some e → T (in-scale (e .label))
 
+-- RULES T34: the freeze is a level or says that there is none
+pub record Frozen (t : Tables) : Type 0 where
+  pub bounded : t .freeze ≤ no-freeze
+
 pub record Kept (t : Tables) : Type 0 where
   pub wf : Wf t
   pub safe : Safe t
   pub piped : Piped t
   pub scaled : Scaled t
+  pub frozen : Frozen t
 
--- RULES T27, R112: an answer gives a level of 0 to 15, or the number of a refusal that calls have
-abbrev pub Sayable : Answer → Type 0
-Sayable (allowed l) = l ≤ highest
-Sayable (lowered l) = l ≤ highest
-Sayable (refused n) = In n order
+-- RULES T27: the highest number that a call's answer gives where it is not refused
+abbrev pub topmost : Call → ℕ
+topmost (admit s n) = highest
+topmost (register o n) = highest
+topmost (create s o) = highest
+topmost (make-pipe s o r w) = highest
+topmost (opens d s o p) = highest
+topmost (access d s p) = highest
+topmost (fork s c) = highest
+topmost (exec s o) = highest
+topmost (close s p) = highest
+topmost (exit s) = highest
+topmost (retire o) = highest
+topmost (freeze n) = no-freeze
+topmost unknown = highest
+
+-- RULES T27, R112: the answer to a call gives a level of 0 to 15, to a freeze 0 to 16, or the number of a refusal that calls have
+abbrev pub Sayable : Call → Answer → Type 0
+Sayable c (allowed l) = l ≤ topmost c
+Sayable c (lowered l) = l ≤ highest
+Sayable c (refused n) = In n order
+
+-- and so in a list of calls with their answers
+abbrev pub All-sayable : List Raw → List Answer → Type 0
+All-sayable [] l = Unit {0}
+All-sayable (r ∷ rs) [] = Unit {0}
+All-sayable (r ∷ rs) (a ∷ l) = Sayable (decode r) a × All-sayable rs l

@@ -1,4 +1,4 @@
--- Every row of RULES C1 to C13 and of R1 to R10, tried once: one list of calls from empty tables with the answer to each, and
+-- Every row of RULES C1 to C13 and C16, and of R1 to R10 and R15, tried once: one list of calls from empty tables with the answer to each, and
 -- the contents and the tally after a few short lists. Not cases of the rules' own: they pin the definitions down where no law does, so that
 -- a slip in a row does not go unseen. Assumes nothing.
 use mathlib.Core.Path.{_≡_, refl}
@@ -37,6 +37,13 @@ lines =
     ∷ line 9 (2 ∷ 2 ∷ []) (R 3) ∷ line 9 (2 ∷ 32 ∷ []) (R 3) ∷ line 9 (1 ∷ 3 ∷ []) (A 2)
     ∷ line 13 (7 ∷ []) (R 5) ∷ line 12 (1 ∷ []) (A 2) ∷ line 12 (1 ∷ []) (R 2) ∷ line 8 (3 ∷ 15 ∷ []) (A 2) ∷ line 12 (3 ∷ []) (A 2) ∷ line 5 (2 ∷ 7 ∷ 0 ∷ []) (R 4) ∷ line 13 (6 ∷ []) (A 7) ∷ line 13 (6 ∷ []) (R 4)
     ∷ line 3 (31 ∷ 62 ∷ []) (A 15) ∷ line 13 (62 ∷ []) (A 15) ∷ line 9 (31 ∷ 30 ∷ []) (A 15) ∷ line 12 (31 ∷ []) (A 15)
+    ∷ line 15 (0 ∷ []) (R 1) ∷ line 17 [] (R 1) ∷ line 16 (17 ∷ []) (R 6) ∷ line 16 (16 ∷ []) (A 16) ∷ line 16 [] (A 0)
+    ∷ line 3 (30 ∷ 20 ∷ []) (A 15) ∷ line 1 (5 ∷ 8 ∷ []) (A 8) ∷ line 3 (5 ∷ 21 ∷ []) (A 8) ∷ line 2 (22 ∷ 7 ∷ []) (A 7) ∷ line 4 (30 ∷ 23 ∷ 0 ∷ 1 ∷ []) (A 15)
+    ∷ line 6 (5 ∷ 21 ∷ 0 ∷ []) (R 15) ∷ line 16 (9 ∷ []) (A 9) ∷ line 6 (5 ∷ 21 ∷ 0 ∷ []) (A 8) ∷ line 16 (8 ∷ []) (A 8) ∷ line 8 (5 ∷ 0 ∷ []) (A 8)
+    ∷ line 6 (5 ∷ 21 ∷ 1 ∷ []) (R 15) ∷ line 6 (5 ∷ 20 ∷ 1 ∷ []) (R 9) ∷ line 6 (30 ∷ 20 ∷ 2 ∷ []) (R 15) ∷ line 6 (5 ∷ 22 ∷ 1 ∷ []) (A 7)
+    ∷ line 6 (30 ∷ 23 ∷ 2 ∷ []) (A 15) ∷ line 5 (5 ∷ 20 ∷ 2 ∷ []) (A 15) ∷ line 16 (17 ∷ []) (R 6) ∷ line 9 (30 ∷ 6 ∷ []) (A 15) ∷ line 3 (30 ∷ 24 ∷ []) (A 15)
+    ∷ line 10 (6 ∷ 20 ∷ []) (A 15) ∷ line 11 (6 ∷ 0 ∷ []) (A 15) ∷ line 12 (6 ∷ []) (A 15) ∷ line 13 (24 ∷ []) (A 15)
+    ∷ line 6 (5 ∷ 21 ∷ 3 ∷ []) (R 15) ∷ line 16 (16 ∷ []) (A 16) ∷ line 6 (5 ∷ 21 ∷ 3 ∷ []) (A 8)
     ∷ []
 
 abbrev pub answered-so : Tables → List Line → Bool

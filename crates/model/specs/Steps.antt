@@ -7,7 +7,7 @@ use Prim.Native.Nat.{ℕ}
 use lib.Dec.{eqb}
 use Rattle.model.specs.Label.{Label, meet}
 use Rattle.model.specs.Flow.{Thing, subject, object, same}
-use Rattle.model.specs.Tables.{Kind, running, file, pipe, Entry, entry, Handle, Tables, with-at, with-hand, is-pipe, handles, open-on}
+use Rattle.model.specs.Tables.{Kind, running, file, pipe, Entry, entry, Handle, Tables, with-at, with-hand, with-freeze, is-pipe, handles, open-on}
 pub mod Laws
 
 -- RULES B11, B12, B16: where a new thing's content comes from
@@ -30,6 +30,8 @@ pub data Step : Type 0 where
   holds : ℕ → (ℕ → Option Handle) → Step
   -- data moves: how, the receiver's and the source's name, and where the receiver's and the source's label and content stand
   mix : Access → Thing → Thing → Thing → Thing → Step
+  -- the freeze is this number
+  freezes : ℕ → Step
 
 -- ── one part of the tables changed ──
 abbrev pub put : (Thing → Option Entry) → Thing → Option Entry → Thing → Option Entry
@@ -65,6 +67,7 @@ apply (leave x) t = with-at t (put (t .at) x none)
 apply (hold s p v) t = with-hand t (place (t .hand) s p v)
 apply (holds s r) t = with-hand t (row (t .hand) s r)
 apply (mix m a b y x) t = with-at t (put (t .at) y (fall y (t .at y) (t .at x)))
+apply (freezes n) t = with-freeze t n
 
 abbrev pub applies : List Step → Tables → Tables
 applies [] t = t

@@ -1,7 +1,7 @@
--- The tables, and what the rules read off them. States RULES T1 to T3, T6 to T12, T17, T18, T20 and T24, and RULES F1 to F3
+-- The tables, and what the rules read off them. States RULES T1 to T3, T6 to T12, T17, T18, T20, T24 and T32, and RULES F1 to F3
 -- and F5 to F8.
 --
--- What is kept (live things with kind and label, handles by place); what is in use and live; the lists of live things, of
+-- What is kept (live things with kind and label, handles by place, the freeze); what is in use and live; the lists of live things, of
 -- handles and of flows; the need of a thing and the test that every live thing has enough; and `clean`, which reads tables that
 -- no calls made. Tables are functions, so that equality of tables is an equation. Assumes nothing.
 use mathlib.Core.Bool.{Bool, true, false, not, _&&_, cond}
@@ -33,14 +33,19 @@ pub record Handle : Type 0 where
   pub dir : Dir
   pub to : ℕ
 
--- RULES T6, T11: the entries under the numbers in use; at each place one handle or none
+-- RULES T6, T11, T32: the entries under the numbers in use; at each place one handle or none; the freeze
 pub record Tables : Type 0 where
   pub at : Thing → Option Entry
   pub hand : ℕ → ℕ → Option Handle
+  pub freeze : ℕ
+
+-- RULES T32: the freeze where no file is frozen
+abbrev pub no-freeze : ℕ
+no-freeze = 16
 
 -- RULES T12
 abbrev pub empty : Tables
-empty = record { at = λ x. none; hand = λ s p. none }
+empty = record { at = λ x. none; hand = λ s p. none; freeze = no-freeze }
 
 -- an entry, a handle, and tables with one part changed are built here alone
 abbrev pub entry : Kind → Label → Entry
@@ -50,10 +55,13 @@ abbrev pub handle : Dir → ℕ → Handle
 handle d o = record { dir = d; to = o }
 
 abbrev pub with-at : Tables → (Thing → Option Entry) → Tables
-with-at t a = record { at = a; hand = t .hand }
+with-at t a = record { at = a; hand = t .hand; freeze = t .freeze }
 
 abbrev pub with-hand : Tables → (ℕ → ℕ → Option Handle) → Tables
-with-hand t h = record { at = t .at; hand = h }
+with-hand t h = record { at = t .at; hand = h; freeze = t .freeze }
+
+abbrev pub with-freeze : Tables → ℕ → Tables
+with-freeze t f = record { at = t .at; hand = t .hand; freeze = f }
 
 -- ── ranges, in use, live ──
 -- RULES T1, T2, T3: how many there are of each; their numbers are those below

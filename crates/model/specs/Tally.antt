@@ -4,7 +4,7 @@ use mathlib.Core.List.{List, [], _∷_}
 use Prim.Native.Nat.{ℕ, _+_, _-_, _%_, _^_}
 use lib.ListN.{length}
 use Rattle.model.specs.Tables.{Tables, handles-of}
-use Rattle.model.specs.Calls.{Call, admit, register, create, make-pipe, opens, access, fork, exec, close, exit, retire, unknown, Raw, decode, refusal, next}
+use Rattle.model.specs.Calls.{Call, admit, register, create, make-pipe, opens, access, fork, exec, close, exit, retire, freeze, unknown, Raw, decode, refusal, next}
 pub mod Laws
 
 -- RULES Y4, Y6, Y11: how many handles s holds
@@ -24,6 +24,7 @@ makes t (exec s o) = 0
 makes t (close s p) = 0
 makes t (exit s) = 0
 makes t (retire o) = 0
+makes t (freeze n) = 0
 makes t unknown = 0
 
 -- RULES Y5, Y6, Y7: what a call adds to gone
@@ -39,6 +40,7 @@ removes t (exec s o) = 0
 removes t (close s p) = 1
 removes t (exit s) = held t s
 removes t (retire o) = 0
+removes t (freeze n) = 0
 removes t unknown = 0
 
 -- RULES Y9: a count has 64 bits

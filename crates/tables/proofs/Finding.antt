@@ -1,13 +1,14 @@
--- The first condition that holds, worked out from the conditions of RULES R2 to R8, is the refusal of the rules. Assumes nothing.
+-- The first condition that holds, worked out from the conditions of RULES R2 to R8, and the first of the late ones, is the refusal of the rules.
+-- Assumes nothing.
 use mathlib.Core.Path.{_≡_, refl, sym, _∙_, ap, ap₂}
 use mathlib.Core.Bool.{Bool, true, false, _||_, cond}
-use mathlib.Core.Option.{Option, some}
+use mathlib.Core.Option.{Option, none, some}
 use mathlib.Core.List.{List}
 use Prim.Native.Nat.{ℕ}
 use lib.Dec.{eqb}
 use Rattle.model.specs.Tables.{Tables}
 use Rattle.model.specs.Calls.{Call, Test, tests, order, breaks, first, refusal}
-use Rattle.tables.specs.Refusing.{found, late, Refuses}
+use Rattle.tables.specs.Refusing.{found, late, Refuses, Late, Refused}
 
 -- the test of a number that has one test alone
 pub alone : {a b : Bool} → a ≡ b → (a || false) ≡ b
@@ -60,3 +61,22 @@ finds {t} {c} {n} {b2} {b3} {b4} {b5} {b6} {b7} {b8} z e = record { said = each 
     go false false false false false true b8 = refl
     go false false false false false false true = refl
     go false false false false false false false = refl
+
+-- ── the late rows ──
+abbrev pub found-late : Bool → Bool → Bool → ℕ
+found-late short busy frozen = cond short 9 (cond busy 10 (cond frozen 15 0))
+
+pub ends : {n : ℕ} {b9 b10 b15 : Bool} → n ≡ found-late b9 b10 b15 → (t : Tables) (c : Call) → Refuses t c 0 → Late t c b9 b10 b15 → Refused t c n
+ends {n} {b9} {b10} {b15} e t c z l = record { is = z .said ∙ each ∙ go b9 b10 b15 ∙ ap by (sym e) }
+  where
+    by : ℕ → Option ℕ
+    by k = cond (eqb k 0) none (some k)
+
+    each : first t (tests c) late ≡ then b9 9 (then b10 10 (then b15 15 none))
+    each = λ i. then (l .nine i) 9 (then (l .ten i) 10 (then (l .fifteen i) 15 none))
+
+    go : (b9 b10 b15 : Bool) → then b9 9 (then b10 10 (then b15 15 none)) ≡ cond (eqb (found-late b9 b10 b15) 0) none (some (found-late b9 b10 b15))
+    go true b10 b15 = refl
+    go false true b15 = refl
+    go false false true = refl
+    go false false false = refl

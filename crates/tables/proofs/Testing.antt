@@ -1,25 +1,27 @@
 -- What the records that a call looks at tell of its tests. Nothing dangles in t, and each record is the one at the number that the call names. Assumes
 -- nothing.
-use mathlib.Core.Path.{_≡_, refl, _∙_, ap}
+use mathlib.Core.Path.{_≡_, refl, sym, _∙_, ap, ap₂}
 use mathlib.Core.Bool.{Bool, true, false, not, _&&_, _||_, cond}
-use mathlib.Core.Option.{none, some}
+use mathlib.Core.Option.{Option, none, some}
 use Prim.Native.Nat.{ℕ}
 use native.Mathlib.Omega.{arith}
 use native.Mathlib.Decide.{ℕ-discrete}
 use borrow.Author.Tests.{lt-ltb, le-leb, ne-eqb}
 use lib.Dec.{ltb, leb, eqb}
 use Rattle.model.specs.Bools.{is-true}
+use Rattle.model.specs.Label.Laws.{level-label}
 use Rattle.model.specs.Flow.{Thing, subject, object}
 use Rattle.model.specs.Tables.{Dir, reading, writing, Entry, Tables, in-range, live, is-pipe}
 use Rattle.model.specs.Tables.{Handle as Held}
 use Rattle.model.specs.Tables.Laws.{used-is}
 use Rattle.model.specs.Invariant.{Wf}
-use Rattle.model.specs.Calls.{alive, new, present, no-pipe, leveled, vacant, taken, facing, turned, broken}
+use Rattle.model.specs.Calls.{alive, new, present, no-pipe, leveled, freezable, vacant, taken, facing, thawed, turned, frozen, broken}
 use Rattle.tables.specs.declared.Subject.{Subject}
 use Rattle.tables.specs.declared.Object.{Object}
 use Rattle.tables.specs.declared.Handle.{Handle}
 use Rattle.tables.specs.Records.{subject-entry, object-entry, held}
-use Rattle.tables.specs.Working.{used-subject, used-object, used-place}
+use Rattle.tables.specs.Refusing.{direction}
+use Rattle.tables.specs.Working.{used-subject, used-object, used-place, frozen-by}
 
 and-false : (a : Bool) → (a && false) ≡ false
 and-false true = refl
@@ -99,3 +101,17 @@ module _ (t : Tables) (s p : ℕ) (h : Handle) (q : t .hand s p ≡ held h) wher
 -- ── levels ──
 pub high-is : (t : Tables) (n : ℕ) → broken t (leveled n) ≡ ltb 15 n
 high-is t n = refl
+
+pub beyond-is : (t : Tables) (n : ℕ) → broken t (freezable n) ≡ ltb 16 n
+beyond-is t n = refl
+
+-- ── the freeze ──
+pub frozen-is : (t : Tables) (o f : ℕ) (reads : Bool) (y : Object) → t .freeze ≡ f → t .at (object o) ≡ object-entry y
+    → broken t (thawed (direction reads) o) ≡ frozen-by f reads y
+frozen-is t o f true y e q = refl
+frozen-is t o f false y e q = ap₂ (λ (n : ℕ) (v : Option Entry). frozen n (object o) v) e q ∙ go (ℕ-discrete (y .kind) 0) (ℕ-discrete (y .kind) 1)
+  where
+    go : Dec (y .kind ≡ 0) → Dec (y .kind ≡ 1) → frozen f (object o) (object-entry y) ≡ frozen-by f false y
+    go (yes k) d = rw k (sym (and-false (ltb f 16)))
+    go (no n) (yes k) = rw (k, level-label (y .level))
+    go (no n) (no m) = rw (ne-eqb (y .kind) 0 n, ne-eqb (y .kind) 1 m)

@@ -8,7 +8,7 @@ use lib.ListN.{getD}
 use lib.Dec.{ltb, eqb}
 use Rattle.model.specs.Label.{label}
 use Rattle.model.specs.Flow.{Thing, subject, object}
-use Rattle.model.specs.Tables.{running, file, pipe, reading, writing, Entry, entry, handle, Tables, places}
+use Rattle.model.specs.Tables.{running, file, pipe, reading, writing, Entry, entry, handle, Tables, with-at, with-hand, places}
 use Rattle.model.specs.Tables.{Handle as Held}
 use Rattle.tables.specs.declared.Subject.{Subject}
 use Rattle.tables.specs.declared.Object.{Object}
@@ -47,9 +47,9 @@ entries ss os (object n) = object-entry (getD os n no-object)
 abbrev pub hands : List Handle → ℕ → ℕ → Option Held
 hands hs s p = cond (ltb p places) (held (getD hs (s * 16 + p) no-handle)) none
 
--- RULES T13: the three arrays as tables
-unfoldable pub tables-of : List Subject → List Object → List Handle → Tables
-tables-of ss os hs = record { at = entries ss os; hand = hands hs }
+-- RULES T13: the three arrays as tables, which have of `rest` what the arrays do not say
+unfoldable pub tables-of : Tables → List Subject → List Object → List Handle → Tables
+tables-of rest ss os hs = with-hand (with-at rest (entries ss os)) (hands hs)
 
 -- the places of one subject alone
 abbrev pub along : List Handle → ℕ → Option Held

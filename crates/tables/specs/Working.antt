@@ -1,10 +1,10 @@
 -- What the inner functions of this crate work out, on its records. No caller of a public function needs these, but for the records at a number
 -- (`subject-at` and the like), which `looks` cites. Assumes nothing.
 use mathlib.Core.Path.{_≡_}
-use mathlib.Core.Bool.{Bool, true, false, not, _||_, cond}
+use mathlib.Core.Bool.{Bool, true, false, not, _&&_, _||_, cond}
 use mathlib.Core.List.{List}
 use Prim.Native.Nat.{ℕ, zero, suc}
-use lib.Dec.{ltb, eqb}
+use lib.Dec.{ltb, leb, eqb}
 use Rattle.model.specs.Tables.{empty, with-hand, handles, open-on}
 use Rattle.tables.specs.declared.Subject.{Subject}
 use Rattle.tables.specs.declared.Object.{Object}
@@ -41,6 +41,9 @@ used-object o y = cond (ltb o 64) (not (eqb (y .kind) 0)) true
 
 abbrev pub used-place : ℕ → Handle → Bool
 used-place p h = cond (ltb p 16) (not (eqb (h .way) 0)) true
+
+abbrev pub frozen-by : ℕ → Bool → Object → Bool
+frozen-by f reads y = cond reads false (ltb f 16 && (eqb (y .kind) 1 && leb f (y .level)))
 
 -- ── the end of a pipe ──
 -- r is the record of object o, which was y, by whether a handle is open on it: only a pipe ends

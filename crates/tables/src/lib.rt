@@ -18,6 +18,8 @@ pub const HANDLES: usize = SUBJECTS * PLACES;
 pub const THINGS: usize = SUBJECTS + OBJECTS;
 
 pub const HIGHEST: u32 = 15;
+// The freeze where no file is frozen; any byte above it says so, too.
+pub const NO_FREEZE: u8 = 16;
 // OBJECTS, for a call's number of an object.
 pub const OBJECT_NUMBERS: u32 = 64;
 

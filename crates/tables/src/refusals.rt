@@ -1,21 +1,23 @@
-// The conditions of RULES R2 to R10 over the few records that a call looks at: for each call the number of its refusal, 0 where
-// none of R2 to R8 holds. R9 and R10 ask whole tables, and the caller asks them next.
+// The conditions of RULES R2 to R8 over the few records that a call looks at: for each call the number of its refusal, 0 where
+// none of them holds. R9 and R10 ask whole tables: the caller asks them next, and `last` has their order and that of R15.
 //
 // The records are those at the numbers that the call names, empty ones where a number is out of range (`looks`).
 ghost use mathlib.Core.Path.{_≡_};
-ghost use mathlib.Core.Bool.{_||_};
+ghost use mathlib.Core.Bool.{_&&_, _||_};
 ghost use Prim.Native.Nat.{ℕ};
 ghost use Rattle.model.specs.Flow.{subject, object};
 ghost use Rattle.model.specs.Tables.{Tables, Dir, reading, writing};
 ghost use Rattle.model.specs.Invariant.{Wf};
-ghost use Rattle.model.specs.Calls.{admit, register, create, make-pipe, opens, access, fork, exec, close, exit, retire};
+ghost use Rattle.model.specs.Calls.{Call, admit, register, create, make-pipe, opens, access, fork, exec, close, exit, retire, freeze, thawed, broken};
 ghost use Rattle.tables.specs.Records.{subject-entry, object-entry, held};
-ghost use Rattle.tables.specs.Refusing.{found, Refuses};
+ghost use Rattle.tables.specs.Refusing.{found, Refuses, Late, Refused, direction};
 ghost use Rattle.tables.specs.Working.{used-subject, used-object, used-place};
 use crate::EMPTY;
+use crate::FILE;
 use crate::FREE;
 use crate::HIGHEST;
 use crate::Handle;
+use crate::NO_FREEZE;
 use crate::OBJECTS;
 use crate::Object;
 use crate::PIPE;
@@ -67,6 +69,15 @@ fn either(a: bool, b: bool) -> bool
         return true;
     }
     b
+}
+
+fn both(a: bool, b: bool) -> bool
+    ensures { λ r. ⌜ r ≡ (a && b) ⌝ }
+{
+    if a {
+        return b;
+    }
+    false
 }
 
 // RULES R3, and RULES R7 of a place that a handle is to take.
@@ -219,4 +230,43 @@ pub fn of_retire(y: Object) -> u8
     let missing = y.kind == FREE;
     let pipe = PIPE <= y.kind;
     first(false, false, missing, pipe, false, false, false)
+}
+
+// Call 16.
+pub fn of_freeze(level: u32) -> u8
+    ensures { λ r. ⌜ ((t : Tables) → Wf t → Refuses t (freeze level) r) ⌝ }
+{
+    let high = (NO_FREEZE as u32) < level;
+    first(false, false, false, false, high, false, false)
+}
+
+// RULES R15 of an open for reading, or for writing; y stands at o. A freeze of NO_FREEZE and above freezes nothing.
+pub fn is_frozen(freeze: u8, reads: bool, y: Object) -> bool
+    ensures { λ r. ⌜ ((t : Tables) (o : ℕ) → t .freeze ≡ freeze → t .at (object o) ≡ object-entry y →
+        broken t (thawed (direction reads) o) ≡ r) ⌝ }
+{
+    if reads {
+        return false;
+    }
+    let set = freeze < NO_FREEZE;
+    let file = y.kind == FILE;
+    let reached = freeze <= y.level;
+    let shut = both(file, reached);
+    both(set, shut)
+}
+
+// The number of the first of the late rows that refuses a call which no earlier row refuses, in the order of the rules; 0 where none does.
+pub fn last(short: bool, busy: bool, frozen: bool) -> u8
+    ensures { λ r. ⌜ ((t : Tables) (c : Call) → Refuses t c 0 → Late t c short busy frozen → Refused t c r) ⌝ }
+{
+    if short {
+        return 9;
+    }
+    if busy {
+        return 10;
+    }
+    if frozen {
+        return 15;
+    }
+    0
 }

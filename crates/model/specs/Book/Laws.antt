@@ -13,11 +13,11 @@ use Rattle.model.specs.Label.Laws.{⊑-refl, ⊑-trans}
 use Rattle.model.specs.Flow.{Thing, subject, same}
 use Rattle.model.specs.Tables.{Dir, reading, writing, Entry, Handle, Tables, empty, label-of, cell, handles, arc, needs}
 use Rattle.model.specs.Tables.Laws.{cell-entry}
-use Rattle.model.specs.Steps.{outside, blank, copied, Step, enter, leave, hold, holds, mix, put, fall, apply, applies, ended, reap}
+use Rattle.model.specs.Steps.{outside, blank, copied, Step, enter, leave, hold, holds, mix, freezes, put, fall, apply, applies, ended, reap}
 use Rattle.model.specs.Steps.Laws.{put-cases, fell}
 use Rattle.model.specs.Invariant.{Safe, Kept}
 use Rattle.model.specs.Invariant.Laws.{Pot, pot-safe, needs-pot, Less, less-wf, less-pot, Feeds}
-use Rattle.model.specs.Calls.{Call, admit, register, create, make-pipe, opens, access, fork, exec, close, exit, retire, unknown, Raw, decode, target, moves, sheds, steps, effect, Test, alive, present, taken, facing, suits, broken, tests, refusal, next, Answer, answer, answers, after}
+use Rattle.model.specs.Calls.{Call, admit, register, create, make-pipe, opens, access, fork, exec, close, exit, retire, freeze, unknown, Raw, decode, target, moves, sheds, steps, effect, Test, alive, present, taken, facing, suits, broken, tests, refusal, next, Answer, answer, answers, after}
 use Rattle.model.specs.Calls.Refusals.{allowed-iff}
 use Rattle.model.specs.Calls.Passed.{is-alive, is-facing, sheds-less}
 use Rattle.model.specs.Calls.Kept.{access-feeds, exec-feeds, next-kept, empty-kept}
@@ -67,6 +67,7 @@ Guard ℓ o₁ o₂ t (leave x) = Unit {0}
 Guard ℓ o₁ o₂ t (hold s p v) = Unit {0}
 Guard ℓ o₁ o₂ t (holds s r) = Unit {0}
 Guard ℓ o₁ o₂ t (mix m a b y x) = (φ : Thing → Label) × Pot t φ × Feeds t φ y x
+Guard ℓ o₁ o₂ t (freezes n) = Unit {0}
 
 abbrev Guards : Label → ℕ → ℕ → Tables → List Step → Type 0
 Guards ℓ o₁ o₂ t [] = Unit {0}
@@ -102,6 +103,7 @@ module _ (ℓ : Label) (h : Handling) (i o₁ o₂ : ℕ) where
   }
   step-agree t c d (hold s p v) g a = record { same-at = a .same-at }
   step-agree t c d (holds s r) g a = record { same-at = a .same-at }
+  step-agree t c d (freezes n) g a = record { same-at = a .same-at }
   step-agree t c d (mix m n o y x) g a = record {
     same-at = store-agree ℓ t c d y (fall y (t .at y) (t .at x)) (h i m n o (c y) (c x))
         (h i m n o (d y) (d x)) a equal;
@@ -177,6 +179,7 @@ module _ (ℓ : Label) (o₁ o₂ : ℕ) (t : Tables) (v : Kept t) where
   guarded (close s p) b m = (tt, tt)
   guarded (exit s) b m = (tt, (tt, tt))
   guarded (retire o) b m = (tt, tt)
+  guarded (freeze n) b m = (tt, tt)
   guarded unknown b m = tt
 
 -- ── lists of calls ──

@@ -14,8 +14,8 @@ use Rattle.model.specs.Tables.Laws.{open-here}
 use Rattle.model.specs.Steps.{Origin, outside, blank, copied, reads, writes, runs, enter, hold, holds, mix, row, place, apply, applies}
 use Rattle.model.specs.Steps.Laws.{row-cases, live-hand, applies-append}
 use Rattle.model.specs.Invariant.{Ends, Wf}
-use Rattle.model.specs.Invariant.Laws.{row-below, less-close, less-row, less-wf, wf-enter, wf-hand, wf-hold, wf-without, wf-reap, wf-mix}
-use Rattle.model.specs.Calls.{Call, admit, register, create, make-pipe, opens, access, fork, exec, close, exit, retire, unknown}
+use Rattle.model.specs.Invariant.Laws.{row-below, less-close, less-row, less-freeze, less-wf, wf-enter, wf-hand, wf-hold, wf-without, wf-reap, wf-mix}
+use Rattle.model.specs.Calls.{Call, admit, register, create, make-pipe, opens, access, fork, exec, close, exit, retire, freeze, unknown}
 use Rattle.model.specs.Calls.{target, sheds, steps, effect, next, alive, present, new, vacant, idle, broken, refusal}
 use Rattle.model.specs.Calls.Refusals.{allowed-iff}
 use Rattle.model.specs.Calls.Passed.{is-alive, is-present, is-new, is-place, Passed, entered-live, old-live, sheds-less}
@@ -117,6 +117,7 @@ module _ (t : Tables) (w : Wf t) where
   call-wf (close s p) m = less-wf (less-close t s p) w
   call-wf (exit s) m = exit-wf s
   call-wf (retire o) m = retire-wf o (m (idle o) (inr (inr (inl refl))))
+  call-wf (freeze n) m = less-wf (less-freeze t n) w
   call-wf unknown m = w
 
 -- ── calls ──

@@ -1,6 +1,6 @@
 -- Every call keeps the invariant, so every state from empty tables has it: each live thing's level is at least its need, no handle
--- dangles, a pipe has a handle, and levels are 0 to 15 (RULES F8, T25, T26, T27). Call by call, then the list. That
--- nothing dangles is in `Dangling`, levels are in `Scale`. Assumes nothing.
+-- dangles, a pipe has a handle, levels are 0 to 15 and the freeze 0 to 16 (RULES F8, T25, T26, T27, T34). Call by call, then the list. That
+-- nothing dangles is in `Dangling`, levels and the freeze are in `Scale`. Assumes nothing.
 use mathlib.Core.Path.{_≡_, refl, sym, _∙_, ap, subst}
 use mathlib.Core.Bool.{Bool, true, false, not, cond}
 use mathlib.Core.Logic.{_⊎_, inl, inr}
@@ -16,20 +16,20 @@ use Rattle.model.specs.Tables.{Kind, running, file, pipe, Dir, reading, 
 use Rattle.model.specs.Tables.{in-range, label-of, is-pipe, cell, handles, open-on, arc, flow, speaks, demand, needs, safe}
 use Rattle.model.specs.Tables.Laws.{speaks-at, speaks-hand, speaks-cell, cell-self, cell-entry, object-entry, handles-at, open-here}
 use Rattle.model.specs.Tables.Laws.{thing-listed, demand-label, safe-above}
-use Rattle.model.specs.Steps.{Origin, outside, blank, copied, Access, reads, writes, runs, enter, leave, hold, holds, mix, put, row}
+use Rattle.model.specs.Steps.{Origin, outside, blank, copied, Access, reads, writes, runs, enter, leave, hold, holds, mix, freezes, put, row}
 use Rattle.model.specs.Steps.{place, fall, apply, applies, ended, reap}
 use Rattle.model.specs.Steps.Laws.{put-cases, row-cases, place-same, applies-append, ended-last}
-use Rattle.model.specs.Invariant.{Wf, Safe, Piped, Scaled, Kept}
-use Rattle.model.specs.Invariant.Laws.{Pot, pot-safe, needs-pot, row-below, Less, less-close, less-row, less-wf, less-pot, Feeds, flow-feeds}
+use Rattle.model.specs.Invariant.{Wf, Safe, Piped, Scaled, Frozen, Kept}
+use Rattle.model.specs.Invariant.Laws.{Pot, pot-safe, needs-pot, row-below, Less, less-close, less-row, less-freeze, less-wf, less-pot, Feeds, flow-feeds}
 use Rattle.model.specs.Invariant.Laws.{empty-wf, wf-reap}
 use Rattle.model.specs.Invariant.Laws.{empty-pot, raise, raise-same, raise-other, pot-enter, pot-hand, pot-hold, pot-without, pot-reap, pot-mix}
-use Rattle.model.specs.Invariant.Laws.{empty-scaled, scaled-without}
-use Rattle.model.specs.Calls.{Call, admit, register, create, make-pipe, opens, access, fork, exec, close, exit, retire, unknown, Raw, decode}
+use Rattle.model.specs.Invariant.Laws.{empty-scaled, empty-frozen, scaled-without}
+use Rattle.model.specs.Calls.{Call, admit, register, create, make-pipe, opens, access, fork, exec, close, exit, retire, freeze, unknown, Raw, decode}
 use Rattle.model.specs.Calls.{target, moves, sheds, steps, effect, next, after, alive, present, new, taken, facing, enough, suits, broken, refusal}
 use Rattle.model.specs.Calls.Refusals.{allowed-iff}
 use Rattle.model.specs.Calls.Passed.{is-alive, is-present, is-new, is-facing, Passed, sheds-less}
 use Rattle.model.specs.Calls.Dangling.{open-wf, pipe-wf, call-wf}
-use Rattle.model.specs.Calls.Scale.{call-scaled}
+use Rattle.model.specs.Calls.Scale.{call-scaled, call-frozen}
 pub use Rattle.model.specs.Calls.Passed.{is-new, is-facing}
 
 -- ── what the steps of an allowed call make of the tables, before pipes end ──
@@ -281,14 +281,16 @@ module _ (t : Tables) (v : Kept t) where
   call-stepped (close s p) m = less-stepped t v (apply (hold s p none) t) (less-close t s p)
   call-stepped (exit s) m = exit-stepped t v s
   call-stepped (retire o) m = retire-stepped t v o
+  call-stepped (freeze n) m = less-stepped t v (apply (freezes n) t) (less-freeze t n)
   call-stepped unknown m = none-stepped t v
 
 -- ── pipes end ──
-reap-kept : (t u : Tables) → Wf u → Scaled u → Stepped t u → Kept (reap (handles t) u)
-reap-kept t u w l k = record {
+reap-kept : (t u : Tables) → Wf u → Scaled u → Frozen u → Stepped t u → Kept (reap (handles t) u)
+reap-kept t u w l z k = record {
   wf = wf-reap (handles t) u w;
   safe = pot-safe (pot-reap (handles t) u (needs u) (needs-pot w (k .safe)));
   scaled = scaled-without gone u l;
+  frozen = record { bounded = z .bounded };
   piped = record {
     joined = λ o h. subst (λ (hs : List Handle). T (open-on hs o)) (sym (handles-at u (λ x. cond (gone x) none (u .at x))))
         (still o (gone (object o)) refl h);
@@ -313,7 +315,7 @@ reap-kept t u w l k = record {
 pub effect-kept : (t : Tables) (c : Call) → Kept t → refusal t c ≡ none → Kept (effect t c)
 unfolding effect
 effect-kept t c v q = let m = allowed-iff t c .0 q in
-    reap-kept t (applies (steps t c) t) (call-wf t (v .wf) c m) (call-scaled t (v .scaled) c m) (call-stepped t v c m)
+    reap-kept t (applies (steps t c) t) (call-wf t (v .wf) c m) (call-scaled t (v .scaled) c m) (call-frozen t (v .frozen) c m) (call-stepped t v c m)
 
 pub next-kept : (t : Tables) (c : Call) → Kept t → Kept (next t c)
 next-kept t c v = go (refusal t c) refl
@@ -324,13 +326,13 @@ next-kept t c v = go (refusal t c) refl
 
 pub empty-kept : Kept empty
 unfolding handles
-empty-kept = record { wf = empty-wf; safe = pot-safe empty-pot; piped = record { joined = λ o h. absurd h }; scaled = empty-scaled }
+empty-kept = record { wf = empty-wf; safe = pot-safe empty-pot; piped = record { joined = λ o h. absurd h }; scaled = empty-scaled; frozen = empty-frozen }
 
 pub after-kept : (t : Tables) (rs : List Raw) → Kept t → Kept (after t rs)
 after-kept t [] v = v
 after-kept t (r ∷ rs) v = after-kept (next t (decode r)) rs (next-kept t (decode r) v)
 
--- RULES F8, T25, T26, T27: after every list of calls from empty tables no level is below its need, no handle dangles, a pipe has a handle,
--- and levels are 0 to 15.
+-- RULES F8, T25, T26, T27, T34: after every list of calls from empty tables no level is below its need, no handle dangles, a pipe has a handle,
+-- levels are 0 to 15, and the freeze is 0 to 16.
 pub always-kept : (rs : List Raw) → Kept (after empty rs)
 always-kept rs = after-kept empty rs empty-kept

@@ -13,7 +13,7 @@ use Rattle.model.specs.Lists.{In, any}
 use Rattle.model.specs.Lists.Laws.{any-at}
 use Rattle.model.specs.Label.{leq, level}
 use Rattle.model.specs.Tables.{Entry, Tables}
-use Rattle.model.specs.Calls.{Call, Test, known, alive, present, no-pipe, leveled, new, vacant, taken, apart, facing, enough, suits, idle, number, broken, tests, order, breaks, first, earlier, In-order, refusal, effect, next, shown, Answer, allowed, lowered, refused, outcome, answer}
+use Rattle.model.specs.Calls.{Call, Test, known, alive, present, no-pipe, leveled, freezable, new, vacant, taken, apart, facing, enough, suits, idle, thawed, number, broken, tests, order, breaks, first, earlier, In-order, refusal, effect, next, Shown, level-at, given, shown, Answer, allowed, lowered, refused, outcome, said, answer}
 
 -- ── breaks ──
 breaks-of : (t : Tables) (n : ℕ) (ds : List Test) (d : Test) → In d ds → number d ≡ n → T (broken t d) → T (breaks t n ds)
@@ -128,6 +128,7 @@ listed d = let r = any-at (λ n. eqb n (number d)) order (stands d) in subst (λ
     stands (present o) = tt
     stands (no-pipe o) = tt
     stands (leveled n) = tt
+    stands (freezable n) = tt
     stands (vacant s p) = tt
     stands (taken s p) = tt
     stands (apart r w) = tt
@@ -135,6 +136,7 @@ listed d = let r = any-at (λ n. eqb n (number d)) order (stands d) in subst (λ
     stands (enough c) = tt
     stands (suits s o) = tt
     stands (idle o) = tt
+    stands (thawed d o) = tt
 
 -- ── refusal ──
 pub allowed-iff : (t : Tables) (c : Call) → (refusal t c ≡ none) ↔ ((d : Test) → In d (tests c) → T (not (broken t d)))
@@ -152,6 +154,19 @@ refused-by t c n q = let r = first-hit t (tests c) order n q in (breaks-at t n (
 pub refused-listed : (t : Tables) (c : Call) (n : ℕ) → refusal t c ≡ some n → In n order
 refused-listed t c n q = let (d, i, e, b) = refused-by t c n q .0 in subst (λ (k : ℕ). In k order) e (listed d)
 
+-- ── the only test of its number: each of the list that has the number of d is d ──
+abbrev Only : Test → List Test → Type 0
+Only d [] = Unit {0}
+Only d (e ∷ ds) = (T (not (eqb (number e) (number d))) ⊎ (e ≡ d)) × Only d ds
+
+pub only : (t : Tables) (d : Test) (ds : List Test) → Only d ds → (e : Test) × In e ds × (number e ≡ number d) × T (broken t e) → T (broken t d)
+only t d [] o r = absurd (r .1)
+only t d (x ∷ ds) o (e, inr i, n, b) = only t d ds (o .1) (e, i, n, b)
+only t d (x ∷ ds) o (e, inl q, n, b) = elim (o .0) [
+  | inl m ↦ absurd (T-not (eqb (number x) (number d)) m (subst (λ (k : ℕ). T (eqb (number x) k)) (ap number q ∙ n) (eqb-refl (number x))))
+  | inr z ↦ subst (λ (y : Test). T (broken t y)) (sym q ∙ z) b
+]
+
 -- ── next ──
 pub next-allowed : (t : Tables) (c : Call) → refusal t c ≡ none → next t c ≡ effect t c
 next-allowed t c q = ap (λ (o : Option ℕ). elim o as (λ _. Tables) [ none ↦ effect t c | some n ↦ t ]) q
@@ -165,19 +180,19 @@ pub answered-refused : (t : Tables) (c : Call) (n : ℕ) → (answer t c ≡ ref
 unfolding answer
 answered-refused t c n = go (refusal t c)
   where
-    given : (b a : Option Entry) → outcome b a ≡ refused n → ⊥
-    given b none e = let z : _≡_ {A = ℕ} 0 1 = cc in omega arith
-    given none (some a) e = let z : _≡_ {A = ℕ} 0 1 = cc in omega arith
-    given (some b) (some a) e = by-test (leq (b .label) (a .label)) e
+    made : (b a : Option Entry) → outcome b a ≡ refused n → ⊥
+    made b none e = let z : _≡_ {A = ℕ} 0 1 = cc in omega arith
+    made none (some a) e = let z : _≡_ {A = ℕ} 0 1 = cc in omega arith
+    made (some b) (some a) e = by-test (leq (b .label) (a .label)) e
       where
         by-test : (f : Bool) → (elim f as (λ _. Answer) [ true ↦ allowed (level (a .label)) | false ↦ lowered (level (a .label)) ]) ≡ refused n → ⊥
         by-test true e = let z : _≡_ {A = ℕ} 0 1 = cc in omega arith
         by-test false e = let z : _≡_ {A = ℕ} 0 1 = cc in omega arith
 
-    go : (o : Option ℕ) → ((elim o as (λ _. Answer) [
-      | none ↦ outcome (t .at (shown t c))
-          (effect t c .at (shown t c))
-      | some m ↦ refused m
-    ]) ≡ refused n) ↔ (o ≡ some n)
-    go none = (λ e. absurd (given (t .at (shown t c)) (effect t c .at (shown t c)) e), λ e. absurd (Option·none-ne-some n e))
+    allows : (x : Shown) → said t (effect t c) x ≡ refused n → ⊥
+    allows (level-at x) e = made (t .at x) (effect t c .at x) e
+    allows (given k) e = let z : _≡_ {A = ℕ} 0 1 = cc in omega arith
+
+    go : (o : Option ℕ) → ((elim o as (λ _. Answer) [ none ↦ said t (effect t c) (shown t c) | some m ↦ refused m ]) ≡ refused n) ↔ (o ≡ some n)
+    go none = (λ e. absurd (allows (shown t c) e), λ e. absurd (Option·none-ne-some n e))
     go (some m) = (λ e. cc, λ e. cc)

@@ -1,51 +1,73 @@
--- Every answer from empty tables gives a level of 0 to 15, or the number of a refusal that calls have. Assumes nothing.
-use mathlib.Core.Path.{_≡_, refl, subst}
+-- Every answer from empty tables gives a level of 0 to 15, that to a freeze 0 to 16, or the number of a refusal that calls have. Assumes nothing.
+use mathlib.Core.Path.{_≡_, refl}
 use mathlib.Core.Bool.{Bool, true, false}
-use mathlib.Core.Logic.{inl, inr}
+use mathlib.Core.Logic.{inl}
 use mathlib.Core.Option.{Option, none, some}
 use mathlib.Core.List.{List, [], _∷_}
 use Prim.Native.Nat.{ℕ, _≤_}
-use lib.Dec.{T}
-use Rattle.model.specs.Lists.{In}
+use native.Mathlib.Omega.{arith}
+use borrow.Author.Tests.{ltb-false}
+use lib.Dec.{T, ltb}
+use Rattle.model.specs.Bools.{is-false}
 use Rattle.model.specs.Label.{highest, level, in-scale, leq, bot}
 use Rattle.model.specs.Label.Laws.{bot-in-scale, level-in-scale}
-use Rattle.model.specs.Flow.{Thing}
-use Rattle.model.specs.Tables.{Entry, Tables, empty}
-use Rattle.model.specs.Invariant.{Kept, Sayable}
-use Rattle.model.specs.Calls.{Call, Raw, decode, effect, next, refusal, shown, Answer, allowed, lowered, refused, outcome, answer, answers}
-use Rattle.model.specs.Calls.Refusals.{refused-listed}
+use Rattle.model.specs.Flow.{Thing, subject, object}
+use Rattle.model.specs.Tables.{reading, writing, Entry, Tables, empty, no-freeze, cell}
+use Rattle.model.specs.Invariant.{Kept, topmost, Sayable, All-sayable}
+use Rattle.model.specs.Calls.{Call, admit, register, create, make-pipe, opens, access, fork, exec, close, exit, retire, freeze, unknown, Raw, decode}
+use Rattle.model.specs.Calls.{target, effect, next, freezable, refusal, level-at, shown, Answer, allowed, lowered, refused, outcome, said, answer, answers}
+use Rattle.model.specs.Calls.Refusals.{allowed-iff, refused-listed}
 use Rattle.model.specs.Calls.Kept.{effect-kept, next-kept, empty-kept}
 
-answer-sayable : (t : Tables) (c : Call) → Kept t → Sayable (answer t c)
-unfolding answer
-answer-sayable t c v = go (refusal t c) refl
+-- the level of a thing
+level-sayable : (t u : Tables) (c : Call) (x : Thing) → highest ≤ topmost c → Kept t → Kept u → Sayable c (said t u (level-at x))
+level-sayable t u c x h v w = made (t .at x) (u .at x) (v .scaled .within x) (w .scaled .within x)
   where
     Low : Option Entry → Type 0
     Low o = (e : Entry) → o ≡ some e → T (in-scale (e .label))
 
-    given : (b a : Option Entry) → Low b → Low a → Sayable (outcome b a)
-    given none none lb la = level-in-scale bot bot-in-scale
-    given (some b) none lb la = level-in-scale (b .label) (lb b refl)
-    given none (some a) lb la = level-in-scale (a .label) (la a refl)
-    given (some b) (some a) lb la = by-test (leq (b .label) (a .label)) (level-in-scale (a .label) (la a refl))
+    made : (b a : Option Entry) → Low b → Low a → Sayable c (outcome b a)
+    made none none lb la = omega (arith, level-in-scale bot bot-in-scale)
+    made (some b) none lb la = omega (arith, level-in-scale (b .label) (lb b refl))
+    made none (some a) lb la = omega (arith, level-in-scale (a .label) (la a refl))
+    made (some b) (some a) lb la = by-test (leq (b .label) (a .label)) (level-in-scale (a .label) (la a refl))
       where
         by-test : (f : Bool) → level (a .label) ≤ highest
-            → Sayable (elim f as (λ _. Answer) [ true ↦ allowed (level (a .label)) | false ↦ lowered (level (a .label)) ])
-        by-test true h = h
-        by-test false h = h
+            → Sayable c (elim f as (λ _. Answer) [ true ↦ allowed (level (a .label)) | false ↦ lowered (level (a .label)) ])
+        by-test true l = omega arith
+        by-test false l = l
 
-    x : Thing
-    x = shown t c
+answer-sayable : (t : Tables) (c : Call) → Kept t → Sayable c (answer t c)
+unfolding answer
+answer-sayable t c v = go (refusal t c) refl
+  where
+    thing : (c : Call) (x : Thing) → highest ≤ topmost c → refusal t c ≡ none → Sayable c (said t (effect t c) (level-at x))
+    thing c x h q = level-sayable t (effect t c) c x h v (effect-kept t c v q)
 
-    go : (o : Option ℕ) → refusal t c ≡ o → Sayable (elim o as (λ _. Answer) [ none ↦ outcome (t .at x) (effect t c .at x) | some n ↦ refused n ])
-    go none q = given (t .at x) (effect t c .at x) (v .scaled .within x) (effect-kept t c v q .scaled .within x)
+    shows : (c : Call) → refusal t c ≡ none → Sayable c (said t (effect t c) (shown t c))
+    shows (admit s n) q = thing (admit s n) (subject s) (omega arith) q
+    shows (register o n) q = thing (register o n) (object o) (omega arith) q
+    shows (create s o) q = thing (create s o) (object o) (omega arith) q
+    shows (make-pipe s o r w) q = thing (make-pipe s o r w) (object o) (omega arith) q
+    shows (opens d s o p) q = thing (opens d s o p) (object o) (omega arith) q
+    shows (access reading s p) q = thing (access reading s p) (cell t s) (omega arith) q
+    shows (access writing s p) q = thing (access writing s p) (target (t .hand s p)) (omega arith) q
+    shows (fork s c) q = thing (fork s c) (subject c) (omega arith) q
+    shows (exec s o) q = thing (exec s o) (cell t s) (omega arith) q
+    shows (close s p) q = thing (close s p) (cell t s) (omega arith) q
+    shows (exit s) q = thing (exit s) (cell t s) (omega arith) q
+    shows (retire o) q = thing (retire o) (object o) (omega arith) q
+    shows (freeze n) q = ltb-false no-freeze n (is-false (ltb no-freeze n) (allowed-iff t (freeze n) .0 q (freezable n) (inl refl)))
+    shows unknown q = omega arith
+
+    go : (o : Option ℕ) → refusal t c ≡ o → Sayable c (elim o as (λ _. Answer) [ none ↦ said t (effect t c) (shown t c) | some n ↦ refused n ])
+    go none q = shows c q
     go (some n) q = refused-listed t c n q
 
--- RULES T27, R112: every answer from empty tables gives a level of 0 to 15, or the number of a refusal that calls have
-pub always-sayable : (rs : List Raw) (a : Answer) → In a (answers empty rs) → Sayable a
+-- RULES T27, R112: every answer from empty tables gives a level of 0 to 15, that to a freeze 0 to 16, or the number of a refusal that calls have
+pub always-sayable : (rs : List Raw) → All-sayable rs (answers empty rs)
 always-sayable rs = from empty rs empty-kept
   where
-    from : (t : Tables) (rs : List Raw) → Kept t → (a : Answer) → In a (answers t rs) → Sayable a
-    from t [] v a i = absurd i
-    from t (r ∷ rs) v a (inl q) = subst Sayable q (answer-sayable t (decode r) v)
-    from t (r ∷ rs) v a (inr i) = from (next t (decode r)) rs (next-kept t (decode r) v) a i
+    from : (t : Tables) (rs : List Raw) → Kept t → All-sayable rs (answers t rs)
+    from t [] v = tt
+    from t (r ∷ rs) v = (answer-sayable t (decode r) v, from (next t (decode r)) rs (next-kept t (decode r) v))

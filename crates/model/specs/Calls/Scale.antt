@@ -1,20 +1,22 @@
--- Levels stay 0 to 15 (RULES T27): what an allowed call enters is in scale, and nothing rises. Assumes nothing.
+-- Levels stay 0 to 15 (RULES T27): what an allowed call enters is in scale, and nothing rises. The freeze stays 0 to 16 (RULES T34). Assumes nothing.
 use mathlib.Core.Path.{_≡_, refl, sym, subst}
 use mathlib.Core.Logic.{inl, inr}
 use mathlib.Core.Option.{Option, none, some}
 use mathlib.Core.List.{[], _∷_}
 use Prim.Native.Nat.{ℕ}
-use lib.Dec.{T}
+use borrow.Author.Tests.{ltb-false}
+use lib.Dec.{T, ltb}
+use Rattle.model.specs.Bools.{is-false}
 use Rattle.model.specs.Label.{label, in-scale}
 use Rattle.model.specs.Label.Laws.{label-in-scale, bot-in-scale}
 use Rattle.model.specs.Flow.{Thing, subject, object, same}
-use Rattle.model.specs.Tables.{running, file, pipe, Dir, reading, writing, Entry, entry, Tables, label-of, cell}
+use Rattle.model.specs.Tables.{running, file, pipe, Dir, reading, writing, Entry, entry, Tables, no-freeze, label-of, cell}
 use Rattle.model.specs.Steps.{outside, blank, copied, reads, writes, runs, holds, mix, apply, applies}
 use Rattle.model.specs.Steps.Laws.{applies-append}
-use Rattle.model.specs.Invariant.{Scaled}
+use Rattle.model.specs.Invariant.{Scaled, Frozen}
 use Rattle.model.specs.Invariant.Laws.{scaled-enter, scaled-same, scaled-without, scaled-mix}
-use Rattle.model.specs.Calls.{Call, admit, register, create, make-pipe, opens, access, fork, exec, close, exit, retire, unknown}
-use Rattle.model.specs.Calls.{target, moves, sheds, steps, leveled}
+use Rattle.model.specs.Calls.{Call, admit, register, create, make-pipe, opens, access, fork, exec, close, exit, retire, freeze, unknown}
+use Rattle.model.specs.Calls.{target, moves, sheds, steps, leveled, freezable}
 use Rattle.model.specs.Calls.Passed.{Passed, sheds-less}
 
 module _ (t : Tables) (v : Scaled t) where
@@ -44,4 +46,29 @@ module _ (t : Tables) (v : Scaled t) where
   call-scaled (close s p) m = scaled-same (λ x. refl) v
   call-scaled (exit s) m = scaled-without (same (subject s)) (apply (holds s (λ p. none)) t) (scaled-same (λ x. refl) v)
   call-scaled (retire o) m = scaled-without (same (object o)) t v
+  call-scaled (freeze n) m = scaled-same (λ x. refl) v
   call-scaled unknown m = v
+
+module _ (t : Tables) (v : Frozen t) where
+  access-frozen : (d : Dir) (x c y : Thing) → Frozen (apply (moves d x c y) t)
+  access-frozen reading x c y = record { bounded = v .bounded }
+  access-frozen writing x c y = record { bounded = v .bounded }
+
+  exec-frozen : (s o : ℕ) → Frozen (applies (steps t (exec s o)) t)
+  unfolding sheds
+  exec-frozen s o = record { bounded = v .bounded }
+
+  pub call-frozen : (c : Call) → Passed t c → Frozen (applies (steps t c) t)
+  call-frozen (admit s n) m = record { bounded = v .bounded }
+  call-frozen (register o n) m = record { bounded = v .bounded }
+  call-frozen (create s o) m = record { bounded = v .bounded }
+  call-frozen (make-pipe s o r p) m = record { bounded = v .bounded }
+  call-frozen (opens d s o p) m = record { bounded = v .bounded }
+  call-frozen (access d s p) m = access-frozen d (subject s) (cell t s) (target (t .hand s p))
+  call-frozen (fork s c) m = record { bounded = v .bounded }
+  call-frozen (exec s o) m = exec-frozen s o
+  call-frozen (close s p) m = record { bounded = v .bounded }
+  call-frozen (exit s) m = record { bounded = v .bounded }
+  call-frozen (retire o) m = record { bounded = v .bounded }
+  call-frozen (freeze n) m = record { bounded = ltb-false no-freeze n (is-false (ltb no-freeze n) (m (freezable n) (inl refl))) }
+  call-frozen unknown m = v

@@ -1,25 +1,23 @@
 -- Refusal 9, both ways: an open that is otherwise in order is refused with 9 if and only if after it some live thing reaches, through
 -- open handles, a file of a higher level; an exec if and only if the file's level is below the subject's need, that is, if and only if
--- the subject reaches a file of a higher level than the program's. For every tables, also those that no calls made. Assumes nothing.
+-- the subject reaches a file of a higher level than the program's. Refusal 15, likewise. For every tables, also those that no calls made. Assumes nothing.
 use mathlib.Core.Path.{_≡_, refl, sym, _∙_, ap, subst}
-use mathlib.Core.Bool.{Bool, true, false, not, cond}
+use mathlib.Core.Bool.{Bool, true, false, not, _&&_, cond}
 use mathlib.Core.Logic.{inl, inr, _↔_}
 use mathlib.Core.Option.{Option, none, some}
-use mathlib.Core.List.{[], _∷_}
 use Prim.Native.Nat.{ℕ}
-use lib.Dec.{T, T-not, not-T, eqb, eqb-refl}
-use Rattle.model.specs.Bools.{cond-yes}
-use Rattle.model.specs.Lists.{In}
-use Rattle.model.specs.Label.{Label, leq, _⊑_, bot}
+use lib.Dec.{T, T-not, not-T, ltb, ltb→lt, lt→ltb, leb, leb→le, le→leb}
+use Rattle.model.specs.Bools.{cond-yes, both, both-of}
+use Rattle.model.specs.Label.{Label, level, leq, _⊑_, bot}
 use Rattle.model.specs.Label.Laws.{⊑-trans, bot-least}
 use Rattle.model.specs.Flow.{Thing, object, Reaches}
 use Rattle.model.specs.Flow.Laws.{need-upper, need-over}
-use Rattle.model.specs.Tables.{Dir, Entry, Tables, label-of, is-file, cell, edges, demand, needs, safe}
+use Rattle.model.specs.Tables.{Dir, reading, writing, Entry, Tables, no-freeze, label-of, is-file, cell, edges, demand, needs, safe}
 use Rattle.model.specs.Tables.Laws.{not-safe}
 use Rattle.model.specs.Steps.{applies}
-use Rattle.model.specs.Calls.{opens, exec, sheds, Test, alive, present, no-pipe, vacant, enough, suits, number, broken, In-order, refusal}
-use Rattle.model.specs.Calls.Refusals.{refused-is, refused-by}
-use Rattle.model.specs.Demand2.{Leaks, Offends, opened}
+use Rattle.model.specs.Calls.{opens, exec, sheds, enough, suits, thawed, shut, broken, tests, In-order, refusal}
+use Rattle.model.specs.Calls.Refusals.{refused-is, refused-by, only}
+use Rattle.model.specs.Demand2.{Leaks, Offends, opened, Closed}
 
 -- ── a need that a label does not reach up to, as a chain of flows ──
 pub over-leaks : (u : Tables) (a : Label) (x : Thing) → T (not (leq (needs u x) a)) → Leaks u a x
@@ -48,24 +46,6 @@ unsafe-iff u = (
   λ o. not-safe u .1 (o .low, o .low-live, leaks-over u (label-of (u .at (o .low))) (o .low) (o .leaks)),
 )
 
--- ── the test of number 9 is the only one of its call ──
-only-fourth : (t : Tables) (a b c d : Test) → T (not (eqb (number a) (number d))) → T (not (eqb (number b) (number d))) → T (not (eqb (number c) (number d)))
-    → (e : Test) × In e (a ∷ b ∷ c ∷ d ∷ []) × (number e ≡ number d) × T (broken t e) → T (broken t d)
-only-fourth t a b c d na nb nc r = go (r .1)
-  where
-    e : Test
-    e = r .0
-
-    other : (x : Test) → T (not (eqb (number x) (number d))) → x ≡ e → T (broken t d)
-    other x n q = absurd (T-not (eqb (number x) (number d)) n (subst (λ (m : ℕ). T (eqb (number x) m)) (ap number q ∙ r .2) (eqb-refl (number x))))
-
-    go : In e (a ∷ b ∷ c ∷ d ∷ []) → T (broken t d)
-    go (inl q) = other a na q
-    go (inr (inl q)) = other b nb q
-    go (inr (inr (inl q))) = other c nc q
-    go (inr (inr (inr (inl q)))) = subst (λ (z : Test). T (broken t z)) (sym q) (r .3)
-    go (inr (inr (inr (inr q)))) = absurd q
-
 -- ── the flow rule ──
 -- RULES R9, R109: an open
 pub open-refused-iff : (t : Tables) (d : Dir) (s o p : ℕ) → (refusal t (opens d s o p) ≡ some 9) ↔ (In-order t (opens d s o p) 9 × Offends (opened t d s o p))
@@ -73,7 +53,7 @@ open-refused-iff t d s o p = (
   λ q. (let r = refused-by t (opens d s o p) 9 q in (
     r .1,
     unsafe-iff (opened t d s o p) .0
-        (only-fourth t (alive s) (present o) (vacant s p) (enough (opens d s o p)) tt tt tt (r .0)),
+        (only t (enough (opens d s o p)) (tests (opens d s o p)) (inl tt, (inl tt, (inl tt, (inr refl, (inl tt, tt))))) (r .0)),
   )),
   λ r. refused-is t (opens d s o p) (enough (opens d s o p)) (inr (inr (inr (inl refl)))) (unsafe-iff (opened t d s o p) .1 (r .1)) (r .0),
 )
@@ -82,7 +62,7 @@ open-refused-iff t d s o p = (
 pub exec-refused-iff : (t : Tables) (s o : ℕ) → (refusal t (exec s o) ≡ some 9) ↔
     (In-order t (exec s o) 9 × T (not (leq (needs (applies (sheds t s) t) (cell t s)) (label-of (t .at (object o))))))
 exec-refused-iff t s o = (
-  λ q. (let r = refused-by t (exec s o) 9 q in (r .1, only-fourth t (alive s) (present o) (no-pipe o) (suits s o) tt tt tt (r .0))),
+  λ q. (let r = refused-by t (exec s o) 9 q in (r .1, only t (suits s o) (tests (exec s o)) (inl tt, (inl tt, (inl tt, (inr refl, tt)))) (r .0))),
   λ r. refused-is t (exec s o) (suits s o) (inr (inr (inr (inl refl)))) (r .1) (r .0),
 )
 
@@ -100,3 +80,32 @@ exec-leaks-iff t s o = (
 
     l : Label
     l = label-of (t .at (object o))
+
+-- ── the freeze ──
+shut-iff : (t : Tables) (d : Dir) (o : ℕ) → T (broken t (thawed d o)) ↔ ((d ≡ writing) × Closed t o)
+shut-iff t d o = (λ h. to d (t .at (object o)) refl h, λ r. from r)
+  where
+    to : (d : Dir) (v : Option Entry) → t .at (object o) ≡ v → T (shut (t .freeze) d (object o) v) → (d ≡ writing) × Closed t o
+    to reading v q h = absurd h
+    to writing none q h = absurd h
+    to writing (some e) q h =
+        let a = both-of (ltb (t .freeze) no-freeze) (is-file (object o) (e .kind) && leb (t .freeze) (level (e .label))) h in
+        let b = both-of (is-file (object o) (e .kind)) (leb (t .freeze) (level (e .label))) (a .1) in
+        (refl, record { entry = e; there = q; is-a-file = b .0; set = ltb→lt (t .freeze) no-freeze (a .0); at-or-above = leb→le (t .freeze) (level (e .label)) (b .1) })
+
+    from : (d ≡ writing) × Closed t o → T (shut (t .freeze) d (object o) (t .at (object o)))
+    from (q, r) = subst (λ (z : Dir). T (shut (t .freeze) z (object o) (t .at (object o)))) (sym q)
+        (subst (λ (v : Option Entry). T (shut (t .freeze) writing (object o) v)) (sym (r .there))
+        (both (ltb (t .freeze) no-freeze) (is-file (object o) (r .entry .kind) && leb (t .freeze) (level (r .entry .label)))
+        (lt→ltb (t .freeze) no-freeze (r .set))
+        (both (is-file (object o) (r .entry .kind)) (leb (t .freeze) (level (r .entry .label))) (r .is-a-file)
+        (le→leb (t .freeze) (level (r .entry .label)) (r .at-or-above)))))
+
+-- RULES R15, R118: an open that is otherwise in order is refused with 15 if and only if it is for writing, and on a file at or above the freeze
+pub frozen-refused-iff : (t : Tables) (d : Dir) (s o p : ℕ) → (refusal t (opens d s o p) ≡ some 15) ↔
+    (In-order t (opens d s o p) 15 × (d ≡ writing) × Closed t o)
+frozen-refused-iff t d s o p = (
+  λ q. (let r = refused-by t (opens d s o p) 15 q in
+      let c = shut-iff t d o .0 (only t (thawed d o) (tests (opens d s o p)) (inl tt, (inl tt, (inl tt, (inl tt, (inr refl, tt))))) (r .0)) in (r .1, c .0, c .1)),
+  λ r. refused-is t (opens d s o p) (thawed d o) (inr (inr (inr (inr (inl refl))))) (shut-iff t d o .1 (r .1, r .2)) (r .0),
+)

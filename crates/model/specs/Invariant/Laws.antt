@@ -7,6 +7,7 @@ use mathlib.Core.Logic.{_⊎_, inl, inr}
 use mathlib.Core.Option.{Option, none, some, Option·none-ne-some, Option·some-injective}
 use mathlib.Core.List.{List}
 use Prim.Native.Nat.{ℕ, _<_}
+use native.Mathlib.Omega.{arith}
 use lib.Dec.{T, not-T, ltb, ltb→lt, lt→ltb}
 use Rattle.model.specs.Bools.{both, both-of, cond-yes, cond-no, cond-cases}
 use Rattle.model.specs.Lists.{In}
@@ -14,12 +15,12 @@ use Rattle.model.specs.Label.{Label, in-scale, _⊑_, bot}
 use Rattle.model.specs.Label.Laws.{⊑-trans, bot-least, below-in-scale}
 use Rattle.model.specs.Flow.{Thing, subject, object, same, Edge}
 use Rattle.model.specs.Flow.Laws.{same→eq, same-refl, need-self, need-flow, need-below}
-use Rattle.model.specs.Tables.{Dir, reading, writing, Entry, Handle, Tables, empty, with-at, with-hand, subjects, places, in-range, is-some, live, cell, handles, arc, flow, speaks, edges, demand, needs, counted, clean}
-use Rattle.model.specs.Tables.Laws.{some-of, some-is, live-of, speaks-at, speaks-hand, speaks-cell, cell-entry, object-entry, open-here, flow-edge, edge-flow}
+use Rattle.model.specs.Tables.{Dir, reading, writing, Entry, Handle, Tables, empty, with-at, with-hand, with-freeze, subjects, places, in-range, is-some, live, cell, handles, arc, flow, speaks, edges, demand, needs, counted, clean}
+use Rattle.model.specs.Tables.Laws.{some-of, some-is, live-of, speaks-at, speaks-hand, speaks-freeze, speaks-cell, cell-entry, object-entry, open-here, flow-edge, edge-flow}
 use Rattle.model.specs.Steps.{Origin, Access, enter, hold, holds, mix, put, row, place, fall, apply, ended, reap}
-use Rattle.model.specs.Steps.Laws.{put-cases, row-cases, place-cases, live-hand, live-at, ended-open, ended-subject}
+use Rattle.model.specs.Steps.Laws.{put-cases, row-cases, place-cases, live-hand, live-freeze, live-at, ended-open, ended-subject}
 use Rattle.model.specs.Steps.Laws.{fall-some, some-fall, fall-demand, fall-under, fell}
-use Rattle.model.specs.Invariant.{Ends, Wf, Safe, Scaled}
+use Rattle.model.specs.Invariant.{Ends, Wf, Safe, Scaled, Frozen}
 
 pub record Pot (t : Tables) (φ : Thing → Label) : Type 0 where
   pub low : (x : Thing) → demand x (t .at x) ⊑ φ x
@@ -60,6 +61,9 @@ empty-pot = record { low = λ x. bot-least; cap = λ x e q. bot-least; falls = �
 
 pub empty-scaled : Scaled empty
 empty-scaled = record { within = λ x e q. absurd (Option·none-ne-some e q) }
+
+pub empty-frozen : Frozen empty
+empty-frozen = record { bounded = omega arith }
 
 -- ── tables that no calls made ──
 -- once cleaned, nothing dangles in them
@@ -225,6 +229,15 @@ less-close t s p = less-hand t (place (t .hand) s p none) (λ s′ p′ k q. eli
 pub less-row : (t : Tables) (s : ℕ) → Less t (apply (holds s (λ p. none)) t)
 less-row t s = less-hand t (row (t .hand) s (λ p. none)) (λ s′ p k q. elim
     (row-cases (t .hand) s (λ p. none) s′ p (some k) q) [ inl c ↦ absurd (Option·none-ne-some k (c .1)) | inr c ↦ c .1 ])
+
+-- another freeze takes no handle away
+pub less-freeze : (t : Tables) (f : ℕ) → Less t (with-freeze t f)
+less-freeze t f = record {
+  same-at = λ x. refl;
+  hands = λ s p k q. q;
+  talks = λ s p x k q z. sym (speaks-freeze t f s) ∙ z;
+  ends = λ s p k q g. record { from = live-freeze t f (subject s) (g .from); to = live-freeze t f (object (k .to)) (g .to); place = g .place };
+}
 
 pub less-wf : {t u : Tables} → Less t u → Wf t → Wf u
 less-wf l w = record { ends = λ s p k q. l .ends s p k q (w .ends s p k (l .hands s p k q)); ranged = λ x e q. w .ranged x e (sym (l .same-at x) ∙ q) }

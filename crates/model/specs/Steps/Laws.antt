@@ -12,7 +12,7 @@ use Rattle.model.specs.Label.{Label, _⊑_, meet, bot}
 use Rattle.model.specs.Label.Laws.{⊑-refl, meet-left, meet-right, meet-glb}
 use Rattle.model.specs.Flow.{Thing, subject, object, same}
 use Rattle.model.specs.Flow.Laws.{same→eq, same-refl}
-use Rattle.model.specs.Tables.{Kind, running, file, pipe, Entry, Handle, Tables, with-at, with-hand, in-range, is-some, used, live, is-file, is-pipe, handles, open-on, demand}
+use Rattle.model.specs.Tables.{Kind, running, file, pipe, Entry, Handle, Tables, with-at, with-hand, with-freeze, in-range, is-some, used, live, is-file, is-pipe, handles, open-on, demand}
 use Rattle.model.specs.Tables.Laws.{used-is, live-of}
 use Rattle.model.specs.Steps.{Step, put, row, place, falls, sunk, fall, apply, applies, ended, reap}
 
@@ -46,6 +46,10 @@ place-same h s p v = cond-yes (eqb s s) (cond (eqb p p) v (h s p)) (h s p) (eqb-
 -- ── used and live after a change ──
 pub live-hand : (t : Tables) (h : ℕ → ℕ → Option Handle) (x : Thing) → T (live t x) → T (live (with-hand t h) x)
 live-hand t h x l = let r = live-of t x l in both (in-range x) (used (with-hand t h) x) (r .0) (subst T (used-is t x ∙ sym (used-is (with-hand t h) x)) (r .1))
+
+pub live-freeze : (t : Tables) (f : ℕ) (x : Thing) → T (live t x) → T (live (with-freeze t f) x)
+live-freeze t f x l = let r = live-of t x l in both (in-range x) (used (with-freeze t f) x) (r .0)
+    (subst T (used-is t x ∙ sym (used-is (with-freeze t f) x)) (r .1))
 
 -- entries that stay where they were leave live what was live
 pub live-at : (t : Tables) (a : Thing → Option Entry) (x : Thing) → (T (is-some (t .at x)) → T (is-some (a x))) → T (live t x) → T (live (with-at t a) x)

@@ -13,7 +13,7 @@ use Rattle.model.specs.Lists.Laws.{in-left, in-right, in-cases, in-each,
 use Rattle.model.specs.Label.{leq, _⊑_, bot}
 use Rattle.model.specs.Label.Laws.{⊑-refl, bot-least}
 use Rattle.model.specs.Flow.{Thing, subject, object, Edge}
-use Rattle.model.specs.Tables.{Entry, Handle, Tables, with-at, with-hand, subjects, objects, places, in-range, is-some, used, live, label-of, is-file, cell, live-objects, live-subjects, things, one, handles-of, handles, open-on, flow, speaks, flows-of, edges, demand, needs, safe}
+use Rattle.model.specs.Tables.{Entry, Handle, Tables, with-at, with-hand, with-freeze, subjects, objects, places, in-range, is-some, used, live, label-of, is-file, cell, live-objects, live-subjects, things, one, handles-of, handles, open-on, flow, speaks, flows-of, edges, demand, needs, safe}
 
 -- ── is-some, live ──
 pub some-of : {A : Type 0} (o : Option A) → T (is-some o) → (a : A) × (o ≡ some a)
@@ -39,6 +39,10 @@ speaks-at t a s = refl
 pub speaks-hand : (t : Tables) (h : ℕ → ℕ → Option Handle) (s : ℕ) → speaks (with-hand t h) s ≡ speaks t s
 unfolding cell speaks
 speaks-hand t h s = refl
+
+pub speaks-freeze : (t : Tables) (f s : ℕ) → speaks (with-freeze t f) s ≡ speaks t s
+unfolding cell speaks
+speaks-freeze t f s = refl
 
 -- who speaks, speaks as its cell; in this version everybody does, and the cell is the subject itself
 pub speaks-cell : (t : Tables) (s : ℕ) → speaks t s ≡ some (cell t s)
@@ -80,10 +84,13 @@ open-at t o h = let r = any-at (λ z. eqb (z .to) o) (handles t) h in let a = ea
     of-one (some a) k (inl q) = ap {B = Option _} some q
     of-one (some a) k (inr i) = absurd i
 
--- the handles do not go by the entries
-pub handles-at : (t : Tables) (a : Thing → Option Entry) → handles (with-at t a) ≡ handles t
+-- the handles go by nothing but what stands at the places
+pub handles-by : (t u : Tables) → t .hand ≡ u .hand → handles t ≡ handles u
 unfolding handles
-handles-at t a = refl
+handles-by t u q = ap (λ (h : ℕ → ℕ → Option Handle). each subjects (λ s. each places (λ p. one (h s p)))) q
+
+pub handles-at : (t : Tables) (a : Thing → Option Entry) → handles (with-at t a) ≡ handles t
+handles-at t a = handles-by (with-at t a) t refl
 
 -- ── edges ──
 pub flow-edge : (t : Tables) (s p : ℕ) (x : Thing) (k : Handle) → s < subjects → p < places → speaks t s ≡ some x → t .hand s p ≡ some k

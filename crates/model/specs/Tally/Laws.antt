@@ -15,12 +15,12 @@ use Rattle.model.specs.Bools.{test, neither, not-not, cond-yes, cond-no,
 use Rattle.model.specs.Lists.{In, each}
 use Rattle.model.specs.Flow.{Thing, subject, object}
 use Rattle.model.specs.Tables.{running, pipe, Dir, reading, writing, Entry, entry, Handle, handle, Tables, empty, with-at, subjects, places, is-some, label-of, cell, one, handles-of, handles}
-use Rattle.model.specs.Tables.Laws.{some-of, live-of, used-is, handles-at}
-use Rattle.model.specs.Steps.{blank, copied, runs, enter, leave, hold, holds, mix, put, apply, applies}
+use Rattle.model.specs.Tables.Laws.{some-of, live-of, used-is, handles-by, handles-at}
+use Rattle.model.specs.Steps.{blank, copied, runs, enter, leave, hold, holds, mix, freezes, put, apply, applies}
 use Rattle.model.specs.Steps.Laws.{applies-append}
 use Rattle.model.specs.Invariant.{Wf}
 use Rattle.model.specs.Invariant.Laws.{empty-wf}
-use Rattle.model.specs.Calls.{Call, admit, register, create, make-pipe, opens, access, fork, exec, close, exit, retire, unknown, Raw, decode, target, moves, sheds, steps, effect, Test, alive, new, vacant, taken, apart, broken, tests, refusal, next, after}
+use Rattle.model.specs.Calls.{Call, admit, register, create, make-pipe, opens, access, fork, exec, close, exit, retire, freeze, unknown, Raw, decode, target, moves, sheds, steps, effect, Test, alive, new, vacant, taken, apart, broken, tests, refusal, next, after}
 use Rattle.model.specs.Calls.Refusals.{allowed-iff}
 use Rattle.model.specs.Calls.Passed.{is-alive, is-new, is-place}
 use Rattle.model.specs.Calls.Dangling.{next-wf}
@@ -208,6 +208,7 @@ module _ (t : Tables) (v : Wf t) where
   stepped-count (close s p) m = close-count s p m
   stepped-count (exit s) m = exit-count s m
   stepped-count (retire o) m = entered-count _
+  stepped-count (freeze n) m = ap (λ (l : List Handle). length l + 0) (handles-by (apply (freezes n) t) t refl)
   stepped-count unknown m = refl
 
 pub effect-count : (t : Tables) (c : Call) → Wf t → refusal t c ≡ none → length (handles (effect t c)) + removes t c ≡ length (handles t) + makes t c

@@ -15,7 +15,7 @@ use Rattle.model.specs.Bools.{is-true, cond-no}
 use Rattle.model.specs.Flow.{Thing, subject, object}
 use Rattle.model.specs.Tables.{Entry, Tables, empty, with-at, with-hand, in-range, is-pipe, handles, open-on, clean}
 use Rattle.model.specs.Tables.{Handle as Held}
-use Rattle.model.specs.Tables.Laws.{open-here, open-at, handles-at}
+use Rattle.model.specs.Tables.Laws.{open-here, open-at, handles-by}
 use Rattle.model.specs.Steps.{put, place, ended, reap}
 use Rattle.model.specs.Steps.Laws.{ended-of, ended-subject}
 use Rattle.model.specs.Invariant.{Wf}
@@ -27,8 +27,8 @@ use Rattle.tables.specs.Records.{subject-entry, object-entry, held, no-s
 use Rattle.tables.specs.Working.{subject-at, object-at, handle-at, Outlives}
 
 -- ── the record at a number ──
-module _ (ss : List Subject) (os : List Object) (hs : List Handle) where
-  pub subject-there : (s : ℕ) → length ss ≡ 32 → tables-of ss os hs .at (subject s) ≡ subject-entry (subject-at s (getD ss (s % 32) no-subject))
+module _ (rest : Tables) (ss : List Subject) (os : List Object) (hs : List Handle) where
+  pub subject-there : (s : ℕ) → length ss ≡ 32 → tables-of rest ss os hs .at (subject s) ≡ subject-entry (subject-at s (getD ss (s % 32) no-subject))
   unfolding tables-of
   subject-there s l = go (ltb s 32) refl
     where
@@ -36,7 +36,7 @@ module _ (ss : List Subject) (os : List Object) (hs : List Handle) where
       go true q = let e : s % 32 ≡ s = omega (arith, ltb-true s 32 q) in rw e
       go false q = ap subject-entry (List·getD-eq-default ss no-subject {n = s} (omega (arith, ltb-false s 32 q)))
 
-  pub object-there : (o : ℕ) → length os ≡ 64 → tables-of ss os hs .at (object o) ≡ object-entry (object-at o (getD os (o % 64) no-object))
+  pub object-there : (o : ℕ) → length os ≡ 64 → tables-of rest ss os hs .at (object o) ≡ object-entry (object-at o (getD os (o % 64) no-object))
   unfolding tables-of
   object-there o l = go (ltb o 64) refl
     where
@@ -44,7 +44,7 @@ module _ (ss : List Subject) (os : List Object) (hs : List Handle) where
       go true q = let e : o % 64 ≡ o = omega (arith, ltb-true o 64 q) in rw e
       go false q = ap object-entry (List·getD-eq-default os no-object {n = o} (omega (arith, ltb-false o 64 q)))
 
-  pub handle-there : (s p : ℕ) → length hs ≡ 512 → tables-of ss os hs .hand s p ≡ held (handle-at s p (getD hs (s % 32 * 16 + p % 16) no-handle))
+  pub handle-there : (s p : ℕ) → length hs ≡ 512 → tables-of rest ss os hs .hand s p ≡ held (handle-at s p (getD hs (s % 32 * 16 + p % 16) no-handle))
   unfolding tables-of
   handle-there s p l = go (ltb s 32) refl (ltb p 16) refl
     where
@@ -68,14 +68,14 @@ module _ (ss : List Subject) (os : List Object) (hs : List Handle) where
       go (yes l) = lt→ltb n 64 l
       go (no h) = absurd (Option·none-ne-some a (sym (ap object-entry (List·getD-eq-default os no-object {n = n} (omega arith))) ∙ q))
 
-  pub cleaned-wf : (t : Tables) → length ss ≡ 32 → length os ≡ 64 → t ≡ clean (tables-of ss os hs) → Wf t
+  pub cleaned-wf : (t : Tables) → length ss ≡ 32 → length os ≡ 64 → t ≡ clean (tables-of rest ss os hs) → Wf t
   unfolding tables-of
-  cleaned-wf t ls lo e = subst Wf (sym e) (clean-wf (tables-of ss os hs) (ranged ls lo))
+  cleaned-wf t ls lo e = subst Wf (sym e) (clean-wf (tables-of rest ss os hs) (ranged ls lo))
 
 -- ── the empty tables ──
-pub empty-tables : tables-of (replicate 32 no-subject) (replicate 64 no-object) (replicate 512 no-handle) ≡ empty
+pub empty-tables : tables-of empty (replicate 32 no-subject) (replicate 64 no-object) (replicate 512 no-handle) ≡ empty
 unfolding tables-of
-empty-tables = ap₂ (λ (a : Thing → Option Entry) (h : ℕ → ℕ → Option Held). record { at = a; hand = h }) (fun-ext at)
+empty-tables = ap₂ (λ (a : Thing → Option Entry) (h : ℕ → ℕ → Option Held). with-hand (with-at empty a) h) (fun-ext at)
     (fun-ext (λ s. fun-ext (λ p. hand s p (ltb p 16))))
   where
     any : {A : Type 0} (n i : ℕ) (a : A) → getD (replicate n a) i a ≡ a
@@ -103,30 +103,30 @@ look-set f l d i v h j = go (ℕ-discrete i j)
     go (yes e) = rw (eq-eqb i j e, ← e, getD-set-same l i v d h)
     go (no ne) = rw (ne-eqb i j ne, getD-set-other l i j v d (λ q. ne (sym q)))
 
-module _ (ss : List Subject) (os : List Object) (hs : List Handle) where
+module _ (rest : Tables) (ss : List Subject) (os : List Object) (hs : List Handle) where
   pub store-subject : (s : ℕ) (v : Subject) → length ss ≡ 32 → s < 32
-      → tables-of (set ss (s % 32) v) os hs ≡ with-at (tables-of ss os hs) (put (tables-of ss os hs .at) (subject s) (subject-entry v))
+      → tables-of rest (set ss (s % 32) v) os hs ≡ with-at (tables-of rest ss os hs) (put (tables-of rest ss os hs .at) (subject s) (subject-entry v))
   unfolding tables-of
-  store-subject s v l h = let e : s % 32 ≡ s = omega arith in rw e (ap (with-at (tables-of ss os hs)) (fun-ext at))
+  store-subject s v l h = let e : s % 32 ≡ s = omega arith in rw e (ap (with-at (tables-of rest ss os hs)) (fun-ext at))
     where
       at : (x : Thing) → entries (set ss s v) os x ≡ put (entries ss os) (subject s) (subject-entry v) x
       at (subject n) = look-set subject-entry ss no-subject s v (omega arith) n
       at (object n) = refl
 
   pub store-object : (o : ℕ) (v : Object) → length os ≡ 64 → o < 64
-      → tables-of ss (set os (o % 64) v) hs ≡ with-at (tables-of ss os hs) (put (tables-of ss os hs .at) (object o) (object-entry v))
+      → tables-of rest ss (set os (o % 64) v) hs ≡ with-at (tables-of rest ss os hs) (put (tables-of rest ss os hs .at) (object o) (object-entry v))
   unfolding tables-of
-  store-object o v l h = let e : o % 64 ≡ o = omega arith in rw e (ap (with-at (tables-of ss os hs)) (fun-ext at))
+  store-object o v l h = let e : o % 64 ≡ o = omega arith in rw e (ap (with-at (tables-of rest ss os hs)) (fun-ext at))
     where
       at : (x : Thing) → entries ss (set os o v) x ≡ put (entries ss os) (object o) (object-entry v) x
       at (subject n) = refl
       at (object n) = look-set object-entry os no-object o v (omega arith) n
 
   pub store-handle : (s p : ℕ) (v : Handle) → length hs ≡ 512 → s < 32 → p < 16
-      → tables-of ss os (set hs (s % 32 * 16 + p % 16) v) ≡ with-hand (tables-of ss os hs) (place (tables-of ss os hs .hand) s p (held v))
+      → tables-of rest ss os (set hs (s % 32 * 16 + p % 16) v) ≡ with-hand (tables-of rest ss os hs) (place (tables-of rest ss os hs .hand) s p (held v))
   unfolding tables-of
   store-handle s p v l h hp = let e : s % 32 ≡ s = omega arith in let f : p % 16 ≡ p = omega arith in rw (e, f)
-      (ap (with-hand (tables-of ss os hs)) (fun-ext (λ s′. fun-ext (λ p′. at s′ p′ (ltb p′ 16) refl (ℕ-discrete s s′) (ℕ-discrete p p′)))))
+      (ap (with-hand (tables-of rest ss os hs)) (fun-ext (λ s′. fun-ext (λ p′. at s′ p′ (ltb p′ 16) refl (ℕ-discrete s s′) (ℕ-discrete p p′)))))
     where
       at : (s′ p′ : ℕ) (b : Bool) → ltb p′ 16 ≡ b → Dec (s ≡ s′) → Dec (p ≡ p′) → hands (set hs (s * 16 + p) v) s′ p′ ≡ place (hands hs) s p (held v) s′ p′
       at s′ p′ b e (yes es) (yes ep) = rw (
@@ -208,35 +208,35 @@ outlived-is t u o y r h e = ap object-entry e ∙ go (ltb (y .kind) 2) (open-on 
     go false true = refl
     go false false = refl
 
-module _ (ss : List Subject) (os : List Object) (hs : List Handle) where
+module _ (rest : Tables) (ss : List Subject) (os : List Object) (hs : List Handle) where
   -- place p of s emptied, whose handle k was on object o, and the object's record as it outlives that
   pub store-close : (s p o : ℕ) (k : Held) (v : Handle) (r : Object) → length os ≡ 64 → length hs ≡ 512 → s < 32 → p < 16 → o < 64
-      → tables-of ss os hs .hand s p ≡ some k → o ≡ k .to → Outlives (set hs (s % 32 * 16 + p % 16) v) (getD os (o % 64) no-object) o r
-      → tables-of ss (set os (o % 64) r) (set hs (s % 32 * 16 + p % 16) v) ≡ reap (handles (tables-of ss os hs))
-      (with-hand (tables-of ss os hs) (place (tables-of ss os hs .hand) s p (held v)))
+      → tables-of rest ss os hs .hand s p ≡ some k → o ≡ k .to → Outlives (set hs (s % 32 * 16 + p % 16) v) (getD os (o % 64) no-object) o r
+      → tables-of rest ss (set os (o % 64) r) (set hs (s % 32 * 16 + p % 16) v) ≡ reap (handles (tables-of rest ss os hs))
+      (with-hand (tables-of rest ss os hs) (place (tables-of rest ss os hs .hand) s p (held v)))
   unfolding tables-of
-  store-close s p o k v r lo lh hs′ hp ho at to e = store-object ss os (set hs (s % 32 * 16 + p % 16) v) o r lo ho
+  store-close s p o k v r lo lh hs′ hp ho at to e = store-object rest ss os (set hs (s % 32 * 16 + p % 16) v) o r lo ho
       ∙ ap (λ (u : Tables). with-at u (put (u .at) (object o) (object-entry r))) shut
       ∙ sym (reap-one t u o (object-entry r) left-over (λ n ne. others-open t s p k (held v) at n (λ q. ne (q ∙ sym to))))
     where
       t : Tables
-      t = tables-of ss os hs
+      t = tables-of rest ss os hs
 
       u : Tables
-      u = with-hand (tables-of ss os hs) (place (tables-of ss os hs .hand) s p (held v))
+      u = with-hand (tables-of rest ss os hs) (place (tables-of rest ss os hs .hand) s p (held v))
 
       y : Object
       y = getD os (o % 64) no-object
 
-      shut : tables-of ss os (set hs (s % 32 * 16 + p % 16) v) ≡ u
-      shut = store-handle ss os hs s p v lh hs′ hp
+      shut : tables-of rest ss os (set hs (s % 32 * 16 + p % 16) v) ≡ u
+      shut = store-handle rest ss os hs s p v lh hs′ hp
 
       there : u .at (object o) ≡ object-entry y
       there = let q : o % 64 ≡ o = omega arith in rw q
 
       open-is : open-on (handles (with-hand empty (hands (set hs (s % 32 * 16 + p % 16) v)))) o ≡ open-on (handles u) o
-      open-is = ap (λ (l : List Held). open-on l o) (sym (handles-at (with-hand empty (hands (set hs (s % 32 * 16 + p % 16) v)))
-          (entries ss os)) ∙ ap handles shut)
+      open-is = ap (λ (l : List Held). open-on l o) (handles-by (with-hand empty (hands (set hs (s % 32 * 16 + p % 16) v)))
+          (tables-of rest ss os (set hs (s % 32 * 16 + p % 16) v)) refl ∙ ap handles shut)
 
       left-over : object-entry r ≡ cond (ended (handles t) (handles u) (object o) (u .at (object o))) none (u .at (object o))
       left-over = outlived-is t u o y r (subst (λ (z : ℕ). T (open-on (handles t) z)) (sym to) (open-here t s p k hs′ hp at))
