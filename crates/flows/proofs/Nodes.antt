@@ -95,11 +95,11 @@ no-edge start h s q = go (eqb (h .way) 0) _ _ q
     go false k n q = absurd (Option·none-ne-some k (sym q))
 
 -- ── the tables ──
-module _ (ss : List Subject) (os : List Object) (hs : List Handle) (w : Wf (tables-of ss os hs)) (lo : length os ≡ 64)
+module _ (rest : Tables) (ss : List Subject) (os : List Object) (hs : List Handle) (w : Wf (tables-of rest ss os hs)) (lo : length os ≡ 64)
     (from to base r : List ℕ) (lb : length base ≡ 96) (k : Marked os base) (fs : Ends hs true from) (ts : Ends hs false to)
     (p : Least from to base r) where
   abbrev t : Tables
-  t = tables-of ss os hs
+  t = tables-of rest ss os hs
 
   f : Thing → Label
   f y = demand y (t .at y)
@@ -198,5 +198,5 @@ module _ (ss : List Subject) (os : List Object) (hs : List Handle) (w : Wf (tabl
       (subst (λ (y : Thing). figure r (node x) ≤ level (needs t y)) (thing-node x g)
       (p .between .under ψ (record { above = above; settled = settled }) (node x))))
 
-  pub needed : Needed (tables-of ss os hs) r
+  pub needed : Needed (tables-of rest ss os hs) r
   needed = record { need-is = λ x g. ⊑-antisym (at-least x g) (at-most x) }

@@ -58,10 +58,10 @@ object-as : (x : Object) (v : ℕ) → As (short-object x v) (Low v (object-entr
 object-as x v = low-as (eqb (x .kind) 0) (cond (eqb (x .kind) 1) file pipe) (x .level) v
 
 -- ── all things ──
-module _ (ss : List Subject) (os : List Object) (hs : List Handle) (n : List ℕ) (w : Wf (tables-of ss os hs))
-    (d : Needed (tables-of ss os hs) n) where
+module _ (rest : Tables) (ss : List Subject) (os : List Object) (hs : List Handle) (n : List ℕ) (w : Wf (tables-of rest ss os hs))
+    (d : Needed (tables-of rest ss os hs) n) where
   abbrev t : Tables
-  t = tables-of ss os hs
+  t = tables-of rest ss os hs
 
   fs : ℕ → Bool
   fs i = short-subject (getD ss i no-subject) (getD n i 0)
@@ -110,11 +110,11 @@ module _ (ss : List Subject) (os : List Object) (hs : List Handle) (n : List ℕ
 
   -- the two tests, one after the other
   pub short-first : some-below 32 (λ i. short-subject (getD ss i no-subject) (getD n i 0)) ≡ true
-      → true ≡ not (safe (tables-of ss os hs))
+      → true ≡ not (safe (tables-of rest ss os hs))
   unfolding fs fo
   short-first q = ap (λ (b : Bool). b || some-below 64 fo) (sym q) ∙ short-is
 
   pub short-second : some-below 32 (λ i. short-subject (getD ss i no-subject) (getD n i 0)) ≡ false
-      → some-below 64 (λ i. short-object (getD os i no-object) (getD n (32 + i) 0)) ≡ not (safe (tables-of ss os hs))
+      → some-below 64 (λ i. short-object (getD os i no-object) (getD n (32 + i) 0)) ≡ not (safe (tables-of rest ss os hs))
   unfolding fs fo
   short-second q = ap (λ (b : Bool). b || some-below 64 fo) (sym q) ∙ short-is

@@ -7,7 +7,7 @@ ghost use Prim.Native.Nat.{_+_, _<_};
 ghost use lib.ListN.{getD};
 ghost use Rattle.model.specs.Label.{leq, label};
 ghost use Rattle.model.specs.Flow.{subject};
-ghost use Rattle.model.specs.Tables.{needs, safe};
+ghost use Rattle.model.specs.Tables.{Tables, needs, safe};
 ghost use Rattle.model.specs.Invariant.{Wf};
 ghost use Rattle.tables.specs.declared.Subject.{Subject};
 ghost use Rattle.tables.specs.Records.{no-subject, no-object, tables-of};
@@ -95,7 +95,8 @@ fn marks(objects: [Object; OBJECTS]) -> [u8; THINGS]
 
 // The need of each thing, in tables in which nothing dangles.
 pub fn figures(objects: [Object; OBJECTS], handles: [Handle; HANDLES]) -> [u8; THINGS]
-    ensures { λ r. ⌜ ((ss : List Subject) → Wf (tables-of ss objects handles) → Needed (tables-of ss objects handles) r) ⌝ }
+    ensures { λ r. ⌜ ((rest : Tables) (ss : List Subject) → Wf (tables-of rest ss objects handles) →
+        Needed (tables-of rest ss objects handles) r) ⌝ }
 {
     let from = ends(handles, true);
     let to = ends(handles, false);
@@ -150,7 +151,7 @@ pub fn is_short(
     objects: [Object; OBJECTS],
     handles: [Handle; HANDLES],
 ) -> bool
-    ensures { λ r. ⌜ (Wf (tables-of subjects objects handles) → r ≡ not (safe (tables-of subjects objects handles))) ⌝ }
+    ensures { λ r. ⌜ ((rest : Tables) → Wf (tables-of rest subjects objects handles) → r ≡ not (safe (tables-of rest subjects objects handles))) ⌝ }
 {
     let n = figures(objects, handles);
     if subjects_short(subjects, n) {
@@ -162,7 +163,8 @@ pub fn is_short(
 // This level is below the need of subject s, in tables in which nothing dangles.
 pub fn is_below(objects: [Object; OBJECTS], handles: [Handle; HANDLES], s: usize, level: u8) -> bool
     requires { ⌜ s < 32 ⌝ }
-    ensures { λ r. ⌜ ((ss : List Subject) → Wf (tables-of ss objects handles) → r ≡ not (leq (needs (tables-of ss objects handles) (subject s)) (label level))) ⌝ }
+    ensures { λ r. ⌜ ((rest : Tables) (ss : List Subject) → Wf (tables-of rest ss objects handles) →
+        r ≡ not (leq (needs (tables-of rest ss objects handles) (subject s)) (label level))) ⌝ }
 {
     let n = figures(objects, handles);
     let need = n[s];

@@ -10,7 +10,7 @@ use borrow.Author.Tests.{lt-ltb, le-ltb, ltb-true}
 use lib.ListN.{length, getD, List·getD-eq-default}
 use lib.Dec.{ltb, eqb}
 use Rattle.model.specs.Flow.{subject, object}
-use Rattle.model.specs.Tables.{Dir, handle, with-hand, places, is-some, used, live, counted, clean}
+use Rattle.model.specs.Tables.{Dir, handle, Tables, with-hand, places, is-some, used, live, counted, clean}
 use Rattle.model.specs.Tables.{Handle as Held}
 use Rattle.model.specs.Tables.Laws.{used-is}
 use Rattle.tables.specs.declared.Subject.{Subject}
@@ -48,27 +48,27 @@ some-cond : {A : Type 0} (b : Bool) (a : A) → is-some (cond b none (some a)) �
 some-cond true a = refl
 some-cond false a = refl
 
-module _ (ss : List Subject) (os : List Object) (hs r : List Handle) (i : ℕ) (full : 512 ≤ i) (m : Mapped no-handle (kept-at ss os) hs r i)
+module _ (rest : Tables) (ss : List Subject) (os : List Object) (hs r : List Handle) (i : ℕ) (full : 512 ≤ i) (m : Mapped no-handle (kept-at ss os) hs r i)
     (lh : length hs ≡ 512) where
   f : ℕ → Bool
-  f o = live (tables-of ss os hs) (object o)
+  f o = live (tables-of rest ss os hs) (object o)
 
   -- the object that a record names, and the one at that number modulo 64
   named : (h : Handle) → f (h .object) ≡ (ltb (h .object) 64 && not (eqb (getD os (h .object % 64) no-object .kind) 0))
   unfolding f tables-of
   named h = go (ltb (h .object) 64) refl
     where
-      go : (b : Bool) → ltb (h .object) 64 ≡ b → (b && used (tables-of ss os hs) (object (h .object))) ≡
+      go : (b : Bool) → ltb (h .object) 64 ≡ b → (b && used (tables-of rest ss os hs) (object (h .object))) ≡
           (b && not (eqb (getD os (h .object % 64) no-object .kind) 0))
-      go true q = let e : h .object % 64 ≡ h .object = omega (arith, ltb-true (h .object) 64 q) in rw (used-is (tables-of ss os hs) (object (h .object)), e)
+      go true q = let e : h .object % 64 ≡ h .object = omega (arith, ltb-true (h .object) 64 q) in rw (used-is (tables-of rest ss os hs) (object (h .object)), e)
           (some-cond (eqb (getD os (h .object) no-object .kind) 0) _)
       go false q = refl
 
-  at-place : (s q : ℕ) → q < 16 → Dec (s < 32) → held (getD r (s * 16 + q) no-handle) ≡ counted (live (tables-of ss os hs) (subject s)) f
+  at-place : (s q : ℕ) → q < 16 → Dec (s < 32) → held (getD r (s * 16 + q) no-handle) ≡ counted (live (tables-of rest ss os hs) (subject s)) f
       (held (getD hs (s * 16 + q) no-handle))
   unfolding f tables-of
   at-place s q lq (yes h) = let d : (s * 16 + q) / 16 ≡ s = omega arith in
-      rw (m .done (s * 16 + q) (omega arith), d, lt-ltb s 32 h, used-is (tables-of ss os hs) (subject s), some-cond (eqb (getD ss s no-subject .live) 0))
+      rw (m .done (s * 16 + q) (omega arith), d, lt-ltb s 32 h, used-is (tables-of rest ss os hs) (subject s), some-cond (eqb (getD ss s no-subject .live) 0))
       (kept-held k (eqb (getD ss s no-subject .live) 0) (ltb (k .object) 64) (eqb (getD os (k .object % 64) no-object .kind) 0)
       ∙ sym (counted-held k (not (eqb (getD ss s no-subject .live) 0)) _ f (named k)))
     where
@@ -77,10 +77,10 @@ module _ (ss : List Subject) (os : List Object) (hs r : List Handle) (i : ℕ) (
   at-place s q lq (no n) = rw (le-ltb s 32 (omega arith), List·getD-eq-default r no-handle {n = s * 16 + q} (omega (arith, m .long)))
       (sym (counted-held (getD hs (s * 16 + q) no-handle) false _ f refl))
 
-  hand-is : (s q : ℕ) (b : Bool) → ltb q 16 ≡ b → hands r s q ≡ counted (ltb q places && live (tables-of ss os hs) (subject s)) f (hands hs s q)
+  hand-is : (s q : ℕ) (b : Bool) → ltb q 16 ≡ b → hands r s q ≡ counted (ltb q places && live (tables-of rest ss os hs) (subject s)) f (hands hs s q)
   hand-is s q true e = rw e (at-place s q (ltb-true q 16 e) (decLt s 32))
   hand-is s q false e = rw e
 
-  pub cleaned-tables : tables-of ss os r ≡ clean (tables-of ss os hs)
+  pub cleaned-tables : tables-of rest ss os r ≡ clean (tables-of rest ss os hs)
   unfolding tables-of clean f
-  cleaned-tables = ap (with-hand (tables-of ss os hs)) (fun-ext (λ s. fun-ext (λ q. hand-is s q (ltb q 16) refl)))
+  cleaned-tables = ap (with-hand (tables-of rest ss os hs)) (fun-ext (λ s. fun-ext (λ q. hand-is s q (ltb q 16) refl)))

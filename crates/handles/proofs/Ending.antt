@@ -14,7 +14,7 @@ use lib.Seq.{getD-set-same, getD-set-other}
 use lib.Dec.{ltb, eqb}
 use Rattle.model.specs.Label.{label}
 use Rattle.model.specs.Flow.{Thing, subject, object}
-use Rattle.model.specs.Tables.{pipe, entry, empty, with-at, with-hand, handles, open-on}
+use Rattle.model.specs.Tables.{pipe, entry, Tables, empty, with-at, with-hand, handles, open-on}
 use Rattle.model.specs.Tables.{Handle as Held}
 use Rattle.model.specs.Steps.{ended, reap}
 use Rattle.tables.specs.declared.Subject.{Subject}
@@ -96,15 +96,15 @@ ended-entry before after n x was is p q =
 abbrev pub left-at : List Bool → List Bool → ℕ → Object → Object
 left-at was is j x = outlived-by x (getD was j false) (getD is j false)
 
-pub reaped-tables : (ss : List Subject) (os r : List Object) (hs₀ hs : List Handle) (before : List Held) (was is : List Bool) (i : ℕ) → 64 ≤ i
+pub reaped-tables : (rest : Tables) (ss : List Subject) (os r : List Object) (hs₀ hs : List Handle) (before : List Held) (was is : List Bool) (i : ℕ) → 64 ≤ i
     → Mapped no-object (left-at was is) os r i → length os ≡ 64 → Mapping hs₀ was 512 → Mapping hs is 512
     → before ≡ handles (with-hand empty (hands hs₀))
-    → tables-of ss r hs ≡ reap before (tables-of ss os hs)
+    → tables-of rest ss r hs ≡ reap before (tables-of rest ss os hs)
 unfolding tables-of handles ended
-reaped-tables ss os r hs₀ hs before was is i full m lo pw pi eb = ap (with-at (tables-of ss os hs)) (fun-ext at)
+reaped-tables rest ss os r hs₀ hs before was is i full m lo pw pi eb = ap (with-at (tables-of rest ss os hs)) (fun-ext at)
   where
     after : List Held
-    after = handles (tables-of ss os hs)
+    after = handles (tables-of rest ss os hs)
 
     open-before : (o : ℕ) → o < 64 → getD was o false ≡ open-on before o
     open-before o l = rw eb (pw .at o l ∙ open-is hs₀ o)

@@ -9,7 +9,7 @@ use native.Mathlib.Decide.{ℕ-discrete, decLt}
 use borrow.Author.Tests.{eq-eqb, ne-eqb, ltb-true}
 use lib.ListN.{getD}
 use lib.Dec.{ltb}
-use Rattle.model.specs.Tables.{with-hand}
+use Rattle.model.specs.Tables.{Tables, with-hand}
 use Rattle.model.specs.Steps.{row}
 use Rattle.tables.specs.declared.Subject.{Subject}
 use Rattle.tables.specs.declared.Object.{Object}
@@ -37,6 +37,6 @@ module _ (hs r places : List Handle) (c i : ℕ) (full : i ≡ 16) (m : Rowed no
   row-at s q false e (yes z) = rw (← z, eq-eqb c c refl, e)
   row-at s q false e (no nz) = rw (ne-eqb c s nz, e)
 
-  pub rowed-tables : (ss : List Subject) (os : List Object) → tables-of ss os r ≡ with-hand (tables-of ss os hs) (row (hands hs) c (along places))
+  pub rowed-tables : (rest : Tables) (ss : List Subject) (os : List Object) → tables-of rest ss os r ≡ with-hand (tables-of rest ss os hs) (row (hands hs) c (along places))
   unfolding tables-of
-  rowed-tables ss os = ap (with-hand (tables-of ss os hs)) (fun-ext (λ s. fun-ext (λ q. row-at s q (ltb q 16) refl (ℕ-discrete c s))))
+  rowed-tables rest ss os = ap (with-hand (tables-of rest ss os hs)) (fun-ext (λ s. fun-ext (λ q. row-at s q (ltb q 16) refl (ℕ-discrete c s))))

@@ -54,7 +54,7 @@ pub fn cleaned(
     objects: [Object; OBJECTS],
     handles: [Handle; HANDLES],
 ) -> [Handle; HANDLES]
-    ensures { λ r. ⌜ tables-of subjects objects r ≡ clean (tables-of subjects objects handles) ⌝ }
+    ensures { λ r. ⌜ ((rest : Tables) → tables-of rest subjects objects r ≡ clean (tables-of rest subjects objects handles)) ⌝ }
 {
     let mut r = handles;
     let mut i: usize = 0;
@@ -167,8 +167,8 @@ pub fn reaped(
     before: [Handle; HANDLES],
     after: [Handle; HANDLES],
 ) -> [Object; OBJECTS]
-    ensures { λ r. ⌜ ((ss : List Subject) (t : Tables) → all-handles t ≡ all-handles (with-hand empty (hands before)) →
-        tables-of ss r after ≡ reap (all-handles t) (tables-of ss objects after)) ⌝ }
+    ensures { λ r. ⌜ ((rest : Tables) (ss : List Subject) (t : Tables) → all-handles t ≡ all-handles (with-hand empty (hands before)) →
+        tables-of rest ss r after ≡ reap (all-handles t) (tables-of rest ss objects after)) ⌝ }
 {
     let was = open_map(before);
     let is = open_map(after);
@@ -208,8 +208,8 @@ pub fn row_of(handles: [Handle; HANDLES], s: usize) -> [Handle; PLACES]
 // The handles with those of subject s made these.
 pub fn with_row(handles: [Handle; HANDLES], s: usize, places: [Handle; PLACES]) -> [Handle; HANDLES]
     requires { ⌜ s < 32 ⌝ }
-    ensures { λ r. ⌜ ((ss : List Subject) (os : List Object) →
-        tables-of ss os r ≡ with-hand (tables-of ss os handles) (row (hands handles) s (along places))) ⌝ }
+    ensures { λ r. ⌜ ((rest : Tables) (ss : List Subject) (os : List Object) →
+        tables-of rest ss os r ≡ with-hand (tables-of rest ss os handles) (row (hands handles) s (along places))) ⌝ }
 {
     let mut r = handles;
     let base = s * PLACES;

@@ -19,7 +19,7 @@ least-requires c κs = search needs
 
 returns : tie.Need-returns
 returns c =
-    λ ss w. needed ss _ _ w (search (needs, unmapped)) _ _ _ _ (search needs) (c .before .marks .ensures)
+    λ rest ss w. needed rest ss _ _ w (search (needs, unmapped)) _ _ _ _ (search needs) (c .before .marks .ensures)
     (c .before .before .before .ends .ensures) (c .before .before .ends2 .ensures) (c .least .ensures)
 
 pub figures-spec : {M : Type 1} → statement M

@@ -17,9 +17,9 @@ array-read-need c = search needs
 
 returns : tie.Need-returns
 returns c =
-    λ ss w. below-test _ _
+    λ rest ss w. below-test _ _
     ∙ ap (λ (a : Label). not (leq a (label (c .before .args .level))))
-    (c .figures .ensures ss w .need-is (subject (c .before .args .s)) (lt→ltb (c .before .args .s) 32 (c .before .pre)))
+    (c .figures .ensures rest ss w .need-is (subject (c .before .args .s)) (lt→ltb (c .before .args .s) 32 (c .before .pre)))
 
 pub is-below-spec : {M : Type 1} → statement M
 is-below-spec = tie.close (tie.spec figures-requires array-read-need returns)

@@ -13,15 +13,15 @@ subjects-short-requires c κs = search needs
 
 returns : tie.Need-returns
 returns c =
-    λ w. short-first _ _ _ _ w (c .before .before .figures .ensures _ w) (sym (c .before .subjects-short .ensures) ∙ c .if1 .taken)
+    λ rest w. short-first rest _ _ _ _ w (c .before .before .figures .ensures rest _ w) (sym (c .before .subjects-short .ensures) ∙ c .if1 .taken)
 
 objects-short-requires : tie.Need-objects-short-requires
 objects-short-requires c κs = search needs
 
 returns-2 : tie.Need-returns-2
 returns-2 c =
-    λ w. c .objects-short .ensures
-    ∙ short-second _ _ _ _ w (c .before .before .before .figures .ensures _ w)
+    λ rest w. c .objects-short .ensures
+    ∙ short-second rest _ _ _ _ w (c .before .before .before .figures .ensures rest _ w)
     (sym (c .before .before .subjects-short .ensures) ∙ c .before .if1 .left)
 
 pub is-short-spec : {M : Type 1} → statement M

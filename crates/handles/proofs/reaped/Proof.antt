@@ -54,8 +54,8 @@ loop-again : tie.Need-loop-again Inv-loop μ-loop
 loop-again c = (omega arith, mapped-more no-object _ _ _ _ _ (c .before .before .before .loop .inv .1) (search (needs, unmapped)) (c .left .ensures))
 
 returns : tie.Need-returns Inv-loop μ-loop
-returns c = λ ss t e.
-    reaped-tables ss _ _ _ _ _ _ _ _ (c .loop-test .left) (c .before .loop .inv .1) (search (needs, unmapped))
+returns c = λ rest ss t e.
+    reaped-tables rest ss _ _ _ _ _ _ _ _ (c .loop-test .left) (c .before .loop .inv .1) (search (needs, unmapped))
     (c .before .before .before .open-map .ensures) (c .before .before .open-map2 .ensures) e
 
 pub reaped-spec : {M : Type 1} → statement M
