@@ -9,7 +9,7 @@ use Rattle.model.specs.Calls.{Call, tests, first, refusal, effect, refused, all
 use Rattle.model.specs.Calls.{Answer as Told}
 use Rattle.model.specs.Calls.Refusals.{answered-refused}
 use Rattle.model.specs.Promise.{Meets}
-use Rattle.tables.specs.Refusing.{late, Refuses}
+use Rattle.tables.specs.Refusing.{late, Refuses, Refused}
 use Rattle.gatekeeper.specs.declared.Monitor.{Monitor}
 use Rattle.gatekeeper.specs.declared.Reply.{Reply}
 use Rattle.gatekeeper.specs.View.{view, told, refuses}
@@ -29,10 +29,21 @@ halts m c n r e q = record {
 pub stops : (m : Monitor) (c : Call) (n : ℕ) (r : Reply) → Refuses (view m) c n → (n ≡ 0 → ⊥) → r ≡ back m n → Acts m c (told (r .answer)) (r .monitor)
 stops m c n r z h = halts m c n r (z .said ∙ ap (λ (b : Bool). cond b (first (view m) (tests c) late) (some n)) (ne-eqb n 0 h))
 
+-- by a late row
+pub ends : (m : Monitor) (c : Call) (n : ℕ) (r : Reply) → Refused (view m) c n → (n ≡ 0 → ⊥) → r ≡ back m n → Acts m c (told (r .answer)) (r .monitor)
+ends m c n r z h = halts m c n r (z .is ∙ ap (λ (b : Bool). cond b none (some n)) (ne-eqb n 0 h))
+
 -- ── allowed ──
 -- no row over records refuses: what is left are the late rows
+pub waits : {t : Tables} {c : Call} {n : ℕ} → Refuses t c n → n ≡ 0 → Refuses t c 0
+waits {t} {c} z h = subst (Refuses t c) h z
+
 pub goes : {t : Tables} {c : Call} {n : ℕ} → Refuses t c n → n ≡ 0 → refusal t c ≡ first t (tests c) late
-goes {t} {c} {n} z h = z .said ∙ ap (λ (b : Bool). cond b (first t (tests c) late) (some n)) (eq-eqb n 0 h)
+goes z h = waits z h .said
+
+-- nor does a late row refuse
+pub frees : {t : Tables} {c : Call} {n : ℕ} → Refused t c n → n ≡ 0 → refusal t c ≡ none
+frees {n = n} z h = z .is ∙ ap (λ (b : Bool). cond b none (some n)) (eq-eqb n 0 h)
 
 pub acts : (m : Monitor) (c : Call) (a : Told) (n : Monitor) (u : Tables) → Does (view m) c a u → view n ≡ u → Acts m c a n
 acts m c a n u d v = record {

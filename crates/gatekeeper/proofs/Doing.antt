@@ -14,13 +14,13 @@ use Rattle.model.specs.Lists.{In}
 use Rattle.model.specs.Label.{Label, leq, meet, label, level}
 use Rattle.model.specs.Label.Laws.{⊑-refl, level-label, le→⊑, ⊑→le, meet-stays, meet-falls}
 use Rattle.model.specs.Flow.{Thing, subject, object}
-use Rattle.model.specs.Tables.{Kind, running, file, pipe, Dir, reading, writing, Entry, entry, handle, Tables, with-at, with-hand, places, is-some, live, label-of, cell, handles, open-on}
+use Rattle.model.specs.Tables.{Kind, running, file, pipe, Dir, reading, writing, Entry, entry, handle, Tables, with-at, with-hand, with-freeze, places, is-some, live, label-of, cell, handles, open-on}
 use Rattle.model.specs.Tables.{Handle as Held}
-use Rattle.model.specs.Tables.Laws.{live-of, used-is, cell-self, handles-at, open-here, open-at}
+use Rattle.model.specs.Tables.Laws.{live-of, used-is, cell-self, handles-by, handles-at, open-here, open-at}
 use Rattle.model.specs.Steps.{put, row, place, falls, sunk, fall, applies, ended, reap}
 use Rattle.model.specs.Steps.Laws.{put-same, ended-subject, reap-more}
 use Rattle.model.specs.Invariant.{Wf}
-use Rattle.model.specs.Calls.{Call, admit, register, create, make-pipe, opens, access, fork, exec, close, exit, retire, target, sheds, steps, effect, Test, alive, new, present, vacant, taken, apart, broken, tests, refusal, shown, refused, allowed, lowered, outcome, answer}
+use Rattle.model.specs.Calls.{Call, admit, register, create, make-pipe, opens, access, fork, exec, close, exit, retire, freeze, target, sheds, steps, effect, Test, alive, new, present, vacant, taken, apart, broken, tests, refusal, level-at, shown, refused, allowed, lowered, outcome, said, answer}
 use Rattle.model.specs.Calls.{Answer as Told}
 use Rattle.model.specs.Calls.Refusals.{allowed-iff}
 use Rattle.model.specs.Calls.Passed.{is-alive, is-present, is-new, is-place}
@@ -37,15 +37,12 @@ pub record Does (t : Tables) (c : Call) (a : Told) (u : Tables) : Type 0 where
   pub answered : a ≡ answer t c
   pub made : u ≡ effect t c
 
-does : (t : Tables) (c : Call) (a : Told) (u : Tables) → refusal t c ≡ none → a ≡ outcome (t .at (shown t c)) (effect t c .at (shown t c)) → u ≡ effect t c
+does : (t : Tables) (c : Call) (a : Told) (u : Tables) → refusal t c ≡ none → a ≡ said t (effect t c) (shown t c) → u ≡ effect t c
     → Does t c a u
 unfolding answer
 does t c a u e q v = record {
   free = e;
-  answered = q ∙ sym (ap (λ (o : Option ℕ). elim o as (λ _. Told) [
-    | none ↦ outcome (t .at (shown t c)) (effect t c .at (shown t c))
-    | some n ↦ refused n
-  ]) e);
+  answered = q ∙ sym (ap (λ (o : Option ℕ). elim o as (λ _. Told) [ none ↦ said t (effect t c) (shown t c) | some n ↦ refused n ]) e);
   made = v;
 }
 
@@ -139,17 +136,23 @@ effect-at : (t : Tables) (c : Call) (a : Thing → Option Entry) → applies (st
 unfolding effect
 effect-at t c a q = ap (reap (handles t)) q ∙ reap-more t (with-at t a) (λ n h. subst (λ (hs : List Held). T (open-on hs n)) (sym (handles-at t a)) h)
 
+-- ── the freeze ──
+pub freeze-does : (t : Tables) (n : ℕ) → refusal t (freeze n) ≡ none → Does t (freeze n) (allowed n) (with-freeze t n)
+unfolding effect
+freeze-does t n e = does t (freeze n) (allowed n) (with-freeze t n) e refl
+    (sym (reap-more t (with-freeze t n) (λ o h. subst (λ (hs : List Held). T (open-on hs o)) (handles-by t (with-freeze t n) refl) h)))
+
 -- ── a new thing: admit, register, create ──
 entered : (t : Tables) (c : Call) (x : Thing) (k : Kind) (l : ℕ) → refusal t c ≡ none → applies (steps t c) t ≡ with-at t
     (put (t .at) x (some (entry k (label l))))
-    → shown t c ≡ x → t .at x ≡ none → Does t c (allowed l) (with-at t (put (t .at) x (some (entry k (label l)))))
+    → shown t c ≡ level-at x → t .at x ≡ none → Does t c (allowed l) (with-at t (put (t .at) x (some (entry k (label l)))))
 entered t c x k l e q z b = does t c (allowed l) _ e (ap allowed (sym (level-label l)) ∙ sym shows) (sym f)
   where
     f : effect t c ≡ with-at t (put (t .at) x (some (entry k (label l))))
     f = effect-at t c (put (t .at) x (some (entry k (label l)))) q
 
-    shows : outcome (t .at (shown t c)) (effect t c .at (shown t c)) ≡ allowed (level (label l))
-    shows = ap (λ (y : Thing). outcome (t .at y) (effect t c .at y)) z ∙ ap (λ (o : Option Entry). outcome o (effect t c .at x)) b
+    shows : said t (effect t c) (shown t c) ≡ allowed (level (label l))
+    shows = ap (said t (effect t c)) z ∙ ap (λ (o : Option Entry). outcome o (effect t c .at x)) b
         ∙ ap (λ (u : Tables). outcome none (u .at x)) f ∙ ap (outcome none) (put-same (t .at) x (some (entry k (label l))))
 
 pub admit-does : (t : Tables) (s l : ℕ) → refusal t (admit s l) ≡ none → Does t (admit s l) (allowed l)
@@ -191,7 +194,7 @@ row-more h c r e s p k q = go (eqb c s) (eqb→eq c s)
 
 -- a new thing and its handles
 joined : (t : Tables) (c : Call) (x : Thing) (k : Kind) (l : ℕ) (h : ℕ → ℕ → Option Held) → refusal t c ≡ none
-    → applies (steps t c) t ≡ with-hand (with-at t (put (t .at) x (some (entry k (label l))))) h → shown t c ≡ x → t .at x ≡ none
+    → applies (steps t c) t ≡ with-hand (with-at t (put (t .at) x (some (entry k (label l))))) h → shown t c ≡ level-at x → t .at x ≡ none
     → ((s p : ℕ) (j : Held) → t .hand s p ≡ some j → h s p ≡ some j)
     → Does t c (allowed l) (with-hand (with-at t (put (t .at) x (some (entry k (label l))))) h)
 unfolding effect
@@ -203,8 +206,8 @@ joined t c x k l h e q z b m = does t c (allowed l) u e (ap allowed (sym (level-
     is : reap (handles t) (applies (steps t c) t) ≡ u
     is = ap (reap (handles t)) q ∙ reap-more t u (more-open t u m)
 
-    shows : outcome (t .at (shown t c)) (reap (handles t) (applies (steps t c) t) .at (shown t c)) ≡ allowed (level (label l))
-    shows = ap (λ (y : Thing). outcome (t .at y) (reap (handles t) (applies (steps t c) t) .at y)) z
+    shows : said t (reap (handles t) (applies (steps t c) t)) (shown t c) ≡ allowed (level (label l))
+    shows = ap (said t (reap (handles t) (applies (steps t c) t))) z
         ∙ ap (λ (v : Tables). outcome (t .at x) (v .at x)) is ∙ ap₂ outcome b (put-same (t .at) x (some (entry k (label l))))
 
 pub pipe-does : (t : Tables) (s o r w : ℕ) (x : Subject) → refusal t (make-pipe s o r w) ≡ none → t .at (subject s) ≡ subject-entry x
@@ -301,7 +304,7 @@ retire-does t o y e q = does t (retire o) (allowed (y .level)) _ e
 -- ── data moves: read, write, exec ──
 -- y, of kind kd and level k, takes in z, of level l
 module _ (t : Tables) (c : Call) (y z : Thing) (kd kz : Kind) (k l : ℕ) (e : refusal t c ≡ none)
-    (q : applies (steps t c) t ≡ with-at t (put (t .at) y (fall y (t .at y) (t .at z)))) (g : shown t c ≡ y)
+    (q : applies (steps t c) t ≡ with-at t (put (t .at) y (fall y (t .at y) (t .at z)))) (g : shown t c ≡ level-at y)
     (o : t .at y ≡ some (entry kd (label k))) (s : t .at z ≡ some (entry kz (label l))) where
   taken-in : (n : ℕ) (a : Told) → sunk y kd (label k) (label l) ≡ label n → a ≡ outcome (some (entry kd (label k))) (some (entry kd (label n)))
       → Does t c a (with-at t (put (t .at) y (some (entry kd (label n)))))
@@ -311,8 +314,8 @@ module _ (t : Tables) (c : Call) (y z : Thing) (kd kz : Kind) (k l : ℕ) (e : r
       is = effect-at t c (put (t .at) y (some (entry kd (label n)))) (q ∙ ap (λ (w : Option Entry). with-at t (put (t .at) y w))
           (ap (λ (w : Option Entry). fall y w (t .at z)) o ∙ ap (fall y (some (entry kd (label k)))) s ∙ ap (λ (b : Label). some (entry kd b)) f))
 
-      shows : outcome (t .at (shown t c)) (effect t c .at (shown t c)) ≡ outcome (some (entry kd (label k))) (some (entry kd (label n)))
-      shows = ap (λ (w : Thing). outcome (t .at w) (effect t c .at w)) g ∙ ap (λ (w : Option Entry). outcome w (effect t c .at y)) o
+      shows : said t (effect t c) (shown t c) ≡ outcome (some (entry kd (label k))) (some (entry kd (label n)))
+      shows = ap (said t (effect t c)) g ∙ ap (λ (w : Option Entry). outcome w (effect t c .at y)) o
           ∙ ap (λ (u : Tables). outcome (some (entry kd (label k))) (u .at y)) is ∙ ap (outcome (some (entry kd (label k))))
           (put-same (t .at) y (some (entry kd (label n))))
 
@@ -347,7 +350,7 @@ fell-by k l false q = ap (λ (c : Bool). cond c (lowered k) (allowed k)) (is-fal
 -- s, whose record is x, takes in something of level l
 falls-in : (t : Tables) (c : Call) (s : ℕ) (i : In (alive s) (tests c)) (x : Subject) (z : Thing) (kz : Kind) (l : ℕ) (e : refusal t c ≡ none)
     → t .at (subject s) ≡ subject-entry x → applies (steps t c) t ≡ with-at t (put (t .at) (cell t s) (fall (cell t s) (t .at (cell t s)) (t .at z)))
-    → shown t c ≡ cell t s → t .at z ≡ some (entry kz (label l))
+    → shown t c ≡ level-at (cell t s) → t .at z ≡ some (entry kz (label l))
     → Does t c (fell (x .level) (fallen-by x l .level)) (with-at t (put (t .at) (subject s) (subject-entry (fallen-by x l))))
 falls-in t c s i x z kz l e q a g h = by (ltb l (x .level)) refl
   where
@@ -428,8 +431,8 @@ write-does t w s p x h y e q r z = by (eqb (y .kind) 1) refl (ltb (x .level) (y 
         (put (t .at) (object (h .object)) (fall (object (h .object)) (t .at (object (h .object))) (t .at (cell t s))))
     a = ap (λ (o : Thing). with-at t (put (t .at) o (fall o (t .at o) (t .at (cell t s))))) (found-target t w (access writing s p) s p h e (inr (inl refl)) r)
 
-    g : shown t (access writing s p) ≡ object (h .object)
-    g = found-target t w (access writing s p) s p h e (inr (inl refl)) r
+    g : shown t (access writing s p) ≡ level-at (object (h .object))
+    g = ap level-at (found-target t w (access writing s p) s p h e (inr (inl refl)) r)
 
     kind-is : (f : Bool) → eqb (y .kind) 1 ≡ f → t .at (object (h .object)) ≡ some (entry (cond f file pipe) (label (y .level)))
     kind-is f m = there ∙ ap (λ (b : Bool). some (entry (cond b file pipe) (label (y .level)))) m

@@ -1,7 +1,7 @@
 -- What stands in a monitor's arrays at the numbers that a call names, and each call's stores as the rules' effect: one law a call. Assumes nothing.
 use mathlib.Core.Path.{_≡_, refl, sym, _∙_, ap, ap₂, subst, subst₂, fun-ext}
-use mathlib.Core.Bool.{Bool, true, false, not, _||_, cond}
-use mathlib.Core.Logic.{_⊎_, inl, inr}
+use mathlib.Core.Bool.{Bool, true, false, not, _&&_, cond}
+use mathlib.Core.Logic.{inl, inr}
 use mathlib.Core.Option.{Option, none, some, Option·none-ne-some, Option·some-injective}
 use mathlib.Core.List.{List}
 use Prim.Native.Nat.{ℕ, _+_, _*_, _%_, _≤_, _<_}
@@ -9,36 +9,38 @@ use native.Mathlib.Omega.{arith}
 use borrow.Author.Tests.{lt-ltb, ltb-true, ltb-false}
 use lib.ListN.{getD, set, length-set, replicate, getD-replicate}
 use lib.Dec.{T, ltb, ltb→lt}
-use Rattle.model.specs.Bools.{is-false}
+use Rattle.model.specs.Bools.{is-false, both-of}
 use Rattle.model.specs.Lists.{In}
 use Rattle.model.specs.Label.{Label, leq, label}
 use Rattle.model.specs.Flow.{Thing, subject, object}
 use Rattle.model.specs.Tables.{pipe, reading, writing, entry, handle, Tables, empty, with-at, with-hand, live, label-of, handles, open-on, needs, safe}
 use Rattle.model.specs.Tables.{Handle as Held}
-use Rattle.model.specs.Tables.Laws.{live-of, cell-self, handles-at}
+use Rattle.model.specs.Tables.Laws.{live-of, cell-self, handles-by}
 use Rattle.model.specs.Steps.{put, row, place, reap}
 use Rattle.model.specs.Invariant.{Wf}
 use Rattle.model.specs.Invariant.Laws.{wf-hold}
-use Rattle.model.specs.Calls.{Call, admit, register, create, make-pipe, opens, access, fork, exec, close, exit, retire, sheds, Test, number, alive, present, vacant, leveled, enough, suits, idle, broken, tests, order, earlier, breaks, first, refusal, allowed}
+use Rattle.model.specs.Calls.{Call, admit, register, create, make-pipe, opens, access, fork, exec, close, exit, retire, freeze, sheds, Test, number, alive, present, vacant, leveled, freezable, enough, suits, idle, thawed, broken, tests, order, earlier, breaks, refusal, allowed}
 use Rattle.model.specs.Calls.{Answer as Told}
 use Rattle.model.specs.Calls.Refusals.{refused-by}
 use Rattle.model.specs.Calls.Passed.{is-alive, is-present, is-place}
 use Rattle.tables.specs.declared.Subject.{Subject}
 use Rattle.tables.specs.declared.Object.{Object}
 use Rattle.tables.specs.declared.Handle.{Handle}
-use Rattle.tables.specs.Records.{subject-entry, object-entry, held, no-subject, no-object, no-handle, entries, hands, along, tables-of}
+use Rattle.tables.specs.Records.{subject-entry, object-entry, held, no-subject, no-object, no-handle, hands, along, tables-of}
 use Rattle.tables.specs.Records.Laws.{subject-there, object-there, handle-there, store-subject, store-object, store-handle, store-close}
-use Rattle.tables.specs.Refusing.{late}
+use Rattle.tables.specs.Refusing.{Refuses, Late, direction}
+use Rattle.tables.proofs.Finding.{alone}
 use Rattle.tables.specs.Working.{subject-at, object-at, handle-at, fallen-by, sunken-by, Outlives}
 use Rattle.gatekeeper.specs.declared.Monitor.{Monitor}
-use Rattle.gatekeeper.specs.View.{view}
-use Rattle.gatekeeper.specs.Acting.{Acts, fell, direction, way-by}
+use Rattle.gatekeeper.specs.View.{beside, view}
+use Rattle.gatekeeper.specs.Acting.{Acts, fell, way-by}
 use Rattle.gatekeeper.proofs.Owned.{Owned, subjects-long, objects-long, handles-long}
-use Rattle.gatekeeper.proofs.Doing.{Does, passed, row-low, live-low, new-row, new-column, place-low, found, found-place, found-to, found-live, full-object, admit-does, register-does, create-does, pipe-does, open-does, read-does, write-does, fork-does, exec-does, close-does, exit-does, retire-does}
+use Rattle.gatekeeper.proofs.Doing.{Does, passed, row-low, live-low, new-row, new-column, place-low, found, found-place, found-to, found-live, full-object, admit-does, register-does, create-does, pipe-does, open-does, read-does, write-does, fork-does, exec-does, close-does, exit-does, retire-does, freeze-does}
 use Rattle.gatekeeper.proofs.Acting.{acts}
 
-abbrev pub monitor : List Subject → List Object → List Handle → Monitor
-monitor ss os hs = record { subjects = ss; objects = os; handles = hs }
+-- the monitor with these arrays, and what else m has
+abbrev pub monitor : Monitor → List Subject → List Object → List Handle → Monitor
+monitor m ss os hs = record { subjects = ss; objects = os; handles = hs; freeze = m .freeze }
 
 -- a level that a call may name is a byte
 leveled-low : (t : Tables) (c : Call) (l : ℕ) → refusal t c ≡ none → In (leveled l) (tests c) → l % 256 ≡ l
@@ -47,74 +49,82 @@ leveled-low t c l e i = let h : l ≤ 15 = ltb-false 15 l (is-false (ltb 15 l) (
 -- ── all handles ──
 all-handles : (m : Monitor) → handles (view m) ≡ handles (with-hand empty (hands (m .handles)))
 unfolding tables-of
-all-handles m = handles-at (with-hand empty (hands (m .handles))) (entries (m .subjects) (m .objects))
+all-handles m = handles-by (view m) (with-hand empty (hands (m .handles))) refl
 
 -- ── the tests before the late ones ──
 abbrev then : Bool → ℕ → Option ℕ → Option ℕ
 then b n o = elim b as (λ _. Option ℕ) [ true ↦ some n | false ↦ o ]
 
 -- where no early row refuses, the tests of the early rows pass
-early-passed : (t : Tables) (c : Call) → refusal t c ≡ first t (tests c) late → (d : Test) → In d (tests c) → T (earlier (number d) 9 order)
-    → T (earlier (number d) 10 order) → T (not (broken t d))
-early-passed t c z d i h k = go (refusal t c) refl
+early-passed : (t : Tables) (c : Call) → Refuses t c 0 → (d : Test) → In d (tests c)
+    → T (earlier (number d) 9 order && (earlier (number d) 10 order && earlier (number d) 15 order)) → T (not (broken t d))
+early-passed t c z d i h = go (refusal t c) refl
   where
-    late-is : (a b : Bool) (n : ℕ) → then a 9 (then b 10 none) ≡ some n → (n ≡ 9) ⊎ (n ≡ 10)
-    late-is true b n q = inl (sym (Option·some-injective 9 n q))
-    late-is false true n q = inr (sym (Option·some-injective 10 n q))
-    late-is false false n q = absurd (Option·none-ne-some n q)
+    a : T (earlier (number d) 9 order) × T (earlier (number d) 10 order && earlier (number d) 15 order)
+    a = both-of (earlier (number d) 9 order) (earlier (number d) 10 order && earlier (number d) 15 order) h
+
+    b : T (earlier (number d) 10 order) × T (earlier (number d) 15 order)
+    b = both-of (earlier (number d) 10 order) (earlier (number d) 15 order) (a .1)
+
+    before : (b9 b10 b15 : Bool) (n : ℕ) → then b9 9 (then b10 10 (then b15 15 none)) ≡ some n → T (earlier (number d) n order)
+    before true b10 b15 n q = subst (λ (k : ℕ). T (earlier (number d) k order)) (Option·some-injective 9 n q) (a .0)
+    before false true b15 n q = subst (λ (k : ℕ). T (earlier (number d) k order)) (Option·some-injective 10 n q) (b .0)
+    before false false true n q = subst (λ (k : ℕ). T (earlier (number d) k order)) (Option·some-injective 15 n q) (b .1)
+    before false false false n q = absurd (Option·none-ne-some n q)
 
     go : (o : Option ℕ) → refusal t c ≡ o → T (not (broken t d))
     go none q = passed t c q d i
-    go (some n) q = elim (late-is (breaks t 9 (tests c)) (breaks t 10 (tests c)) n (sym z ∙ q)) [
-      | inl e ↦ refused-by t c n q .1 d i (subst (λ (j : ℕ). T (earlier (number d) j order)) (sym e) h)
-      | inr e ↦ refused-by t c n q .1 d i (subst (λ (j : ℕ). T (earlier (number d) j order)) (sym e) k)
-    ]
+    go (some n) q = refused-by t c n q .1 d i (before (breaks t 9 (tests c)) (breaks t 10 (tests c)) (breaks t 15 (tests c)) n (sym (z .said) ∙ q))
+
+-- the flow test of whole arrays
+abbrev Shorts : List Subject → List Object → List Handle → Bool → Type 0
+Shorts ss os hs r = (rest : Tables) → Wf (tables-of rest ss os hs) → r ≡ not (safe (tables-of rest ss os hs))
 
 module _ (m : Monitor) (g : Owned m) where
   -- ── what stands at a number ──
   pub subject-got : (s : ℕ) (x : Subject) → x ≡ subject-at s (getD (m .subjects) (s % 32) no-subject) → view m .at (subject s) ≡ subject-entry x
-  subject-got s x q = subject-there (m .subjects) (m .objects) (m .handles) s (subjects-long m g) ∙ ap subject-entry (sym q)
+  subject-got s x q = subject-there (beside m) (m .subjects) (m .objects) (m .handles) s (subjects-long m g) ∙ ap subject-entry (sym q)
 
   pub object-got : (o : ℕ) (y : Object) → y ≡ object-at o (getD (m .objects) (o % 64) no-object) → view m .at (object o) ≡ object-entry y
-  object-got o y q = object-there (m .subjects) (m .objects) (m .handles) o (objects-long m g) ∙ ap object-entry (sym q)
+  object-got o y q = object-there (beside m) (m .subjects) (m .objects) (m .handles) o (objects-long m g) ∙ ap object-entry (sym q)
 
   pub handle-got : (s p : ℕ) (h : Handle) → h ≡ handle-at s p (getD (m .handles) (s % 32 * 16 + p % 16) no-handle) → view m .hand s p ≡ held h
-  handle-got s p h q = handle-there (m .subjects) (m .objects) (m .handles) s p (handles-long m g) ∙ ap held (sym q)
+  handle-got s p h q = handle-there (beside m) (m .subjects) (m .objects) (m .handles) s p (handles-long m g) ∙ ap held (sym q)
 
   -- the object of a live number, without a look at its range
   pub object-live : (o : ℕ) → o < 64 → view m .at (object o) ≡ object-entry (getD (m .objects) (o % 64) no-object)
-  object-live o l = object-there (m .subjects) (m .objects) (m .handles) o (objects-long m g)
+  object-live o l = object-there (beside m) (m .subjects) (m .objects) (m .handles) o (objects-long m g)
       ∙ ap (λ (b : Bool). object-entry (cond b (getD (m .objects) (o % 64) no-object) no-object)) (lt-ltb o 64 l)
 
   -- ── stores ──
-  pub put-subject : (s : ℕ) (v : Subject) → s < 32 → view (monitor (set (m .subjects) (s % 32) v) (m .objects) (m .handles)) ≡ with-at (view m)
+  pub put-subject : (s : ℕ) (v : Subject) → s < 32 → view (monitor m (set (m .subjects) (s % 32) v) (m .objects) (m .handles)) ≡ with-at (view m)
       (put (view m .at) (subject s) (subject-entry v))
-  put-subject s v l = store-subject (m .subjects) (m .objects) (m .handles) s v (subjects-long m g) l
+  put-subject s v l = store-subject (beside m) (m .subjects) (m .objects) (m .handles) s v (subjects-long m g) l
 
-  pub put-object : (o : ℕ) (v : Object) → o < 64 → view (monitor (m .subjects) (set (m .objects) (o % 64) v) (m .handles)) ≡ with-at (view m)
+  pub put-object : (o : ℕ) (v : Object) → o < 64 → view (monitor m (m .subjects) (set (m .objects) (o % 64) v) (m .handles)) ≡ with-at (view m)
       (put (view m .at) (object o) (object-entry v))
-  put-object o v l = store-object (m .subjects) (m .objects) (m .handles) o v (objects-long m g) l
+  put-object o v l = store-object (beside m) (m .subjects) (m .objects) (m .handles) o v (objects-long m g) l
 
   -- ── admit, register, create ──
   pub admits : (s l : ℕ) → refusal (view m) (admit s l) ≡ none → Acts m (admit s l) (allowed (l % 256))
-      (monitor (set (m .subjects) (s % 32) (record { live = 1; level = l % 256 })) (m .objects) (m .handles))
+      (monitor m (set (m .subjects) (s % 32) (record { live = 1; level = l % 256 })) (m .objects) (m .handles))
   admits s l e = rw (leveled-low (view m) (admit s l) l e (inr (inl refl))) (acts m (admit s l) (allowed l) _ _ (admit-does (view m) s l e)
       (put-subject s (record { live = 1; level = l }) (new-row (view m) (admit s l) e s (inl refl))))
 
   pub registers : (o l : ℕ) → refusal (view m) (register o l) ≡ none → Acts m (register o l) (allowed (l % 256))
-      (monitor (m .subjects) (set (m .objects) (o % 64) (record { kind = 1; level = l % 256 })) (m .handles))
+      (monitor m (m .subjects) (set (m .objects) (o % 64) (record { kind = 1; level = l % 256 })) (m .handles))
   registers o l e = rw (leveled-low (view m) (register o l) l e (inr (inl refl))) (acts m (register o l) (allowed l) _ _ (register-does (view m) o l e)
       (put-object o (record { kind = 1; level = l }) (new-column (view m) (register o l) e o (inl refl))))
 
   pub creates : (s o : ℕ) (x : Subject) → refusal (view m) (create s o) ≡ none → view m .at (subject s) ≡ subject-entry x
-      → Acts m (create s o) (allowed (x .level)) (monitor (m .subjects) (set (m .objects) (o % 64) (record { kind = 1; level = x .level })) (m .handles))
+      → Acts m (create s o) (allowed (x .level)) (monitor m (m .subjects) (set (m .objects) (o % 64) (record { kind = 1; level = x .level })) (m .handles))
   creates s o x e q = acts m (create s o) (allowed (x .level)) _ _ (create-does (view m) s o x e q)
       (put-object o (record { kind = 1; level = x .level }) (new-column (view m) (create s o) e o (inr (inl refl))))
 
   -- ── read, write ──
   pub reads : (s p : ℕ) (x v : Subject) (h : Handle) (a : Told) → Wf (view m) → refusal (view m) (access reading s p) ≡ none
       → view m .at (subject s) ≡ subject-entry x → view m .hand s p ≡ held h → v ≡ fallen-by x (getD (m .objects) (h .object % 64) no-object .level)
-      → a ≡ fell (x .level) (v .level) → Acts m (access reading s p) a (monitor (set (m .subjects) (s % 32) v) (m .objects) (m .handles))
+      → a ≡ fell (x .level) (v .level) → Acts m (access reading s p) a (monitor m (set (m .subjects) (s % 32) v) (m .objects) (m .handles))
   reads s p x v h a w e q r f k = acts m (access reading s p) a _ _ (subst₂ (λ (b : Told) (z : Subject). Does (view m) (access reading s p) b
       (with-at (view m) (put (view m .at) (subject s) (subject-entry z)))) (sym (k ∙ ap (λ (z : Subject). fell (x .level) (z .level)) f)) (sym f)
       (read-does (view m) w s p x h (getD (m .objects) (h .object % 64) no-object) e q r (object-live (h .object)
@@ -124,7 +134,7 @@ module _ (m : Monitor) (g : Owned m) where
   pub writes : (s p : ℕ) (x : Subject) (h : Handle) (v : Object) (a : Told) → Wf (view m) → refusal (view m) (access writing s p) ≡ none
       → view m .at (subject s) ≡ subject-entry x → view m .hand s p ≡ held h → v ≡ sunken-by (getD (m .objects) (h .object % 64) no-object) (x .level)
       → a ≡ fell (getD (m .objects) (h .object % 64) no-object .level) (v .level)
-      → Acts m (access writing s p) a (monitor (m .subjects) (set (m .objects) (h .object % 64) v) (m .handles))
+      → Acts m (access writing s p) a (monitor m (m .subjects) (set (m .objects) (h .object % 64) v) (m .handles))
   writes s p x h v a w e q r f k = acts m (access writing s p) a _ _ (subst₂ (λ (b : Told) (z : Object). Does (view m) (access writing s p) b
       (with-at (view m) (put (view m .at) (object (h .object)) (object-entry z)))) (sym (k ∙ ap (λ (z : Object). fell (y .level) (z .level)) f)) (sym f)
       (write-does (view m) w s p x h y e q r (object-live (h .object) low))) (put-object (h .object) v low)
@@ -137,12 +147,12 @@ module _ (m : Monitor) (g : Owned m) where
 
   -- ── pipe ──
   pub pipes : (s o r w : ℕ) (x : Subject) → refusal (view m) (make-pipe s o r w) ≡ none → view m .at (subject s) ≡ subject-entry x
-      → Acts m (make-pipe s o r w) (allowed (x .level)) (monitor (m .subjects) (set (m .objects) (o % 64) (record { kind = 2; level = x .level }))
+      → Acts m (make-pipe s o r w) (allowed (x .level)) (monitor m (m .subjects) (set (m .objects) (o % 64) (record { kind = 2; level = x .level }))
       (set (set (m .handles) (s % 32 * 16 + r % 16) (record { way = 1; object = o % 64 })) (s % 32 * 16 + w % 16) (record { way = 2; object = o % 64 })))
   pipes s o r w x e q = acts m (make-pipe s o r w) (allowed (x .level)) _ _ (pipe-does (view m) s o r w x e q)
-      (store-handle (m .subjects) (set (m .objects) (o % 64) y) (set (m .handles) (s % 32 * 16 + r % 16) h) s w k
+      (store-handle (beside m) (m .subjects) (set (m .objects) (o % 64) y) (set (m .handles) (s % 32 * 16 + r % 16) h) s w k
       (simp length-set (handles-long m g)) row-is (place-low (view m) (make-pipe s o r w) e s w (inr (inr (inr (inl refl)))))
-      ∙ ap (λ (u : Tables). with-hand u (place (u .hand) s w (held k))) (store-handle (m .subjects) (set (m .objects) (o % 64) y) (m .handles) s r h
+      ∙ ap (λ (u : Tables). with-hand u (place (u .hand) s w (held k))) (store-handle (beside m) (m .subjects) (set (m .objects) (o % 64) y) (m .handles) s r h
       (handles-long m g) row-is (place-low (view m) (make-pipe s o r w) e s r (inr (inr (inl refl)))))
       ∙ ap (λ (u : Tables). with-hand (with-hand u (place (u .hand) s r (held h))) (place (place (u .hand) s r (held h)) s w (held k)))
       (put-object o y (new-column (view m) (make-pipe s o r w) e o (inr (inl refl))))
@@ -169,9 +179,9 @@ module _ (m : Monitor) (g : Owned m) where
       → view m .hand s p ≡ held h
       → Outlives (set (m .handles) (s % 32 * 16 + p % 16) no-handle) (getD (m .objects) (h .object % 64) no-object) (h .object) r
       → Acts m (close s p) (allowed (x .level))
-      (monitor (m .subjects) (set (m .objects) (h .object % 64) r) (set (m .handles) (s % 32 * 16 + p % 16) no-handle))
+      (monitor m (m .subjects) (set (m .objects) (h .object % 64) r) (set (m .handles) (s % 32 * 16 + p % 16) no-handle))
   closes s p x h r w e q z d = acts m (close s p) (allowed (x .level)) _ _ (close-does (view m) s p x e q)
-      (store-close (m .subjects) (m .objects) (m .handles) s p (h .object) (k .0) no-handle r (objects-long m g) (handles-long m g)
+      (store-close (beside m) (m .subjects) (m .objects) (m .handles) s p (h .object) (k .0) no-handle r (objects-long m g) (handles-long m g)
       (row-low (view m) (close s p) e s (inl refl)) (found-place (view m) w (close s p) s p h e (inr (inl refl)) z)
       (live-low (view m) (close s p) e (h .object) (found-live (view m) w (close s p) s p h e (inr (inl refl)) z)) (k .1)
       (found-to (view m) w (close s p) s p h e (inr (inl refl)) z) d)
@@ -181,14 +191,14 @@ module _ (m : Monitor) (g : Owned m) where
 
   pub exits : (s : ℕ) (x : Subject) (places : List Handle) (after : List Handle) (left : List Object) → refusal (view m) (exit s) ≡ none
       → view m .at (subject s) ≡ subject-entry x → ((p : ℕ) → along places p ≡ none)
-      → ((ss : List Subject) (os : List Object) → tables-of ss os after ≡ with-hand (tables-of ss os (m .handles))
+      → ((rest : Tables) (ss : List Subject) (os : List Object) → tables-of rest ss os after ≡ with-hand (tables-of rest ss os (m .handles))
       (row (hands (m .handles)) (s % 32) (along places)))
-      → ((ss : List Subject) (t : Tables) → handles t ≡ handles (with-hand empty (hands (m .handles))) → tables-of ss left after ≡ reap (handles t)
-      (tables-of ss (m .objects) after))
-      → Acts m (exit s) (allowed (x .level)) (monitor (set (m .subjects) (s % 32) no-subject) left after)
+      → ((rest : Tables) (ss : List Subject) (t : Tables) → handles t ≡ handles (with-hand empty (hands (m .handles))) → tables-of rest ss left after ≡ reap
+      (handles t) (tables-of rest ss (m .objects) after))
+      → Acts m (exit s) (allowed (x .level)) (monitor m (set (m .subjects) (s % 32) no-subject) left after)
   unfolding tables-of
   exits s x places after left e q n a b = acts m (exit s) (allowed (x .level)) _ _ (exit-does (view m) s x e q)
-      (b _ (view m) (all-handles m) ∙ ap (reap (handles (view m))) (a _ _ ∙ ap₂ (λ (u : Tables) (f : ℕ → ℕ → Option Held). with-hand u f)
+      (b (beside m) _ (view m) (all-handles m) ∙ ap (reap (handles (view m))) (a (beside m) _ _ ∙ ap₂ (λ (u : Tables) (f : ℕ → ℕ → Option Held). with-hand u f)
       (put-subject s no-subject low) (ap₂ (λ (i : ℕ) (f : ℕ → Option Held). row (hands (m .handles)) i f) same (fun-ext n))))
     where
       low : s < 32
@@ -199,12 +209,12 @@ module _ (m : Monitor) (g : Owned m) where
 
   pub forks : (s c : ℕ) (x : Subject) (places after : List Handle) → Wf (view m) → refusal (view m) (fork s c) ≡ none → view m .at (subject s) ≡ subject-entry x
       → ((p : ℕ) → along places p ≡ hands (m .handles) (s % 32) p)
-      → ((ss : List Subject) (os : List Object) → tables-of ss os after ≡ with-hand (tables-of ss os (m .handles))
+      → ((rest : Tables) (ss : List Subject) (os : List Object) → tables-of rest ss os after ≡ with-hand (tables-of rest ss os (m .handles))
       (row (hands (m .handles)) (c % 32) (along places)))
-      → Acts m (fork s c) (allowed (x .level)) (monitor (set (m .subjects) (c % 32) (record { live = 1; level = x .level })) (m .objects) after)
+      → Acts m (fork s c) (allowed (x .level)) (monitor m (set (m .subjects) (c % 32) (record { live = 1; level = x .level })) (m .objects) after)
   unfolding tables-of
   forks s c x places after w e q n a = acts m (fork s c) (allowed (x .level)) _ _ (fork-does (view m) s c x w e q)
-      (a _ _ ∙ ap₂ (λ (u : Tables) (f : ℕ → ℕ → Option Held). with-hand u f) (put-subject c (record { live = 1; level = x .level }) low)
+      (a (beside m) _ _ ∙ ap₂ (λ (u : Tables) (f : ℕ → ℕ → Option Held). with-hand u f) (put-subject c (record { live = 1; level = x .level }) low)
       (ap₂ (λ (i : ℕ) (f : ℕ → Option Held). row (hands (m .handles)) i f) same (fun-ext n ∙ ap (hands (m .handles)) same-s)))
     where
       low : c < 32
@@ -217,13 +227,13 @@ module _ (m : Monitor) (g : Owned m) where
       same-s = omega (arith, row-low (view m) (fork s c) e s (inl refl))
 
   -- ── open ──
-  module _ (b : Bool) (v : ℕ) (s o p : ℕ) (y : v ≡ way-by b) (w : Wf (view m))
-      (z : refusal (view m) (opens (direction b) s o p) ≡ first (view m) (tests (opens (direction b) s o p)) late) where
+  module _ (b : Bool) (v s o p : ℕ) (x : Object) (y : v ≡ way-by b) (w : Wf (view m)) (z : Refuses (view m) (opens (direction b) s o p) 0)
+      (k : view m .at (object o) ≡ object-entry x) where
     lives : T (live (view m) (subject s))
-    lives = is-alive (view m) s (early-passed (view m) (opens (direction b) s o p) z (alive s) (inl refl) tt tt)
+    lives = is-alive (view m) s (early-passed (view m) (opens (direction b) s o p) z (alive s) (inl refl) tt)
 
     there : T (live (view m) (object o))
-    there = is-present (view m) o (early-passed (view m) (opens (direction b) s o p) z (present o) (inr (inl refl)) tt tt)
+    there = is-present (view m) o (early-passed (view m) (opens (direction b) s o p) z (present o) (inr (inl refl)) tt)
 
     low-s : s < 32
     low-s = ltb→lt s 32 (live-of (view m) (subject s) lives .0)
@@ -232,15 +242,17 @@ module _ (m : Monitor) (g : Owned m) where
     low-o = ltb→lt o 64 (live-of (view m) (object o) there .0)
 
     low-p : p < 16
-    low-p = is-place (view m) s p (early-passed (view m) (opens (direction b) s o p) z (vacant s p) (inr (inr (inl refl))) tt tt)
+    low-p = is-place (view m) s p (early-passed (view m) (opens (direction b) s o p) z (vacant s p) (inr (inr (inl refl))) tt)
 
     way-held : (b : Bool) (n : ℕ) → held (record { way = way-by b; object = n }) ≡ some (handle (direction b) n)
     way-held true n = refl
     way-held false n = refl
 
-    placed : tables-of (m .subjects) (m .objects) (set (m .handles) (s % 32 * 16 + p % 16) (record { way = v; object = o % 64 })) ≡ with-hand (view m)
-        (place (view m .hand) s p (some (handle (direction b) o)))
-    placed = store-handle (m .subjects) (m .objects) (m .handles) s p (record { way = v; object = o % 64 }) (handles-long m g) low-s low-p
+    abbrev next : List Handle
+    next = set (m .handles) (s % 32 * 16 + p % 16) (record { way = v; object = o % 64 })
+
+    placed : view (monitor m (m .subjects) (m .objects) next) ≡ with-hand (view m) (place (view m .hand) s p (some (handle (direction b) o)))
+    placed = store-handle (beside m) (m .subjects) (m .objects) (m .handles) s p (record { way = v; object = o % 64 }) (handles-long m g) low-s low-p
         ∙ ap (λ (k : Option Held). with-hand (view m) (place (view m .hand) s p k))
         (ap (λ (j : ℕ). held (record { way = j; object = o % 64 })) y ∙ way-held b (o % 64) ∙ ap
         (λ (n : ℕ). some (handle (direction b) n)) same)
@@ -249,44 +261,31 @@ module _ (m : Monitor) (g : Owned m) where
         same = omega (arith, low-o)
 
     -- the flow test of the code is the rules'
-    tested : (r : Bool)
-        → (Wf (tables-of (m .subjects) (m .objects) (set (m .handles) (s % 32 * 16 + p % 16) (record { way = v; object = o % 64 })))
-        → r ≡ not (safe (tables-of (m .subjects) (m .objects) (set (m .handles) (s % 32 * 16 + p % 16) (record { way = v; object = o % 64 })))))
-        → broken (view m) (enough (opens (direction b) s o p)) ≡ r
-    tested r f = sym (f (subst Wf (sym placed) (wf-hold (view m) s p (handle (direction b) o) w (record { from = lives; to = there; place = low-p })))
+    tested : (r : Bool) → Shorts (m .subjects) (m .objects) next r → broken (view m) (enough (opens (direction b) s o p)) ≡ r
+    tested r f = sym (f (beside m) (subst Wf (sym placed)
+        (wf-hold (view m) s p (handle (direction b) o) w (record { from = lives; to = there; place = low-p })))
         ∙ ap (λ (u : Tables). not (safe u)) placed)
 
-    pub open-refused : (r : Bool) → r ≡ true
-        → (Wf (tables-of (m .subjects) (m .objects) (set (m .handles) (s % 32 * 16 + p % 16) (record { way = v; object = o % 64 })))
-        → r ≡ not (safe (tables-of (m .subjects) (m .objects) (set (m .handles) (s % 32 * 16 + p % 16) (record { way = v; object = o % 64 })))))
-        → refusal (view m) (opens (direction b) s o p) ≡ some 9
-    open-refused r q f = z ∙ ap (λ (c : Bool). then (c || false) 9 none) (tested r f ∙ q)
+    pub open-late : (r q : Bool) → Shorts (m .subjects) (m .objects) next r → broken (view m) (thawed (direction b) o) ≡ q
+        → Late (view m) (opens (direction b) s o p) r false q
+    open-late r q f e = record { nine = alone (tested r f); ten = refl; fifteen = alone e }
 
-    pub open-free : (r : Bool) → r ≡ false
-        → (Wf (tables-of (m .subjects) (m .objects) (set (m .handles) (s % 32 * 16 + p % 16) (record { way = v; object = o % 64 })))
-        → r ≡ not (safe (tables-of (m .subjects) (m .objects) (set (m .handles) (s % 32 * 16 + p % 16) (record { way = v; object = o % 64 })))))
-        → refusal (view m) (opens (direction b) s o p) ≡ none
-    open-free r q f = z ∙ ap (λ (c : Bool). then (c || false) 9 none) (tested r f ∙ q)
-
-    pub opens-acts : (x : Object) → view m .at (object o) ≡ object-entry x → refusal (view m) (opens (direction b) s o p) ≡ none
-        → Acts m (opens (direction b) s o p) (allowed (x .level))
-        (monitor (m .subjects) (m .objects) (set (m .handles) (s % 32 * 16 + p % 16) (record { way = v; object = o % 64 })))
-    opens-acts x q e = acts m (opens (direction b) s o p) (allowed (x .level)) _ _ (open-does (view m) (direction b) s o p x e q) placed
+    pub opens-acts : refusal (view m) (opens (direction b) s o p) ≡ none
+        → Acts m (opens (direction b) s o p) (allowed (x .level)) (monitor m (m .subjects) (m .objects) next)
+    opens-acts e = acts m (opens (direction b) s o p) (allowed (x .level)) _ _ (open-does (view m) (direction b) s o p x e k) placed
 
   -- ── exec ──
-  module _ (s o : ℕ) (y : Object) (w : Wf (view m)) (z : refusal (view m) (exec s o) ≡ first (view m) (tests (exec s o)) late)
-      (q : view m .at (object o) ≡ object-entry y) where
+  module _ (s o : ℕ) (y : Object) (w : Wf (view m)) (z : Refuses (view m) (exec s o) 0) (q : view m .at (object o) ≡ object-entry y) where
     exec-lives : T (live (view m) (subject s))
-    exec-lives = is-alive (view m) s (early-passed (view m) (exec s o) z (alive s) (inl refl) tt tt)
+    exec-lives = is-alive (view m) s (early-passed (view m) (exec s o) z (alive s) (inl refl) tt)
 
     exec-there : T (live (view m) (object o))
-    exec-there = is-present (view m) o (early-passed (view m) (exec s o) z (present o) (inr (inl refl)) tt tt)
+    exec-there = is-present (view m) o (early-passed (view m) (exec s o) z (present o) (inr (inl refl)) tt)
 
-    unfit : (r : Bool) → ((ss : List Subject) → Wf (tables-of ss (m .objects) (m .handles)) → r ≡ not
-        (leq (needs (tables-of ss (m .objects) (m .handles)) (subject (s % 32))) (label (y .level)))) → broken (view m) (suits s o) ≡ r
+    pub exec-late : (r : Bool) → ((rest : Tables) (ss : List Subject) → Wf (tables-of rest ss (m .objects) (m .handles)) → r ≡ not
+        (leq (needs (tables-of rest ss (m .objects) (m .handles)) (subject (s % 32))) (label (y .level)))) → Late (view m) (exec s o) r false false
     unfolding sheds
-    unfit r f = sym (f (m .subjects) w ∙ ap₂ (λ (x : Thing) (a : Label). not (leq (needs (view m) x) a))
-        (ap subject same ∙ sym (cell-self (view m) s)) (sym own))
+    exec-late r f = record { nine = alone unfit; ten = refl; fifteen = refl }
       where
         same : s % 32 ≡ s
         same = omega (arith, ltb→lt s 32 (live-of (view m) (subject s) exec-lives .0))
@@ -294,40 +293,42 @@ module _ (m : Monitor) (g : Owned m) where
         own : label-of (view m .at (object o)) ≡ label (y .level)
         own = ap label-of (full-object (view m) o y q exec-there)
 
-    pub exec-refused : (r : Bool) → r ≡ true → ((ss : List Subject) → Wf (tables-of ss (m .objects) (m .handles)) → r ≡ not
-        (leq (needs (tables-of ss (m .objects) (m .handles)) (subject (s % 32))) (label (y .level)))) → refusal (view m) (exec s o) ≡ some 9
-    exec-refused r i f = z ∙ ap (λ (c : Bool). then (c || false) 9 none) (unfit r f ∙ i)
-
-    pub exec-free : (r : Bool) → r ≡ false → ((ss : List Subject) → Wf (tables-of ss (m .objects) (m .handles)) → r ≡ not
-        (leq (needs (tables-of ss (m .objects) (m .handles)) (subject (s % 32))) (label (y .level)))) → refusal (view m) (exec s o) ≡ none
-    exec-free r i f = z ∙ ap (λ (c : Bool). then (c || false) 9 none) (unfit r f ∙ i)
+        unfit : broken (view m) (suits s o) ≡ r
+        unfit = sym (f (beside m) (m .subjects) w ∙ ap₂ (λ (x : Thing) (a : Label). not (leq (needs (view m) x) a))
+            (ap subject same ∙ sym (cell-self (view m) s)) (sym own))
 
     pub execs : (x v : Subject) (a : Told) → view m .at (subject s) ≡ subject-entry x → refusal (view m) (exec s o) ≡ none → v ≡ fallen-by x (y .level)
-        → a ≡ fell (x .level) (v .level) → Acts m (exec s o) a (monitor (set (m .subjects) (s % 32) v) (m .objects) (m .handles))
+        → a ≡ fell (x .level) (v .level) → Acts m (exec s o) a (monitor m (set (m .subjects) (s % 32) v) (m .objects) (m .handles))
     execs x v a r e f k = acts m (exec s o) a _ _ (subst₂ (λ (b : Told) (z : Subject). Does (view m) (exec s o) b
         (with-at (view m) (put (view m .at) (subject s) (subject-entry z)))) (sym (k ∙ ap (λ (z : Subject). fell (x .level) (z .level)) f)) (sym f)
         (exec-does (view m) s o x y e r q)) (put-subject s v (row-low (view m) (exec s o) e s (inl refl)))
 
   -- ── retire ──
-  module _ (o : ℕ) (z : refusal (view m) (retire o) ≡ first (view m) (tests (retire o)) late) where
+  module _ (o : ℕ) (z : Refuses (view m) (retire o) 0) where
     low-here : o < 64
-    low-here = ltb→lt o 64 (live-of (view m) (object o) (is-present (view m) o (early-passed (view m) (retire o) z (present o) (inl refl) tt tt)) .0)
+    low-here = ltb→lt o 64 (live-of (view m) (object o) (is-present (view m) o (early-passed (view m) (retire o) z (present o) (inl refl) tt)) .0)
 
-    busy : (r : Bool) → r ≡ open-on (handles (with-hand empty (hands (m .handles)))) (o % 64) → broken (view m) (idle o) ≡ r
-    busy r f = ap (λ (l : List Held). open-on l o) (all-handles m) ∙ ap (open-on (handles (with-hand empty (hands (m .handles))))) (sym same) ∙ sym f
+    pub retire-late : (r : Bool) → r ≡ open-on (handles (with-hand empty (hands (m .handles)))) (o % 64) → Late (view m) (retire o) false r false
+    retire-late r f = record { nine = refl; ten = alone busy; fifteen = refl }
       where
         same : o % 64 ≡ o
         same = omega (arith, low-here)
 
-    pub retire-refused : (r : Bool) → r ≡ true → r ≡ open-on (handles (with-hand empty (hands (m .handles)))) (o % 64) → refusal (view m) (retire o) ≡ some 10
-    retire-refused r i f = z ∙ ap (λ (c : Bool). then (c || false) 10 none) (busy r f ∙ i)
-
-    pub retire-free : (r : Bool) → r ≡ false → r ≡ open-on (handles (with-hand empty (hands (m .handles)))) (o % 64) → refusal (view m) (retire o) ≡ none
-    retire-free r i f = z ∙ ap (λ (c : Bool). then (c || false) 10 none) (busy r f ∙ i)
+        busy : broken (view m) (idle o) ≡ r
+        busy = ap (λ (l : List Held). open-on l o) (all-handles m) ∙ ap (open-on (handles (with-hand empty (hands (m .handles))))) (sym same) ∙ sym f
 
     pub retires : (y : Object) → view m .at (object o) ≡ object-entry y → refusal (view m) (retire o) ≡ none
-        → Acts m (retire o) (allowed (y .level)) (monitor (m .subjects) (set (m .objects) (o % 64) no-object) (m .handles))
+        → Acts m (retire o) (allowed (y .level)) (monitor m (m .subjects) (set (m .objects) (o % 64) no-object) (m .handles))
     retires y q e = acts m (retire o) (allowed (y .level)) _ _ (retire-does (view m) o y e q) (put-object o no-object low-here)
+
+  -- ── freeze ──
+  pub freezes : (n : ℕ) → refusal (view m) (freeze n) ≡ none → Acts m (freeze n) (allowed (n % 256))
+      (record { subjects = m .subjects; objects = m .objects; handles = m .handles; freeze = n % 256 })
+  unfolding tables-of
+  freezes n e = rw low (acts m (freeze n) (allowed n) _ _ (freeze-does (view m) n e) refl)
+    where
+      low : n % 256 ≡ n
+      low = let h : n ≤ 16 = ltb-false 16 n (is-false (ltb 16 n) (passed (view m) (freeze n) e (freezable n) (inl refl))) in omega arith
 
 -- a row of empty places
 pub no-places : (p : ℕ) → along (replicate 16 no-handle) p ≡ none

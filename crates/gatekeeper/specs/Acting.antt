@@ -4,7 +4,6 @@ use mathlib.Core.Bool.{Bool, cond}
 use mathlib.Core.Option.{none, some}
 use Prim.Native.Nat.{ℕ}
 use lib.Dec.{ltb}
-use Rattle.model.specs.Tables.{Dir, reading, writing}
 use Rattle.model.specs.Calls.{Call, refusal, effect, answer, allowed, lowered}
 use Rattle.model.specs.Calls.{Answer as Told}
 use Rattle.gatekeeper.specs.declared.Monitor.{Monitor}
@@ -30,9 +29,6 @@ settled m r = record { monitor = cond (refuses (told (r .answer))) m (r .monitor
 abbrev pub fell : ℕ → ℕ → Told
 fell b a = cond (ltb a b) (lowered a) (allowed a)
 
--- an open, and the way of its handle
-abbrev pub direction : Bool → Dir
-direction r = cond r reading writing
-
+-- the way of the handle of an open
 abbrev pub way-by : Bool → ℕ
 way-by r = cond r 1 2

@@ -1,8 +1,8 @@
--- The monitor seen as the tables of the rules, and its answers as theirs. States RULES T13, G9, P7, P8, R101 and C106. Assumes nothing.
+-- The monitor seen as the tables of the rules, and its answers as theirs. States RULES T13, T33, G9, P7, P8, R101 and C106. Assumes nothing.
 use mathlib.Core.Bool.{Bool, true, false}
 use mathlib.Core.List.{[], _∷_}
 use Prim.Native.Nat.{ℕ}
-use Rattle.model.specs.Tables.{Tables}
+use Rattle.model.specs.Tables.{Tables, empty, with-freeze}
 use Rattle.model.specs.Calls.{Raw, allowed, lowered, refused}
 use Rattle.model.specs.Calls.{Answer as Told}
 use Rattle.tables.specs.Records.{tables-of}
@@ -11,9 +11,13 @@ use Rattle.gatekeeper.specs.declared.Answer.{Answer}
 use Rattle.gatekeeper.specs.declared.Answer.the-variants.{Allowed, Lowered, Refused}
 
 -- ── the monitor ──
--- RULES T13: the three arrays
+-- RULES T13: what the tables have that is in no array, the freeze
+abbrev pub beside : Monitor → Tables
+beside m = with-freeze empty (m .freeze)
+
+-- RULES T13, T33: the three arrays and the freeze, each byte as it is
 abbrev pub view : Monitor → Tables
-view m = tables-of (m .subjects) (m .objects) (m .handles)
+view m = tables-of (beside m) (m .subjects) (m .objects) (m .handles)
 
 -- ── the answers ──
 -- RULES G9: what each case of the enum means

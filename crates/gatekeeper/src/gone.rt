@@ -92,8 +92,10 @@ impl Monitor {
         }
         let number = (o % OBJECT_NUMBERS) as u8;
         let handles = self.handles;
-        if handles::is_open(handles, number) {
-            return self.refuse(10);
+        let busy = handles::is_open(handles, number);
+        let late = refusals::last(false, busy, false);
+        if late != 0 {
+            return self.refuse(late);
         }
         self.objects[j] = Object {
             kind: FREE,

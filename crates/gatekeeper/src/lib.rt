@@ -1,7 +1,7 @@
 // The gatekeeper: one struct that holds the tables, and the calls as methods that take it and hand the next one back.
 //
 // Every promise goes through `view`, which reads the arrays as the tables of the rules (crate `model`). Each call is written once, in
-// `made`, `moved` and `gone`, for tables in which nothing dangles; `direct` has the direct call, for every monitor value.
+// `made`, `moved`, `gone` and `frozen`, for tables in which nothing dangles; `direct` has the direct call, for every monitor value.
 ghost use mathlib.Core.Path.{_≡_};
 ghost use Rattle.model.specs.Tables.{empty};
 ghost use Rattle.gatekeeper.specs.View.{view, told, letter-of, level-of, value-of, refuses};
@@ -10,6 +10,7 @@ use tables::EMPTY;
 use tables::FREE;
 use tables::HANDLES;
 use tables::Handle;
+use tables::NO_FREEZE;
 use tables::OBJECTS;
 use tables::Object;
 use tables::READS;
@@ -18,16 +19,18 @@ use tables::Subject;
 use tables::WRITES;
 
 mod direct;
+mod frozen;
 mod gone;
 mod made;
 mod moved;
 
-// The tables. Place p of subject s is handle 16 s + p.
+// The tables. Place p of subject s is handle 16 s + p. A freeze of NO_FREEZE and above says that no file is frozen.
 #[repr(C)]
 pub struct Monitor {
     pub subjects: [Subject; SUBJECTS],
     pub objects: [Object; OBJECTS],
     pub handles: [Handle; HANDLES],
+    pub freeze: u8,
 }
 
 // The answer to a call: its outcome with the level, or the number of the refusal.
@@ -124,6 +127,7 @@ impl Monitor {
             subjects: subjects,
             objects: objects,
             handles: handles,
+            freeze: NO_FREEZE,
         }
     }
 

@@ -2,7 +2,8 @@
 ghost use Rattle.model.specs.Invariant.{Wf};
 ghost use Rattle.model.specs.Calls.{admit, register, create, make-pipe, opens, fork};
 ghost use Rattle.gatekeeper.specs.View.{view, told};
-ghost use Rattle.gatekeeper.specs.Acting.{Acts, direction};
+ghost use Rattle.gatekeeper.specs.Acting.{Acts};
+ghost use Rattle.tables.specs.Refusing.{direction};
 use crate::Answer;
 use crate::Monitor;
 use crate::Reply;
@@ -157,8 +158,11 @@ impl Monitor {
             way: way,
             object: number,
         };
-        if flows::is_short(subjects, objects, next) {
-            return self.refuse(9);
+        let short = flows::is_short(subjects, objects, next);
+        let frozen = refusals::is_frozen(self.freeze, reads, y);
+        let late = refusals::last(short, false, frozen);
+        if late != 0 {
+            return self.refuse(late);
         }
         self.handles = next;
         Reply {

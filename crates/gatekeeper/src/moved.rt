@@ -80,8 +80,10 @@ impl Monitor {
         }
         let objects = self.objects;
         let handles = self.handles;
-        if flows::is_below(objects, handles, i, y.level) {
-            return self.refuse(9);
+        let short = flows::is_below(objects, handles, i, y.level);
+        let late = refusals::last(short, false, false);
+        if late != 0 {
+            return self.refuse(late);
         }
         let put = looks::fallen(x, y.level);
         self.subjects[i] = put;

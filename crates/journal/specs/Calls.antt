@@ -1,13 +1,13 @@
--- The calls that a journal has, by their codes (RULES C1 to C13, C106 to C108, R1). In order: the table of arities; which codes are known;
+-- The calls that a journal has, by their codes (RULES C1 to C13, C16, C106 to C108, R1). In order: the table of arities; which codes are known;
 -- a call's numbers, filled up. The laws are in Calls/Laws. Assumes nothing.
 use Prim.Native.Nat.{ℕ, zero, suc}
-use mathlib.Core.Bool.{Bool, _&&_}
+use mathlib.Core.Bool.{Bool}
 use mathlib.Core.List.{List, [], _∷_}
-use lib.Dec.{leb, ltb}
-use lib.ListN.{length, take, getD}
+use lib.Dec.{ltb}
+use lib.ListN.{take, getD}
 pub mod Laws
 
--- RULES C1 to C13, J9: how many numbers the call of each code takes, from code 1 on
+-- RULES C1 to C13, C16, J9: how many numbers the call of each code takes, from code 1 on; every call takes one, and 0 says that there is no such call
 abbrev pub arities : List ℕ
 arities =
     2  -- admit s, level
@@ -23,6 +23,9 @@ arities =
     ∷ 2  -- close s, p
     ∷ 1  -- exit s
     ∷ 1  -- retire o
+    ∷ 0
+    ∷ 0
+    ∷ 1  -- freeze level
     ∷ []
 
 -- RULES C106: as many as a direct call has
@@ -35,7 +38,7 @@ arity-of code = getD (0 ∷ arities) code 0
 
 -- RULES R1: a code that section C has a row for
 unfoldable pub known : ℕ → Bool
-known code = ltb 0 code && leb code (length arities)
+known code = ltb 0 (arity-of code)
 
 -- RULES C107, C108: m numbers, those given, then 0 in the place of those that are not
 unfoldable pub filled : ℕ → List ℕ → List ℕ

@@ -18,9 +18,9 @@ use number::Written;
 pub const LONGEST_RECORD: usize = 22;
 
 // One more than the largest code.
-const CODES: usize = 14;
+const CODES: usize = 17;
 
-// How many numbers the call of each code takes, from code 0, which is no call's.
+// How many numbers the call of each code takes, from code 0 on; every call takes one, and 0 says that there is no such call.
 const ARITIES: [usize; CODES] = [
     0, // no call
     2, // admit s, level
@@ -36,6 +36,9 @@ const ARITIES: [usize; CODES] = [
     2, // close s, p
     1, // exit s
     1, // retire o
+    0, // no call
+    0, // no call
+    1, // freeze level
 ];
 
 // How many numbers the call of a code takes; 0 where there is no such call.

@@ -3,7 +3,7 @@ use mathlib.Core.Path.{_≡_, refl, sym, _∙_, ap, ap₂, subst, fun-ext}
 use mathlib.Core.Bool.{true, false}
 use mathlib.Core.Option.{Option, none, some}
 use mathlib.Core.List.{List}
-use Prim.Native.Nat.{ℕ, zero, suc, _+_, _≤_, _<_}
+use Prim.Native.Nat.{ℕ, _+_, _≤_}
 use native.Mathlib.Omega.{arith}
 use Rattle.tally.proofs.Pick.{past}
 use native.Mathlib.Numerals.{add-one}
@@ -15,8 +15,8 @@ use Rattle.model.specs.Flow.{subject}
 use Rattle.model.specs.Tables.{Tables, one, clean}
 use Rattle.model.specs.Tables.Laws.{live-of}
 use Rattle.model.specs.Invariant.{Wf}
-use Rattle.model.specs.Calls.{Call, unknown, decode, refusal, Answer, allowed, lowered, refused, answer}
-use Rattle.model.specs.Calls.Codes.{decode-unknown}
+use Rattle.model.specs.Calls.{Call, decode, refusal, Answer, allowed, lowered, refused, answer}
+use Rattle.model.specs.Calls.Codes.{decode-by}
 use Rattle.model.specs.Calls.Refusals.{answered-refused}
 use Rattle.model.specs.Tally.{held, makes, removes, wrapped, tallied}
 use Rattle.model.specs.Tally.Laws.{each-none}
@@ -29,88 +29,17 @@ use Rattle.tables.specs.Records.{hands, along, tables-of}
 use Rattle.gatekeeper.specs.View.{direct, refuses}
 use Rattle.tally.specs.Counting.{made-by, gone-by}
 
--- ── unknown codes ──
-above : (code a b c d : ℕ) → 13 < code → decode (direct code a b c d) ≡ unknown
-above code a b c d h = decode-unknown (direct code a b c d) (
-  (λ e. omega arith),
-  (
-    (λ e. omega arith),
-    (
-      (λ e. omega arith),
-      (
-        (λ e. omega arith),
-        (
-          (λ e. omega arith),
-          (
-            (λ e. omega arith),
-            (
-              (λ e. omega arith),
-              (
-                (λ e. omega arith),
-                (
-                  (λ e. omega arith),
-                  (
-                    (λ e. omega arith),
-                    ((λ e. omega arith), ((λ e. omega arith), ((λ e. omega arith), tt))),
-                  ),
-                ),
-              ),
-            ),
-          ),
-        ),
-      ),
-    ),
-  ),
-)
-
 -- ── what a code makes and removes ──
-none-made : (code h : ℕ) → 13 < code → 0 ≡ made-by code h
-none-made code h q = past (eqb code 4) 2 _ (ne-eqb code 4 (λ e. omega arith))
-    (past (eqb code 5) 1 _ (ne-eqb code 5 (λ e. omega arith))
-    (past (eqb code 6) 1 _ (ne-eqb code 6 (λ e. omega arith)) (past (eqb code 9) h _ (ne-eqb code 9 (λ e. omega arith)) refl)))
-
-none-gone : (code h : ℕ) → 13 < code → 0 ≡ gone-by code h
-none-gone code h q = past (eqb code 11) 1 _ (ne-eqb code 11 (λ e. omega arith)) (past (eqb code 12) h _ (ne-eqb code 12 (λ e. omega arith)) refl)
-
 pub makes-is : (t : Tables) (code a b c d : ℕ) → makes t (decode (direct code a b c d)) ≡ made-by code (held t a)
-unfolding decode
-makes-is t zero a b c d = refl
-makes-is t (suc zero) a b c d = refl
-makes-is t (suc (suc zero)) a b c d = refl
-makes-is t (suc (suc (suc zero))) a b c d = refl
-makes-is t (suc (suc (suc (suc zero)))) a b c d = refl
-makes-is t (suc (suc (suc (suc (suc zero))))) a b c d = refl
-makes-is t (suc (suc (suc (suc (suc (suc zero)))))) a b c d = refl
-makes-is t (suc (suc (suc (suc (suc (suc (suc zero))))))) a b c d = refl
-makes-is t (suc (suc (suc (suc (suc (suc (suc (suc zero)))))))) a b c d = refl
-makes-is t (suc (suc (suc (suc (suc (suc (suc (suc (suc zero))))))))) a b c d = refl
-makes-is t (suc (suc (suc (suc (suc (suc (suc (suc (suc (suc zero)))))))))) a b c d = refl
-makes-is t (suc (suc (suc (suc (suc (suc (suc (suc (suc (suc (suc zero))))))))))) a b c d = refl
-makes-is t (suc (suc (suc (suc (suc (suc (suc (suc (suc (suc (suc (suc zero)))))))))))) a b c d = refl
-makes-is t (suc (suc (suc (suc (suc (suc (suc (suc (suc (suc (suc (suc (suc zero))))))))))))) a b c d = refl
-makes-is t (suc (suc (suc (suc (suc (suc (suc (suc (suc (suc (suc (suc (suc (suc n)))))))))))))) a b c d = ap (makes t)
-    (above (suc (suc (suc (suc (suc (suc (suc (suc (suc (suc (suc (suc (suc (suc n)))))))))))))) a b c d (omega arith)) ∙ none-made
-    (suc (suc (suc (suc (suc (suc (suc (suc (suc (suc (suc (suc (suc (suc n)))))))))))))) (held t a) (omega arith)
+makes-is t code a b c d = decode-by (λ (k : Call). makes t k ≡ made-by code (held t a)) (direct code a b c d)
+    (λ e. rw e, (λ e. rw e, (λ e. rw e, (λ e. rw e, (λ e. rw e, (λ e. rw e, (λ e. rw e, (λ e. rw e, (λ e. rw e, (λ e. rw e, (λ e. rw e, (λ e. rw e, (λ e. rw e, (λ e. rw e, tt))))))))))))))
+    (λ m. past (eqb code 4) 2 _ (ne-eqb code 4 (m .1 .1 .1 .0)) (past (eqb code 5) 1 _ (ne-eqb code 5 (m .1 .1 .1 .1 .0))
+    (past (eqb code 6) 1 _ (ne-eqb code 6 (m .1 .1 .1 .1 .1 .0)) (past (eqb code 9) (held t a) _ (ne-eqb code 9 (m .1 .1 .1 .1 .1 .1 .1 .1 .0)) refl))))
 
 pub removes-is : (t : Tables) (code a b c d : ℕ) → removes t (decode (direct code a b c d)) ≡ gone-by code (held t a)
-unfolding decode
-removes-is t zero a b c d = refl
-removes-is t (suc zero) a b c d = refl
-removes-is t (suc (suc zero)) a b c d = refl
-removes-is t (suc (suc (suc zero))) a b c d = refl
-removes-is t (suc (suc (suc (suc zero)))) a b c d = refl
-removes-is t (suc (suc (suc (suc (suc zero))))) a b c d = refl
-removes-is t (suc (suc (suc (suc (suc (suc zero)))))) a b c d = refl
-removes-is t (suc (suc (suc (suc (suc (suc (suc zero))))))) a b c d = refl
-removes-is t (suc (suc (suc (suc (suc (suc (suc (suc zero)))))))) a b c d = refl
-removes-is t (suc (suc (suc (suc (suc (suc (suc (suc (suc zero))))))))) a b c d = refl
-removes-is t (suc (suc (suc (suc (suc (suc (suc (suc (suc (suc zero)))))))))) a b c d = refl
-removes-is t (suc (suc (suc (suc (suc (suc (suc (suc (suc (suc (suc zero))))))))))) a b c d = refl
-removes-is t (suc (suc (suc (suc (suc (suc (suc (suc (suc (suc (suc (suc zero)))))))))))) a b c d = refl
-removes-is t (suc (suc (suc (suc (suc (suc (suc (suc (suc (suc (suc (suc (suc zero))))))))))))) a b c d = refl
-removes-is t (suc (suc (suc (suc (suc (suc (suc (suc (suc (suc (suc (suc (suc (suc n)))))))))))))) a b c d = ap (removes t)
-    (above (suc (suc (suc (suc (suc (suc (suc (suc (suc (suc (suc (suc (suc (suc n)))))))))))))) a b c d (omega arith)) ∙ none-gone
-    (suc (suc (suc (suc (suc (suc (suc (suc (suc (suc (suc (suc (suc (suc n)))))))))))))) (held t a) (omega arith)
+removes-is t code a b c d = decode-by (λ (k : Call). removes t k ≡ gone-by code (held t a)) (direct code a b c d)
+    (λ e. rw e, (λ e. rw e, (λ e. rw e, (λ e. rw e, (λ e. rw e, (λ e. rw e, (λ e. rw e, (λ e. rw e, (λ e. rw e, (λ e. rw e, (λ e. rw e, (λ e. rw e, (λ e. rw e, (λ e. rw e, tt))))))))))))))
+    (λ m. past (eqb code 11) 1 _ (ne-eqb code 11 (m .1 .1 .1 .1 .1 .1 .1 .1 .1 .1 .0)) (past (eqb code 12) (held t a) _ (ne-eqb code 12 (m .1 .1 .1 .1 .1 .1 .1 .1 .1 .1 .1 .0)) refl))
 
 -- ── the handles of a subject ──
 abbrev pub held-below : (ℕ → Option Held) → ℕ → ℕ
@@ -154,7 +83,7 @@ tally-moved x t c y m g e q em eg = go (refusal t c) refl
     go (some n) z = absurd (false-true (sym q ∙ ap refuses (e ∙ answered-refused t c n .1 z)))
 
 -- the row of s in the cleaned handles, counted
-pub row-held : (ss : List Subject) (os : List Object) (hs kept places : List Handle) (s n : ℕ) → tables-of ss os kept ≡ clean (tables-of ss os hs)
-    → ((p : ℕ) → along places p ≡ hands kept s p) → n ≡ length (each 16 (λ p. one (along places p))) → n ≡ held (clean (tables-of ss os hs)) s
+pub row-held : (rest : Tables) (ss : List Subject) (os : List Object) (hs kept places : List Handle) (s n : ℕ) → tables-of rest ss os kept ≡ clean (tables-of rest ss os hs)
+    → ((p : ℕ) → along places p ≡ hands kept s p) → n ≡ length (each 16 (λ p. one (along places p))) → n ≡ held (clean (tables-of rest ss os hs)) s
 unfolding tables-of
-row-held ss os hs kept places s n e f q = q ∙ ap (λ (g : ℕ → Option Held). length (each 16 (λ p. one (g p)))) (fun-ext f) ∙ ap (λ (u : Tables). held u s) e
+row-held rest ss os hs kept places s n e f q = q ∙ ap (λ (g : ℕ → Option Held). length (each 16 (λ p. one (g p)))) (fun-ext f) ∙ ap (λ (u : Tables). held u s) e

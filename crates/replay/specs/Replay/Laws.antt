@@ -6,13 +6,14 @@ use mathlib.Core.Bool.{Bool, true, false, cond}
 use mathlib.Core.Option.{Option, none, some}
 use Prim.Native.Nat.{ℕ, zero, suc, _+_, _<_}
 use native.Mathlib.Omega.{arith}
-use borrow.Author.Tests.{ltb-true, eqb-true, ne-eqb}
+use borrow.Author.Tests.{ltb-true, eqb-true}
 use lib.Dec.{T, ltb, eqb}
 use lib.ListN.{length, take, drop}
 use Rattle.model.specs.Tables.{Tables, clean}
 use Rattle.model.specs.Invariant.{Kept}
 use Rattle.model.specs.Invariant.Laws.{clean-same}
-use Rattle.model.specs.Calls.{Call, unknown, Raw, Row, rows, lookup, decode, refusal, next, Answer, refused, answer, after}
+use Rattle.model.specs.Calls.{Call, unknown, Raw, decode, refusal, next, Answer, refused, answer, after}
+use Rattle.model.specs.Calls.Codes.{decode-unknown}
 use Rattle.model.specs.Calls.Kept.{next-kept}
 use Rattle.model.specs.Tally.{Tally, tallied, tally}
 use Rattle.model.specs.Demand3.Laws.{meets-next}
@@ -57,22 +58,10 @@ abbrev pub Plains : List Said → Type 0
 Plains [] = Unit {0}
 Plains (s ∷ l) = Plain s × Plains l
 
--- no row has this code
-abbrev Missed : ℕ → List Row → Type 0
-Missed n [] = Unit {0}
-Missed n (k ∷ ks) = (n ≡ k .code → ⊥) × Missed n ks
-
-lookup-missed : (n : ℕ) (ks : List Row) → Missed n ks → lookup n ks ≡ unknown
-lookup-missed n [] h = refl
-lookup-missed n (k ∷ ks) h =
-    subst (λ (b : Bool). (elim b as (λ _. Call) [ true ↦ k .call | false ↦ lookup n ks ]) ≡ lookup n ks)
-    (sym (ne-eqb (k .code) n (λ e. h .0 (sym e)))) refl
-    ∙ lookup-missed n ks (h .1)
-
 decode-none : (code : ℕ) → known code ≡ false → decode (raw code []) ≡ unknown
-unfolding known decode
-decode-none code h = lookup-missed code (rows (raw code []))
-    (o 1 tt, (o 2 tt, (o 3 tt, (o 4 tt, (o 5 tt, (o 6 tt, (o 7 tt, (o 8 tt, (o 9 tt, (o 10 tt, (o 11 tt, (o 12 tt, (o 13 tt, tt)))))))))))))
+unfolding known arity-of
+decode-none code h = decode-unknown (raw code [])
+    (o 1 tt, (o 2 tt, (o 3 tt, (o 4 tt, (o 5 tt, (o 6 tt, (o 7 tt, (o 8 tt, (o 9 tt, (o 10 tt, (o 11 tt, (o 12 tt, (o 13 tt, (o 16 tt, tt))))))))))))))
   where
     o : (k : ℕ) → T (known k) → code ≡ k → ⊥
     o k t e = subst T h (subst (λ (x : ℕ). T (known x)) (sym e) t)

@@ -1,6 +1,6 @@
 -- `gatekeeper::Monitor::call` meets its contract. Assumes nothing.
 use Rattle.model.specs.Calls.{decode}
-use Rattle.gatekeeper.specs.View.{direct}
+use Rattle.gatekeeper.specs.View.{beside, direct}
 use Rattle.gatekeeper.proofs.Acting.{settles}
 use Rattle.gatekeeper.proofs.Owned.{subjects-long, objects-long}
 use Rattle.tables.specs.Records.Laws.{cleaned-wf}
@@ -13,7 +13,7 @@ cleaned-requires c κs = search needs
 
 dispatch-requires : tie.Need-dispatch-requires
 dispatch-requires c κs =
-    cleaned-wf (c .before .args .self .subjects) (c .before .args .self .objects) (c .before .args .self .handles) _
+    cleaned-wf (beside (c .before .args .self)) (c .before .args .self .subjects) (c .before .args .self .objects) (c .before .args .self .handles) _
     (subjects-long (c .before .args .self) (c .before .good .0))
     (objects-long (c .before .args .self) (c .before .good .0)) (c .cleaned .ensures)
 

@@ -1,8 +1,8 @@
 -- `gatekeeper::Monitor::exec` meets its contract. Assumes nothing.
 use Rattle.model.specs.Calls.{exec}
 use Rattle.gatekeeper.specs.View.{view, told}
-use Rattle.gatekeeper.proofs.Acting.{stops, halts, goes}
-use Rattle.gatekeeper.proofs.Storing.{subject-got, object-got, exec-refused, exec-free, execs}
+use Rattle.gatekeeper.proofs.Acting.{stops, ends, waits, frees}
+use Rattle.gatekeeper.proofs.Storing.{subject-got, object-got, exec-late, execs}
 use borrow.Author.Needs.{needs}
 use Rattle.gatekeeper.proofs.Monitor.exec.Statement.{statement}
 use Rattle.gatekeeper.proofs.Monitor.exec.Tie as tie
@@ -47,26 +47,30 @@ returns c =
 is-below-requires : tie.Need-is-below-requires
 is-below-requires c κs = search needs
 
+last-requires : tie.Need-last-requires
+last-requires c κs = search needs
+
 refuse-requires-2 : tie.Need-refuse-requires-2
 refuse-requires-2 c κs = search needs
 
 returns-2 : tie.Need-returns-2
 returns-2 c =
     let c2 = c .before .before in
-    let c5 = c2 .before .before .before in
-    let c6 = c5 .before in
+    let c3 = c2 .before in
+    let c6 = c3 .before .before .before in
     let c7 = c6 .before in
     let c8 = c7 .before in
-    let c11 = c8 .before .before .before in
-    let a = c11 .args in
-    let g = c11 .good .0 in
-    let w = c11 .pre in
-    let z = goes (c6 .of-exec .ensures (view (a .t1)) (a .s) (a .o) w (subject-got (a .t1) g (a .s) (c8 .subject-at .result) (c8 .subject-at .ensures))
-    (object-got (a .t1) g (a .o) (c7 .object-at .result) (c7 .object-at .ensures))) (c5 .if1 .left) in
-    halts (a .t1) (exec (a .s) (a .o)) 9 (c .refuse2 .result)
-    (exec-refused (a .t1) g (a .s) (a .o) (c7 .object-at .result) w z
-    (object-got (a .t1) g (a .o) (c7 .object-at .result) (c7 .object-at .ensures)) (c2 .is-below .result)
-    (c .before .if2 .taken) (c2 .is-below .ensures)) (c .refuse2 .ensures)
+    let c9 = c8 .before in
+    let c12 = c9 .before .before .before in
+    let a = c12 .args in
+    let g = c12 .good .0 in
+    let w = c12 .pre in
+    let x = subject-got (a .t1) g (a .s) (c9 .subject-at .result) (c9 .subject-at .ensures) in
+    let y = object-got (a .t1) g (a .o) (c8 .object-at .result) (c8 .object-at .ensures) in
+    let z = waits (c7 .of-exec .ensures (view (a .t1)) (a .s) (a .o) w x y) (c6 .if1 .left) in
+    let e = c2 .last .ensures (view (a .t1)) (exec (a .s) (a .o)) z
+    (exec-late (a .t1) g (a .s) (a .o) (c8 .object-at .result) w z y (c3 .is-below .result) (c3 .is-below .ensures)) in
+    ends (a .t1) (exec (a .s) (a .o)) (c2 .last .result) (c .refuse2 .result) e (c .before .if2 .taken) (c .refuse2 .ensures)
 
 fallen-requires : tie.Need-fallen-requires
 fallen-requires c κs = search needs
@@ -82,25 +86,23 @@ fallen-requires-2 c κs = search needs
 
 returns-3 : tie.Need-returns-3
 returns-3 c =
-    let c2 = c .before .before in
-    let c3 = c2 .before in
-    let c6 = c3 .before .before .before in
-    let c7 = c6 .before in
+    let c3 = c .before .before .before in
+    let c4 = c3 .before in
+    let c7 = c4 .before .before .before in
     let c8 = c7 .before in
     let c9 = c8 .before in
-    let c12 = c9 .before .before .before in
-    let a = c12 .args in
-    let g = c12 .good .0 in
-    let w = c12 .pre in
-    let z = goes (c7 .of-exec .ensures (view (a .t1)) (a .s) (a .o) w (subject-got (a .t1) g (a .s) (c9 .subject-at .result) (c9 .subject-at .ensures))
-    (object-got (a .t1) g (a .o) (c8 .object-at .result) (c8 .object-at .ensures))) (c6 .if1 .left) in
-    execs (a .t1) g (a .s) (a .o) (c8 .object-at .result) w z (object-got (a .t1) g (a .o) (c8 .object-at .result) (c8 .object-at .ensures))
-    (c9 .subject-at .result) (c .before .fallen .result) (told (c .fallen2 .result))
-    (subject-got (a .t1) g (a .s) (c9 .subject-at .result) (c9 .subject-at .ensures))
-    (exec-free (a .t1) g (a .s) (a .o) (c8 .object-at .result) w z
-    (object-got (a .t1) g (a .o) (c8 .object-at .result) (c8 .object-at .ensures)) (c3 .is-below .result) (c2 .if2 .left)
-    (c3 .is-below .ensures))
-    (c .before .fallen .ensures) (c .fallen2 .ensures)
+    let c10 = c9 .before in
+    let c13 = c10 .before .before .before in
+    let a = c13 .args in
+    let g = c13 .good .0 in
+    let w = c13 .pre in
+    let x = subject-got (a .t1) g (a .s) (c10 .subject-at .result) (c10 .subject-at .ensures) in
+    let y = object-got (a .t1) g (a .o) (c9 .object-at .result) (c9 .object-at .ensures) in
+    let z = waits (c8 .of-exec .ensures (view (a .t1)) (a .s) (a .o) w x y) (c7 .if1 .left) in
+    let e = c3 .last .ensures (view (a .t1)) (exec (a .s) (a .o)) z
+    (exec-late (a .t1) g (a .s) (a .o) (c9 .object-at .result) w z y (c4 .is-below .result) (c4 .is-below .ensures)) in
+    execs (a .t1) g (a .s) (a .o) (c9 .object-at .result) w z y (c10 .subject-at .result) (c .before .fallen .result) (told (c .fallen2 .result)) x
+    (frees e (c .before .before .if2 .left)) (c .before .fallen .ensures) (c .fallen2 .ensures)
 
 pub exec-spec : {M : Type 1} → statement M
 exec-spec =
@@ -116,6 +118,7 @@ exec-spec =
     refuse-requires
     returns
     is-below-requires
+    last-requires
     refuse-requires-2
     returns-2
     fallen-requires

@@ -1,9 +1,11 @@
 -- `gatekeeper::Monitor::open` meets its contract. Assumes nothing.
+use mathlib.Core.Path.{refl}
 use Rattle.model.specs.Calls.{opens}
+use Rattle.tables.specs.Records.{tables-of}
+use Rattle.tables.specs.Refusing.{direction}
 use Rattle.gatekeeper.specs.View.{view}
-use Rattle.gatekeeper.specs.Acting.{direction}
-use Rattle.gatekeeper.proofs.Acting.{stops, halts, goes}
-use Rattle.gatekeeper.proofs.Storing.{subject-got, object-got, handle-got, open-refused, open-free, opens-acts}
+use Rattle.gatekeeper.proofs.Acting.{stops, ends, waits, frees}
+use Rattle.gatekeeper.proofs.Storing.{subject-got, object-got, handle-got, open-late, opens-acts}
 use borrow.Author.Needs.{needs}
 use Rattle.gatekeeper.proofs.Monitor.open.Statement.{statement}
 use Rattle.gatekeeper.proofs.Monitor.open.Tie as tie
@@ -78,50 +80,67 @@ array-set-from-next c = search needs
 is-short-requires : tie.Need-is-short-requires
 is-short-requires c κs = search needs
 
+is-frozen-requires : tie.Need-is-frozen-requires
+is-frozen-requires c κs = search needs
+
+last-requires : tie.Need-last-requires
+last-requires c κs = search needs
+
 refuse-requires-2 : tie.Need-refuse-requires-2
 refuse-requires-2 c κs = search needs
 
 returns-2 : tie.Need-returns-2
+unfolding tables-of
 returns-2 c =
     let c2 = c .before .before in
-    let c6 = c2 .before .before .before .before in
-    let c7 = c6 .before in
+    let c3 = c2 .before in
+    let c4 = c3 .before in
+    let c8 = c4 .before .before .before .before in
+    let c9 = c8 .before in
+    let c10 = c9 .before in
+    let c11 = c10 .before in
+    let c12 = c11 .before in
+    let c13 = c12 .before in
+    let c17 = c13 .before .before .before .before in
+    let a = c17 .args in
+    let g = c17 .good .0 in
+    let w = c17 .pre in
+    let y = object-got (a .t1) g (a .o) (c12 .object-at .result) (c12 .object-at .ensures) in
+    let z = waits (c10 .of-open .ensures (view (a .t1)) (direction (a .reads)) (a .s) (a .o) w
+    (subject-got (a .t1) g (a .s) (c13 .subject-at .result) (c13 .subject-at .ensures)) y
+    (handle-got (a .t1) g (a .s) (a .p) (c11 .handle-at .result) (c11 .handle-at .ensures))) (c9 .if1 .left) in
+    let e = c2 .last .ensures (view (a .t1)) (opens (direction (a .reads)) (a .s) (a .o) (a .p)) z
+    (open-late (a .t1) g (a .reads) (c8 .way-of .result) (a .s) (a .o) (a .p) (c12 .object-at .result) (c8 .way-of .ensures) w z y
+    (c4 .is-short .result) (c3 .is-frozen .result) (c4 .is-short .ensures)
+    (c3 .is-frozen .ensures (view (a .t1)) (a .o) refl y)) in
+    ends (a .t1) (opens (direction (a .reads)) (a .s) (a .o) (a .p)) (c2 .last .result) (c .refuse2 .result) e (c .before .if2 .taken) (c .refuse2 .ensures)
+
+returns-3 : tie.Need-returns-3
+unfolding tables-of
+returns-3 c =
+    let c1 = c .before in
+    let c2 = c1 .before in
+    let c3 = c2 .before in
+    let c7 = c3 .before .before .before .before in
     let c8 = c7 .before in
     let c9 = c8 .before in
     let c10 = c9 .before in
     let c11 = c10 .before in
-    let c15 = c11 .before .before .before .before in
-    let a = c15 .args in
-    let g = c15 .good .0 in
-    let w = c15 .pre in
-    let z = goes (c8 .of-open .ensures (view (a .t1)) (direction (a .reads)) (a .s) (a .o) w
-    (subject-got (a .t1) g (a .s) (c11 .subject-at .result) (c11 .subject-at .ensures))
-    (object-got (a .t1) g (a .o) (c10 .object-at .result) (c10 .object-at .ensures))
-    (handle-got (a .t1) g (a .s) (a .p) (c9 .handle-at .result) (c9 .handle-at .ensures))) (c7 .if1 .left) in
-    halts (a .t1) (opens (direction (a .reads)) (a .s) (a .o) (a .p)) 9 (c .refuse2 .result)
-    (open-refused (a .t1) g (a .reads) (c6 .way-of .result) (a .s) (a .o) (a .p) (c6 .way-of .ensures) w z (c2 .is-short .result) (c .before .if2 .taken)
-    (c2 .is-short .ensures)) (c .refuse2 .ensures)
-
-returns-3 : tie.Need-returns-3
-returns-3 c =
-    let c5 = c .before .before .before .before .before in
-    let c6 = c5 .before in
-    let c7 = c6 .before in
-    let c8 = c7 .before in
-    let c9 = c8 .before in
-    let c10 = c9 .before in
-    let c14 = c10 .before .before .before .before in
-    let a = c14 .args in
-    let g = c14 .good .0 in
-    let w = c14 .pre in
-    let z = goes (c7 .of-open .ensures (view (a .t1)) (direction (a .reads)) (a .s) (a .o) w
-    (subject-got (a .t1) g (a .s) (c10 .subject-at .result) (c10 .subject-at .ensures))
-    (object-got (a .t1) g (a .o) (c9 .object-at .result) (c9 .object-at .ensures))
-    (handle-got (a .t1) g (a .s) (a .p) (c8 .handle-at .result) (c8 .handle-at .ensures))) (c6 .if1 .left) in
-    opens-acts (a .t1) g (a .reads) (c5 .way-of .result) (a .s) (a .o) (a .p) (c5 .way-of .ensures) w z (c9 .object-at .result)
-    (object-got (a .t1) g (a .o) (c9 .object-at .result) (c9 .object-at .ensures))
-    (open-free (a .t1) g (a .reads) (c5 .way-of .result) (a .s) (a .o) (a .p) (c5 .way-of .ensures) w z (c .before .is-short .result) (c .if2 .left)
-    (c .before .is-short .ensures))
+    let c12 = c11 .before in
+    let c16 = c12 .before .before .before .before in
+    let a = c16 .args in
+    let g = c16 .good .0 in
+    let w = c16 .pre in
+    let y = object-got (a .t1) g (a .o) (c11 .object-at .result) (c11 .object-at .ensures) in
+    let z = waits (c9 .of-open .ensures (view (a .t1)) (direction (a .reads)) (a .s) (a .o) w
+    (subject-got (a .t1) g (a .s) (c12 .subject-at .result) (c12 .subject-at .ensures)) y
+    (handle-got (a .t1) g (a .s) (a .p) (c10 .handle-at .result) (c10 .handle-at .ensures))) (c8 .if1 .left) in
+    let e = c1 .last .ensures (view (a .t1)) (opens (direction (a .reads)) (a .s) (a .o) (a .p)) z
+    (open-late (a .t1) g (a .reads) (c7 .way-of .result) (a .s) (a .o) (a .p) (c11 .object-at .result) (c7 .way-of .ensures) w z y
+    (c3 .is-short .result) (c2 .is-frozen .result) (c3 .is-short .ensures)
+    (c2 .is-frozen .ensures (view (a .t1)) (a .o) refl y)) in
+    opens-acts (a .t1) g (a .reads) (c7 .way-of .result) (a .s) (a .o) (a .p) (c11 .object-at .result) (c7 .way-of .ensures) w z y
+    (frees e (c .if2 .left))
 
 pub open-spec : {M : Type 1} → statement M
 open-spec =
@@ -146,6 +165,8 @@ open-spec =
     mul-next
     array-set-from-next
     is-short-requires
+    is-frozen-requires
+    last-requires
     refuse-requires-2
     returns-2
     returns-3)

@@ -1,8 +1,8 @@
 -- `gatekeeper::Monitor::retire` meets its contract. Assumes nothing.
 use Rattle.model.specs.Calls.{retire}
 use Rattle.gatekeeper.specs.View.{view}
-use Rattle.gatekeeper.proofs.Acting.{stops, halts, goes}
-use Rattle.gatekeeper.proofs.Storing.{object-got, retire-refused, retire-free, retires}
+use Rattle.gatekeeper.proofs.Acting.{stops, ends, waits, frees}
+use Rattle.gatekeeper.proofs.Storing.{object-got, retire-late, retires}
 use borrow.Author.Needs.{needs}
 use Rattle.gatekeeper.proofs.Monitor.retire.Statement.{statement}
 use Rattle.gatekeeper.proofs.Monitor.retire.Tie as tie
@@ -40,12 +40,39 @@ cast-number c = search needs
 is-open-requires : tie.Need-is-open-requires
 is-open-requires c κs = search needs
 
+last-requires : tie.Need-last-requires
+last-requires c κs = search needs
+
 refuse-requires-2 : tie.Need-refuse-requires-2
 refuse-requires-2 c κs = search needs
 
 returns-2 : tie.Need-returns-2
 returns-2 c =
     let c2 = c .before .before in
+    let c3 = c2 .before in
+    let c5 = c3 .before .before in
+    let c6 = c5 .before in
+    let c7 = c6 .before in
+    let c9 = c7 .before .before in
+    let a = c9 .args in
+    let g = c9 .good .0 in
+    let w = c9 .pre in
+    let y = object-got (a .t1) g (a .o) (c7 .object-at .result) (c7 .object-at .ensures) in
+    let z = waits (c6 .of-retire .ensures (view (a .t1)) (a .o) w y) (c5 .if1 .left) in
+    let e = c2 .last .ensures (view (a .t1)) (retire (a .o)) z
+    (retire-late (a .t1) g (a .o) z (c3 .is-open .result) (c3 .is-open .ensures)) in
+    ends (a .t1) (retire (a .o)) (c2 .last .result) (c .refuse2 .result) e (c .before .if2 .taken) (c .refuse2 .ensures)
+
+mul-t12 : tie.Need-mul-t12
+mul-t12 c = search needs
+
+element-set-from-self : tie.Need-element-set-from-self
+element-set-from-self c = search needs
+
+returns-3 : tie.Need-returns-3
+returns-3 c =
+    let c1 = c .before in
+    let c2 = c1 .before in
     let c4 = c2 .before .before in
     let c5 = c4 .before in
     let c6 = c5 .before in
@@ -53,30 +80,11 @@ returns-2 c =
     let a = c8 .args in
     let g = c8 .good .0 in
     let w = c8 .pre in
-    let z = goes (c5 .of-retire .ensures (view (a .t1)) (a .o) w
-    (object-got (a .t1) g (a .o) (c6 .object-at .result) (c6 .object-at .ensures))) (c4 .if1 .left) in
-    halts (a .t1) (retire (a .o)) 10 (c .refuse2 .result)
-    (retire-refused (a .t1) g (a .o) z (c2 .is-open .result) (c .before .if2 .taken) (c2 .is-open .ensures)) (c .refuse2 .ensures)
-
-mul-t10 : tie.Need-mul-t10
-mul-t10 c = search needs
-
-element-set-from-self : tie.Need-element-set-from-self
-element-set-from-self c = search needs
-
-returns-3 : tie.Need-returns-3
-returns-3 c =
-    let c3 = c .before .before .before in
-    let c4 = c3 .before in
-    let c5 = c4 .before in
-    let c7 = c5 .before .before in
-    let a = c7 .args in
-    let g = c7 .good .0 in
-    let w = c7 .pre in
-    let z = goes (c4 .of-retire .ensures (view (a .t1)) (a .o) w
-    (object-got (a .t1) g (a .o) (c5 .object-at .result) (c5 .object-at .ensures))) (c3 .if1 .left) in
-    retires (a .t1) g (a .o) z (c5 .object-at .result) (object-got (a .t1) g (a .o) (c5 .object-at .result) (c5 .object-at .ensures))
-    (retire-free (a .t1) g (a .o) z (c .before .is-open .result) (c .if2 .left) (c .before .is-open .ensures))
+    let y = object-got (a .t1) g (a .o) (c6 .object-at .result) (c6 .object-at .ensures) in
+    let z = waits (c5 .of-retire .ensures (view (a .t1)) (a .o) w y) (c4 .if1 .left) in
+    let e = c1 .last .ensures (view (a .t1)) (retire (a .o)) z
+    (retire-late (a .t1) g (a .o) z (c2 .is-open .result) (c2 .is-open .ensures)) in
+    retires (a .t1) g (a .o) z (c6 .object-at .result) y (frees e (c .if2 .left))
 
 pub retire-spec : {M : Type 1} → statement M
 retire-spec =
@@ -90,8 +98,9 @@ retire-spec =
     returns
     cast-number
     is-open-requires
+    last-requires
     refuse-requires-2
     returns-2
-    mul-t10
+    mul-t12
     element-set-from-self
     returns-3)
