@@ -107,11 +107,12 @@ module _ {A : Type 0} {f g : A → ℕ} {b n : ℕ} {l : List A} {o s : List ℕ
 
 -- ── all of a state ──
 module _ (m : Monitor) (y : Tally) (long : Long m) (o : List ℕ) (size : length o ≡ state-bytes) where
-  pub laid-whole : (s₁ s₂ s₃ s₄ s₅ : List ℕ) → s₁ ≡ over 0 (subject-bytes (m .subjects)) o → s₂ ≡ over 64 (object-bytes (m .objects)) s₁
+  pub laid-whole : (s₁ s₂ s₃ s₄ s₅ s₆ : List ℕ) → s₁ ≡ over 0 (subject-bytes (m .subjects)) o → s₂ ≡ over 64 (object-bytes (m .objects)) s₁
       → s₃ ≡ over 192 (handle-bytes (m .handles)) s₂
-      → s₄ ≡ over 1216 (digits 8 (y .made)) s₃ → s₅ ≡ over 1224 (digits 8 (y .gone)) s₄ → s₅ ≡ bytes-of m y
+      → s₄ ≡ over 1216 (digits 8 (y .made)) s₃ → s₅ ≡ over 1224 (digits 8 (y .gone)) s₄
+      → s₆ ≡ set s₅ 1232 (m .freeze) → s₆ ≡ bytes-of m y
   unfolding bytes-of
-  laid-whole s₁ s₂ s₃ s₄ s₅ e₁ e₂ e₃ e₄ e₅ =
+  laid-whole s₁ s₂ s₃ s₄ s₅ s₆ e₁ e₂ e₃ e₄ e₅ e₆ =
       let a = subject-bytes (m .subjects) in
       let b = object-bytes (m .objects) in
       let c = handle-bytes (m .handles) in
@@ -133,10 +134,21 @@ module _ (m : Monitor) (y : Tally) (long : Long m) (o : List ℕ) (size : length
       let q₂ : s₂ ≡ a ++ b ++ t₂ = e₂ ∙ ap (over 64 b) q₁ ∙ over-next 64 a b t₁ la in
       let q₃ : s₃ ≡ a ++ b ++ c ++ t₃ = e₃ ∙ ap (over 192 c) q₂ ∙ over-next 192 (a ++ b) c t₂ (omega arith) in
       let q₄ : s₄ ≡ a ++ b ++ c ++ d ++ t₄ = e₄ ∙ ap (over 1216 d) q₃ ∙ over-next 1216 (a ++ b ++ c) d t₃ (omega arith) in
-      let q₅ : s₅ ≡ a ++ b ++ c ++ d ++ e ++ drop (length e) t₄ = e₅ ∙ ap (over 1224 e) q₄ ∙ over-next 1224 (a ++ b ++ c ++ d) e t₄ (omega arith) in
-      let none-left : length t₄ ≤ length e =
-      omega (arith, length-drop (length d) t₃, length-drop (length c) t₂, length-drop (length b) t₁, length-drop (length a) o, size) in
-      q₅ ∙ ap (λ (t : List ℕ). a ++ b ++ c ++ d ++ e ++ t) (drop-of-length-le t₄ none-left) ∙ append-nil (a ++ b ++ c ++ d ++ e)
+      let l₅ = length-append (a ++ b ++ c ++ d) e in
+      let t₅ = drop (length e) t₄ in
+      let one-left : length t₅ ≡ 1 = omega (
+        arith,
+        length-drop (length e) t₄,
+        length-drop (length d) t₃,
+        length-drop (length c) t₂,
+        length-drop (length b) t₁,
+        length-drop (length a) o,
+        size,
+      ) in
+      let last : t₅ ≡ getD t₅ 0 0 ∷ [] = drop-cons t₅ 0 0 (omega arith) ∙ ap (λ (t : List ℕ). getD t₅ 0 0 ∷ t) (drop-of-length-le t₅ {i = 1} (omega arith)) in
+      let q₅ : s₅ ≡ a ++ b ++ c ++ d ++ e ++ t₅ = e₅ ∙ ap (over 1224 e) q₄ ∙ over-next 1224 (a ++ b ++ c ++ d) e t₄ (omega arith) in
+      e₆ ∙ ap (λ (t : List ℕ). set t 1232 (m .freeze)) (q₅ ∙ ap (λ (t : List ℕ). a ++ b ++ c ++ d ++ e ++ t) last)
+      ∙ set-at (a ++ b ++ c ++ d ++ e) (getD t₅ 0 0) [] (m .freeze) 1232 (omega arith)
 
 -- ── a number ──
 -- the first k of the eight bytes of n were stored over o, from index `at` on, which is now s; `rest` is what is left of n

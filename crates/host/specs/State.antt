@@ -2,7 +2,7 @@
 -- so that every byte string of the length is one.
 --
 -- The layout: the subjects, then the objects, then the handles, two bytes each, in the order of the struct; then made and gone, eight bytes each,
--- lowest first. In order: records of two bytes; numbers; from bytes, and to bytes; the empty state, and what a call leaves. The laws are in
+-- lowest first; then the freeze, one byte. In order: records of two bytes; numbers; from bytes, and to bytes; the empty state, and what a call leaves. The laws are in
 -- State/Laws. Assumes nothing.
 use mathlib.Core.Path.{_≡_}
 use mathlib.Core.Bool.{cond}
@@ -10,8 +10,8 @@ use mathlib.Core.Option.{none}
 use mathlib.Core.List.{List, [], _∷_, _++_}
 use Prim.Native.Nat.{ℕ, zero, suc, _+_, _*_, _/_, _%_}
 use lib.Dec.{ltb, eqb}
-use lib.ListN.{length, take, drop}
-use Rattle.model.specs.Tables.{subjects, objects, places, Tables, empty, clean}
+use lib.ListN.{length, take, drop, getD, replicate}
+use Rattle.model.specs.Tables.{subjects, objects, places, no-freeze, Tables, empty, clean}
 use Rattle.model.specs.Calls.{Call, refusal, answer}
 use Rattle.model.specs.Promise.{Meets}
 use Rattle.model.specs.Tally.{zeroed, tallied}
@@ -26,7 +26,7 @@ pub mod Laws
 
 -- RULES H4
 abbrev pub state-bytes : ℕ
-state-bytes = 2 * subjects + 2 * objects + 2 * (subjects * places) + 2 * 8
+state-bytes = 2 * subjects + 2 * objects + 2 * (subjects * places) + 2 * 8 + 1
 
 -- RULES H10: bytes that are a state
 abbrev pub Sized : List ℕ → Type 0
@@ -92,9 +92,12 @@ made-of s = whole (take 8 (drop 1216 s))
 unfoldable pub gone-of : List ℕ → ℕ
 gone-of s = whole (take 8 (drop 1224 s))
 
+unfoldable pub freeze-of : List ℕ → ℕ
+freeze-of s = getD s 1232 0
+
 -- RULES H5, H9
 abbrev pub monitor-of : List ℕ → Monitor
-monitor-of s = record { subjects = subjects-of s; objects = objects-of s; handles = handles-of s }
+monitor-of s = record { subjects = subjects-of s; objects = objects-of s; handles = handles-of s; freeze = freeze-of s }
 
 abbrev pub tally-of : List ℕ → Tally
 tally-of s = record { made = made-of s; gone = gone-of s }
@@ -111,7 +114,8 @@ handle-bytes l = flat (λ (x : Handle). sort-byte (x .way)) (λ (x : Handle). x 
 
 -- RULES H5, H9
 unfoldable pub bytes-of : Monitor → Tally → List ℕ
-bytes-of m y = subject-bytes (m .subjects) ++ object-bytes (m .objects) ++ handle-bytes (m .handles) ++ digits 8 (y .made) ++ digits 8 (y .gone)
+bytes-of m y = subject-bytes (m .subjects) ++ object-bytes (m .objects) ++ handle-bytes (m .handles) ++ digits 8 (y .made) ++ digits 8 (y .gone) ++
+    (m .freeze ∷ [])
 
 -- the bytes s are those of a monitor and a tally, and stand for them: for the monitor's tables, and for the tally
 pub record Stands (s : List ℕ) (m : Monitor) (y : Tally) : Type 0 where
@@ -125,6 +129,10 @@ pub record Stands (s : List ℕ) (m : Monitor) (y : Tally) : Type 0 where
 -- the tables that the bytes stand for
 abbrev pub state-view : List ℕ → Tables
 state-view s = view (monitor-of s)
+
+-- as what it is stored: the freeze says that there is none, and all else is 0
+unfoldable pub blank-bytes : List ℕ
+blank-bytes = replicate 1232 0 ++ (no-freeze ∷ [])
 
 -- RULES T12, Y8: empty tables, and counts of 0
 pub record Blank (s : List ℕ) : Type 0 where

@@ -1,4 +1,4 @@
-// The gatekeeper for a host in C or Rust (RULES S1, H4 to H14): the tables, the thirteen calls, the journal reader and writer. Each
+// The gatekeeper for a host in C or Rust (RULES S1, H4 to H14): the tables, the calls, the journal reader and writer. Each
 // function below "exported" has its plain name in the archive; a slice crosses as a pointer and a length, and an answer as a number
 // (specs/Numbers.antt). The monitor with its tally crosses as lent bytes, laid out as in specs/State.antt. Every byte string of that length is a
 // monitor, so that a host can hand in nothing wrong but the length, and then nothing is touched.
@@ -7,7 +7,7 @@ ghost use mathlib.Core.Option.{Option·getD};
 ghost use mathlib.Core.List.{_∷_, []};
 ghost use Prim.Native.Nat.{_+_, _≤_, _<_};
 ghost use lib.Dec.{eqb};
-ghost use lib.ListN.{length, take, drop, replicate};
+ghost use lib.ListN.{length, take, drop};
 ghost use Rattle.number.specs.Leb.{largest, number};
 ghost use Rattle.number.specs.Put.{put, fitted};
 ghost use Rattle.journal.specs.Record.{longest-record, recording, recorded};
@@ -15,7 +15,7 @@ ghost use Rattle.replay.specs.Replay.{reply, reply-room, Begun};
 ghost use Rattle.gatekeeper.specs.View.{told, direct};
 ghost use Rattle.host.specs.State.{state-bytes, Sized, live-of, sort-of, live-byte, sort-byte, whole, digits};
 ghost use Rattle.host.specs.State.{subjects-of, objects-of, handles-of, made-of, gone-of, monitor-of, tally-of};
-ghost use Rattle.host.specs.State.{subject-bytes, object-bytes, handle-bytes, Stands, Blank};
+ghost use Rattle.host.specs.State.{subject-bytes, object-bytes, handle-bytes, blank-bytes, Stands, Blank};
 ghost use Rattle.host.specs.Over.{over};
 ghost use Rattle.host.specs.Numbers.{sized, answer-number, answer-in, record-number, roomy-number, reading-number};
 ghost use Rattle.host.specs.Demand3.{Called};
@@ -28,13 +28,15 @@ use number::Number;
 use number::Written;
 use tables::HANDLES;
 use tables::Handle;
+use tables::NO_FREEZE;
 use tables::OBJECTS;
 use tables::Object;
 use tables::SUBJECTS;
 use tables::Subject;
 use tally::Tally;
 
-// Where the parts of a state stand: the subjects at 0, two bytes each; the objects and the handles likewise; the two counts, eight bytes each.
+// Where the parts of a state stand: the subjects at 0, two bytes each; the objects and the handles likewise; the two counts, eight bytes each; the freeze,
+// one byte.
 const OBJECTS_AT: usize = 2 * SUBJECTS;
 
 const HANDLES_AT: usize = OBJECTS_AT + 2 * OBJECTS;
@@ -43,8 +45,10 @@ const MADE_AT: usize = HANDLES_AT + 2 * HANDLES;
 
 const GONE_AT: usize = MADE_AT + 8;
 
+const FREEZE_AT: usize = GONE_AT + 8;
+
 // How many bytes a monitor and its tally take.
-const STATE_BYTES: usize = GONE_AT + 8;
+const STATE_BYTES: usize = FREEZE_AT + 1;
 
 // The answer to a call on bytes of another length, which is no answer of a call.
 const UNSIZED: u32 = 0;
@@ -155,10 +159,12 @@ fn load_monitor(state: &[u8]) -> Monitor
     let subjects = load_subjects(state);
     let objects = load_objects(state);
     let handles = load_handles(state);
+    let freeze = state[FREEZE_AT];
     Monitor {
         subjects: subjects,
         objects: objects,
         handles: handles,
+        freeze: freeze,
     }
 }
 
@@ -264,6 +270,7 @@ fn store(state: &mut [u8], monitor: Monitor, tally: Tally)
     store_handles(state, handles);
     store_number(state, MADE_AT, tally.made);
     store_number(state, GONE_AT, tally.gone);
+    state[FREEZE_AT] = monitor.freeze;
 }
 
 // ---- answers as numbers
@@ -288,11 +295,11 @@ pub extern "C" fn gatekeeper_state_bytes() -> usize
     STATE_BYTES
 }
 
-// The empty tables and a zero tally, over the whole buffer; false, and nothing is touched, where it has another length.
+// The empty tables, without a freeze, and a zero tally, over the whole buffer; false, and nothing is touched, where it has another length.
 #[no_mangle]
 pub extern "C" fn gatekeeper_empty(state: &mut [u8]) -> bool
     ensures answer { λ r. ⌜ r ≡ eqb (length (now (state .entry))) state-bytes ⌝ }
-    ensures buffer { λ _. ⌜ now (state .exit) ≡ sized (now (state .entry)) (replicate state-bytes 0) (now (state .entry)) ⌝ }
+    ensures buffer { λ _. ⌜ now (state .exit) ≡ sized (now (state .entry)) blank-bytes (now (state .entry)) ⌝ }
     ensures tables { λ _. ⌜ (Sized (now (state .entry)) → Blank (now (state .exit))) ⌝ }
 {
     if state.len() != STATE_BYTES {
@@ -303,6 +310,7 @@ pub extern "C" fn gatekeeper_empty(state: &mut [u8]) -> bool
         state[i] = 0;
         i += 1;
     }
+    state[FREEZE_AT] = NO_FREEZE;
     true
 }
 

@@ -2,11 +2,11 @@
 use mathlib.Core.Path.{sym, ap, _∙_}
 use Prim.Native.Nat.{ℕ, _-_}
 use native.Mathlib.Omega.{arith}
-use lib.ListN.{length, replicate}
+use lib.ListN.{length, replicate, length-set}
 use borrow.Author.Needs.{needs}
 use borrow.Author.Tests.{eq-eqb, ne-eqb}
 use Rattle.host.specs.State.{state-bytes}
-use Rattle.host.specs.State.Laws.{zeros-blank}
+use Rattle.host.specs.State.Laws.{zeros-set, bytes-blank}
 use Rattle.host.proofs.Storing.{Zeroed, zeroed-none, zeroed-long, zeroed-more, zeroed-all}
 use Rattle.host.proofs.gatekeeper_empty.Statement.{statement}
 use Rattle.host.proofs.gatekeeper_empty.Tie as tie
@@ -37,14 +37,18 @@ loop-less c = omega (arith, zeroed-long (c .before .loop .inv))
 loop-again : tie.Need-loop-again Inv-loop μ-loop
 loop-again c = zeroed-more (c .before .loop .inv) (c .loop-test .taken)
 
+slice-write-state-2 : tie.Need-slice-write-state-2 Inv-loop μ-loop
+slice-write-state-2 c = omega (arith, zeroed-long (c .before .loop .inv), c .before .before .if1 .left)
+
 same-length : tie.Need-same-length Inv-loop μ-loop
-same-length c = zeroed-long (c .before .loop .inv)
+same-length c = simp length-set (zeroed-long (c .before .loop .inv))
 
 returns-2 : tie.Need-returns-2 Inv-loop μ-loop
 returns-2 c =
     let is = eq-eqb (length (c .before .before .before .args .state .now)) state-bytes (c .before .before .if1 .left) in
     let zeros = zeroed-all (c .before .loop .inv) (c .loop-test .left) ∙ ap (λ (k : ℕ). replicate k 0) (c .before .before .if1 .left) in
-    (sym is, (rw is zeros, λ h. zeros-blank _ zeros))
+    let blank = zeros-set _ zeros in
+    (sym is, (rw is blank, λ h. bytes-blank _ blank))
 
 pub gatekeeper-empty-spec : {M : Type 1} → statement M
 gatekeeper-empty-spec =
@@ -58,5 +62,6 @@ gatekeeper-empty-spec =
     add-i
     loop-less
     loop-again
+    slice-write-state-2
     same-length
     returns-2)

@@ -1,5 +1,6 @@
 -- `host::load_monitor` meets its contract. Assumes nothing.
 use borrow.Author.Needs.{needs}
+use Rattle.host.specs.State.{freeze-of}
 use Rattle.host.proofs.load_monitor.Statement.{statement}
 use Rattle.host.proofs.load_monitor.Tie as tie
 
@@ -12,13 +13,22 @@ load-objects-requires c κs = search needs
 load-handles-requires : tie.Need-load-handles-requires
 load-handles-requires c κs = search needs
 
+shared-slice-read-freeze : tie.Need-shared-slice-read-freeze
+shared-slice-read-freeze c = search needs
+
 returns : tie.Need-returns
-returns c = λ i. record {
-  subjects = c .before .before .load-subjects .ensures i;
-  objects = c .before .load-objects .ensures i;
-  handles = c .load-handles .ensures i;
-}
+unfolding freeze-of
+returns c =
+    let handles = c .before in
+    let objects = handles .before in
+    let subjects = objects .before in
+    λ i. record {
+      subjects = subjects .load-subjects .ensures i;
+      objects = objects .load-objects .ensures i;
+      handles = handles .load-handles .ensures i;
+      freeze = freeze-of (subjects .before .before .args .state .now);
+    }
 
 pub load-monitor-spec : {M : Type 1} → statement M
 load-monitor-spec =
-    tie.close (tie.spec load-subjects-requires load-objects-requires load-handles-requires returns)
+    tie.close (tie.spec load-subjects-requires load-objects-requires load-handles-requires shared-slice-read-freeze returns)

@@ -1,8 +1,8 @@
 -- `host::store` meets its contract. Assumes nothing.
-use mathlib.Core.Path.{sym, ap, ap₂, _∙_}
+use mathlib.Core.Path.{refl, sym, ap, ap₂, _∙_}
 use mathlib.Core.List.{List}
 use Prim.Native.Nat.{ℕ}
-use lib.ListN.{length}
+use lib.ListN.{length, length-set}
 use borrow.Author.Needs.{needs}
 use Rattle.gatekeeper.specs.View.{view}
 use Rattle.host.specs.State.{monitor-of, tally-of, bytes-of}
@@ -27,8 +27,17 @@ store-number-requires c κs = search needs
 store-number-requires-2 : tie.Need-store-number-requires-2
 store-number-requires-2 c κs = search needs
 
+slice-write-state : tie.Need-slice-write-state
+slice-write-state c = search needs
+
 same-length : tie.Need-same-length
-same-length c = search needs
+same-length c =
+    let c1 = c .before in
+    let c5 = c1 .before .before .before .before in
+    let c9 = c5 .before .before .before .before in
+    let c13 = c9 .before .before .before .before in
+    let c17 = c13 .before .before .before .before in
+    simp length-set (c1 .state5 .given ∙ c5 .state4 .given ∙ c9 .state3 .given ∙ c13 .state2 .given ∙ c17 .state .given)
 
 returns : tie.Need-returns
 returns c =
@@ -44,12 +53,13 @@ returns c =
     let long = monitor-long m (start .good .1 .0) in
     let fits = tally-fits y (start .good .1 .1 .0) in
     let is =
-    laid-whole m y long (start .args .state .now) (start .pre) _ _ _ _ _
+    laid-whole m y long (start .args .state .now) (start .pre) _ _ _ _ _ _
     (subjects .store-subjects .ensures)
     (objects .store-objects .ensures)
     (handles .store-handles .ensures)
     (made .store-number .ensures)
-    (gone .store-number2 .ensures) in
+    (gone .store-number2 .ensures)
+    refl in
     record {
       size = ap length is ∙ bytes-length m y long;
       bytes = is;
@@ -67,5 +77,6 @@ store-spec =
     store-handles-requires
     store-number-requires
     store-number-requires-2
+    slice-write-state
     same-length
     returns)

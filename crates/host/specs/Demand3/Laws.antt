@@ -2,9 +2,8 @@
 use mathlib.Core.Path.{_≡_, sym, ap, _∙_, subst}
 use mathlib.Core.List.{List}
 use Prim.Native.Nat.{ℕ}
-use Rattle.model.specs.Lists.{In}
 use Rattle.model.specs.Tables.{Tables, empty, clean}
-use Rattle.model.specs.Invariant.{Wf, Sayable}
+use Rattle.model.specs.Invariant.{Wf, All-sayable}
 use Rattle.model.specs.Invariant.Laws.{empty-wf, clean-same}
 use Rattle.model.specs.Calls.{Raw, decode, Answer, answers}
 use Rattle.model.specs.Calls.Sayable.{always-sayable}
@@ -28,9 +27,9 @@ module _ (s s′ : List ℕ) (rs : List Raw) (ns : List ℕ) (b : Blank s) (c : 
   pub bytes-demand3 : Demand3 rs (answers-in ns) (state-view s′)
   bytes-demand3 = demand3 state-view s (b .tables) rs (answers-in ns) s′ (calls-run s s′ rs ns (b .size) c)
 
-  -- and each of them gives a level of 0 to 15, or the number of a refusal that calls have
-  pub bytes-sayable : (a : Answer) → In a (answers-in ns) → Sayable a
-  bytes-sayable a i = always-sayable rs a (subst (λ (l : List Answer). In a l) by-the-rules i)
+  -- and each of them gives a level of 0 to 15, to a freeze 0 to 16, or the number of a refusal that calls have
+  pub bytes-sayable : All-sayable rs (answers-in ns)
+  bytes-sayable = subst (All-sayable rs) (sym by-the-rules) (always-sayable rs)
     where
       start : clean (state-view s) ≡ empty
       start = ap clean (b .tables) ∙ clean-same empty empty-wf

@@ -3,16 +3,16 @@
 use mathlib.Core.Path.{_≡_, refl, sym, ap, ap₂, _∙_, fun-ext}
 use mathlib.Core.Bool.{Bool, true, false, cond}
 use mathlib.Core.Option.{Option, none, some}
-use mathlib.Core.List.{List, [], _∷_, _++_, map, append-nil, append-assoc}
+use mathlib.Core.List.{List, [], _∷_, _++_, map, append-assoc}
 use Prim.Native.Nat.{ℕ, zero, suc, _+_, _*_, _/_, _^_, _≤_, _<_}
 use native.Mathlib.Omega.{arith}
 use borrow.Author.Tests.{le-ltb, ne-eqb}
 use lib.Dec.{ltb, eqb}
-use lib.ListN.{length, take, drop, getD, replicate, length-append, length-replicate, List·getD-map}
-use lib.Seq.{take-at, drop-at, drop-drop}
+use lib.ListN.{length, take, drop, getD, set, replicate, length-append, length-replicate, List·getD-map}
+use lib.Seq.{take-at, drop-at, drop-drop, getD-drop, set-at}
 use Rattle.model.specs.Flow.{Thing, subject, object}
 use Rattle.model.specs.Label.{label}
-use Rattle.model.specs.Tables.{running, Entry, entry, empty, places}
+use Rattle.model.specs.Tables.{running, Entry, entry, no-freeze, empty, with-at, with-hand, with-freeze, places}
 use Rattle.model.specs.Tally.{zeroed}
 use Rattle.model.specs.Tables.{Handle as Held}
 use Rattle.tables.specs.declared.Subject.{Subject}
@@ -22,11 +22,11 @@ use Rattle.gatekeeper.specs.declared.Monitor.{Monitor}
 use Rattle.tally.specs.declared.Tally.{Tally}
 use Rattle.tables.specs.Records.{subject-entry, object-entry, held, no-subject, no-object, no-handle, entries, tables-of}
 use Rattle.tables.specs.Records.Laws.{empty-tables}
-use Rattle.gatekeeper.specs.View.{view}
+use Rattle.gatekeeper.specs.View.{beside, view}
 use Rattle.tally.specs.Counting.{counts-of}
 use Rattle.host.specs.State.{state-bytes, pairs, flat, subject-of, object-of, handle-of, live-of, sort-of, live-byte, sort-byte, whole, digits}
-use Rattle.host.specs.State.{subjects-of, objects-of, handles-of, made-of, gone-of, monitor-of, tally-of}
-use Rattle.host.specs.State.{subject-bytes, object-bytes, handle-bytes, bytes-of, state-view, Blank}
+use Rattle.host.specs.State.{subjects-of, objects-of, handles-of, made-of, gone-of, freeze-of, monitor-of, tally-of}
+use Rattle.host.specs.State.{subject-bytes, object-bytes, handle-bytes, bytes-of, blank-bytes, state-view, Blank}
 
 -- ── records of two bytes ──
 module _ {A : Type 0} (f g : A → ℕ) where
@@ -147,11 +147,16 @@ handle-same x = sort-cases (λ k. held (handle-of (sort-byte k) (x .object))) (�
     (λ n h. rw (le-ltb n 2 h, ne-eqb n 0 (λ e. omega arith), ne-eqb n 1 (λ e. omega arith))) (x .way)
 
 abbrev plain : Monitor → Monitor
-plain m = record { subjects = map plain-subject (m .subjects); objects = map plain-object (m .objects); handles = map plain-handle (m .handles) }
+plain m = record {
+  subjects = map plain-subject (m .subjects);
+  objects = map plain-object (m .objects);
+  handles = map plain-handle (m .handles);
+  freeze = m .freeze;
+}
 
 plain-view : (m : Monitor) → view (plain m) ≡ view m
 unfolding tables-of
-plain-view m = ap₂ (λ (a : Thing → Option Entry) (h : ℕ → ℕ → Option Held). record { at = a; hand = h }) (fun-ext at)
+plain-view m = ap₂ (λ (a : Thing → Option Entry) (h : ℕ → ℕ → Option Held). with-hand (with-at (beside m) a) h) (fun-ext at)
     (fun-ext (λ s. fun-ext (λ p. ap (λ (v : Option Held). cond (ltb p places) v none)
     (ap held (List·getD-map plain-handle (m .handles) (s * 16 + p) no-handle) ∙ handle-same (getD (m .handles) (s * 16 + p) no-handle)))))
   where
@@ -165,7 +170,7 @@ plain-bytes m y = λ i. flat-map (λ (x : Subject). live-byte (x .live)) (λ (x 
     (λ x. refl) (m .subjects) i
     ++ flat-map (λ (x : Object). sort-byte (x .kind)) (λ (x : Object). x .level) plain-object (λ x. sort-same (x .kind)) (λ x. refl) (m .objects) i
     ++ flat-map (λ (x : Handle). sort-byte (x .way)) (λ (x : Handle). x .object) plain-handle (λ x. sort-same (x .way)) (λ x. refl)
-    (m .handles) i ++ digits 8 (y .made) ++ digits 8 (y .gone)
+    (m .handles) i ++ digits 8 (y .made) ++ digits 8 (y .gone) ++ (m .freeze ∷ [])
 
 -- p stands at index n, and t after it
 module _ (n m : ℕ) (s p t : List ℕ) (e : drop n s ≡ p ++ t) (h : length p ≡ m) where
@@ -179,8 +184,14 @@ module _ (m : Monitor) (y : Tally) (long : Long m) where
   abbrev s : List ℕ
   s = bytes-of m y
 
+  abbrev last : List ℕ
+  last = m .freeze ∷ []
+
+  abbrev after-made : List ℕ
+  after-made = digits 8 (y .gone) ++ last
+
   abbrev numbers : List ℕ
-  numbers = digits 8 (y .made) ++ digits 8 (y .gone)
+  numbers = digits 8 (y .made) ++ after-made
 
   abbrev after-objects : List ℕ
   after-objects = handle-bytes (m .handles) ++ numbers
@@ -207,8 +218,11 @@ module _ (m : Monitor) (y : Tally) (long : Long m) where
   from-1216 : drop 1216 s ≡ numbers
   from-1216 = behind 192 1024 s (handle-bytes (m .handles)) numbers from-192 handles-count
 
-  from-1224 : drop 1224 s ≡ digits 8 (y .gone)
-  from-1224 = behind 1216 8 s (digits 8 (y .made)) (digits 8 (y .gone)) from-1216 (length-digits 8 (y .made))
+  from-1224 : drop 1224 s ≡ after-made
+  from-1224 = behind 1216 8 s (digits 8 (y .made)) after-made from-1216 (length-digits 8 (y .made))
+
+  from-1232 : drop 1232 s ≡ last
+  from-1232 = behind 1224 8 s (digits 8 (y .gone)) last from-1224 (length-digits 8 (y .gone))
 
   -- the bytes of a monitor and a tally have the length of a state
   pub bytes-length : length (bytes-of m y) ≡ state-bytes
@@ -218,7 +232,8 @@ module _ (m : Monitor) (y : Tally) (long : Long m) where
     length-append (subject-bytes (m .subjects)) (object-bytes (m .objects) ++ after-objects),
     length-append (object-bytes (m .objects)) after-objects,
     length-append (handle-bytes (m .handles)) numbers,
-    length-append (digits 8 (y .made)) (digits 8 (y .gone)),
+    length-append (digits 8 (y .made)) after-made,
+    length-append (digits 8 (y .gone)) last,
     subjects-count,
     objects-count,
     handles-count,
@@ -241,8 +256,12 @@ module _ (m : Monitor) (y : Tally) (long : Long m) where
   handles-back = ap (pairs handle-of) (front 192 1024 s (handle-bytes (m .handles)) numbers from-192 handles-count)
       ∙ pairs-flat _ _ handle-of (m .handles)
 
+  freeze-back : freeze-of s ≡ m .freeze
+  unfolding freeze-of
+  freeze-back = sym (getD-drop 1232 s 0 0) ∙ ap (λ (l : List ℕ). getD l 0 0) from-1232
+
   monitor-back : monitor-of (bytes-of m y) ≡ plain m
-  monitor-back = λ i. record { subjects = subjects-back i; objects = objects-back i; handles = handles-back i }
+  monitor-back = λ i. record { subjects = subjects-back i; objects = objects-back i; handles = handles-back i; freeze = freeze-back i }
 
   -- a monitor's bytes stand for its tables
   pub view-back : view (monitor-of (bytes-of m y)) ≡ view m
@@ -250,13 +269,12 @@ module _ (m : Monitor) (y : Tally) (long : Long m) where
 
   made-back : y .made < 2 ^ 64 → made-of s ≡ y .made
   unfolding made-of
-  made-back h = ap whole (front 1216 8 s (digits 8 (y .made)) (digits 8 (y .gone)) from-1216 (length-digits 8 (y .made)))
+  made-back h = ap whole (front 1216 8 s (digits 8 (y .made)) after-made from-1216 (length-digits 8 (y .made)))
       ∙ whole-digits 8 (y .made) h
 
   gone-back : y .gone < 2 ^ 64 → gone-of s ≡ y .gone
   unfolding gone-of
-  gone-back h = ap (λ (l : List ℕ). whole (take 8 l)) (from-1224 ∙ sym (append-nil (digits 8 (y .gone))))
-      ∙ ap whole (take-at (digits 8 (y .gone)) [] 8 (length-digits 8 (y .gone)))
+  gone-back h = ap whole (front 1224 8 s (digits 8 (y .gone)) last from-1224 (length-digits 8 (y .gone)))
       ∙ whole-digits 8 (y .gone) h
 
   -- and a tally's too
@@ -268,28 +286,40 @@ module _ (m : Monitor) (y : Tally) (long : Long m) where
   bytes-again h = sym (ap₂ bytes-of monitor-back (tally-back h) ∙ plain-bytes m y)
 
 -- ── the empty state ──
-module _ (s : List ℕ) (z : s ≡ replicate state-bytes 0) where
+-- zeros, and the freeze set last
+pub zeros-set : (s : List ℕ) → s ≡ replicate state-bytes 0 → set s 1232 no-freeze ≡ blank-bytes
+unfolding blank-bytes
+zeros-set s z = ap (λ (l : List ℕ). set l 1232 no-freeze) z ∙ set-at (replicate 1232 0) 0 [] no-freeze 1232 (length-replicate {A = ℕ} 1232 0)
+
+module _ (s : List ℕ) (z : s ≡ blank-bytes) where
   no-subjects : subjects-of s ≡ replicate 32 no-subject
-  unfolding subjects-of pairs
+  unfolding subjects-of pairs blank-bytes
   no-subjects = ap subjects-of z
 
   no-objects : objects-of s ≡ replicate 64 no-object
-  unfolding objects-of pairs
+  unfolding objects-of pairs blank-bytes
   no-objects = ap objects-of z
 
   no-handles : handles-of s ≡ replicate 512 no-handle
-  unfolding handles-of pairs
+  unfolding handles-of pairs blank-bytes
   no-handles = ap handles-of z
 
-  -- no number is in use
-  zeros-view : state-view s ≡ empty
-  zeros-view = (λ i. tables-of (no-subjects i) (no-objects i) (no-handles i)) ∙ empty-tables
+  unfrozen : freeze-of s ≡ no-freeze
+  unfolding freeze-of blank-bytes
+  unfrozen = ap freeze-of z
+
+  -- no number is in use, and nothing is frozen
+  blank-view : state-view s ≡ empty
+  blank-view = (λ i. tables-of (with-freeze empty (unfrozen i)) (no-subjects i) (no-objects i) (no-handles i)) ∙ empty-tables
 
   -- no handle was made, none is gone
-  zeros-tally : counts-of (tally-of s) ≡ zeroed
-  unfolding made-of gone-of whole
-  zeros-tally = ap (λ (l : List ℕ). counts-of (tally-of l)) z
+  blank-tally : counts-of (tally-of s) ≡ zeroed
+  unfolding made-of gone-of whole blank-bytes
+  blank-tally = ap (λ (l : List ℕ). counts-of (tally-of l)) z
 
-  -- zeros are the empty state
-  pub zeros-blank : Blank s
-  zeros-blank = record { size = ap length z ∙ length-replicate {A = ℕ} state-bytes 0; tables = zeros-view; counts = zeros-tally }
+  blank-length : length s ≡ state-bytes
+  unfolding blank-bytes
+  blank-length = ap length z ∙ length-append (replicate 1232 0) (no-freeze ∷ []) ∙ ap (λ (k : ℕ). k + 1) (length-replicate {A = ℕ} 1232 0)
+
+  pub bytes-blank : Blank s
+  bytes-blank = record { size = blank-length; tables = blank-view; counts = blank-tally }
