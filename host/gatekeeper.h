@@ -30,7 +30,7 @@ extern "C" {
 #endif
 
 /* Sizes, in bytes. */
-#define GATEKEEPER_STATE_BYTES 1232    /* a monitor with its tally */
+#define GATEKEEPER_STATE_BYTES 1233    /* a monitor with its tally */
 #define GATEKEEPER_RECORD_ROOM 22      /* room for every record */
 #define GATEKEEPER_JOURNAL_BYTES 65536 /* the longest journal that is run */
 #define GATEKEEPER_REPLY_ROOM 1835075  /* room for the reply to every journal */
@@ -41,8 +41,11 @@ extern "C" {
 #define GATEKEEPER_PLACES 16  /* places for handles, of each subject */
 #define GATEKEEPER_LEVELS 16  /* 0 is the lowest */
 
+/* The freeze that freezes no file: it is above every level. */
+#define GATEKEEPER_NO_FREEZE 16
+
 /*
- * The bytes of a monitor, for a host that looks at them: subjects, objects, handles, then the tally.
+ * The bytes of a monitor, for a host that looks at them: subjects, objects, handles, then the tally and the freeze.
  *
  *   at 0, 32 times     1 where the subject is live, and its level
  *   at 64, 64 times    1 for a file, 2 for a pipe, and its level
@@ -50,12 +53,19 @@ extern "C" {
  *                      (16 s + p)th
  *   at 1216            handles made, eight bytes, the lowest first
  *   at 1224            handles gone, likewise
+ *   at 1232            the freeze, one byte: the level from which on files are frozen; 16 and above: none is
  *
- * Any other first byte of a pair says that there is no such subject, object or handle.
+ * Any other first byte of a pair says that there is no such subject, object or handle. The empty monitor has 16 as its
+ * freeze and 0 everywhere else: bytes that are all 0 have no subject, object or handle either, but they freeze every
+ * file.
+ *
+ * Bytes that were kept before there was a freeze are one fewer, which is a wrong length. With a byte of
+ * GATEKEEPER_NO_FREEZE after them they are the same monitor.
  */
 
 /* The calls, with the numbers a, b, c and d that each takes. s and c are subjects, o is an object, p, r and w are
- * places. */
+ * places. A freeze is one for all subjects, in the place of the one before it; pipes, opens for reading and handles that
+ * are held go on as without it. */
 enum gatekeeper_code {
     GATEKEEPER_ADMIT = 1,      /* s, level: a new subject from outside, without handles */
     GATEKEEPER_REGISTER = 2,   /* o, level: a new file from outside */
@@ -69,7 +79,8 @@ enum gatekeeper_code {
     GATEKEEPER_EXEC = 10,      /* s, o: file o is run; s falls to its level if that is lower */
     GATEKEEPER_CLOSE = 11,     /* s, p: the place is empty */
     GATEKEEPER_EXIT = 12,      /* s: all its handles are closed, its number is free */
-    GATEKEEPER_RETIRE = 13     /* o: the file is gone, its number is free */
+    GATEKEEPER_RETIRE = 13,    /* o: the file is gone, its number is free */
+    GATEKEEPER_FREEZE = 16     /* level: files at or above it are frozen: no open for writing; with 16, none is */
 };
 
 /* How a call came out. */
@@ -80,29 +91,30 @@ enum gatekeeper_outcome {
 };
 
 /* Why a call, a record or a journal is refused. Where several hold, the smallest number is given, but 14 goes before
- * all others, and 12 before 2 to 10. */
+ * all others, and 12 before 2 to 10. So an open that is refused with 15 is one that nothing but the freeze forbids. */
 enum gatekeeper_refusal {
-    GATEKEEPER_UNKNOWN_CODE = 1,     /* the code is not 1 to 13 */
-    GATEKEEPER_NO_SUBJECT = 2,       /* the subject that asks is out of range or not live */
-    GATEKEEPER_NUMBER_TAKEN = 3,     /* the number for a new thing is out of range or in use */
-    GATEKEEPER_NO_OBJECT = 4,        /* the object is out of range or not live */
-    GATEKEEPER_IS_PIPE = 5,          /* a pipe cannot be run or retired */
-    GATEKEEPER_LEVEL_TOO_HIGH = 6,   /* the level is above 15 */
-    GATEKEEPER_PLACE_UNFIT = 7,      /* the place is above 15, taken, or empty where a handle is used; r is w */
-    GATEKEEPER_WRONG_DIRECTION = 8,  /* a read on a writing handle, or a write on a reading one */
-    GATEKEEPER_FLOW = 9,             /* low data could reach a higher file */
-    GATEKEEPER_STILL_OPEN = 10,      /* a handle is open on the file to be retired */
-    GATEKEEPER_JOURNAL_BROKEN = 11,  /* journals only: a record's length is malformed or runs past the end */
-    GATEKEEPER_RECORD_BROKEN = 12,   /* journals only: a number is malformed, missing or left over */
-    GATEKEEPER_RECORD_TOO_LONG = 13, /* gatekeeper_record only: the record is longer than the buffer */
-    GATEKEEPER_JOURNAL_TOO_LONG = 14 /* journals only: above 65,536 bytes */
+    GATEKEEPER_UNKNOWN_CODE = 1,      /* the code is none of 1 to 13 and 16 */
+    GATEKEEPER_NO_SUBJECT = 2,        /* the subject that asks is out of range or not live */
+    GATEKEEPER_NUMBER_TAKEN = 3,      /* the number for a new thing is out of range or in use */
+    GATEKEEPER_NO_OBJECT = 4,         /* the object is out of range or not live */
+    GATEKEEPER_IS_PIPE = 5,           /* a pipe cannot be run or retired */
+    GATEKEEPER_LEVEL_TOO_HIGH = 6,    /* the level is above 15, or a freeze above 16 */
+    GATEKEEPER_PLACE_UNFIT = 7,       /* the place is above 15, taken, or empty where a handle is used; r is w */
+    GATEKEEPER_WRONG_DIRECTION = 8,   /* a read on a writing handle, or a write on a reading one */
+    GATEKEEPER_FLOW = 9,              /* low data could reach a higher file */
+    GATEKEEPER_STILL_OPEN = 10,       /* a handle is open on the file to be retired */
+    GATEKEEPER_JOURNAL_BROKEN = 11,   /* journals only: a record's length is malformed or runs past the end */
+    GATEKEEPER_RECORD_BROKEN = 12,    /* journals only: a number is malformed, missing or left over */
+    GATEKEEPER_RECORD_TOO_LONG = 13,  /* gatekeeper_record only: the record is longer than the buffer */
+    GATEKEEPER_JOURNAL_TOO_LONG = 14, /* journals only: above 65,536 bytes */
+    GATEKEEPER_FROZEN = 15            /* an open for writing of a file at or above the freeze */
 };
 
 /* GATEKEEPER_STATE_BYTES, for a host that sees no header. */
 size_t gatekeeper_state_bytes(void);
 
-/* Makes the lent bytes the empty monitor, with nothing made and nothing gone, and returns true. Where `len` is not
- * GATEKEEPER_STATE_BYTES: false, and no byte is touched. */
+/* Makes the lent bytes the empty monitor, with nothing made, nothing gone and nothing frozen, and returns true. Where
+ * `len` is not GATEKEEPER_STATE_BYTES: false, and no byte is touched. */
 GATEKEEPER_MUST_USE
 bool gatekeeper_empty(uint8_t *state, size_t len);
 
@@ -126,7 +138,7 @@ static inline bool gatekeeper_allows(uint32_t answer)
 }
 
 /* The level in an answer of gatekeeper_call, or where it was refused the `enum gatekeeper_refusal`. On a monitor that
- * started empty a level is below GATEKEEPER_LEVELS. */
+ * started empty a level is below GATEKEEPER_LEVELS, but for that of a freeze that is lifted: GATEKEEPER_NO_FREEZE. */
 static inline uint32_t gatekeeper_value(uint32_t answer) { return answer % 256; }
 
 /* Handles made and handles gone over all calls on this monitor, modulo 2 to the 64th. On a monitor that started empty
@@ -134,6 +146,14 @@ static inline uint32_t gatekeeper_value(uint32_t answer) { return answer % 256; 
  * GATEKEEPER_STATE_BYTES. */
 uint64_t gatekeeper_made(const uint8_t *state, size_t len);
 uint64_t gatekeeper_gone(const uint8_t *state, size_t len);
+
+/* The level from which on files are frozen, for a host that shows it, or GATEKEEPER_NO_FREEZE where none is. 0, as if
+ * every file were, where `len` is not GATEKEEPER_STATE_BYTES. */
+static inline uint32_t gatekeeper_frozen_from(const uint8_t *state, size_t len)
+{
+    uint32_t freeze = len == GATEKEEPER_STATE_BYTES ? state[1232] : 0;
+    return freeze < GATEKEEPER_NO_FREEZE ? freeze : GATEKEEPER_NO_FREEZE;
+}
 
 /* Runs a journal from an empty monitor and writes the reply over the front of `out`: a line for each record with its
  * position, code, A, L or R, and the level or refusal number; then `end`, handles made, gone and open. Returns how many

@@ -23,7 +23,11 @@ struct host {
 
 static const char *refusal_words(uint32_t refusal)
 {
-    return refusal == GATEKEEPER_FLOW ? "low data could reach a higher file" : "see gatekeeper.h";
+    switch (refusal) {
+    case GATEKEEPER_FLOW: return "low data could reach a higher file";
+    case GATEKEEPER_FROZEN: return "the file is frozen while the books are closed";
+    default: return "see gatekeeper.h";
+    }
 }
 
 /* Makes a call, adds its record to the journal, and says what came of it; whether it may be done. */
@@ -100,6 +104,16 @@ int main(void)
     must(&host, "The adder exits.", GATEKEEPER_EXIT, ADDER, 0, 0, 0);
     must(&host, "The shell reads the sums.", GATEKEEPER_READ, SHELL, 0, 0, 0);
     must(&host, "The shell writes the pay book.", GATEKEEPER_WRITE, SHELL, 2, 0, 0);
+
+    puts("\nThe books are closed until the bank file is sent; who has the pay book open goes on");
+    must(&host, "Files of level 9 and above are frozen.", GATEKEEPER_FREEZE, 9, 0, 0, 0);
+    uint32_t from = gatekeeper_frozen_from(host.monitor, sizeof host.monitor);
+    if (from < GATEKEEPER_NO_FREEZE)
+        printf("The duty screen shows: frozen from level %" PRIu32 " on.\n", from);
+    if (ask(&host, "The shell opens the pay book for writing again.", GATEKEEPER_OPEN_WRITE, SHELL, PAY_BOOK, 3, 0))
+        must(&host, "The shell closes it.", GATEKEEPER_CLOSE, SHELL, 3, 0, 0);
+    must(&host, "The shell writes the last page with the handle that it has.", GATEKEEPER_WRITE, SHELL, 2, 0, 0);
+    must(&host, "The bank file is sent: the freeze is lifted.", GATEKEEPER_FREEZE, GATEKEEPER_NO_FREEZE, 0, 0, 0);
     must(&host, "The shell exits.", GATEKEEPER_EXIT, SHELL, 0, 0, 0);
 
     puts("\nA clerk has looked over the sheet: it comes in again as checked");

@@ -3,7 +3,7 @@
 //!
 //! In `host/rust`: `cargo run --offline --example payday`
 
-use gatekeeper::{Answer, Call, Monitor};
+use gatekeeper::{Answer, Call, Monitor, NO_FREEZE};
 
 // What comes from outside, and the numbers that this host gives to it and to what it makes.
 const SHELL: u32 = 0;
@@ -118,6 +118,23 @@ fn main() {
     host.must("The adder exits.", Call::Exit { subject: ADDER });
     host.must("The shell reads the sums.", Call::Read { subject: SHELL, place: 0 });
     host.must("The shell writes the pay book.", Call::Write { subject: SHELL, place: 2 });
+
+    println!("\nThe books are closed until the bank file is sent; who has the pay book open goes on");
+    host.must("Files of level 9 and above are frozen.", Call::Freeze { level: 9 });
+    if let Some(level) = host.monitor.frozen_from() {
+        println!("The duty screen shows: frozen from level {level} on.");
+    }
+    if host.ask(
+        "The shell opens the pay book for writing again.",
+        Call::OpenWrite { subject: SHELL, object: PAY_BOOK, place: 3 },
+    ) {
+        host.must("The shell closes it.", Call::Close { subject: SHELL, place: 3 });
+    }
+    host.must(
+        "The shell writes the last page with the handle that it has.",
+        Call::Write { subject: SHELL, place: 2 },
+    );
+    host.must("The bank file is sent: the freeze is lifted.", Call::Freeze { level: NO_FREEZE });
     host.must("The shell exits.", Call::Exit { subject: SHELL });
 
     println!("\nA clerk has looked over the sheet: it comes in again as checked");

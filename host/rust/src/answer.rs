@@ -3,11 +3,14 @@
 use std::error::Error;
 use std::fmt;
 
+use crate::archive;
+
 /// The answer to a call. A host carries the call out where it is `Allowed` or `Lowered`, and nowhere else.
 #[must_use = "a call may be refused: carry it out only where it is allowed or lowered"]
 #[derive(Clone, Copy, Debug, PartialEq, Eq)]
 pub enum Answer {
-    /// Allowed, with a level: that of the new, opened, written or retired thing, or else the subject's.
+    /// Allowed, with a level: that of the new, opened, written or retired thing, or of the freeze, or else the
+    /// subject's.
     Allowed(u8),
     /// Allowed, and a read, write or exec made a level smaller: with the level after it.
     Lowered(u8),
@@ -30,13 +33,15 @@ impl Answer {
         match letter {
             b'A' => Answer::Allowed(value),
             b'L' => Answer::Lowered(value),
-            _ => Answer::Refused(Refusal::proved(value.into())),
+            b'R' => Answer::Refused(Refusal::proved(value.into())),
+            _ => panic!("{}", archive::OTHER_VERSION),
         }
     }
 }
 
 /// Why a call, a record or a journal was refused. Where several hold, the smallest number is given, but 14 goes
-/// before all others, and 12 before 2 to 10.
+/// before all others, and 12 before 2 to 10. So an open that is `Frozen` is one that nothing but the freeze forbids.
+#[non_exhaustive]
 #[derive(Clone, Copy, Debug, PartialEq, Eq, PartialOrd, Ord, Hash)]
 pub enum Refusal {
     UnknownCode = 1,
@@ -53,11 +58,12 @@ pub enum Refusal {
     RecordBroken = 12,
     RecordTooLong = 13,
     JournalTooLong = 14,
+    Frozen = 15,
 }
 
 impl Refusal {
     /// Every refusal, by number.
-    pub const ALL: [Refusal; 14] = [
+    pub const ALL: [Refusal; 15] = [
         Refusal::UnknownCode,
         Refusal::NoSubject,
         Refusal::NumberTaken,
@@ -72,9 +78,10 @@ impl Refusal {
         Refusal::RecordBroken,
         Refusal::RecordTooLong,
         Refusal::JournalTooLong,
+        Refusal::Frozen,
     ];
 
-    /// The number of the refusal in the rules, 1 to 14.
+    /// The number of the refusal in the rules, 1 to 15.
     pub fn number(self) -> u32 {
         self as u32
     }
@@ -98,7 +105,7 @@ impl Refusal {
             Refusal::NumberTaken => "the number for the new thing cannot be used",
             Refusal::NoObject => "the file or pipe is not there",
             Refusal::IsPipe => "a pipe cannot be run or retired",
-            Refusal::LevelTooHigh => "the level is above 15",
+            Refusal::LevelTooHigh => "the level is above 15, or a freeze above 16",
             Refusal::PlaceUnfit => "the place does not fit",
             Refusal::WrongDirection => "the handle is for the other direction",
             Refusal::Flow => "low data could reach a higher file",
@@ -107,6 +114,7 @@ impl Refusal {
             Refusal::RecordBroken => "the record is not well formed",
             Refusal::RecordTooLong => "the record is longer than the buffer",
             Refusal::JournalTooLong => "the journal is longer than 65,536 bytes",
+            Refusal::Frozen => "the file is frozen while the books are closed",
         }
     }
 }
@@ -130,7 +138,7 @@ mod tests {
             assert_eq!(Refusal::from_number(number), Some(refusal));
         }
         assert_eq!(Refusal::from_number(0), None);
-        assert_eq!(Refusal::from_number(15), None);
+        assert_eq!(Refusal::from_number(16), None);
     }
 
     #[test]
@@ -138,6 +146,12 @@ mod tests {
         assert_eq!(Answer::from_number(256 * u32::from(b'A') + 15), Answer::Allowed(15));
         assert_eq!(Answer::from_number(256 * u32::from(b'L')), Answer::Lowered(0));
         assert_eq!(Answer::from_number(256 * u32::from(b'R') + 9), Answer::Refused(Refusal::Flow));
+    }
+
+    #[test]
+    #[should_panic(expected = "libhost.a is of another version")]
+    fn a_wrong_length_is_no_answer() {
+        let _ = Answer::from_number(0);
     }
 
     #[test]

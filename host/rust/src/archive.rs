@@ -34,6 +34,10 @@ mod c {
     }
 }
 
+/// Said where the archive finds the length of a monitor wrong.
+pub const OTHER_VERSION: &str =
+    "libhost.a is of another version than this crate: its monitors have another length";
+
 #[cfg(test)]
 pub fn state_bytes() -> usize {
     unsafe { c::gatekeeper_state_bytes() }
@@ -74,10 +78,11 @@ pub fn number(bytes: &[u8]) -> u64 {
 #[cfg(test)]
 mod tests {
     use super::*;
+    use crate::STATE_BYTES;
 
     #[test]
     fn bytes_of_another_length_are_not_touched() {
-        for len in [0, 1, 1231, 1233] {
+        for len in [0, 1, STATE_BYTES - 1, STATE_BYTES + 1] {
             let mut state = vec![7; len];
             assert!(!empty(&mut state));
             assert_eq!(call(&mut state, 1, [0, 9, 0, 0]), 0);

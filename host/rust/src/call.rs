@@ -1,11 +1,15 @@
-//! The thirteen calls.
+//! The fourteen calls.
 
 use crate::journal;
+
+/// The freeze that freezes no file: it is above every level.
+pub const NO_FREEZE: u32 = 16;
 
 /// A call with its numbers. Any number may be given; one that does not fit is refused.
 ///
 /// A subject is a running step, 0 to 31; an object a file or a pipe, 0 to 63; a place holds one handle of a
 /// subject, 0 to 15; a level is 0, the lowest, to 15.
+#[non_exhaustive]
 #[derive(Clone, Copy, Debug, PartialEq, Eq, Hash)]
 pub enum Call {
     /// A new subject from outside, without handles.
@@ -34,10 +38,13 @@ pub enum Call {
     Exit { subject: u32 },
     /// The file is gone, and its number is free.
     Retire { object: u32 },
+    /// From now on, for all subjects, no file at or above the level is opened for writing; with [`NO_FREEZE`], which
+    /// lifts the freeze, any may be. Handles that are held, pipes and opens for reading go on as without it.
+    Freeze { level: u32 },
 }
 
 impl Call {
-    /// The call's code, 1 to 13.
+    /// The call's code, one of 1 to 13 and 16.
     pub fn code(self) -> u32 {
         match self {
             Call::Admit { .. } => 1,
@@ -53,6 +60,7 @@ impl Call {
             Call::Close { .. } => 11,
             Call::Exit { .. } => 12,
             Call::Retire { .. } => 13,
+            Call::Freeze { .. } => 16,
         }
     }
 
@@ -72,6 +80,7 @@ impl Call {
             Call::Close { subject, place } => [subject, place, 0, 0],
             Call::Exit { subject } => [subject, 0, 0, 0],
             Call::Retire { object } => [object, 0, 0, 0],
+            Call::Freeze { level } => [level, 0, 0, 0],
         }
     }
 

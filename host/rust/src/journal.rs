@@ -66,7 +66,7 @@ pub fn read_number(bytes: &[u8]) -> Option<(u32, usize)> {
 #[cfg(test)]
 mod tests {
     use super::*;
-    use crate::Call;
+    use crate::{Call, NO_FREEZE};
 
     #[test]
     fn a_journal_is_written_and_replayed() {
@@ -83,6 +83,21 @@ mod tests {
         assert_eq!(replay_into(&journal, &mut exact), Some(reply.len()));
         assert_eq!(exact, reply.as_bytes());
         assert_eq!(replay_into(&journal, &mut exact[1..]), None);
+    }
+
+    #[test]
+    fn a_journal_is_run_from_a_monitor_without_a_freeze() {
+        let mut journal = Vec::new();
+        Call::Register { object: 0, level: 9 }.write_record(&mut journal);
+        Call::Admit { subject: 0, level: 9 }.write_record(&mut journal);
+        Call::OpenWrite { subject: 0, object: 0, place: 0 }.write_record(&mut journal);
+        Call::Freeze { level: 9 }.write_record(&mut journal);
+        Call::OpenWrite { subject: 0, object: 0, place: 1 }.write_record(&mut journal);
+        Call::Write { subject: 0, place: 0 }.write_record(&mut journal);
+        Call::Freeze { level: NO_FREEZE }.write_record(&mut journal);
+        assert_eq!(journal[13..16], [2, 16, 9]);
+        let reply = "1 2 A 9\n2 1 A 9\n3 6 A 9\n4 16 A 9\n5 6 R 15\n6 8 A 9\n7 16 A 16\nend 1 0 1\n";
+        assert_eq!(replay(&journal), reply);
     }
 
     #[test]

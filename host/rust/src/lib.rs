@@ -1,8 +1,8 @@
 //! The proved pay-run gatekeeper, for a host in Rust.
 //!
-//! Every function here hands its work to the archive `libhost.a`, whose functions are proved to meet the
-//! rules; this crate adds types, and no rule of its own. A host keeps a [`Monitor`] and asks it before each
-//! step that it takes for a program:
+//! Every call here is made by the archive `libhost.a`, whose functions are proved to meet the rules; this
+//! crate adds types, and no rule of its own. A host keeps a [`Monitor`] and asks it before each step that it
+//! takes for a program:
 //!
 //! ```
 //! use gatekeeper::{Answer, Monitor, Refusal};
@@ -30,7 +30,7 @@ mod journal;
 mod monitor;
 
 pub use answer::{Answer, Refusal};
-pub use call::Call;
+pub use call::{Call, NO_FREEZE};
 pub use journal::{read_number, replay, replay_into, write_record};
 pub use journal::{JOURNAL_BYTES, RECORD_ROOM, REPLY_ROOM};
 pub use monitor::{Monitor, STATE_BYTES};

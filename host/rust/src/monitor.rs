@@ -4,10 +4,13 @@ use std::fmt;
 
 use crate::answer::Answer;
 use crate::archive;
-use crate::call::Call;
+use crate::call::{Call, NO_FREEZE};
 
 /// How many bytes a monitor and its tally take.
-pub const STATE_BYTES: usize = 1232;
+pub const STATE_BYTES: usize = 1233;
+
+/// Where the freeze stands in them.
+const FREEZE_AT: usize = 1232;
 
 /// A monitor with its tally of handles. It is a plain value: a clone is a monitor of its own.
 ///
@@ -18,14 +21,15 @@ pub struct Monitor {
 }
 
 impl Monitor {
-    /// Nothing live, nothing open, nothing counted.
+    /// Nothing live, nothing open, nothing counted, nothing frozen.
     pub fn new() -> Monitor {
         let mut state = [0; STATE_BYTES];
-        archive::empty(&mut state);
+        assert!(archive::empty(&mut state), "{}", archive::OTHER_VERSION);
         Monitor { state }
     }
 
-    /// The monitor that these bytes are. Any bytes are one; `host/gatekeeper.h` has the layout.
+    /// The monitor that these bytes are. Any bytes are one; `host/gatekeeper.h` has the layout. Bytes that were kept
+    /// before there was a freeze lack the last one: it is [`NO_FREEZE`].
     pub fn from_bytes(state: [u8; STATE_BYTES]) -> Monitor {
         Monitor { state }
     }
@@ -59,6 +63,21 @@ impl Monitor {
     /// Made minus gone, modulo 2 to the 64th: the handles open, on a monitor that started empty.
     pub fn open(&self) -> u64 {
         self.made().wrapping_sub(self.gone())
+    }
+
+    /// The level from which on files are frozen; none where no file is.
+    ///
+    /// ```
+    /// use gatekeeper::{Answer, Monitor, NO_FREEZE};
+    ///
+    /// let mut monitor = Monitor::new();
+    /// assert_eq!(monitor.freeze(9), Answer::Allowed(9));
+    /// assert_eq!(monitor.frozen_from(), Some(9));
+    /// assert_eq!(monitor.freeze(NO_FREEZE), Answer::Allowed(16));
+    /// assert_eq!(monitor.frozen_from(), None);
+    /// ```
+    pub fn frozen_from(&self) -> Option<u8> {
+        Some(self.state[FREEZE_AT]).filter(|&level| u32::from(level) < NO_FREEZE)
     }
 }
 
@@ -115,6 +134,10 @@ impl Monitor {
     pub fn retire(&mut self, object: u32) -> Answer {
         self.call(Call::Retire { object })
     }
+
+    pub fn freeze(&mut self, level: u32) -> Answer {
+        self.call(Call::Freeze { level })
+    }
 }
 
 impl Default for Monitor {
@@ -125,8 +148,11 @@ impl Default for Monitor {
 
 impl fmt::Debug for Monitor {
     fn fmt(&self, f: &mut fmt::Formatter<'_>) -> fmt::Result {
-        let (made, gone) = (self.made(), self.gone());
-        f.debug_struct("Monitor").field("made", &made).field("gone", &gone).finish_non_exhaustive()
+        f.debug_struct("Monitor")
+            .field("made", &self.made())
+            .field("gone", &self.gone())
+            .field("frozen_from", &self.frozen_from())
+            .finish_non_exhaustive()
     }
 }
 
@@ -138,7 +164,9 @@ mod tests {
     #[test]
     fn the_archive_agrees_on_the_size() {
         assert_eq!(archive::state_bytes(), STATE_BYTES);
-        assert_eq!(Monitor::new().as_bytes(), &[0; STATE_BYTES]);
+        let mut empty = [0; STATE_BYTES];
+        empty[FREEZE_AT] = 16;
+        assert_eq!(Monitor::new().as_bytes(), &empty);
     }
 
     #[test]
@@ -162,6 +190,54 @@ mod tests {
         assert_eq!(monitor.exit(1), Answer::Allowed(2));
         assert_eq!(monitor.retire(1), Answer::Allowed(2));
         assert_eq!((monitor.made(), monitor.gone(), monitor.open()), (6, 4, 2));
+        assert_eq!(monitor.freeze(2), Answer::Allowed(2));
+        assert_eq!(monitor.open_write(0, 2, 2), Answer::Refused(Refusal::Flow));
+        assert_eq!(monitor.register(1, 2), Answer::Allowed(2));
+        assert_eq!(monitor.open_write(0, 1, 2), Answer::Refused(Refusal::Frozen));
+        assert_eq!((monitor.made(), monitor.gone(), monitor.open()), (6, 4, 2));
+    }
+
+    #[test]
+    fn a_freeze_is_for_opens_of_files_for_writing() {
+        let mut monitor = Monitor::new();
+        assert_eq!(monitor.admit(0, 9), Answer::Allowed(9));
+        assert_eq!(monitor.register(0, 9), Answer::Allowed(9));
+        assert_eq!(monitor.register(1, 8), Answer::Allowed(8));
+        assert_eq!(monitor.open_write(0, 0, 0), Answer::Allowed(9));
+        assert_eq!(monitor.freeze(9), Answer::Allowed(9));
+        assert_eq!(monitor.open_write(0, 0, 1), Answer::Refused(Refusal::Frozen));
+
+        // What is not refused: a file below the freeze, a handle that is held, reading, a pipe, a new file, a fork.
+        assert_eq!(monitor.open_write(0, 1, 1), Answer::Allowed(8));
+        assert_eq!(monitor.write(0, 0), Answer::Allowed(9));
+        assert_eq!(monitor.open_read(0, 0, 2), Answer::Allowed(9));
+        assert_eq!(monitor.pipe(0, 2, 3, 4), Answer::Allowed(9));
+        assert_eq!(monitor.open_write(0, 2, 5), Answer::Allowed(9));
+        assert_eq!(monitor.create(0, 3), Answer::Allowed(9));
+        assert_eq!(monitor.fork(0, 1), Answer::Allowed(9));
+        assert_eq!(monitor.write(1, 0), Answer::Allowed(9));
+        assert_eq!(monitor.open_write(1, 3, 6), Answer::Refused(Refusal::Frozen));
+
+        // The new freeze is in the place of the old one, above it too.
+        assert_eq!(monitor.freeze(10), Answer::Allowed(10));
+        assert_eq!(monitor.open_write(1, 3, 6), Answer::Allowed(9));
+        assert_eq!(monitor.freeze(0), Answer::Allowed(0));
+        assert_eq!(monitor.open_write(1, 1, 7), Answer::Refused(Refusal::Frozen));
+        assert_eq!(monitor.freeze(17), Answer::Refused(Refusal::LevelTooHigh));
+        assert_eq!(monitor.frozen_from(), Some(0));
+        assert_eq!(monitor.freeze(NO_FREEZE), Answer::Allowed(16));
+        assert_eq!(monitor.open_write(1, 1, 7), Answer::Allowed(8));
+    }
+
+    #[test]
+    fn bytes_without_a_freeze_are_taken_up_with_one_more() {
+        let mut monitor = Monitor::new();
+        assert_eq!(monitor.admit(0, 9), Answer::Allowed(9));
+        assert_eq!(monitor.pipe(0, 0, 0, 1), Answer::Allowed(9));
+        let kept = &monitor.as_bytes()[..FREEZE_AT];
+        let mut state = [NO_FREEZE as u8; STATE_BYTES];
+        state[..FREEZE_AT].copy_from_slice(kept);
+        assert_eq!(Monitor::from_bytes(state), monitor);
     }
 
     #[test]
@@ -170,7 +246,10 @@ mod tests {
         assert_eq!(monitor.admit(0, 9), Answer::Allowed(9));
         let before = monitor.clone();
         assert_eq!(monitor.admit(0, 9), Answer::Refused(Refusal::NumberTaken));
-        assert_eq!(monitor.direct(14, [0; 4]), Answer::Refused(Refusal::UnknownCode));
+        assert_eq!(monitor.freeze(17), Answer::Refused(Refusal::LevelTooHigh));
+        for code in [0, 14, 15, 17] {
+            assert_eq!(monitor.direct(code, [0; 4]), Answer::Refused(Refusal::UnknownCode));
+        }
         assert_eq!(monitor, before);
     }
 
@@ -192,5 +271,16 @@ mod tests {
         assert_eq!(monitor.admit(31, 15), Answer::Allowed(15));
         assert_eq!(monitor.pipe(31, 63, 0, 15), Answer::Allowed(15));
         assert_eq!((monitor.made(), monitor.open()), (1, 2));
+        // A freeze above every level freezes nothing, and stays as it is.
+        assert_eq!(monitor.create(31, 0), Answer::Allowed(15));
+        assert_eq!(monitor.open_write(31, 0, 1), Answer::Allowed(15));
+        assert_eq!((monitor.frozen_from(), monitor.as_bytes()[FREEZE_AT]), (None, 0xff));
+
+        // Nothing is live in bytes that are all 0, and every file is frozen.
+        let mut monitor = Monitor::from_bytes([0; STATE_BYTES]);
+        assert_eq!(monitor.frozen_from(), Some(0));
+        assert_eq!(monitor.admit(0, 15), Answer::Allowed(15));
+        assert_eq!(monitor.register(0, 0), Answer::Allowed(0));
+        assert_eq!(monitor.open_write(0, 0, 0), Answer::Refused(Refusal::Frozen));
     }
 }

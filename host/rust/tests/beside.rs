@@ -2,7 +2,7 @@
 //! compared after each. The calls come from generated journals, which start with empty tables, and are drawn for
 //! states that no calls made. The same comparison has to tell every wrong variant of the independent program apart.
 
-use gatekeeper::{Answer, Monitor, STATE_BYTES};
+use gatekeeper::{Answer, Monitor, Refusal, STATE_BYTES};
 use gatekeeper_independent::calls::SHAPES;
 use gatekeeper_independent::generate::{self, Wish};
 use gatekeeper_independent::monitor::{Answer as PlainAnswer, Monitor as PlainMonitor};
@@ -14,6 +14,9 @@ use gatekeeper_independent::variants::{self, Rules};
 use gatekeeper_independent::{numbers, refusals};
 
 const SEED: u64 = 1;
+
+/// Where the freeze stands in a monitor's bytes.
+const FREEZE_AT: usize = 1232;
 
 /// How many calls each of the two large comparisons makes.
 const CALLS_OF_JOURNALS: usize = 300_000;
@@ -72,7 +75,7 @@ impl Pair {
 }
 
 fn wrapped(answer: PlainAnswer) -> Answer {
-    let refusal = |number| gatekeeper::Refusal::from_number(number).expect("a refusal of the rules");
+    let refusal = |number| Refusal::from_number(number).expect("a refusal of the rules");
     match answer {
         PlainAnswer::Allowed(level) => Answer::Allowed(level as u8),
         PlainAnswer::Lowered(level) => Answer::Lowered(level as u8),
@@ -111,6 +114,7 @@ fn tables_of(state: &[u8; STATE_BYTES]) -> Tables {
             },
         );
     }
+    tables.set_freeze(state[FREEZE_AT].into());
     tables
 }
 
@@ -129,7 +133,7 @@ fn calls_of(journal: &[u8]) -> Vec<(u32, [u32; 4])> {
 }
 
 /// A state of any bytes. In most of them many pairs mean something: how many handles, and how far levels lie
-/// apart, differs from state to state.
+/// apart, differs from state to state. The freeze is any byte, and often one of the levels.
 fn drawn_state(random: &mut Random) -> [u8; STATE_BYTES] {
     let mut state = [0; STATE_BYTES];
     for byte in &mut state {
@@ -149,13 +153,18 @@ fn drawn_state(random: &mut Random) -> [u8; STATE_BYTES] {
         pair[0] = first as u8;
         pair[1] = second as u8;
     }
+    if random.once_in(2) {
+        state[FREEZE_AT] = random.below(levels.min(16)) as u8;
+    }
     state
 }
 
 /// A call whose numbers are mostly in range.
 fn drawn_call(random: &mut Random) -> (u32, [u32; 4]) {
-    let Some(shape) = SHAPES.get(random.below(14) as usize) else {
-        return (random.below(u32::MAX), [0; 4]);
+    let Some(shape) = SHAPES.get(random.below(SHAPES.len() as u32 + 1) as usize) else {
+        // Any code, or one near those that calls have.
+        let most = random.pick(&[20, u32::MAX]).unwrap_or(20);
+        return (random.below(most), [0; 4]);
     };
     // Numbers that the code does not use are ignored, whatever they are.
     let mut numbers = [0; 4].map(|_| random.below(u32::MAX));
@@ -164,7 +173,7 @@ fn drawn_call(random: &mut Random) -> (u32, [u32; 4]) {
             *number = match *name {
                 "s" | "c" => random.below(33),
                 "o" => random.below(65),
-                _ => random.below(17),
+                _ => random.below(18),
             };
         }
     }
@@ -176,7 +185,7 @@ fn drawn_call(random: &mut Random) -> (u32, [u32; 4]) {
 struct Seen {
     allowed: usize,
     lowered: usize,
-    refused: [usize; 11],
+    refused: [usize; 16],
 }
 
 impl Seen {
@@ -194,7 +203,8 @@ impl Seen {
         let calls = allowed + lowered + refused;
         println!("beside: {what}: {calls} calls, {allowed} allowed, {lowered} lowered, {refused} refused");
         assert!(*allowed > calls / 10 && *lowered > 100, "few calls were not refused");
-        for number in 1..=10 {
+        // Those that answer a direct call.
+        for number in (1..=10).chain([15]) {
             let words = refusals::meaning(number as u32);
             assert!(self.refused[number] > 0, "no call was refused with {number}: {words}");
         }
@@ -239,6 +249,27 @@ fn calls_on_any_state_are_answered_alike() {
 }
 
 #[test]
+fn opens_at_any_level_with_any_freeze_are_answered_alike() {
+    let mut frozen = 0;
+    for (freeze, level) in (0..=255).flat_map(|freeze| (0..=255).map(move |level| (freeze, level))) {
+        let mut state = [0; STATE_BYTES];
+        state[..2].copy_from_slice(&[1, 255]); // subject 0
+        state[64..66].copy_from_slice(&[1, level]); // file 0
+        state[66..68].copy_from_slice(&[2, level]); // pipe 1
+        state[FREEZE_AT] = freeze;
+        let mut pair = Pair::of_bytes(state);
+        let mut open = |object, place| {
+            let answer = pair.call(6, [0, object, place, 0]);
+            answer.unwrap_or_else(|difference| panic!("freeze {freeze}, level {level}: {difference}"))
+        };
+        assert_eq!(open(1, 0), Answer::Allowed(level), "a pipe, with the freeze {freeze}");
+        frozen += usize::from(open(0, 1) == Answer::Refused(Refusal::Frozen));
+    }
+    // By a freeze of 0 all 256 levels, by one of 1 all but one, and so on up to a freeze of 15.
+    assert_eq!(frozen, (0..16).map(|freeze| 256 - freeze).sum());
+}
+
+#[test]
 fn journals_are_replied_to_alike() {
     for index in 0..400 {
         let journal = generate::journal(SEED, index, Wish::default());
@@ -268,7 +299,7 @@ fn numbers_are_read_alike() {
 fn records_are_written_alike() {
     let mut random = Random::new(SEED, 2);
     for _ in 0..100_000 {
-        let shape = &SHAPES[random.below(13) as usize];
+        let shape = &SHAPES[random.below(SHAPES.len() as u32) as usize];
         let four = [0; 4].map(|_| random.below(u32::MAX) >> random.below(32));
         let mut plain = Vec::new();
         records::write(shape.code, &four[..shape.numbers.len()], &mut plain);
