@@ -2,7 +2,7 @@
 //! until its replies differ from the right ones.
 
 use crate::generate::{journal, Wish};
-use crate::replies::{replies, replies_by};
+use crate::replies::{replies, Run};
 use crate::variants::{Rules, Variant, ALL};
 
 /// A variant and the number of journals, from 1, until it was told apart; none if it never was.
@@ -25,12 +25,25 @@ pub fn bite(seed: u64, journals: u64) -> Vec<Bite> {
         let journal = journal(seed, index, Wish::default());
         let right = replies(&journal);
         for bite in bites.iter_mut().filter(|bite| bite.journals.is_none()) {
-            if replies_by(&journal, Rules::from(bite.variant)) != right {
+            if differs(&journal, Rules::from(bite.variant), &right) {
                 bite.journals = Some(index + 1);
             }
         }
     }
     bites
+}
+
+/// Whether the replies by these rules are not the right ones. The first line that differs is enough.
+fn differs(journal: &[u8], rules: Rules, right: &str) -> bool {
+    let mut run = Run::new(journal, rules);
+    let mut rest = right;
+    while let Some(step) = run.next_step() {
+        match rest.strip_prefix(&step.line()) {
+            Some(behind) => rest = behind,
+            None => return true,
+        }
+    }
+    rest != run.end_line()
 }
 
 /// The table of the bites, in the order of the variants, and a line that sums it up.

@@ -1,4 +1,4 @@
-//! The thirteen calls: RULES C1 to C13, codes and numbers.
+//! The fourteen calls: RULES C1 to C13 and C16, codes and numbers.
 //!
 //! Which numbers a call takes and what each of them names. The effects are in `monitor`, the conditions
 //! in `refusals`.
@@ -18,8 +18,8 @@ const fn shape(code: u32, word: &'static str, numbers: &'static [&'static str]) 
     Shape { code, word, numbers }
 }
 
-/// RULES C1 to C13, in the order of their codes.
-pub const SHAPES: [Shape; 13] = [
+/// RULES C1 to C13 and C16, in the order of their codes.
+pub const SHAPES: [Shape; 14] = [
     shape(1, "admit", &["s", "level"]),
     shape(2, "register", &["o", "level"]),
     shape(3, "create", &["s", "o"]),
@@ -33,9 +33,10 @@ pub const SHAPES: [Shape; 13] = [
     shape(11, "close", &["s", "p"]),
     shape(12, "exit", &["s"]),
     shape(13, "retire", &["o"]),
+    shape(16, "freeze", &["level"]),
 ];
 
-/// The shape of the call with this code; none for a code not 1 to 13 (RULES R1).
+/// The shape of the call with this code; none for a code not 1 to 13 or 16 (RULES R1).
 pub fn shape_of_code(code: u32) -> Option<&'static Shape> {
     SHAPES.iter().find(|shape| shape.code == code)
 }
@@ -45,7 +46,7 @@ pub fn shape_of_word(word: &str) -> Option<&'static Shape> {
     SHAPES.iter().find(|shape| shape.word == word)
 }
 
-/// A call with its numbers by name, as RULES C1 to C13 name them.
+/// A call with its numbers by name, as RULES C1 to C16 name them.
 #[derive(Clone, Copy, Debug, PartialEq, Eq)]
 pub enum Call {
     Admit { s: u32, level: u32 },
@@ -61,6 +62,7 @@ pub enum Call {
     Close { s: u32, p: u32 },
     Exit { s: u32 },
     Retire { o: u32 },
+    Freeze { level: u32 },
 }
 
 impl Call {
@@ -81,6 +83,7 @@ impl Call {
             11 => Call::Close { s: a, p: b },
             12 => Call::Exit { s: a },
             13 => Call::Retire { o: a },
+            16 => Call::Freeze { level: a },
             _ => return None,
         })
     }
@@ -98,7 +101,7 @@ impl Call {
             | Call::Exec { s, .. }
             | Call::Close { s, .. }
             | Call::Exit { s } => Some(s),
-            Call::Admit { .. } | Call::Register { .. } | Call::Retire { .. } => None,
+            Call::Admit { .. } | Call::Register { .. } | Call::Retire { .. } | Call::Freeze { .. } => None,
         }
     }
 

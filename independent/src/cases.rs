@@ -1,4 +1,5 @@
-//! Worked cases: RULES K0 to K17, and DWARF's examples of numbers.
+//! Worked cases: RULES K0 to K17, single sentences of the freeze (RULES C16, R15), and DWARF's examples of
+//! numbers.
 //!
 //! The replies stand here as the rules settle them; they are not worked out by this program.
 
@@ -125,6 +126,77 @@ const AFTER_START: &[(&str, &str, &str, &str)] = &[
         "fork 0 0",
         "4 9 R 3; end 0 0 0",
     ),
+    (
+        "freeze-file",
+        "a file at the freeze or above it is not opened for writing: 15; one below it is",
+        "admit 1 15; register 2 15; freeze 9; open-write 0 0 0; open-write 1 2 0; open-write 0 1 0; \
+         freeze 10; open-write 0 0 1; open-write 1 2 0",
+        "4 1 A 15; 5 2 A 15; 6 16 A 9; 7 6 R 15; 8 6 R 15; 9 6 A 2; 10 16 A 10; 11 6 A 9; 12 6 R 15; \
+         end 2 0 2",
+    ),
+    (
+        "freeze-0-and-15",
+        "a freeze of 0 freezes every file, one of 15 the files of level 15 alone",
+        "admit 1 15; register 2 15; register 3 0; freeze 0; open-write 0 3 0; open-write 1 2 0; freeze 15; \
+         open-write 0 3 0; open-write 1 2 0",
+        "4 1 A 15; 5 2 A 15; 6 2 A 0; 7 16 A 0; 8 6 R 15; 9 6 R 15; 10 16 A 15; 11 6 A 0; 12 6 R 15; \
+         end 1 0 1",
+    ),
+    (
+        "freeze-pipe",
+        "a pipe is never frozen: it is opened by its number, written to and made",
+        "pipe 0 5 0 1; freeze 0; open-write 0 5 2; write 0 2; pipe 0 6 3 4",
+        "4 4 A 9; 5 16 A 0; 6 6 A 9; 7 8 A 9; 8 4 A 9; end 5 0 5",
+    ),
+    (
+        "freeze-other-calls",
+        "a freeze asks nothing of any other call on a file: open for reading, read, exec, create, register, \
+         retire",
+        "freeze 0; open-read 0 0 0; read 0 0; exec 0 0; create 0 2; register 3 15; retire 3; close 0 0; retire 0",
+        "4 16 A 0; 5 5 A 9; 6 7 A 9; 7 10 A 9; 8 3 A 9; 9 2 A 15; 10 13 A 15; 11 11 A 9; 12 13 A 9; end 1 1 0",
+    ),
+    (
+        "freeze-held",
+        "a handle that is open goes on writing, and so does its copy; once closed it is not opened again",
+        "open-write 0 0 0; freeze 0; write 0 0; fork 0 1; write 1 0; close 0 0; open-write 0 0 0; write 1 0",
+        "4 6 A 9; 5 16 A 0; 6 8 A 9; 7 9 A 9; 8 8 A 9; 9 11 A 9; 10 6 R 15; 11 8 A 9; end 2 1 1",
+    ),
+    (
+        "freeze-flow",
+        "an open that offends the flow and the freeze: 9",
+        "admit 1 8; freeze 9; open-write 1 0 0; open-read 0 1 0; open-write 0 0 1",
+        "4 1 A 8; 5 16 A 9; 6 6 R 9; 7 5 A 2; 8 6 R 9; end 1 0 1",
+    ),
+    (
+        "freeze-lifted",
+        "a freeze of 16 lifts it",
+        "freeze 9; open-write 0 0 0; freeze 16; open-write 0 0 0; freeze 16",
+        "4 16 A 9; 5 6 R 15; 6 16 A 16; 7 6 A 9; 8 16 A 16; end 1 0 1",
+    ),
+    (
+        "freeze-replaced",
+        "a new freeze replaces the old one, be it lower or higher",
+        "freeze 9; freeze 12; open-write 0 0 0; freeze 2; open-write 0 1 1; freeze 2; open-write 0 1 1",
+        "4 16 A 9; 5 16 A 12; 6 6 A 9; 7 16 A 2; 8 6 R 15; 9 16 A 2; 10 6 R 15; end 1 0 1",
+    ),
+    (
+        "freeze-refused",
+        "a refused freeze leaves the one before it",
+        "freeze 17; open-write 0 0 0; freeze 9; freeze 17; freeze 4294967295; open-write 0 0 1",
+        "4 16 R 6; 5 6 A 9; 6 16 A 9; 7 16 R 6; 8 16 R 6; 9 6 R 15; end 1 0 1",
+    ),
+    (
+        "freeze-stays",
+        "exec, exit, admit and a 15 leave the freeze",
+        "freeze 9; exec 0 0; exit 0; admit 0 9; open-write 0 0 0; open-write 0 0 0",
+        "4 16 A 9; 5 10 A 9; 6 12 A 9; 7 1 A 9; 8 6 R 15; 9 6 R 15; end 0 0 0",
+    ),
+    (
+        "freeze-order",
+        "2, 4, 7 and 12 are said before 15",
+        "freeze 0; open-write 1 0 0; open-write 0 2 0; open-write 0 0 16; call 6 0 0 0 0; open-write 0 0 0",
+        "4 16 A 0; 5 6 R 2; 6 6 R 4; 7 6 R 7; 8 6 R 12; 9 6 R 15; end 0 0 0",
+    ),
 ];
 
 /// Name, what it shows, calls from empty tables, replies.
@@ -140,6 +212,30 @@ const FROM_EMPTY: &[(&str, &str, &str, &str)] = &[
     ("empty", "empty journal: end 0 0 0 alone", "", "end 0 0 0"),
     ("level-15", "level 15 is taken", "admit 0 15; register 0 15", "1 1 A 15; 2 2 A 15; end 0 0 0"),
     ("level-16", "level 16 gives 6", "admit 0 16; register 0 16", "1 1 R 6; 2 2 R 6; end 0 0 0"),
+    (
+        "freeze-16",
+        "freeze takes 0 to 16 and answers with that number",
+        "freeze 0; freeze 15; freeze 16; freeze 16",
+        "1 16 A 0; 2 16 A 15; 3 16 A 16; 4 16 A 16; end 0 0 0",
+    ),
+    (
+        "freeze-17",
+        "freeze 17 gives 6",
+        "freeze 17; freeze 255; freeze 256; freeze 4294967295",
+        "1 16 R 6; 2 16 R 6; 3 16 R 6; 4 16 R 6; end 0 0 0",
+    ),
+    (
+        "freeze-record",
+        "a record of freeze has one number",
+        "call 16; call 16 9 9; bytes 02 10 80; bytes 02 10 09",
+        "1 16 R 12; 2 16 R 12; 3 16 R 12; 4 16 A 9; end 0 0 0",
+    ),
+    (
+        "codes-14-and-15",
+        "codes 14 and 15 are unknown, and so is 17",
+        "call 14 9; call 15 9; call 17 9; call 16 9",
+        "1 14 R 1; 2 15 R 1; 3 17 R 1; 4 16 A 9; end 0 0 0",
+    ),
     (
         "pipe-ends",
         "a pipe ends when its last handle goes, and its number is free",

@@ -1,8 +1,9 @@
 //! A journal's replies in plain words, for a payroll clerk: who asked what, what was answered, and for
 //! a refusal what can be done about it. For refusal 9 it shows the chain of flows that was in the way
-//! (RULES F4).
+//! (RULES F4), for refusal 15 from which level on the books are closed and since which record (RULES T32).
 
 mod flow;
+mod freeze;
 mod names;
 mod refused;
 
@@ -15,6 +16,7 @@ use crate::refusals::meaning;
 use crate::replies::{Content, Run, Step};
 use crate::tables::Tables;
 use crate::variants::Rules;
+use freeze::Closing;
 use names::{at_place, capital, name, sentence};
 use refused::refusal;
 
@@ -23,6 +25,7 @@ pub fn explain(journal: &[u8]) -> String {
     let mut run = Run::new(journal, Rules::default());
     let mut text = String::new();
     let (mut allowed, mut lowered, mut refused) = (0, 0, 0);
+    let mut closing = None;
     loop {
         let before = run.monitor().tables().clone();
         let Some(step) = run.next_step() else {
@@ -33,7 +36,9 @@ pub fn explain(journal: &[u8]) -> String {
             Answer::Lowered(_) => lowered += 1,
             Answer::Refused(_) => refused += 1,
         }
-        text.push_str(&explain_step(&step, &before, run.monitor().tables()));
+        let after = run.monitor().tables();
+        text.push_str(&explain_step(&step, &before, after, closing));
+        closing = Closing::after(&step, after, closing);
     }
     let tally = run.tally();
     text.push_str(&format!(
@@ -46,7 +51,7 @@ pub fn explain(journal: &[u8]) -> String {
     text
 }
 
-fn explain_step(step: &Step, before: &Tables, after: &Tables) -> String {
+fn explain_step(step: &Step, before: &Tables, after: &Tables, closing: Option<Closing>) -> String {
     let position = step.position;
     let call = match step.content {
         Content::TooLong => {
@@ -81,9 +86,9 @@ fn explain_step(step: &Step, before: &Tables, after: &Tables) -> String {
     };
     let asked = format!("{position}. {}.\n", request(call, before));
     match step.answer {
-        Answer::Refused(number) => format!("{asked}{}", refusal(call, number, before)),
-        Answer::Allowed(_) => format!("{asked}  Allowed. {}\n", outcome(call, before, after)),
-        Answer::Lowered(_) => format!("{asked}  Lowered. {}\n", outcome(call, before, after)),
+        Answer::Refused(number) => format!("{asked}{}", refusal(call, number, before, closing)),
+        Answer::Allowed(_) => format!("{asked}  Allowed. {}\n", outcome(call, before, after, closing)),
+        Answer::Lowered(_) => format!("{asked}  Lowered. {}\n", outcome(call, before, after, closing)),
     }
 }
 
@@ -120,11 +125,12 @@ fn request(call: Call, tables: &Tables) -> String {
         }
         Call::Exit { s } => format!("Step {s} exits"),
         Call::Retire { o } => format!("{} is retired", capital(&object(o))),
+        Call::Freeze { level } => freeze::request(level),
     }
 }
 
 /// What an allowed call has done.
-fn outcome(call: Call, before: &Tables, after: &Tables) -> String {
+fn outcome(call: Call, before: &Tables, after: &Tables, closing: Option<Closing>) -> String {
     let subject = |s| Thing::Subject(s);
     let object = |o| Thing::Object(o);
     let old = |thing| level(before, thing).unwrap_or(0);
@@ -193,6 +199,7 @@ fn outcome(call: Call, before: &Tables, after: &Tables) -> String {
             )
         }
         Call::Retire { o } => format!("Its last level was {}; its number is free.", old(object(o))),
+        Call::Freeze { level } => freeze::outcome(level, closing),
     }
 }
 

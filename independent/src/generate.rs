@@ -3,7 +3,8 @@
 //! Most calls are meaningful: a monitor of its own is the generator's picture of what is live, so that it
 //! knows which numbers to draw. Levels come from a few that a journal keeps to, so that tests of level
 //! against need are often close. Then numbers go wrong, records are damaged, tables fill up, pipes form
-//! chains and rings, and journals take every length up to 65,537 bytes, as the style says.
+//! chains and rings, and journals take every length up to 65,537 bytes, as the style says. In every second
+//! journal the books are closed now and then, for a few calls.
 
 mod arrangements;
 mod damage;
@@ -34,7 +35,7 @@ pub enum Style {
 pub const STYLES: &[(Style, &str, &str)] = &[
     (Style::Mixed, "mixed", "one of the others, by turns (the default)"),
     (Style::Payrun, "payrun", "a shell that joins steps by pipes and forks, then lets them work"),
-    (Style::Calls, "calls", "all thirteen calls, mostly allowed"),
+    (Style::Calls, "calls", "all fourteen calls, mostly allowed"),
     (Style::Edges, "edges", "numbers out of range, in use or not live; several faults in one call"),
     (Style::Full, "full", "32 subjects, 64 objects, 512 handles, then calls on them"),
     (Style::Rings, "rings", "long chains and rings of pipes, opened and closed"),
@@ -86,6 +87,8 @@ struct Draft {
     odd_numbers: u32,
     /// One record in so many is damaged; 0 for none.
     damage: u32,
+    /// One call in so many closes the books for a while; 0 for none.
+    closings: u32,
     journal: Vec<u8>,
     records: u32,
 }
@@ -105,6 +108,7 @@ impl Draft {
             levels,
             odd_numbers: 0,
             damage: 0,
+            closings: 0,
             journal: Vec::new(),
             records: 0,
         }
@@ -129,6 +133,9 @@ impl Draft {
             Style::Full => (60, 0),
             _ => (40, 150),
         };
+        // In a ring one handle matters that a freeze would keep out.
+        let closings = if style == Style::Rings { [0, 0, 0, 40] } else { [0, 0, 15, 40] };
+        self.closings = self.random.pick(&closings).unwrap_or(0);
         match style {
             Style::Payrun => self.pipeline(calls),
             Style::Rings => self.ring(),
@@ -143,7 +150,9 @@ impl Draft {
             _ => {}
         }
         while self.records < calls {
-            if style == Style::Rings && self.random.once_in(3) {
+            if self.random.once_in(self.closings) {
+                self.closed_books();
+            } else if style == Style::Rings && self.random.once_in(3) {
                 self.ring_turn();
             } else {
                 self.any_call();

@@ -1,4 +1,4 @@
-//! The monitor: RULES C1 to C13, effects and levels in the answers; and the counting of handles,
+//! The monitor: RULES C1 to C13 and C16, effects and levels in the answers; and the counting of handles,
 //! RULES Y1 to Y9.
 //!
 //! `Monitor::call` is the direct call: a code and four numbers in, an answer out.
@@ -90,7 +90,7 @@ impl Monitor {
     /// The direct call: RULES C106, C107.
     pub fn call(&mut self, code: u32, numbers: [u32; 4]) -> Answer {
         // RULES R1: an unknown code.
-        let Some(call) = Call::new(code, self.rules.bend_numbers(numbers)) else {
+        let Some(call) = Call::new(self.rules.bend_code(code), self.rules.bend_numbers(numbers)) else {
             return Answer::Refused(1);
         };
         if self.rules.are_right() {
@@ -115,7 +115,7 @@ impl Monitor {
         self.effect(call)
     }
 
-    /// RULES C1 to C13, row by row, for a call that is not refused.
+    /// RULES C1 to C13 and C16, row by row, for a call that is not refused.
     fn effect(&mut self, call: Call) -> Answer {
         match call {
             // RULES C1.
@@ -214,6 +214,12 @@ impl Monitor {
             Call::Retire { o } => {
                 let level = self.object_level(o);
                 self.tables.set_object(o, None);
+                Answer::Allowed(level)
+            }
+
+            // RULES C16.
+            Call::Freeze { level } => {
+                self.tables.set_freeze(level);
                 Answer::Allowed(level)
             }
         }

@@ -119,12 +119,12 @@ pub fn read_body(journal: &[u8], span: Span, rules: Rules) -> Body {
     };
 
     // RULES J14: an unknown code.
-    let Some(shape) = shape_of_code(code) else {
+    let Some(shape) = shape_of_code(rules.bend_code(code)) else {
         return rules.bend_unknown_code(code, &body[taken..]);
     };
 
     let mut numbers = [0; 4];
-    for (index, number) in numbers.iter_mut().take(shape.numbers.len()).enumerate() {
+    for (index, number) in numbers.iter_mut().take(rules.bend_count(shape)).enumerate() {
         if taken >= length {
             if rules.has(Variant::MissingIsZero) {
                 break;

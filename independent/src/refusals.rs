@@ -1,11 +1,11 @@
-//! Which calls are refused: RULES R2 to R10.
+//! Which calls are refused: RULES R2 to R10 and R15.
 //!
 //! R1 is in `monitor`, where a code becomes a call. R11, R12 and R14 speak of journals and are in
 //! `records` and `replies`. R13 speaks of the writer's buffer; the writer here has no limit.
 
 use crate::calls::Call;
 use crate::needs::{Flow, Needs, Thing};
-use crate::tables::{Direction, Kind, Tables};
+use crate::tables::{Direction, Kind, Tables, NO_FREEZE};
 use crate::variants::Rules;
 
 /// What each number says, in a few plain words.
@@ -16,7 +16,7 @@ pub fn meaning(number: u32) -> &'static str {
         3 => "the number for the new thing cannot be used",
         4 => "the file or pipe is not there",
         5 => "a pipe cannot be run or retired",
-        6 => "the level is above 15",
+        6 => "the level is above 15, or a freeze above 16",
         7 => "the place does not fit",
         8 => "the handle is for the other direction",
         9 => "low data could reach a higher file",
@@ -25,6 +25,7 @@ pub fn meaning(number: u32) -> &'static str {
         12 => "the record is not well formed",
         13 => "the record is longer than the buffer",
         14 => "the journal is longer than 65,536 bytes",
+        15 => "the file is frozen while the books are closed",
         _ => "not a refusal of this document",
     }
 }
@@ -32,8 +33,9 @@ pub fn meaning(number: u32) -> &'static str {
 /// A row's number and whether its condition holds.
 pub type Condition = (u32, bool);
 
-/// RULES R2 to R10 for a call. `needs` has been worked out with the flow that an open asks for.
-pub fn conditions(tables: &Tables, call: Call, needs: &Needs) -> [Condition; 9] {
+/// RULES R2 to R10 and R15 for a call, in the order in which they are tested: RULES R105, R117. `needs` has
+/// been worked out with the flow that an open asks for.
+pub fn conditions(tables: &Tables, call: Call, needs: &Needs) -> [Condition; 10] {
     [
         (2, asker_is_missing(tables, call)),
         (3, new_number_is_unfit(tables, call)),
@@ -44,15 +46,16 @@ pub fn conditions(tables: &Tables, call: Call, needs: &Needs) -> [Condition; 9] 
         (8, direction_is_wrong(tables, call)),
         (9, flow_is_unsafe(tables, call, needs)),
         (10, retired_file_is_held(tables, call)),
+        (15, file_is_frozen(tables, call)),
     ]
 }
 
-/// RULES R105: of several, the smallest number.
+/// RULES R105, R117: of several, the one that is tested first.
 pub fn refusal(tables: &Tables, call: Call, needs: &Needs, rules: Rules) -> Option<u32> {
     let mut conditions = conditions(tables, call, needs);
     rules.bend_conditions(tables, call, needs, &mut conditions);
-    let holding = conditions.into_iter().filter(|&(_, holds)| holds).map(|(number, _)| number);
-    holding.min_by_key(|&number| rules.rank(number))
+    rules.bend_order(&mut conditions);
+    conditions.into_iter().find(|&(_, holds)| holds).map(|(number, _)| number)
 }
 
 /// RULES R2: the caller is out of range or not live.
@@ -84,9 +87,12 @@ fn pipe_is_run_or_retired(tables: &Tables, call: Call) -> bool {
     }
 }
 
-/// RULES R6: the level is too high.
+/// RULES R6: the level is too high. A freeze may be one higher, to say that there is none.
 fn level_is_too_high(tables: &Tables, call: Call) -> bool {
-    call.level().is_some_and(|level| level >= tables.limits().levels)
+    match call {
+        Call::Freeze { level } => level > NO_FREEZE,
+        _ => call.level().is_some_and(|level| level >= tables.limits().levels),
+    }
 }
 
 /// RULES R7: a place is out of range, taken, named twice or empty.
@@ -140,6 +146,14 @@ fn retired_file_is_held(tables: &Tables, call: Call) -> bool {
         Call::Retire { o } => {
             tables.object(o).is_some_and(|object| object.kind == Kind::File) && tables.is_held(o)
         }
+        _ => false,
+    }
+}
+
+/// RULES R15, R118: an open for writing of a file that is frozen, and no other call.
+fn file_is_frozen(tables: &Tables, call: Call) -> bool {
+    match call {
+        Call::OpenWrite { o, .. } => tables.is_frozen(o),
         _ => false,
     }
 }

@@ -119,9 +119,9 @@ impl<'a> Run<'a> {
     /// RULES R107: the call is not looked at.
     fn twelve_or(&self, code: u32, fault: BodyFault) -> u32 {
         match fault {
-            BodyFault::LeftOver { numbers, .. } if self.rules.has(Variant::TwelveLast) => {
+            BodyFault::LeftOver { numbers, .. } if !self.rules.are_right() => {
                 match self.monitor.clone().call(code, numbers) {
-                    Answer::Refused(number) => number,
+                    Answer::Refused(number) if self.rules.says_before_12(number) => number,
                     _ => 12,
                 }
             }

@@ -1,7 +1,7 @@
-//! The tables: RULES T1 to T20; and the tally: RULES Y1 to Y10.
+//! The tables: RULES T1 to T20, T32 and T33; and the tally: RULES Y1 to Y10.
 //!
-//! Subjects, objects and handles by number, what counts as a handle, and the tally of handles made and
-//! gone. No rule of a call is here; see `monitor` and `refusals`.
+//! Subjects, objects and handles by number, what counts as a handle, the freeze, and the tally of handles
+//! made and gone. No rule of a call is here; see `monitor` and `refusals`.
 
 /// How many of each there may be, and the highest level: RULES T1 to T4.
 #[derive(Clone, Copy, Debug, PartialEq, Eq)]
@@ -14,6 +14,9 @@ pub struct Limits {
 
 /// The limits of the rules.
 pub const LIMITS: Limits = Limits { subjects: 32, objects: 64, places: 16, levels: 16 };
+
+/// RULES T32: the freeze that says that no file is frozen.
+pub const NO_FREEZE: u32 = 16;
 
 /// RULES T1, T7: a running step, and its level.
 #[derive(Clone, Copy, Debug, PartialEq, Eq)]
@@ -49,24 +52,26 @@ pub struct Handle {
     pub direction: Direction,
 }
 
-/// The three tables. Every number, in range or not, may be asked for and set: out of range there is
-/// nothing, and setting it changes nothing.
+/// The three tables and the freeze. Every number, in range or not, may be asked for and set: out of range
+/// there is nothing, and setting it changes nothing.
 #[derive(Clone, Debug, PartialEq, Eq)]
 pub struct Tables {
     limits: Limits,
     subjects: Vec<Option<Subject>>,
     objects: Vec<Option<Object>>,
     handles: Vec<Option<Handle>>,
+    freeze: u32,
 }
 
 impl Tables {
-    /// Empty tables.
+    /// RULES T12: empty tables.
     pub fn new(limits: Limits) -> Tables {
         Tables {
             limits,
             subjects: vec![None; limits.subjects as usize],
             objects: vec![None; limits.objects as usize],
             handles: vec![None; (limits.subjects * limits.places) as usize],
+            freeze: NO_FREEZE,
         }
     }
 
@@ -129,6 +134,26 @@ impl Tables {
         (0..self.limits.objects).filter(|&o| self.object(o).is_some())
     }
 
+    /// The freeze as it is stored.
+    pub fn freeze(&self) -> u32 {
+        self.freeze
+    }
+
+    /// RULES T32, T33: the level from which on files are frozen; none where the freeze is 16 or above.
+    pub fn frozen_from(&self) -> Option<u32> {
+        (self.freeze < NO_FREEZE).then_some(self.freeze)
+    }
+
+    /// Whether this is a file that is frozen: its level is at or above the freeze.
+    pub fn is_frozen(&self, o: u32) -> bool {
+        let file = self.object(o).filter(|object| object.kind == Kind::File);
+        file.zip(self.frozen_from()).is_some_and(|(file, freeze)| file.level >= freeze)
+    }
+
+    pub fn set_freeze(&mut self, freeze: u32) {
+        self.freeze = freeze;
+    }
+
     pub fn set_subject(&mut self, s: u32, subject: Option<Subject>) {
         if let Some(entry) = self.subjects.get_mut(s as usize) {
             *entry = subject;
@@ -152,7 +177,7 @@ impl Tables {
     /// RULES T19: the places that only count as empty become empty. Tables
     /// made by calls have no such places.
     pub fn empty_uncounted_places(&mut self) {
-        let Tables { limits, subjects, objects, handles } = self;
+        let Tables { limits, subjects, objects, handles, .. } = self;
         for (row, subject) in handles.chunks_mut(limits.places as usize).zip(subjects) {
             for place in row {
                 let object = place.and_then(|handle| objects.get(handle.object as usize).copied()?);

@@ -1,12 +1,15 @@
 //! Deliberately wrong variants of the program, to show that the generated journals find mistakes.
 //!
 //! `Rules` says which variant is on; by default none is, and then every function here leaves the rules
-//! as they are. Each variant is read at exactly one place: here, in `outcomes`, or at the
+//! as they are. Each variant is read at exactly one place: here, in `freeze`, in `outcomes`, or at the
 //! one place in the reader that it speaks of.
 
+mod freeze;
 mod outcomes;
 
-use crate::calls::{shape_of_code, Call};
+use std::cmp::Reverse;
+
+use crate::calls::{shape_of_code, Call, Shape};
 use crate::monitor::{Answer, Monitor};
 use crate::needs::{level, Flow, Needs, Thing};
 use crate::numbers;
@@ -14,6 +17,7 @@ use crate::records::{Body, BodyFault};
 use crate::refusals::{sought_flow, Condition};
 use crate::replies::{Content, Step, LONGEST_JOURNAL};
 use crate::tables::{Direction, Kind, Limits, Tables, LIMITS};
+use freeze::bend_frozen;
 use outcomes::{bend_answer, bend_effect, bend_refused};
 
 macro_rules! variants {
@@ -58,6 +62,23 @@ variants! {
     ExecUntested "exec-untested" "exec is not tested against the need";
     ExecOwnFiles "exec-own-files" "exec looks only at files that the caller itself writes to";
     ExecByLevel "exec-by-level" "exec of a file below the caller's level is refused";
+    // The freeze.
+    Freeze17Allowed "freeze-17-allowed" "takes a freeze of 17";
+    Freeze16Refused "freeze-16-refused" "refuses a freeze of 16 with 6";
+    FreezeIgnored "freeze-ignored" "no open is refused with 15";
+    FreezeAboveOnly "freeze-above-only" "a file at the freeze's own level is not frozen";
+    FreezeBelow "freeze-below" "files below the freeze are frozen, and not those at or above it";
+    FreezeBySubject "freeze-by-subject" "the opener's level is held against the freeze, not the file's";
+    Freeze0AsNone "freeze-0-as-none" "a freeze of 0 freezes nothing";
+    Freeze15AsNone "freeze-15-as-none" "a freeze of 15 freezes nothing";
+    FreezePipes "freeze-pipes" "a pipe at or above the freeze is not opened for writing";
+    FreezeReads "freeze-reads" "a frozen file is not opened for reading";
+    FreezeCutsOff "freeze-cuts-off" "a write on a held handle of a frozen file is refused with 15";
+    FreezeForks "freeze-forks" "a subject that has a frozen file open for writing may not fork";
+    FreezeCreates "freeze-creates" "no file is created at or above the freeze";
+    FreezeRegisters "freeze-registers" "no file is registered at or above the freeze";
+    FreezeExecs "freeze-execs" "a frozen file is not run";
+    FreezeRetires "freeze-retires" "a frozen file is not retired";
     // Other conditions.
     Mod256 "mod-256" "takes a call's numbers modulo 256";
     Mod65536 "mod-65536" "takes a call's numbers modulo 65,536";
@@ -81,7 +102,11 @@ variants! {
     Order47 "order-4-7" "says 7 before 4";
     Order59 "order-5-9" "says 9 before 5";
     Order79 "order-7-9" "says 9 before 7";
-    TwelveLast "12-last" "a left-over number is 12 only if 2 to 10 do not hold";
+    Order215 "order-2-15" "says 15 before 2";
+    Order715 "order-7-15" "says 15 before 7";
+    Order915 "order-9-15" "says 15 before 9";
+    TwelveLast "12-last" "a left-over number is 12 only if 2 to 10 and 15 do not hold";
+    FifteenBefore12 "15-before-12" "a left-over number is 12 only if 15 does not hold";
     // Effects.
     LowerAtOpen "lower-at-open" "an open for reading lowers the subject at once";
     LowerPipeAtOpen "lower-pipe-at-open" "an open for writing lowers the pipe at once";
@@ -106,6 +131,16 @@ variants! {
     PipeEndsSwapped "pipe-ends-swapped" "the pipe's place r writes and w reads";
     RefusedOpenStays "refused-open-stays" "an open refused with 9 still places its handle";
     RefusedExecLowers "refused-exec-lowers" "an exec refused with 9 still lowers the subject";
+    FreezeTakesSmaller "freeze-takes-smaller" "a freeze below 16 is the smaller of the new number and the old";
+    FreezeNotReplaced "freeze-not-replaced" "a freeze that is set stays until it is lifted";
+    FreezeNotLifted "freeze-not-lifted" "a freeze of 16 leaves the one before it";
+    FreezeCloses "freeze-closes" "a freeze closes the writing handles on the files that it freezes";
+    ExitLiftsFreeze "exit-lifts-freeze" "exit lifts the freeze";
+    ExecLiftsFreeze "exec-lifts-freeze" "exec lifts the freeze";
+    RefusedFreezeLifts "refused-freeze-lifts" "a refused freeze lifts the one before it";
+    RefusedFreezeSets "refused-freeze-sets" "a refused freeze sets one of 15";
+    FifteenLifts "15-lifts" "an open refused with 15 lifts the freeze";
+    FifteenStays "15-stays" "an open refused with 15 still places its handle";
     OldMonitor "old-monitor" "hands the old monitor back";
     // Answers.
     OpenAnswersSubject "open-answers-subject" "an open answers with the subject's level";
@@ -113,6 +148,9 @@ variants! {
     WriteAnswersSubject "write-answers-subject" "a write answers with the subject's level";
     ExecAnswersObject "exec-answers-object" "exec answers with the file's level";
     ExitAnswersZero "exit-answers-zero" "exit answers with level 0";
+    FreezeAnswersOld "freeze-answers-old" "a freeze answers with the number before it";
+    Freeze16Answers15 "freeze-16-answers-15" "a freeze of 16 answers with 15";
+    FreezeAsLowered "freeze-as-lowered" "a freeze below the one before it is said as lowered";
     LoweredAsAllowed "lowered-as-allowed" "lowered is said as allowed";
     PipeLoweredAsAllowed "pipe-lowered-as-allowed" "a lowered pipe is said as allowed";
     EqualAsLowered "equal-as-lowered" "a read at the same level is said as lowered";
@@ -124,11 +162,17 @@ variants! {
     CloseNotCounted "close-not-counted" "close counts nothing";
     RefusedCounted "refused-counted" "a refused open counts a handle made";
     RetireCounted "retire-counted" "retire counts a handle gone";
+    FreezeCounted "freeze-counted" "a freeze counts a handle made";
     OpenAsMade "open-as-made" "the end line gives the handles made as those open";
+    // Codes.
+    Code14Known "code-14-known" "takes code 14 for a freeze";
+    Code15Known "code-15-known" "takes code 15 for a freeze";
+    Code16Unknown "code-16-unknown" "does not know code 16";
     // Numbers and records.
     PaddedAccepted "padded-accepted" "a number longer than it need be is taken";
     AboveWrapped "above-wrapped" "a number above 4294967295 is wrapped";
     ReadsPastBody "reads-past-body" "a number may end behind its record's body";
+    FreezeTwoNumbers "freeze-two-numbers" "a record of a freeze has two numbers";
     MissingIsZero "missing-is-zero" "a missing number is taken as 0";
     LeftOverIgnored "left-over-ignored" "what is left over in a record is ignored";
     UnknownRestRead "unknown-rest-read" "a malformed number behind an unknown code is 12";
@@ -193,6 +237,24 @@ impl Rules {
         limits
     }
 
+    /// The code that a code is taken for.
+    pub fn bend_code(self, code: u32) -> u32 {
+        match (self.variant, code) {
+            (Some(Variant::Code14Known), 14) => 16,
+            (Some(Variant::Code15Known), 15) => 16,
+            (Some(Variant::Code16Unknown), 16) => 0,
+            _ => code,
+        }
+    }
+
+    /// How many numbers a record of this shape has.
+    pub fn bend_count(self, shape: &Shape) -> usize {
+        match self.variant {
+            Some(Variant::FreezeTwoNumbers) if shape.code == 16 => 2,
+            _ => shape.numbers.len(),
+        }
+    }
+
     /// The numbers that a call is made with.
     pub fn bend_numbers(self, numbers: [u32; 4]) -> [u32; 4] {
         match self.variant {
@@ -234,7 +296,7 @@ impl Rules {
         }
     }
 
-    /// The conditions of RULES R2 to R10 for one call.
+    /// The conditions of RULES R2 to R10 and R15 for one call.
     pub fn bend_conditions(self, tables: &Tables, call: Call, needs: &Needs, conditions: &mut [Condition]) {
         let Some(variant) = self.variant else {
             return;
@@ -244,6 +306,9 @@ impl Rules {
                 condition.1 = holds;
             }
         };
+        if let Some(holds) = bend_frozen(variant, tables, call) {
+            set(15, holds);
+        }
         let is_open = sought_flow(tables, call).is_some();
         let unmet_among = |tested: &dyn Fn(Thing) -> bool| needs.unmet(tables).any(tested);
         let kind_of = |thing| match thing {
@@ -293,6 +358,8 @@ impl Rules {
             (Variant::ExecByLevel, Call::Exec { s, o }) => {
                 set(9, object_level(o) < subject_level(s));
             }
+            (Variant::Freeze17Allowed, Call::Freeze { level: 17 }) => set(6, false),
+            (Variant::Freeze16Refused, Call::Freeze { level: 16 }) => set(6, true),
             (Variant::RetireHeld, _) => set(10, false),
             (Variant::RetirePipe, Call::Retire { .. }) => set(5, false),
             (Variant::ExecPipe, Call::Exec { .. }) => set(5, false),
@@ -311,28 +378,39 @@ impl Rules {
         }
     }
 
-    /// Of the numbers whose conditions hold, the one of least rank is given.
-    pub fn rank(self, number: u32) -> u32 {
-        // Says the larger of two numbers just before the smaller.
-        let swapped = |smaller: u32, larger: u32| {
-            if number == larger {
-                2 * smaller - 1
-            } else {
-                2 * number
+    /// The order in which the conditions are tested.
+    pub fn bend_order(self, conditions: &mut [Condition]) {
+        // Tests the later of two numbers just before the earlier.
+        let mut swap = |earlier: u32, later: u32| {
+            let place = |number: u32| conditions.iter().position(|condition| condition.0 == number);
+            if let (Some(first), Some(last)) = (place(earlier), place(later)) {
+                conditions[first..=last].rotate_right(1);
             }
         };
         match self.variant {
-            Some(Variant::LargestFirst) => u32::MAX - number,
-            Some(Variant::Order23) => swapped(2, 3),
-            Some(Variant::Order24) => swapped(2, 4),
-            Some(Variant::Order25) => swapped(2, 5),
-            Some(Variant::Order27) => swapped(2, 7),
-            Some(Variant::Order36) => swapped(3, 6),
-            Some(Variant::Order37) => swapped(3, 7),
-            Some(Variant::Order47) => swapped(4, 7),
-            Some(Variant::Order59) => swapped(5, 9),
-            Some(Variant::Order79) => swapped(7, 9),
-            _ => number,
+            Some(Variant::LargestFirst) => conditions.sort_by_key(|condition| Reverse(condition.0)),
+            Some(Variant::Order23) => swap(2, 3),
+            Some(Variant::Order24) => swap(2, 4),
+            Some(Variant::Order25) => swap(2, 5),
+            Some(Variant::Order27) => swap(2, 7),
+            Some(Variant::Order36) => swap(3, 6),
+            Some(Variant::Order37) => swap(3, 7),
+            Some(Variant::Order47) => swap(4, 7),
+            Some(Variant::Order59) => swap(5, 9),
+            Some(Variant::Order79) => swap(7, 9),
+            Some(Variant::Order215) => swap(2, 15),
+            Some(Variant::Order715) => swap(7, 15),
+            Some(Variant::Order915) => swap(9, 15),
+            _ => {}
+        }
+    }
+
+    /// Whether this refusal of a call is said before the 12 of its record, which has something left over.
+    pub fn says_before_12(self, number: u32) -> bool {
+        match self.variant {
+            Some(Variant::TwelveLast) => true,
+            Some(Variant::FifteenBefore12) => number == 15,
+            _ => false,
         }
     }
 

@@ -23,7 +23,24 @@ fn the_cases_are_all_there() {
             "{name}"
         );
     }
-    for name in ["example", "empty", "level-15", "level-16", "place-15", "place-16", "fork-own-number"] {
+    for name in [
+        "example",
+        "empty",
+        "level-15",
+        "level-16",
+        "place-15",
+        "place-16",
+        "fork-own-number",
+        "freeze-16",
+        "freeze-17",
+        "freeze-file",
+        "freeze-pipe",
+        "freeze-held",
+        "freeze-flow",
+        "freeze-lifted",
+        "freeze-replaced",
+        "codes-14-and-15",
+    ] {
         assert!(names.iter().any(|known| known == name), "{name}");
     }
     let mut unique = names.clone();
@@ -47,7 +64,8 @@ fn a_direct_call_ignores_the_numbers_its_code_does_not_use() {
     assert_eq!(monitor.call(5, [0, 0, 0, any]), Answer::Allowed(9));
     assert_eq!(monitor.call(12, [0, any, any, any]), Answer::Allowed(9));
     assert_eq!(monitor.call(13, [0, any, any, any]), Answer::Allowed(9));
-    for code in [0, 14, 15, 255, 256, u32::MAX] {
+    assert_eq!(monitor.call(16, [9, any, any, any]), Answer::Allowed(9));
+    for code in [0, 14, 15, 17, 255, 256, 256 + 16, u32::MAX] {
         assert_eq!(monitor.call(code, [0, 0, 0, 0]), Answer::Refused(1));
     }
 }
@@ -56,8 +74,9 @@ fn a_direct_call_ignores_the_numbers_its_code_does_not_use() {
 fn a_refusal_answers_with_level_0_and_changes_nothing() {
     let mut monitor = Monitor::new();
     assert_eq!(monitor.call(1, [0, 9, 0, 0]), Answer::Allowed(9));
+    assert_eq!(monitor.call(16, [9, 0, 0, 0]), Answer::Allowed(9));
     let (tables, tally) = (monitor.tables().clone(), monitor.tally());
-    for code in 0..=15 {
+    for code in 0..=17 {
         let answer = monitor.call(code, [99, 99, 99, 99]);
         assert!(matches!(answer, Answer::Refused(_)), "{code}");
         assert_eq!(answer.level(), 0);
@@ -147,6 +166,103 @@ fn a_pipe_without_handles_stays_until_a_last_handle_goes() {
     assert_eq!(monitor.call(5, [0, 7, 0, 0]), Answer::Allowed(9));
     assert_eq!(monitor.call(11, [0, 0, 0, 0]), Answer::Allowed(9));
     assert_eq!(monitor.call(2, [7, 1, 0, 0]), Answer::Allowed(1));
+}
+
+// The freeze.
+
+#[test]
+fn tables_start_without_a_freeze_and_a_freeze_is_any_number_up_to_16() {
+    let mut monitor = Monitor::new();
+    assert_eq!((monitor.tables().freeze(), monitor.tables().frozen_from()), (16, None));
+    for level in 0..=15 {
+        assert_eq!(monitor.call(16, [level, 0, 0, 0]), Answer::Allowed(level));
+        assert_eq!(monitor.tables().frozen_from(), Some(level));
+    }
+    for level in [17, 18, 31, 255, 256, 256 + 9, u32::MAX] {
+        assert_eq!(monitor.call(16, [level, 0, 0, 0]), Answer::Refused(6));
+        assert_eq!(monitor.tables().frozen_from(), Some(15));
+    }
+    assert_eq!(monitor.call(16, [16, 0, 0, 0]), Answer::Allowed(16));
+    assert_eq!((monitor.tables().freeze(), monitor.tables().frozen_from()), (16, None));
+    // RULES Y7.
+    assert_eq!((monitor.tally().made, monitor.tally().gone), (0, 0));
+}
+
+#[test]
+fn every_file_is_frozen_at_or_above_the_freeze_and_no_pipe_is() {
+    for freeze in 0..=16 {
+        for level in 0..=15 {
+            let mut monitor = Monitor::new();
+            let numbers = |a, b, c, d| [a, b, c, d];
+            assert_eq!(monitor.call(1, numbers(0, level, 0, 0)), Answer::Allowed(level));
+            assert_eq!(monitor.call(2, numbers(0, level, 0, 0)), Answer::Allowed(level));
+            assert_eq!(monitor.call(4, numbers(0, 1, 0, 1)), Answer::Allowed(level));
+            assert_eq!(monitor.call(16, numbers(freeze, 0, 0, 0)), Answer::Allowed(freeze));
+            let file = if level >= freeze { Answer::Refused(15) } else { Answer::Allowed(level) };
+            assert_eq!(monitor.call(6, numbers(0, 0, 2, 0)), file, "freeze {freeze}, level {level}");
+            assert_eq!(monitor.call(6, numbers(0, 1, 3, 0)), Answer::Allowed(level));
+            assert_eq!(monitor.call(5, numbers(0, 0, 4, 0)), Answer::Allowed(level));
+            assert_eq!(monitor.call(3, numbers(0, 2, 0, 0)), Answer::Allowed(level));
+            assert_eq!(monitor.call(9, numbers(0, 1, 0, 0)), Answer::Allowed(level));
+        }
+    }
+}
+
+#[test]
+fn a_stored_freeze_above_16_is_none_and_stays() {
+    for freeze in [17, 18, 255, u32::MAX] {
+        let mut monitor = made_up(|tables| tables.set_freeze(freeze));
+        assert_eq!(monitor.call(6, [0, 0, 0, 0]), Answer::Allowed(9));
+        assert_eq!(monitor.call(8, [0, 0, 0, 0]), Answer::Allowed(9));
+        assert_eq!(monitor.call(16, [17, 0, 0, 0]), Answer::Refused(6));
+        assert_eq!(monitor.call(12, [0, 0, 0, 0]), Answer::Allowed(9));
+        assert_eq!(monitor.tables().freeze(), freeze);
+        assert_eq!(monitor.call(16, [3, 0, 0, 0]), Answer::Allowed(3));
+        assert_eq!(monitor.tables().freeze(), 3);
+    }
+}
+
+/// RULES T21: such a level is compared as it is. Only here can a freeze of 16 be told from a level.
+#[test]
+fn no_file_is_frozen_without_a_freeze_not_even_one_above_level_15() {
+    for (freeze, answer) in [
+        (15, Answer::Refused(15)),
+        (16, Answer::Allowed(20)),
+        (17, Answer::Allowed(20)),
+        (255, Answer::Allowed(20)),
+    ] {
+        let mut monitor = made_up(|tables| {
+            tables.set_subject(1, Some(Subject { level: 20 }));
+            tables.set_object(1, Some(Object { kind: Kind::File, level: 20 }));
+            tables.set_freeze(freeze);
+        });
+        assert_eq!(monitor.call(6, [1, 1, 0, 0]), answer, "freeze {freeze}");
+    }
+}
+
+#[test]
+fn a_freeze_empties_places_that_count_as_empty_and_a_refused_one_does_not() {
+    let stale = |tables: &mut Tables| tables.set_handle(0, 3, handle(1, READING));
+    let mut monitor = made_up(stale);
+    let tables = monitor.tables().clone();
+    assert_eq!(monitor.call(16, [17, 0, 0, 0]), Answer::Refused(6));
+    assert_eq!(*monitor.tables(), tables);
+    assert_eq!(monitor.call(16, [9, 0, 0, 0]), Answer::Allowed(9));
+    let mut cleaned = made_up(|_| ()).tables().clone();
+    cleaned.set_freeze(9);
+    assert_eq!(*monitor.tables(), cleaned);
+}
+
+#[test]
+fn where_a_thing_is_below_its_need_already_9_is_said_of_a_frozen_file_too() {
+    let mut monitor = made_up(|tables| {
+        tables.set_subject(1, Some(Subject { level: 2 }));
+        tables.set_handle(1, 0, handle(0, WRITING));
+        tables.set_freeze(0);
+    });
+    assert_eq!(monitor.call(6, [0, 0, 0, 0]), Answer::Refused(9));
+    assert_eq!(monitor.call(11, [1, 0, 0, 0]), Answer::Allowed(2));
+    assert_eq!(monitor.call(6, [0, 0, 0, 0]), Answer::Refused(15));
 }
 
 #[test]

@@ -1,13 +1,17 @@
 //! What holds of every journal, over generated ones.
 
+use std::collections::BTreeMap;
+
 use gatekeeper_independent::assembly::assemble;
+use gatekeeper_independent::calls::Call;
 use gatekeeper_independent::disassembly::disassemble;
 use gatekeeper_independent::explain::explain;
 use gatekeeper_independent::generate::{journal, Wish, STYLES};
 use gatekeeper_independent::monitor::Answer;
 use gatekeeper_independent::needs::{level, live_things, Flow, Needs, Thing};
-use gatekeeper_independent::replies::{replies, Run};
-use gatekeeper_independent::tables::{Kind, Tables};
+use gatekeeper_independent::records::Body;
+use gatekeeper_independent::replies::{replies, Content, Run};
+use gatekeeper_independent::tables::{Direction, Kind, Object, Tables};
 use gatekeeper_independent::variants::Rules;
 
 const SEED: u64 = 20;
@@ -60,6 +64,111 @@ fn a_refused_call_changes_nothing() {
             }
         }
     }
+}
+
+/// Every call of a journal, with its answer and the tables before it.
+fn each_call(journal: &[u8], mut look: impl FnMut(Call, Answer, &Tables)) {
+    let mut run = Run::new(journal, Rules::default());
+    loop {
+        let before = run.monitor().tables().clone();
+        match run.next_step() {
+            None => break,
+            Some(step) => {
+                if let Content::Body(_, Body::Call { code, numbers }) = step.content {
+                    look(Call::new(code, numbers).unwrap(), step.answer, &before);
+                }
+            }
+        }
+    }
+}
+
+/// RULES B27.
+#[test]
+fn no_read_or_write_is_refused_on_a_handle_that_is_held() {
+    for journal in mixed(150) {
+        each_call(&journal, |call, answer, before| {
+            let (s, p, direction) = match call {
+                Call::Read { s, p } => (s, p, Direction::Reading),
+                Call::Write { s, p } => (s, p, Direction::Writing),
+                _ => return,
+            };
+            if before.handle(s, p).is_some_and(|handle| handle.direction == direction) {
+                assert!(!matches!(answer, Answer::Refused(_)), "{call:?}");
+            }
+        });
+    }
+}
+
+/// RULES C16, R15: an open for writing comes through exactly where the last freeze lets it, and 15 is said of
+/// nothing else.
+#[test]
+fn the_last_freeze_that_was_allowed_is_the_one_that_counts() {
+    for journal in mixed(150) {
+        let mut freeze = 16;
+        each_call(&journal, |call, answer, before| match (call, answer) {
+            (Call::Freeze { level }, Answer::Allowed(said)) => {
+                assert_eq!(level, said);
+                freeze = level;
+            }
+            (Call::OpenWrite { o, .. }, Answer::Allowed(_) | Answer::Refused(15)) => {
+                let frozen =
+                    matches!(before.object(o), Some(Object { kind: Kind::File, level }) if level >= freeze);
+                assert_eq!(answer == Answer::Refused(15), frozen, "{call:?}");
+            }
+            _ => assert!(answer != Answer::Refused(15), "{call:?}"),
+        });
+    }
+}
+
+/// What a freeze comes to in a call; `newer` has the files that are newer than the freeze.
+fn freeze_met(call: Call, answer: Answer, before: &Tables, newer: &[u32]) -> Option<&'static str> {
+    let freeze = before.frozen_from();
+    let is_file = |o| before.object(o).is_some_and(|object| object.kind == Kind::File);
+    let writes_frozen = |s, p| {
+        let handle = before.handle(s, p);
+        handle.is_some_and(|held| held.direction == Direction::Writing && before.is_frozen(held.object))
+    };
+    Some(match (call, answer) {
+        (Call::Freeze { level: 16 }, _) if freeze.is_none() => "lifted where there is none",
+        (Call::Freeze { level: 16 }, _) => "lifted",
+        (_, _) if freeze.is_none() => return None,
+        (Call::Freeze { .. }, Answer::Refused(_)) => "refused while there is one",
+        (Call::Freeze { level }, _) if Some(level) > freeze => "raised",
+        (Call::Freeze { level }, _) if Some(level) < freeze => "made lower",
+        (Call::OpenWrite { o, .. }, Answer::Refused(15)) if newer.contains(&o) => "15, of a newer file",
+        (Call::OpenWrite { .. }, Answer::Refused(15)) => "15",
+        (Call::OpenWrite { o, .. }, Answer::Refused(9)) if before.is_frozen(o) => "9 and 15",
+        (Call::OpenWrite { o, .. }, Answer::Allowed(_)) if is_file(o) => "a lower file opened",
+        (Call::OpenWrite { .. }, Answer::Allowed(_)) => "a pipe opened",
+        (Call::OpenRead { o, .. }, Answer::Allowed(_)) if before.is_frozen(o) => "opened for reading",
+        (Call::Write { s, p }, Answer::Allowed(_)) if writes_frozen(s, p) => "written to",
+        (Call::Fork { s, .. }, Answer::Allowed(_)) if (0..16).any(|p| writes_frozen(s, p)) => "forked",
+        (Call::Create { .. }, Answer::Allowed(_)) => "a file created",
+        (Call::Exec { .. }, Answer::Allowed(_)) => "exec",
+        (Call::Exit { .. }, Answer::Allowed(_)) => "exit",
+        _ => return None,
+    })
+}
+
+/// What the freeze touches, and what it must not touch, stands in the journals often enough to be compared.
+#[test]
+fn the_freeze_is_met_often() {
+    let mut met = BTreeMap::new();
+    for journal in mixed(150) {
+        let mut newer = Vec::new();
+        each_call(&journal, |call, answer, before| {
+            if let Some(what) = freeze_met(call, answer, before, &newer) {
+                *met.entry(what).or_insert(0) += 1;
+            }
+            match (call, answer) {
+                (Call::Freeze { .. }, Answer::Allowed(_)) => newer.clear(),
+                (Call::Register { o, .. } | Call::Create { o, .. }, Answer::Allowed(_)) => newer.push(o),
+                _ => {}
+            }
+        });
+    }
+    assert_eq!(met.len(), 16, "{met:?}");
+    assert!(met.values().all(|&times| times >= 10), "{met:?}");
 }
 
 /// RULES F5, F6: the need, by a search from the thing.
@@ -124,6 +233,15 @@ fn every_journal_can_be_explained() {
                 let lines: Vec<&str> = part.lines().take(4).collect();
                 assert!(lines[1].contains(" → "), "{part}");
                 assert!(part.contains("What to do: "), "{part}");
+            }
+            // Each refusal 15 with the level and the record of its freeze, and a way out.
+            let refused = replies(&journal).matches(" R 15\n").count();
+            assert_eq!(text.matches("Refused (15)").count(), refused);
+            for part in text.split("Refused (15)").skip(1) {
+                let words = part.split_whitespace().take(60).collect::<Vec<&str>>().join(" ");
+                assert!(words.contains("They are closed from level "), "{part}");
+                assert!(words.contains(" up since record "), "{part}");
+                assert!(words.contains("What to do: wait until the books are open again"), "{part}");
             }
         }
     }

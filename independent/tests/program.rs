@@ -261,6 +261,136 @@ fn words_go_to_a_journal_and_back() {
 }
 
 #[test]
+fn a_freeze_is_written_read_and_answered() {
+    let output = gk(&["assemble"], b"freeze 9\nfreeze 16 # the books are open\nfreeze 4294967295\n");
+    let journal = [2, 16, 9, 2, 16, 16, 6, 16, 0xff, 0xff, 0xff, 0xff, 0x0f];
+    assert_eq!(output.stdout, journal);
+    assert_eq!(out(&gk(&["disassemble"], &journal)), "freeze 9\nfreeze 16\nfreeze 4294967295\n");
+    assert_eq!(out(&gk(&["run"], &journal)), "1 16 A 9\n2 16 A 16\n3 16 R 6\nend 0 0 0\n");
+
+    assert!(err(&gk(&["assemble"], b"freez 9")).contains("Did you mean: freeze"));
+    assert!(err(&gk(&["assemble"], b"freeze")).contains("expected the number level"));
+    assert!(err(&gk(&["assemble"], b"freeze 9 9")).contains("call 16 9 9"));
+    let output = gk(&["disassemble"], &[1, 16, 3, 16, 9, 9, 2, 14, 9, 2, 15, 9]);
+    for part in [
+        "call 16                  # refusal 12: the number level of freeze is missing\n",
+        "call 16 9 9              # refusal 12: 1 byte is left over behind freeze\n",
+        "call 14 9                # refusal 1: no call has the code 14\n",
+        "call 15 9                # refusal 1: no call has the code 15\n",
+    ] {
+        assert!(out(&output).contains(part), "{}", out(&output));
+    }
+}
+
+/// A text of assembly, explained, its lines joined.
+fn explained(text: &str) -> String {
+    let text = out(&gk(&["explain"], &gk(&["assemble"], text.as_bytes()).stdout));
+    text.split_whitespace().collect::<Vec<&str>>().join(" ")
+}
+
+fn sees(text: &str, parts: &[&str]) {
+    for part in parts {
+        assert!(text.contains(part), "\"{part}\" is not in: {text}");
+    }
+}
+
+const BOOKS: &str = "register 0 9\nregister 1 2\nadmit 0 9\nadmit 1 8\n";
+
+#[test]
+fn closed_books_are_explained() {
+    let text = explained(&format!(
+        "{BOOKS}freeze 9\nopen-write 0 0 0\nfreeze 2\nfreeze 16\nfreeze 16\nfreeze 17\n"
+    ));
+    sees(
+        &text,
+        &[
+            "5. The freeze is set to 9. Allowed. Books closed from level 9 up: no such file can be opened for \
+             writing. Handles that are open go on writing; freeze 16 opens the books again. 6.",
+            "6. Step 0 opens file 0 for writing at place 0. Refused (15): the file is frozen while the books \
+             are closed. They are closed from level 9 up since record 5, and file 0 has level 9. What to do: \
+             wait until the books are open again (freeze 16) and open it then, or open a file below level 9. \
+             A handle that is held goes on writing; none is open for writing on file 0. 7.",
+            "7. The freeze is set to 2. Allowed. Books closed from level 2 up: ",
+            "Before, they were closed from level 9 up since record 5. 8.",
+            "8. The freeze is lifted. Allowed. Books open again: no open is refused with 15. They were closed \
+             from level 2 up since record 7. 9.",
+            "9. The freeze is lifted. Allowed. Books open, as they were: there was no freeze. 10.",
+            "10. The freeze is set to 17. Refused (6): ",
+            "What to do: give 0 to 15, or 16 to lift the freeze. ",
+        ],
+    );
+}
+
+#[test]
+fn a_15_names_the_record_that_closed_the_books_and_who_writes_on() {
+    let held =
+        "open-write 0 0 3\nfork 0 2\nfreeze 0\nfreeze 17\nexit 1\nopen-write 0 0 0\nopen-write 2 1 0\n";
+    let text = explained(&format!("{BOOKS}{held}"));
+    sees(
+        &text,
+        &[
+            // Neither the refused freeze nor the exit is the record; and no file is below level 0.
+            "They are closed from level 0 up since record 7, and file 0 has level 9. What to do: wait until the \
+             books are open again (freeze 16) and open it then. Or: use a handle on file 0 that is held and goes \
+             on writing, place 3 of step 0, or place 3 of step 2. 11.",
+            "record 7, and file 1 has level 2. ",
+        ],
+    );
+    assert_eq!(text.matches("Refused (15)").count(), 2);
+}
+
+#[test]
+fn a_9_while_the_books_are_closed_is_explained_with_the_freeze() {
+    let also = "Also: the books are closed from level 9 up since record 5, and file 0 has level 9. When nothing \
+                else is in the way, the open is refused with 15 until the books are open again (freeze 16).";
+    let low = explained(&format!("{BOOKS}freeze 9\nopen-write 1 0 0\n"));
+    sees(
+        &low,
+        &[
+            "Refused (9): ",
+            "What to do: when the books are open again, let step 0 open file 0: it may.",
+            also,
+        ],
+    );
+    let chained = explained(&format!("{BOOKS}freeze 9\nopen-read 0 1 0\nopen-write 0 0 1\n"));
+    sees(
+        &chained,
+        &["Refused (9): ", "; when the books are open again, open it after that. Or: when ", also],
+    );
+    // The same where 2 or 7 is said of the open.
+    sees(&explained(&format!("{BOOKS}freeze 9\nopen-write 9 0 0\n")), &["Refused (2): ", also]);
+    sees(&explained(&format!("{BOOKS}freeze 9\nopen-write 0 0 16\n")), &["Refused (7): ", also]);
+
+    // Nothing is said of a freeze that does not concern the open: a higher one, one that is lifted, for a pipe.
+    for calls in [
+        "freeze 10\nopen-write 1 0 0",
+        "freeze 9\nfreeze 16\nopen-write 1 0 0",
+        "open-write 0 0 0\npipe 0 5 1 2\nfreeze 9\nopen-write 1 5 0",
+    ] {
+        let text = explained(&format!("{BOOKS}{calls}\n"));
+        sees(&text, &["Refused (9): "]);
+        assert!(!text.contains("Also: "), "{text}");
+    }
+}
+
+#[test]
+fn advice_that_a_freeze_forbids_is_not_given() {
+    // A handle on a frozen file that is given up is not to be had again.
+    let mind = "Mind: file 0, once closed, is not opened for writing again before the books are open.";
+    let closing = "close place 0 of step 0 (writing file 0); open it after that.";
+    let text = explained(&format!("{BOOKS}open-write 0 0 0\nfreeze 9\nopen-read 0 1 1\n"));
+    sees(&text, &[closing, mind]);
+    let text = explained(&format!("{BOOKS}open-write 0 0 0\nopen-read 0 1 1\n"));
+    sees(&text, &[closing]);
+    assert!(!text.contains("Mind: "), "{text}");
+    // A write on a reading handle: the file cannot be opened for writing now.
+    let wrong = "open-read 0 0 0\nwrite 0 0\n";
+    let text = explained(&format!("{BOOKS}freeze 9\n{wrong}"));
+    sees(&text, &["What to do: when the books are open again, open it for writing at another place."]);
+    sees(&explained(&format!("{BOOKS}{wrong}")), &["What to do: open it for writing at another place."]);
+}
+
+#[test]
 fn cases_are_printed_for_other_programs() {
     for case in cases::all() {
         let journal = gk(&["cases", "--journal", &case.name], b"").stdout;

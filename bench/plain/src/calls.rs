@@ -1,4 +1,4 @@
-//! The thirteen calls by code, and what a call is answered with.
+//! The fourteen calls by code, and what a call is answered with.
 
 use crate::refusals::Refusal;
 use crate::tables::{Direction, Level};
@@ -34,6 +34,7 @@ pub enum Call {
     Close { s: u32, p: u32 },
     Exit { s: u32 },
     Retire { o: u32 },
+    Freeze { level: u32 },
 }
 
 /// The most numbers that a call takes.
@@ -46,7 +47,7 @@ impl Call {
             4 => Some(4),
             5 | 6 => Some(3),
             1..=3 | 7..=11 => Some(2),
-            12 | 13 => Some(1),
+            12 | 13 | 16 => Some(1),
             _ => None,
         }
     }
@@ -67,6 +68,7 @@ impl Call {
             11 => Call::Close { s: a, p: b },
             12 => Call::Exit { s: a },
             13 => Call::Retire { o: a },
+            16 => Call::Freeze { level: a },
             _ => return None,
         })
     }

@@ -7,16 +7,16 @@
 //!
 //! | module | has |
 //! |---|---|
-//! | [`tables`] | subjects, objects and handles, by number |
+//! | [`tables`] | subjects, objects and handles, by number, and the freeze |
 //! | [`needs`] | the need of every subject and object |
-//! | [`calls`] | the thirteen calls by code, and what a call is answered with |
+//! | [`calls`] | the fourteen calls by code, and what a call is answered with |
 //! | [`refusals`] | what refuses a call's numbers |
 //! | [`monitor`] | the calls: each refuses, then takes effect |
 //! | [`journal`] | numbers and records |
 //! | [`mod@replies`] | the reply to a whole journal |
 //!
 //! To add a call: its variant, its code and its numbers in [`calls`]; a method in [`monitor`] that first refuses, by
-//! rising number, and then takes effect.
+//! rising number, and then takes effect; a refusal of its own in [`refusals`].
 
 #![forbid(unsafe_code)]
 

@@ -2,7 +2,7 @@
 
 use crate::calls::{Answer, Call, NUMBERS};
 use crate::needs::Needs;
-use crate::refusals::{level_in_range, Held, Refusal};
+use crate::refusals::{freeze_in_range, level_in_range, Held, Refusal};
 use crate::tables::{Direction, Kind, Level, Object, Place, Tables, Tally, PLACES};
 
 /// When needs are worked out.
@@ -68,6 +68,7 @@ impl Monitor {
             Call::Close { s, p } => self.close(s, p),
             Call::Exit { s } => self.exit(s),
             Call::Retire { o } => self.retire(o),
+            Call::Freeze { level } => self.freeze(level),
         };
         answer.unwrap_or_else(Answer::from)
     }
@@ -116,6 +117,9 @@ impl Monitor {
         self.ask(Place::of(s, o, direction));
         if !self.needs.are_met(&self.tables) {
             return Err(Refusal::Flow);
+        }
+        if direction == Direction::Writing {
+            self.tables.writable(object)?;
         }
         self.tables.fill(s, p, o, direction);
         Ok(Answer::Allowed(object.level))
@@ -184,6 +188,11 @@ impl Monitor {
         self.tables.objects[o] = None;
         Ok(Answer::Allowed(object.level))
     }
+
+    fn freeze(&mut self, level: u32) -> Result<Answer, Refusal> {
+        self.tables.freeze = freeze_in_range(level)?;
+        Ok(Answer::Allowed(self.tables.freeze))
+    }
 }
 
 /// When needs are worked out, and of what.
@@ -238,6 +247,26 @@ mod tests {
         // A new subject whose number and level are unfit.
         assert_eq!(last(&[(1, [32, 16, 0, 0])]), Answer::Refused(3));
         assert_eq!(last(&[(1, [31, 16, 0, 0])]), Answer::Refused(6));
+    }
+
+    #[test]
+    fn a_frozen_file_is_not_opened_for_writing() {
+        let start = [(1, [0, 9, 0, 0]), (2, [0, 9, 0, 0]), (4, [0, 1, 0, 1])];
+        let after = |calls: &[(u32, [u32; NUMBERS])]| last(&[&start[..], calls].concat());
+        let (file, pipe) = ([0, 0, 2, 0], [0, 1, 2, 0]);
+        for level in 0..=16 {
+            let answer = if level > 9 { Answer::Allowed(9) } else { Answer::Refused(15) };
+            assert_eq!(after(&[(16, [level; NUMBERS])]), Answer::Allowed(level as u8));
+            assert_eq!(after(&[(16, [level; NUMBERS]), (6, file)]), answer, "{level}");
+            assert_eq!(after(&[(16, [level; NUMBERS]), (6, pipe)]), Answer::Allowed(9));
+            assert_eq!(after(&[(16, [level; NUMBERS]), (5, file)]), Answer::Allowed(9));
+            assert_eq!(after(&[(6, file), (16, [level; NUMBERS]), (8, [0, 2, 0, 0])]), Answer::Allowed(9));
+        }
+        assert_eq!(after(&[(16, [0; NUMBERS]), (16, [16; NUMBERS]), (6, file)]), Answer::Allowed(9));
+        assert_eq!(after(&[(16, [0; NUMBERS]), (16, [17; NUMBERS])]), Answer::Refused(6));
+        assert_eq!(after(&[(16, [0; NUMBERS]), (16, [17; NUMBERS]), (6, file)]), Answer::Refused(15));
+        // Below the file's level: that is said first.
+        assert_eq!(after(&[(1, [1, 8, 0, 0]), (16, [0; NUMBERS]), (6, [1, 0, 0, 0])]), Answer::Refused(9));
     }
 
     #[test]

@@ -2,7 +2,7 @@
 //!
 //! A call goes through them by rising refusal number, so that the smallest is given.
 
-use crate::tables::{Direction, Kind, Level, Object, Place, Tables, LEVELS};
+use crate::tables::{Direction, Kind, Level, Object, Place, Tables, LEVELS, NO_FREEZE};
 
 /// Why a call is refused; the number is what the answer gives.
 #[derive(Clone, Copy, Debug, PartialEq, Eq)]
@@ -20,6 +20,7 @@ pub enum Refusal {
     JournalBroken = 11,
     RecordBroken = 12,
     JournalTooLong = 14,
+    Frozen = 15,
 }
 
 /// A handle that is held.
@@ -94,11 +95,29 @@ impl Tables {
             Err(Refusal::WrongDirection)
         }
     }
+
+    /// Refusal 15: the object is a pipe, or a file below the freeze.
+    pub fn writable(&self, object: Object) -> Result<(), Refusal> {
+        if object.kind == Kind::File && object.level >= self.freeze {
+            Err(Refusal::Frozen)
+        } else {
+            Ok(())
+        }
+    }
 }
 
 /// Refusal 6: the level is in range.
 pub fn level_in_range(level: u32) -> Result<Level, Refusal> {
     if (level as usize) < LEVELS {
+        Ok(level as Level)
+    } else {
+        Err(Refusal::LevelTooHigh)
+    }
+}
+
+/// Refusal 6: a level to freeze from is in range, or there is none.
+pub fn freeze_in_range(level: u32) -> Result<Level, Refusal> {
+    if level <= u32::from(NO_FREEZE) {
         Ok(level as Level)
     } else {
         Err(Refusal::LevelTooHigh)

@@ -1,4 +1,4 @@
-//! The tables: subjects, objects and handles, by number, and the tally of handles.
+//! The tables: subjects, objects and handles, by number, the freeze, and the tally of handles.
 
 /// How many there are of each.
 pub const SUBJECTS: usize = 32;
@@ -8,6 +8,9 @@ pub const LEVELS: usize = 16;
 
 /// 0, the lowest, to 15.
 pub type Level = u8;
+
+/// The freeze where there is none: it is above every level.
+pub const NO_FREEZE: Level = LEVELS as Level;
 
 /// A file's level never changes; a pipe's can fall.
 #[derive(Clone, Copy, Debug, PartialEq, Eq)]
@@ -96,6 +99,8 @@ pub struct Tables {
     pub objects: [Option<Object>; OBJECTS],
     /// By subject, then by place.
     pub places: [[Place; PLACES]; SUBJECTS],
+    /// The level from which on no file is opened for writing.
+    pub freeze: Level,
     pub tally: Tally,
 }
 
@@ -104,6 +109,7 @@ impl Tables {
         subjects: [None; SUBJECTS],
         objects: [None; OBJECTS],
         places: [[Place::EMPTY; PLACES]; SUBJECTS],
+        freeze: NO_FREEZE,
         tally: Tally { made: 0, gone: 0 },
     };
 

@@ -1,5 +1,5 @@
 //! The plain program beside the independent one: the same replies to every journal, and after each direct call the
-//! same answer, the same tally, and the needs as the independent program works them out.
+//! same answer, the same tally, the same freeze, and the needs as the independent program works them out.
 
 use gatekeeper_independent::calls::SHAPES;
 use gatekeeper_independent::cases;
@@ -79,6 +79,7 @@ impl Pair {
         let (tally, tally_beside) = (self.plain.tally(), self.independent.tally());
         assert_eq!((tally.made, tally.gone), (tally_beside.made, tally_beside.gone));
         assert_eq!(tally.open(), self.independent.tables().handle_count());
+        assert_eq!(u32::from(self.plain.tables().freeze), self.independent.tables().freeze());
         if let Answer::Refused(_) = answer {
             assert_eq!(self.plain.tables(), &before, "a refused call changed a table");
         }
@@ -136,17 +137,20 @@ fn drawn(random: &mut Random) -> u32 {
 
 #[test]
 fn any_numbers_get_the_same_answers() {
+    let largest = SHAPES.iter().map(|shape| shape.code).max().unwrap_or(0);
     for when in BOTH {
         let mut random = Random::new(SEED, 0);
         let mut pair = Pair::new(when);
-        let mut refused = [0; 11];
+        let mut refused = [0; 16];
         for _ in 0..CALLS {
-            let code = random.between(0, SHAPES.len() as u32 + 1);
+            let code = random.between(0, largest + 1);
             let numbers = [0; 4].map(|_: u32| drawn(&mut random));
             if let Answer::Refused(number) = pair.call(code, numbers) {
                 refused[usize::from(number)] += 1;
             }
         }
-        assert!(refused[1..].iter().all(|&times| times > 0), "a refusal was never drawn: {refused:?}");
+        // 11 to 14 are not said of a direct call.
+        let drawn = (1..=15).filter(|&number| refused[number] > 0);
+        assert!(drawn.eq((1..=10).chain([15])), "a refusal was never drawn: {refused:?}");
     }
 }

@@ -1,5 +1,6 @@
 //! Refusal 9: the chain of flows from the low thing to the higher file, and what would open the way.
 
+use super::freeze::when_open;
 use super::names::{capital, direction_word, name, name_and_level};
 use crate::calls::Call;
 use crate::needs::{level, live_things, Flow, Needs, Thing};
@@ -38,6 +39,7 @@ pub fn flow_refusal(call: Call, tables: &Tables) -> String {
         name(high, tables)
     ));
     text.push_str(&advice(call, tables, &chain, sought));
+    text.push_str(&closed_for_good(tables, &chain, sought));
     text
 }
 
@@ -131,14 +133,15 @@ fn advice(call: Call, tables: &Tables, chain: &Chain, sought: Flow) -> String {
         }
     }
     let again = match call {
-        Call::Exec { .. } => "run it",
-        _ => "open it",
+        Call::Exec { .. } => "run it after that".to_string(),
+        Call::OpenWrite { o, .. } => when_open("open it after that", Some(Thing::Object(o)), tables),
+        _ => "open it after that".to_string(),
     };
     let mut lines = Vec::new();
     if !ways.is_empty() {
         let more = if ways.len() > MOST_WAYS { ", or break the chain further on" } else { "" };
         ways.truncate(MOST_WAYS);
-        lines.push(format!("close {}{more}; {again} after that.", ways.join(", or close ")));
+        lines.push(format!("close {}{more}; {again}.", ways.join(", or close ")));
     } else if let Some(words) = first_link {
         lines.push(format!(
             "more than one way leads there. Close {words}, then ask again: the next way is shown."
@@ -153,6 +156,20 @@ fn advice(call: Call, tables: &Tables, chain: &Chain, sought: Flow) -> String {
             wrapped(line.split(' ').map(str::to_string), start, "    ")
         })
         .collect()
+}
+
+/// RULES R15: a handle on a frozen file, once closed, is not to be had again while the books are closed.
+fn closed_for_good(tables: &Tables, chain: &Chain, sought: Flow) -> String {
+    let frozen = chain.things.windows(2).find_map(|link| match (link[0], link[1]) {
+        (from @ Thing::Subject(_), to @ Thing::Object(o)) if tables.is_frozen(o) => {
+            (Flow { from, to } != sought).then_some(to)
+        }
+        _ => None,
+    });
+    frozen.map_or_else(String::new, |file| {
+        let file = name(file, tables);
+        format!("  Mind: {file}, once closed, is not opened for writing again before the books are open.\n")
+    })
 }
 
 /// Whether the flow that the call asks for offends nothing in these tables.
@@ -201,15 +218,19 @@ fn other_asker(call: Call, tables: &Tables, chain: &Chain) -> String {
                 }
                 _ => None,
             });
-            match fit {
+            let advice = match fit {
                 Some(other) => format!("let step {other} open {file}: it may."),
                 None => format!("let a step of level {high_level} or above open {file}."),
-            }
+            };
+            when_open(&advice, Some(Thing::Object(o)), tables)
         }
-        Call::OpenWrite { s, .. } => format!(
-            "let a step open {high_name} that, unlike step {s}, takes in nothing from below level \
-             {high_level}."
-        ),
+        Call::OpenWrite { s, .. } => {
+            let advice = format!(
+                "let a step open {high_name} that, unlike step {s}, takes in nothing from below level \
+                 {high_level}."
+            );
+            when_open(&advice, high, tables)
+        }
         Call::Exec { s, .. } => format!(
             "let step {s} fork another one, which closes its ways to {high_name} and runs the file."
         ),

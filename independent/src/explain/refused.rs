@@ -1,13 +1,24 @@
-//! Refusals 2 to 10: the reason in plain words and a way out. Refusal 9 is in `flow`.
+//! Refusals 2 to 10 and 15: the reason in plain words and a way out. Refusal 9 is in `flow`, 15 in `freeze`.
 
 use super::flow::flow_refusal;
+use super::freeze::{also_frozen, frozen_refusal, when_open, Closing};
 use super::names::{at_place, direction_word};
 use crate::calls::Call;
+use crate::needs::Thing;
 use crate::refusals::meaning;
 use crate::tables::{Direction, Tables, LIMITS};
 
-/// A refusal 2 to 10 with its reason and a way out.
-pub fn refusal(call: Call, number: u32, tables: &Tables) -> String {
+/// A refusal 2 to 10 or 15 with its reason and a way out; `closing` is the freeze that is set.
+pub fn refusal(call: Call, number: u32, tables: &Tables, closing: Option<Closing>) -> String {
+    let text = match number {
+        9 => flow_refusal(call, tables),
+        15 => frozen_refusal(call, tables, closing),
+        _ => plain_refusal(call, number, tables),
+    };
+    text + &also_frozen(call, number, tables, closing)
+}
+
+fn plain_refusal(call: Call, number: u32, tables: &Tables) -> String {
     let (why, advice) = match number {
         2 => missing_subject(call),
         3 => unfit_number(call, tables),
@@ -16,10 +27,9 @@ pub fn refusal(call: Call, number: u32, tables: &Tables) -> String {
             "Only files can be run or retired.".to_string(),
             "name a file; a pipe ends by itself when its last handle is closed.".to_string(),
         ),
-        6 => ("Levels are 0 (lowest) to 15.".to_string(), "give a level from 0 to 15.".to_string()),
+        6 => high_level(call),
         7 => unfit_place(call, tables),
         8 => wrong_direction(call, tables),
-        9 => return flow_refusal(call, tables),
         10 => held_file(call, tables),
         _ => (String::new(), String::new()),
     };
@@ -80,6 +90,16 @@ fn missing_object(call: Call) -> (String, String) {
     }
 }
 
+fn high_level(call: Call) -> (String, String) {
+    let (why, advice) = match call {
+        Call::Freeze { .. } => {
+            ("A freeze is a level, 0 to 15, or 16 for none.", "give 0 to 15, or 16 to lift the freeze.")
+        }
+        _ => ("Levels are 0 (lowest) to 15.", "give a level from 0 to 15."),
+    };
+    (why.to_string(), advice.to_string())
+}
+
 fn unfit_place(call: Call, tables: &Tables) -> (String, String) {
     let (s, places, wants_empty) = match call {
         Call::Pipe { s, r, w, .. } => (s, vec![r, w], true),
@@ -126,7 +146,9 @@ fn wrong_direction(call: Call, tables: &Tables) -> (String, String) {
         .collect();
     let word = direction_word(wanted);
     let advice = if fitting.is_empty() {
-        format!("open it for {word} at another place.")
+        let sought = tables.handle(s, p).filter(|_| wanted == Direction::Writing);
+        let advice = format!("open it for {word} at another place.");
+        when_open(&advice, sought.map(|handle| Thing::Object(handle.object)), tables)
     } else {
         format!("use a {word} handle of step {s}, at place {}.", fitting.join(" or "))
     };

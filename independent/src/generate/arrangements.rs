@@ -2,7 +2,7 @@
 
 use super::Draft;
 use crate::needs::{Needs, Thing};
-use crate::tables::{Kind, LIMITS};
+use crate::tables::{Kind, LIMITS, NO_FREEZE};
 
 impl Draft {
     /// A few subjects, files and pipes, so that most later faults are on purpose.
@@ -142,6 +142,39 @@ impl Draft {
                 let (s, p) = self.held_place(None);
                 self.record(11, &[s, p]);
             }
+        }
+    }
+
+    /// The books are closed: files, new ones too, and pipes are opened all the same, what is held is written
+    /// to, the freeze is replaced; then they are opened again, as a rule.
+    pub(super) fn closed_books(&mut self) {
+        let numbers = self.numbers_for(16);
+        self.record(16, &numbers);
+        for _ in 0..self.random.between(2, 9) {
+            let (code, numbers) = match self.random.below(10) {
+                0..=2 => (6, self.open_but_for_freeze(6, Kind::File)),
+                3 => (6, self.open_but_for_freeze(6, Kind::Pipe)),
+                4 => (5, self.open_but_for_freeze(5, Kind::File)),
+                5 => (8, self.numbers_for(8)),
+                6 => (16, self.numbers_for(16)),
+                7 => {
+                    let made = self.numbers_for(3);
+                    self.record(3, &made);
+                    (6, vec![made[0], made[1], self.free_place(made[0])])
+                }
+                _ => {
+                    self.any_call();
+                    continue;
+                }
+            };
+            if self.random.once_in(20) {
+                self.record_with_one_more(code, &numbers);
+            } else {
+                self.record(code, &numbers);
+            }
+        }
+        if !self.random.once_in(4) {
+            self.record(16, &[NO_FREEZE]);
         }
     }
 

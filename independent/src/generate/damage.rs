@@ -91,6 +91,13 @@ impl Draft {
         records::write_body(&body, &mut self.journal);
     }
 
+    /// A record with a number too many.
+    pub(super) fn record_with_one_more(&mut self, code: u32, numbers: &[u32]) {
+        let more = self.random.below(20);
+        records::write(code, &[numbers, &[more]].concat(), &mut self.journal);
+        self.records += 1;
+    }
+
     fn wrong_length(&mut self, body: &[u8]) {
         let length = body.len() as u32;
         match self.random.below(8) {
@@ -106,7 +113,7 @@ impl Draft {
     }
 
     pub(super) fn unknown_code(&mut self) -> u32 {
-        let codes = [0, 14, 15, 16, 21, 77, 127, 128, 129, 256 + 1, 12_857, 65_536 + 2, u32::MAX];
+        let codes = [0, 14, 15, 17, 21, 77, 127, 128, 129, 256 + 1, 12_857, 65_536 + 2, u32::MAX];
         self.random.pick(&codes).unwrap_or(0)
     }
 }

@@ -1,9 +1,9 @@
 //! Calls drawn one at a time: which number to name, and which call to make, where things stand.
 
 use super::{four, Draft};
-use crate::calls::SHAPES;
+use crate::calls::{shape_of_code, SHAPES};
 use crate::monitor::Answer;
-use crate::tables::{Direction, Kind, LIMITS};
+use crate::tables::{Direction, Kind, LIMITS, NO_FREEZE};
 
 impl Draft {
     // Numbers.
@@ -29,6 +29,20 @@ impl Draft {
     pub(super) fn level(&mut self) -> u32 {
         let level = self.random.pick(&self.levels).unwrap_or(0);
         self.maybe_odd(level, LIMITS.levels)
+    }
+
+    /// A freeze: most often one of the journal's levels; also the number above it, none, any level, and one that
+    /// is too high.
+    fn freeze(&mut self) -> u32 {
+        let level = self.random.pick(&self.levels).unwrap_or(0);
+        let freeze = match self.random.below(10) {
+            0 => level + 1,
+            1 => NO_FREEZE,
+            2 => self.random.below(NO_FREEZE),
+            3 | 4 => NO_FREEZE + 1,
+            _ => level,
+        };
+        self.maybe_odd(freeze, NO_FREEZE + 1)
     }
 
     pub(super) fn live_subject(&mut self) -> u32 {
@@ -93,15 +107,17 @@ impl Draft {
     /// One call, most often one that has a meaning where things stand.
     pub(super) fn any_call(&mut self) {
         if self.random.once_in(50) {
-            // Any code with numbers out of a hat.
-            let shape = &SHAPES[self.random.below(SHAPES.len() as u32) as usize];
-            let numbers: Vec<u32> = shape.numbers.iter().map(|_| self.random.below(18)).collect();
-            return self.record(shape.code, &numbers);
+            // Any code, those between and beside the known ones too, with numbers out of a hat.
+            let code = self.random.below(SHAPES[SHAPES.len() - 1].code + 2);
+            let count = shape_of_code(code).map_or(1, |shape| shape.numbers.len());
+            let numbers: Vec<u32> = (0..count).map(|_| self.random.below(18)).collect();
+            return self.record(code, &numbers);
         }
         let tables = self.picture.tables();
         let subjects = tables.live_subjects().count() as u32;
         let objects = tables.live_objects().count() as u32;
         let handles = tables.handle_count() as u32;
+        let frozen = tables.frozen_from().is_some();
         let few = |count: u32, wanted: u32| if count < wanted { 10 } else { 1 };
         let some = |count: u32, weight: u32| if count > 0 { weight } else { 0 };
         let weights = [
@@ -118,8 +134,9 @@ impl Draft {
             some(handles, if handles < 60 { 8 } else { 14 }),
             some(subjects, if subjects < 4 { 1 } else { 5 }),
             some(objects, if objects < 8 { 2 } else { 6 }),
+            some(self.closings, if frozen { 6 } else { 1 }),
         ];
-        let code = self.random.weighted(&weights) as u32 + 1;
+        let code = SHAPES[self.random.weighted(&weights)].code;
         let numbers = self.numbers_for(code);
         self.record(code, &numbers);
     }
@@ -161,11 +178,12 @@ impl Draft {
                 vec![s, p]
             }
             12 => vec![self.live_subject()],
-            _ => {
+            13 => {
                 let pipes = self.random.once_in(8);
                 let kind = if pipes { Kind::Pipe } else { Kind::File };
                 vec![self.live_object(Some(kind))]
             }
+            _ => vec![self.freeze()],
         }
     }
 
@@ -174,23 +192,41 @@ impl Draft {
         let tries = if self.random.once_in(2) { 3 } else { 1 };
         let mut numbers = Vec::new();
         for _ in 0..tries {
-            let s = self.live_subject();
             let kind = match self.random.below(3) {
                 0 => Some(Kind::Pipe),
                 1 => Some(Kind::File),
                 _ => None,
             };
-            let o = self.live_object(kind);
-            let mut p = self.free_place(s);
-            if self.random.once_in(25) {
-                p = self.random.below(LIMITS.places);
-            }
-            numbers = vec![s, o, p];
+            numbers = self.one_open(kind);
             let answer = self.picture.clone().call(code, four(&numbers));
             if !matches!(answer, Answer::Refused(_)) {
                 break;
             }
         }
         numbers
+    }
+
+    /// An open, most often one that is refused with 15 or not at all.
+    pub(super) fn open_but_for_freeze(&mut self, code: u32, kind: Kind) -> Vec<u32> {
+        let mut numbers = Vec::new();
+        for _ in 0..3 {
+            numbers = self.one_open(Some(kind));
+            let answer = self.picture.clone().call(code, four(&numbers));
+            if matches!(answer, Answer::Allowed(_) | Answer::Refused(15)) {
+                break;
+            }
+        }
+        numbers
+    }
+
+    /// The numbers of an open of such an object.
+    fn one_open(&mut self, kind: Option<Kind>) -> Vec<u32> {
+        let s = self.live_subject();
+        let o = self.live_object(kind);
+        let mut p = self.free_place(s);
+        if self.random.once_in(25) {
+            p = self.random.below(LIMITS.places);
+        }
+        vec![s, o, p]
     }
 }

@@ -3,18 +3,16 @@
 use super::Variant;
 use crate::calls::Call;
 use crate::monitor::{Answer, Monitor};
-use crate::tables::{Direction, Kind, Object, Subject, Tables};
+use crate::tables::{Direction, Kind, Object, Subject, Tables, NO_FREEZE};
 
 /// What a refused call leaves behind.
 pub fn bend_refused(variant: Variant, after: &mut Monitor, call: Call, number: u32) {
     match (variant, call) {
-        (Variant::RefusedOpenStays, Call::OpenRead { p, .. } | Call::OpenWrite { p, .. })
-            if number == 9 =>
-        {
-            if let Some((s, handle)) = call.sought() {
-                after.tables.set_handle(s, p, Some(handle));
-            }
-        }
+        (Variant::RefusedOpenStays, _) if number == 9 => place_sought(&mut after.tables, call),
+        (Variant::FifteenStays, _) if number == 15 => place_sought(&mut after.tables, call),
+        (Variant::FifteenLifts, _) if number == 15 => after.tables.set_freeze(NO_FREEZE),
+        (Variant::RefusedFreezeLifts, Call::Freeze { .. }) => after.tables.set_freeze(NO_FREEZE),
+        (Variant::RefusedFreezeSets, Call::Freeze { .. }) => after.tables.set_freeze(15),
         (Variant::RefusedExecLowers, Call::Exec { s, o }) if number == 9 => {
             let level = after.tables.object(o).map(|object| object.level);
             after.tables.set_subject(s, level.map(|level| Subject { level }));
@@ -23,6 +21,14 @@ pub fn bend_refused(variant: Variant, after: &mut Monitor, call: Call, number: u
             after.tally.count_made(1);
         }
         _ => {}
+    }
+}
+
+/// Places the handle that an open asks for.
+fn place_sought(tables: &mut Tables, call: Call) {
+    if let (Some((s, handle)), Call::OpenRead { p, .. } | Call::OpenWrite { p, .. }) = (call.sought(), call)
+    {
+        tables.set_handle(s, p, Some(handle));
     }
 }
 
@@ -120,6 +126,25 @@ pub fn bend_effect(variant: Variant, before: &Monitor, after: &mut Monitor, call
             tables.set_handle(s, r, writing);
             tables.set_handle(s, w, reading);
         }
+        (Variant::FreezeTakesSmaller, Call::Freeze { level }) if level < NO_FREEZE => {
+            tables.set_freeze(level.min(old.freeze()));
+        }
+        (Variant::FreezeNotReplaced, Call::Freeze { level }) if level < NO_FREEZE => {
+            tables.set_freeze(old.frozen_from().unwrap_or(level));
+        }
+        (Variant::FreezeNotLifted, Call::Freeze { level: NO_FREEZE }) => tables.set_freeze(old.freeze()),
+        (Variant::FreezeCloses, Call::Freeze { .. }) => {
+            for (s, p, handle) in
+                old.handles().filter(|(_, _, handle)| handle.direction == Direction::Writing)
+            {
+                if tables.is_frozen(handle.object) {
+                    tables.set_handle(s, p, None);
+                    after.tally.count_gone(1);
+                }
+            }
+        }
+        (Variant::ExitLiftsFreeze, Call::Exit { .. }) => tables.set_freeze(NO_FREEZE),
+        (Variant::ExecLiftsFreeze, Call::Exec { .. }) => tables.set_freeze(NO_FREEZE),
         (Variant::OldMonitor, _) => *after = before.clone(),
         (Variant::PipeCountedOnce, Call::Pipe { .. }) => {
             after.tally.made = before.tally.made.wrapping_add(1);
@@ -133,6 +158,7 @@ pub fn bend_effect(variant: Variant, before: &Monitor, after: &mut Monitor, call
         }
         (Variant::CloseNotCounted, Call::Close { .. }) => after.tally.gone = before.tally.gone,
         (Variant::RetireCounted, Call::Retire { .. }) => after.tally.count_gone(1),
+        (Variant::FreezeCounted, Call::Freeze { .. }) => after.tally.count_made(1),
         _ => {}
     }
 }
@@ -180,6 +206,11 @@ pub fn bend_answer(variant: Variant, before: &Monitor, call: Call, answer: Answe
         (Variant::WriteAnswersSubject, Call::Write { s, .. }) => with(subject_level(s)),
         (Variant::ExecAnswersObject, Call::Exec { o, .. }) => with(object_level(o)),
         (Variant::ExitAnswersZero, Call::Exit { .. }) => with(Some(0)),
+        (Variant::FreezeAnswersOld, Call::Freeze { .. }) => with(Some(old.freeze())),
+        (Variant::Freeze16Answers15, Call::Freeze { level: NO_FREEZE }) => with(Some(15)),
+        (Variant::FreezeAsLowered, Call::Freeze { level }) if level < old.freeze() => {
+            Answer::Lowered(level)
+        }
         (Variant::LoweredAsAllowed, _) => match answer {
             Answer::Lowered(level) => Answer::Allowed(level),
             _ => answer,
