@@ -2,7 +2,7 @@
 -- the flow of a handle record. One way, the figures are a potential of the tables; the other way, the needs are a
 -- potential of the figures. Assumes nothing.
 use mathlib.Core.Path.{_≡_, refl, sym, _∙_, ap, subst, subst₂}
-use mathlib.Core.Bool.{Bool, true, false, cond}
+use mathlib.Core.Bool.{Bool, true, false, not, cond}
 use mathlib.Core.Option.{Option, none, some, Option·none-ne-some, Option·some-injective}
 use mathlib.Core.List.{List}
 use Prim.Native.Nat.{ℕ, _+_, _*_, _-_, _/_, _%_, _≤_, _<_}
@@ -17,7 +17,7 @@ use Rattle.model.specs.Label.{Label, _⊑_, label, level, bot}
 use Rattle.model.specs.Label.Laws.{⊑-antisym, level-label, le→⊑, ⊑→le, bot-least}
 use Rattle.model.specs.Flow.{Thing, subject, object, Edge}
 use Rattle.model.specs.Flow.Laws.{need-self, need-flow, need-below}
-use Rattle.model.specs.Tables.{Dir, reading, writing, Entry, handle, Tables, in-range, cell, arc, flow, edges, demand, needs}
+use Rattle.model.specs.Tables.{Dir, reading, writing, Entry, Tables, in-range, cell, arc, flow, edges, demand, needs}
 use Rattle.model.specs.Tables.{Handle as Held}
 use Rattle.model.specs.Tables.Laws.{live-of, speaks-cell, cell-self, flow-edge, edge-flow}
 use Rattle.model.specs.Invariant.{Wf}
@@ -73,14 +73,17 @@ edge-node : (start : Bool) (h : Handle) (k : Held) (s : ℕ) → held h ≡ some
     → end-by h s start % 96 ≡ node (tip start (flow (subject s) k))
 edge-node start h k s q l ls = go (eqb (h .way) 0) (eqb (h .way) 1) q
   where
+    of : Bool → Held
+    of w = record { dir = cond w reading writing; to = h .object; marked = not (eqb (h .mark) 0) }
+
     at : (w start : Bool) → h .object < 64
-        → cond (alike w start) (32 + h .object) s % 96 ≡ node (tip start (flow (subject s) (handle (cond w reading writing) (h .object))))
+        → cond (alike w start) (32 + h .object) s % 96 ≡ node (tip start (flow (subject s) (of w)))
     at true true lo = omega arith
     at true false lo = omega arith
     at false true lo = omega arith
     at false false lo = omega arith
 
-    go : (b w : Bool) → cond b none (some (handle (cond w reading writing) (h .object))) ≡ some k
+    go : (b w : Bool) → cond b none (some (of w)) ≡ some k
         → cond b 0 (cond (ltb (h .object) 64) (cond (alike w start) (32 + h .object) s) 0) % 96 ≡ node (tip start (flow (subject s) k))
     go true w q = absurd (Option·none-ne-some k q)
     go false w q = let e = Option·some-injective _ k q in let lo : h .object < 64 = subst (λ (z : Held). z .to < 64) (sym e) l in

@@ -10,13 +10,13 @@ use borrow.Author.Tests.{lt-ltb, le-ltb, ltb-true}
 use lib.ListN.{length, getD, List·getD-eq-default}
 use lib.Dec.{ltb, eqb}
 use Rattle.model.specs.Flow.{subject, object}
-use Rattle.model.specs.Tables.{Dir, handle, Tables, with-hand, places, is-some, used, live, counted, clean}
+use Rattle.model.specs.Tables.{Tables, with-hand, places, is-some, used, live, counted, clean}
 use Rattle.model.specs.Tables.{Handle as Held}
 use Rattle.model.specs.Tables.Laws.{used-is}
 use Rattle.tables.specs.declared.Subject.{Subject}
 use Rattle.tables.specs.declared.Object.{Object}
 use Rattle.tables.specs.declared.Handle.{Handle}
-use Rattle.tables.specs.Records.{held, no-subject, no-object, no-handle, hands, tables-of}
+use Rattle.tables.specs.Records.{joins, held, no-subject, no-object, no-handle, hands, tables-of}
 use Rattle.handles.specs.Working.{kept-of}
 use Rattle.tables.proofs.Maps.{Mapped}
 
@@ -26,15 +26,15 @@ kept-at ss os j h = kept-of h (getD ss (j / 16) no-subject) (getD os (h .object 
 
 -- ── one record ──
 counted-held : (h : Handle) (b c : Bool) (f : ℕ → Bool) → f (h .object) ≡ c → counted b f (held h) ≡ cond (b && c) (held h) none
-counted-held h b c f e = go (eqb (h .way) 0) _
+counted-held h b c f e = go (eqb (h .way) 0)
   where
     nothing : (z : Bool) → _≡_ {A = Option Held} none (cond z none none)
     nothing true = refl
     nothing false = refl
 
-    go : (v : Bool) (d : Dir) → counted b f (cond v none (some (handle d (h .object)))) ≡ cond (b && c) (cond v none (some (handle d (h .object)))) none
-    go true d = nothing (b && c)
-    go false d = rw e
+    go : (v : Bool) → counted b f (cond v none (some (joins h))) ≡ cond (b && c) (cond v none (some (joins h))) none
+    go true = nothing (b && c)
+    go false = rw e
 
 -- its subject is not live, its object is in range, its object is free
 kept-held : (h : Handle) (l a k : Bool) → held (cond l no-handle (cond a (cond k no-handle h) no-handle)) ≡ cond (not l && (a && not k)) (held h) none

@@ -8,29 +8,28 @@ use native.Mathlib.Omega.{arith}
 use borrow.Author.Tests.{lt-ltb, eq-eqb}
 use lib.ListN.{getD}
 use lib.Dec.{T, eqb, eqb→eq}
-use Rattle.model.specs.Tables.{Dir, handle, empty, with-hand, handles, open-on}
+use Rattle.model.specs.Tables.{empty, with-hand, handles, open-on}
 use Rattle.model.specs.Tables.{Handle as Held}
 use Rattle.model.specs.Tables.Laws.{open-here, open-at}
 use Rattle.tables.specs.declared.Handle.{Handle}
-use Rattle.tables.specs.Records.{held, no-handle, hands}
+use Rattle.tables.specs.Records.{joins, held, no-handle, hands}
 use Rattle.handles.specs.Working.{on, open-by}
 use Rattle.tables.proofs.Below.{some-at, none-below, some-of-below, below-some, same-test}
 
 module _ (hs : List Handle) (o : ℕ) where
   on-held : (h : Handle) → T (on h o) → (k : Held) × (held h ≡ some k) × (k .to ≡ o)
-  on-held h t = go (eqb (h .way) 0) _ t
+  on-held h t = go (eqb (h .way) 0) t
     where
-      go : (b : Bool) (d : Dir) → T (cond b false (eqb (h .object) o))
-          → (k : Held) × (cond b none (some (handle d (h .object))) ≡ some k) × (k .to ≡ o)
-      go true d t = absurd t
-      go false d t = (_, refl, eqb→eq (h .object) o t)
+      go : (b : Bool) → T (cond b false (eqb (h .object) o)) → (k : Held) × (cond b none (some (joins h)) ≡ some k) × (k .to ≡ o)
+      go true t = absurd t
+      go false t = (_, refl, eqb→eq (h .object) o t)
 
   held-on : (h : Handle) (k : Held) → held h ≡ some k → k .to ≡ o → T (on h o)
-  held-on h k e z = go (eqb (h .way) 0) _ e
+  held-on h k e z = go (eqb (h .way) 0) e
     where
-      go : (b : Bool) (d : Dir) → cond b none (some (handle d (h .object))) ≡ some k → T (cond b false (eqb (h .object) o))
-      go true d q = absurd (Option·none-ne-some k q)
-      go false d q = subst T (sym (eq-eqb (h .object) o (ap (λ (w : Held). w .to) (Option·some-injective _ k q) ∙ z))) tt
+      go : (b : Bool) → cond b none (some (joins h)) ≡ some k → T (cond b false (eqb (h .object) o))
+      go true q = absurd (Option·none-ne-some k q)
+      go false q = subst T (sym (eq-eqb (h .object) o (ap (λ (w : Held). w .to) (Option·some-injective _ k q) ∙ z))) tt
 
   pub open-is : open-by hs 512 o ≡ open-on (handles (with-hand empty (hands hs))) o
   open-is = same-test _ _ (λ t. there (some-of-below 512 (λ i. on (getD hs i no-handle) o) t))

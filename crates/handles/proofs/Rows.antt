@@ -14,7 +14,9 @@ use Rattle.model.specs.Steps.{row}
 use Rattle.tables.specs.declared.Subject.{Subject}
 use Rattle.tables.specs.declared.Object.{Object}
 use Rattle.tables.specs.declared.Handle.{Handle}
-use Rattle.tables.specs.Records.{no-handle, hands, along, tables-of}
+use Rattle.model.specs.Calls.{unmarked}
+use Rattle.tables.specs.Records.{held, no-handle, hands, along, tables-of}
+use Rattle.handles.specs.Working.{unmarked-of}
 use Rattle.tables.proofs.Maps.{Mapped, Rowed}
 
 -- ── reading ──
@@ -24,6 +26,23 @@ row-along hs l r s i full m p = go (ltb p 16) refl
   where
     go : (b : Bool) → ltb p 16 ≡ b → along r p ≡ hands hs s p
     go true e = rw (e, m .done p (omega (arith, ltb-true p 16 e)))
+    go false e = rw e
+
+-- ── without the marked ones ──
+unmarked-held : (h : Handle) → held (unmarked-of h) ≡ unmarked (held h)
+unmarked-held h = go (ℕ-discrete (h .way) 0) (ℕ-discrete (h .mark) 0)
+  where
+    go : Dec (h .way ≡ 0) → Dec (h .mark ≡ 0) → held (unmarked-of h) ≡ unmarked (held h)
+    go (yes w) (yes m) = rw (m, w)
+    go (yes w) (no m) = rw (ne-eqb (h .mark) 0 m, w)
+    go (no w) (yes m) = rw (m, ne-eqb (h .way) 0 w)
+    go (no w) (no m) = rw (ne-eqb (h .mark) 0 m, ne-eqb (h .way) 0 w)
+
+pub unmarked-along : (l r : List Handle) (i : ℕ) → 16 ≤ i → Mapped no-handle (λ j x. unmarked-of x) l r i → (p : ℕ) → along r p ≡ unmarked (along l p)
+unmarked-along l r i full m p = go (ltb p 16) refl
+  where
+    go : (b : Bool) → ltb p 16 ≡ b → along r p ≡ unmarked (along l p)
+    go true e = rw (e, m .done p (omega (arith, ltb-true p 16 e))) (unmarked-held (getD l p no-handle))
     go false e = rw e
 
 -- ── storing ──

@@ -15,6 +15,10 @@ use Rattle.tables.specs.Working.{some-below}
 abbrev pub kept-of : Handle → Subject → Object → Handle
 kept-of h s o = cond (eqb (s .live) 0) no-handle (cond (ltb (h .object) 64) (cond (eqb (o .kind) 0) no-handle h) no-handle)
 
+-- h, or an empty record where it is marked
+abbrev pub unmarked-of : Handle → Handle
+unmarked-of h = cond (eqb (h .mark) 0) h no-handle
+
 abbrev pub on : Handle → ℕ → Bool
 on h o = cond (eqb (h .way) 0) false (eqb (h .object) o)
 

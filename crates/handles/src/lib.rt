@@ -5,11 +5,12 @@ ghost use Prim.Native.Nat.{ℕ, _<_};
 ghost use Rattle.model.specs.Tables.{Tables, clean, empty, with-hand, open-on};
 ghost use Rattle.model.specs.Tables.{handles as all-handles};
 ghost use Rattle.model.specs.Steps.{reap, row};
+ghost use Rattle.model.specs.Calls.{unmarked};
 ghost use Rattle.tables.specs.declared.Subject.{Subject};
 ghost use Rattle.tables.specs.declared.Object.{Object};
 ghost use Rattle.tables.specs.Records.{hands, along, tables-of};
 ghost use Rattle.tables.specs.Working.{Outlives};
-ghost use Rattle.handles.specs.Working.{kept-of, on, slot-of, Mapping, outlived-by};
+ghost use Rattle.handles.specs.Working.{kept-of, unmarked-of, on, slot-of, Mapping, outlived-by};
 use tables::EMPTY;
 use tables::FREE;
 use tables::HANDLES;
@@ -31,18 +32,21 @@ fn kept(h: Handle, subject: Subject, object: Object) -> Handle
         return Handle {
             way: EMPTY,
             object: 0,
+            mark: 0,
         };
     }
     if OBJECTS as u8 <= h.object {
         return Handle {
             way: EMPTY,
             object: 0,
+            mark: 0,
         };
     }
     if object.kind == FREE {
         return Handle {
             way: EMPTY,
             object: 0,
+            mark: 0,
         };
     }
     h
@@ -193,6 +197,7 @@ pub fn row_of(handles: [Handle; HANDLES], s: usize) -> [Handle; PLACES]
     let mut r = [Handle {
         way: EMPTY,
         object: 0,
+        mark: 0,
     }; PLACES];
     let base = s * PLACES;
     let mut p: usize = 0;
@@ -218,6 +223,35 @@ pub fn with_row(handles: [Handle; HANDLES], s: usize, places: [Handle; PLACES]) 
         let at = base + p;
         let h = places[p];
         r[at] = h;
+        p += 1;
+    }
+    r
+}
+
+// A handle record, or an empty one where it is marked.
+fn unless_marked(h: Handle) -> Handle
+    ensures { λ r. ⌜ r ≡ unmarked-of h ⌝ }
+{
+    if h.mark == 0 {
+        return h;
+    }
+    Handle {
+        way: EMPTY,
+        object: 0,
+        mark: 0,
+    }
+}
+
+// The places of one subject, those with a marked handle emptied.
+pub fn unmarked(places: [Handle; PLACES]) -> [Handle; PLACES]
+    ensures { λ r. ⌜ ((p : ℕ) → along r p ≡ unmarked (along places p)) ⌝ }
+{
+    let mut r = places;
+    let mut p: usize = 0;
+    while p < PLACES {
+        let h = r[p];
+        let x = unless_marked(h);
+        r[p] = x;
         p += 1;
     }
     r

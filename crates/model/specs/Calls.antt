@@ -1,10 +1,10 @@
--- The fourteen calls: what each asks, what it tests, what it does, what it answers. States RULES C1 to C13, C16 and C101 to C109, R1 to R10 and R15,
--- and of the sentences about all refusals RULES R101, R102, R105, R108, R117 and R118.
+-- The fifteen calls: what each asks, what it tests, what it does, what it answers. States RULES C1 to C13, C15, C16 and C101 to C109, R1 to R10 and R15,
+-- and of the sentences about all refusals RULES R101, R102, R105, R108, R110, R117 and R118.
 --
 -- In order: the calls by code; the effect of each row as a list of steps; the conditions of the refusals and which of them each call
 -- tests; the refusal; the tables after; the answer. A new call is a row in `rows`, `steps`, `tests`,
 -- `shown`, and in `makes` and `removes` of `Tally`. Assumes nothing.
-use mathlib.Core.Bool.{Bool, true, false, not, _||_, _&&_}
+use mathlib.Core.Bool.{Bool, true, false, not, _||_, _&&_, cond}
 use mathlib.Core.Option.{Option, none, some}
 use mathlib.Core.List.{List, [], _∷_, _++_}
 use Prim.Native.Nat.{ℕ}
@@ -13,7 +13,7 @@ use lib.Dec.{T, eqb, ltb, leb}
 use Rattle.model.specs.Label.{leq, label, level, highest}
 use Rattle.model.specs.Lists.{In}
 use Rattle.model.specs.Flow.{Thing, subject, object}
-use Rattle.model.specs.Tables.{running, file, pipe, Dir, reading, writing, Entry, entry, Handle, handle, Tables, no-freeze, places, in-range, is-some, used, live, label-of, is-file, is-pipe, cell, handles, open-on, needs, safe}
+use Rattle.model.specs.Tables.{running, file, pipe, Dir, reading, writing, Entry, entry, Handle, handle, with-mark, Tables, no-freeze, places, in-range, is-some, used, live, label-of, is-file, is-pipe, cell, handles, open-on, needs, safe}
 use Rattle.model.specs.Steps.{outside, blank, copied, reads, writes, runs, Step, enter, leave, hold, holds, mix, freezes, applies, reap}
 pub mod Refusals
 pub mod Passed
@@ -29,7 +29,7 @@ pub data Call : Type 0 where
   make-pipe : ℕ → ℕ → ℕ → ℕ → Call
   opens : Dir → ℕ → ℕ → ℕ → Call
   access : Dir → ℕ → ℕ → Call
-  fork exec close : ℕ → ℕ → Call
+  fork exec close mark : ℕ → ℕ → Call
   exit retire freeze : ℕ → Call
   unknown : Call
 
@@ -49,7 +49,7 @@ pub record Row : Type 0 where
 abbrev pub coded : ℕ → Call → Row
 coded n c = record { code = n; call = c }
 
--- RULES C1 to C13, C16: the code, the call and its numbers
+-- RULES C1 to C13, C15, C16: the code, the call and its numbers
 abbrev pub rows : Raw → List Row
 rows r = let a : ℕ = arg 0 r in let b : ℕ = arg 1 r in let c : ℕ = arg 2 r in let d : ℕ = arg 3 r in
     coded 1 (admit a b)
@@ -65,6 +65,7 @@ rows r = let a : ℕ = arg 0 r in let b : ℕ = arg 1 r in let c : ℕ = arg 2 r
     ∷ coded 11 (close a b)
     ∷ coded 12 (exit a)
     ∷ coded 13 (retire a)
+    ∷ coded 15 (mark a b)
     ∷ coded 16 (freeze a)
     ∷ []
 
@@ -72,7 +73,7 @@ abbrev pub lookup : ℕ → List Row → Call
 lookup n [] = unknown
 lookup n (k ∷ ks) = elim (eqb (k .code) n) [ true ↦ k .call | false ↦ lookup n ks ]
 
--- RULES C1 to C13, C16, R1: the call that a code asks for, `unknown` where no row has the code
+-- RULES C1 to C13, C15, C16, R1: the call that a code asks for, `unknown` where no row has the code
 unfoldable pub decode : Raw → Call
 decode r = lookup (r .code) (rows r)
 
@@ -86,11 +87,21 @@ abbrev pub moves : Dir → Thing → Thing → Thing → Step
 moves reading s c o = mix reads s o c o
 moves writing s c o = mix writes o s o c
 
--- what an exec drops before it runs: nothing
-unfoldable pub sheds : Tables → ℕ → List Step
-sheds t s = []
+-- RULES C15: a place with its handle marked
+abbrev pub marking : Option Handle → Option Handle
+marking none = none
+marking (some k) = some (with-mark k)
 
--- RULES C1 to C13, C16: the effect, row by row
+-- RULES C10: a place without its handle where that is marked
+abbrev pub unmarked : Option Handle → Option Handle
+unmarked none = none
+unmarked (some k) = cond (k .marked) none (some k)
+
+-- RULES C10, R110: what an exec drops before it runs: the marked handles of s
+unfoldable pub sheds : Tables → ℕ → List Step
+sheds t s = holds s (λ p. unmarked (t .hand s p)) ∷ []
+
+-- RULES C1 to C13, C15, C16: the effect, row by row
 abbrev pub steps : Tables → Call → List Step
 steps t (admit s n) = enter (subject s) (entry running (label n)) outside ∷ []
 steps t (register o n) = enter (object o) (entry file (label n)) outside ∷ []
@@ -103,6 +114,7 @@ steps t (exec s o) = sheds t s ++ (mix runs (subject s) (object o) (cell t s) (o
 steps t (close s p) = hold s p none ∷ []
 steps t (exit s) = holds s (λ p. none) ∷ leave (subject s) ∷ []
 steps t (retire o) = leave (object o) ∷ []
+steps t (mark s p) = hold s p (marking (t .hand s p)) ∷ []
 steps t (freeze n) = freezes n ∷ []
 steps t unknown = []
 
@@ -193,6 +205,7 @@ tests (exec s o) = alive s ∷ present o ∷ no-pipe o ∷ suits s o ∷ []
 tests (close s p) = alive s ∷ taken s p ∷ []
 tests (exit s) = alive s ∷ []
 tests (retire o) = present o ∷ no-pipe o ∷ idle o ∷ []
+tests (mark s p) = alive s ∷ taken s p ∷ []
 tests (freeze n) = freezable n ∷ []
 tests unknown = known ∷ []
 
@@ -231,7 +244,7 @@ pub data Shown : Type 0 where
   level-at : Thing → Shown
   given : ℕ → Shown
 
--- RULES C1 to C13, C16: of which thing the answer gives the level, or which number it gives
+-- RULES C1 to C13, C15, C16: of which thing the answer gives the level, or which number it gives
 abbrev pub shown : Tables → Call → Shown
 shown t (admit s n) = level-at (subject s)
 shown t (register o n) = level-at (object o)
@@ -245,6 +258,7 @@ shown t (exec s o) = level-at (cell t s)
 shown t (close s p) = level-at (cell t s)
 shown t (exit s) = level-at (cell t s)
 shown t (retire o) = level-at (object o)
+shown t (mark s p) = level-at (cell t s)
 shown t (freeze n) = given n
 shown t unknown = given 0
 

@@ -9,7 +9,7 @@ use Rattle.model.specs.Label.{highest, in-scale, _⊑_}
 use Rattle.model.specs.Lists.{In}
 use Rattle.model.specs.Flow.{Thing, subject, object}
 use Rattle.model.specs.Tables.{Entry, Handle, Tables, no-freeze, places, in-range, live, is-pipe, handles, open-on, needs}
-use Rattle.model.specs.Calls.{Call, admit, register, create, make-pipe, opens, access, fork, exec, close, exit, retire, freeze, unknown, Raw, decode}
+use Rattle.model.specs.Calls.{Call, admit, register, create, make-pipe, opens, access, fork, exec, close, exit, retire, mark, freeze, unknown, Raw, decode}
 use Rattle.model.specs.Calls.{Answer, allowed, lowered, refused, order}
 pub mod Laws
 
@@ -60,6 +60,7 @@ topmost (exec s o) = highest
 topmost (close s p) = highest
 topmost (exit s) = highest
 topmost (retire o) = highest
+topmost (mark s p) = highest
 topmost (freeze n) = no-freeze
 topmost unknown = highest
 

@@ -1,4 +1,4 @@
--- Every row of RULES C1 to C13 and C16, and of R1 to R10 and R15, tried once: one list of calls from empty tables with the answer to each, and
+-- Every row of RULES C1 to C13, C15 and C16, and of R1 to R10 and R15, tried once: one list of calls from empty tables with the answer to each, and
 -- the contents and the tally after a few short lists. Not cases of the rules' own: they pin the definitions down where no law does, so that
 -- a slip in a row does not go unseen. Assumes nothing.
 use mathlib.Core.Path.{_≡_, refl}
@@ -37,13 +37,19 @@ lines =
     ∷ line 9 (2 ∷ 2 ∷ []) (R 3) ∷ line 9 (2 ∷ 32 ∷ []) (R 3) ∷ line 9 (1 ∷ 3 ∷ []) (A 2)
     ∷ line 13 (7 ∷ []) (R 5) ∷ line 12 (1 ∷ []) (A 2) ∷ line 12 (1 ∷ []) (R 2) ∷ line 8 (3 ∷ 15 ∷ []) (A 2) ∷ line 12 (3 ∷ []) (A 2) ∷ line 5 (2 ∷ 7 ∷ 0 ∷ []) (R 4) ∷ line 13 (6 ∷ []) (A 7) ∷ line 13 (6 ∷ []) (R 4)
     ∷ line 3 (31 ∷ 62 ∷ []) (A 15) ∷ line 13 (62 ∷ []) (A 15) ∷ line 9 (31 ∷ 30 ∷ []) (A 15) ∷ line 12 (31 ∷ []) (A 15)
-    ∷ line 15 (0 ∷ []) (R 1) ∷ line 17 [] (R 1) ∷ line 16 (17 ∷ []) (R 6) ∷ line 16 (16 ∷ []) (A 16) ∷ line 16 [] (A 0)
+    ∷ line 17 [] (R 1) ∷ line 16 (17 ∷ []) (R 6) ∷ line 16 (16 ∷ []) (A 16) ∷ line 16 [] (A 0)
     ∷ line 3 (30 ∷ 20 ∷ []) (A 15) ∷ line 1 (5 ∷ 8 ∷ []) (A 8) ∷ line 3 (5 ∷ 21 ∷ []) (A 8) ∷ line 2 (22 ∷ 7 ∷ []) (A 7) ∷ line 4 (30 ∷ 23 ∷ 0 ∷ 1 ∷ []) (A 15)
     ∷ line 6 (5 ∷ 21 ∷ 0 ∷ []) (R 15) ∷ line 16 (9 ∷ []) (A 9) ∷ line 6 (5 ∷ 21 ∷ 0 ∷ []) (A 8) ∷ line 16 (8 ∷ []) (A 8) ∷ line 8 (5 ∷ 0 ∷ []) (A 8)
     ∷ line 6 (5 ∷ 21 ∷ 1 ∷ []) (R 15) ∷ line 6 (5 ∷ 20 ∷ 1 ∷ []) (R 9) ∷ line 6 (30 ∷ 20 ∷ 2 ∷ []) (R 15) ∷ line 6 (5 ∷ 22 ∷ 1 ∷ []) (A 7)
     ∷ line 6 (30 ∷ 23 ∷ 2 ∷ []) (A 15) ∷ line 5 (5 ∷ 20 ∷ 2 ∷ []) (A 15) ∷ line 16 (17 ∷ []) (R 6) ∷ line 9 (30 ∷ 6 ∷ []) (A 15) ∷ line 3 (30 ∷ 24 ∷ []) (A 15)
     ∷ line 10 (6 ∷ 20 ∷ []) (A 15) ∷ line 11 (6 ∷ 0 ∷ []) (A 15) ∷ line 12 (6 ∷ []) (A 15) ∷ line 13 (24 ∷ []) (A 15)
     ∷ line 6 (5 ∷ 21 ∷ 3 ∷ []) (R 15) ∷ line 16 (16 ∷ []) (A 16) ∷ line 6 (5 ∷ 21 ∷ 3 ∷ []) (A 8)
+    ∷ line 15 (32 ∷ 0 ∷ []) (R 2) ∷ line 15 (5 ∷ 16 ∷ []) (R 7) ∷ line 15 (5 ∷ 4 ∷ []) (R 7) ∷ line 10 (5 ∷ 0 ∷ []) (R 9)
+    ∷ line 15 (5 ∷ 0 ∷ []) (A 8) ∷ line 15 (5 ∷ 1 ∷ []) (A 8) ∷ line 10 (5 ∷ 0 ∷ []) (R 9) ∷ line 8 (5 ∷ 0 ∷ []) (A 8)
+    ∷ line 15 (5 ∷ 3 ∷ []) (A 8) ∷ line 15 (5 ∷ 3 ∷ []) (A 8) ∷ line 9 (5 ∷ 6 ∷ []) (A 8) ∷ line 10 (5 ∷ 0 ∷ []) (L 2)
+    ∷ line 8 (5 ∷ 0 ∷ []) (R 7) ∷ line 7 (5 ∷ 2 ∷ []) (A 2) ∷ line 8 (6 ∷ 0 ∷ []) (A 8) ∷ line 10 (6 ∷ 0 ∷ []) (L 2)
+    ∷ line 15 (30 ∷ 0 ∷ []) (A 15) ∷ line 15 (30 ∷ 1 ∷ []) (A 15) ∷ line 15 (30 ∷ 2 ∷ []) (A 15) ∷ line 10 (30 ∷ 20 ∷ []) (A 15)
+    ∷ line 5 (30 ∷ 23 ∷ 0 ∷ []) (R 4) ∷ line 6 (30 ∷ 20 ∷ 0 ∷ []) (A 15) ∷ line 10 (30 ∷ 0 ∷ []) (R 9)
     ∷ []
 
 abbrev pub answered-so : Tables → List Line → Bool
@@ -94,6 +100,11 @@ contents-right = (refl, refl, refl, refl, refl)
 abbrev counting-list : List Raw
 counting-list = call 1 (0 ∷ 9 ∷ []) ∷ call 4 (0 ∷ 5 ∷ 0 ∷ 1 ∷ []) ∷ call 9 (0 ∷ 1 ∷ []) ∷ call 4 (0 ∷ 5 ∷ 2 ∷ 3 ∷ []) ∷ call 11 (0 ∷ 0 ∷ []) ∷ call 12 (1 ∷ []) ∷ []
 
+-- register 1, admit 0, two opens, one of them marked, exec
+abbrev marking-list : List Raw
+marking-list = call 2 (1 ∷ 9 ∷ []) ∷ call 1 (0 ∷ 9 ∷ []) ∷ call 5 (0 ∷ 1 ∷ 0 ∷ []) ∷ call 6 (0 ∷ 1 ∷ 1 ∷ []) ∷ call 15 (0 ∷ 1 ∷ []) ∷ call 10 (0 ∷ 1 ∷ []) ∷ []
+
 pub tally-right : (tally empty zeroed reading-list ≡ record { made = 1; gone = 0 }) × (tally empty zeroed counting-list ≡ record { made = 4; gone = 3 })
+    × (tally empty zeroed marking-list ≡ record { made = 2; gone = 1 })
 unfolding tallied Label label level leq meet join bot need used cell speaks things handles edges safe decode sheds ended effect refusal answer
-tally-right = (refl, refl)
+tally-right = (refl, refl, refl)

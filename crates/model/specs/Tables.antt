@@ -1,4 +1,4 @@
--- The tables, and what the rules read off them. States RULES T1 to T3, T6 to T12, T17, T18, T20, T24 and T32, and RULES F1 to F3
+-- The tables, and what the rules read off them. States RULES T1 to T3, T6 to T12, T17, T18, T20, T24, T32 and T35, and RULES F1 to F3
 -- and F5 to F8.
 --
 -- What is kept (live things with kind and label, handles by place, the freeze); what is in use and live; the lists of live things, of
@@ -28,10 +28,11 @@ pub record Entry : Type 0 where
   pub kind : Kind
   pub label : Label
 
--- RULES T10: a handle stands at one place of one subject; at its place, the direction and the object
+-- RULES T10, T35: a handle stands at one place of one subject; at its place, the direction and the object, and whether it is marked
 pub record Handle : Type 0 where
   pub dir : Dir
   pub to : ℕ
+  pub marked : Bool
 
 -- RULES T6, T11, T32: the entries under the numbers in use; at each place one handle or none; the freeze
 pub record Tables : Type 0 where
@@ -51,8 +52,12 @@ empty = record { at = λ x. none; hand = λ s p. none; freeze = no-freeze }
 abbrev pub entry : Kind → Label → Entry
 entry k l = record { kind = k; label = l }
 
+-- RULES T35: one that is placed anew is not marked
 abbrev pub handle : Dir → ℕ → Handle
-handle d o = record { dir = d; to = o }
+handle d o = record { dir = d; to = o; marked = false }
+
+abbrev pub with-mark : Handle → Handle
+with-mark k = record { dir = k .dir; to = k .to; marked = true }
 
 abbrev pub with-at : Tables → (Thing → Option Entry) → Tables
 with-at t a = record { at = a; hand = t .hand; freeze = t .freeze }

@@ -1,6 +1,6 @@
 -- The records of bytes, and arrays of them, seen as the tables of the rules: the only bridge between the code's arrays and the model.
--- States RULES T13, T14 and T28 to T31; what of a record is not read here is the free part of RULES T23. Assumes nothing.
-use mathlib.Core.Bool.{cond}
+-- States RULES T13, T14, T28 to T31 and T36; what of a record is not read here is the free part of RULES T23. Assumes nothing.
+use mathlib.Core.Bool.{not, cond}
 use mathlib.Core.Option.{Option, none, some}
 use mathlib.Core.List.{List}
 use Prim.Native.Nat.{ℕ, _+_, _*_}
@@ -8,7 +8,7 @@ use lib.ListN.{getD}
 use lib.Dec.{ltb, eqb}
 use Rattle.model.specs.Label.{label}
 use Rattle.model.specs.Flow.{Thing, subject, object}
-use Rattle.model.specs.Tables.{running, file, pipe, reading, writing, Entry, entry, handle, Tables, with-at, with-hand, places}
+use Rattle.model.specs.Tables.{running, file, pipe, reading, writing, Entry, entry, Tables, with-at, with-hand, places}
 use Rattle.model.specs.Tables.{Handle as Held}
 use Rattle.tables.specs.declared.Subject.{Subject}
 use Rattle.tables.specs.declared.Object.{Object}
@@ -24,9 +24,12 @@ subject-entry x = cond (eqb (x .live) 0) none (some (entry running (label (x .le
 abbrev pub object-entry : Object → Option Entry
 object-entry x = cond (eqb (x .kind) 0) none (some (entry (cond (eqb (x .kind) 1) file pipe) (label (x .level))))
 
--- RULES T31: way 0 is an empty place, 1 reads, any other writes
+-- RULES T31, T36: way 0 is an empty place, 1 reads, any other writes; mark 0 is not marked, any other is
+abbrev pub joins : Handle → Held
+joins h = record { dir = cond (eqb (h .way) 1) reading writing; to = h .object; marked = not (eqb (h .mark) 0) }
+
 abbrev pub held : Handle → Option Held
-held h = cond (eqb (h .way) 0) none (some (handle (cond (eqb (h .way) 1) reading writing) (h .object)))
+held h = cond (eqb (h .way) 0) none (some (joins h))
 
 -- what stands where an array ends
 abbrev pub no-subject : Subject
@@ -36,7 +39,7 @@ abbrev pub no-object : Object
 no-object = record { kind = 0; level = 0 }
 
 abbrev pub no-handle : Handle
-no-handle = record { way = 0; object = 0 }
+no-handle = record { way = 0; object = 0; mark = 0 }
 
 -- ── arrays ──
 abbrev pub entries : List Subject → List Object → Thing → Option Entry

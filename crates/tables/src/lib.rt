@@ -37,7 +37,7 @@ pub const READS: u8 = 1;
 
 pub const WRITES: u8 = 2;
 
-// `live` is 0 for a number that is not in use.
+// `live` is 0 for a number that is not in use, `mark` is 0 for a handle that is not marked.
 #[repr(C)]
 pub struct Subject {
     pub live: u8,
@@ -54,4 +54,5 @@ pub struct Object {
 pub struct Handle {
     pub way: u8,
     pub object: u8,
+    pub mark: u8,
 }

@@ -42,12 +42,14 @@ pub fn handle_at(s: u32, p: u32, h: Handle) -> Handle
         return Handle {
             way: EMPTY,
             object: 0,
+            mark: 0,
         };
     }
     if PLACES as u32 <= p {
         return Handle {
             way: EMPTY,
             object: 0,
+            mark: 0,
         };
     }
     h

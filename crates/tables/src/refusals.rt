@@ -8,7 +8,7 @@ ghost use Prim.Native.Nat.{ℕ};
 ghost use Rattle.model.specs.Flow.{subject, object};
 ghost use Rattle.model.specs.Tables.{Tables, Dir, reading, writing};
 ghost use Rattle.model.specs.Invariant.{Wf};
-ghost use Rattle.model.specs.Calls.{Call, admit, register, create, make-pipe, opens, access, fork, exec, close, exit, retire, freeze, thawed, broken};
+ghost use Rattle.model.specs.Calls.{Call, admit, register, create, make-pipe, opens, access, fork, exec, close, exit, retire, mark, freeze, thawed, broken};
 ghost use Rattle.tables.specs.Records.{subject-entry, object-entry, held};
 ghost use Rattle.tables.specs.Refusing.{found, Refuses, Late, Refused, direction};
 ghost use Rattle.tables.specs.Working.{used-subject, used-object, used-place};
@@ -230,6 +230,16 @@ pub fn of_retire(y: Object) -> u8
     let missing = y.kind == FREE;
     let pipe = PIPE <= y.kind;
     first(false, false, missing, pipe, false, false, false)
+}
+
+// Call 15; x stands at s, h at place p.
+pub fn of_mark(x: Subject, h: Handle) -> u8
+    ensures { λ r. ⌜ ((t : Tables) (s p : ℕ) → Wf t → t .at (subject s) ≡ subject-entry x → t .hand s p ≡ held h →
+        Refuses t (mark s p) r) ⌝ }
+{
+    let absent = x.live == 0;
+    let empty = h.way == EMPTY;
+    first(absent, false, false, false, false, empty, false)
 }
 
 // Call 16.

@@ -17,7 +17,7 @@ use Rattle.model.specs.Steps.{outside, blank, copied, Step, enter, leave
 use Rattle.model.specs.Steps.Laws.{put-cases, fell}
 use Rattle.model.specs.Invariant.{Safe, Kept}
 use Rattle.model.specs.Invariant.Laws.{Pot, pot-safe, needs-pot, Less, less-wf, less-pot, Feeds}
-use Rattle.model.specs.Calls.{Call, admit, register, create, make-pipe, opens, access, fork, exec, close, exit, retire, freeze, unknown, Raw, decode, target, moves, sheds, steps, effect, Test, alive, present, taken, facing, suits, broken, tests, refusal, next, Answer, answer, answers, after}
+use Rattle.model.specs.Calls.{Call, admit, register, create, make-pipe, opens, access, fork, exec, close, exit, retire, mark, freeze, unknown, Raw, decode, target, moves, sheds, steps, effect, Test, alive, present, taken, facing, suits, broken, tests, refusal, next, Answer, answer, answers, after}
 use Rattle.model.specs.Calls.Refusals.{allowed-iff}
 use Rattle.model.specs.Calls.Passed.{is-alive, is-facing, sheds-less}
 use Rattle.model.specs.Calls.Kept.{access-feeds, exec-feeds, next-kept, empty-kept}
@@ -133,7 +133,7 @@ reap-agree ℓ before t c d a = record { same-at = λ y e q l. go (ended before 
 -- ── an allowed call's steps have what they ask ──
 sheds-guards : (ℓ : Label) (o₁ o₂ : ℕ) (t : Tables) (s : ℕ) → Guards ℓ o₁ o₂ t (sheds t s)
 unfolding sheds
-sheds-guards ℓ o₁ o₂ t s = tt
+sheds-guards ℓ o₁ o₂ t s = (tt, tt)
 
 module _ (ℓ : Label) (o₁ o₂ : ℕ) (t : Tables) (v : Kept t) where
   guarded : (k : Call) → ((l : Label) → brought-by (steps t k) ≡ some l → ℓ ⊑ l → o₁ ≡ o₂) →
@@ -179,6 +179,7 @@ module _ (ℓ : Label) (o₁ o₂ : ℕ) (t : Tables) (v : Kept t) where
   guarded (close s p) b m = (tt, tt)
   guarded (exit s) b m = (tt, (tt, tt))
   guarded (retire o) b m = (tt, tt)
+  guarded (mark s p) b m = (tt, tt)
   guarded (freeze n) b m = (tt, tt)
   guarded unknown b m = tt
 

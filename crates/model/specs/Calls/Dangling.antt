@@ -8,17 +8,17 @@ use Prim.Native.Nat.{ℕ}
 use lib.Dec.{T, T-not, not-T, eqb, eqb→eq}
 use Rattle.model.specs.Label.{label}
 use Rattle.model.specs.Flow.{subject, object, same}
-use Rattle.model.specs.Tables.{running, file, pipe, Dir, reading, writing, Entry, entry, Handle, handle, Tables, in-range, live}
+use Rattle.model.specs.Tables.{running, file, pipe, Dir, reading, writing, Entry, entry, Handle, handle, with-mark, Tables, in-range, live}
 use Rattle.model.specs.Tables.{label-of, cell, handles, open-on}
 use Rattle.model.specs.Tables.Laws.{open-here}
 use Rattle.model.specs.Steps.{Origin, outside, blank, copied, reads, writes, runs, enter, hold, holds, mix, row, place, apply, applies}
 use Rattle.model.specs.Steps.Laws.{row-cases, live-hand, applies-append}
 use Rattle.model.specs.Invariant.{Ends, Wf}
 use Rattle.model.specs.Invariant.Laws.{row-below, less-close, less-row, less-freeze, less-wf, wf-enter, wf-hand, wf-hold, wf-without, wf-reap, wf-mix}
-use Rattle.model.specs.Calls.{Call, admit, register, create, make-pipe, opens, access, fork, exec, close, exit, retire, freeze, unknown}
-use Rattle.model.specs.Calls.{target, sheds, steps, effect, next, alive, present, new, vacant, idle, broken, refusal}
+use Rattle.model.specs.Calls.{Call, admit, register, create, make-pipe, opens, access, fork, exec, close, exit, retire, mark, freeze, unknown}
+use Rattle.model.specs.Calls.{target, marking, sheds, steps, effect, next, alive, present, new, vacant, taken, idle, broken, refusal}
 use Rattle.model.specs.Calls.Refusals.{allowed-iff}
-use Rattle.model.specs.Calls.Passed.{is-alive, is-present, is-new, is-place, Passed, entered-live, old-live, sheds-less}
+use Rattle.model.specs.Calls.Passed.{is-alive, is-present, is-new, is-place, is-taken, Passed, entered-live, old-live, sheds-less}
 
 -- ── the steps of an allowed call ──
 module _ (t : Tables) (w : Wf t) where
@@ -51,6 +51,11 @@ module _ (t : Tables) (w : Wf t) where
           let f = w .ends s p k q in
           let held = open-here t s p k (row-below f) (f .place) q in
           not-T (eqb o (k .to)) (λ e. T-not (open-on (handles t) o) h (subst (λ (z : ℕ). T (open-on (handles t) z)) (sym (eqb→eq o (k .to) e)) held))
+
+  mark-wf : (s p : ℕ) → T (not (broken t (taken s p))) → Wf (applies (steps t (mark s p)) t)
+  mark-wf s p h = let r = is-taken t s p h in let f = w .ends s p (r .0) (r .1) in
+      subst (λ (v : Option Handle). Wf (apply (hold s p (marking v)) t)) (sym (r .1))
+      (wf-hold t s p (with-mark (r .0)) w (record { from = f .from; to = f .to; place = f .place }))
 
   fork-wf : (s c : ℕ) → T (not (broken t (new (subject c)))) → Wf (applies (steps t (fork s c)) t)
   fork-wf s c h = wf-hand u (row (t .hand) c (t .hand s)) (wf-enter t (subject c) e g (n .0) w) ends′
@@ -117,6 +122,7 @@ module _ (t : Tables) (w : Wf t) where
   call-wf (close s p) m = less-wf (less-close t s p) w
   call-wf (exit s) m = exit-wf s
   call-wf (retire o) m = retire-wf o (m (idle o) (inr (inr (inl refl))))
+  call-wf (mark s p) m = mark-wf s p (m (taken s p) (inr (inl refl)))
   call-wf (freeze n) m = less-wf (less-freeze t n) w
   call-wf unknown m = w
 

@@ -12,7 +12,7 @@ use Rattle.model.specs.Bools.{test, not-not}
 use Rattle.model.specs.Label.{Label, label, leq, _⊑_}
 use Rattle.model.specs.Label.Laws.{⊑-refl, bot-least}
 use Rattle.model.specs.Flow.{Thing, subject, object, same}
-use Rattle.model.specs.Tables.{Kind, running, file, pipe, Dir, reading, writing, Entry, entry, Handle, handle, Tables, empty}
+use Rattle.model.specs.Tables.{Kind, running, file, pipe, Dir, reading, writing, Entry, entry, Handle, handle, with-mark, Tables, empty}
 use Rattle.model.specs.Tables.{in-range, label-of, is-pipe, cell, handles, open-on, arc, flow, speaks, demand, needs, safe}
 use Rattle.model.specs.Tables.Laws.{speaks-at, speaks-hand, speaks-cell, cell-self, cell-entry, object-entry, handles-at, open-here}
 use Rattle.model.specs.Tables.Laws.{thing-listed, demand-label, safe-above}
@@ -24,10 +24,10 @@ use Rattle.model.specs.Invariant.Laws.{Pot, pot-safe, needs-pot, row-bel
 use Rattle.model.specs.Invariant.Laws.{empty-wf, wf-reap}
 use Rattle.model.specs.Invariant.Laws.{empty-pot, raise, raise-same, raise-other, pot-enter, pot-hand, pot-hold, pot-without, pot-reap, pot-mix}
 use Rattle.model.specs.Invariant.Laws.{empty-scaled, empty-frozen, scaled-without}
-use Rattle.model.specs.Calls.{Call, admit, register, create, make-pipe, opens, access, fork, exec, close, exit, retire, freeze, unknown, Raw, decode}
-use Rattle.model.specs.Calls.{target, moves, sheds, steps, effect, next, after, alive, present, new, taken, facing, enough, suits, broken, refusal}
+use Rattle.model.specs.Calls.{Call, admit, register, create, make-pipe, opens, access, fork, exec, close, exit, retire, mark, freeze, unknown, Raw, decode}
+use Rattle.model.specs.Calls.{target, moves, marking, sheds, steps, effect, next, after, alive, present, new, taken, facing, enough, suits, broken, refusal}
 use Rattle.model.specs.Calls.Refusals.{allowed-iff}
-use Rattle.model.specs.Calls.Passed.{is-alive, is-present, is-new, is-facing, Passed, sheds-less}
+use Rattle.model.specs.Calls.Passed.{is-alive, is-present, is-new, is-taken, is-facing, Passed, sheds-less}
 use Rattle.model.specs.Calls.Dangling.{open-wf, pipe-wf, call-wf}
 use Rattle.model.specs.Calls.Scale.{call-scaled, call-frozen}
 pub use Rattle.model.specs.Calls.Passed.{is-new, is-facing}
@@ -82,6 +82,13 @@ module _ (t : Tables) (v : Kept t) where
     where
       u : Tables
       u = apply (holds s (λ p. none)) t
+
+  -- ── mark: the handle flows as it did ──
+  mark-stepped : (s p : ℕ) → T (not (broken t (taken s p))) → Stepped t (applies (steps t (mark s p)) t)
+  unfolding pot
+  mark-stepped s p h = let r = is-taken t s p h in subst (λ (o : Option Handle). Stepped t (apply (hold s p (marking o)) t)) (sym (r .1))
+      (stepped (pot-hold t (needs t) s p (with-mark (r .0)) pot (λ x z. pot .falls s p x (r .0) z (r .1)))
+      (old-pipes t (apply (hold s p (some (with-mark (r .0)))) t) (v .piped) (λ o k. k)))
 
   -- ── retire ──
   retire-stepped : (o : ℕ) → Stepped t (applies (steps t (retire o)) t)
@@ -281,6 +288,7 @@ module _ (t : Tables) (v : Kept t) where
   call-stepped (close s p) m = less-stepped t v (apply (hold s p none) t) (less-close t s p)
   call-stepped (exit s) m = exit-stepped t v s
   call-stepped (retire o) m = retire-stepped t v o
+  call-stepped (mark s p) m = mark-stepped t v s p (m (taken s p) (inr (inl refl)))
   call-stepped (freeze n) m = less-stepped t v (apply (freezes n) t) (less-freeze t n)
   call-stepped unknown m = none-stepped t v
 

@@ -1,7 +1,8 @@
 -- What the passed tests of an allowed call give, and what is live once a thing has entered or an exec has dropped what it drops. Assumes nothing.
 use mathlib.Core.Path.{_≡_, refl, sym, subst}
 use mathlib.Core.Bool.{Bool, true, false, not, cond}
-use mathlib.Core.Option.{Option, none, some}
+use mathlib.Core.Logic.{inl, inr}
+use mathlib.Core.Option.{Option, none, some, Option·none-ne-some}
 use Prim.Native.Nat.{ℕ, _<_}
 use lib.Dec.{T, ltb, ltb→lt}
 use Rattle.model.specs.Bools.{neither, both, not-not}
@@ -9,10 +10,10 @@ use Rattle.model.specs.Lists.{In}
 use Rattle.model.specs.Flow.{Thing, subject, object, same}
 use Rattle.model.specs.Tables.{Dir, reading, writing, Entry, Handle, Tables, places, in-range, is-some, used, live}
 use Rattle.model.specs.Tables.Laws.{some-of, used-is}
-use Rattle.model.specs.Steps.{Origin, enter, put, apply, applies}
-use Rattle.model.specs.Steps.Laws.{put-same, live-at}
-use Rattle.model.specs.Invariant.Laws.{Less}
-use Rattle.model.specs.Calls.{Call, sheds, Test, alive, present, new, vacant, taken, facing, faces, turned, broken, tests}
+use Rattle.model.specs.Steps.{Origin, enter, put, row, apply, applies}
+use Rattle.model.specs.Steps.Laws.{put-same, row-cases, live-at}
+use Rattle.model.specs.Invariant.Laws.{Less, less-hand}
+use Rattle.model.specs.Calls.{Call, unmarked, sheds, Test, alive, present, new, vacant, taken, facing, faces, turned, broken, tests}
 
 -- ── what a passed test gives ──
 pub is-alive : (t : Tables) (s : ℕ) → T (not (broken t (alive s))) → T (live t (subject s))
@@ -38,10 +39,14 @@ faces→eq reading writing t = absurd t
 faces→eq writing reading t = absurd t
 faces→eq writing writing t = refl
 
+-- a taken place has a handle
+pub is-taken : (t : Tables) (s p : ℕ) → T (not (broken t (taken s p))) → (k : Handle) × (t .hand s p ≡ some k)
+is-taken t s p h = some-of (t .hand s p) (not-not (is-some (t .hand s p)) (neither (not (ltb p places)) (not (is-some (t .hand s p))) h .1))
+
 -- a taken place that faces d holds a handle for d
 pub is-facing : (t : Tables) (d : Dir) (s p : ℕ) → T (not (broken t (taken s p))) → T (not (broken t (facing d s p))) → (k : Handle) ×
     (t .hand s p ≡ some k) × (k .dir ≡ d)
-is-facing t d s p h f = let r = some-of (t .hand s p) (not-not (is-some (t .hand s p)) (neither (not (ltb p places)) (not (is-some (t .hand s p))) h .1)) in
+is-facing t d s p h f = let r = is-taken t s p h in
     (r .0, r .1, sym (faces→eq d (r .0 .dir) (not-not (faces d (r .0 .dir)) (subst (λ (o : Option Handle). T (not (turned d o))) (r .1) f))))
 
 -- the tests of an allowed call
@@ -61,6 +66,18 @@ old-live t x e g y l = live-at t (put (t .at) x (some e)) y (go (same x y)) l
     go false h = h
 
 -- what an exec drops before it runs: handles alone
+pub unmarked-was : (o : Option Handle) (k : Handle) → unmarked o ≡ some k → o ≡ some k
+unmarked-was none k q = absurd (Option·none-ne-some k q)
+unmarked-was (some j) k q = go (j .marked) q
+  where
+    go : (b : Bool) → cond b none (some j) ≡ some k → some j ≡ some k
+    go true z = absurd (Option·none-ne-some k z)
+    go false z = z
+
 pub sheds-less : (t : Tables) (s : ℕ) → Less t (applies (sheds t s) t)
 unfolding sheds
-sheds-less t s = record { same-at = λ x. refl; hands = λ s p k q. q; ends = λ s p k q f. f; talks = λ s p x k q z. z }
+sheds-less t s = less-hand t (row (t .hand) s (λ p. unmarked (t .hand s p))) (λ s′ p k q. elim
+    (row-cases (t .hand) s (λ p. unmarked (t .hand s p)) s′ p (some k) q) [
+      | inl c ↦ subst (λ (z : ℕ). t .hand z p ≡ some k) (c .0) (unmarked-was (t .hand s p) k (c .1))
+      | inr c ↦ c .1
+    ])

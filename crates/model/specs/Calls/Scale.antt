@@ -15,7 +15,7 @@ use Rattle.model.specs.Steps.{outside, blank, copied, reads, writes, run
 use Rattle.model.specs.Steps.Laws.{applies-append}
 use Rattle.model.specs.Invariant.{Scaled, Frozen}
 use Rattle.model.specs.Invariant.Laws.{scaled-enter, scaled-same, scaled-without, scaled-mix}
-use Rattle.model.specs.Calls.{Call, admit, register, create, make-pipe, opens, access, fork, exec, close, exit, retire, freeze, unknown}
+use Rattle.model.specs.Calls.{Call, admit, register, create, make-pipe, opens, access, fork, exec, close, exit, retire, mark, freeze, unknown}
 use Rattle.model.specs.Calls.{target, moves, sheds, steps, leveled, freezable}
 use Rattle.model.specs.Calls.Passed.{Passed, sheds-less}
 
@@ -46,6 +46,7 @@ module _ (t : Tables) (v : Scaled t) where
   call-scaled (close s p) m = scaled-same (λ x. refl) v
   call-scaled (exit s) m = scaled-without (same (subject s)) (apply (holds s (λ p. none)) t) (scaled-same (λ x. refl) v)
   call-scaled (retire o) m = scaled-without (same (object o)) t v
+  call-scaled (mark s p) m = scaled-same (λ x. refl) v
   call-scaled (freeze n) m = scaled-same (λ x. refl) v
   call-scaled unknown m = v
 
@@ -70,5 +71,6 @@ module _ (t : Tables) (v : Frozen t) where
   call-frozen (close s p) m = record { bounded = v .bounded }
   call-frozen (exit s) m = record { bounded = v .bounded }
   call-frozen (retire o) m = record { bounded = v .bounded }
+  call-frozen (mark s p) m = record { bounded = v .bounded }
   call-frozen (freeze n) m = record { bounded = ltb-false no-freeze n (is-false (ltb no-freeze n) (m (freezable n) (inl refl))) }
   call-frozen unknown m = v

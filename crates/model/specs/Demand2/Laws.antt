@@ -58,7 +58,7 @@ open-refused-iff t d s o p = (
   λ r. refused-is t (opens d s o p) (enough (opens d s o p)) (inr (inr (inr (inl refl)))) (unsafe-iff (opened t d s o p) .1 (r .1)) (r .0),
 )
 
--- RULES R9, R110: an exec. The need is taken in the tables that are left once the exec dropped what it drops (in this version nothing)
+-- RULES R9, R110: an exec. The need is taken in the tables that are left once the exec dropped the marked handles of s
 pub exec-refused-iff : (t : Tables) (s o : ℕ) → (refusal t (exec s o) ≡ some 9) ↔
     (In-order t (exec s o) 9 × T (not (leq (needs (applies (sheds t s) t) (cell t s)) (label-of (t .at (object o))))))
 exec-refused-iff t s o = (

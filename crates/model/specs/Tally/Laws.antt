@@ -2,7 +2,7 @@
 -- which nothing dangles it moves as that number does (RULES Y10, Y11). How many handles a step places or removes; then call by call; then
 -- the list. Assumes nothing.
 use mathlib.Core.Path.{_≡_, refl, _∙_, ap, subst}
-use mathlib.Core.Bool.{Bool, not, cond}
+use mathlib.Core.Bool.{Bool, true, false, not, cond}
 use mathlib.Core.Logic.{_⊎_, inl, inr}
 use mathlib.Core.Option.{Option, none, some}
 use mathlib.Core.List.{List, [], _∷_, _++_}
@@ -20,11 +20,11 @@ use Rattle.model.specs.Steps.{blank, copied, runs, enter, leave, hold, h
 use Rattle.model.specs.Steps.Laws.{applies-append}
 use Rattle.model.specs.Invariant.{Wf}
 use Rattle.model.specs.Invariant.Laws.{empty-wf}
-use Rattle.model.specs.Calls.{Call, admit, register, create, make-pipe, opens, access, fork, exec, close, exit, retire, freeze, unknown, Raw, decode, target, moves, sheds, steps, effect, Test, alive, new, vacant, taken, apart, broken, tests, refusal, next, after}
+use Rattle.model.specs.Calls.{Call, admit, register, create, make-pipe, opens, access, fork, exec, close, exit, retire, mark, freeze, unknown, Raw, decode, target, moves, marking, unmarked, sheds, steps, effect, Test, alive, new, vacant, taken, apart, broken, tests, refusal, next, after}
 use Rattle.model.specs.Calls.Refusals.{allowed-iff}
 use Rattle.model.specs.Calls.Passed.{is-alive, is-new, is-place}
 use Rattle.model.specs.Calls.Dangling.{next-wf}
-use Rattle.model.specs.Tally.{held, makes, removes, wrapped, Tally, zeroed, tallied, tally, difference}
+use Rattle.model.specs.Tally.{held, only-marked, marks, makes, removes, wrapped, Tally, zeroed, tallied, tally, difference}
 
 -- ── lengths of lists made for the numbers below a bound ──
 module _ {A : Type 0} where
@@ -95,10 +95,33 @@ count-emptied : (t : Tables) (s p : ℕ) (k : Handle) → s < subjects → p < p
 count-emptied t s p k ls lp q = let a : count (apply (hold s p none) t) + length (one (t .hand s p)) ≡ count t + 0 = count-hold t s p none ls lp in
     let b : length (one (t .hand s p)) ≡ 1 = ap (λ (o : Option Handle). length (one o)) q in omega arith
 
--- what an exec drops: nothing
-count-sheds : (t : Tables) (s : ℕ) → count (applies (sheds t s) t) ≡ count t
+-- each handle of s is marked or not
+pub each-parts : (n : ℕ) (h : ℕ → Option Handle) → length (each n (λ p. one (h p))) ≡
+    length (each n (λ p. one (only-marked (h p)))) + length (each n (λ p. one (unmarked (h p))))
+each-parts zero h = refl
+each-parts (suc n) h = let a = each-parts n h in let b = parts (h n) in omega (
+  arith,
+  length-append (each n (λ p. one (h p))) (one (h n)),
+  length-append (each n (λ p. one (only-marked (h p)))) (one (only-marked (h n))),
+  length-append (each n (λ p. one (unmarked (h p)))) (one (unmarked (h n))),
+)
+  where
+    parts : (o : Option Handle) → length (one o) ≡ length (one (only-marked o)) + length (one (unmarked o))
+    parts none = refl
+    parts (some k) = go (k .marked)
+      where
+        go : (b : Bool) → 1 ≡ length (one (cond b (some k) none)) + length (one (cond b none (some k)))
+        go true = refl
+        go false = refl
+
+-- what an exec drops: the marked ones
+count-sheds : (t : Tables) (s : ℕ) → s < subjects → count (applies (sheds t s) t) + marks t s ≡ count t
 unfolding sheds
-count-sheds t s = refl
+count-sheds t s l = omega (arith, count-row t s (λ p. unmarked (t .hand s p)) l, each-parts places (t .hand s))
+
+marking-one : (o : Option Handle) → length (one (marking o)) ≡ length (one o)
+marking-one none = refl
+marking-one (some k) = refl
 
 -- ── calls ──
 pub none-of : (o : Option Handle) → T (not (is-some o)) → o ≡ none
@@ -171,9 +194,17 @@ module _ (t : Tables) (v : Wf t) where
       u : Tables
       u = apply (enter (subject c) e (copied (cell t s))) t
 
-  exec-count : (s o : ℕ) → count (applies (steps t (exec s o)) t) + 0 ≡ count t + 0
-  exec-count s o = ap (λ (u : Tables). count u + 0) (applies-append (sheds t s) (mix runs (subject s) (object o) (cell t s) (object o) ∷ []) t)
-      ∙ ap (λ (k : ℕ). k + 0) (count-at (applies (sheds t s) t) _ ∙ count-sheds t s)
+  exec-count : (s o : ℕ) → T (not (broken t (alive s))) → count (applies (steps t (exec s o)) t) + marks t s ≡ count t + 0
+  exec-count s o h = ap (λ (u : Tables). count u + marks t s) (applies-append (sheds t s) (mix runs (subject s) (object o) (cell t s) (object o) ∷ []) t)
+      ∙ ap (λ (k : ℕ). k + marks t s) (count-at (applies (sheds t s) t) _) ∙ omega (arith, count-sheds t s (row-of t s h))
+
+  mark-count : (s p : ℕ) → T (not (broken t (alive s))) → T (not (broken t (taken s p))) → count (applies (steps t (mark s p)) t) + 0 ≡ count t + 0
+  mark-count s p h g = omega (
+    arith,
+    count-hold t s p (marking (t .hand s p)) (row-of t s h)
+        (ltb→lt p places (not-not (ltb p places) (neither (not (ltb p places)) (not (is-some (t .hand s p))) g .0))),
+    marking-one (t .hand s p),
+  )
 
   close-count : (s p : ℕ) → ((e : Test) → In e (tests (close s p)) → T (not (broken t e))) → count (applies (steps t (close s p)) t) + 1 ≡ count t + 0
   close-count s p m = let h = neither (not (ltb p places)) (not (is-some (t .hand s p))) (m (taken s p) (inr (inl refl))) in
@@ -204,10 +235,11 @@ module _ (t : Tables) (v : Wf t) where
       (row-of t s (m (alive s) (inl refl))) (is-place t s p h) (empty-place t s p h) in omega arith
   stepped-count (access d s p) m = access-count d (subject s) (cell t s) (target (t .hand s p))
   stepped-count (fork s c) m = fork-count s c m
-  stepped-count (exec s o) m = exec-count s o
+  stepped-count (exec s o) m = exec-count s o (m (alive s) (inl refl))
   stepped-count (close s p) m = close-count s p m
   stepped-count (exit s) m = exit-count s m
   stepped-count (retire o) m = entered-count _
+  stepped-count (mark s p) m = mark-count s p (m (alive s) (inl refl)) (m (taken s p) (inr (inl refl)))
   stepped-count (freeze n) m = ap (λ (l : List Handle). length l + 0) (handles-by (apply (freezes n) t) t refl)
   stepped-count unknown m = refl
 

@@ -1,0 +1,13 @@
+-- `handles::unless_marked` meets its contract. Assumes nothing.
+use borrow.Author.Tests.{eq-eqb, ne-eqb}
+use Rattle.handles.proofs.unless_marked.Statement.{statement}
+use Rattle.handles.proofs.unless_marked.Tie as tie
+
+returns : tie.Need-returns
+returns c = rw (eq-eqb _ _ (c .if1 .taken))
+
+returns-2 : tie.Need-returns-2
+returns-2 c = rw (ne-eqb _ _ (c .if1 .left))
+
+pub unless-marked-spec : {M : Type 1} → statement M
+unless-marked-spec = tie.close (tie.spec returns returns-2)
