@@ -14,20 +14,20 @@ use Rattle.model.specs.Lists.{In}
 use Rattle.model.specs.Label.{Label, leq, meet, label, level}
 use Rattle.model.specs.Label.Laws.{⊑-refl, level-label, le→⊑, ⊑→le, meet-stays, meet-falls}
 use Rattle.model.specs.Flow.{Thing, subject, object}
-use Rattle.model.specs.Tables.{Kind, running, file, pipe, Dir, reading, writing, Entry, entry, handle, Tables, with-at, with-hand, with-freeze, places, is-some, live, label-of, cell, handles, open-on}
+use Rattle.model.specs.Tables.{Kind, running, file, pipe, Dir, reading, writing, Entry, entry, handle, with-mark, Tables, with-at, with-hand, with-freeze, places, is-some, live, label-of, cell, handles, open-on}
 use Rattle.model.specs.Tables.{Handle as Held}
 use Rattle.model.specs.Tables.Laws.{live-of, used-is, cell-self, handles-by, handles-at, open-here, open-at}
 use Rattle.model.specs.Steps.{put, row, place, falls, sunk, fall, applies, ended, reap}
 use Rattle.model.specs.Steps.Laws.{put-same, ended-subject, reap-more}
 use Rattle.model.specs.Invariant.{Wf}
-use Rattle.model.specs.Calls.{Call, admit, register, create, make-pipe, opens, access, fork, exec, close, exit, retire, freeze, target, sheds, steps, effect, Test, alive, new, present, vacant, taken, apart, broken, tests, refusal, level-at, shown, refused, allowed, lowered, outcome, said, answer}
+use Rattle.model.specs.Calls.{Call, admit, register, create, make-pipe, opens, access, fork, exec, close, exit, retire, mark, freeze, target, marking, unmarked, sheds, steps, effect, Test, alive, new, present, vacant, taken, apart, broken, tests, refusal, level-at, shown, refused, allowed, lowered, outcome, said, answer}
 use Rattle.model.specs.Calls.{Answer as Told}
 use Rattle.model.specs.Calls.Refusals.{allowed-iff}
 use Rattle.model.specs.Calls.Passed.{is-alive, is-present, is-new, is-place}
 use Rattle.tables.specs.declared.Subject.{Subject}
 use Rattle.tables.specs.declared.Object.{Object}
 use Rattle.tables.specs.declared.Handle.{Handle}
-use Rattle.tables.specs.Records.{subject-entry, object-entry, held}
+use Rattle.tables.specs.Records.{subject-entry, object-entry, joins, held}
 use Rattle.tables.specs.Working.{fallen-by, sunken-by}
 use Rattle.gatekeeper.specs.Acting.{fell}
 
@@ -132,9 +132,12 @@ outcome-same (some e) = ap (λ (b : Bool). elim b as (λ _. Told) [ true ↦ all
     (is-true (leq (e .label) (e .label)) (⊑-refl .tested))
 
 -- ── steps that leave the handles as they are ──
+steady : (t : Tables) (a : Thing → Option Entry) → reap (handles t) (with-at t a) ≡ with-at t a
+steady t a = reap-more t (with-at t a) (λ n h. subst (λ (hs : List Held). T (open-on hs n)) (sym (handles-at t a)) h)
+
 effect-at : (t : Tables) (c : Call) (a : Thing → Option Entry) → applies (steps t c) t ≡ with-at t a → effect t c ≡ with-at t a
 unfolding effect
-effect-at t c a q = ap (reap (handles t)) q ∙ reap-more t (with-at t a) (λ n h. subst (λ (hs : List Held). T (open-on hs n)) (sym (handles-at t a)) h)
+effect-at t c a q = ap (reap (handles t)) q ∙ steady t a
 
 -- ── the freeze ──
 pub freeze-does : (t : Tables) (n : ℕ) → refusal t (freeze n) ≡ none → Does t (freeze n) (allowed n) (with-freeze t n)
@@ -171,10 +174,14 @@ create-does t s o x e q = entered t (create s o) (object o) file (x .level) e
 
 -- ── handles that are placed: pipe, open, fork ──
 -- handles that stay leave open what was open
+kept-open : (t u : Tables) → ((s p : ℕ) (k : Held) → t .hand s p ≡ some k → (j : Held) × (u .hand s p ≡ some j) × (j .to ≡ k .to))
+    → (n : ℕ) → T (open-on (handles t) n) → T (open-on (handles u) n)
+kept-open t u f n h = let r = open-at t n h in let j = f (r .0) (r .1) (r .2) (r .5) in
+    subst (λ (z : ℕ). T (open-on (handles u) z)) (j .2 ∙ r .6) (open-here u (r .0) (r .1) (j .0) (r .3) (r .4) (j .1))
+
 more-open : (t u : Tables) → ((s p : ℕ) (k : Held) → t .hand s p ≡ some k → u .hand s p ≡ some k) → (n : ℕ) → T (open-on (handles t) n)
     → T (open-on (handles u) n)
-more-open t u f n h = let r = open-at t n h in subst (λ (z : ℕ). T (open-on (handles u) z)) (r .6)
-    (open-here u (r .0) (r .1) (r .2) (r .3) (r .4) (f (r .0) (r .1) (r .2) (r .5)))
+more-open t u f = kept-open t u (λ s p k q. (k, f s p k q, refl))
 
 place-more : (h : ℕ → ℕ → Option Held) (s p : ℕ) (v : Option Held) → h s p ≡ none → (s′ p′ : ℕ) (k : Held) → h s′ p′ ≡ some k → place h s p v s′ p′ ≡ some k
 place-more h s p v e s′ p′ k q = go (eqb s s′) (eqb→eq s s′) (eqb p p′) (eqb→eq p p′)
@@ -257,6 +264,33 @@ fork-does t s c x w e q = joined t (fork s c) (subject c) running (x .level) (ro
     bare p k z = subst (λ (o : Option Entry). T (is-some o)) (fresh t (fork s c) e (subject c) (inr (inl refl)))
         (subst T (used-is t (subject c)) (live-of t (subject c) (w .ends c p k z .from) .1))
 
+-- ── mark ──
+pub mark-does : (t : Tables) (s p : ℕ) (x : Subject) → refusal t (mark s p) ≡ none → t .at (subject s) ≡ subject-entry x
+    → Does t (mark s p) (allowed (x .level)) (with-hand t (place (t .hand) s p (marking (t .hand s p))))
+unfolding effect
+mark-does t s p x e q = does t (mark s p) (allowed (x .level)) u e
+    (ap allowed (sym (level-label (x .level)) ∙ ap (λ (v : Option Entry). level (label-of v)) (sym (cell-is t (mark s p) e s (inl refl) x q)))
+    ∙ sym (ap (λ (v : Tables). outcome (t .at (cell t s)) (v .at (cell t s))) is ∙ outcome-same (t .at (cell t s)))) (sym is)
+  where
+    u : Tables
+    u = with-hand t (place (t .hand) s p (marking (t .hand s p)))
+
+    marked-to : (o : Option Held) (k : Held) → o ≡ some k → (j : Held) × (marking o ≡ some j) × (j .to ≡ k .to)
+    marked-to none k q = absurd (Option·none-ne-some k q)
+    marked-to (some j) k q = (with-mark j, refl, ap (λ (z : Held). z .to) (Option·some-injective j k q))
+
+    still : (s′ p′ : ℕ) (k : Held) → t .hand s′ p′ ≡ some k → (j : Held) × (u .hand s′ p′ ≡ some j) × (j .to ≡ k .to)
+    still s′ p′ k q = go (eqb s s′) (eqb→eq s s′) (eqb p p′) (eqb→eq p p′)
+      where
+        go : (a : Bool) → (T a → s ≡ s′) → (b : Bool) → (T b → p ≡ p′)
+            → (j : Held) × (cond a (cond b (marking (t .hand s p)) (t .hand s p′)) (t .hand s′ p′) ≡ some j) × (j .to ≡ k .to)
+        go false f b g = (k, q, refl)
+        go true f false g = (k, ap (λ (z : ℕ). t .hand z p′) (f tt) ∙ q, refl)
+        go true f true g = marked-to (t .hand s p) k (ap (λ (z : ℕ). t .hand z p) (f tt) ∙ ap (t .hand s′) (g tt) ∙ q)
+
+    is : reap (handles t) u ≡ u
+    is = reap-more t u (kept-open t u still)
+
 -- ── things and handles that go: close, exit, retire ──
 pub close-does : (t : Tables) (s p : ℕ) (x : Subject) → refusal t (close s p) ≡ none → t .at (subject s) ≡ subject-entry x
     → Does t (close s p) (allowed (x .level)) (reap (handles t) (with-hand t (place (t .hand) s p none)))
@@ -302,33 +336,40 @@ retire-does t o y e q = does t (retire o) (allowed (y .level)) _ e
     shows = ap (λ (u : Tables). outcome (t .at (object o)) (u .at (object o))) f ∙ ap (outcome (t .at (object o))) (put-same (t .at) (object o) none)
 
 -- ── data moves: read, write, exec ──
--- y, of kind kd and level k, takes in z, of level l
-module _ (t : Tables) (c : Call) (y z : Thing) (kd kz : Kind) (k l : ℕ) (e : refusal t c ≡ none)
-    (q : applies (steps t c) t ≡ with-at t (put (t .at) y (fall y (t .at y) (t .at z)))) (g : shown t c ≡ level-at y)
+-- y, of kind kd and level k, takes in z, of level l; u is what the steps make, by y's entry after them
+module _ (t : Tables) (c : Call) (y z : Thing) (kd kz : Kind) (k l : ℕ) (e : refusal t c ≡ none) (u : Option Entry → Tables)
+    (q : applies (steps t c) t ≡ u (fall y (t .at y) (t .at z))) (g : shown t c ≡ level-at y)
+    (there : (d : Entry) → reap (handles t) (u (some d)) .at y ≡ some d)
     (o : t .at y ≡ some (entry kd (label k))) (s : t .at z ≡ some (entry kz (label l))) where
+  after : ℕ → Tables
+  after n = reap (handles t) (u (some (entry kd (label n))))
+
   taken-in : (n : ℕ) (a : Told) → sunk y kd (label k) (label l) ≡ label n → a ≡ outcome (some (entry kd (label k))) (some (entry kd (label n)))
-      → Does t c a (with-at t (put (t .at) y (some (entry kd (label n)))))
+      → Does t c a (after n)
+  unfolding effect after
   taken-in n a f h = does t c a _ e (h ∙ sym shows) (sym is)
     where
-      is : effect t c ≡ with-at t (put (t .at) y (some (entry kd (label n))))
-      is = effect-at t c (put (t .at) y (some (entry kd (label n)))) (q ∙ ap (λ (w : Option Entry). with-at t (put (t .at) y w))
+      is : reap (handles t) (applies (steps t c) t) ≡ reap (handles t) (u (some (entry kd (label n))))
+      is = ap (reap (handles t)) (q ∙ ap u
           (ap (λ (w : Option Entry). fall y w (t .at z)) o ∙ ap (fall y (some (entry kd (label k)))) s ∙ ap (λ (b : Label). some (entry kd b)) f))
 
-      shows : said t (effect t c) (shown t c) ≡ outcome (some (entry kd (label k))) (some (entry kd (label n)))
-      shows = ap (said t (effect t c)) g ∙ ap (λ (w : Option Entry). outcome w (effect t c .at y)) o
-          ∙ ap (λ (u : Tables). outcome (some (entry kd (label k))) (u .at y)) is ∙ ap (outcome (some (entry kd (label k))))
-          (put-same (t .at) y (some (entry kd (label n))))
+      shows : said t (reap (handles t) (applies (steps t c) t)) (shown t c) ≡ outcome (some (entry kd (label k))) (some (entry kd (label n)))
+      shows = ap (said t (reap (handles t) (applies (steps t c) t))) g
+          ∙ ap (λ (w : Option Entry). outcome w (reap (handles t) (applies (steps t c) t) .at y)) o
+          ∙ ap (λ (v : Tables). outcome (some (entry kd (label k))) (v .at y)) is ∙ ap (outcome (some (entry kd (label k)))) (there (entry kd (label n)))
 
-  same : sunk y kd (label k) (label l) ≡ label k → Does t c (allowed k) (with-at t (put (t .at) y (some (entry kd (label k)))))
+  same : sunk y kd (label k) (label l) ≡ label k → Does t c (allowed k) (after k)
   same f = taken-in k (allowed k) f (ap allowed (sym (level-label k)) ∙ sym (outcome-same (some (entry kd (label k)))))
 
   -- a file keeps its label
-  keeps : falls y kd ≡ false → Does t c (allowed k) (with-at t (put (t .at) y (some (entry kd (label k)))))
+  pub keeps : falls y kd ≡ false → Does t c (allowed k) (reap (handles t) (u (some (entry kd (label k)))))
+  unfolding after
   keeps f = same (ap (λ (b : Bool). cond b (meet (label k) (label l)) (label k)) f)
 
   -- what is not higher than what it takes in stays as it is, and what is higher falls
   sinks : (b : Bool) → ltb l k ≡ b → falls y kd ≡ true → Does t c (cond b (lowered l) (allowed k))
-      (with-at t (put (t .at) y (some (entry kd (label (cond b l k))))))
+      (reap (handles t) (u (some (entry kd (label (cond b l k))))))
+  unfolding after
   sinks false h f = same (ap (λ (b : Bool). cond b (meet (label k) (label l)) (label k)) f ∙ meet-stays (label k) (label l)
       (le→⊑ _ _ (rw (level-label k, level-label l) (ltb-false l k h))))
   sinks true h f = taken-in l (lowered l) (ap (λ (b : Bool). cond b (meet (label k) (label l)) (label k)) f ∙ meet-falls (label k) (label l)
@@ -349,27 +390,31 @@ fell-by k l false q = ap (λ (c : Bool). cond c (lowered k) (allowed k)) (is-fal
 
 -- s, whose record is x, takes in something of level l
 falls-in : (t : Tables) (c : Call) (s : ℕ) (i : In (alive s) (tests c)) (x : Subject) (z : Thing) (kz : Kind) (l : ℕ) (e : refusal t c ≡ none)
-    → t .at (subject s) ≡ subject-entry x → applies (steps t c) t ≡ with-at t (put (t .at) (cell t s) (fall (cell t s) (t .at (cell t s)) (t .at z)))
-    → shown t c ≡ level-at (cell t s) → t .at z ≡ some (entry kz (label l))
-    → Does t c (fell (x .level) (fallen-by x l .level)) (with-at t (put (t .at) (subject s) (subject-entry (fallen-by x l))))
-falls-in t c s i x z kz l e q a g h = by (ltb l (x .level)) refl
+    → t .at (subject s) ≡ subject-entry x → (u : Option Entry → Tables) → applies (steps t c) t ≡ u (fall (cell t s) (t .at (cell t s)) (t .at z))
+    → shown t c ≡ level-at (cell t s) → ((d : Entry) → reap (handles t) (u (some d)) .at (cell t s) ≡ some d) → t .at z ≡ some (entry kz (label l))
+    → Does t c (fell (x .level) (fallen-by x l .level)) (reap (handles t) (u (subject-entry (fallen-by x l))))
+falls-in t c s i x z kz l e q u a g w h = by (ltb l (x .level)) refl
   where
     falls-there : (y : Thing) → y ≡ subject s → falls y running ≡ true
     falls-there y f = ap (λ (v : Thing). falls v running) f
 
     by : (b : Bool) → ltb l (x .level) ≡ b
         → Does t c (fell (x .level) (cond b (record { live = x .live; level = l }) x .level))
-        (with-at t (put (t .at) (subject s) (subject-entry (cond b (record { live = x .live; level = l }) x))))
-    by true f = subst₂ (λ v u. Does t c v u) (sym (fell-by (x .level) l true f))
-        (ap₂ (λ (y : Thing) (v : Option Entry). with-at t (put (t .at) y v)) (cell-self t s) (sym (step-at t c e s i x q l)))
-        (sinks t c (cell t s) z running kz (x .level) l e a g (cell-is t c e s i x q) h true f (falls-there (cell t s) (cell-self t s)))
-    by false f = subst₂ (λ v u. Does t c v u) (sym (fell-by (x .level) l false f))
-        (ap₂ (λ (y : Thing) (v : Option Entry). with-at t (put (t .at) y v)) (cell-self t s) (sym (sym q ∙ step-is t c e s i x q)))
-        (sinks t c (cell t s) z running kz (x .level) l e a g (cell-is t c e s i x q) h false f (falls-there (cell t s) (cell-self t s)))
+        (reap (handles t) (u (subject-entry (cond b (record { live = x .live; level = l }) x))))
+    by true f = subst₂ (λ v n. Does t c v n) (sym (fell-by (x .level) l true f))
+        (ap (λ (v : Option Entry). reap (handles t) (u v)) (sym (step-at t c e s i x q l)))
+        (sinks t c (cell t s) z running kz (x .level) l e u a g w (cell-is t c e s i x q) h true f (falls-there (cell t s) (cell-self t s)))
+    by false f = subst₂ (λ v n. Does t c v n) (sym (fell-by (x .level) l false f))
+        (ap (λ (v : Option Entry). reap (handles t) (u v)) (sym (sym q ∙ step-is t c e s i x q)))
+        (sinks t c (cell t s) z running kz (x .level) l e u a g w (cell-is t c e s i x q) h false f (falls-there (cell t s) (cell-self t s)))
+
+-- where only y's entry changes, no pipe ends
+one-changed : (t : Tables) (y : Thing) (d : Entry) → reap (handles t) (with-at t (put (t .at) y (some d))) .at y ≡ some d
+one-changed t y d = ap (λ (u : Tables). u .at y) (steady t (put (t .at) y (some d))) ∙ put-same (t .at) y (some d)
 
 -- ── the handle at a place that is taken ──
 held-to : (h : Handle) (k : Held) → held h ≡ some k → k .to ≡ h .object
-held-to h k q = go (eqb (h .way) 0) (handle (cond (eqb (h .way) 1) reading writing) (h .object)) refl q
+held-to h k q = go (eqb (h .way) 0) (joins h) refl q
   where
     go : (b : Bool) (a : Held) → a .to ≡ h .object → cond b none (some a) ≡ some k → k .to ≡ h .object
     go true a e q = absurd (Option·none-ne-some k q)
@@ -400,17 +445,35 @@ pub read-does : (t : Tables) (w : Wf t) (s p : ℕ) (x : Subject) (h : Handle) (
     → t .hand s p ≡ held h → t .at (object (h .object)) ≡ object-entry y
     → Does t (access reading s p) (fell (x .level) (fallen-by x (y .level) .level))
     (with-at t (put (t .at) (subject s) (subject-entry (fallen-by x (y .level)))))
-read-does t w s p x h y e q r z = falls-in t (access reading s p) s (inl refl) x (object (h .object)) _ (y .level) e q
+read-does t w s p x h y e q r z = subst (Does t (access reading s p) (fell (x .level) (fallen-by x (y .level) .level)))
+    (steady t (put (t .at) (cell t s) v) ∙ ap (λ (c : Thing). with-at t (put (t .at) c v)) (cell-self t s))
+    (falls-in t (access reading s p) s (inl refl) x (object (h .object)) _ (y .level) e q (λ a. with-at t (put (t .at) (cell t s) a))
     (ap (λ (o : Thing). with-at t (put (t .at) (cell t s) (fall (cell t s) (t .at (cell t s)) (t .at o))))
-    (found-target t w (access reading s p) s p h e (inr (inl refl)) r)) refl
-    (thing-is t (access reading s p) e (h .object) (found-live t w (access reading s p) s p h e (inr (inl refl)) r) y z)
+    (found-target t w (access reading s p) s p h e (inr (inl refl)) r)) refl (one-changed t (cell t s))
+    (thing-is t (access reading s p) e (h .object) (found-live t w (access reading s p) s p h e (inr (inl refl)) r) y z))
+  where
+    v : Option Entry
+    v = subject-entry (fallen-by x (y .level))
 
 pub exec-does : (t : Tables) (s o : ℕ) (x : Subject) (y : Object) → refusal t (exec s o) ≡ none → t .at (subject s) ≡ subject-entry x
     → t .at (object o) ≡ object-entry y
-    → Does t (exec s o) (fell (x .level) (fallen-by x (y .level) .level)) (with-at t (put (t .at) (subject s) (subject-entry (fallen-by x (y .level)))))
+    → Does t (exec s o) (fell (x .level) (fallen-by x (y .level) .level)) (reap (handles t) (with-hand
+    (with-at t (put (t .at) (subject s) (subject-entry (fallen-by x (y .level))))) (row (t .hand) s (λ p. unmarked (t .hand s p)))))
 unfolding sheds
-exec-does t s o x y e q z = falls-in t (exec s o) s (inl refl) x (object o) _ (y .level) e q refl refl
-    (thing-is t (exec s o) e o (present-live t (exec s o) e o (inr (inl refl))) y z)
+exec-does t s o x y e q z = subst (Does t (exec s o) (fell (x .level) (fallen-by x (y .level) .level)))
+    (ap (λ (c : Thing). reap (handles t) (u c (subject-entry (fallen-by x (y .level))))) (cell-self t s))
+    (falls-in t (exec s o) s (inl refl) x (object o) _ (y .level) e q (u (cell t s)) refl refl
+    (λ d. stays d (cell t s) (sym (cell-self t s))) (thing-is t (exec s o) e o (present-live t (exec s o) e o (inr (inl refl))) y z))
+  where
+    u : Thing → Option Entry → Tables
+    u c v = with-hand (with-at t (put (t .at) c v)) (row (t .hand) s (λ p. unmarked (t .hand s p)))
+
+    -- a subject is no pipe, and does not end
+    stays : (d : Entry) (c : Thing) → subject s ≡ c → reap (handles t) (u c (some d)) .at c ≡ some d
+    stays d c f = subst (λ (c : Thing). reap (handles t) (u c (some d)) .at c ≡ some d) f
+        (cond-no (ended (handles t) (handles (u (subject s) (some d))) (subject s) (u (subject s) (some d) .at (subject s))) none
+        (u (subject s) (some d) .at (subject s))
+        (ended-subject (handles t) (handles (u (subject s) (some d))) s (u (subject s) (some d) .at (subject s))) ∙ put-same (t .at) (subject s) (some d))
 
 pub write-does : (t : Tables) (w : Wf t) (s p : ℕ) (x : Subject) (h : Handle) (y : Object) → refusal t (access writing s p) ≡ none
     → t .at (subject s) ≡ subject-entry x → t .hand s p ≡ held h → t .at (object (h .object)) ≡ object-entry y
@@ -443,17 +506,26 @@ write-does t w s p x h y e q r z = by (eqb (y .kind) 1) refl (ltb (x .level) (y 
     own-cell : t .at (cell t s) ≡ some (entry running (label (x .level)))
     own-cell = cell-is t (access writing s p) e s (inl refl) x q
 
+    u : Option Entry → Tables
+    u v = with-at t (put (t .at) (object (h .object)) v)
+
+    settled : {v v′ : Option Entry} → v ≡ v′ → reap (handles t) (u v) ≡ u v′
+    settled {v} f = steady t (put (t .at) (object (h .object)) v) ∙ ap u f
+
     by : (f : Bool) → eqb (y .kind) 1 ≡ f → (b : Bool) → ltb (x .level) (y .level) ≡ b
         → Does t (access writing s p) (fell (y .level) (cond f y (cond b (record { kind = y .kind; level = x .level }) y) .level))
         (with-at t (put (t .at) (object (h .object)) (object-entry (cond f y (cond b (record { kind = y .kind; level = x .level }) y)))))
     by true m b n = subst₂ (λ v u. Does t (access writing s p) v u)
         (sym (fell-by (y .level) (y .level) false (is-false (ltb (y .level) (y .level))
         (not-T (ltb (y .level) (y .level)) (λ j. omega (arith, ltb→lt (y .level) (y .level) j))))))
-        (ap (λ (v : Option Entry). with-at t (put (t .at) (object (h .object)) v)) (sym (sym z ∙ kind-is true m)))
-        (keeps t (access writing s p) (object (h .object)) (cell t s) file running (y .level) (x .level) e a g (kind-is true m) own-cell refl)
+        (settled (sym (sym z ∙ kind-is true m)))
+        (keeps t (access writing s p) (object (h .object)) (cell t s) file running (y .level) (x .level) e u a g (one-changed t (object (h .object)))
+        (kind-is true m) own-cell refl)
     by false m true n = subst₂ (λ v u. Does t (access writing s p) v u) (sym (fell-by (y .level) (x .level) true n))
-        (ap (λ (v : Option Entry). with-at t (put (t .at) (object (h .object)) v)) (sym (pipe-at m (x .level))))
-        (sinks t (access writing s p) (object (h .object)) (cell t s) pipe running (y .level) (x .level) e a g (kind-is false m) own-cell true n refl)
+        (settled (sym (pipe-at m (x .level))))
+        (sinks t (access writing s p) (object (h .object)) (cell t s) pipe running (y .level) (x .level) e u a g (one-changed t (object (h .object)))
+        (kind-is false m) own-cell true n refl)
     by false m false n = subst₂ (λ v u. Does t (access writing s p) v u) (sym (fell-by (y .level) (x .level) false n))
-        (ap (λ (v : Option Entry). with-at t (put (t .at) (object (h .object)) v)) (sym (sym z ∙ kind-is false m)))
-        (sinks t (access writing s p) (object (h .object)) (cell t s) pipe running (y .level) (x .level) e a g (kind-is false m) own-cell false n refl)
+        (settled (sym (sym z ∙ kind-is false m)))
+        (sinks t (access writing s p) (object (h .object)) (cell t s) pipe running (y .level) (x .level) e u a g (one-changed t (object (h .object)))
+        (kind-is false m) own-cell false n refl)

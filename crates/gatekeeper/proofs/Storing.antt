@@ -8,7 +8,7 @@ use Prim.Native.Nat.{ℕ, _+_, _*_, _%_, _≤_, _<_}
 use native.Mathlib.Omega.{arith}
 use borrow.Author.Tests.{lt-ltb, ltb-true, ltb-false}
 use lib.ListN.{getD, set, length-set, replicate, getD-replicate}
-use lib.Dec.{T, ltb, ltb→lt}
+use lib.Dec.{T, eqb, ltb, ltb→lt}
 use Rattle.model.specs.Bools.{is-false, both-of}
 use Rattle.model.specs.Lists.{In}
 use Rattle.model.specs.Label.{Label, leq, label}
@@ -16,17 +16,17 @@ use Rattle.model.specs.Flow.{Thing, subject, object}
 use Rattle.model.specs.Tables.{pipe, reading, writing, entry, handle, Tables, empty, with-at, with-hand, live, label-of, handles, open-on, needs, safe}
 use Rattle.model.specs.Tables.{Handle as Held}
 use Rattle.model.specs.Tables.Laws.{live-of, cell-self, handles-by}
-use Rattle.model.specs.Steps.{put, row, place, reap}
+use Rattle.model.specs.Steps.{put, row, place, applies, reap}
 use Rattle.model.specs.Invariant.{Wf}
-use Rattle.model.specs.Invariant.Laws.{wf-hold}
-use Rattle.model.specs.Calls.{Call, admit, register, create, make-pipe, opens, access, fork, exec, close, exit, retire, freeze, sheds, Test, number, alive, present, vacant, leveled, freezable, enough, suits, idle, thawed, broken, tests, order, earlier, breaks, refusal, allowed}
+use Rattle.model.specs.Invariant.Laws.{less-wf, wf-hold}
+use Rattle.model.specs.Calls.{Call, admit, register, create, make-pipe, opens, access, fork, exec, close, exit, retire, mark, freeze, marking, unmarked, sheds, Test, number, alive, present, vacant, leveled, freezable, enough, suits, idle, thawed, broken, tests, order, earlier, breaks, refusal, allowed}
 use Rattle.model.specs.Calls.{Answer as Told}
 use Rattle.model.specs.Calls.Refusals.{refused-by}
-use Rattle.model.specs.Calls.Passed.{is-alive, is-present, is-place}
+use Rattle.model.specs.Calls.Passed.{is-alive, is-present, is-place, sheds-less}
 use Rattle.tables.specs.declared.Subject.{Subject}
 use Rattle.tables.specs.declared.Object.{Object}
 use Rattle.tables.specs.declared.Handle.{Handle}
-use Rattle.tables.specs.Records.{subject-entry, object-entry, held, no-subject, no-object, no-handle, hands, along, tables-of}
+use Rattle.tables.specs.Records.{subject-entry, object-entry, joins, held, no-subject, no-object, no-handle, hands, along, tables-of}
 use Rattle.tables.specs.Records.Laws.{subject-there, object-there, handle-there, store-subject, store-object, store-handle, store-close}
 use Rattle.tables.specs.Refusing.{Refuses, Late, direction}
 use Rattle.tables.proofs.Finding.{alone}
@@ -35,7 +35,7 @@ use Rattle.gatekeeper.specs.declared.Monitor.{Monitor}
 use Rattle.gatekeeper.specs.View.{beside, view}
 use Rattle.gatekeeper.specs.Acting.{Acts, fell, way-by}
 use Rattle.gatekeeper.proofs.Owned.{Owned, subjects-long, objects-long, handles-long}
-use Rattle.gatekeeper.proofs.Doing.{Does, passed, row-low, live-low, new-row, new-column, place-low, found, found-place, found-to, found-live, full-object, admit-does, register-does, create-does, pipe-does, open-does, read-does, write-does, fork-does, exec-does, close-does, exit-does, retire-does, freeze-does}
+use Rattle.gatekeeper.proofs.Doing.{Does, passed, row-low, live-low, new-row, new-column, place-low, found, found-place, found-to, found-live, full-object, admit-does, register-does, create-does, pipe-does, open-does, read-does, write-does, fork-does, exec-does, close-does, exit-does, retire-does, mark-does, freeze-does}
 use Rattle.gatekeeper.proofs.Acting.{acts}
 
 -- the monitor with these arrays, and what else m has
@@ -76,7 +76,15 @@ early-passed t c z d i h = go (refusal t c) refl
     go none q = passed t c q d i
     go (some n) q = refused-by t c n q .1 d i (before (breaks t 9 (tests c)) (breaks t 10 (tests c)) (breaks t 15 (tests c)) n (sym (z .said) ∙ q))
 
--- the flow test of whole arrays
+-- the handles with one row of places changed; the objects that are left when pipes end; the flow test of whole arrays
+abbrev Rowed : List Handle → ℕ → List Handle → List Handle → Type 0
+Rowed hs s places after = (rest : Tables) (ss : List Subject) (os : List Object)
+    → tables-of rest ss os after ≡ with-hand (tables-of rest ss os hs) (row (hands hs) s (along places))
+
+abbrev Reaps : List Object → List Handle → List Handle → List Object → Type 0
+Reaps os before after left = (rest : Tables) (ss : List Subject) (t : Tables) → handles t ≡ handles (with-hand empty (hands before))
+    → tables-of rest ss left after ≡ reap (handles t) (tables-of rest ss os after)
+
 abbrev Shorts : List Subject → List Object → List Handle → Bool → Type 0
 Shorts ss os hs r = (rest : Tables) → Wf (tables-of rest ss os hs) → r ≡ not (safe (tables-of rest ss os hs))
 
@@ -148,7 +156,7 @@ module _ (m : Monitor) (g : Owned m) where
   -- ── pipe ──
   pub pipes : (s o r w : ℕ) (x : Subject) → refusal (view m) (make-pipe s o r w) ≡ none → view m .at (subject s) ≡ subject-entry x
       → Acts m (make-pipe s o r w) (allowed (x .level)) (monitor m (m .subjects) (set (m .objects) (o % 64) (record { kind = 2; level = x .level }))
-      (set (set (m .handles) (s % 32 * 16 + r % 16) (record { way = 1; object = o % 64 })) (s % 32 * 16 + w % 16) (record { way = 2; object = o % 64 })))
+      (set (set (m .handles) (s % 32 * 16 + r % 16) (record { way = 1; object = o % 64; mark = 0 })) (s % 32 * 16 + w % 16) (record { way = 2; object = o % 64; mark = 0 })))
   pipes s o r w x e q = acts m (make-pipe s o r w) (allowed (x .level)) _ _ (pipe-does (view m) s o r w x e q)
       (store-handle (beside m) (m .subjects) (set (m .objects) (o % 64) y) (set (m .handles) (s % 32 * 16 + r % 16) h) s w k
       (simp length-set (handles-long m g)) row-is (place-low (view m) (make-pipe s o r w) e s w (inr (inr (inr (inl refl)))))
@@ -169,10 +177,10 @@ module _ (m : Monitor) (g : Owned m) where
       y = record { kind = 2; level = x .level }
 
       h : Handle
-      h = record { way = 1; object = o % 64 }
+      h = record { way = 1; object = o % 64; mark = 0 }
 
       k : Handle
-      k = record { way = 2; object = o % 64 }
+      k = record { way = 2; object = o % 64; mark = 0 }
 
   -- ── close, exit, fork ──
   pub closes : (s p : ℕ) (x : Subject) (h : Handle) (r : Object) → Wf (view m) → refusal (view m) (close s p) ≡ none → view m .at (subject s) ≡ subject-entry x
@@ -191,10 +199,7 @@ module _ (m : Monitor) (g : Owned m) where
 
   pub exits : (s : ℕ) (x : Subject) (places : List Handle) (after : List Handle) (left : List Object) → refusal (view m) (exit s) ≡ none
       → view m .at (subject s) ≡ subject-entry x → ((p : ℕ) → along places p ≡ none)
-      → ((rest : Tables) (ss : List Subject) (os : List Object) → tables-of rest ss os after ≡ with-hand (tables-of rest ss os (m .handles))
-      (row (hands (m .handles)) (s % 32) (along places)))
-      → ((rest : Tables) (ss : List Subject) (t : Tables) → handles t ≡ handles (with-hand empty (hands (m .handles))) → tables-of rest ss left after ≡ reap
-      (handles t) (tables-of rest ss (m .objects) after))
+      → Rowed (m .handles) (s % 32) places after → Reaps (m .objects) (m .handles) after left
       → Acts m (exit s) (allowed (x .level)) (monitor m (set (m .subjects) (s % 32) no-subject) left after)
   unfolding tables-of
   exits s x places after left e q n a b = acts m (exit s) (allowed (x .level)) _ _ (exit-does (view m) s x e q)
@@ -209,8 +214,7 @@ module _ (m : Monitor) (g : Owned m) where
 
   pub forks : (s c : ℕ) (x : Subject) (places after : List Handle) → Wf (view m) → refusal (view m) (fork s c) ≡ none → view m .at (subject s) ≡ subject-entry x
       → ((p : ℕ) → along places p ≡ hands (m .handles) (s % 32) p)
-      → ((rest : Tables) (ss : List Subject) (os : List Object) → tables-of rest ss os after ≡ with-hand (tables-of rest ss os (m .handles))
-      (row (hands (m .handles)) (c % 32) (along places)))
+      → Rowed (m .handles) (c % 32) places after
       → Acts m (fork s c) (allowed (x .level)) (monitor m (set (m .subjects) (c % 32) (record { live = 1; level = x .level })) (m .objects) after)
   unfolding tables-of
   forks s c x places after w e q n a = acts m (fork s c) (allowed (x .level)) _ _ (fork-does (view m) s c x w e q)
@@ -244,17 +248,17 @@ module _ (m : Monitor) (g : Owned m) where
     low-p : p < 16
     low-p = is-place (view m) s p (early-passed (view m) (opens (direction b) s o p) z (vacant s p) (inr (inr (inl refl))) tt)
 
-    way-held : (b : Bool) (n : ℕ) → held (record { way = way-by b; object = n }) ≡ some (handle (direction b) n)
+    way-held : (b : Bool) (n : ℕ) → held (record { way = way-by b; object = n; mark = 0 }) ≡ some (handle (direction b) n)
     way-held true n = refl
     way-held false n = refl
 
     abbrev next : List Handle
-    next = set (m .handles) (s % 32 * 16 + p % 16) (record { way = v; object = o % 64 })
+    next = set (m .handles) (s % 32 * 16 + p % 16) (record { way = v; object = o % 64; mark = 0 })
 
     placed : view (monitor m (m .subjects) (m .objects) next) ≡ with-hand (view m) (place (view m .hand) s p (some (handle (direction b) o)))
-    placed = store-handle (beside m) (m .subjects) (m .objects) (m .handles) s p (record { way = v; object = o % 64 }) (handles-long m g) low-s low-p
+    placed = store-handle (beside m) (m .subjects) (m .objects) (m .handles) s p (record { way = v; object = o % 64; mark = 0 }) (handles-long m g) low-s low-p
         ∙ ap (λ (k : Option Held). with-hand (view m) (place (view m .hand) s p k))
-        (ap (λ (j : ℕ). held (record { way = j; object = o % 64 })) y ∙ way-held b (o % 64) ∙ ap
+        (ap (λ (j : ℕ). held (record { way = j; object = o % 64; mark = 0 })) y ∙ way-held b (o % 64) ∙ ap
         (λ (n : ℕ). some (handle (direction b) n)) same)
       where
         same : o % 64 ≡ o
@@ -275,33 +279,66 @@ module _ (m : Monitor) (g : Owned m) where
     opens-acts e = acts m (opens (direction b) s o p) (allowed (x .level)) _ _ (open-does (view m) (direction b) s o p x e k) placed
 
   -- ── exec ──
-  module _ (s o : ℕ) (y : Object) (w : Wf (view m)) (z : Refuses (view m) (exec s o) 0) (q : view m .at (object o) ≡ object-entry y) where
+  module _ (s o : ℕ) (y : Object) (places kept after : List Handle) (w : Wf (view m)) (z : Refuses (view m) (exec s o) 0)
+      (q : view m .at (object o) ≡ object-entry y) (n : (p : ℕ) → along places p ≡ hands (m .handles) (s % 32) p)
+      (k : (p : ℕ) → along kept p ≡ unmarked (along places p)) (a : Rowed (m .handles) (s % 32) kept after) where
     exec-lives : T (live (view m) (subject s))
     exec-lives = is-alive (view m) s (early-passed (view m) (exec s o) z (alive s) (inl refl) tt)
 
     exec-there : T (live (view m) (object o))
     exec-there = is-present (view m) o (early-passed (view m) (exec s o) z (present o) (inr (inl refl)) tt)
 
-    pub exec-late : (r : Bool) → ((rest : Tables) (ss : List Subject) → Wf (tables-of rest ss (m .objects) (m .handles)) → r ≡ not
-        (leq (needs (tables-of rest ss (m .objects) (m .handles)) (subject (s % 32))) (label (y .level)))) → Late (view m) (exec s o) r false false
-    unfolding sheds
+    same-row : s % 32 ≡ s
+    same-row = omega (arith, ltb→lt s 32 (live-of (view m) (subject s) exec-lives .0))
+
+    -- the handles are those that are left once the marked ones of s are dropped
+    shed : (ss : List Subject) → tables-of (beside m) ss (m .objects) after ≡ with-hand (tables-of (beside m) ss (m .objects) (m .handles))
+        (row (hands (m .handles)) s (λ p. unmarked (hands (m .handles) s p)))
+    shed ss = a (beside m) ss (m .objects) ∙ ap (with-hand (tables-of (beside m) ss (m .objects) (m .handles)))
+        (ap₂ (λ (i : ℕ) (f : ℕ → Option Held). row (hands (m .handles)) i f) same-row
+        (fun-ext (λ p. k p ∙ ap unmarked (n p ∙ ap (λ (i : ℕ). hands (m .handles) i p) same-row))))
+
+    pub exec-late : (r : Bool) → ((rest : Tables) (ss : List Subject) → Wf (tables-of rest ss (m .objects) after) → r ≡ not
+        (leq (needs (tables-of rest ss (m .objects) after) (subject (s % 32))) (label (y .level)))) → Late (view m) (exec s o) r false false
+    unfolding sheds tables-of
     exec-late r f = record { nine = alone unfit; ten = refl; fifteen = refl }
       where
-        same : s % 32 ≡ s
-        same = omega (arith, ltb→lt s 32 (live-of (view m) (subject s) exec-lives .0))
+        u : Tables
+        u = applies (sheds (view m) s) (view m)
 
         own : label-of (view m .at (object o)) ≡ label (y .level)
         own = ap label-of (full-object (view m) o y q exec-there)
 
         unfit : broken (view m) (suits s o) ≡ r
-        unfit = sym (f (beside m) (m .subjects) w ∙ ap₂ (λ (x : Thing) (a : Label). not (leq (needs (view m) x) a))
-            (ap subject same ∙ sym (cell-self (view m) s)) (sym own))
+        unfit = sym (f (beside m) (m .subjects) (subst Wf (sym (shed (m .subjects))) (less-wf (sheds-less (view m) s) w))
+            ∙ ap (λ (v : Tables). not (leq (needs v (subject (s % 32))) (label (y .level)))) (shed (m .subjects))
+            ∙ ap₂ (λ (x : Thing) (b : Label). not (leq (needs u x) b)) (ap subject same-row ∙ sym (cell-self (view m) s)) (sym own))
 
-    pub execs : (x v : Subject) (a : Told) → view m .at (subject s) ≡ subject-entry x → refusal (view m) (exec s o) ≡ none → v ≡ fallen-by x (y .level)
-        → a ≡ fell (x .level) (v .level) → Acts m (exec s o) a (monitor m (set (m .subjects) (s % 32) v) (m .objects) (m .handles))
-    execs x v a r e f k = acts m (exec s o) a _ _ (subst₂ (λ (b : Told) (z : Subject). Does (view m) (exec s o) b
-        (with-at (view m) (put (view m .at) (subject s) (subject-entry z)))) (sym (k ∙ ap (λ (z : Subject). fell (x .level) (z .level)) f)) (sym f)
-        (exec-does (view m) s o x y e r q)) (put-subject s v (row-low (view m) (exec s o) e s (inl refl)))
+    pub execs : (x v : Subject) (left : List Object) (b : Told) → view m .at (subject s) ≡ subject-entry x → refusal (view m) (exec s o) ≡ none
+        → v ≡ fallen-by x (y .level) → b ≡ fell (x .level) (v .level) → Reaps (m .objects) (m .handles) after left
+        → Acts m (exec s o) b (monitor m (set (m .subjects) (s % 32) v) left after)
+    unfolding tables-of
+    execs x v left b r e f h d = acts m (exec s o) b _ _ (subst₂ (λ (c : Told) (z : Subject). Does (view m) (exec s o) c (reap (handles (view m))
+        (with-hand (with-at (view m) (put (view m .at) (subject s) (subject-entry z))) dropped)))
+        (sym (h ∙ ap (λ (z : Subject). fell (x .level) (z .level)) f)) (sym f) (exec-does (view m) s o x y e r q))
+        (d (beside m) _ (view m) (all-handles m) ∙ ap (reap (handles (view m))) (shed (set (m .subjects) (s % 32) v)
+        ∙ ap (λ (u : Tables). with-hand u dropped) (put-subject s v (row-low (view m) (exec s o) e s (inl refl)))))
+      where
+        dropped : ℕ → ℕ → Option Held
+        dropped = row (hands (m .handles)) s (λ p. unmarked (hands (m .handles) s p))
+
+  -- ── mark ──
+  pub marks : (s p : ℕ) (x : Subject) (h : Handle) → Wf (view m) → refusal (view m) (mark s p) ≡ none → view m .at (subject s) ≡ subject-entry x
+      → view m .hand s p ≡ held h → Acts m (mark s p) (allowed (x .level))
+      (monitor m (m .subjects) (m .objects) (set (m .handles) (s % 32 * 16 + p % 16) (record { way = h .way; object = h .object; mark = 1 })))
+  marks s p x h w e q r = acts m (mark s p) (allowed (x .level)) _ _ (mark-does (view m) s p x e q)
+      (store-handle (beside m) (m .subjects) (m .objects) (m .handles) s p (record { way = h .way; object = h .object; mark = 1 }) (handles-long m g)
+      (row-low (view m) (mark s p) e s (inl refl)) (found-place (view m) w (mark s p) s p h e (inr (inl refl)) r)
+      ∙ ap (λ (v : Option Held). with-hand (view m) (place (view m .hand) s p v)) (go (eqb (h .way) 0) ∙ ap marking (sym r)))
+    where
+      go : (b : Bool) → cond b none (some (joins (record { way = h .way; object = h .object; mark = 1 }))) ≡ marking (cond b none (some (joins h)))
+      go true = refl
+      go false = refl
 
   -- ── retire ──
   module _ (o : ℕ) (z : Refuses (view m) (retire o) 0) where

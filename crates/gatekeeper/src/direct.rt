@@ -41,6 +41,7 @@ impl Monitor {
             11 => self.close(a, b),
             12 => self.exit(a),
             13 => self.retire(a),
+            15 => self.mark(a, b),
             16 => self.freeze(a),
             _ => self.refuse(1),
         }

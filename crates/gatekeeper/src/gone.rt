@@ -37,6 +37,7 @@ impl Monitor {
         self.handles[at] = Handle {
             way: EMPTY,
             object: 0,
+            mark: 0,
         };
         let handles = self.handles;
         let j = h.object as usize % OBJECTS;
@@ -64,6 +65,7 @@ impl Monitor {
         let row = [Handle {
             way: EMPTY,
             object: 0,
+            mark: 0,
         }; PLACES];
         let objects = self.objects;
         let before = self.handles;

@@ -109,7 +109,7 @@ fn way_of(reads: bool) -> u8
 }
 
 impl Monitor {
-    // The empty tables. The free part (model, `Promise`: the level beside a number that is not in use, the object beside an empty place) is
+    // The empty tables. The free part (model, `Promise`: the level beside a number that is not in use, the object and mark beside an empty place) is
     // any; this code has zeros there.
     pub fn empty() -> Monitor
         ensures { λ r. ⌜ view r ≡ empty ⌝ }
@@ -122,6 +122,7 @@ impl Monitor {
         let handles = [Handle {
             way: EMPTY,
             object: 0,
+            mark: 0,
         }; HANDLES];
         Monitor {
             subjects: subjects,

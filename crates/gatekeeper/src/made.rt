@@ -1,6 +1,6 @@
-// Calls that make things and place handles, on tables in which nothing dangles.
+// Calls that make things, and that place and mark handles, on tables in which nothing dangles.
 ghost use Rattle.model.specs.Invariant.{Wf};
-ghost use Rattle.model.specs.Calls.{admit, register, create, make-pipe, opens, fork};
+ghost use Rattle.model.specs.Calls.{admit, register, create, make-pipe, opens, fork, mark};
 ghost use Rattle.gatekeeper.specs.View.{view, told};
 ghost use Rattle.gatekeeper.specs.Acting.{Acts};
 ghost use Rattle.tables.specs.Refusing.{direction};
@@ -119,10 +119,12 @@ impl Monitor {
         self.handles[reader] = Handle {
             way: READS,
             object: number,
+            mark: 0,
         };
         self.handles[writer] = Handle {
             way: WRITES,
             object: number,
+            mark: 0,
         };
         Reply {
             monitor: self,
@@ -157,6 +159,7 @@ impl Monitor {
         next[at] = Handle {
             way: way,
             object: number,
+            mark: 0,
         };
         let short = flows::is_short(subjects, objects, next);
         let frozen = refusals::is_frozen(self.freeze, reads, y);
@@ -194,6 +197,32 @@ impl Monitor {
         let row = handles::row_of(handles, i);
         let all = handles::with_row(handles, k, row);
         self.handles = all;
+        Reply {
+            monitor: self,
+            answer: Answer::Allowed(x.level),
+        }
+    }
+
+    // Call 15: the handle at place p of s is marked.
+    pub(crate) fn mark(mut self, s: u32, p: u32) -> Reply
+        requires { ⌜ Wf (view self) ⌝ }
+        ensures { λ r. ⌜ Acts self (mark s p) (told (r .answer)) (r .monitor) ⌝ }
+    {
+        let i = s as usize % SUBJECTS;
+        let at = i * PLACES + p as usize % PLACES;
+        let step = self.subjects[i];
+        let there = self.handles[at];
+        let x = looks::subject_at(s, step);
+        let h = looks::handle_at(s, p, there);
+        let n = refusals::of_mark(x, h);
+        if n != 0 {
+            return self.refuse(n);
+        }
+        self.handles[at] = Handle {
+            way: h.way,
+            object: h.object,
+            mark: 1,
+        };
         Reply {
             monitor: self,
             answer: Answer::Allowed(x.level),

@@ -63,7 +63,7 @@ impl Monitor {
         }
     }
 
-    // Call 10: file o is run; s falls to o's level if lower; handles are kept.
+    // Call 10: file o is run; s falls to o's level if lower; its marked handles are closed, and pipes end with their last handles.
     pub(crate) fn exec(mut self, s: u32, o: u32) -> Reply
         requires { ⌜ Wf (view self) ⌝ }
         ensures { λ r. ⌜ Acts self (exec s o) (told (r .answer)) (r .monitor) ⌝ }
@@ -79,14 +79,20 @@ impl Monitor {
             return self.refuse(n);
         }
         let objects = self.objects;
-        let handles = self.handles;
-        let short = flows::is_below(objects, handles, i, y.level);
+        let before = self.handles;
+        let row = handles::row_of(before, i);
+        let kept = handles::unmarked(row);
+        let after = handles::with_row(before, i, kept);
+        let short = flows::is_below(objects, after, i, y.level);
         let late = refusals::last(short, false, false);
         if late != 0 {
             return self.refuse(late);
         }
         let put = looks::fallen(x, y.level);
+        let left = handles::reaped(objects, before, after);
         self.subjects[i] = put;
+        self.objects = left;
+        self.handles = after;
         Reply {
             monitor: self,
             answer: crate::fallen(x.level, put.level),

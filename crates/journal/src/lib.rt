@@ -37,7 +37,7 @@ const ARITIES: [usize; CODES] = [
     1, // exit s
     1, // retire o
     0, // no call
-    0, // no call
+    2, // mark s, p
     1, // freeze level
 ];
 

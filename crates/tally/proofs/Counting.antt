@@ -3,7 +3,7 @@ use mathlib.Core.Path.{_≡_, refl, sym, _∙_, ap, ap₂, subst, fun-ext}
 use mathlib.Core.Bool.{true, false}
 use mathlib.Core.Option.{Option, none, some}
 use mathlib.Core.List.{List}
-use Prim.Native.Nat.{ℕ, _+_, _≤_}
+use Prim.Native.Nat.{ℕ, _+_, _-_, _≤_}
 use native.Mathlib.Omega.{arith}
 use Rattle.tally.proofs.Pick.{past}
 use native.Mathlib.Numerals.{add-one}
@@ -15,11 +15,11 @@ use Rattle.model.specs.Flow.{subject}
 use Rattle.model.specs.Tables.{Tables, one, clean}
 use Rattle.model.specs.Tables.Laws.{live-of}
 use Rattle.model.specs.Invariant.{Wf}
-use Rattle.model.specs.Calls.{Call, decode, refusal, Answer, allowed, lowered, refused, answer}
+use Rattle.model.specs.Calls.{Call, unmarked, decode, refusal, Answer, allowed, lowered, refused, answer}
 use Rattle.model.specs.Calls.Codes.{decode-by}
 use Rattle.model.specs.Calls.Refusals.{answered-refused}
-use Rattle.model.specs.Tally.{held, makes, removes, wrapped, tallied}
-use Rattle.model.specs.Tally.Laws.{each-none}
+use Rattle.model.specs.Tally.{held, marks, makes, removes, wrapped, tallied}
+use Rattle.model.specs.Tally.Laws.{each-parts}
 use Rattle.model.specs.Tables.{Handle as Held}
 use Rattle.model.specs.Tally.{Tally as Counts}
 use Rattle.tables.specs.declared.Subject.{Subject}
@@ -32,14 +32,15 @@ use Rattle.tally.specs.Counting.{made-by, gone-by}
 -- ── what a code makes and removes ──
 pub makes-is : (t : Tables) (code a b c d : ℕ) → makes t (decode (direct code a b c d)) ≡ made-by code (held t a)
 makes-is t code a b c d = decode-by (λ (k : Call). makes t k ≡ made-by code (held t a)) (direct code a b c d)
-    (λ e. rw e, (λ e. rw e, (λ e. rw e, (λ e. rw e, (λ e. rw e, (λ e. rw e, (λ e. rw e, (λ e. rw e, (λ e. rw e, (λ e. rw e, (λ e. rw e, (λ e. rw e, (λ e. rw e, (λ e. rw e, tt))))))))))))))
+    (λ e. rw e, (λ e. rw e, (λ e. rw e, (λ e. rw e, (λ e. rw e, (λ e. rw e, (λ e. rw e, (λ e. rw e, (λ e. rw e, (λ e. rw e, (λ e. rw e, (λ e. rw e, (λ e. rw e, (λ e. rw e, (λ e. rw e, tt)))))))))))))))
     (λ m. past (eqb code 4) 2 _ (ne-eqb code 4 (m .1 .1 .1 .0)) (past (eqb code 5) 1 _ (ne-eqb code 5 (m .1 .1 .1 .1 .0))
     (past (eqb code 6) 1 _ (ne-eqb code 6 (m .1 .1 .1 .1 .1 .0)) (past (eqb code 9) (held t a) _ (ne-eqb code 9 (m .1 .1 .1 .1 .1 .1 .1 .1 .0)) refl))))
 
-pub removes-is : (t : Tables) (code a b c d : ℕ) → removes t (decode (direct code a b c d)) ≡ gone-by code (held t a)
-removes-is t code a b c d = decode-by (λ (k : Call). removes t k ≡ gone-by code (held t a)) (direct code a b c d)
-    (λ e. rw e, (λ e. rw e, (λ e. rw e, (λ e. rw e, (λ e. rw e, (λ e. rw e, (λ e. rw e, (λ e. rw e, (λ e. rw e, (λ e. rw e, (λ e. rw e, (λ e. rw e, (λ e. rw e, (λ e. rw e, tt))))))))))))))
-    (λ m. past (eqb code 11) 1 _ (ne-eqb code 11 (m .1 .1 .1 .1 .1 .1 .1 .1 .1 .1 .0)) (past (eqb code 12) (held t a) _ (ne-eqb code 12 (m .1 .1 .1 .1 .1 .1 .1 .1 .1 .1 .1 .0)) refl))
+pub removes-is : (t : Tables) (code a b c d : ℕ) → removes t (decode (direct code a b c d)) ≡ gone-by code (held t a) (marks t a)
+removes-is t code a b c d = decode-by (λ (k : Call). removes t k ≡ gone-by code (held t a) (marks t a)) (direct code a b c d)
+    (λ e. rw e, (λ e. rw e, (λ e. rw e, (λ e. rw e, (λ e. rw e, (λ e. rw e, (λ e. rw e, (λ e. rw e, (λ e. rw e, (λ e. rw e, (λ e. rw e, (λ e. rw e, (λ e. rw e, (λ e. rw e, (λ e. rw e, tt)))))))))))))))
+    (λ m. past (eqb code 10) (marks t a) _ (ne-eqb code 10 (m .1 .1 .1 .1 .1 .1 .1 .1 .1 .0)) (past (eqb code 11) 1 _ (ne-eqb code 11 (m .1 .1 .1 .1 .1 .1 .1 .1 .1 .1 .0))
+    (past (eqb code 12) (held t a) _ (ne-eqb code 12 (m .1 .1 .1 .1 .1 .1 .1 .1 .1 .1 .1 .0)) refl)))
 
 -- ── the handles of a subject ──
 abbrev pub held-below : (ℕ → Option Held) → ℕ → ℕ
@@ -53,12 +54,29 @@ one-short none = omega arith
 one-short (some k) = omega arith
 
 -- a subject out of range holds none
-pub held-none : (t : Tables) → Wf t → (s : ℕ) → 32 ≤ s → 0 ≡ held t s
-held-none t w s h = sym (each-none 16 (λ p. one (t .hand s p)) (λ p. point p (t .hand s p) refl))
+pub none-held : (t : Tables) → Wf t → (s : ℕ) → 32 ≤ s → (p : ℕ) → t .hand s p ≡ none
+none-held t w s h p = go (t .hand s p) refl
   where
-    point : (p : ℕ) (o : Option Held) → t .hand s p ≡ o → length (one (t .hand s p)) ≡ 0
-    point p none q = ap (λ (o : Option Held). length (one o)) q
-    point p (some k) q = absurd (omega (arith, ltb→lt s 32 (live-of t (subject s) (w .ends s p k q .from) .0)))
+    go : (o : Option Held) → t .hand s p ≡ o → o ≡ none
+    go none q = refl
+    go (some k) q = absurd (omega (arith, ltb→lt s 32 (live-of t (subject s) (w .ends s p k q .from) .0)))
+
+-- the places of s, counted, and those without a mark
+module _ (t : Tables) (s : ℕ) (row : List Handle) (e : (p : ℕ) → along row p ≡ t .hand s p) where
+  pub held-is : (n : ℕ) → n ≡ length (each 16 (λ p. one (along row p))) → n ≡ held t s
+  held-is n q = q ∙ ap (λ (g : ℕ → Option Held). length (each 16 (λ p. one (g p)))) (fun-ext e)
+
+  module _ (left : List Handle) (all rest : ℕ) (f : (p : ℕ) → along left p ≡ unmarked (along row p)) (qa : all ≡ length (each 16 (λ p. one (along row p))))
+      (qr : rest ≡ length (each 16 (λ p. one (along left p)))) where
+    parts : all ≡ marks t s + rest
+    parts = held-is all qa ∙ each-parts 16 (t .hand s) ∙ ap (λ (k : ℕ). marks t s + k)
+        (sym (qr ∙ ap (λ (g : ℕ → Option Held). length (each 16 (λ p. one (g p)))) (fun-ext (λ p. f p ∙ ap unmarked (e p)))))
+
+    pub rest-within : rest ≤ all
+    rest-within = omega (arith, parts)
+
+    pub marks-is : all - rest ≡ marks t s
+    marks-is = omega (arith, parts)
 
 -- ── the tally after a call ──
 false-true : false ≡ true → ⊥
@@ -82,8 +100,9 @@ tally-moved x t c y m g e q em eg = go (refusal t c) refl
     go none z = ap₂ (λ (u v : ℕ). record { made = u; gone = v }) em eg
     go (some n) z = absurd (false-true (sym q ∙ ap refuses (e ∙ answered-refused t c n .1 z)))
 
--- the row of s in the cleaned handles, counted
-pub row-held : (rest : Tables) (ss : List Subject) (os : List Object) (hs kept places : List Handle) (s n : ℕ) → tables-of rest ss os kept ≡ clean (tables-of rest ss os hs)
-    → ((p : ℕ) → along places p ≡ hands kept s p) → n ≡ length (each 16 (λ p. one (along places p))) → n ≡ held (clean (tables-of rest ss os hs)) s
+-- the row of s in the cleaned handles
+pub row-is : (rest : Tables) (ss : List Subject) (os : List Object) (hs kept places : List Handle) (s : ℕ)
+    → tables-of rest ss os kept ≡ clean (tables-of rest ss os hs) → ((p : ℕ) → along places p ≡ hands kept s p)
+    → (p : ℕ) → along places p ≡ clean (tables-of rest ss os hs) .hand s p
 unfolding tables-of
-row-held rest ss os hs kept places s n e f q = q ∙ ap (λ (g : ℕ → Option Held). length (each 16 (λ p. one (g p)))) (fun-ext f) ∙ ap (λ (u : Tables). held u s) e
+row-is rest ss os hs kept places s e f p = f p ∙ ap (λ (u : Tables). u .hand s p) e

@@ -1,9 +1,11 @@
 // The counted call: handles made and handles gone, over the history of calls (RULES Y1 to Y12).
 ghost use mathlib.Core.Path.{_≡_};
+ghost use Prim.Native.Nat.{ℕ};
 ghost use lib.ListN.{length};
 ghost use Rattle.model.specs.Lists.{each};
 ghost use Rattle.model.specs.Tables.{one, clean};
 ghost use Rattle.model.specs.Tally.{held as held-count};
+ghost use Rattle.model.specs.Tally.{marks};
 ghost use Rattle.tables.specs.Records.{held, along};
 ghost use Rattle.gatekeeper.specs.View.{view};
 ghost use Rattle.tally.specs.Counting.{Counting, made-by, gone-by};
@@ -51,20 +53,41 @@ fn count(row: [Handle; PLACES]) -> u64
     n
 }
 
-// How many handles subject s holds, in the tables as they are read.
-fn held_by(monitor: Monitor, s: u32) -> u64
-    ensures { λ r. ⌜ r ≡ held-count (clean (view monitor)) s ⌝ }
+// The places of subject s, in the tables as they are read.
+fn row_by(monitor: Monitor, s: u32) -> [Handle; PLACES]
+    ensures { λ r. ⌜ ((p : ℕ) → along r p ≡ clean (view monitor) .hand s p) ⌝ }
 {
     if SUBJECTS as u32 <= s {
-        return 0;
+        return [Handle {
+            way: EMPTY,
+            object: 0,
+            mark: 0,
+        }; PLACES];
     }
     let subjects = monitor.subjects;
     let objects = monitor.objects;
     let handles = monitor.handles;
     let kept = handles::cleaned(subjects, objects, handles);
     let i = s as usize;
-    let row = handles::row_of(kept, i);
+    handles::row_of(kept, i)
+}
+
+// How many handles subject s holds, and how many marked ones.
+fn held_by(monitor: Monitor, s: u32) -> u64
+    ensures { λ r. ⌜ r ≡ held-count (clean (view monitor)) s ⌝ }
+{
+    let row = row_by(monitor, s);
     count(row)
+}
+
+fn marked_by(monitor: Monitor, s: u32) -> u64
+    ensures { λ r. ⌜ r ≡ marks (clean (view monitor)) s ⌝ }
+{
+    let row = row_by(monitor, s);
+    let left = handles::unmarked(row);
+    let all = count(row);
+    let rest = count(left);
+    all - rest
 }
 
 // How many handles an allowed call of this code by subject s makes, and removes.
@@ -87,8 +110,11 @@ fn made_by(monitor: Monitor, code: u32, s: u32) -> u64
 }
 
 fn gone_by(monitor: Monitor, code: u32, s: u32) -> u64
-    ensures { λ r. ⌜ r ≡ gone-by code (held-count (clean (view monitor)) s) ⌝ }
+    ensures { λ r. ⌜ r ≡ gone-by code (held-count (clean (view monitor)) s) (marks (clean (view monitor)) s) ⌝ }
 {
+    if code == 10 {
+        return marked_by(monitor, s);
+    }
     if code == 11 {
         return 1;
     }

@@ -48,6 +48,9 @@ exit-requires c κs = c .before .pre
 retire-requires : tie.Need-retire-requires
 retire-requires c κs = c .before .pre
 
+mark-requires : tie.Need-mark-requires
+mark-requires c κs = c .before .pre
+
 freeze-requires : tie.Need-freeze-requires
 freeze-requires c κs = c .before .pre
 
@@ -108,14 +111,18 @@ returns-13 c = rw (c .before .match .keys13) (c .retire .ensures)
 
 returns-14 : tie.Need-returns-14
 unfolding decode
-returns-14 c = rw (c .before .match .keys14) (c .freeze .ensures)
+returns-14 c = rw (c .before .match .keys14) (c .mark .ensures)
 
 returns-15 : tie.Need-returns-15
-returns-15 c =
+unfolding decode
+returns-15 c = rw (c .before .match .keys15) (c .freeze .ensures)
+
+returns-16 : tie.Need-returns-16
+returns-16 c =
     let c2 = c .before .before in
     let a = c2 .args in
     subst (λ (k : Call). Acts (a .self) k (told (c .refuse .result .answer)) (c .refuse .result .monitor))
-    (sym (decode-unknown (direct (a .code) (a .a) (a .b) (a .c) (a .d)) (c .before .match .rest .0 .0 .0 .0 .0 .0 .0 .0 .0 .0 .0 .0 .0 .1, (c .before .match .rest .0 .0 .0 .0 .0 .0 .0 .0 .0 .0 .0 .0 .1, (c .before .match .rest .0 .0 .0 .0 .0 .0 .0 .0 .0 .0 .0 .1, (c .before .match .rest .0 .0 .0 .0 .0 .0 .0 .0 .0 .0 .1, (c .before .match .rest .0 .0 .0 .0 .0 .0 .0 .0 .0 .1, (c .before .match .rest .0 .0 .0 .0 .0 .0 .0 .0 .1, (c .before .match .rest .0 .0 .0 .0 .0 .0 .0 .1, (c .before .match .rest .0 .0 .0 .0 .0 .0 .1, (c .before .match .rest .0 .0 .0 .0 .0 .1, (c .before .match .rest .0 .0 .0 .0 .1, (c .before .match .rest .0 .0 .0 .1, (c .before .match .rest .0 .0 .1, (c .before .match .rest .0 .1, (c .before .match .rest .1, tt))))))))))))))))
+    (sym (decode-unknown (direct (a .code) (a .a) (a .b) (a .c) (a .d)) (c .before .match .rest .0 .0 .0 .0 .0 .0 .0 .0 .0 .0 .0 .0 .0 .0 .1, (c .before .match .rest .0 .0 .0 .0 .0 .0 .0 .0 .0 .0 .0 .0 .0 .1, (c .before .match .rest .0 .0 .0 .0 .0 .0 .0 .0 .0 .0 .0 .0 .1, (c .before .match .rest .0 .0 .0 .0 .0 .0 .0 .0 .0 .0 .0 .1, (c .before .match .rest .0 .0 .0 .0 .0 .0 .0 .0 .0 .0 .1, (c .before .match .rest .0 .0 .0 .0 .0 .0 .0 .0 .0 .1, (c .before .match .rest .0 .0 .0 .0 .0 .0 .0 .0 .1, (c .before .match .rest .0 .0 .0 .0 .0 .0 .0 .1, (c .before .match .rest .0 .0 .0 .0 .0 .0 .1, (c .before .match .rest .0 .0 .0 .0 .0 .1, (c .before .match .rest .0 .0 .0 .0 .1, (c .before .match .rest .0 .0 .0 .1, (c .before .match .rest .0 .0 .1, (c .before .match .rest .0 .1, (c .before .match .rest .1, tt)))))))))))))))))
     (halts (a .self) unknown 1 (c .refuse .result) (unknown-refused (view (a .self))) (c .refuse .ensures))
 
 pub dispatch-spec : {M : Type 1} → statement M
@@ -135,6 +142,7 @@ dispatch-spec =
     close-requires
     exit-requires
     retire-requires
+    mark-requires
     freeze-requires
     refuse-requires
     returns
@@ -151,4 +159,5 @@ dispatch-spec =
     returns-12
     returns-13
     returns-14
-    returns-15)
+    returns-15
+    returns-16)

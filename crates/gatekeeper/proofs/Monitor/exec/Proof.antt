@@ -44,6 +44,15 @@ returns c =
     (c2 .of-exec .ensures (view (a .t1)) (a .s) (a .o) w (subject-got (a .t1) g (a .s) (c4 .subject-at .result) (c4 .subject-at .ensures))
     (object-got (a .t1) g (a .o) (c3 .object-at .result) (c3 .object-at .ensures))) (c .before .if1 .taken) (c .refuse .ensures)
 
+row-of-requires : tie.Need-row-of-requires
+row-of-requires c κs = search needs
+
+unmarked-requires : tie.Need-unmarked-requires
+unmarked-requires c κs = search needs
+
+with-row-requires : tie.Need-with-row-requires
+with-row-requires c κs = search needs
+
 is-below-requires : tie.Need-is-below-requires
 is-below-requires c κs = search needs
 
@@ -57,23 +66,31 @@ returns-2 : tie.Need-returns-2
 returns-2 c =
     let c2 = c .before .before in
     let c3 = c2 .before in
-    let c6 = c3 .before .before .before in
-    let c7 = c6 .before in
-    let c8 = c7 .before in
-    let c9 = c8 .before in
-    let c12 = c9 .before .before .before in
-    let a = c12 .args in
-    let g = c12 .good .0 in
-    let w = c12 .pre in
-    let x = subject-got (a .t1) g (a .s) (c9 .subject-at .result) (c9 .subject-at .ensures) in
-    let y = object-got (a .t1) g (a .o) (c8 .object-at .result) (c8 .object-at .ensures) in
-    let z = waits (c7 .of-exec .ensures (view (a .t1)) (a .s) (a .o) w x y) (c6 .if1 .left) in
+    let c4 = c3 .before in
+    let c5 = c4 .before in
+    let c6 = c5 .before in
+    let c9 = c6 .before .before .before in
+    let c10 = c9 .before in
+    let c11 = c10 .before in
+    let c12 = c11 .before in
+    let c15 = c12 .before .before .before in
+    let a = c15 .args in
+    let g = c15 .good .0 in
+    let w = c15 .pre in
+    let x = subject-got (a .t1) g (a .s) (c12 .subject-at .result) (c12 .subject-at .ensures) in
+    let y = object-got (a .t1) g (a .o) (c11 .object-at .result) (c11 .object-at .ensures) in
+    let z = waits (c10 .of-exec .ensures (view (a .t1)) (a .s) (a .o) w x y) (c9 .if1 .left) in
     let e = c2 .last .ensures (view (a .t1)) (exec (a .s) (a .o)) z
-    (exec-late (a .t1) g (a .s) (a .o) (c8 .object-at .result) w z y (c3 .is-below .result) (c3 .is-below .ensures)) in
+    (exec-late (a .t1) g (a .s) (a .o) (c11 .object-at .result) (c6 .row-of .result) (c5 .unmarked .result) (c4 .with-row .result)
+    w z y (c6 .row-of .ensures) (c5 .unmarked .ensures) (c4 .with-row .ensures) (c3 .is-below .result)
+    (c3 .is-below .ensures)) in
     ends (a .t1) (exec (a .s) (a .o)) (c2 .last .result) (c .refuse2 .result) e (c .before .if2 .taken) (c .refuse2 .ensures)
 
 fallen-requires : tie.Need-fallen-requires
 fallen-requires c κs = search needs
+
+reaped-requires : tie.Need-reaped-requires
+reaped-requires c κs = search needs
 
 mul-put : tie.Need-mul-put
 mul-put c = search needs
@@ -86,23 +103,32 @@ fallen-requires-2 c κs = search needs
 
 returns-3 : tie.Need-returns-3
 returns-3 c =
-    let c3 = c .before .before .before in
-    let c4 = c3 .before in
-    let c7 = c4 .before .before .before in
+    let c4 = c .before .before .before .before in
+    let c5 = c4 .before in
+    let c6 = c5 .before in
+    let c7 = c6 .before in
     let c8 = c7 .before in
-    let c9 = c8 .before in
-    let c10 = c9 .before in
-    let c13 = c10 .before .before .before in
-    let a = c13 .args in
-    let g = c13 .good .0 in
-    let w = c13 .pre in
-    let x = subject-got (a .t1) g (a .s) (c10 .subject-at .result) (c10 .subject-at .ensures) in
-    let y = object-got (a .t1) g (a .o) (c9 .object-at .result) (c9 .object-at .ensures) in
-    let z = waits (c8 .of-exec .ensures (view (a .t1)) (a .s) (a .o) w x y) (c7 .if1 .left) in
-    let e = c3 .last .ensures (view (a .t1)) (exec (a .s) (a .o)) z
-    (exec-late (a .t1) g (a .s) (a .o) (c9 .object-at .result) w z y (c4 .is-below .result) (c4 .is-below .ensures)) in
-    execs (a .t1) g (a .s) (a .o) (c9 .object-at .result) w z y (c10 .subject-at .result) (c .before .fallen .result) (told (c .fallen2 .result)) x
-    (frees e (c .before .before .if2 .left)) (c .before .fallen .ensures) (c .fallen2 .ensures)
+    let c11 = c8 .before .before .before in
+    let c12 = c11 .before in
+    let c13 = c12 .before in
+    let c14 = c13 .before in
+    let c17 = c14 .before .before .before in
+    let a = c17 .args in
+    let g = c17 .good .0 in
+    let w = c17 .pre in
+    let x = subject-got (a .t1) g (a .s) (c14 .subject-at .result) (c14 .subject-at .ensures) in
+    let y = object-got (a .t1) g (a .o) (c13 .object-at .result) (c13 .object-at .ensures) in
+    let z = waits (c12 .of-exec .ensures (view (a .t1)) (a .s) (a .o) w x y) (c11 .if1 .left) in
+    let e = c4 .last .ensures (view (a .t1)) (exec (a .s) (a .o)) z
+    (exec-late (a .t1) g (a .s) (a .o) (c13 .object-at .result) (c8 .row-of .result) (c7 .unmarked .result) (c6 .with-row .result)
+    w z y (c8 .row-of .ensures) (c7 .unmarked .ensures) (c6 .with-row .ensures) (c5 .is-below .result)
+    (c5 .is-below .ensures)) in
+    let c1 = c .before in
+    let c2 = c1 .before in
+    execs (a .t1) g (a .s) (a .o) (c13 .object-at .result) (c8 .row-of .result) (c7 .unmarked .result) (c6 .with-row .result)
+    w z y (c8 .row-of .ensures) (c7 .unmarked .ensures) (c6 .with-row .ensures) (c14 .subject-at .result)
+    (c2 .fallen .result) (c1 .reaped .result) (told (c .fallen2 .result)) x (frees e (c2 .before .if2 .left)) (c2 .fallen .ensures) (c .fallen2 .ensures)
+    (c1 .reaped .ensures)
 
 pub exec-spec : {M : Type 1} → statement M
 exec-spec =
@@ -117,11 +143,15 @@ exec-spec =
     of-exec-requires
     refuse-requires
     returns
+    row-of-requires
+    unmarked-requires
+    with-row-requires
     is-below-requires
     last-requires
     refuse-requires-2
     returns-2
     fallen-requires
+    reaped-requires
     mul-put
     element-set-from-put
     fallen-requires-2
