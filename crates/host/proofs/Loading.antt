@@ -1,59 +1,61 @@
--- Loops that load from bytes: an array of records of two bytes, from the front (`Loaded`), and a number, from its highest byte down (`Summed`).
+-- Loops that load from bytes: an array of records of bytes, from the front (`Loaded`), and a number, from its highest byte down (`Summed`).
 -- Assumes nothing.
 use mathlib.Core.Path.{_≡_, refl, sym, ap, ap₂, _∙_}
-use mathlib.Core.List.{List, _∷_}
-use Prim.Native.Nat.{ℕ, suc, _+_, _*_, _-_, _^_, _≤_, _<_}
+use mathlib.Core.List.{List, [], _∷_}
+use Prim.Native.Nat.{ℕ, zero, suc, _+_, _*_, _-_, _^_, _≤_, _<_}
 use native.Mathlib.Omega.{arith}
-use native.Mathlib.Nat.{pow-le-pow-right}
+use native.Mathlib.Nat.{mul-suc, mul-le-mul-left, pow-le-pow-right}
+use native.Mathlib.Numerals.{add-one}
 use native.Mathlib.Decide.{ℕ-discrete}
-use lib.ListN.{length, take, drop, getD, set, length-set, length-take, length-drop}
-use lib.Seq.{getD-set-same, getD-set-other, getD-take, getD-drop, drop-cons, ext-getD}
-use Rattle.host.specs.State.{pairs, whole}
-use Rattle.host.specs.State.Laws.{length-pairs, getD-pairs}
+use lib.ListN.{length, take, drop, getD, set, length-set}
+use lib.Seq.{getD-set-same, getD-set-other, drop-cons, drop-drop, ext-getD}
+use Rattle.host.specs.State.{records, whole}
+use Rattle.host.specs.State.Laws.{length-records, getD-records}
 
--- ── records of two bytes ──
--- the first i of the n elements of r are those of the bytes of s from index b on
-pub record Loaded {A : Type 0} (f : ℕ → ℕ → A) (d : A) (b n : ℕ) (s : List ℕ) (r : List A) (i : ℕ) : Type 0 where
+-- ── records of bytes ──
+-- the w bytes of s from index `at` on, one by one
+abbrev pub bytes-at : ℕ → ℕ → List ℕ → List ℕ
+bytes-at zero at s = []
+bytes-at (suc w) at s = getD s at 0 ∷ bytes-at w (at + 1) s
+
+bytes-taken : (w at : ℕ) (s : List ℕ) → at + w ≤ length s → take w (drop at s) ≡ bytes-at w at s
+bytes-taken zero at s h = refl
+bytes-taken (suc w) at s h = ap (take (suc w)) (drop-cons s at 0 (omega arith) ∙ ap (λ (k : ℕ). getD s at 0 ∷ drop k s) (sym (add-one at)))
+    ∙ ap (λ (t : List ℕ). getD s at 0 ∷ t) (bytes-taken w (at + 1) s (omega arith))
+
+-- the first i of the n elements of r are those of the bytes of s from index b on, w bytes each
+pub record Loaded {A : Type 0} (f : List ℕ → A) (d : A) (w b n : ℕ) (s : List ℕ) (r : List A) (i : ℕ) : Type 0 where
   pub within : i ≤ n
-  pub room : b + 2 * n ≤ length s
+  pub room : b + w * n ≤ length s
   pub long : length r ≡ n
-  pub done : (j : ℕ) → j < i → getD r j d ≡ f (getD s (b + 2 * j) 0) (getD s (b + 2 * j + 1) 0)
+  pub done : (j : ℕ) → j < i → getD r j d ≡ f (take w (drop (b + w * j) s))
 
-pub loaded-none : {A : Type 0} (f : ℕ → ℕ → A) (d : A) (b n : ℕ) (s : List ℕ) (r : List A) → length r ≡ n → b + 2 * n ≤ length s
-    → Loaded f d b n s r 0
-loaded-none f d b n s r h l = record { within = omega arith; room = l; long = h; done = λ j lj. absurd (omega arith) }
+pub loaded-none : {A : Type 0} (f : List ℕ → A) (d : A) (w b n : ℕ) (s : List ℕ) (r : List A) → length r ≡ n → b + w * n ≤ length s
+    → Loaded f d w b n s r 0
+loaded-none f d w b n s r h l = record { within = omega arith; room = l; long = h; done = λ j lj. absurd (omega arith) }
 
-module _ {A : Type 0} {f : ℕ → ℕ → A} {d : A} {b n : ℕ} {s : List ℕ} {r : List A} {i : ℕ} where
-  pub loaded-more : (at : ℕ) (v : A) → Loaded f d b n s r i → i < n → at ≡ b + 2 * i → v ≡ f (getD s at 0) (getD s (at + 1) 0)
-      → Loaded f d b n s (set r i v) (i + 1)
-  loaded-more at v p l h e = record {
+module _ {A : Type 0} {f : List ℕ → A} {d : A} {w b n : ℕ} {s : List ℕ} {r : List A} {i : ℕ} (p : Loaded f d w b n s r i) where
+  pub loaded-more : (v : A) → i < n → v ≡ f (bytes-at w (b + w * i) s) → Loaded f d w b n s (set r i v) (i + 1)
+  loaded-more v l e = record {
     within = omega arith;
     room = p .room;
     long = simp length-set (p .long);
     done = λ j lj. go j lj (ℕ-discrete j i);
   }
     where
-      go : (j : ℕ) → j < i + 1 → Dec (j ≡ i) → getD (set r i v) j d ≡ f (getD s (b + 2 * j) 0) (getD s (b + 2 * j + 1) 0)
-      go j lj (yes q) = rw (q, getD-set-same r i v d (omega (arith, p .long))) (e ∙ ap (λ (k : ℕ). f (getD s k 0) (getD s (k + 1) 0)) h)
+      fits : b + w * i + w ≤ length s
+      fits = omega (arith, p .room, mul-suc w i, mul-le-mul-left {m = suc i} {n = n} w (omega arith))
+
+      go : (j : ℕ) → j < i + 1 → Dec (j ≡ i) → getD (set r i v) j d ≡ f (take w (drop (b + w * j) s))
+      go j lj (yes q) = rw (q, getD-set-same r i v d (omega (arith, p .long))) (e ∙ ap f (sym (bytes-taken w (b + w * i) s fits)))
       go j lj (no nq) = getD-set-other r i j v d nq ∙ p .done j (omega arith)
 
-  pub loaded-all : Loaded f d b n s r i → n ≤ i → r ≡ pairs f (take (2 * n) (drop b s))
-  loaded-all p l = ext-getD d r (pairs f bytes) (omega (arith, p .long, length-pairs f n bytes count)) (λ j lj. at j (omega (arith, p .long)))
+  pub loaded-all : n ≤ i → r ≡ records f w n (drop b s)
+  loaded-all l = ext-getD d r (records f w n (drop b s)) (omega (arith, p .long, length-records f w n (drop b s))) (λ j lj. at j (omega (arith, p .long)))
     where
-      bytes : List ℕ
-      bytes = take (2 * n) (drop b s)
-
-      count : length bytes ≡ 2 * n
-      count = omega (arith, length-take (2 * n) (drop b s), length-drop b s, p .room)
-
-      byte : (k : ℕ) → k < 2 * n → getD bytes k 0 ≡ getD s (b + k) 0
-      byte k h = getD-take (2 * n) (drop b s) k 0 h ∙ getD-drop b s k 0
-
-      second : (j : ℕ) → j < n → getD bytes (2 * j + 1) 0 ≡ getD s (b + 2 * j + 1) 0
-      second j h = let e : b + (2 * j + 1) ≡ b + 2 * j + 1 = omega arith in byte (2 * j + 1) (omega arith) ∙ ap (λ (k : ℕ). getD s k 0) e
-
-      at : (j : ℕ) → j < n → getD r j d ≡ getD (pairs f bytes) j d
-      at j h = p .done j (omega arith) ∙ sym (getD-pairs f bytes j d (omega (arith, count)) ∙ ap₂ f (byte (2 * j) (omega arith)) (second j h))
+      at : (j : ℕ) → j < n → getD r j d ≡ getD (records f w n (drop b s)) j d
+      at j h = p .done j (omega arith)
+          ∙ sym (getD-records f w n (drop b s) j d h ∙ ap (λ (t : List ℕ). f (take w t)) (drop-drop (w * j) b s))
 
 -- ── a number ──
 -- n is the number in all but the first `left` of the eight bytes of s from index `at` on

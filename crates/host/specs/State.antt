@@ -1,9 +1,9 @@
--- A monitor and its tally as the bytes that a host lends. States RULES H4 to H10. Every value of the monitor goes by the rules (RULES T16),
+-- A monitor and its tally as the bytes that a host lends. States RULES H4 to H10 and H15. Every value of the monitor goes by the rules (RULES T16),
 -- so that every byte string of the length is one.
 --
--- The layout: the subjects, then the objects, then the handles, two bytes each, in the order of the struct; then made and gone, eight bytes each,
--- lowest first; then the freeze, one byte. In order: records of two bytes; numbers; from bytes, and to bytes; the empty state, and what a call leaves. The laws are in
--- State/Laws. Assumes nothing.
+-- The layout: the subjects and the objects, two bytes each, then the handles, three bytes each, in the order of the struct; then made and gone, eight bytes each,
+-- lowest first; then the freeze, one byte. In order: where the parts stand; records of bytes; one record of each kind; numbers; from bytes, and to
+-- bytes; the empty state, and what a call leaves. The laws are in State/Laws. Assumes nothing.
 use mathlib.Core.Path.{_≡_}
 use mathlib.Core.Bool.{cond}
 use mathlib.Core.Option.{none}
@@ -26,38 +26,58 @@ pub mod Laws
 
 -- RULES H4
 abbrev pub state-bytes : ℕ
-state-bytes = 2 * subjects + 2 * objects + 2 * (subjects * places) + 2 * 8 + 1
+state-bytes = 2 * subjects + 2 * objects + 3 * (subjects * places) + 2 * 8 + 1
 
 -- RULES H10: bytes that are a state
 abbrev pub Sized : List ℕ → Type 0
 Sized s = length s ≡ state-bytes
 
--- ── records of two bytes ──
-unfoldable pub pairs : {A : Type 0} → (ℕ → ℕ → A) → List ℕ → List A
-pairs f [] = []
-pairs f (a ∷ []) = []
-pairs f (a ∷ b ∷ l) = f a b ∷ pairs f l
+-- ── where the parts stand ──
+-- RULES H5: in how many bytes a record is kept
+abbrev pub subject-width : ℕ
+subject-width = 2
 
-unfoldable pub flat : {A : Type 0} → (A → ℕ) → (A → ℕ) → List A → List ℕ
-flat f g [] = []
-flat f g (x ∷ l) = f x ∷ g x ∷ flat f g l
+abbrev pub object-width : ℕ
+object-width = 2
 
--- RULES H6: 1 is live, anything else is not
+abbrev pub handle-width : ℕ
+handle-width = 3
+
+-- and at which index each part starts; the subjects start at 0
+abbrev pub objects-at : ℕ
+objects-at = subject-width * subjects
+
+abbrev pub handles-at : ℕ
+handles-at = objects-at + object-width * objects
+
+abbrev pub made-at : ℕ
+made-at = handles-at + handle-width * (subjects * places)
+
+abbrev pub gone-at : ℕ
+gone-at = made-at + 8
+
+abbrev pub freeze-at : ℕ
+freeze-at = gone-at + 8
+
+-- ── records of bytes ──
+-- n records of w bytes each, from the front of s; f reads one from its bytes
+unfoldable pub records : {A : Type 0} → (List ℕ → A) → ℕ → ℕ → List ℕ → List A
+records f w zero s = []
+records f w (suc n) s = f (take w s) ∷ records f w n (drop w s)
+
+-- the bytes of each record, one after the other
+unfoldable pub flat : {A : Type 0} → (A → List ℕ) → List A → List ℕ
+flat g [] = []
+flat g (x ∷ l) = g x ++ flat g l
+
+-- ── one record, from its bytes and to them ──
+-- RULES H6, H15: 1 is live, anything else is not; 1 is marked, anything else is not
 abbrev pub live-of : ℕ → ℕ
 live-of n = cond (eqb n 1) 1 0
-
-abbrev pub subject-of : ℕ → ℕ → Subject
-subject-of live level = record { live = live-of live; level = level }
 
 -- RULES H7, H8: of an object, 1 is a file, 2 a pipe, anything else free; of a handle, 1 reads, 2 writes, anything else is an empty place
 abbrev pub sort-of : ℕ → ℕ
 sort-of n = cond (eqb n 1) 1 (cond (eqb n 2) 2 0)
-
-abbrev pub object-of : ℕ → ℕ → Object
-object-of kind level = record { kind = sort-of kind; level = level }
-
-abbrev pub handle-of : ℕ → ℕ → Handle
-handle-of way object = record { way = sort-of way; object = object }
 
 -- as what byte each is stored
 abbrev pub live-byte : ℕ → ℕ
@@ -65,6 +85,25 @@ live-byte n = cond (eqb n 0) 0 1
 
 abbrev pub sort-byte : ℕ → ℕ
 sort-byte n = cond (ltb n 2) n 2
+
+-- RULES H6 to H9, H15: the first byte, the second, and of a handle the third
+abbrev pub subject-of : List ℕ → Subject
+subject-of b = record { live = live-of (getD b 0 0); level = getD b 1 0 }
+
+abbrev pub subject-record : Subject → List ℕ
+subject-record x = live-byte (x .live) ∷ x .level ∷ []
+
+abbrev pub object-of : List ℕ → Object
+object-of b = record { kind = sort-of (getD b 0 0); level = getD b 1 0 }
+
+abbrev pub object-record : Object → List ℕ
+object-record x = sort-byte (x .kind) ∷ x .level ∷ []
+
+abbrev pub handle-of : List ℕ → Handle
+handle-of b = record { way = sort-of (getD b 0 0); object = getD b 1 0; mark = live-of (getD b 2 0) }
+
+abbrev pub handle-record : Handle → List ℕ
+handle-record x = sort-byte (x .way) ∷ x .object ∷ live-byte (x .mark) ∷ []
 
 -- ── numbers, lowest byte first ──
 unfoldable pub whole : List ℕ → ℕ
@@ -78,22 +117,22 @@ digits (suc k) n = n % 256 ∷ digits k (n / 256)
 
 -- ── from bytes ──
 unfoldable pub subjects-of : List ℕ → List Subject
-subjects-of s = pairs subject-of (take 64 s)
+subjects-of s = records subject-of subject-width subjects s
 
 unfoldable pub objects-of : List ℕ → List Object
-objects-of s = pairs object-of (take 128 (drop 64 s))
+objects-of s = records object-of object-width objects (drop objects-at s)
 
 unfoldable pub handles-of : List ℕ → List Handle
-handles-of s = pairs handle-of (take 1024 (drop 192 s))
+handles-of s = records handle-of handle-width (subjects * places) (drop handles-at s)
 
 unfoldable pub made-of : List ℕ → ℕ
-made-of s = whole (take 8 (drop 1216 s))
+made-of s = whole (take 8 (drop made-at s))
 
 unfoldable pub gone-of : List ℕ → ℕ
-gone-of s = whole (take 8 (drop 1224 s))
+gone-of s = whole (take 8 (drop gone-at s))
 
 unfoldable pub freeze-of : List ℕ → ℕ
-freeze-of s = getD s 1232 0
+freeze-of s = getD s freeze-at 0
 
 -- RULES H5, H9
 abbrev pub monitor-of : List ℕ → Monitor
@@ -104,13 +143,13 @@ tally-of s = record { made = made-of s; gone = gone-of s }
 
 -- ── to bytes ──
 unfoldable pub subject-bytes : List Subject → List ℕ
-subject-bytes l = flat (λ (x : Subject). live-byte (x .live)) (λ (x : Subject). x .level) l
+subject-bytes l = flat subject-record l
 
 unfoldable pub object-bytes : List Object → List ℕ
-object-bytes l = flat (λ (x : Object). sort-byte (x .kind)) (λ (x : Object). x .level) l
+object-bytes l = flat object-record l
 
 unfoldable pub handle-bytes : List Handle → List ℕ
-handle-bytes l = flat (λ (x : Handle). sort-byte (x .way)) (λ (x : Handle). x .object) l
+handle-bytes l = flat handle-record l
 
 -- RULES H5, H9
 unfoldable pub bytes-of : Monitor → Tally → List ℕ
@@ -132,7 +171,7 @@ state-view s = view (monitor-of s)
 
 -- as what it is stored: the freeze says that there is none, and all else is 0
 unfoldable pub blank-bytes : List ℕ
-blank-bytes = replicate 1232 0 ++ (no-freeze ∷ [])
+blank-bytes = replicate freeze-at 0 ++ (no-freeze ∷ [])
 
 -- RULES T12, Y8: empty tables, and counts of 0
 pub record Blank (s : List ℕ) : Type 0 where

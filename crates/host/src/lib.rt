@@ -13,7 +13,7 @@ ghost use Rattle.number.specs.Put.{put, fitted};
 ghost use Rattle.journal.specs.Record.{longest-record, recording, recorded};
 ghost use Rattle.replay.specs.Replay.{reply, reply-room, Begun};
 ghost use Rattle.gatekeeper.specs.View.{told, direct};
-ghost use Rattle.host.specs.State.{state-bytes, Sized, live-of, sort-of, live-byte, sort-byte, whole, digits};
+ghost use Rattle.host.specs.State.{state-bytes, objects-at, handles-at, Sized, live-of, sort-of, live-byte, sort-byte, whole, digits};
 ghost use Rattle.host.specs.State.{subjects-of, objects-of, handles-of, made-of, gone-of, monitor-of, tally-of};
 ghost use Rattle.host.specs.State.{subject-bytes, object-bytes, handle-bytes, blank-bytes, Stands, Blank};
 ghost use Rattle.host.specs.Over.{over};
@@ -35,13 +35,15 @@ use tables::SUBJECTS;
 use tables::Subject;
 use tally::Tally;
 
-// Where the parts of a state stand: the subjects at 0, two bytes each; the objects and the handles likewise; the two counts, eight bytes each; the freeze,
+// Where the parts of a state stand: the subjects at 0, two bytes each; the objects likewise; the handles, three bytes each; the two counts, eight bytes each; the freeze,
 // one byte.
+const SUBJECTS_AT: usize = 0;
+
 const OBJECTS_AT: usize = 2 * SUBJECTS;
 
 const HANDLES_AT: usize = OBJECTS_AT + 2 * OBJECTS;
 
-const MADE_AT: usize = HANDLES_AT + 2 * HANDLES;
+const MADE_AT: usize = HANDLES_AT + 3 * HANDLES;
 
 const GONE_AT: usize = MADE_AT + 8;
 
@@ -55,7 +57,7 @@ const UNSIZED: u32 = 0;
 
 // ---- one record, from bytes and to bytes
 
-// What a first byte of a pair means: of a subject 1 is live; of an object 1 is a file and 2 a pipe; of a handle 1 reads and 2 writes.
+// What the first byte of a record means: of a subject 1 is live; of an object 1 is a file and 2 a pipe; of a handle 1 reads and 2 writes.
 fn to_live(b: u8) -> u8
     ensures { λ r. ⌜ r ≡ live-of b ⌝ }
 {
@@ -111,9 +113,10 @@ fn load_subjects(state: &[u8]) -> [Subject; SUBJECTS]
     let mut r = [Subject { live: 0, level: 0 }; SUBJECTS];
     let mut i: usize = 0;
     while i < SUBJECTS {
-        let at = 2 * i;
+        let at = SUBJECTS_AT + 2 * i;
         let live = to_live(state[at]);
-        let level = state[at + 1];
+        let next = at + 1;
+        let level = state[next];
         r[i] = Subject { live, level };
         i += 1;
     }
@@ -129,7 +132,8 @@ fn load_objects(state: &[u8]) -> [Object; OBJECTS]
     while i < OBJECTS {
         let at = OBJECTS_AT + 2 * i;
         let kind = to_sort(state[at]);
-        let level = state[at + 1];
+        let next = at + 1;
+        let level = state[next];
         r[i] = Object { kind, level };
         i += 1;
     }
@@ -140,13 +144,20 @@ fn load_handles(state: &[u8]) -> [Handle; HANDLES]
     requires { ⌜ Sized (now state) ⌝ }
     ensures { λ r. ⌜ r ≡ handles-of (now (state .entry)) ⌝ }
 {
-    let mut r = [Handle { way: 0, object: 0 }; HANDLES];
+    let mut r = [Handle {
+        way: 0,
+        object: 0,
+        mark: 0,
+    }; HANDLES];
     let mut i: usize = 0;
     while i < HANDLES {
-        let at = HANDLES_AT + 2 * i;
+        let at = HANDLES_AT + 3 * i;
         let way = to_sort(state[at]);
-        let object = state[at + 1];
-        r[i] = Handle { way, object };
+        let next = at + 1;
+        let object = state[next];
+        let last = next + 1;
+        let mark = to_live(state[last]);
+        r[i] = Handle { way, object, mark };
         i += 1;
     }
     r
@@ -203,7 +214,7 @@ fn store_subjects(state: &mut [u8], subjects: [Subject; SUBJECTS])
     let mut i: usize = 0;
     while i < SUBJECTS {
         let x = subjects[i];
-        let place = 2 * i;
+        let place = SUBJECTS_AT + 2 * i;
         let next = place + 1;
         state[place] = from_live(x.live);
         state[next] = x.level;
@@ -213,7 +224,7 @@ fn store_subjects(state: &mut [u8], subjects: [Subject; SUBJECTS])
 
 fn store_objects(state: &mut [u8], objects: [Object; OBJECTS])
     requires { ⌜ Sized (now state) ⌝ }
-    ensures { λ _. ⌜ now (state .exit) ≡ over 64 (object-bytes objects) (now (state .entry)) ⌝ }
+    ensures { λ _. ⌜ now (state .exit) ≡ over objects-at (object-bytes objects) (now (state .entry)) ⌝ }
 {
     let mut i: usize = 0;
     while i < OBJECTS {
@@ -229,16 +240,19 @@ fn store_objects(state: &mut [u8], objects: [Object; OBJECTS])
 
 fn store_handles(state: &mut [u8], handles: [Handle; HANDLES])
     requires { ⌜ Sized (now state) ⌝ }
-    ensures { λ _. ⌜ now (state .exit) ≡ over 192 (handle-bytes handles) (now (state .entry)) ⌝ }
+    ensures { λ _. ⌜ now (state .exit) ≡ over handles-at (handle-bytes handles) (now (state .entry)) ⌝ }
 {
     let mut i: usize = 0;
     while i < HANDLES {
         let x = handles[i];
         let way = x.way;
-        let place = HANDLES_AT + 2 * i;
+        let mark = x.mark;
+        let place = HANDLES_AT + 3 * i;
         let next = place + 1;
+        let last = next + 1;
         state[place] = from_sort(way);
         state[next] = x.object;
+        state[last] = from_live(mark);
         i += 1;
     }
 }

@@ -7,7 +7,7 @@ use borrow.Author.Needs.{needs}
 use borrow.Author.Tests.{eq-eqb, ne-eqb}
 use Rattle.host.specs.State.{state-bytes}
 use Rattle.host.specs.State.Laws.{zeros-set, bytes-blank}
-use Rattle.host.proofs.Storing.{Zeroed, zeroed-none, zeroed-long, zeroed-more, zeroed-all}
+use Rattle.host.proofs.Storing.{laid-long, Zeroed, zeroed-none, zeroed-more, zeroed-all}
 use Rattle.host.proofs.gatekeeper_empty.Statement.{statement}
 use Rattle.host.proofs.gatekeeper_empty.Tie as tie
 
@@ -32,16 +32,16 @@ add-i : tie.Need-add-i Inv-loop μ-loop
 add-i c = search needs
 
 loop-less : tie.Need-loop-less Inv-loop μ-loop
-loop-less c = omega (arith, zeroed-long (c .before .loop .inv))
+loop-less c = omega (arith, laid-long (c .before .loop .inv))
 
 loop-again : tie.Need-loop-again Inv-loop μ-loop
 loop-again c = zeroed-more (c .before .loop .inv) (c .loop-test .taken)
 
 slice-write-state-2 : tie.Need-slice-write-state-2 Inv-loop μ-loop
-slice-write-state-2 c = omega (arith, zeroed-long (c .before .loop .inv), c .before .before .if1 .left)
+slice-write-state-2 c = omega (arith, laid-long (c .before .loop .inv), c .before .before .if1 .left)
 
 same-length : tie.Need-same-length Inv-loop μ-loop
-same-length c = simp length-set (zeroed-long (c .before .loop .inv))
+same-length c = simp length-set (laid-long (c .before .loop .inv))
 
 returns-2 : tie.Need-returns-2 Inv-loop μ-loop
 returns-2 c =

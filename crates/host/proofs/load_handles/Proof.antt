@@ -1,23 +1,22 @@
 -- `host::load_handles` meets its contract. Assumes nothing.
-use mathlib.Core.Path.{refl, ap}
-use Prim.Native.Nat.{ℕ, _+_, _*_, _-_}
+use mathlib.Core.Path.{refl}
+use Prim.Native.Nat.{_-_}
 use native.Mathlib.Omega.{arith}
-use lib.ListN.{getD}
 use borrow.Author.Needs.{needs}
 use Rattle.tables.specs.Records.{no-handle}
-use Rattle.host.specs.State.{handle-of, handles-of}
+use Rattle.host.specs.State.{handle-width, handles-at, handle-of, handles-of}
 use Rattle.host.proofs.Loading.{Loaded, loaded-none, loaded-more, loaded-all}
 use Rattle.host.proofs.load_handles.Statement.{statement}
 use Rattle.host.proofs.load_handles.Tie as tie
 
 abbrev Inv-loop : tie.InvT-loop
-Inv-loop state r₀ i₀ r i = Loaded handle-of no-handle 192 512 state r i
+Inv-loop state r₀ i₀ r i = Loaded handle-of no-handle handle-width handles-at 512 state r i
 
 abbrev μ-loop : tie.MeasureT-loop
 μ-loop state r₀ i₀ r i = 512 - i
 
 loop-holds : tie.Need-loop-holds Inv-loop μ-loop
-loop-holds c = loaded-none handle-of no-handle 192 512 _ _ refl (omega (arith, c .before .pre))
+loop-holds c = loaded-none handle-of no-handle handle-width handles-at 512 _ _ refl (omega (arith, c .before .pre))
 
 mul-at : tie.Need-mul-at Inv-loop μ-loop
 mul-at c = search needs
@@ -31,11 +30,20 @@ shared-slice-read-to-sort c = search needs
 to-sort-requires : tie.Need-to-sort-requires Inv-loop μ-loop
 to-sort-requires c κs = search needs
 
-add-object : tie.Need-add-object Inv-loop μ-loop
-add-object c = search needs
+add-next : tie.Need-add-next Inv-loop μ-loop
+add-next c = search needs
 
 shared-slice-read-object : tie.Need-shared-slice-read-object Inv-loop μ-loop
 shared-slice-read-object c = search needs
+
+add-last : tie.Need-add-last Inv-loop μ-loop
+add-last c = search needs
+
+shared-slice-read-to-live : tie.Need-shared-slice-read-to-live Inv-loop μ-loop
+shared-slice-read-to-live c = search needs
+
+to-live-requires : tie.Need-to-live-requires Inv-loop μ-loop
+to-live-requires c κs = search needs
 
 mul-r : tie.Need-mul-r Inv-loop μ-loop
 mul-r c = search needs
@@ -51,10 +59,9 @@ loop-less c = search needs
 
 loop-again : tie.Need-loop-again Inv-loop μ-loop
 loop-again c =
-    let turn = c .before .before .before in
-    let object = getD (turn .before .before .before .args .state .now) (192 + 2 * turn .before .loop .i + 1) 0 in
-    loaded-more _ _ (turn .before .loop .inv) (turn .loop-test .taken) refl
-    (ap (λ (k : ℕ). record { way = k; object = object }) (c .before .to-sort .ensures))
+    let c3 = c .before .before .before in
+    let turn = c3 .before .before in
+    loaded-more (turn .before .loop .inv) _ (turn .loop-test .taken) (rw (c3 .to-sort .ensures, c .to-live .ensures))
 
 returns : tie.Need-returns Inv-loop μ-loop
 unfolding handles-of
@@ -71,8 +78,11 @@ load-handles-spec =
     add-at
     shared-slice-read-to-sort
     to-sort-requires
-    add-object
+    add-next
     shared-slice-read-object
+    add-last
+    shared-slice-read-to-live
+    to-live-requires
     mul-r
     array-set-from-r
     add-i

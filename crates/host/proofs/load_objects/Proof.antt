@@ -1,23 +1,22 @@
 -- `host::load_objects` meets its contract. Assumes nothing.
-use mathlib.Core.Path.{refl, ap}
-use Prim.Native.Nat.{ℕ, _+_, _*_, _-_}
+use mathlib.Core.Path.{refl}
+use Prim.Native.Nat.{_-_}
 use native.Mathlib.Omega.{arith}
-use lib.ListN.{getD}
 use borrow.Author.Needs.{needs}
 use Rattle.tables.specs.Records.{no-object}
-use Rattle.host.specs.State.{object-of, objects-of}
+use Rattle.host.specs.State.{object-width, objects-at, object-of, objects-of}
 use Rattle.host.proofs.Loading.{Loaded, loaded-none, loaded-more, loaded-all}
 use Rattle.host.proofs.load_objects.Statement.{statement}
 use Rattle.host.proofs.load_objects.Tie as tie
 
 abbrev Inv-loop : tie.InvT-loop
-Inv-loop state r₀ i₀ r i = Loaded object-of no-object 64 64 state r i
+Inv-loop state r₀ i₀ r i = Loaded object-of no-object object-width objects-at 64 state r i
 
 abbrev μ-loop : tie.MeasureT-loop
 μ-loop state r₀ i₀ r i = 64 - i
 
 loop-holds : tie.Need-loop-holds Inv-loop μ-loop
-loop-holds c = loaded-none object-of no-object 64 64 _ _ refl (omega (arith, c .before .pre))
+loop-holds c = loaded-none object-of no-object object-width objects-at 64 _ _ refl (omega (arith, c .before .pre))
 
 mul-at : tie.Need-mul-at Inv-loop μ-loop
 mul-at c = search needs
@@ -31,8 +30,8 @@ shared-slice-read-to-sort c = search needs
 to-sort-requires : tie.Need-to-sort-requires Inv-loop μ-loop
 to-sort-requires c κs = search needs
 
-add-level : tie.Need-add-level Inv-loop μ-loop
-add-level c = search needs
+add-next : tie.Need-add-next Inv-loop μ-loop
+add-next c = search needs
 
 shared-slice-read-level : tie.Need-shared-slice-read-level Inv-loop μ-loop
 shared-slice-read-level c = search needs
@@ -52,9 +51,7 @@ loop-less c = search needs
 loop-again : tie.Need-loop-again Inv-loop μ-loop
 loop-again c =
     let turn = c .before .before .before in
-    let level = getD (turn .before .before .before .args .state .now) (64 + 2 * turn .before .loop .i + 1) 0 in
-    loaded-more _ _ (turn .before .loop .inv) (turn .loop-test .taken) refl
-    (ap (λ (k : ℕ). record { kind = k; level = level }) (c .before .to-sort .ensures))
+    loaded-more (turn .before .loop .inv) _ (turn .loop-test .taken) (rw (c .before .to-sort .ensures))
 
 returns : tie.Need-returns Inv-loop μ-loop
 unfolding objects-of
@@ -71,7 +68,7 @@ load-objects-spec =
     add-at
     shared-slice-read-to-sort
     to-sort-requires
-    add-level
+    add-next
     shared-slice-read-level
     mul-r
     array-set-from-r

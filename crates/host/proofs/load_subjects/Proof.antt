@@ -1,26 +1,28 @@
 -- `host::load_subjects` meets its contract. Assumes nothing.
-use mathlib.Core.Path.{refl, ap}
-use Prim.Native.Nat.{ℕ, _+_, _*_, _-_}
+use mathlib.Core.Path.{refl}
+use Prim.Native.Nat.{_-_}
 use native.Mathlib.Omega.{arith}
-use lib.ListN.{getD}
 use borrow.Author.Needs.{needs}
 use Rattle.tables.specs.Records.{no-subject}
-use Rattle.host.specs.State.{subject-of, subjects-of}
+use Rattle.host.specs.State.{subject-width, subject-of, subjects-of}
 use Rattle.host.proofs.Loading.{Loaded, loaded-none, loaded-more, loaded-all}
 use Rattle.host.proofs.load_subjects.Statement.{statement}
 use Rattle.host.proofs.load_subjects.Tie as tie
 
 abbrev Inv-loop : tie.InvT-loop
-Inv-loop state r₀ i₀ r i = Loaded subject-of no-subject 0 32 state r i
+Inv-loop state r₀ i₀ r i = Loaded subject-of no-subject subject-width 0 32 state r i
 
 abbrev μ-loop : tie.MeasureT-loop
 μ-loop state r₀ i₀ r i = 32 - i
 
 loop-holds : tie.Need-loop-holds Inv-loop μ-loop
-loop-holds c = loaded-none subject-of no-subject 0 32 _ _ refl (omega (arith, c .before .pre))
+loop-holds c = loaded-none subject-of no-subject subject-width 0 32 _ _ refl (omega (arith, c .before .pre))
 
 mul-at : tie.Need-mul-at Inv-loop μ-loop
 mul-at c = search needs
+
+add-at : tie.Need-add-at Inv-loop μ-loop
+add-at c = search needs
 
 shared-slice-read-to-live : tie.Need-shared-slice-read-to-live Inv-loop μ-loop
 shared-slice-read-to-live c = search needs
@@ -28,8 +30,8 @@ shared-slice-read-to-live c = search needs
 to-live-requires : tie.Need-to-live-requires Inv-loop μ-loop
 to-live-requires c κs = search needs
 
-add-level : tie.Need-add-level Inv-loop μ-loop
-add-level c = search needs
+add-next : tie.Need-add-next Inv-loop μ-loop
+add-next c = search needs
 
 shared-slice-read-level : tie.Need-shared-slice-read-level Inv-loop μ-loop
 shared-slice-read-level c = search needs
@@ -49,9 +51,7 @@ loop-less c = search needs
 loop-again : tie.Need-loop-again Inv-loop μ-loop
 loop-again c =
     let turn = c .before .before .before in
-    let level = getD (turn .before .before .before .args .state .now) (2 * turn .before .loop .i + 1) 0 in
-    loaded-more (2 * turn .before .loop .i) _ (turn .before .loop .inv) (turn .loop-test .taken) (omega arith)
-    (ap (λ (k : ℕ). record { live = k; level = level }) (c .before .to-live .ensures))
+    loaded-more (turn .before .loop .inv) _ (turn .loop-test .taken) (rw (c .before .to-live .ensures))
 
 returns : tie.Need-returns Inv-loop μ-loop
 unfolding subjects-of
@@ -65,9 +65,10 @@ load-subjects-spec =
     μ-loop
     loop-holds
     mul-at
+    add-at
     shared-slice-read-to-live
     to-live-requires
-    add-level
+    add-next
     shared-slice-read-level
     mul-r
     array-set-from-r

@@ -1,19 +1,19 @@
 -- `host::store_handles` meets its contract. Assumes nothing.
 use mathlib.Core.Path.{_≡_, refl}
+use mathlib.Core.List.{[], _∷_}
 use Prim.Native.Nat.{_-_}
 use native.Mathlib.Omega.{arith}
 use lib.ListN.{length, length-set}
 use borrow.Author.Needs.{needs}
-use Rattle.tables.specs.declared.Handle.{Handle}
 use Rattle.tables.specs.Records.{no-handle}
-use Rattle.host.specs.State.{sort-byte, handle-bytes}
+use Rattle.host.specs.State.{handle-width, handles-at, handle-record, handle-bytes}
 use Rattle.host.proofs.Owned.{unmapped}
 use Rattle.host.proofs.Storing.{Laid, laid-none, laid-long, laid-more, laid-all}
 use Rattle.host.proofs.store_handles.Statement.{statement}
 use Rattle.host.proofs.store_handles.Tie as tie
 
 abbrev Inv-loop : tie.InvT-loop
-Inv-loop state₀ handles i₀ state i = Laid (λ (x : Handle). sort-byte (x .way)) (λ (x : Handle). x .object) 192 512 handles state₀ state i
+Inv-loop state₀ handles i₀ state i = Laid handle-record handle-width handles-at 512 handles state₀ state i
 
 abbrev μ-loop : tie.MeasureT-loop
 μ-loop state₀ handles i₀ state i = 512 - i
@@ -21,7 +21,7 @@ abbrev μ-loop : tie.MeasureT-loop
 loop-holds : tie.Need-loop-holds Inv-loop μ-loop
 loop-holds c =
     let long : length (c .before .args .t2) ≡ 512 = search (needs, unmapped) in
-    laid-none (λ (x : Handle). sort-byte (x .way)) (λ (x : Handle). x .object) 192 512 _ _ long (omega (arith, c .before .pre))
+    laid-none handle-record handle-width handles-at 512 _ _ (λ x. refl) long (omega (arith, c .before .pre))
 
 mul-x : tie.Need-mul-x Inv-loop μ-loop
 mul-x c = search needs
@@ -38,6 +38,9 @@ add-place c = search needs
 add-next : tie.Need-add-next Inv-loop μ-loop
 add-next c = search needs
 
+add-last : tie.Need-add-last Inv-loop μ-loop
+add-last c = search needs
+
 from-sort-requires : tie.Need-from-sort-requires Inv-loop μ-loop
 from-sort-requires c κs = search needs
 
@@ -47,6 +50,12 @@ slice-write-state c = omega (arith, laid-long (c .before .before .before .loop .
 slice-write-state-2 : tie.Need-slice-write-state-2 Inv-loop μ-loop
 slice-write-state-2 c = let l = c .before .before .before in simp length-set (omega (arith, laid-long (l .loop .inv), l .before .before .pre))
 
+from-live-requires : tie.Need-from-live-requires Inv-loop μ-loop
+from-live-requires c κs = search needs
+
+slice-write-state-3 : tie.Need-slice-write-state-3 Inv-loop μ-loop
+slice-write-state-3 c = let l = c .before .before .before .before in simp length-set (omega (arith, laid-long (l .loop .inv), l .before .before .pre))
+
 add-i : tie.Need-add-i Inv-loop μ-loop
 add-i c = search needs
 
@@ -55,8 +64,9 @@ loop-less c = search needs
 
 loop-again : tie.Need-loop-again Inv-loop μ-loop
 loop-again c =
-    let turn = c .before .before in
-    laid-more (turn .before .loop .inv) _ _ _ _ no-handle (turn .loop-test .taken) refl refl (c .from-sort .ensures) refl
+    let c1 = c .before in
+    let turn = c1 .before .before in
+    laid-more (turn .before .loop .inv) _ (_ ∷ _ ∷ _ ∷ []) no-handle (turn .loop-test .taken) refl (rw (c1 .from-sort .ensures, c .from-live .ensures))
 
 same-length : tie.Need-same-length Inv-loop μ-loop
 same-length c = laid-long (c .before .loop .inv)
@@ -77,9 +87,12 @@ store-handles-spec =
     mul-place
     add-place
     add-next
+    add-last
     from-sort-requires
     slice-write-state
     slice-write-state-2
+    from-live-requires
+    slice-write-state-3
     add-i
     loop-less
     loop-again

@@ -1,19 +1,19 @@
 -- `host::store_objects` meets its contract. Assumes nothing.
 use mathlib.Core.Path.{_≡_, refl}
+use mathlib.Core.List.{[], _∷_}
 use Prim.Native.Nat.{_-_}
 use native.Mathlib.Omega.{arith}
 use lib.ListN.{length, length-set}
 use borrow.Author.Needs.{needs}
-use Rattle.tables.specs.declared.Object.{Object}
 use Rattle.tables.specs.Records.{no-object}
-use Rattle.host.specs.State.{sort-byte, object-bytes}
+use Rattle.host.specs.State.{object-width, objects-at, object-record, object-bytes}
 use Rattle.host.proofs.Owned.{unmapped}
 use Rattle.host.proofs.Storing.{Laid, laid-none, laid-long, laid-more, laid-all}
 use Rattle.host.proofs.store_objects.Statement.{statement}
 use Rattle.host.proofs.store_objects.Tie as tie
 
 abbrev Inv-loop : tie.InvT-loop
-Inv-loop state₀ objects i₀ state i = Laid (λ (x : Object). sort-byte (x .kind)) (λ (x : Object). x .level) 64 64 objects state₀ state i
+Inv-loop state₀ objects i₀ state i = Laid object-record object-width objects-at 64 objects state₀ state i
 
 abbrev μ-loop : tie.MeasureT-loop
 μ-loop state₀ objects i₀ state i = 64 - i
@@ -21,7 +21,7 @@ abbrev μ-loop : tie.MeasureT-loop
 loop-holds : tie.Need-loop-holds Inv-loop μ-loop
 loop-holds c =
     let long : length (c .before .args .t2) ≡ 64 = search (needs, unmapped) in
-    laid-none (λ (x : Object). sort-byte (x .kind)) (λ (x : Object). x .level) 64 64 _ _ long (omega (arith, c .before .pre))
+    laid-none object-record object-width objects-at 64 _ _ (λ x. refl) long (omega (arith, c .before .pre))
 
 mul-x : tie.Need-mul-x Inv-loop μ-loop
 mul-x c = search needs
@@ -56,7 +56,7 @@ loop-less c = search needs
 loop-again : tie.Need-loop-again Inv-loop μ-loop
 loop-again c =
     let turn = c .before .before in
-    laid-more (turn .before .loop .inv) _ _ _ _ no-object (turn .loop-test .taken) refl refl (c .from-sort .ensures) refl
+    laid-more (turn .before .loop .inv) _ (_ ∷ _ ∷ []) no-object (turn .loop-test .taken) refl (rw (c .from-sort .ensures))
 
 same-length : tie.Need-same-length Inv-loop μ-loop
 same-length c = laid-long (c .before .loop .inv)

@@ -1,19 +1,19 @@
 -- `host::store_subjects` meets its contract. Assumes nothing.
 use mathlib.Core.Path.{_≡_, refl}
+use mathlib.Core.List.{[], _∷_}
 use Prim.Native.Nat.{_-_}
 use native.Mathlib.Omega.{arith}
 use lib.ListN.{length, length-set}
 use borrow.Author.Needs.{needs}
-use Rattle.tables.specs.declared.Subject.{Subject}
 use Rattle.tables.specs.Records.{no-subject}
-use Rattle.host.specs.State.{live-byte, subject-bytes}
+use Rattle.host.specs.State.{subject-width, subject-record, subject-bytes}
 use Rattle.host.proofs.Owned.{unmapped}
 use Rattle.host.proofs.Storing.{Laid, laid-none, laid-long, laid-more, laid-all}
 use Rattle.host.proofs.store_subjects.Statement.{statement}
 use Rattle.host.proofs.store_subjects.Tie as tie
 
 abbrev Inv-loop : tie.InvT-loop
-Inv-loop state₀ subjects i₀ state i = Laid (λ (x : Subject). live-byte (x .live)) (λ (x : Subject). x .level) 0 32 subjects state₀ state i
+Inv-loop state₀ subjects i₀ state i = Laid subject-record subject-width 0 32 subjects state₀ state i
 
 abbrev μ-loop : tie.MeasureT-loop
 μ-loop state₀ subjects i₀ state i = 32 - i
@@ -21,7 +21,7 @@ abbrev μ-loop : tie.MeasureT-loop
 loop-holds : tie.Need-loop-holds Inv-loop μ-loop
 loop-holds c =
     let long : length (c .before .args .t2) ≡ 32 = search (needs, unmapped) in
-    laid-none (λ (x : Subject). live-byte (x .live)) (λ (x : Subject). x .level) 0 32 _ _ long (omega (arith, c .before .pre))
+    laid-none subject-record subject-width 0 32 _ _ (λ x. refl) long (omega (arith, c .before .pre))
 
 mul-x : tie.Need-mul-x Inv-loop μ-loop
 mul-x c = search needs
@@ -31,6 +31,9 @@ array-copy-out-x c = search needs
 
 mul-place : tie.Need-mul-place Inv-loop μ-loop
 mul-place c = search needs
+
+add-place : tie.Need-add-place Inv-loop μ-loop
+add-place c = search needs
 
 add-next : tie.Need-add-next Inv-loop μ-loop
 add-next c = search needs
@@ -53,7 +56,7 @@ loop-less c = search needs
 loop-again : tie.Need-loop-again Inv-loop μ-loop
 loop-again c =
     let turn = c .before .before in
-    laid-more (turn .before .loop .inv) _ _ _ _ no-subject (turn .loop-test .taken) (omega arith) refl (c .from-live .ensures) refl
+    laid-more (turn .before .loop .inv) _ (_ ∷ _ ∷ []) no-subject (turn .loop-test .taken) refl (rw (c .from-live .ensures))
 
 same-length : tie.Need-same-length Inv-loop μ-loop
 same-length c = laid-long (c .before .loop .inv)
@@ -72,6 +75,7 @@ store-subjects-spec =
     mul-x
     array-copy-out-x
     mul-place
+    add-place
     add-next
     from-live-requires
     slice-write-state

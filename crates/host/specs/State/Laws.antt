@@ -1,18 +1,18 @@
--- Laws of the state's bytes. In order: records of two bytes; numbers; the bytes of a monitor and a tally are read back; the empty state. Assumes
+-- Laws of the state's bytes. In order: records of bytes; numbers; the bytes of a monitor and a tally are read back; the empty state. Assumes
 -- nothing.
 use mathlib.Core.Path.{_≡_, refl, sym, ap, ap₂, _∙_, fun-ext}
 use mathlib.Core.Bool.{Bool, true, false, cond}
-use mathlib.Core.Option.{Option, none, some}
+use mathlib.Core.Option.{Option, none}
 use mathlib.Core.List.{List, [], _∷_, _++_, map, append-assoc}
 use Prim.Native.Nat.{ℕ, zero, suc, _+_, _*_, _/_, _^_, _≤_, _<_}
 use native.Mathlib.Omega.{arith}
+use native.Mathlib.Nat.{mul-zero, mul-suc}
 use borrow.Author.Tests.{le-ltb, ne-eqb}
 use lib.Dec.{ltb, eqb}
 use lib.ListN.{length, take, drop, getD, set, replicate, length-append, length-replicate, List·getD-map}
 use lib.Seq.{take-at, drop-at, drop-drop, getD-drop, set-at}
 use Rattle.model.specs.Flow.{Thing, subject, object}
-use Rattle.model.specs.Label.{label}
-use Rattle.model.specs.Tables.{running, Entry, entry, no-freeze, empty, with-at, with-hand, with-freeze, places}
+use Rattle.model.specs.Tables.{Entry, no-freeze, empty, with-at, with-hand, with-freeze, subjects, objects, places}
 use Rattle.model.specs.Tally.{zeroed}
 use Rattle.model.specs.Tables.{Handle as Held}
 use Rattle.tables.specs.declared.Subject.{Subject}
@@ -24,64 +24,55 @@ use Rattle.tables.specs.Records.{subject-entry, object-entry, held, no-subject,
 use Rattle.tables.specs.Records.Laws.{empty-tables}
 use Rattle.gatekeeper.specs.View.{beside, view}
 use Rattle.tally.specs.Counting.{counts-of}
-use Rattle.host.specs.State.{state-bytes, pairs, flat, subject-of, object-of, handle-of, live-of, sort-of, live-byte, sort-byte, whole, digits}
+use Rattle.host.specs.State.{state-bytes, subject-width, object-width, handle-width, objects-at, handles-at, made-at, gone-at, freeze-at}
+use Rattle.host.specs.State.{records, flat, live-of, sort-of, live-byte, sort-byte, subject-of, subject-record, object-of, object-record}
+use Rattle.host.specs.State.{handle-of, handle-record, whole, digits}
 use Rattle.host.specs.State.{subjects-of, objects-of, handles-of, made-of, gone-of, freeze-of, monitor-of, tally-of}
 use Rattle.host.specs.State.{subject-bytes, object-bytes, handle-bytes, bytes-of, blank-bytes, state-view, Blank}
 
--- ── records of two bytes ──
-module _ {A : Type 0} (f g : A → ℕ) where
-  pub length-flat : (l : List A) → length (flat f g l) ≡ 2 * length l
-  unfolding flat
-  length-flat [] = refl
-  length-flat (x ∷ l) = let r = length-flat l in omega arith
+-- ── records of bytes ──
+module _ {A : Type 0} (f : List ℕ → A) (w : ℕ) where
+  pub length-records : (n : ℕ) (s : List ℕ) → length (records f w n s) ≡ n
+  unfolding records
+  length-records zero s = refl
+  length-records (suc n) s = ap suc (length-records n (drop w s))
 
-  pub flat-append : (l k : List A) → flat f g (l ++ k) ≡ flat f g l ++ flat f g k
+  pub getD-records : (n : ℕ) (s : List ℕ) (j : ℕ) (d : A) → j < n → getD (records f w n s) j d ≡ f (take w (drop (w * j) s))
+  unfolding records
+  getD-records zero s j d h = absurd (omega arith)
+  getD-records (suc n) s zero d h = rw mul-zero
+  getD-records (suc n) s (suc j) d h =
+      let next : w + w * j ≡ w * suc j = omega (arith, mul-suc w j) in
+      getD-records n (drop w s) j d (omega arith)
+      ∙ ap (λ (t : List ℕ). f (take w t)) (drop-drop (w * j) w s ∙ ap (λ (k : ℕ). drop k s) next)
+
+module _ {A : Type 0} (g : A → List ℕ) where
+  pub flat-append : (l k : List A) → flat g (l ++ k) ≡ flat g l ++ flat g k
   unfolding flat
   flat-append [] k = refl
-  flat-append (x ∷ l) k = ap (λ (t : List ℕ). f x ∷ g x ∷ t) (flat-append l k)
+  flat-append (x ∷ l) k = ap (λ (t : List ℕ). g x ++ t) (flat-append l k) ∙ sym (append-assoc (g x) (flat g l) (flat g k))
 
-  -- what was stored is loaded, as a record with the bytes that it is stored as
-  pub pairs-flat : (h : ℕ → ℕ → A) (l : List A) → pairs h (flat f g l) ≡ map (λ x. h (f x) (g x)) l
-  unfolding pairs flat
-  pairs-flat h [] = refl
-  pairs-flat h (x ∷ l) = ap (λ (t : List A). h (f x) (g x) ∷ t) (pairs-flat h l)
-
-  -- such a record is stored as the same bytes
-  pub flat-map : (k : A → A) → ((x : A) → f (k x) ≡ f x) → ((x : A) → g (k x) ≡ g x) → (l : List A) → flat f g (map k l) ≡ flat f g l
+  -- records that are stored as the same bytes
+  pub flat-map : (k : A → A) → ((x : A) → g (k x) ≡ g x) → (l : List A) → flat g (map k l) ≡ flat g l
   unfolding flat
-  flat-map k a b [] = refl
-  flat-map k a b (x ∷ l) = λ i. a x i ∷ b x i ∷ flat-map k a b l i
+  flat-map k e [] = refl
+  flat-map k e (x ∷ l) = λ i. e x i ++ flat-map k e l i
 
-module _ {A : Type 0} (f : ℕ → ℕ → A) where
-  pub length-pairs : (n : ℕ) (l : List ℕ) → length l ≡ 2 * n → length (pairs f l) ≡ n
-  unfolding pairs
-  length-pairs zero [] h = refl
-  length-pairs (suc n) [] h = absurd (omega arith)
-  length-pairs n (a ∷ []) h = absurd (omega arith)
-  length-pairs zero (a ∷ b ∷ l) h = absurd (omega arith)
-  length-pairs (suc n) (a ∷ b ∷ l) h = ap suc (length-pairs n l (omega arith))
+  module _ (w : ℕ) (wide : (x : A) → length (g x) ≡ w) where
+    pub length-flat : (l : List A) → length (flat g l) ≡ w * length l
+    unfolding flat
+    length-flat [] = sym (mul-zero w)
+    length-flat (x ∷ l) = omega (arith, length-append (g x) (flat g l), wide x, length-flat l, mul-suc w (length l))
 
-  pub getD-pairs : (l : List ℕ) (j : ℕ) (d : A) → 2 * j + 1 < length l → getD (pairs f l) j d ≡ f (getD l (2 * j) 0) (getD l (2 * j + 1) 0)
-  unfolding pairs
-  getD-pairs [] j d h = absurd (omega arith)
-  getD-pairs (a ∷ []) j d h = absurd (omega arith)
-  getD-pairs (a ∷ b ∷ l) zero d h = refl
-  getD-pairs (a ∷ b ∷ l) (suc j) d h =
-      let one : suc (suc (2 * j)) ≡ 2 * suc j = omega arith in
-      let two : suc (suc (2 * j + 1)) ≡ 2 * suc j + 1 = omega arith in
-      getD-pairs l j d (omega arith) ∙ ap₂ (λ (x y : ℕ). f (getD (a ∷ b ∷ l) x 0) (getD (a ∷ b ∷ l) y 0)) one two
-
-pub subject-bytes-length : (l : List Subject) → length (subject-bytes l) ≡ 2 * length l
-unfolding subject-bytes
-subject-bytes-length l = length-flat (λ (x : Subject). live-byte (x .live)) (λ (x : Subject). x .level) l
-
-pub object-bytes-length : (l : List Object) → length (object-bytes l) ≡ 2 * length l
-unfolding object-bytes
-object-bytes-length l = length-flat (λ (x : Object). sort-byte (x .kind)) (λ (x : Object). x .level) l
-
-pub handle-bytes-length : (l : List Handle) → length (handle-bytes l) ≡ 2 * length l
-unfolding handle-bytes
-handle-bytes-length l = length-flat (λ (x : Handle). sort-byte (x .way)) (λ (x : Handle). x .object) l
+    -- what was stored is loaded, as the record that its bytes stand for
+    pub records-flat : (f : List ℕ → A) (l : List A) (t : List ℕ) → records f w (length l) (flat g l ++ t) ≡ map (λ x. f (g x)) l
+    unfolding records flat
+    records-flat f [] t = refl
+    records-flat f (x ∷ l) t =
+        let s = flat g l ++ t in
+        ap (λ (q : List ℕ). f (take w q) ∷ records f w (length l) (drop w q)) (append-assoc (g x) (flat g l) t)
+        ∙ ap₂ (λ (p q : List ℕ). f p ∷ records f w (length l) q) (take-at (g x) s w (wide x)) (drop-at (g x) s w (wide x))
+        ∙ ap (λ (q : List A). f (g x) ∷ q) (records-flat f l t)
 
 -- ── numbers ──
 pub length-digits : (k n : ℕ) → length (digits k n) ≡ k
@@ -108,43 +99,50 @@ pub record Fits (y : Tally) : Type 0 where
 
 -- ── records as they are stored ──
 abbrev plain-subject : Subject → Subject
-plain-subject x = subject-of (live-byte (x .live)) (x .level)
+plain-subject x = subject-of (subject-record x)
 
 abbrev plain-object : Object → Object
-plain-object x = object-of (sort-byte (x .kind)) (x .level)
+plain-object x = object-of (object-record x)
 
 abbrev plain-handle : Handle → Handle
-plain-handle x = handle-of (sort-byte (x .way)) (x .object)
+plain-handle x = handle-of (handle-record x)
 
-live-same : (n : ℕ) → live-byte (live-of (live-byte n)) ≡ live-byte n
-live-same n = go (eqb n 0)
+-- by the two ways in which a first byte is stored, and by the three
+live-cases : {A : Type 0} (f : ℕ → A) (g : Bool → A) → f 0 ≡ g true → f 1 ≡ g false → (n : ℕ) → f (live-byte n) ≡ g (eqb n 0)
+live-cases f g a b n = go (eqb n 0)
   where
-    go : (b : Bool) → live-byte (live-of (cond b 0 1)) ≡ cond b 0 1
-    go true = refl
-    go false = refl
+    go : (t : Bool) → f (cond t 0 1) ≡ g t
+    go true = a
+    go false = b
 
 sort-cases : {A : Type 0} (f g : ℕ → A) → f 0 ≡ g 0 → f 1 ≡ g 1 → ((n : ℕ) → 2 ≤ n → f n ≡ g n) → (n : ℕ) → f n ≡ g n
 sort-cases f g a b c zero = a
 sort-cases f g a b c (suc zero) = b
 sort-cases f g a b c (suc (suc n)) = c (suc (suc n)) (omega arith)
 
+-- it is stored as the same byte again
+live-same : (n : ℕ) → live-byte (live-of (live-byte n)) ≡ live-byte n
+live-same = live-cases (λ k. live-byte (live-of k)) (λ t. cond t 0 1) refl refl
+
 sort-same : (n : ℕ) → sort-byte (sort-of (sort-byte n)) ≡ sort-byte n
 sort-same = sort-cases (λ n. sort-byte (sort-of (sort-byte n))) sort-byte refl refl (λ n h. rw (le-ltb n 2 h))
 
+-- and tests that tables are read by see no other value
+live-tested : (n : ℕ) → eqb (live-of (live-byte n)) 0 ≡ eqb n 0
+live-tested = live-cases (λ k. eqb (live-of k) 0) (λ t. t) refl refl
+
+sort-tested : (v n : ℕ) → v < 2 → eqb (sort-of (sort-byte n)) v ≡ eqb n v
+sort-tested v n l = sort-cases (λ k. eqb (sort-of (sort-byte k)) v) (λ k. eqb k v) refl refl
+    (λ k h. rw (le-ltb k 2 h, ne-eqb 2 v (λ e. omega arith), ne-eqb k v (λ e. omega arith))) n
+
 subject-same : (x : Subject) → subject-entry (plain-subject x) ≡ subject-entry x
-subject-same x = go (eqb (x .live) 0)
-  where
-    go : (b : Bool) → subject-entry (subject-of (cond b 0 1) (x .level)) ≡ cond b none (some (entry running (label (x .level))))
-    go true = refl
-    go false = refl
+subject-same x = rw (live-tested (x .live))
 
 object-same : (x : Object) → object-entry (plain-object x) ≡ object-entry x
-object-same x = sort-cases (λ k. object-entry (object-of (sort-byte k) (x .level))) (λ k. object-entry (record { kind = k; level = x .level })) refl refl
-    (λ n h. rw (le-ltb n 2 h, ne-eqb n 0 (λ e. omega arith), ne-eqb n 1 (λ e. omega arith))) (x .kind)
+object-same x = rw (sort-tested 0 (x .kind) (omega arith), sort-tested 1 (x .kind) (omega arith))
 
 handle-same : (x : Handle) → held (plain-handle x) ≡ held x
-handle-same x = sort-cases (λ k. held (handle-of (sort-byte k) (x .object))) (λ k. held (record { way = k; object = x .object })) refl refl
-    (λ n h. rw (le-ltb n 2 h, ne-eqb n 0 (λ e. omega arith), ne-eqb n 1 (λ e. omega arith))) (x .way)
+handle-same x = rw (sort-tested 0 (x .way) (omega arith), sort-tested 1 (x .way) (omega arith), live-tested (x .mark))
 
 abbrev plain : Monitor → Monitor
 plain m = record {
@@ -166,11 +164,11 @@ plain-view m = ap₂ (λ (a : Thing → Option Entry) (h : ℕ → ℕ → Optio
 
 plain-bytes : (m : Monitor) (y : Tally) → bytes-of (plain m) y ≡ bytes-of m y
 unfolding bytes-of subject-bytes object-bytes handle-bytes
-plain-bytes m y = λ i. flat-map (λ (x : Subject). live-byte (x .live)) (λ (x : Subject). x .level) plain-subject (λ x. live-same (x .live))
-    (λ x. refl) (m .subjects) i
-    ++ flat-map (λ (x : Object). sort-byte (x .kind)) (λ (x : Object). x .level) plain-object (λ x. sort-same (x .kind)) (λ x. refl) (m .objects) i
-    ++ flat-map (λ (x : Handle). sort-byte (x .way)) (λ (x : Handle). x .object) plain-handle (λ x. sort-same (x .way)) (λ x. refl)
-    (m .handles) i ++ digits 8 (y .made) ++ digits 8 (y .gone) ++ (m .freeze ∷ [])
+plain-bytes m y = λ i. flat-map subject-record plain-subject (λ x. ap (λ (n : ℕ). n ∷ drop 1 (subject-record x)) (live-same (x .live))) (m .subjects) i
+    ++ flat-map object-record plain-object (λ x. ap (λ (n : ℕ). n ∷ drop 1 (object-record x)) (sort-same (x .kind))) (m .objects) i
+    ++ flat-map handle-record plain-handle (λ x. ap₂ (λ (n k : ℕ). n ∷ x .object ∷ k ∷ []) (sort-same (x .way)) (live-same (x .mark)))
+    (m .handles) i
+    ++ digits 8 (y .made) ++ digits 8 (y .gone) ++ (m .freeze ∷ [])
 
 -- p stands at index n, and t after it
 module _ (n m : ℕ) (s p t : List ℕ) (e : drop n s ≡ p ++ t) (h : length p ≡ m) where
@@ -196,33 +194,36 @@ module _ (m : Monitor) (y : Tally) (long : Long m) where
   abbrev after-objects : List ℕ
   after-objects = handle-bytes (m .handles) ++ numbers
 
-  subjects-count : length (subject-bytes (m .subjects)) ≡ 64
-  subjects-count = omega (arith, subject-bytes-length (m .subjects), long .subjects)
+  pub subjects-count : length (subject-bytes (m .subjects)) ≡ objects-at
+  unfolding subject-bytes
+  subjects-count = omega (arith, length-flat subject-record subject-width (λ x. refl) (m .subjects), long .subjects)
 
-  objects-count : length (object-bytes (m .objects)) ≡ 128
-  objects-count = omega (arith, object-bytes-length (m .objects), long .objects)
+  pub objects-count : length (object-bytes (m .objects)) ≡ object-width * objects
+  unfolding object-bytes
+  objects-count = omega (arith, length-flat object-record object-width (λ x. refl) (m .objects), long .objects)
 
-  handles-count : length (handle-bytes (m .handles)) ≡ 1024
-  handles-count = omega (arith, handle-bytes-length (m .handles), long .handles)
+  pub handles-count : length (handle-bytes (m .handles)) ≡ handle-width * (subjects * places)
+  unfolding handle-bytes
+  handles-count = omega (arith, length-flat handle-record handle-width (λ x. refl) (m .handles), long .handles)
 
   from-0 : drop 0 s ≡ subject-bytes (m .subjects) ++ (object-bytes (m .objects) ++ after-objects)
   unfolding bytes-of
   from-0 = simp append-assoc
 
-  from-64 : drop 64 s ≡ object-bytes (m .objects) ++ after-objects
-  from-64 = behind 0 64 s (subject-bytes (m .subjects)) (object-bytes (m .objects) ++ after-objects) from-0 subjects-count
+  from-objects : drop objects-at s ≡ object-bytes (m .objects) ++ after-objects
+  from-objects = behind 0 objects-at s (subject-bytes (m .subjects)) (object-bytes (m .objects) ++ after-objects) from-0 subjects-count
 
-  from-192 : drop 192 s ≡ after-objects
-  from-192 = behind 64 128 s (object-bytes (m .objects)) after-objects from-64 objects-count
+  from-handles : drop handles-at s ≡ after-objects
+  from-handles = behind objects-at (object-width * objects) s (object-bytes (m .objects)) after-objects from-objects objects-count
 
-  from-1216 : drop 1216 s ≡ numbers
-  from-1216 = behind 192 1024 s (handle-bytes (m .handles)) numbers from-192 handles-count
+  from-made : drop made-at s ≡ numbers
+  from-made = behind handles-at (handle-width * (subjects * places)) s (handle-bytes (m .handles)) numbers from-handles handles-count
 
-  from-1224 : drop 1224 s ≡ after-made
-  from-1224 = behind 1216 8 s (digits 8 (y .made)) after-made from-1216 (length-digits 8 (y .made))
+  from-gone : drop gone-at s ≡ after-made
+  from-gone = behind made-at 8 s (digits 8 (y .made)) after-made from-made (length-digits 8 (y .made))
 
-  from-1232 : drop 1232 s ≡ last
-  from-1232 = behind 1224 8 s (digits 8 (y .gone)) last from-1224 (length-digits 8 (y .gone))
+  from-freeze : drop freeze-at s ≡ last
+  from-freeze = behind gone-at 8 s (digits 8 (y .gone)) last from-gone (length-digits 8 (y .gone))
 
   -- the bytes of a monitor and a tally have the length of a state
   pub bytes-length : length (bytes-of m y) ≡ state-bytes
@@ -243,22 +244,22 @@ module _ (m : Monitor) (y : Tally) (long : Long m) where
 
   subjects-back : subjects-of s ≡ map plain-subject (m .subjects)
   unfolding subjects-of subject-bytes
-  subjects-back = ap (pairs subject-of) (front 0 64 s (subject-bytes (m .subjects)) (object-bytes (m .objects) ++ after-objects) from-0 subjects-count)
-      ∙ pairs-flat _ _ subject-of (m .subjects)
+  subjects-back = ap₂ (records subject-of subject-width) (sym (long .subjects)) from-0
+      ∙ records-flat subject-record subject-width (λ x. refl) subject-of (m .subjects) (object-bytes (m .objects) ++ after-objects)
 
   objects-back : objects-of s ≡ map plain-object (m .objects)
   unfolding objects-of object-bytes
-  objects-back = ap (pairs object-of) (front 64 128 s (object-bytes (m .objects)) after-objects from-64 objects-count)
-      ∙ pairs-flat _ _ object-of (m .objects)
+  objects-back = ap₂ (records object-of object-width) (sym (long .objects)) from-objects
+      ∙ records-flat object-record object-width (λ x. refl) object-of (m .objects) after-objects
 
   handles-back : handles-of s ≡ map plain-handle (m .handles)
   unfolding handles-of handle-bytes
-  handles-back = ap (pairs handle-of) (front 192 1024 s (handle-bytes (m .handles)) numbers from-192 handles-count)
-      ∙ pairs-flat _ _ handle-of (m .handles)
+  handles-back = ap₂ (records handle-of handle-width) (sym (long .handles)) from-handles
+      ∙ records-flat handle-record handle-width (λ x. refl) handle-of (m .handles) numbers
 
   freeze-back : freeze-of s ≡ m .freeze
   unfolding freeze-of
-  freeze-back = sym (getD-drop 1232 s 0 0) ∙ ap (λ (l : List ℕ). getD l 0 0) from-1232
+  freeze-back = sym (getD-drop freeze-at s 0 0) ∙ ap (λ (l : List ℕ). getD l 0 0) from-freeze
 
   monitor-back : monitor-of (bytes-of m y) ≡ plain m
   monitor-back = λ i. record { subjects = subjects-back i; objects = objects-back i; handles = handles-back i; freeze = freeze-back i }
@@ -269,12 +270,12 @@ module _ (m : Monitor) (y : Tally) (long : Long m) where
 
   made-back : y .made < 2 ^ 64 → made-of s ≡ y .made
   unfolding made-of
-  made-back h = ap whole (front 1216 8 s (digits 8 (y .made)) after-made from-1216 (length-digits 8 (y .made)))
+  made-back h = ap whole (front made-at 8 s (digits 8 (y .made)) after-made from-made (length-digits 8 (y .made)))
       ∙ whole-digits 8 (y .made) h
 
   gone-back : y .gone < 2 ^ 64 → gone-of s ≡ y .gone
   unfolding gone-of
-  gone-back h = ap whole (front 1224 8 s (digits 8 (y .gone)) last from-1224 (length-digits 8 (y .gone)))
+  gone-back h = ap whole (front gone-at 8 s (digits 8 (y .gone)) last from-gone (length-digits 8 (y .gone)))
       ∙ whole-digits 8 (y .gone) h
 
   -- and a tally's too
@@ -287,21 +288,21 @@ module _ (m : Monitor) (y : Tally) (long : Long m) where
 
 -- ── the empty state ──
 -- zeros, and the freeze set last
-pub zeros-set : (s : List ℕ) → s ≡ replicate state-bytes 0 → set s 1232 no-freeze ≡ blank-bytes
+pub zeros-set : (s : List ℕ) → s ≡ replicate state-bytes 0 → set s freeze-at no-freeze ≡ blank-bytes
 unfolding blank-bytes
-zeros-set s z = ap (λ (l : List ℕ). set l 1232 no-freeze) z ∙ set-at (replicate 1232 0) 0 [] no-freeze 1232 (length-replicate {A = ℕ} 1232 0)
+zeros-set s z = ap (λ (l : List ℕ). set l freeze-at no-freeze) z ∙ set-at (replicate freeze-at 0) 0 [] no-freeze freeze-at (length-replicate {A = ℕ} freeze-at 0)
 
 module _ (s : List ℕ) (z : s ≡ blank-bytes) where
   no-subjects : subjects-of s ≡ replicate 32 no-subject
-  unfolding subjects-of pairs blank-bytes
+  unfolding subjects-of records blank-bytes
   no-subjects = ap subjects-of z
 
   no-objects : objects-of s ≡ replicate 64 no-object
-  unfolding objects-of pairs blank-bytes
+  unfolding objects-of records blank-bytes
   no-objects = ap objects-of z
 
   no-handles : handles-of s ≡ replicate 512 no-handle
-  unfolding handles-of pairs blank-bytes
+  unfolding handles-of records blank-bytes
   no-handles = ap handles-of z
 
   unfrozen : freeze-of s ≡ no-freeze
@@ -319,7 +320,7 @@ module _ (s : List ℕ) (z : s ≡ blank-bytes) where
 
   blank-length : length s ≡ state-bytes
   unfolding blank-bytes
-  blank-length = ap length z ∙ length-append (replicate 1232 0) (no-freeze ∷ []) ∙ ap (λ (k : ℕ). k + 1) (length-replicate {A = ℕ} 1232 0)
+  blank-length = ap length z ∙ length-append (replicate freeze-at 0) (no-freeze ∷ []) ∙ ap (λ (k : ℕ). k + 1) (length-replicate {A = ℕ} freeze-at 0)
 
   pub bytes-blank : Blank s
   bytes-blank = record { size = blank-length; tables = blank-view; counts = blank-tally }
