@@ -30,7 +30,7 @@ extern "C" {
 #endif
 
 /* Sizes, in bytes. */
-#define GATEKEEPER_STATE_BYTES 1233    /* a monitor with its tally */
+#define GATEKEEPER_STATE_BYTES 1745    /* a monitor with its tally */
 #define GATEKEEPER_RECORD_ROOM 22      /* room for every record */
 #define GATEKEEPER_JOURNAL_BYTES 65536 /* the longest journal that is run */
 #define GATEKEEPER_REPLY_ROOM 1835075  /* room for the reply to every journal */
@@ -49,23 +49,30 @@ extern "C" {
  *
  *   at 0, 32 times     1 where the subject is live, and its level
  *   at 64, 64 times    1 for a file, 2 for a pipe, and its level
- *   at 192, 512 times  1 for a reading handle, 2 for a writing one, and its object; place p of subject s is the
- *                      (16 s + p)th
- *   at 1216            handles made, eight bytes, the lowest first
- *   at 1224            handles gone, likewise
- *   at 1232            the freeze, one byte: the level from which on files are frozen; 16 and above: none is
+ *   at 192, 512 times  1 for a reading handle, 2 for a writing one, its object, and 1 where it is marked; place p of
+ *                      subject s is the (16 s + p)th, three bytes at 192 + 3 (16 s + p)
+ *   at 1728            handles made, eight bytes, the lowest first
+ *   at 1736            handles gone, likewise
+ *   at 1744            the freeze, one byte: the level from which on files are frozen; 16 and above: none is
  *
- * Any other first byte of a pair says that there is no such subject, object or handle. The empty monitor has 16 as its
- * freeze and 0 everywhere else: bytes that are all 0 have no subject, object or handle either, but they freeze every
- * file.
+ * Any other first byte says that there is no such subject, object or handle; any other third byte, that the handle is
+ * not marked. The empty monitor has 16 as its freeze and 0 everywhere else: bytes that are all 0 have no subject,
+ * object or handle either, but they freeze every file.
  *
- * Bytes that were kept before there was a freeze are one fewer, which is a wrong length. With a byte of
- * GATEKEEPER_NO_FREEZE after them they are the same monitor.
+ * Bytes that a version before 2.0.0 kept have neither marks nor a freeze, which is a wrong length. With a byte 0 after
+ * the two of each handle, and a byte of GATEKEEPER_NO_FREEZE after all, they are the same monitor.
  */
 
 /* The calls, with the numbers a, b, c and d that each takes. s and c are subjects, o is an object, p, r and w are
- * places. A freeze is one for all subjects, in the place of the one before it; pipes, opens for reading and handles that
- * are held go on as without it. */
+ * places.
+ *
+ * A handle that is marked ends when its subject runs a program: the flow rule is asked of an exec as if s did not have
+ * its marked handles, and an exec that is not refused closes them. They count as gone, a pipe ends with its last
+ * handle, and a host that carries the exec out closes the same ones; a refused exec closes none. A new handle is not
+ * marked, a fork's are marked as s's are, and no call takes a mark off.
+ *
+ * A freeze is one for all subjects, in the place of the one before it; pipes, opens for reading and handles that are
+ * held go on as without it. */
 enum gatekeeper_code {
     GATEKEEPER_ADMIT = 1,      /* s, level: a new subject from outside, without handles */
     GATEKEEPER_REGISTER = 2,   /* o, level: a new file from outside */
@@ -75,11 +82,12 @@ enum gatekeeper_code {
     GATEKEEPER_OPEN_WRITE = 6, /* s, o, p: a writing handle */
     GATEKEEPER_READ = 7,       /* s, p: s falls to the object's level if that is lower */
     GATEKEEPER_WRITE = 8,      /* s, p: a pipe falls to s's level if that is lower */
-    GATEKEEPER_FORK = 9,       /* s, c: a new subject with s's level and s's handles at the same places */
-    GATEKEEPER_EXEC = 10,      /* s, o: file o is run; s falls to its level if that is lower */
+    GATEKEEPER_FORK = 9,       /* s, c: a new subject with s's level, and s's handles and marks at the same places */
+    GATEKEEPER_EXEC = 10,      /* s, o: file o is run; s falls to its level if that is lower; marked handles close */
     GATEKEEPER_CLOSE = 11,     /* s, p: the place is empty */
     GATEKEEPER_EXIT = 12,      /* s: all its handles are closed, its number is free */
     GATEKEEPER_RETIRE = 13,    /* o: the file is gone, its number is free */
+    GATEKEEPER_MARK = 15,      /* s, p: the handle is marked: it ends when s runs a program */
     GATEKEEPER_FREEZE = 16     /* level: files at or above it are frozen: no open for writing; with 16, none is */
 };
 
@@ -93,13 +101,13 @@ enum gatekeeper_outcome {
 /* Why a call, a record or a journal is refused. Where several hold, the smallest number is given, but 14 goes before
  * all others, and 12 before 2 to 10. So an open that is refused with 15 is one that nothing but the freeze forbids. */
 enum gatekeeper_refusal {
-    GATEKEEPER_UNKNOWN_CODE = 1,      /* the code is none of 1 to 13 and 16 */
+    GATEKEEPER_UNKNOWN_CODE = 1,      /* the code is none of 1 to 13, 15 and 16 */
     GATEKEEPER_NO_SUBJECT = 2,        /* the subject that asks is out of range or not live */
     GATEKEEPER_NUMBER_TAKEN = 3,      /* the number for a new thing is out of range or in use */
     GATEKEEPER_NO_OBJECT = 4,         /* the object is out of range or not live */
     GATEKEEPER_IS_PIPE = 5,           /* a pipe cannot be run or retired */
     GATEKEEPER_LEVEL_TOO_HIGH = 6,    /* the level is above 15, or a freeze above 16 */
-    GATEKEEPER_PLACE_UNFIT = 7,       /* the place is above 15, taken, or empty where a handle is used; r is w */
+    GATEKEEPER_PLACE_UNFIT = 7,       /* the place is above 15, taken, or empty where a handle is named; r is w */
     GATEKEEPER_WRONG_DIRECTION = 8,   /* a read on a writing handle, or a write on a reading one */
     GATEKEEPER_FLOW = 9,              /* low data could reach a higher file */
     GATEKEEPER_STILL_OPEN = 10,       /* a handle is open on the file to be retired */
@@ -151,7 +159,7 @@ uint64_t gatekeeper_gone(const uint8_t *state, size_t len);
  * every file were, where `len` is not GATEKEEPER_STATE_BYTES. */
 static inline uint32_t gatekeeper_frozen_from(const uint8_t *state, size_t len)
 {
-    uint32_t freeze = len == GATEKEEPER_STATE_BYTES ? state[1232] : 0;
+    uint32_t freeze = len == GATEKEEPER_STATE_BYTES ? state[1744] : 0;
     return freeze < GATEKEEPER_NO_FREEZE ? freeze : GATEKEEPER_NO_FREEZE;
 }
 

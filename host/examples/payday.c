@@ -11,9 +11,9 @@
 #include "gatekeeper.h"
 
 /* What comes from outside, and the numbers that this host gives to it and to what it makes. */
-enum { SHELL = 0, ADDER = 1, LISTER = 2 };             /* subjects */
-enum { PAY_BOOK = 0, SHEET = 1, HOURS = 2, LIST = 3 }; /* files */
-enum { PIPE = 8 };                                     /* the adder writes to it, the shell reads it */
+enum { SHELL = 0, ADDER = 1, LISTER = 2, LAUNCHER = 3 };           /* subjects */
+enum { PAY_BOOK = 0, SHEET = 1, HOURS = 2, LIST = 3, VIEWER = 4 }; /* files */
+enum { PIPE = 8 };                                                 /* the adder writes to it, the shell reads it */
 
 struct host {
     uint8_t monitor[GATEKEEPER_STATE_BYTES];
@@ -104,6 +104,15 @@ int main(void)
     must(&host, "The adder exits.", GATEKEEPER_EXIT, ADDER, 0, 0, 0);
     must(&host, "The shell reads the sums.", GATEKEEPER_READ, SHELL, 0, 0, 0);
     must(&host, "The shell writes the pay book.", GATEKEEPER_WRITE, SHELL, 2, 0, 0);
+
+    puts("\nA launcher that has the pay book open runs a sheet viewer, which is not to get that handle");
+    must(&host, "The sheet viewer, a program from elsewhere, is file 4.", GATEKEEPER_REGISTER, VIEWER, 2, 0, 0);
+    must(&host, "The shell forks the launcher, step 3.", GATEKEEPER_FORK, SHELL, LAUNCHER, 0, 0);
+    if (!ask(&host, "The launcher runs the viewer.", GATEKEEPER_EXEC, LAUNCHER, VIEWER, 0, 0)) {
+        must(&host, "The launcher marks the pay book: that handle ends at exec.", GATEKEEPER_MARK, LAUNCHER, 2, 0, 0);
+        must(&host, "The launcher runs the viewer.", GATEKEEPER_EXEC, LAUNCHER, VIEWER, 0, 0);
+    }
+    must(&host, "The viewer exits.", GATEKEEPER_EXIT, LAUNCHER, 0, 0, 0);
 
     puts("\nThe books are closed until the bank file is sent; who has the pay book open goes on");
     must(&host, "Files of level 9 and above are frozen.", GATEKEEPER_FREEZE, 9, 0, 0, 0);

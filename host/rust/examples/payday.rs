@@ -9,10 +9,12 @@ use gatekeeper::{Answer, Call, Monitor, NO_FREEZE};
 const SHELL: u32 = 0;
 const ADDER: u32 = 1;
 const LISTER: u32 = 2;
+const LAUNCHER: u32 = 3;
 const PAY_BOOK: u32 = 0;
 const SHEET: u32 = 1;
 const HOURS: u32 = 2;
 const LIST: u32 = 3;
+const VIEWER: u32 = 4;
 /// The adder writes to it, the shell reads it.
 const PIPE: u32 = 8;
 
@@ -118,6 +120,23 @@ fn main() {
     host.must("The adder exits.", Call::Exit { subject: ADDER });
     host.must("The shell reads the sums.", Call::Read { subject: SHELL, place: 0 });
     host.must("The shell writes the pay book.", Call::Write { subject: SHELL, place: 2 });
+
+    println!(
+        "\nA launcher that has the pay book open runs a sheet viewer, which is not to get that handle"
+    );
+    host.must(
+        "The sheet viewer, a program from elsewhere, is file 4.",
+        Call::Register { object: VIEWER, level: 2 },
+    );
+    host.must("The shell forks the launcher, step 3.", Call::Fork { subject: SHELL, child: LAUNCHER });
+    if !host.ask("The launcher runs the viewer.", Call::Exec { subject: LAUNCHER, object: VIEWER }) {
+        host.must(
+            "The launcher marks the pay book: that handle ends at exec.",
+            Call::Mark { subject: LAUNCHER, place: 2 },
+        );
+        host.must("The launcher runs the viewer.", Call::Exec { subject: LAUNCHER, object: VIEWER });
+    }
+    host.must("The viewer exits.", Call::Exit { subject: LAUNCHER });
 
     println!("\nThe books are closed until the bank file is sent; who has the pay book open goes on");
     host.must("Files of level 9 and above are frozen.", Call::Freeze { level: 9 });

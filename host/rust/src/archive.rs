@@ -82,7 +82,8 @@ mod tests {
 
     #[test]
     fn bytes_of_another_length_are_not_touched() {
-        for len in [0, 1, STATE_BYTES - 1, STATE_BYTES + 1] {
+        // 1,232 bytes are those of a version before 2.0.0.
+        for len in [0, 1, 1232, STATE_BYTES - 1, STATE_BYTES + 1] {
             let mut state = vec![7; len];
             assert!(!empty(&mut state));
             assert_eq!(call(&mut state, 1, [0, 9, 0, 0]), 0);

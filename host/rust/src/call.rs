@@ -1,4 +1,4 @@
-//! The fourteen calls.
+//! The fifteen calls.
 
 use crate::journal;
 
@@ -28,9 +28,10 @@ pub enum Call {
     Read { subject: u32, place: u32 },
     /// A pipe falls to the subject's level if that is lower; a file keeps its own.
     Write { subject: u32, place: u32 },
-    /// A new subject with the level of the first and its handles at the same places.
+    /// A new subject with the level of the first, and its handles and their marks at the same places.
     Fork { subject: u32, child: u32 },
-    /// A file is run; the subject falls to its level if that is lower, and keeps its handles.
+    /// A file is run; the subject falls to its level if that is lower. The flow rule is asked as if it did not have its
+    /// marked handles, and if the call is not refused they are closed; it keeps the others.
     Exec { subject: u32, object: u32 },
     /// The place is empty.
     Close { subject: u32, place: u32 },
@@ -38,13 +39,16 @@ pub enum Call {
     Exit { subject: u32 },
     /// The file is gone, and its number is free.
     Retire { object: u32 },
+    /// The handle is marked: it ends when the subject runs a program ([`Call::Exec`]), and the host that carries that
+    /// out closes it, too. A new handle is not marked, and no call takes a mark off.
+    Mark { subject: u32, place: u32 },
     /// From now on, for all subjects, no file at or above the level is opened for writing; with [`NO_FREEZE`], which
     /// lifts the freeze, any may be. Handles that are held, pipes and opens for reading go on as without it.
     Freeze { level: u32 },
 }
 
 impl Call {
-    /// The call's code, one of 1 to 13 and 16.
+    /// The call's code, one of 1 to 13, 15 and 16.
     pub fn code(self) -> u32 {
         match self {
             Call::Admit { .. } => 1,
@@ -60,6 +64,7 @@ impl Call {
             Call::Close { .. } => 11,
             Call::Exit { .. } => 12,
             Call::Retire { .. } => 13,
+            Call::Mark { .. } => 15,
             Call::Freeze { .. } => 16,
         }
     }
@@ -80,6 +85,7 @@ impl Call {
             Call::Close { subject, place } => [subject, place, 0, 0],
             Call::Exit { subject } => [subject, 0, 0, 0],
             Call::Retire { object } => [object, 0, 0, 0],
+            Call::Mark { subject, place } => [subject, place, 0, 0],
             Call::Freeze { level } => [level, 0, 0, 0],
         }
     }

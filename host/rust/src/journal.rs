@@ -101,6 +101,23 @@ mod tests {
     }
 
     #[test]
+    fn a_journal_has_marks() {
+        let mut journal = Vec::new();
+        Call::Register { object: 0, level: 9 }.write_record(&mut journal);
+        Call::Register { object: 1, level: 2 }.write_record(&mut journal);
+        Call::Admit { subject: 0, level: 9 }.write_record(&mut journal);
+        Call::OpenWrite { subject: 0, object: 0, place: 3 }.write_record(&mut journal);
+        Call::Exec { subject: 0, object: 1 }.write_record(&mut journal);
+        Call::Mark { subject: 0, place: 2 }.write_record(&mut journal);
+        Call::Mark { subject: 0, place: 3 }.write_record(&mut journal);
+        Call::Exec { subject: 0, object: 1 }.write_record(&mut journal);
+        assert_eq!(journal[25..29], [3, 15, 0, 3]);
+        let reply =
+            "1 2 A 9\n2 2 A 2\n3 1 A 9\n4 6 A 9\n5 10 R 9\n6 15 R 7\n7 15 A 9\n8 10 L 2\nend 1 1 0\n";
+        assert_eq!(replay(&journal), reply);
+    }
+
+    #[test]
     fn empty_broken_and_long_journals_have_a_reply() {
         assert_eq!(replay(&[]), "end 0 0 0\n");
         assert_eq!(replay(&[0x80, 0x00]), "1 0 R 11\nend 0 0 0\n");

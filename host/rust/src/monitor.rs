@@ -7,10 +7,10 @@ use crate::archive;
 use crate::call::{Call, NO_FREEZE};
 
 /// How many bytes a monitor and its tally take.
-pub const STATE_BYTES: usize = 1233;
+pub const STATE_BYTES: usize = 1745;
 
 /// Where the freeze stands in them.
-const FREEZE_AT: usize = 1232;
+const FREEZE_AT: usize = 1744;
 
 /// A monitor with its tally of handles. It is a plain value: a clone is a monitor of its own.
 ///
@@ -28,8 +28,8 @@ impl Monitor {
         Monitor { state }
     }
 
-    /// The monitor that these bytes are. Any bytes are one; `host/gatekeeper.h` has the layout. Bytes that were kept
-    /// before there was a freeze lack the last one: it is [`NO_FREEZE`].
+    /// The monitor that these bytes are. Any bytes are one; `host/gatekeeper.h` has the layout. Bytes that a version
+    /// before 2.0.0 kept lack the third of each handle, which is 0, and the last, which is [`NO_FREEZE`].
     pub fn from_bytes(state: [u8; STATE_BYTES]) -> Monitor {
         Monitor { state }
     }
@@ -135,6 +135,10 @@ impl Monitor {
         self.call(Call::Retire { object })
     }
 
+    pub fn mark(&mut self, subject: u32, place: u32) -> Answer {
+        self.call(Call::Mark { subject, place })
+    }
+
     pub fn freeze(&mut self, level: u32) -> Answer {
         self.call(Call::Freeze { level })
     }
@@ -160,6 +164,9 @@ impl fmt::Debug for Monitor {
 mod tests {
     use super::*;
     use crate::Refusal;
+
+    /// Where the handles stand in a monitor's bytes.
+    const HANDLES_AT: usize = 192;
 
     #[test]
     fn the_archive_agrees_on_the_size() {
@@ -195,6 +202,106 @@ mod tests {
         assert_eq!(monitor.register(1, 2), Answer::Allowed(2));
         assert_eq!(monitor.open_write(0, 1, 2), Answer::Refused(Refusal::Frozen));
         assert_eq!((monitor.made(), monitor.gone(), monitor.open()), (6, 4, 2));
+        assert_eq!(monitor.mark(0, 0), Answer::Allowed(2));
+        assert_eq!(monitor.exec(0, 1), Answer::Allowed(2));
+        assert_eq!(monitor.read(0, 0), Answer::Refused(Refusal::PlaceUnfit));
+        assert_eq!((monitor.made(), monitor.gone(), monitor.open()), (6, 5, 1));
+    }
+
+    /// Subject 0 at level 9; file 0 at level 9, which it has open for writing at place 0; file 1 at level 2.
+    fn launcher() -> Monitor {
+        let mut monitor = Monitor::new();
+        assert_eq!(monitor.admit(0, 9), Answer::Allowed(9));
+        assert_eq!(monitor.register(0, 9), Answer::Allowed(9));
+        assert_eq!(monitor.register(1, 2), Answer::Allowed(2));
+        assert_eq!(monitor.open_write(0, 0, 0), Answer::Allowed(9));
+        monitor
+    }
+
+    #[test]
+    fn a_marked_handle_ends_at_exec() {
+        let mut monitor = launcher();
+        assert_eq!(monitor.exec(0, 1), Answer::Refused(Refusal::Flow));
+        assert_eq!(monitor.mark(0, 0), Answer::Allowed(9));
+
+        // Until then it is a handle like any other, and marked it stays.
+        assert_eq!(monitor.write(0, 0), Answer::Allowed(9));
+        assert_eq!(monitor.mark(0, 0), Answer::Allowed(9));
+        assert_eq!(monitor.open_read(0, 1, 1), Answer::Refused(Refusal::Flow));
+        assert_eq!((monitor.made(), monitor.gone()), (1, 0));
+
+        assert_eq!(monitor.exec(0, 1), Answer::Lowered(2));
+        assert_eq!((monitor.made(), monitor.gone(), monitor.open()), (1, 1, 0));
+        assert_eq!(monitor.write(0, 0), Answer::Refused(Refusal::PlaceUnfit));
+        assert_eq!(monitor.retire(0), Answer::Allowed(9));
+
+        // The next handle at that place is not marked.
+        assert_eq!(monitor.open_write(0, 1, 0), Answer::Allowed(2));
+        assert_eq!(monitor.exec(0, 1), Answer::Allowed(2));
+        assert_eq!(monitor.write(0, 0), Answer::Allowed(2));
+    }
+
+    #[test]
+    fn a_mark_is_for_one_handle_and_goes_with_a_fork() {
+        let mut monitor = launcher();
+        assert_eq!(monitor.open_write(0, 0, 15), Answer::Allowed(9));
+        assert_eq!(monitor.mark(0, 0), Answer::Allowed(9));
+
+        // The other handle stays, so that the exec is refused; it closes nothing.
+        let before = monitor.clone();
+        assert_eq!(monitor.exec(0, 1), Answer::Refused(Refusal::Flow));
+        assert_eq!(monitor, before);
+
+        assert_eq!(monitor.fork(0, 1), Answer::Allowed(9));
+        assert_eq!(monitor.close(1, 15), Answer::Allowed(9));
+        assert_eq!(monitor.exec(1, 1), Answer::Lowered(2));
+        assert_eq!((monitor.made(), monitor.gone(), monitor.open()), (4, 2, 2));
+        assert_eq!(monitor.write(0, 0), Answer::Allowed(9));
+    }
+
+    #[test]
+    fn a_pipe_ends_with_its_last_handle_at_exec() {
+        let mut monitor = launcher();
+        assert_eq!(monitor.pipe(0, 2, 1, 2), Answer::Allowed(9));
+        for place in 0..3 {
+            assert_eq!(monitor.mark(0, place), Answer::Allowed(9));
+        }
+        assert_eq!(monitor.exec(0, 1), Answer::Lowered(2));
+        assert_eq!((monitor.made(), monitor.gone(), monitor.open()), (3, 3, 0));
+        assert_eq!(monitor.open_read(0, 2, 0), Answer::Refused(Refusal::NoObject));
+        assert_eq!(monitor.register(2, 2), Answer::Allowed(2));
+    }
+
+    #[test]
+    fn only_a_handle_that_is_there_is_marked() {
+        let mut monitor = launcher();
+        let before = monitor.clone();
+        assert_eq!(monitor.mark(0, 1), Answer::Refused(Refusal::PlaceUnfit));
+        assert_eq!(monitor.mark(0, 16), Answer::Refused(Refusal::PlaceUnfit));
+        assert_eq!(monitor.mark(1, 16), Answer::Refused(Refusal::NoSubject));
+        assert_eq!(monitor.mark(32, 0), Answer::Refused(Refusal::NoSubject));
+        assert_eq!(monitor, before);
+    }
+
+    #[test]
+    fn a_mark_is_a_byte_of_the_handle() {
+        let mut monitor = Monitor::new();
+        assert_eq!(monitor.admit(31, 9), Answer::Allowed(9));
+        assert_eq!(monitor.register(63, 9), Answer::Allowed(9));
+        assert_eq!(monitor.open_write(31, 63, 15), Answer::Allowed(9));
+        let handle = HANDLES_AT + 3 * (16 * 31 + 15);
+        assert_eq!(monitor.as_bytes()[handle..handle + 3], [2, 63, 0]);
+        assert_eq!(monitor.mark(31, 15), Answer::Allowed(9));
+        assert_eq!(monitor.as_bytes()[handle..handle + 3], [2, 63, 1]);
+
+        // Any other value of it is none.
+        assert_eq!(monitor.register(0, 2), Answer::Allowed(2));
+        for byte in 0..=255 {
+            let mut state = *monitor.as_bytes();
+            state[handle + 2] = byte;
+            let answer = if byte == 1 { Answer::Lowered(2) } else { Answer::Refused(Refusal::Flow) };
+            assert_eq!(Monitor::from_bytes(state).exec(31, 0), answer, "a mark of {byte}");
+        }
     }
 
     #[test]
@@ -230,14 +337,36 @@ mod tests {
     }
 
     #[test]
-    fn bytes_without_a_freeze_are_taken_up_with_one_more() {
-        let mut monitor = Monitor::new();
-        assert_eq!(monitor.admit(0, 9), Answer::Allowed(9));
-        assert_eq!(monitor.pipe(0, 0, 0, 1), Answer::Allowed(9));
-        let kept = &monitor.as_bytes()[..FREEZE_AT];
-        let mut state = [NO_FREEZE as u8; STATE_BYTES];
-        state[..FREEZE_AT].copy_from_slice(kept);
-        assert_eq!(Monitor::from_bytes(state), monitor);
+    fn bytes_of_before_are_taken_up_with_marks_and_a_freeze() {
+        // As a version before 2.0.0 kept them: subject 1, file 2 and pipe 63, at level 9; subject 1 writes the file at
+        // place 0, reads the pipe at 1 and writes it at 15; five handles made, two gone.
+        let mut kept = [0; 1232];
+        kept[2..4].copy_from_slice(&[1, 9]);
+        kept[68..70].copy_from_slice(&[1, 9]);
+        kept[190..192].copy_from_slice(&[2, 9]);
+        kept[224..228].copy_from_slice(&[2, 2, 1, 63]);
+        kept[254..256].copy_from_slice(&[2, 63]);
+        kept[1216] = 5;
+        kept[1224] = 2;
+
+        let (things, rest) = kept.split_at(HANDLES_AT);
+        let (handles, counts) = rest.split_at(2 * 512);
+        let mut state = things.to_vec();
+        for handle in handles.chunks_exact(2) {
+            state.extend([handle[0], handle[1], 0]);
+        }
+        state.extend(counts);
+        state.push(NO_FREEZE as u8);
+        let mut monitor = Monitor::from_bytes(state.try_into().expect("the bytes of a monitor"));
+
+        assert_eq!((monitor.made(), monitor.gone(), monitor.open()), (5, 2, 3));
+        assert_eq!(monitor.frozen_from(), None);
+        assert_eq!(monitor.write(1, 0), Answer::Allowed(9));
+        assert_eq!(monitor.exec(1, 2), Answer::Allowed(9));
+        assert_eq!(monitor.read(1, 1), Answer::Allowed(9));
+        assert_eq!(monitor.write(1, 15), Answer::Allowed(9));
+        assert_eq!(monitor.exit(1), Answer::Allowed(9));
+        assert_eq!((monitor.made(), monitor.gone(), monitor.open()), (5, 5, 0));
     }
 
     #[test]
@@ -247,7 +376,8 @@ mod tests {
         let before = monitor.clone();
         assert_eq!(monitor.admit(0, 9), Answer::Refused(Refusal::NumberTaken));
         assert_eq!(monitor.freeze(17), Answer::Refused(Refusal::LevelTooHigh));
-        for code in [0, 14, 15, 17] {
+        assert_eq!(monitor.mark(0, 0), Answer::Refused(Refusal::PlaceUnfit));
+        for code in [0, 14, 17] {
             assert_eq!(monitor.direct(code, [0; 4]), Answer::Refused(Refusal::UnknownCode));
         }
         assert_eq!(monitor, before);
@@ -282,5 +412,16 @@ mod tests {
         assert_eq!(monitor.admit(0, 15), Answer::Allowed(15));
         assert_eq!(monitor.register(0, 0), Answer::Allowed(0));
         assert_eq!(monitor.open_write(0, 0, 0), Answer::Refused(Refusal::Frozen));
+
+        // In bytes that are all 1 every handle is there and marked, but not one that is opened anew.
+        let mut monitor = Monitor::from_bytes([1; STATE_BYTES]);
+        let gone = monitor.gone();
+        assert_eq!(monitor.close(0, 5), Answer::Allowed(1));
+        assert_eq!(monitor.open_read(0, 2, 5), Answer::Allowed(1));
+        assert_eq!(monitor.exec(0, 3), Answer::Allowed(1));
+        assert_eq!(monitor.gone() - gone, 16);
+        assert_eq!(monitor.read(0, 4), Answer::Refused(Refusal::PlaceUnfit));
+        assert_eq!(monitor.read(0, 5), Answer::Allowed(1));
+        assert_eq!(monitor.read(1, 4), Answer::Allowed(1));
     }
 }

@@ -3,7 +3,7 @@
 //! states that no calls made. The same comparison has to tell every wrong variant of the independent program apart.
 
 use gatekeeper::{Answer, Monitor, Refusal, STATE_BYTES};
-use gatekeeper_independent::calls::SHAPES;
+use gatekeeper_independent::calls::{shape_of_code, SHAPES};
 use gatekeeper_independent::generate::{self, Wish};
 use gatekeeper_independent::monitor::{Answer as PlainAnswer, Monitor as PlainMonitor};
 use gatekeeper_independent::random::Random;
@@ -15,8 +15,12 @@ use gatekeeper_independent::{numbers, refusals};
 
 const SEED: u64 = 1;
 
-/// Where the freeze stands in a monitor's bytes.
-const FREEZE_AT: usize = 1232;
+/// Where the handles, the tally and the freeze stand in a monitor's bytes.
+const HANDLES_AT: usize = 192;
+const MADE_AT: usize = 1728;
+const FREEZE_AT: usize = 1744;
+
+const EXEC: u32 = 10;
 
 /// How many calls each of the two large comparisons makes.
 const CALLS_OF_JOURNALS: usize = 300_000;
@@ -85,31 +89,31 @@ fn wrapped(answer: PlainAnswer) -> Answer {
 
 /// The tables that a monitor's bytes are, by the layout in `host/gatekeeper.h`.
 fn tables_of(state: &[u8; STATE_BYTES]) -> Tables {
-    let pairs = |from: usize, to: usize| (0..).zip(state[from..to].chunks_exact(2));
+    let records = |from: usize, to: usize, bytes: usize| (0..).zip(state[from..to].chunks_exact(bytes));
     let mut tables = Tables::new(LIMITS);
-    for (s, pair) in pairs(0, 64) {
-        let subject = Subject { level: pair[1].into() };
-        tables.set_subject(s, (pair[0] == 1).then_some(subject));
+    for (s, record) in records(0, 64, 2) {
+        let subject = Subject { level: record[1].into() };
+        tables.set_subject(s, (record[0] == 1).then_some(subject));
     }
-    for (o, pair) in pairs(64, 192) {
-        let level = pair[1].into();
+    for (o, record) in records(64, HANDLES_AT, 2) {
+        let level = record[1].into();
         tables.set_object(
             o,
-            match pair[0] {
+            match record[0] {
                 1 => Some(Object { kind: Kind::File, level }),
                 2 => Some(Object { kind: Kind::Pipe, level }),
                 _ => None,
             },
         );
     }
-    for (at, pair) in pairs(192, 1216) {
-        let object = pair[1].into();
+    for (at, record) in records(HANDLES_AT, MADE_AT, 3) {
+        let (object, marked) = (record[1].into(), record[2] == 1);
         tables.set_handle(
             at / 16,
             at % 16,
-            match pair[0] {
-                1 => Some(Handle { object, direction: Direction::Reading }),
-                2 => Some(Handle { object, direction: Direction::Writing }),
+            match record[0] {
+                1 => Some(Handle { object, direction: Direction::Reading, marked }),
+                2 => Some(Handle { object, direction: Direction::Writing, marked }),
                 _ => None,
             },
         );
@@ -132,8 +136,9 @@ fn calls_of(journal: &[u8]) -> Vec<(u32, [u32; 4])> {
     calls
 }
 
-/// A state of any bytes. In most of them many pairs mean something: how many handles, and how far levels lie
-/// apart, differs from state to state. The freeze is any byte, and often one of the levels.
+/// A state of any bytes. In most of them many records mean something: how many handles, how many of these are
+/// marked, and how far levels lie apart, differs from state to state. The freeze is any byte, and often one of the
+/// levels; so is the third byte of a handle, and often a mark or none.
 fn drawn_state(random: &mut Random) -> [u8; STATE_BYTES] {
     let mut state = [0; STATE_BYTES];
     for byte in &mut state {
@@ -144,14 +149,15 @@ fn drawn_state(random: &mut Random) -> [u8; STATE_BYTES] {
     }
     let levels = random.pick(&[1, 2, 4, 16, 256]).unwrap_or(16);
     let handles = random.pick(&[3, 6, 40, 200]).unwrap_or(3);
-    for (index, pair) in state[..1216].chunks_exact_mut(2).enumerate() {
-        let (first, second) = match index {
-            0..32 => (random.below(3), random.below(levels)),
-            32..96 => (random.below(4), random.below(levels)),
-            _ => (random.below(handles), random.below(68)),
-        };
-        pair[0] = first as u8;
-        pair[1] = second as u8;
+    let marks = random.pick(&[1, 2, 3, 256]).unwrap_or(2);
+    let (things, rest) = state.split_at_mut(HANDLES_AT);
+    for (index, record) in things.chunks_exact_mut(2).enumerate() {
+        let first = if index < 32 { random.below(3) } else { random.below(4) };
+        record.copy_from_slice(&[first as u8, random.below(levels) as u8]);
+    }
+    for record in rest[..MADE_AT - HANDLES_AT].chunks_exact_mut(3) {
+        let bytes = [random.below(handles), random.below(68), random.below(marks)];
+        record.copy_from_slice(&bytes.map(|byte| byte as u8));
     }
     if random.once_in(2) {
         state[FREEZE_AT] = random.below(levels.min(16)) as u8;
@@ -159,9 +165,10 @@ fn drawn_state(random: &mut Random) -> [u8; STATE_BYTES] {
     state
 }
 
-/// A call whose numbers are mostly in range.
+/// A call whose numbers are mostly in range. Many are execs: few of those are allowed, and only these close handles.
 fn drawn_call(random: &mut Random) -> (u32, [u32; 4]) {
-    let Some(shape) = SHAPES.get(random.below(SHAPES.len() as u32 + 1) as usize) else {
+    let any = SHAPES.get(random.below(SHAPES.len() as u32 + 1) as usize);
+    let Some(shape) = (if random.once_in(3) { shape_of_code(EXEC) } else { any }) else {
         // Any code, or one near those that calls have.
         let most = random.pick(&[20, u32::MAX]).unwrap_or(20);
         return (random.below(most), [0; 4]);
@@ -180,29 +187,40 @@ fn drawn_call(random: &mut Random) -> (u32, [u32; 4]) {
     (shape.code, numbers)
 }
 
-/// Which outcomes and refusals were seen; a comparison that saw few says little.
+/// Which outcomes and refusals were seen, and how many handles execs closed; a comparison that saw few says little.
 #[derive(Default)]
 struct Seen {
     allowed: usize,
     lowered: usize,
     refused: [usize; 16],
+    ended_at_exec: u64,
 }
 
 impl Seen {
-    fn count(&mut self, answer: Answer) {
-        match answer {
+    /// Makes a call and counts what came of it.
+    fn call(&mut self, pair: &mut Pair, code: u32, numbers: [u32; 4]) -> Result<(), String> {
+        let gone = pair.proved.gone();
+        match pair.call(code, numbers)? {
             Answer::Allowed(_) => self.allowed += 1,
             Answer::Lowered(_) => self.lowered += 1,
             Answer::Refused(refusal) => self.refused[refusal.number() as usize] += 1,
         }
+        if code == EXEC {
+            self.ended_at_exec += pair.proved.gone().wrapping_sub(gone);
+        }
+        Ok(())
     }
 
     fn report(&self, what: &str) {
         let refused: usize = self.refused.iter().sum();
-        let Seen { allowed, lowered, .. } = self;
+        let Seen { allowed, lowered, ended_at_exec, .. } = self;
         let calls = allowed + lowered + refused;
-        println!("beside: {what}: {calls} calls, {allowed} allowed, {lowered} lowered, {refused} refused");
+        println!(
+            "beside: {what}: {calls} calls, {allowed} allowed, {lowered} lowered, {refused} refused; \
+             {ended_at_exec} handles ended at exec"
+        );
         assert!(*allowed > calls / 10 && *lowered > 100, "few calls were not refused");
+        assert!(*ended_at_exec > 100, "few marked handles ended at exec");
         // Those that answer a direct call.
         for number in (1..=10).chain([15]) {
             let words = refusals::meaning(number as u32);
@@ -218,10 +236,9 @@ fn the_calls_of_generated_journals_are_answered_alike() {
     for index in 0.. {
         let mut pair = Pair::empty(Rules::default());
         for (code, numbers) in calls_of(&generate::journal(SEED, index, Wish::default())) {
-            let answer = pair.call(code, numbers).unwrap_or_else(|difference| {
+            seen.call(&mut pair, code, numbers).unwrap_or_else(|difference| {
                 panic!("journal {index} of seed {SEED} (gk generate), call {calls}: {difference}")
             });
-            seen.count(answer);
             calls += 1;
         }
         if calls >= CALLS_OF_JOURNALS {
@@ -241,9 +258,8 @@ fn calls_on_any_state_are_answered_alike() {
             pair = Pair::of_bytes(drawn_state(&mut random));
         }
         let (code, numbers) = drawn_call(&mut random);
-        let answer =
-            pair.call(code, numbers).unwrap_or_else(|difference| panic!("call {call}: {difference}"));
-        seen.count(answer);
+        seen.call(&mut pair, code, numbers)
+            .unwrap_or_else(|difference| panic!("call {call}: {difference}"));
     }
     seen.report("calls on drawn states");
 }
@@ -267,6 +283,32 @@ fn opens_at_any_level_with_any_freeze_are_answered_alike() {
     }
     // By a freeze of 0 all 256 levels, by one of 1 all but one, and so on up to a freeze of 15.
     assert_eq!(frozen, (0..16).map(|freeze| 256 - freeze).sum());
+}
+
+#[test]
+fn execs_with_any_mark_are_answered_alike() {
+    let mut closed = 0;
+    for (mark, level) in (0..=255).flat_map(|mark| (0..16).map(move |level| (mark, level))) {
+        let mut state = [0; STATE_BYTES];
+        state[..2].copy_from_slice(&[1, 12]); // subject 0
+        state[64..66].copy_from_slice(&[1, 9]); // file 0
+        state[66..68].copy_from_slice(&[1, level]); // file 1, the program
+        state[68..70].copy_from_slice(&[2, 12]); // pipe 2
+        state[HANDLES_AT..][..6].copy_from_slice(&[2, 0, mark, 1, 2, 1]); // it writes file 0, and reads the pipe
+        state[FREEZE_AT] = 16;
+        let mut pair = Pair::of_bytes(state);
+        let mut call = |code, numbers| {
+            let answer = pair.call(code, numbers);
+            answer.unwrap_or_else(|difference| panic!("mark {mark}, level {level}: {difference}"))
+        };
+        let done = call(EXEC, [0, 1, 0, 0]).granted().is_ok();
+        assert_eq!(done, mark == 1 || level >= 9, "mark {mark}, level {level}");
+        // The pipe has ended with its last handle, which is marked.
+        assert_eq!(call(5, [0, 2, 2, 0]) == Answer::Refused(Refusal::NoObject), done);
+        closed += usize::from(call(8, [0; 4]) == Answer::Refused(Refusal::PlaceUnfit));
+    }
+    // The handle on file 0, by a mark of 1 alone and whatever the program's level.
+    assert_eq!(closed, 16);
 }
 
 #[test]
