@@ -1,4 +1,4 @@
-//! The fourteen calls: RULES C1 to C13 and C16, codes and numbers.
+//! The fifteen calls: RULES C1 to C13, C15 and C16, codes and numbers.
 //!
 //! Which numbers a call takes and what each of them names. The effects are in `monitor`, the conditions
 //! in `refusals`.
@@ -18,8 +18,8 @@ const fn shape(code: u32, word: &'static str, numbers: &'static [&'static str]) 
     Shape { code, word, numbers }
 }
 
-/// RULES C1 to C13 and C16, in the order of their codes.
-pub const SHAPES: [Shape; 14] = [
+/// RULES C1 to C13, C15 and C16, in the order of their codes.
+pub const SHAPES: [Shape; 15] = [
     shape(1, "admit", &["s", "level"]),
     shape(2, "register", &["o", "level"]),
     shape(3, "create", &["s", "o"]),
@@ -33,10 +33,11 @@ pub const SHAPES: [Shape; 14] = [
     shape(11, "close", &["s", "p"]),
     shape(12, "exit", &["s"]),
     shape(13, "retire", &["o"]),
+    shape(15, "mark", &["s", "p"]),
     shape(16, "freeze", &["level"]),
 ];
 
-/// The shape of the call with this code; none for a code not 1 to 13 or 16 (RULES R1).
+/// The shape of the call with this code; none for a code not 1 to 13, 15 or 16 (RULES R1).
 pub fn shape_of_code(code: u32) -> Option<&'static Shape> {
     SHAPES.iter().find(|shape| shape.code == code)
 }
@@ -62,6 +63,7 @@ pub enum Call {
     Close { s: u32, p: u32 },
     Exit { s: u32 },
     Retire { o: u32 },
+    Mark { s: u32, p: u32 },
     Freeze { level: u32 },
 }
 
@@ -83,12 +85,13 @@ impl Call {
             11 => Call::Close { s: a, p: b },
             12 => Call::Exit { s: a },
             13 => Call::Retire { o: a },
+            15 => Call::Mark { s: a, p: b },
             16 => Call::Freeze { level: a },
             _ => return None,
         })
     }
 
-    /// The subject s that asks, in C3 to C12.
+    /// The subject s that asks, in C3 to C12 and C15.
     pub fn asker(self) -> Option<u32> {
         match self {
             Call::Create { s, .. }
@@ -100,7 +103,8 @@ impl Call {
             | Call::Fork { s, .. }
             | Call::Exec { s, .. }
             | Call::Close { s, .. }
-            | Call::Exit { s } => Some(s),
+            | Call::Exit { s }
+            | Call::Mark { s, .. } => Some(s),
             Call::Admit { .. } | Call::Register { .. } | Call::Retire { .. } | Call::Freeze { .. } => None,
         }
     }
@@ -148,6 +152,6 @@ impl Call {
             Call::OpenWrite { s, o, .. } => (s, o, Direction::Writing),
             _ => return None,
         };
-        Some((s, Handle { object, direction }))
+        Some((s, Handle::new(object, direction)))
     }
 }

@@ -1,5 +1,5 @@
-//! Worked cases: RULES K0 to K17, single sentences of the freeze (RULES C16, R15), and DWARF's examples of
-//! numbers.
+//! Worked cases: RULES K0 to K17, single sentences of the freeze (RULES C16, R15) and of marks (RULES C15,
+//! R110), and DWARF's examples of numbers.
 //!
 //! The replies stand here as the rules settle them; they are not worked out by this program.
 
@@ -197,6 +197,93 @@ const AFTER_START: &[(&str, &str, &str, &str)] = &[
         "freeze 0; open-write 1 0 0; open-write 0 2 0; open-write 0 0 16; call 6 0 0 0 0; open-write 0 0 0",
         "4 16 A 0; 5 6 R 2; 6 6 R 4; 7 6 R 7; 8 6 R 12; 9 6 R 15; end 0 0 0",
     ),
+    (
+        "mark-answer",
+        "a mark answers with the subject's level, for reading and writing, on files and pipes, and once more",
+        "open-read 0 1 0; mark 0 0; read 0 0; mark 0 0; pipe 0 5 1 2; mark 0 1; mark 0 2; mark 0 2; write 0 2",
+        "4 5 A 2; 5 15 A 9; 6 7 L 2; 7 15 A 2; 8 4 A 2; 9 15 A 2; 10 15 A 2; 11 15 A 2; 12 8 A 2; end 3 0 3",
+    ),
+    (
+        "mark-refused",
+        "2 for a subject that is out of range or not live, then 7 for a place above 15 or empty",
+        "open-write 0 0 15; mark 32 15; mark 1 15; mark 1 16; mark 0 16; mark 0 14; mark 0 4294967295; mark 0 15",
+        "4 6 A 9; 5 15 R 2; 6 15 R 2; 7 15 R 2; 8 15 R 7; 9 15 R 7; 10 15 R 7; 11 15 A 9; end 1 0 1",
+    ),
+    (
+        "mark-exec",
+        "the launcher: with the pay book open, a low program is refused; with the handle marked it is run, and \
+         the handle is gone",
+        "open-write 0 0 0; exec 0 1; mark 0 0; write 0 0; exec 0 1; write 0 0; close 0 0",
+        "4 6 A 9; 5 10 R 9; 6 15 A 9; 7 8 A 9; 8 10 L 2; 9 8 R 7; 10 11 R 7; end 1 1 0",
+    ),
+    (
+        "mark-exec-same-level",
+        "an exec that lowers nothing closes the marked handles all the same, and keeps the others",
+        "open-write 0 0 0; open-read 0 0 1; mark 0 1; exec 0 0; write 0 0; read 0 1",
+        "4 6 A 9; 5 5 A 9; 6 15 A 9; 7 10 A 9; 8 8 A 9; 9 7 R 7; end 2 1 1",
+    ),
+    (
+        "mark-exec-refused",
+        "an exec refused with 9, 5 or 4 closes no handle, takes no mark off and counts nothing",
+        "pipe 0 5 2 3; open-write 0 0 0; open-write 0 0 1; mark 0 0; exec 0 1; exec 0 5; exec 0 6; write 0 0; \
+         mark 0 1; exec 0 1; write 0 0; write 0 3",
+        "4 4 A 9; 5 6 A 9; 6 6 A 9; 7 15 A 9; 8 10 R 9; 9 10 R 5; 10 10 R 4; 11 8 A 9; 12 15 A 9; 13 10 L 2; \
+         14 8 R 7; 15 8 L 2; end 4 2 2",
+    ),
+    (
+        "mark-others",
+        "another subject's mark does not help: its marked handle is in the test, and stays",
+        "pipe 0 5 0 1; fork 0 1; close 0 0; close 1 1; open-write 1 0 2; mark 1 2; exec 0 1; mark 0 1; exec 0 1; \
+         write 1 2; read 1 0",
+        "4 4 A 9; 5 9 A 9; 6 11 A 9; 7 11 A 9; 8 6 A 9; 9 15 A 9; 10 10 R 9; 11 15 A 9; 12 10 L 2; 13 8 A 9; \
+         14 7 A 9; end 5 3 2",
+    ),
+    (
+        "mark-fork",
+        "fork copies the marks: the child's handle is closed by its own exec, the caller's stays",
+        "open-write 0 0 0; open-write 0 1 1; mark 0 0; fork 0 1; exec 1 1; write 1 0; write 1 1; write 0 0; exec 0 1",
+        "4 6 A 9; 5 6 A 2; 6 15 A 9; 7 9 A 9; 8 10 L 2; 9 8 R 7; 10 8 A 2; 11 8 A 9; 12 10 L 2; end 4 2 2",
+    ),
+    (
+        "mark-after-fork",
+        "a mark set after a fork is the caller's alone",
+        "open-write 0 0 0; fork 0 1; mark 0 0; exec 1 1; exec 0 1; write 1 0",
+        "4 6 A 9; 5 9 A 9; 6 15 A 9; 7 10 R 9; 8 10 L 2; 9 8 A 9; end 2 1 1",
+    ),
+    (
+        "mark-pipe-ends",
+        "a pipe whose last handles exec closes ends, and its number is free; with one unmarked end it stays",
+        "pipe 0 5 0 1; pipe 0 6 2 3; mark 0 0; mark 0 1; mark 0 2; exec 0 0; register 6 4; register 5 4; write 0 3; \
+         close 0 3; register 6 4",
+        "4 4 A 9; 5 4 A 9; 6 15 A 9; 7 15 A 9; 8 15 A 9; 9 10 A 9; 10 2 R 3; 11 2 A 4; 12 8 A 9; 13 11 A 9; \
+         14 2 A 4; end 4 4 0",
+    ),
+    (
+        "mark-open",
+        "an open is tested with the marked handles in",
+        "open-write 0 0 0; mark 0 0; open-read 0 1 1; close 0 0; open-read 0 1 1",
+        "4 6 A 9; 5 15 A 9; 6 5 R 9; 7 11 A 9; 8 5 A 2; end 2 1 1",
+    ),
+    (
+        "mark-again",
+        "a handle opened where a marked one was closed, by close or by exec, is not marked",
+        "open-write 0 0 0; mark 0 0; close 0 0; open-write 0 0 0; exec 0 1; mark 0 0; exec 0 0; write 0 0; \
+         open-write 0 0 0; exec 0 1; exec 0 0; write 0 0",
+        "4 6 A 9; 5 15 A 9; 6 11 A 9; 7 6 A 9; 8 10 R 9; 9 15 A 9; 10 10 A 9; 11 8 R 7; 12 6 A 9; 13 10 R 9; \
+         14 10 A 9; 15 8 A 9; end 3 2 1",
+    ),
+    (
+        "mark-exit",
+        "exit and close count a marked handle once, and a new subject of that number has no mark",
+        "open-write 0 0 0; mark 0 0; exit 0; admit 0 9; open-write 0 0 0; exec 0 1; mark 0 0; close 0 0; exec 0 1",
+        "4 6 A 9; 5 15 A 9; 6 12 A 9; 7 1 A 9; 8 6 A 9; 9 10 R 9; 10 15 A 9; 11 11 A 9; 12 10 L 2; end 2 2 0",
+    ),
+    (
+        "mark-freeze",
+        "a freeze asks nothing of a mark; what exec closes is not opened again while the books are closed",
+        "open-write 0 0 0; freeze 0; mark 0 0; exec 0 0; open-write 0 0 0",
+        "4 6 A 9; 5 16 A 0; 6 15 A 9; 7 10 A 9; 8 6 R 15; end 1 1 0",
+    ),
 ];
 
 /// Name, what it shows, calls from empty tables, replies.
@@ -231,10 +318,17 @@ const FROM_EMPTY: &[(&str, &str, &str, &str)] = &[
         "1 16 R 12; 2 16 R 12; 3 16 R 12; 4 16 A 9; end 0 0 0",
     ),
     (
+        "mark-record",
+        "a record of a mark has two numbers, the subject first",
+        "admit 1 9; register 0 9; open-write 1 0 0; call 15; call 15 1; call 15 1 0 0; bytes 03 0f 01 80; \
+         bytes 03 0f 00 01; bytes 03 0f 01 00",
+        "1 1 A 9; 2 2 A 9; 3 6 A 9; 4 15 R 12; 5 15 R 12; 6 15 R 12; 7 15 R 12; 8 15 R 2; 9 15 A 9; end 1 0 1",
+    ),
+    (
         "codes-14-and-15",
-        "codes 14 and 15 are unknown, and so is 17",
+        "code 14 is unknown, and so is 17; 15 is known, and its record has two numbers",
         "call 14 9; call 15 9; call 17 9; call 16 9",
-        "1 14 R 1; 2 15 R 1; 3 17 R 1; 4 16 A 9; end 0 0 0",
+        "1 14 R 1; 2 15 R 12; 3 17 R 1; 4 16 A 9; end 0 0 0",
     ),
     (
         "pipe-ends",

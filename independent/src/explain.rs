@@ -1,9 +1,11 @@
 //! A journal's replies in plain words, for a payroll clerk: who asked what, what was answered, and for
 //! a refusal what can be done about it. For refusal 9 it shows the chain of flows that was in the way
-//! (RULES F4), for refusal 15 from which level on the books are closed and since which record (RULES T32).
+//! (RULES F4), for refusal 15 from which level on the books are closed and since which record (RULES T32). For
+//! an exec it says which marked handles were closed (RULES C10).
 
 mod flow;
 mod freeze;
+mod marks;
 mod names;
 mod refused;
 
@@ -125,6 +127,7 @@ fn request(call: Call, tables: &Tables) -> String {
         }
         Call::Exit { s } => format!("Step {s} exits"),
         Call::Retire { o } => format!("{} is retired", capital(&object(o))),
+        Call::Mark { s, p } => marks::request(s, p, tables),
         Call::Freeze { level } => freeze::request(level),
     }
 }
@@ -167,7 +170,8 @@ fn outcome(call: Call, before: &Tables, after: &Tables, closing: Option<Closing>
             old(object(o)),
             old(subject(s))
         ),
-        Call::Read { s, .. } | Call::Exec { s, .. } => fall(subject(s)),
+        Call::Read { s, .. } => fall(subject(s)),
+        Call::Exec { s, .. } => fall(subject(s)) + &marks::closed(s, before, after),
         Call::Write { s, p } => match before.handle(s, p) {
             Some(handle) => fall(object(handle.object)),
             None => String::new(),
@@ -179,7 +183,7 @@ fn outcome(call: Call, before: &Tables, after: &Tables, closing: Option<Closing>
                 1 => format!("a copy of step {s}'s handle"),
                 count => format!("copies of step {s}'s {count} handles"),
             };
-            format!("Step {c} starts at level {level} with {handles}.")
+            format!("Step {c} starts at level {level} with {handles}{}.", marks::copied(c, after))
         }
         Call::Close { s, p } => match before.handle(s, p) {
             Some(handle) => format!("Place {p} is empty.{}", ended(&[handle.object], before, after)),
@@ -199,6 +203,7 @@ fn outcome(call: Call, before: &Tables, after: &Tables, closing: Option<Closing>
             )
         }
         Call::Retire { o } => format!("Its last level was {}; its number is free.", old(object(o))),
+        Call::Mark { s, p } => marks::outcome(s, p, before),
         Call::Freeze { level } => freeze::outcome(level, closing),
     }
 }

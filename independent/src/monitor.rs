@@ -1,5 +1,5 @@
-//! The monitor: RULES C1 to C13 and C16, effects and levels in the answers; and the counting of handles,
-//! RULES Y1 to Y9.
+//! The monitor: RULES C1 to C13, C15 and C16, effects and levels in the answers; and the counting of
+//! handles, RULES Y1 to Y9 and Y13.
 //!
 //! `Monitor::call` is the direct call: a code and four numbers in, an answer out.
 
@@ -54,6 +54,8 @@ pub struct Monitor {
     pub(crate) tally: Tally,
     /// The needs worked out last. No rule looks at them: only the variant that never lets one sink.
     kept: Needs,
+    /// Places whose marked handle went. No rule looks at them: only variants whose marks outlive their handles.
+    pub(crate) left_marks: Vec<(u32, u32)>,
     rules: Rules,
 }
 
@@ -76,7 +78,8 @@ impl Monitor {
 
     /// A monitor with any tables, those that no calls could have made among them.
     pub fn of_tables(tables: Tables, rules: Rules) -> Monitor {
-        Monitor { kept: Needs::none(&tables), tables, tally: Tally::default(), rules }
+        let kept = Needs::none(&tables);
+        Monitor { tables, tally: Tally::default(), kept, left_marks: Vec::new(), rules }
     }
 
     pub fn tables(&self) -> &Tables {
@@ -90,7 +93,8 @@ impl Monitor {
     /// The direct call: RULES C106, C107.
     pub fn call(&mut self, code: u32, numbers: [u32; 4]) -> Answer {
         // RULES R1: an unknown code.
-        let Some(call) = Call::new(self.rules.bend_code(code), self.rules.bend_numbers(numbers)) else {
+        let Some(call) = Call::new(self.rules.bend_code(code), self.rules.bend_numbers(code, numbers))
+        else {
             return Answer::Refused(1);
         };
         if self.rules.are_right() {
@@ -103,8 +107,7 @@ impl Monitor {
 
     /// Works every need out from nothing, then refuses the call or gives it its effect.
     fn make(&mut self, call: Call) -> Answer {
-        let sought = refusals::sought_flow(&self.tables, call);
-        let needs = Needs::work_out(&self.tables, sought, self.rules, &self.kept);
+        let needs = refusals::needs_for(&self.tables, call, self.rules, &self.kept);
         // RULES R102, R103: the monitor and the tally stay as they were.
         if let Some(number) = refusals::refusal(&self.tables, call, &needs, self.rules) {
             return Answer::Refused(number);
@@ -115,7 +118,7 @@ impl Monitor {
         self.effect(call)
     }
 
-    /// RULES C1 to C13 and C16, row by row, for a call that is not refused.
+    /// RULES C1 to C13, C15 and C16, row by row, for a call that is not refused.
     fn effect(&mut self, call: Call) -> Answer {
         match call {
             // RULES C1.
@@ -141,20 +144,20 @@ impl Monitor {
             Call::Pipe { s, o, r, w } => {
                 let level = self.subject_level(s);
                 self.new_object(o, Kind::Pipe, level);
-                self.place_handle(s, r, o, Direction::Reading);
-                self.place_handle(s, w, o, Direction::Writing);
+                self.place_handle(s, r, Handle::new(o, Direction::Reading));
+                self.place_handle(s, w, Handle::new(o, Direction::Writing));
                 Answer::Allowed(level)
             }
 
             // RULES C5.
             Call::OpenRead { s, o, p } => {
-                self.place_handle(s, p, o, Direction::Reading);
+                self.place_handle(s, p, Handle::new(o, Direction::Reading));
                 Answer::Allowed(self.object_level(o))
             }
 
             // RULES C6.
             Call::OpenWrite { s, o, p } => {
-                self.place_handle(s, p, o, Direction::Writing);
+                self.place_handle(s, p, Handle::new(o, Direction::Writing));
                 Answer::Allowed(self.object_level(o))
             }
 
@@ -177,20 +180,24 @@ impl Monitor {
                 }
             }
 
-            // RULES C9.
+            // RULES C9: each handle with its mark.
             Call::Fork { s, c } => {
                 let level = self.subject_level(s);
                 self.tables.set_subject(c, Some(Subject { level }));
                 let handles: Vec<(u32, Handle)> = self.tables.handles_of(s).collect();
                 for (p, handle) in handles {
-                    self.place_handle(c, p, handle.object, handle.direction);
+                    self.place_handle(c, p, handle);
                 }
                 Answer::Allowed(level)
             }
 
-            // RULES C10.
+            // RULES C10, Y13: the marked handles go.
             Call::Exec { s, o } => {
                 let level = self.object_level(o);
+                let marked: Vec<u32> = self.tables.marked_places(s).collect();
+                for p in marked {
+                    self.remove_handle(s, p);
+                }
                 self.lower_subject(s, level)
             }
 
@@ -217,6 +224,12 @@ impl Monitor {
                 Answer::Allowed(level)
             }
 
+            // RULES C15.
+            Call::Mark { s, p } => {
+                self.tables.mark(s, p);
+                Answer::Allowed(self.subject_level(s))
+            }
+
             // RULES C16.
             Call::Freeze { level } => {
                 self.tables.set_freeze(level);
@@ -230,14 +243,13 @@ impl Monitor {
     }
 
     /// Places a handle, and counts it: RULES Y2, Y3, Y4.
-    fn place_handle(&mut self, s: u32, p: u32, object: u32, direction: Direction) {
-        let handle = Handle { object, direction };
+    fn place_handle(&mut self, s: u32, p: u32, handle: Handle) {
         self.tables.set_handle(s, p, Some(handle));
         self.tally.count_made(1);
     }
 
-    /// Empties a place, and counts it: RULES Y5, Y6. A pipe ends when its last handle goes: RULES C102.
-    fn remove_handle(&mut self, s: u32, p: u32) {
+    /// Empties a place, and counts it: RULES Y5, Y6, Y13. A pipe ends when its last handle goes: RULES C102.
+    pub(crate) fn remove_handle(&mut self, s: u32, p: u32) {
         let Some((o, object)) = self.held_object(s, p) else {
             return;
         };

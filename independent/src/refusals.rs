@@ -3,6 +3,8 @@
 //! R1 is in `monitor`, where a code becomes a call. R11, R12 and R14 speak of journals and are in
 //! `records` and `replies`. R13 speaks of the writer's buffer; the writer here has no limit.
 
+use std::borrow::Cow;
+
 use crate::calls::Call;
 use crate::needs::{Flow, Needs, Thing};
 use crate::tables::{Direction, Kind, Tables, NO_FREEZE};
@@ -33,8 +35,8 @@ pub fn meaning(number: u32) -> &'static str {
 /// A row's number and whether its condition holds.
 pub type Condition = (u32, bool);
 
-/// RULES R2 to R10 and R15 for a call, in the order in which they are tested: RULES R105, R117. `needs` has
-/// been worked out with the flow that an open asks for.
+/// RULES R2 to R10 and R15 for a call, in the order in which they are tested: RULES R105, R117. `needs`
+/// are those of `needs_for`.
 pub fn conditions(tables: &Tables, call: Call, needs: &Needs) -> [Condition; 10] {
     [
         (2, asker_is_missing(tables, call)),
@@ -102,7 +104,9 @@ fn place_is_unfit(tables: &Tables, call: Call) -> bool {
     match call {
         Call::Pipe { s, r, w, .. } => above(r) || above(w) || taken(s, r) || taken(s, w) || r == w,
         Call::OpenRead { s, p, .. } | Call::OpenWrite { s, p, .. } => above(p) || taken(s, p),
-        Call::Read { s, p } | Call::Write { s, p } | Call::Close { s, p } => above(p) || !taken(s, p),
+        Call::Read { s, p } | Call::Write { s, p } | Call::Close { s, p } | Call::Mark { s, p } => {
+            above(p) || !taken(s, p)
+        }
         _ => false,
     }
 }
@@ -116,6 +120,35 @@ fn direction_is_wrong(tables: &Tables, call: Call) -> bool {
         Call::Read { s, p } => held(s, p, Direction::Writing),
         Call::Write { s, p } => held(s, p, Direction::Reading),
         _ => false,
+    }
+}
+
+/// The needs that a call is tested by: with the flow that an open asks for (RULES R9), without the handles that
+/// an exec leaves out (RULES R110).
+pub fn needs_for(tables: &Tables, call: Call, rules: Rules, kept: &Needs) -> Needs {
+    let sought = sought_flow(tables, call);
+    Needs::work_out(&tables_tested(tables, call, rules), sought, rules, kept)
+}
+
+/// RULES R110: the tables in which the needs of a call are worked out.
+pub fn tables_tested(tables: &Tables, call: Call, rules: Rules) -> Cow<'_, Tables> {
+    let mut left_out = left_out(tables, call);
+    rules.bend_left_out(tables, call, &mut left_out);
+    if left_out.is_empty() {
+        return Cow::Borrowed(tables);
+    }
+    let mut tested = tables.clone();
+    for (s, p) in left_out {
+        tested.set_handle(s, p, None);
+    }
+    Cow::Owned(tested)
+}
+
+/// RULES R110: for an exec, the places of s with a marked handle, and of no other subject.
+fn left_out(tables: &Tables, call: Call) -> Vec<(u32, u32)> {
+    match call {
+        Call::Exec { s, .. } => tables.marked_places(s).map(|p| (s, p)).collect(),
+        _ => Vec::new(),
     }
 }
 

@@ -1,4 +1,4 @@
-//! The tables: RULES T1 to T20, T32 and T33; and the tally: RULES Y1 to Y10.
+//! The tables: RULES T1 to T20, T32, T33 and T35; and the tally: RULES Y1 to Y10.
 //!
 //! Subjects, objects and handles by number, what counts as a handle, the freeze, and the tally of handles
 //! made and gone. No rule of a call is here; see `monitor` and `refusals`.
@@ -45,11 +45,20 @@ pub enum Direction {
     Writing,
 }
 
-/// RULES T10: what a handle is on, and what for. The place is where it stands in the table.
+/// RULES T10, T35: what a handle is on, what for, and whether it is marked. The place is where it stands in
+/// the table.
 #[derive(Clone, Copy, Debug, PartialEq, Eq)]
 pub struct Handle {
     pub object: u32,
     pub direction: Direction,
+    pub marked: bool,
+}
+
+impl Handle {
+    /// RULES T35: a handle that is placed anew is not marked.
+    pub fn new(object: u32, direction: Direction) -> Handle {
+        Handle { object, direction, marked: false }
+    }
 }
 
 /// The three tables and the freeze. Every number, in range or not, may be asked for and set: out of range
@@ -114,6 +123,11 @@ impl Tables {
         (0..self.limits.places).filter_map(move |p| Some((p, self.handle(s, p)?)))
     }
 
+    /// The places of one subject with a marked handle.
+    pub fn marked_places(&self, s: u32) -> impl Iterator<Item = u32> + '_ {
+        self.handles_of(s).filter(|(_, handle)| handle.marked).map(|(p, _)| p)
+    }
+
     /// Whether some handle is open on the object.
     pub fn is_held(&self, o: u32) -> bool {
         self.handles().any(|(_, _, handle)| handle.object == o)
@@ -171,6 +185,14 @@ impl Tables {
             if let Some(entry) = self.handles.get_mut(index) {
                 *entry = handle;
             }
+        }
+    }
+
+    /// RULES C15: the handle at this place is marked, if there is one.
+    pub fn mark(&mut self, s: u32, p: u32) {
+        let marked = self.handle(s, p).map(|handle| Handle { marked: true, ..handle });
+        if marked.is_some() {
+            self.set_handle(s, p, marked);
         }
     }
 

@@ -118,6 +118,11 @@ pub fn wrapped(words: impl Iterator<Item = String>, first: &str, later: &str) ->
     text
 }
 
+/// A text on such lines, the later ones indented.
+pub fn paragraph(start: &str, text: &str) -> String {
+    wrapped(text.split(' ').map(str::to_string), start, "    ")
+}
+
 #[cfg(test)]
 mod tests {
     use super::{excerpt, indented, meant, shown, wrapped};

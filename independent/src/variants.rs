@@ -1,10 +1,11 @@
 //! Deliberately wrong variants of the program, to show that the generated journals find mistakes.
 //!
 //! `Rules` says which variant is on; by default none is, and then every function here leaves the rules
-//! as they are. Each variant is read at exactly one place: here, in `freeze`, in `outcomes`, or at the
-//! one place in the reader that it speaks of.
+//! as they are. Each variant is read at exactly one place: here, in `freeze`, in `marks`, in `outcomes`, or
+//! at the one place in the reader that it speaks of.
 
 mod freeze;
+mod marks;
 mod outcomes;
 
 use std::cmp::Reverse;
@@ -18,6 +19,7 @@ use crate::refusals::{sought_flow, Condition};
 use crate::replies::{Content, Step, LONGEST_JOURNAL};
 use crate::tables::{Direction, Kind, Limits, Tables, LIMITS};
 use freeze::bend_frozen;
+use marks::bend_marked;
 use outcomes::{bend_answer, bend_effect, bend_refused};
 
 macro_rules! variants {
@@ -79,6 +81,25 @@ variants! {
     FreezeRegisters "freeze-registers" "no file is registered at or above the freeze";
     FreezeExecs "freeze-execs" "a frozen file is not run";
     FreezeRetires "freeze-retires" "a frozen file is not retired";
+    // Marks: what is refused.
+    MarkedTested "marked-tested" "exec tests the need with the caller's marked handles in";
+    OthersLeftOut "others-left-out" "exec leaves the marked handles of all subjects out of its test";
+    OneLeftOut "one-left-out" "exec leaves only the first marked handle out of its test";
+    FilesLeftOut "files-left-out" "exec leaves only marked handles on files out of its test";
+    AllLeftOut "all-left-out" "where one handle is marked, exec leaves all of the caller's out of its test";
+    OpensLeaveOut "opens-leave-out" "an open leaves the opener's marked handles out of its test";
+    MarkedRunsAll "marked-runs-all" "exec by a subject with a marked handle is not tested";
+    MarkTwiceRefused "mark-twice-refused" "marking a marked handle is refused with 7";
+    MarkEmptyAllowed "mark-empty-allowed" "a mark of an empty place is allowed";
+    MarkPlace16Allowed "mark-place-16-allowed" "a mark of a place above 15 is allowed";
+    MarkWritingOnly "mark-writing-only" "a mark of a reading handle is refused with 8";
+    MarkReadingOnly "mark-reading-only" "a mark of a writing handle is refused with 8";
+    MarkFilesOnly "mark-files-only" "a mark of a handle on a pipe is refused with 5";
+    FreezeMarks "freeze-marks" "a mark of a handle on a frozen file is refused with 15";
+    MarkedCutOff "marked-cut-off" "a marked handle is neither read nor written";
+    MarkedNotClosed "marked-not-closed" "a marked handle is not closed by a close";
+    MarkedAsFree "marked-as-free" "an open may take the place of a marked handle";
+    MarkedRetired "marked-retired" "a file on which only marked handles are may be retired";
     // Other conditions.
     Mod256 "mod-256" "takes a call's numbers modulo 256";
     Mod65536 "mod-65536" "takes a call's numbers modulo 65,536";
@@ -141,6 +162,30 @@ variants! {
     RefusedFreezeSets "refused-freeze-sets" "a refused freeze sets one of 15";
     FifteenLifts "15-lifts" "an open refused with 15 lifts the freeze";
     FifteenStays "15-stays" "an open refused with 15 still places its handle";
+    MarkIgnored "mark-ignored" "a mark is answered and not kept";
+    MarkToggles "mark-toggles" "marking a marked handle takes the mark off";
+    MarkOfSubject "mark-of-subject" "a mark marks every handle of the subject";
+    MarkOfObject "mark-of-object" "a mark marks every handle on the object";
+    MarkLowers "mark-lowers" "a mark lowers the subject to the object's level";
+    MarkCloses "mark-closes" "a mark closes the handle at once";
+    MarkStaysAtClose "mark-stays-at-close" "the handle opened after a close has the closed one's mark";
+    MarkStaysAtExec "mark-stays-at-exec" "the handle opened where exec closed one has its mark";
+    MarkStaysAtExit "mark-stays-at-exit" "the places of a subject that exits keep their marks";
+    UseUnmarks "use-unmarks" "a read or write takes its handle's mark off";
+    ForkDropsMarks "fork-drops-marks" "fork copies the handles without their marks";
+    ForkMarksAll "fork-marks-all" "fork marks every handle of the child";
+    ForkMovesMarks "fork-moves-marks" "fork takes the marks off the handles of the caller";
+    ForkLeavesMarked "fork-leaves-marked" "fork does not copy marked handles";
+    ExecKeepsMarked "exec-keeps-marked" "an allowed exec keeps the marked handles";
+    ExecUnmarks "exec-unmarks" "an allowed exec takes the marks off and closes none";
+    ExecKeepsReading "exec-keeps-reading" "an allowed exec closes marked handles for writing only";
+    ExecClosesOthers "exec-closes-others" "exec closes the marked handles of all subjects";
+    ExecClosesRest "exec-closes-rest" "where one handle is marked, exec closes all of the caller's";
+    ExecKeepsPipes "exec-keeps-pipes" "a pipe stays when exec closes its last handle";
+    ExecEndsPipes "exec-ends-pipes" "a pipe ends when exec closes a handle on it, the last or not";
+    RefusedExecCloses "refused-exec-closes" "an exec refused with 9 still closes the marked handles";
+    UnfitExecCloses "unfit-exec-closes" "an exec refused with 4 or 5 still closes the marked handles";
+    RefusedExecUnmarks "refused-exec-unmarks" "an exec refused with 9 takes the marks off";
     OldMonitor "old-monitor" "hands the old monitor back";
     // Answers.
     OpenAnswersSubject "open-answers-subject" "an open answers with the subject's level";
@@ -151,6 +196,9 @@ variants! {
     FreezeAnswersOld "freeze-answers-old" "a freeze answers with the number before it";
     Freeze16Answers15 "freeze-16-answers-15" "a freeze of 16 answers with 15";
     FreezeAsLowered "freeze-as-lowered" "a freeze below the one before it is said as lowered";
+    MarkAnswersObject "mark-answers-object" "a mark answers with the object's level";
+    MarkAnswersPlace "mark-answers-place" "a mark answers with the place";
+    ClosingAsLowered "closing-as-lowered" "an exec that closes a handle is said as lowered";
     LoweredAsAllowed "lowered-as-allowed" "lowered is said as allowed";
     PipeLoweredAsAllowed "pipe-lowered-as-allowed" "a lowered pipe is said as allowed";
     EqualAsLowered "equal-as-lowered" "a read at the same level is said as lowered";
@@ -163,15 +211,25 @@ variants! {
     RefusedCounted "refused-counted" "a refused open counts a handle made";
     RetireCounted "retire-counted" "retire counts a handle gone";
     FreezeCounted "freeze-counted" "a freeze counts a handle made";
+    MarkCounted "mark-counted" "a mark counts a handle gone";
+    ExecNotCounted "exec-not-counted" "exec does not count the handles that it closes";
+    ExecCountedOnce "exec-counted-once" "exec counts one handle gone, however many it closes";
+    ExecCountsAll "exec-counts-all" "exec counts all of the caller's handles gone";
+    RefusedExecCounted "refused-exec-counted" "an exec refused with 9 counts the marked handles gone";
     OpenAsMade "open-as-made" "the end line gives the handles made as those open";
     // Codes.
     Code14Known "code-14-known" "takes code 14 for a freeze";
-    Code15Known "code-15-known" "takes code 15 for a freeze";
+    Code14AsMark "code-14-as-mark" "takes code 14 for a mark";
+    Code15AsFreeze "code-15-as-freeze" "takes code 15 for a freeze";
+    Code15Unknown "code-15-unknown" "does not know code 15";
     Code16Unknown "code-16-unknown" "does not know code 16";
     // Numbers and records.
     PaddedAccepted "padded-accepted" "a number longer than it need be is taken";
     AboveWrapped "above-wrapped" "a number above 4294967295 is wrapped";
     ReadsPastBody "reads-past-body" "a number may end behind its record's body";
+    MarkOneNumber "mark-one-number" "a record of a mark has one number";
+    MarkThreeNumbers "mark-three-numbers" "a record of a mark has three numbers";
+    MarkSwapped "mark-swapped" "a mark has the place before the subject";
     FreezeTwoNumbers "freeze-two-numbers" "a record of a freeze has two numbers";
     MissingIsZero "missing-is-zero" "a missing number is taken as 0";
     LeftOverIgnored "left-over-ignored" "what is left over in a record is ignored";
@@ -241,7 +299,9 @@ impl Rules {
     pub fn bend_code(self, code: u32) -> u32 {
         match (self.variant, code) {
             (Some(Variant::Code14Known), 14) => 16,
-            (Some(Variant::Code15Known), 15) => 16,
+            (Some(Variant::Code14AsMark), 14) => 15,
+            (Some(Variant::Code15AsFreeze), 15) => 16,
+            (Some(Variant::Code15Unknown), 15) => 0,
             (Some(Variant::Code16Unknown), 16) => 0,
             _ => code,
         }
@@ -250,18 +310,28 @@ impl Rules {
     /// How many numbers a record of this shape has.
     pub fn bend_count(self, shape: &Shape) -> usize {
         match self.variant {
+            Some(Variant::MarkOneNumber) if shape.code == 15 => 1,
+            Some(Variant::MarkThreeNumbers) if shape.code == 15 => 3,
             Some(Variant::FreezeTwoNumbers) if shape.code == 16 => 2,
             _ => shape.numbers.len(),
         }
     }
 
-    /// The numbers that a call is made with.
-    pub fn bend_numbers(self, numbers: [u32; 4]) -> [u32; 4] {
+    /// The numbers that a call of this code is made with.
+    pub fn bend_numbers(self, code: u32, numbers: [u32; 4]) -> [u32; 4] {
         match self.variant {
+            Some(Variant::MarkSwapped) if code == 15 => [numbers[1], numbers[0], 0, 0],
             Some(Variant::Mod256) => numbers.map(|number| number % 256),
             Some(Variant::Mod65536) => numbers.map(|number| number % 65_536),
             Some(Variant::Mod31Bits) => numbers.map(|number| number % (1 << 31)),
             _ => numbers,
+        }
+    }
+
+    /// RULES R110: the places that the test of a call leaves out.
+    pub fn bend_left_out(self, tables: &Tables, call: Call, left_out: &mut Vec<(u32, u32)>) {
+        if let Some(variant) = self.variant {
+            marks::bend_left_out(variant, tables, call, left_out);
         }
     }
 
@@ -309,6 +379,9 @@ impl Rules {
         if let Some(holds) = bend_frozen(variant, tables, call) {
             set(15, holds);
         }
+        if let Some((number, holds)) = bend_marked(variant, tables, call) {
+            set(number, holds);
+        }
         let is_open = sought_flow(tables, call).is_some();
         let unmet_among = |tested: &dyn Fn(Thing) -> bool| needs.unmet(tables).any(tested);
         let kind_of = |thing| match thing {
@@ -349,7 +422,7 @@ impl Rules {
             (Variant::ExecOwnFiles, Call::Exec { s, o }) => {
                 let own = tables
                     .handles_of(s)
-                    .filter(|(_, handle)| handle.direction == Direction::Writing)
+                    .filter(|(_, handle)| handle.direction == Direction::Writing && !handle.marked)
                     .filter_map(|(_, handle)| tables.object(handle.object))
                     .filter(|object| object.kind == Kind::File)
                     .any(|object| object_level(o) < object.level);

@@ -39,6 +39,15 @@ fn the_cases_are_all_there() {
         "freeze-flow",
         "freeze-lifted",
         "freeze-replaced",
+        "mark-answer",
+        "mark-refused",
+        "mark-exec",
+        "mark-exec-refused",
+        "mark-others",
+        "mark-fork",
+        "mark-pipe-ends",
+        "mark-again",
+        "mark-record",
         "codes-14-and-15",
     ] {
         assert!(names.iter().any(|known| known == name), "{name}");
@@ -62,10 +71,11 @@ fn a_direct_call_ignores_the_numbers_its_code_does_not_use() {
     assert_eq!(monitor.call(1, [0, 9, any, any]), Answer::Allowed(9));
     assert_eq!(monitor.call(2, [0, 9, any, any]), Answer::Allowed(9));
     assert_eq!(monitor.call(5, [0, 0, 0, any]), Answer::Allowed(9));
+    assert_eq!(monitor.call(15, [0, 0, any, any]), Answer::Allowed(9));
     assert_eq!(monitor.call(12, [0, any, any, any]), Answer::Allowed(9));
     assert_eq!(monitor.call(13, [0, any, any, any]), Answer::Allowed(9));
     assert_eq!(monitor.call(16, [9, any, any, any]), Answer::Allowed(9));
-    for code in [0, 14, 15, 17, 255, 256, 256 + 16, u32::MAX] {
+    for code in [0, 14, 17, 255, 256, 256 + 15, 256 + 16, u32::MAX] {
         assert_eq!(monitor.call(code, [0, 0, 0, 0]), Answer::Refused(1));
     }
 }
@@ -98,14 +108,18 @@ fn made_up(fill: impl Fn(&mut Tables)) -> Monitor {
 }
 
 fn handle(object: u32, direction: Direction) -> Option<Handle> {
-    Some(Handle { object, direction })
+    Some(Handle::new(object, direction))
+}
+
+fn marked(object: u32, direction: Direction) -> Option<Handle> {
+    Some(Handle { marked: true, ..Handle::new(object, direction) })
 }
 
 #[test]
 fn a_handle_on_what_is_not_live_counts_as_an_empty_place() {
     for object in [1, 63, 64, u32::MAX] {
         let monitor = made_up(|tables| tables.set_handle(0, 3, handle(object, READING)));
-        for code in [7, 8, 11] {
+        for code in [7, 8, 11, 15] {
             assert_eq!(monitor.clone().call(code, [0, 3, 0, 0]), Answer::Refused(7));
         }
         let mut monitor = monitor;
@@ -166,6 +180,143 @@ fn a_pipe_without_handles_stays_until_a_last_handle_goes() {
     assert_eq!(monitor.call(5, [0, 7, 0, 0]), Answer::Allowed(9));
     assert_eq!(monitor.call(11, [0, 0, 0, 0]), Answer::Allowed(9));
     assert_eq!(monitor.call(2, [7, 1, 0, 0]), Answer::Allowed(1));
+}
+
+// Marks.
+
+/// RULES T35, C15, C10: over every place, both directions, files and pipes.
+#[test]
+fn a_marked_handle_is_closed_by_exec_wherever_it_stands() {
+    for p in 0..16 {
+        for direction in [READING, WRITING] {
+            for kind in [Kind::File, Kind::Pipe] {
+                let mut monitor = made_up(|tables| {
+                    tables.set_object(1, Some(Object { kind, level: 9 }));
+                    tables.set_handle(0, p, handle(1, direction));
+                    tables.set_handle(0, (p + 1) % 16, handle(0, direction));
+                });
+                assert_eq!(monitor.call(10, [0, 0, 0, 0]), Answer::Allowed(9));
+                assert_eq!(monitor.tables().handle_count(), 2);
+                for _ in 0..2 {
+                    assert_eq!(monitor.call(15, [0, p, 0, 0]), Answer::Allowed(9));
+                    assert_eq!(monitor.tables().handle(0, p), marked(1, direction));
+                }
+                assert_eq!(monitor.tally().gone, 0);
+                assert_eq!(monitor.call(10, [0, 0, 0, 0]), Answer::Allowed(9));
+                assert_eq!((monitor.tables().handle(0, p), monitor.tally().gone), (None, 1));
+                assert_eq!(monitor.tables().handle(0, (p + 1) % 16), handle(0, direction));
+                // RULES C102: the pipe has no handle left.
+                assert_eq!(monitor.tables().object(1).is_some(), kind == Kind::File);
+            }
+        }
+    }
+}
+
+/// RULES R110: the level of the program against the need without the marked handles, at every pair of levels.
+#[test]
+fn exec_is_tested_without_the_caller_s_marked_handles() {
+    for program in 0..=15 {
+        for unmarked in 0..=15 {
+            let mut monitor = made_up(|tables| {
+                tables.set_subject(0, Some(Subject { level: 15 }));
+                for (o, level) in [(0, 15), (1, unmarked), (2, program)] {
+                    tables.set_object(o, Some(Object { kind: Kind::File, level }));
+                }
+                tables.set_handle(0, 0, marked(0, WRITING));
+                tables.set_handle(0, 1, handle(1, WRITING));
+            });
+            let before = monitor.tables().clone();
+            let answer = monitor.call(10, [0, 2, 0, 0]);
+            if program < unmarked {
+                assert_eq!((answer, monitor.tables()), (Answer::Refused(9), &before));
+            } else {
+                assert_eq!(answer.level(), program);
+                assert_eq!(answer.letter(), if program < 15 { 'L' } else { 'A' });
+                assert_eq!(monitor.tables().handle_count(), 1);
+            }
+        }
+    }
+}
+
+/// RULES R110: a ring of two subjects, in which the marks of the other one count for nothing.
+#[test]
+fn the_marked_handles_of_others_are_in_the_test_and_stay() {
+    let ring = |marks: [bool; 2]| {
+        made_up(move |tables| {
+            tables.set_subject(1, Some(Subject { level: 9 }));
+            tables.set_object(1, Some(Object { kind: Kind::File, level: 2 }));
+            tables.set_object(2, Some(Object { kind: Kind::Pipe, level: 9 }));
+            let at = |own: bool, object, direction| {
+                if own {
+                    marked(object, direction)
+                } else {
+                    handle(object, direction)
+                }
+            };
+            tables.set_handle(0, 0, at(marks[0], 2, WRITING));
+            tables.set_handle(1, 0, at(marks[1], 2, READING));
+            tables.set_handle(1, 1, at(marks[1], 0, WRITING));
+        })
+    };
+    for others in [false, true] {
+        assert_eq!(ring([false, others]).call(10, [0, 1, 0, 0]), Answer::Refused(9));
+        let mut monitor = ring([true, others]);
+        assert_eq!(monitor.call(10, [0, 1, 0, 0]), Answer::Lowered(2));
+        assert_eq!((monitor.tables().handle_count(), monitor.tally().gone), (2, 1));
+        assert_eq!(monitor.tables().marked_places(1).count(), if others { 2 } else { 0 });
+    }
+}
+
+/// RULES T17, T18, Y11: it is no handle, so it is not marked, not copied, not closed and not counted.
+#[test]
+fn a_marked_handle_that_dangles_counts_as_an_empty_place() {
+    for object in [5, 63, 64, u32::MAX] {
+        let monitor = made_up(|tables| {
+            tables.set_handle(0, 3, marked(object, WRITING));
+            tables.set_handle(0, 4, marked(0, WRITING));
+            tables.set_handle(7, 0, marked(0, WRITING));
+        });
+        assert_eq!(monitor.clone().call(15, [0, 3, 0, 0]), Answer::Refused(7));
+        assert_eq!(monitor.clone().call(15, [7, 0, 0, 0]), Answer::Refused(2));
+        let mut run = monitor.clone();
+        assert_eq!(run.call(10, [0, 0, 0, 0]), Answer::Allowed(9));
+        assert_eq!((run.tally().made, run.tally().gone, run.tables().handle_count()), (0, 1, 0));
+        let mut forked = monitor.clone();
+        assert_eq!(forked.call(9, [0, 1, 0, 0]), Answer::Allowed(9));
+        assert_eq!((forked.tally().made, forked.tables().marked_places(1).count()), (1, 1));
+        // What is opened there is new: it has no mark.
+        let mut opened = monitor;
+        assert_eq!(opened.call(5, [0, 0, 3, 0]), Answer::Allowed(9));
+        assert_eq!(opened.tables().handle(0, 3), handle(0, READING));
+    }
+}
+
+#[test]
+fn a_mark_empties_places_that_count_as_empty_and_a_refused_one_does_not() {
+    let stale = |tables: &mut Tables| {
+        tables.set_handle(0, 0, handle(0, READING));
+        tables.set_handle(0, 3, marked(1, READING));
+    };
+    let mut monitor = made_up(stale);
+    let tables = monitor.tables().clone();
+    assert_eq!(monitor.call(15, [0, 3, 0, 0]), Answer::Refused(7));
+    assert_eq!(*monitor.tables(), tables);
+    assert_eq!(monitor.call(15, [0, 0, 0, 0]), Answer::Allowed(9));
+    let cleaned = made_up(|tables| tables.set_handle(0, 0, marked(0, READING)));
+    assert_eq!(monitor.tables(), cleaned.tables());
+}
+
+/// RULES T22, C102: a pipe on which there was no handle stays, at an exec too.
+#[test]
+fn a_pipe_without_handles_stays_at_an_exec() {
+    let mut monitor = made_up(|tables| {
+        tables.set_object(7, Some(Object { kind: Kind::Pipe, level: 9 }));
+        tables.set_object(8, Some(Object { kind: Kind::Pipe, level: 9 }));
+        tables.set_handle(0, 0, marked(8, READING));
+        tables.set_handle(9, 0, marked(7, READING));
+    });
+    assert_eq!(monitor.call(10, [0, 0, 0, 0]), Answer::Allowed(9));
+    assert!(monitor.tables().object(7).is_some() && monitor.tables().object(8).is_none());
 }
 
 // The freeze.

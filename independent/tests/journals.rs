@@ -1,6 +1,6 @@
 //! What holds of every journal, over generated ones.
 
-use std::collections::BTreeMap;
+use std::collections::{BTreeMap, BTreeSet};
 
 use gatekeeper_independent::assembly::assemble;
 use gatekeeper_independent::calls::Call;
@@ -11,7 +11,7 @@ use gatekeeper_independent::monitor::Answer;
 use gatekeeper_independent::needs::{level, live_things, Flow, Needs, Thing};
 use gatekeeper_independent::records::Body;
 use gatekeeper_independent::replies::{replies, Content, Run};
-use gatekeeper_independent::tables::{Direction, Kind, Object, Tables};
+use gatekeeper_independent::tables::{Direction, Handle, Kind, Object, Tables};
 use gatekeeper_independent::variants::Rules;
 
 const SEED: u64 = 20;
@@ -171,6 +171,159 @@ fn the_freeze_is_met_often() {
     assert!(met.values().all(|&times| times >= 10), "{met:?}");
 }
 
+/// RULES T35, C9, C15: the marks, kept beside the journal by its calls and their answers alone.
+#[test]
+fn handles_are_marked_as_the_calls_say() {
+    for journal in mixed(150) {
+        let mut marked = BTreeSet::new();
+        each_call(&journal, |call, answer, before| {
+            let held: BTreeSet<(u32, u32)> =
+                before.handles().filter(|(_, _, handle)| handle.marked).map(|(s, p, _)| (s, p)).collect();
+            assert_eq!(held, marked, "{call:?}");
+            if matches!(answer, Answer::Refused(_)) {
+                return;
+            }
+            match call {
+                Call::Mark { s, p } => {
+                    marked.insert((s, p));
+                }
+                Call::Close { s, p } => {
+                    marked.remove(&(s, p));
+                }
+                Call::Exec { s, .. } | Call::Exit { s } => marked.retain(|&(other, _)| other != s),
+                Call::Fork { s, c } => {
+                    let own: Vec<u32> =
+                        marked.iter().filter(|mark| mark.0 == s).map(|mark| mark.1).collect();
+                    marked.extend(own.into_iter().map(|p| (c, p)));
+                }
+                _ => {}
+            }
+        });
+    }
+}
+
+/// RULES C10, R110, Y13: an exec goes by the need of the tables without its marked handles, found by a search; it
+/// closes these and no others, or none if it is refused.
+#[test]
+fn an_exec_closes_the_marked_handles_of_its_caller_and_no_others() {
+    for journal in mixed(150) {
+        let mut run = Run::new(&journal, Rules::default());
+        loop {
+            let (before, tally) = (run.monitor().tables().clone(), run.tally());
+            let Some(step) = run.next_step() else {
+                break;
+            };
+            let Content::Body(_, Body::Call { code: 10, numbers: [s, o, ..] }) = step.content else {
+                continue;
+            };
+            let after = run.monitor().tables();
+            let mut without = before.clone();
+            for p in 0..16 {
+                if before.handle(s, p).is_some_and(|handle| handle.marked) {
+                    without.set_handle(s, p, None);
+                }
+            }
+            let handles = |tables: &Tables| tables.handles().collect::<Vec<_>>();
+            let closes = !matches!(step.answer, Answer::Refused(_));
+            assert_eq!(handles(after), handles(if closes { &without } else { &before }));
+            assert_eq!(run.tally().gone - tally.gone, before.handle_count() - after.handle_count());
+            // RULES C102.
+            for o in before.live_objects() {
+                let is_pipe = before.object(o).is_some_and(|object| object.kind == Kind::Pipe);
+                let ends = is_pipe && before.is_held(o) && !after.is_held(o);
+                assert_eq!(after.object(o).is_none(), ends);
+            }
+            if closes || step.answer == Answer::Refused(9) {
+                let need = need_by_search(&without, Thing::Subject(s));
+                let level = before.object(o).map_or(0, |object| object.level);
+                assert_eq!(closes, level >= need, "exec {s} {o}");
+            }
+        }
+    }
+}
+
+/// What a mark comes to in a call.
+fn marks_met(
+    call: Call,
+    answer: Answer,
+    before: &Tables,
+    left: &BTreeSet<(u32, u32)>,
+) -> Vec<&'static str> {
+    let mut met = Vec::new();
+    let is_marked = |s, p| before.handle(s, p).is_some_and(|handle: Handle| handle.marked);
+    let allowed = !matches!(answer, Answer::Refused(_));
+    match call {
+        Call::Mark { .. } if answer == Answer::Refused(2) => met.push("2"),
+        Call::Mark { p, .. } if answer == Answer::Refused(7) => {
+            met.push(if p < 16 { "7, an empty place" } else { "7, a place above 15" });
+        }
+        Call::Mark { s, p } if is_marked(s, p) => met.push("marked again"),
+        Call::Mark { s, p } => match before.handle(s, p).map(|handle| handle.direction) {
+            Some(Direction::Reading) => met.push("a reading handle marked"),
+            _ => met.push("a writing handle marked"),
+        },
+        Call::Read { s, p } | Call::Write { s, p } if is_marked(s, p) && allowed => met.push("used"),
+        Call::Close { s, p } if is_marked(s, p) => met.push("closed"),
+        Call::OpenRead { s, p, .. } | Call::OpenWrite { s, p, .. } if allowed && left.contains(&(s, p)) => {
+            met.push("opened where exec closed one");
+        }
+        Call::Fork { s, .. } if allowed && before.marked_places(s).next().is_some() => met.push("forked"),
+        Call::Exit { s } if before.marked_places(s).next().is_some() => met.push("exit"),
+        Call::Exec { s, o } if before.marked_places(s).next().is_some() => {
+            let level = before.object(o).map_or(0, |object| object.level);
+            let need = Needs::of_tables(before).of(Thing::Subject(s));
+            match answer {
+                Answer::Refused(9) => met.push("exec refused with 9"),
+                Answer::Refused(_) => met.push("exec refused otherwise"),
+                _ if level < need => met.push("exec allowed by the mark alone"),
+                _ => met.push("exec"),
+            }
+            let own = |o| before.handles().filter(move |(_, _, handle)| handle.object == o);
+            let ends = |o| own(o).all(|(other, _, handle)| other == s && handle.marked);
+            let pipes =
+                before.marked_places(s).filter_map(|p| before.handle(s, p)).map(|handle| handle.object);
+            let mut pipes =
+                pipes.filter(|&o| before.object(o).is_some_and(|object| object.kind == Kind::Pipe));
+            if allowed && pipes.any(ends) {
+                met.push("a pipe ends by exec");
+            }
+        }
+        Call::Exec { s, .. } => {
+            let others = before.handles().any(|(other, _, handle)| other != s && handle.marked);
+            match answer {
+                Answer::Refused(9) if others => met.push("exec refused, others have marks"),
+                Answer::Refused(_) => {}
+                _ if others => met.push("exec without marks beside others'"),
+                _ => {}
+            }
+        }
+        _ => {}
+    }
+    met
+}
+
+/// What marks do, and what they must not do, stands in the journals often enough to be compared.
+#[test]
+fn marks_are_met_often() {
+    let mut met = BTreeMap::new();
+    for journal in mixed(150) {
+        let mut left = BTreeSet::new();
+        each_call(&journal, |call, answer, before| {
+            for what in marks_met(call, answer, before, &left) {
+                *met.entry(what).or_insert(0) += 1;
+            }
+            match call {
+                Call::Exec { s, .. } if !matches!(answer, Answer::Refused(_)) => {
+                    left.extend(before.marked_places(s).map(|p| (s, p)));
+                }
+                _ => {}
+            }
+        });
+    }
+    assert_eq!(met.len(), 18, "{met:?}");
+    assert!(met.values().all(|&times| times >= 10), "{met:?}");
+}
+
 /// RULES F5, F6: the need, by a search from the thing.
 fn need_by_search(tables: &Tables, start: Thing) -> u32 {
     let mut reached = vec![start];
@@ -245,6 +398,51 @@ fn every_journal_can_be_explained() {
             }
         }
     }
+}
+
+/// The places that the explanation of this record says to mark.
+fn marks_advised(text: &str, position: u64) -> Vec<u32> {
+    let part = text.split(&format!("\n{position}. ")).nth(1).unwrap();
+    let words = part.split_whitespace().collect::<Vec<&str>>().join(" ");
+    let (_, advice) = words.split_once(" does not need ").unwrap();
+    let (advice, _) = advice.split_once(": the exec closes ").unwrap();
+    let places = advice.split("place ").skip(1);
+    places.map(|rest| rest.split(' ').next().unwrap().parse().unwrap()).collect()
+}
+
+/// RULES R110: made on a copy, the marks that an exec's 9 is explained with let it through, and each is needed.
+#[test]
+fn the_marks_that_are_advised_are_enough() {
+    let mut tried = 0;
+    for journal in mixed(80) {
+        let text = explain(&journal);
+        let mut run = Run::new(&journal, Rules::default());
+        loop {
+            let before = run.monitor().clone();
+            let Some(step) = run.next_step() else {
+                break;
+            };
+            let Content::Body(_, Body::Call { code: 10, numbers }) = step.content else {
+                continue;
+            };
+            if step.answer != Answer::Refused(9) {
+                continue;
+            }
+            let places = marks_advised(&text, step.position);
+            assert!(!places.is_empty());
+            // One is left out, and at last none.
+            for left_out in 0..=places.len() {
+                let mut copy = before.clone();
+                for (_, &p) in places.iter().enumerate().filter(|&(index, _)| index != left_out) {
+                    assert!(matches!(copy.call(15, [numbers[0], p, 0, 0]), Answer::Allowed(_)));
+                }
+                let refused = copy.call(10, numbers) == Answer::Refused(9);
+                assert_eq!(refused, left_out < places.len(), "record {}: {places:?}", step.position);
+            }
+            tried += 1;
+        }
+    }
+    assert!(tried >= 100, "{tried}");
 }
 
 #[test]

@@ -276,7 +276,31 @@ fn a_freeze_is_written_read_and_answered() {
         "call 16                  # refusal 12: the number level of freeze is missing\n",
         "call 16 9 9              # refusal 12: 1 byte is left over behind freeze\n",
         "call 14 9                # refusal 1: no call has the code 14\n",
-        "call 15 9                # refusal 1: no call has the code 15\n",
+        "call 15 9                # refusal 12: the number p of mark is missing\n",
+    ] {
+        assert!(out(&output).contains(part), "{}", out(&output));
+    }
+}
+
+#[test]
+fn a_mark_is_written_read_and_answered() {
+    let output = gk(
+        &["assemble"],
+        b"admit 0 9\nregister 0 9\nopen-write 0 0 3\nmark 0 3 # ends at exec\nmark 0 4\n",
+    );
+    let journal = [3, 1, 0, 9, 3, 2, 0, 9, 4, 6, 0, 0, 3, 3, 15, 0, 3, 3, 15, 0, 4];
+    assert_eq!(output.stdout, journal);
+    assert!(out(&gk(&["disassemble"], &journal)).ends_with("open-write 0 0 3\nmark 0 3\nmark 0 4\n"));
+    let replies = "1 1 A 9\n2 2 A 9\n3 6 A 9\n4 15 A 9\n5 15 R 7\nend 1 0 1\n";
+    assert_eq!(out(&gk(&["run"], &journal)), replies);
+
+    assert!(err(&gk(&["assemble"], b"marks 0 3")).contains("Did you mean: mark"));
+    assert!(err(&gk(&["assemble"], b"mark 0")).contains("expected the number p"));
+    assert!(err(&gk(&["assemble"], b"mark 0 3 1")).contains("call 15 0 3 1"));
+    let output = gk(&["disassemble"], &[1, 15, 4, 15, 0, 3, 1]);
+    for part in [
+        "call 15                  # refusal 12: the number s of mark is missing\n",
+        "call 15 0 3 1            # refusal 12: 1 byte is left over behind mark\n",
     ] {
         assert!(out(&output).contains(part), "{}", out(&output));
     }
@@ -388,6 +412,65 @@ fn advice_that_a_freeze_forbids_is_not_given() {
     let text = explained(&format!("{BOOKS}freeze 9\n{wrong}"));
     sees(&text, &["What to do: when the books are open again, open it for writing at another place."]);
     sees(&explained(&format!("{BOOKS}{wrong}")), &["What to do: open it for writing at another place."]);
+}
+
+#[test]
+fn marks_and_what_exec_closes_are_explained() {
+    let text = explained(&format!(
+        "{BOOKS}open-write 0 0 0\nmark 0 0\nmark 0 0\npipe 0 5 1 2\nmark 0 1\nfork 0 2\nmark 0 2\nexec 0 1\n\
+         exec 2 1\nmark 0 0\nmark 0 16\nmark 9 0\n"
+    ));
+    sees(
+        &text,
+        &[
+            "6. Step 0 marks place 0, its writing handle on file 0 (level 9). Allowed. Step 0's next exec that is \
+             allowed closes it; until then it is used as before. 7.",
+            "7. Step 0 marks place 0, its marked writing handle on file 0 (level 9). Allowed. It was marked before: \
+             nothing changes. 8.",
+            "10. Step 0 forks step 2. Allowed. Step 2 starts at level 9 with copies of step 0's 3 handles, 2 of them \
+             marked. 11.",
+            "12. Step 0 runs file 1. Lowered. Step 0 falls from level 9 to level 2. Its marked handles are closed: \
+             place 0 (writing file 0), place 1 (reading pipe 5), place 2 (writing pipe 5). 13.",
+            "13. Step 2 runs file 1. Lowered. Step 2 falls from level 9 to level 2. Its marked handles are closed: \
+             place 0 (writing file 0), place 1 (reading pipe 5). 14.",
+            "14. Step 0 marks place 0, nothing. Refused (7): the place does not fit. That place of step 0 is empty.",
+            "Refused (7): the place does not fit. Places are 0 to 15, and 16 is none of them.",
+            "16. Step 9 marks place 0, nothing. Refused (2): ",
+        ],
+    );
+    // Step 2 keeps an end of pipe 5 in the run above; here nobody does.
+    let text = explained(&format!("{BOOKS}pipe 0 5 1 2\nmark 0 1\nmark 0 2\nexec 0 0\n"));
+    sees(&text, &["place 2 (writing pipe 5). Pipe 5 has no handle left and ends. End of the run"]);
+}
+
+#[test]
+fn a_9_of_an_exec_names_the_marks_that_are_enough() {
+    let marked = |words: &str, them: &str| {
+        format!("Or: if the program does not need {them}, mark {words}: the exec closes {them}.")
+    };
+    let book = "place 0 of step 0 (writing file 0)";
+    let text = explained(&format!("{BOOKS}open-write 0 0 0\nexec 0 1\n"));
+    sees(
+        &text,
+        &["What to do: close place 0 of step 0 (writing file 0); run it after that.", &marked(book, "it")],
+    );
+    // One that is marked already is in no chain; one that leads nowhere high is not named.
+    let text = explained(&format!(
+        "{BOOKS}open-write 0 0 0\nopen-write 0 0 1\nmark 0 1\nopen-write 0 1 2\nopen-read 0 0 3\nexec 0 1\n"
+    ));
+    sees(&text, &["close place 0 of step 0 (writing file 0); run it", &marked(book, "it")]);
+    // Two ways: both must be marked.
+    let ways = "open-write 0 0 0\npipe 0 5 1 2\nopen-read 1 5 0\nregister 2 8\nopen-write 1 2 1\n";
+    let text = explained(&format!("{BOOKS}{ways}exec 0 1\n"));
+    let both = "place 0 of step 0 (writing file 0) and place 2 of step 0 (writing pipe 5)";
+    sees(&text, &["more than one way leads there.", &marked(both, "them")]);
+    // The handles of another step are never to be marked, and an open asks for no mark.
+    let other = "pipe 0 5 1 2\nfork 0 2\nclose 0 1\nclose 2 2\nopen-write 2 0 0\n";
+    let text = explained(&format!("{BOOKS}{other}mark 2 0\nexec 0 1\n"));
+    sees(&text, &[&marked("place 2 of step 0 (writing pipe 5)", "it")]);
+    let text = explained(&format!("{BOOKS}open-write 0 0 0\nopen-read 0 1 1\n"));
+    sees(&text, &["Refused (9): "]);
+    assert!(!text.contains("mark"), "{text}");
 }
 
 #[test]

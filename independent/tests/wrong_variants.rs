@@ -9,7 +9,7 @@ use gatekeeper_independent::calls::Call;
 use gatekeeper_independent::generate::{journal, Wish};
 use gatekeeper_independent::needs::Needs;
 use gatekeeper_independent::records::Body;
-use gatekeeper_independent::refusals::{conditions, sought_flow};
+use gatekeeper_independent::refusals::{conditions, needs_for};
 use gatekeeper_independent::replies::{Content, Run};
 use gatekeeper_independent::variants::{Rules, ALL};
 
@@ -49,8 +49,7 @@ fn every_pair_of_conditions_that_can_hold_together_has_a_variant() {
                 continue;
             };
             let call = Call::new(code, numbers).unwrap();
-            let sought = sought_flow(&tables, call);
-            let needs = Needs::work_out(&tables, sought, Rules::default(), &Needs::none(&tables));
+            let needs = needs_for(&tables, call, Rules::default(), &Needs::none(&tables));
             let conditions = conditions(&tables, call, &needs);
             let holding: Vec<u32> = conditions.iter().filter(|row| row.1).map(|row| row.0).collect();
             for (index, smaller) in holding.iter().enumerate() {

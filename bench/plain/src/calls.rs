@@ -1,4 +1,4 @@
-//! The fourteen calls by code, and what a call is answered with.
+//! The fifteen calls by code, and what a call is answered with.
 
 use crate::refusals::Refusal;
 use crate::tables::{Direction, Level};
@@ -34,6 +34,7 @@ pub enum Call {
     Close { s: u32, p: u32 },
     Exit { s: u32 },
     Retire { o: u32 },
+    Mark { s: u32, p: u32 },
     Freeze { level: u32 },
 }
 
@@ -46,7 +47,7 @@ impl Call {
         match code {
             4 => Some(4),
             5 | 6 => Some(3),
-            1..=3 | 7..=11 => Some(2),
+            1..=3 | 7..=11 | 15 => Some(2),
             12 | 13 | 16 => Some(1),
             _ => None,
         }
@@ -68,6 +69,7 @@ impl Call {
             11 => Call::Close { s: a, p: b },
             12 => Call::Exit { s: a },
             13 => Call::Retire { o: a },
+            15 => Call::Mark { s: a, p: b },
             16 => Call::Freeze { level: a },
             _ => return None,
         })

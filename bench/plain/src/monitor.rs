@@ -37,7 +37,7 @@ impl Monitor {
         self.tables.tally
     }
 
-    /// The needs worked out last: for an open, as if it were allowed.
+    /// The needs worked out last: for an open, as if it were allowed; for an exec, without the caller's marked handles.
     pub fn needs(&self) -> &Needs {
         &self.needs
     }
@@ -53,7 +53,7 @@ impl Monitor {
     /// Makes a call. A refused one changes no table.
     pub fn call(&mut self, call: Call) -> Answer {
         if self.when == When::EachCall {
-            self.needs = Needs::work_out(&self.tables, self.sought(call).unwrap_or(Place::EMPTY));
+            self.needs = self.needs_for(call);
         }
         let answer = match call {
             Call::Admit { s, level } => self.admit(s, level),
@@ -68,6 +68,7 @@ impl Monitor {
             Call::Close { s, p } => self.close(s, p),
             Call::Exit { s } => self.exit(s),
             Call::Retire { o } => self.retire(o),
+            Call::Mark { s, p } => self.mark(s, p),
             Call::Freeze { level } => self.freeze(level),
         };
         answer.unwrap_or_else(Answer::from)
@@ -114,7 +115,7 @@ impl Monitor {
         let (s, _) = self.tables.subject(s)?;
         let (o, object) = self.tables.object(o)?;
         let p = self.tables.empty_place(s, p)?;
-        self.ask(Place::of(s, o, direction));
+        self.ask(|tables| Needs::work_out(tables, Place::of(s, o, direction)));
         if !self.needs.are_met(&self.tables) {
             return Err(Refusal::Flow);
         }
@@ -151,15 +152,21 @@ impl Monitor {
                 self.tables.fill(c, place, o, direction);
             }
         }
+        self.tables.marks[c] = self.tables.marks[s];
         Ok(Answer::Allowed(level))
     }
 
     fn exec(&mut self, s: u32, o: u32) -> Result<Answer, Refusal> {
         let (s, level) = self.tables.subject(s)?;
         let (_, object) = self.tables.file(o)?;
-        self.ask(Place::EMPTY);
+        self.ask(|tables| Needs::without_marked(tables, s));
         if object.level < self.needs.subject(s) {
             return Err(Refusal::Flow);
+        }
+        for place in 0..PLACES {
+            if self.tables.is_marked(s, place) {
+                self.tables.empty(s, place);
+            }
         }
         Ok(fall(level, object.level, |level| self.tables.subjects[s] = Some(level)))
     }
@@ -189,6 +196,13 @@ impl Monitor {
         Ok(Answer::Allowed(object.level))
     }
 
+    fn mark(&mut self, s: u32, p: u32) -> Result<Answer, Refusal> {
+        let (s, level) = self.tables.subject(s)?;
+        let Held { p, .. } = self.tables.held(s, p)?;
+        self.tables.mark(s, p);
+        Ok(Answer::Allowed(level))
+    }
+
     fn freeze(&mut self, level: u32) -> Result<Answer, Refusal> {
         self.tables.freeze = freeze_in_range(level)?;
         Ok(Answer::Allowed(self.tables.freeze))
@@ -198,10 +212,20 @@ impl Monitor {
 /// When needs are worked out, and of what.
 impl Monitor {
     /// Works needs out for the test of a call, unless that was done before all else.
-    fn ask(&mut self, sought: Place) {
+    fn ask(&mut self, work_out: impl FnOnce(&Tables) -> Needs) {
         if self.when == When::Asked {
-            self.needs = Needs::work_out(&self.tables, sought);
+            self.needs = work_out(&self.tables);
         }
+    }
+
+    /// The needs that a call is tested by: for an exec, without the caller's marked handles.
+    fn needs_for(&self, call: Call) -> Needs {
+        if let Call::Exec { s, .. } = call {
+            if let Ok((s, _)) = self.tables.subject(s) {
+                return Needs::without_marked(&self.tables, s);
+            }
+        }
+        Needs::work_out(&self.tables, self.sought(call).unwrap_or(Place::EMPTY))
     }
 
     /// The handle that an open seeks, where its subject and its object are live.
@@ -267,6 +291,41 @@ mod tests {
         assert_eq!(after(&[(16, [0; NUMBERS]), (16, [17; NUMBERS]), (6, file)]), Answer::Refused(15));
         // Below the file's level: that is said first.
         assert_eq!(after(&[(1, [1, 8, 0, 0]), (16, [0; NUMBERS]), (6, [1, 0, 0, 0])]), Answer::Refused(9));
+    }
+
+    #[test]
+    fn an_exec_leaves_the_caller_s_marked_handles_out_and_closes_them() {
+        let start = [(1, [0, 9, 0, 0]), (2, [0, 9, 0, 0]), (2, [1, 2, 0, 0]), (6, [0, 0, 0, 0])];
+        let after = |calls: &[(u32, [u32; NUMBERS])]| last(&[&start[..], calls].concat());
+        let (mark, exec, write) = ((15, [0; 4]), (10, [0, 1, 0, 0]), (8, [0; 4]));
+        assert_eq!(after(&[mark]), Answer::Allowed(9));
+        assert_eq!(after(&[mark, mark]), Answer::Allowed(9));
+        assert_eq!(after(&[(15, [0, 1, 0, 0])]), Answer::Refused(7));
+        assert_eq!(after(&[(15, [0, 16, 0, 0])]), Answer::Refused(7));
+        assert_eq!(after(&[(15, [1, 16, 0, 0])]), Answer::Refused(2));
+        assert_eq!(after(&[exec]), Answer::Refused(9));
+        assert_eq!(after(&[mark, exec]), Answer::Lowered(2));
+        assert_eq!(after(&[mark, exec, write]), Answer::Refused(7));
+        // A second handle is not marked: the exec is refused and the first one stays.
+        let second = (6, [0, 0, 1, 0]);
+        assert_eq!(after(&[mark, second, exec]), Answer::Refused(9));
+        assert_eq!(after(&[mark, second, exec, write]), Answer::Allowed(9));
+        // The mark went with its handle.
+        assert_eq!(after(&[mark, (11, [0; 4]), (6, [0; 4]), exec]), Answer::Refused(9));
+        // A fork copies the mark, and each of the two has its own.
+        let (fork, child) = ((9, [0, 1, 0, 0]), (10, [1, 1, 0, 0]));
+        assert_eq!(after(&[mark, fork, child]), Answer::Lowered(2));
+        assert_eq!(after(&[mark, fork, child, write]), Answer::Allowed(9));
+        assert_eq!(after(&[fork, mark, child]), Answer::Refused(9));
+    }
+
+    #[test]
+    fn a_pipe_ends_with_the_exec_that_closes_its_last_handle() {
+        let start = [(1, [0, 9, 0, 0]), (2, [0, 9, 0, 0]), (4, [0, 5, 0, 1]), (15, [0, 0, 0, 0])];
+        let ended = [(15, [0, 1, 0, 0]), (10, [0; 4])];
+        let again = (2, [5, 4, 0, 0]);
+        assert_eq!(last(&[&start[..], &ended[..], &[again]].concat()), Answer::Allowed(4));
+        assert_eq!(last(&[&start[..], &ended[1..], &[again]].concat()), Answer::Refused(3));
     }
 
     #[test]

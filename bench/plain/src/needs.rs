@@ -39,6 +39,16 @@ impl Needs {
         needs
     }
 
+    /// The same without the marked handles of a subject.
+    pub fn without_marked(tables: &Tables, s: usize) -> Needs {
+        if tables.marks[s] == 0 {
+            return Needs::work_out(tables, Place::EMPTY);
+        }
+        let mut left = tables.clone();
+        left.places[s] = tables.unmarked(s);
+        Needs::work_out(&left, Place::EMPTY)
+    }
+
     /// One pass over all handles; whether a need changed.
     fn pass(&mut self, tables: &Tables, sought: Place) -> bool {
         let mut changed = false;

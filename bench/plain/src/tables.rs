@@ -1,4 +1,4 @@
-//! The tables: subjects, objects and handles, by number, the freeze, and the tally of handles.
+//! The tables: subjects, objects and handles, by number, the marks, the freeze, and the tally of handles.
 
 /// How many there are of each.
 pub const SUBJECTS: usize = 32;
@@ -91,7 +91,11 @@ impl Tally {
     }
 }
 
-/// Every table. A subject that is not live holds no handle, and every handle's object is live.
+/// Places of one subject, place p as bit p.
+pub type Places = u16;
+
+/// Every table. A subject that is not live holds no handle, every handle's object is live, and an empty place has no
+/// mark.
 #[derive(Clone, Debug, PartialEq, Eq)]
 pub struct Tables {
     /// The levels of the live subjects; none for a number that is free.
@@ -99,6 +103,8 @@ pub struct Tables {
     pub objects: [Option<Object>; OBJECTS],
     /// By subject, then by place.
     pub places: [[Place; PLACES]; SUBJECTS],
+    /// The places with a marked handle, by subject: an exec closes those.
+    pub marks: [Places; SUBJECTS],
     /// The level from which on no file is opened for writing.
     pub freeze: Level,
     pub tally: Tally,
@@ -109,11 +115,12 @@ impl Tables {
         subjects: [None; SUBJECTS],
         objects: [None; OBJECTS],
         places: [[Place::EMPTY; PLACES]; SUBJECTS],
+        marks: [0; SUBJECTS],
         freeze: NO_FREEZE,
         tally: Tally { made: 0, gone: 0 },
     };
 
-    /// Places a handle on a live object at an empty place of a live subject.
+    /// Places a handle on a live object at an empty place of a live subject. It has no mark.
     pub fn fill(&mut self, s: usize, p: usize, o: usize, direction: Direction) {
         self.places[s][p] = Place::of(s, o, direction);
         if let Some(object) = &mut self.objects[o] {
@@ -122,10 +129,31 @@ impl Tables {
         self.tally.made = self.tally.made.wrapping_add(1);
     }
 
-    /// Empties a place. A pipe ends, and its number is free, when its last handle goes.
+    /// Marks the handle at a place.
+    pub fn mark(&mut self, s: usize, p: usize) {
+        self.marks[s] |= 1 << p;
+    }
+
+    pub fn is_marked(&self, s: usize, p: usize) -> bool {
+        self.marks[s] >> p & 1 == 1
+    }
+
+    /// The places of a subject as they are without its marked handles.
+    pub fn unmarked(&self, s: usize) -> [Place; PLACES] {
+        let mut places = self.places[s];
+        for (p, place) in places.iter_mut().enumerate() {
+            if self.is_marked(s, p) {
+                *place = Place::EMPTY;
+            }
+        }
+        places
+    }
+
+    /// Empties a place; a mark goes with its handle. A pipe ends, and its number is free, when its last handle goes.
     pub fn empty(&mut self, s: usize, p: usize) {
         let Some((o, _)) = self.places[s][p].handle() else { return };
         self.places[s][p] = Place::EMPTY;
+        self.marks[s] &= !(1 << p);
         let entry = &mut self.objects[o];
         if let Some(object) = entry {
             object.handles -= 1;
@@ -149,6 +177,24 @@ mod tests {
                 assert_eq!(Place::of(s, o, direction).handle(), Some((o, direction)));
             }
         }
+    }
+
+    #[test]
+    fn a_mark_goes_with_its_handle() {
+        let mut tables = Tables::EMPTY;
+        tables.subjects[31] = Some(9);
+        tables.objects[5] = Some(Object { kind: Kind::File, level: 9, handles: 0 });
+        for p in [0, 15] {
+            tables.fill(31, p, 5, Direction::Writing);
+            assert!(!tables.is_marked(31, p));
+            tables.mark(31, p);
+            assert!(tables.is_marked(31, p));
+            assert_eq!((tables.unmarked(31)[p], tables.unmarked(31)[1]), (Place::EMPTY, Place::EMPTY));
+            tables.empty(31, p);
+            tables.fill(31, p, 5, Direction::Reading);
+            assert_eq!(tables.unmarked(31)[p], Place::of(31, 5, Direction::Reading));
+        }
+        assert_eq!(tables.marks, [0; SUBJECTS]);
     }
 
     #[test]

@@ -1,5 +1,5 @@
 //! The plain program beside the independent one: the same replies to every journal, and after each direct call the
-//! same answer, the same tally, the same freeze, and the needs as the independent program works them out.
+//! same answer, the same tally, the same marks and freeze, and the needs as the independent program works them out.
 
 use gatekeeper_independent::calls::SHAPES;
 use gatekeeper_independent::cases;
@@ -80,10 +80,20 @@ impl Pair {
         assert_eq!((tally.made, tally.gone), (tally_beside.made, tally_beside.gone));
         assert_eq!(tally.open(), self.independent.tables().handle_count());
         assert_eq!(u32::from(self.plain.tables().freeze), self.independent.tables().freeze());
+        self.compare_marks();
         if let Answer::Refused(_) = answer {
             assert_eq!(self.plain.tables(), &before, "a refused call changed a table");
         }
         answer
+    }
+
+    /// Sees that the same handles are marked.
+    fn compare_marks(&self) {
+        for s in 0..32 {
+            let marked = self.independent.tables().marked_places(s);
+            let marks = marked.fold(0, |marks: u16, p| marks | 1 << p);
+            assert_eq!(self.plain.tables().marks[s as usize], marks, "marks of subject {s}");
+        }
     }
 
     /// Sees that the needs worked out last are those of the tables.

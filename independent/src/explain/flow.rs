@@ -4,9 +4,9 @@ use super::freeze::when_open;
 use super::names::{capital, direction_word, name, name_and_level};
 use crate::calls::Call;
 use crate::needs::{level, live_things, Flow, Needs, Thing};
-use crate::refusals::{meaning, sought_flow};
+use crate::refusals::{meaning, needs_for, sought_flow, tables_tested};
 use crate::tables::{Direction, Handle, Kind, Tables};
-use crate::text::wrapped;
+use crate::text::{paragraph, wrapped};
 use crate::variants::Rules;
 
 /// Ways out that are named one by one.
@@ -19,6 +19,8 @@ struct Chain {
 
 /// The refusal with its chain and what would open the way.
 pub fn flow_refusal(call: Call, tables: &Tables) -> String {
+    // RULES R110: the marked handles that an exec leaves out are in no chain.
+    let tables = &*tables_tested(tables, call, Rules::default());
     let mut text = format!("  Refused (9): {}.\n", meaning(9));
     let Some((chain, sought)) = chain_in_the_way(call, tables) else {
         return text;
@@ -111,7 +113,7 @@ fn carriers(tables: &Tables, from: Thing, to: Thing) -> Vec<(u32, u32, Handle)> 
     tables.handles().filter(|&(s, _, handle)| Flow::of(s, handle) == Flow { from, to }).collect()
 }
 
-/// Which handles to close so that the call is allowed, or who else could ask.
+/// Which handles to close, or to mark, so that the call is allowed, or who else could ask.
 fn advice(call: Call, tables: &Tables, chain: &Chain, sought: Flow) -> String {
     let mut ways = Vec::new();
     let mut first_link = None;
@@ -125,7 +127,7 @@ fn advice(call: Call, tables: &Tables, chain: &Chain, sought: Flow) -> String {
         for &(s, p, _) in &handles {
             without.set_handle(s, p, None);
         }
-        let words = close_words(&handles, tables);
+        let words = place_words(&handles, tables);
         if is_free(call, &without, sought) {
             ways.push(words);
         } else if first_link.is_none() {
@@ -147,15 +149,48 @@ fn advice(call: Call, tables: &Tables, chain: &Chain, sought: Flow) -> String {
             "more than one way leads there. Close {words}, then ask again: the next way is shown."
         ));
     }
+    let marks = marks_enough(call, tables, sought);
+    if !marks.is_empty() {
+        let them = if marks.len() == 1 { "it" } else { "them" };
+        let words = place_words(&marks, tables);
+        lines.push(format!("if the program does not need {them}, mark {words}: the exec closes {them}."));
+    }
     lines.push(other_asker(call, tables, chain));
     lines
         .iter()
         .enumerate()
         .map(|(index, line)| {
             let start = if index == 0 { "  What to do: " } else { "  Or: " };
-            wrapped(line.split(' ').map(str::to_string), start, "    ")
+            paragraph(start, line)
         })
         .collect()
+}
+
+/// RULES R110: the handles of the caller that its exec asks to be marked, tried on a copy of the tables; none
+/// where the call is no exec. With one fewer it would not be allowed.
+fn marks_enough(call: Call, tables: &Tables, sought: Flow) -> Vec<(u32, u32, Handle)> {
+    let Call::Exec { s, .. } = call else {
+        return Vec::new();
+    };
+    let is_enough = |handles: &[(u32, u32, Handle)]| {
+        let mut tried = tables.clone();
+        for &(s, p, _) in handles {
+            tried.mark(s, p);
+        }
+        is_free(call, &tried, sought)
+    };
+    let mut handles: Vec<(u32, u32, Handle)> = tables.handles_of(s).map(|(p, held)| (s, p, held)).collect();
+    if !is_enough(&handles) {
+        return Vec::new();
+    }
+    for handle in handles.clone() {
+        let fewer: Vec<(u32, u32, Handle)> =
+            handles.iter().copied().filter(|&other| other != handle).collect();
+        if is_enough(&fewer) {
+            handles = fewer;
+        }
+    }
+    handles
 }
 
 /// RULES R15: a handle on a frozen file, once closed, is not to be had again while the books are closed.
@@ -182,14 +217,14 @@ fn is_free(call: Call, tables: &Tables, sought: Flow) -> bool {
             false
         }
         Call::Exec { s, o } => {
-            let needs = needs_with(tables, None);
+            let needs = needs_for(tables, call, Rules::default(), &Needs::none(tables));
             tables.object(o).is_some_and(|object| object.level >= needs.of(Thing::Subject(s)))
         }
         _ => needs_with(tables, Some(sought)).unmet(tables).next().is_none(),
     }
 }
 
-fn close_words(handles: &[(u32, u32, Handle)], tables: &Tables) -> String {
+fn place_words(handles: &[(u32, u32, Handle)], tables: &Tables) -> String {
     let words: Vec<String> = handles
         .iter()
         .map(|&(s, p, handle)| {
@@ -213,7 +248,7 @@ fn other_asker(call: Call, tables: &Tables, chain: &Chain) -> String {
             let file = name(Thing::Object(o), tables);
             let fit = live_things(tables).find_map(|thing| match thing {
                 Thing::Subject(other) if other != s => {
-                    let sought = Flow::of(other, Handle { object: o, direction: Direction::Writing });
+                    let sought = Flow::of(other, Handle::new(o, Direction::Writing));
                     is_free(call, tables, sought).then_some(other)
                 }
                 _ => None,

@@ -8,7 +8,7 @@ use crate::needs::Thing;
 use crate::refusals::meaning;
 use crate::replies::Step;
 use crate::tables::{Direction, Tables, NO_FREEZE};
-use crate::text::wrapped;
+use crate::text::paragraph;
 
 /// Handles that are named one by one.
 const MOST_HANDLES: usize = 3;
@@ -127,8 +127,4 @@ fn held_already(s: u32, o: u32, tables: &Tables) -> String {
         "  Or: ",
         &format!("use a handle on {file} that is held and goes on writing, {places}{more}."),
     )
-}
-
-fn paragraph(start: &str, text: &str) -> String {
-    wrapped(text.split(' ').map(str::to_string), start, "    ")
 }

@@ -104,7 +104,9 @@ fn unfit_place(call: Call, tables: &Tables) -> (String, String) {
     let (s, places, wants_empty) = match call {
         Call::Pipe { s, r, w, .. } => (s, vec![r, w], true),
         Call::OpenRead { s, p, .. } | Call::OpenWrite { s, p, .. } => (s, vec![p], true),
-        Call::Read { s, p } | Call::Write { s, p } | Call::Close { s, p } => (s, vec![p], false),
+        Call::Read { s, p } | Call::Write { s, p } | Call::Close { s, p } | Call::Mark { s, p } => {
+            (s, vec![p], false)
+        }
         _ => (0, Vec::new(), false),
     };
     let above = places.iter().find(|&&p| p >= LIMITS.places);

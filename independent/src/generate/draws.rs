@@ -134,6 +134,7 @@ impl Draft {
             some(handles, if handles < 60 { 8 } else { 14 }),
             some(subjects, if subjects < 4 { 1 } else { 5 }),
             some(objects, if objects < 8 { 2 } else { 6 }),
+            some(self.launches * handles, 5),
             some(self.closings, if frozen { 6 } else { 1 }),
         ];
         let code = SHAPES[self.random.weighted(&weights)].code;
@@ -182,6 +183,11 @@ impl Draft {
                 let pipes = self.random.once_in(8);
                 let kind = if pipes { Kind::Pipe } else { Kind::File };
                 vec![self.live_object(Some(kind))]
+            }
+            15 => {
+                let (s, p) = self.held_place(None);
+                let empty = self.free_place(s);
+                vec![s, if self.random.once_in(12) { empty } else { p }]
             }
             _ => vec![self.freeze()],
         }

@@ -1,5 +1,6 @@
 //! Variants of what a call does and answers: each is a change to the outcome of the right rules.
 
+use super::marks::{bend_counts, bend_marked_answer, bend_marks, bend_refused_exec};
 use super::Variant;
 use crate::calls::Call;
 use crate::monitor::{Answer, Monitor};
@@ -7,6 +8,7 @@ use crate::tables::{Direction, Kind, Object, Subject, Tables, NO_FREEZE};
 
 /// What a refused call leaves behind.
 pub fn bend_refused(variant: Variant, after: &mut Monitor, call: Call, number: u32) {
+    bend_refused_exec(variant, after, call, number);
     match (variant, call) {
         (Variant::RefusedOpenStays, _) if number == 9 => place_sought(&mut after.tables, call),
         (Variant::FifteenStays, _) if number == 15 => place_sought(&mut after.tables, call),
@@ -34,6 +36,8 @@ fn place_sought(tables: &mut Tables, call: Call) {
 
 /// What an allowed call does to the tables and the tally.
 pub fn bend_effect(variant: Variant, before: &Monitor, after: &mut Monitor, call: Call) {
+    bend_marks(variant, before, after, call);
+    bend_counts(variant, before, after, call);
     let made = after.tally.made.wrapping_sub(before.tally.made);
     let gone = after.tally.gone.wrapping_sub(before.tally.gone);
     let old = &before.tables;
@@ -82,7 +86,7 @@ pub fn bend_effect(variant: Variant, before: &Monitor, after: &mut Monitor, call
             tables.set_subject(s, Some(Subject { level }));
         }
         (Variant::ExecCloses, Call::Exec { s, .. }) => {
-            for (p, _) in old.handles_of(s) {
+            for (p, _) in old.handles_of(s).filter(|(_, handle)| !handle.marked) {
                 tables.set_handle(s, p, None);
                 after.tally.count_gone(1);
             }
@@ -103,11 +107,13 @@ pub fn bend_effect(variant: Variant, before: &Monitor, after: &mut Monitor, call
         (Variant::ForkTopLevel, Call::Fork { c, .. }) => {
             tables.set_subject(c, Some(Subject { level: 15 }));
         }
-        (Variant::PipeNeverEnds, Call::Close { .. } | Call::Exit { .. }) => restore_pipes(old, tables),
-        (Variant::PipeEndsWithWriter, Call::Close { .. } | Call::Exit { .. }) => {
+        (Variant::PipeNeverEnds, Call::Close { .. } | Call::Exit { .. } | Call::Exec { .. }) => {
+            restore_pipes(old, tables);
+        }
+        (Variant::PipeEndsWithWriter, Call::Close { .. } | Call::Exit { .. } | Call::Exec { .. }) => {
             end_pipes_without(tables, Direction::Writing);
         }
-        (Variant::PipeEndsWithReader, Call::Close { .. } | Call::Exit { .. }) => {
+        (Variant::PipeEndsWithReader, Call::Close { .. } | Call::Exit { .. } | Call::Exec { .. }) => {
             end_pipes_without(tables, Direction::Reading);
         }
         (Variant::ExitKeepsPipes, Call::Exit { .. }) => restore_pipes(old, tables),
@@ -164,7 +170,7 @@ pub fn bend_effect(variant: Variant, before: &Monitor, after: &mut Monitor, call
 }
 
 /// Brings back the pipes that a call has ended.
-fn restore_pipes(old: &Tables, tables: &mut Tables) {
+pub(super) fn restore_pipes(old: &Tables, tables: &mut Tables) {
     for o in old.live_objects() {
         if tables.object(o).is_none() {
             tables.set_object(o, old.object(o));
@@ -196,6 +202,7 @@ pub fn bend_answer(variant: Variant, before: &Monitor, call: Call, answer: Answe
     let old = &before.tables;
     let subject_level = |s| old.subject(s).map(|subject| subject.level);
     let object_level = |o| old.object(o).map(|object| object.level);
+    let answer = bend_marked_answer(variant, before, call, answer);
     match (variant, call) {
         (Variant::OpenAnswersSubject, Call::OpenRead { s, .. } | Call::OpenWrite { s, .. }) => {
             with(subject_level(s))
