@@ -181,7 +181,7 @@ pub record Blank (s : List ℕ) : Type 0 where
 
 -- RULES T16, T23, R102, R103: call c on the bytes s leaves the bytes s′. They meet the rules as a monitor does, so that a refused call
 -- leaves every byte; the tally in them is the history's; and what an allowed or lowered call leaves is the bytes of a monitor and a tally.
--- Which level stands beside a number that is not in use, and which object beside an empty place, is the free part of `Promise`.
+-- Which level stands beside a number that is not in use, and which object and mark beside an empty place, is the free part of `Promise`.
 pub record Stored (s : List ℕ) (c : Call) (s′ : List ℕ) : Type 0 where
   pub size : Sized s′
   pub meets : Meets state-view s c (answer (clean (state-view s)) c) s′

@@ -1,4 +1,4 @@
-// The gatekeeper for a host in C or Rust (RULES S1, H4 to H14): the tables, the calls, the journal reader and writer. Each
+// The gatekeeper for a host in C or Rust (RULES S1, H4 to H15): the tables, the calls, the journal reader and writer. Each
 // function below "exported" has its plain name in the archive; a slice crosses as a pointer and a length, and an answer as a number
 // (specs/Numbers.antt). The monitor with its tally crosses as lent bytes, laid out as in specs/State.antt. Every byte string of that length is a
 // monitor, so that a host can hand in nothing wrong but the length, and then nothing is touched.
@@ -57,7 +57,8 @@ const UNSIZED: u32 = 0;
 
 // ---- one record, from bytes and to bytes
 
-// What the first byte of a record means: of a subject 1 is live; of an object 1 is a file and 2 a pipe; of a handle 1 reads and 2 writes.
+// What the first byte of a record means: of a subject 1 is live; of an object 1 is a file and 2 a pipe; of a handle 1 reads and 2 writes. Of a handle's
+// third byte 1 is a mark.
 fn to_live(b: u8) -> u8
     ensures { λ r. ⌜ r ≡ live-of b ⌝ }
 {

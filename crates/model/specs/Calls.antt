@@ -3,7 +3,7 @@
 --
 -- In order: the calls by code; the effect of each row as a list of steps; the conditions of the refusals and which of them each call
 -- tests; the refusal; the tables after; the answer. A new call is a row in `rows`, `steps`, `tests`,
--- `shown`, and in `makes` and `removes` of `Tally`. Assumes nothing.
+-- `shown`, in `makes` and `removes` of `Tally`, and in `topmost` of `Invariant`. Assumes nothing.
 use mathlib.Core.Bool.{Bool, true, false, not, _||_, _&&_, cond}
 use mathlib.Core.Option.{Option, none, some}
 use mathlib.Core.List.{List, [], _∷_, _++_}

@@ -1,7 +1,8 @@
 -- What one call of a monitor promises towards the rules, whichever value the monitor has. States RULES T15, T16, T19, T23 and R102.
 --
 -- A monitor is a value of any type with a view of it as tables. What of it the view does not read is its *free part*: of the struct of arrays,
--- the level beside a number that is not in use and the object and mark beside an empty place, for the tables have none there. What an allowed call
+-- the level beside a number that is not in use and the object and mark beside an empty place, for the tables have none there; and which of the bytes that
+-- mean the same (RULES T29 to T31, T36) a record has. What an allowed call
 -- leaves in the free part is not promised, nor what the empty monitor has there. No answer and no later tables go by it (`free-unseen` in
 -- Promise/Laws), and a refused call leaves it as it was. Assumes nothing.
 use mathlib.Core.Path.{_≡_}
