@@ -30,7 +30,7 @@ impl Monitor {
         let there = self.handles[at];
         let x = looks::subject_at(s, step);
         let h = looks::handle_at(s, p, there);
-        let n = refusals::of_close(x, h);
+        let n = refusals::of_held(x, h);
         if n != 0 {
             return self.refuse(n);
         }

@@ -205,10 +205,10 @@ pub fn of_exec(x: Subject, y: Object) -> u8
     first(absent, false, missing, pipe, false, false, false)
 }
 
-// Call 11; x stands at s, h at place p.
-pub fn of_close(x: Subject, h: Handle) -> u8
+// Calls 11 and 15; x stands at s, h at place p.
+pub fn of_held(x: Subject, h: Handle) -> u8
     ensures { λ r. ⌜ ((t : Tables) (s p : ℕ) → Wf t → t .at (subject s) ≡ subject-entry x → t .hand s p ≡ held h →
-        Refuses t (close s p) r) ⌝ }
+        Refuses t (close s p) r × Refuses t (mark s p) r) ⌝ }
 {
     let absent = x.live == 0;
     let empty = h.way == EMPTY;
@@ -230,16 +230,6 @@ pub fn of_retire(y: Object) -> u8
     let missing = y.kind == FREE;
     let pipe = PIPE <= y.kind;
     first(false, false, missing, pipe, false, false, false)
-}
-
-// Call 15; x stands at s, h at place p.
-pub fn of_mark(x: Subject, h: Handle) -> u8
-    ensures { λ r. ⌜ ((t : Tables) (s p : ℕ) → Wf t → t .at (subject s) ≡ subject-entry x → t .hand s p ≡ held h →
-        Refuses t (mark s p) r) ⌝ }
-{
-    let absent = x.live == 0;
-    let empty = h.way == EMPTY;
-    first(absent, false, false, false, false, empty, false)
 }
 
 // Call 16.

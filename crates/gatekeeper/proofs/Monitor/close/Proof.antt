@@ -31,8 +31,8 @@ subject-at-requires c κs = search needs
 handle-at-requires : tie.Need-handle-at-requires
 handle-at-requires c κs = search needs
 
-of-close-requires : tie.Need-of-close-requires
-of-close-requires c κs = search needs
+of-held-requires : tie.Need-of-held-requires
+of-held-requires c κs = search needs
 
 refuse-requires : tie.Need-refuse-requires
 refuse-requires c κs = search needs
@@ -46,9 +46,9 @@ returns c =
     let a = c7 .args in
     let g = c7 .good .0 in
     let w = c7 .pre in
-    stops (a .t1) (close (a .s) (a .p)) (c2 .of-close .result) (c .refuse .result)
-    (c2 .of-close .ensures (view (a .t1)) (a .s) (a .p) w (subject-got (a .t1) g (a .s) (c4 .subject-at .result) (c4 .subject-at .ensures))
-    (handle-got (a .t1) g (a .s) (a .p) (c3 .handle-at .result) (c3 .handle-at .ensures))) (c .before .if1 .taken) (c .refuse .ensures)
+    stops (a .t1) (close (a .s) (a .p)) (c2 .of-held .result) (c .refuse .result)
+    (c2 .of-held .ensures (view (a .t1)) (a .s) (a .p) w (subject-got (a .t1) g (a .s) (c4 .subject-at .result) (c4 .subject-at .ensures))
+    (handle-got (a .t1) g (a .s) (a .p) (c3 .handle-at .result) (c3 .handle-at .ensures)) .0) (c .before .if1 .taken) (c .refuse .ensures)
 
 mul-t17 : tie.Need-mul-t17
 mul-t17 c = search needs
@@ -84,8 +84,8 @@ returns-2 c =
     let a = c10 .args in
     let g = c10 .good .0 in
     let w = c10 .pre in
-    let z = goes (c5 .of-close .ensures (view (a .t1)) (a .s) (a .p) w (subject-got (a .t1) g (a .s) (c7 .subject-at .result) (c7 .subject-at .ensures))
-    (handle-got (a .t1) g (a .s) (a .p) (c6 .handle-at .result) (c6 .handle-at .ensures))) (c4 .if1 .left) in
+    let z = goes (c5 .of-held .ensures (view (a .t1)) (a .s) (a .p) w (subject-got (a .t1) g (a .s) (c7 .subject-at .result) (c7 .subject-at .ensures))
+    (handle-got (a .t1) g (a .s) (a .p) (c6 .handle-at .result) (c6 .handle-at .ensures)) .0) (c4 .if1 .left) in
     closes (a .t1) g (a .s) (a .p) (c7 .subject-at .result) (c6 .handle-at .result) (c .outlived .result) w z
     (subject-got (a .t1) g (a .s) (c7 .subject-at .result) (c7 .subject-at .ensures))
     (handle-got (a .t1) g (a .s) (a .p) (c6 .handle-at .result) (c6 .handle-at .ensures)) (c .outlived .ensures)
@@ -102,7 +102,7 @@ close-spec =
     element-copy-out-there
     subject-at-requires
     handle-at-requires
-    of-close-requires
+    of-held-requires
     refuse-requires
     returns
     mul-t17

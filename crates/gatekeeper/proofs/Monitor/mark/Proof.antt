@@ -31,8 +31,8 @@ subject-at-requires c κs = search needs
 handle-at-requires : tie.Need-handle-at-requires
 handle-at-requires c κs = search needs
 
-of-mark-requires : tie.Need-of-mark-requires
-of-mark-requires c κs = search needs
+of-held-requires : tie.Need-of-held-requires
+of-held-requires c κs = search needs
 
 refuse-requires : tie.Need-refuse-requires
 refuse-requires c κs = search needs
@@ -46,9 +46,9 @@ returns c =
     let a = c7 .args in
     let g = c7 .good .0 in
     let w = c7 .pre in
-    stops (a .t1) (mark (a .s) (a .p)) (c2 .of-mark .result) (c .refuse .result)
-    (c2 .of-mark .ensures (view (a .t1)) (a .s) (a .p) w (subject-got (a .t1) g (a .s) (c4 .subject-at .result) (c4 .subject-at .ensures))
-    (handle-got (a .t1) g (a .s) (a .p) (c3 .handle-at .result) (c3 .handle-at .ensures))) (c .before .if1 .taken) (c .refuse .ensures)
+    stops (a .t1) (mark (a .s) (a .p)) (c2 .of-held .result) (c .refuse .result)
+    (c2 .of-held .ensures (view (a .t1)) (a .s) (a .p) w (subject-got (a .t1) g (a .s) (c4 .subject-at .result) (c4 .subject-at .ensures))
+    (handle-got (a .t1) g (a .s) (a .p) (c3 .handle-at .result) (c3 .handle-at .ensures)) .1) (c .before .if1 .taken) (c .refuse .ensures)
 
 mul-t13 : tie.Need-mul-t13
 mul-t13 c = search needs
@@ -67,7 +67,7 @@ returns-2 c =
     let w = c6 .pre in
     let x = subject-got (a .t1) g (a .s) (c3 .subject-at .result) (c3 .subject-at .ensures) in
     let h = handle-got (a .t1) g (a .s) (a .p) (c2 .handle-at .result) (c2 .handle-at .ensures) in
-    let z = goes (c1 .of-mark .ensures (view (a .t1)) (a .s) (a .p) w x h) (c .if1 .left) in
+    let z = goes (c1 .of-held .ensures (view (a .t1)) (a .s) (a .p) w x h .1) (c .if1 .left) in
     marks (a .t1) g (a .s) (a .p) (c3 .subject-at .result) (c2 .handle-at .result) w z x h
 
 pub mark-spec : {M : Type 1} → statement M
@@ -82,7 +82,7 @@ mark-spec =
     element-copy-out-there
     subject-at-requires
     handle-at-requires
-    of-mark-requires
+    of-held-requires
     refuse-requires
     returns
     mul-t13
