@@ -1,5 +1,5 @@
--- The fifteen calls: what each asks, what it tests, what it does, what it answers. States RULES C1 to C13, C15, C16 and C101 to C109, R1 to R10 and R15,
--- and of the sentences about all refusals RULES R101, R102, R105, R108, R110, R117 and R118.
+-- The sixteen calls: what each asks, what it tests, what it does, what it answers. States RULES C1 to C16 and C101 to C111, R1 to R10 and R15,
+-- and of the sentences about all refusals RULES R101, R102, R105, R108, R110 and R117 to R119.
 --
 -- In order: the calls by code; the effect of each row as a list of steps; the conditions of the refusals and which of them each call
 -- tests; the refusal; the tables after; the answer. A new call is a row in `rows`, `steps`, `tests`,
@@ -10,15 +10,18 @@ use mathlib.Core.List.{List, [], _∷_, _++_}
 use Prim.Native.Nat.{ℕ}
 use lib.ListN.{getD}
 use lib.Dec.{T, eqb, ltb, leb}
-use Rattle.model.specs.Label.{leq, label, level, highest}
-use Rattle.model.specs.Lists.{In}
-use Rattle.model.specs.Flow.{Thing, subject, object}
-use Rattle.model.specs.Tables.{running, file, pipe, Dir, reading, writing, Entry, entry, Handle, handle, with-mark, Tables, no-freeze, places, in-range, is-some, used, live, label-of, is-file, is-pipe, cell, handles, open-on, needs, safe}
+use Rattle.model.specs.Label.{Label, leq, label, level, highest}
+use Rattle.model.specs.Lists.{In, each, keep, any}
+use Rattle.model.specs.Flow.{Thing, subject, object, same}
+use Rattle.model.specs.Tables.{running, file, pipe, Dir, reading, writing, Entry, entry, Handle, handle, mapping, with-mark, Tables, no-freeze, subjects}
+use Rattle.model.specs.Tables.{places, in-range, is-some, used, live, label-of, is-file, a-file, is-pipe, cell, things, handles-of, handles, open-on, needs, safe}
 use Rattle.model.specs.Steps.{outside, blank, copied, reads, writes, runs, Step, enter, leave, hold, holds, mix, freezes, applies, reap}
 pub mod Refusals
 pub mod Passed
 pub mod Dangling
 pub mod Scale
+pub mod Moving
+pub mod Mapped
 pub mod Kept
 pub mod Sayable
 pub mod Codes
@@ -28,6 +31,7 @@ pub data Call : Type 0 where
   admit register create : ℕ → ℕ → Call
   make-pipe : ℕ → ℕ → ℕ → ℕ → Call
   opens : Dir → ℕ → ℕ → ℕ → Call
+  maps : ℕ → ℕ → ℕ → Call
   access : Dir → ℕ → ℕ → Call
   fork exec close mark : ℕ → ℕ → Call
   exit retire freeze : ℕ → Call
@@ -49,7 +53,7 @@ pub record Row : Type 0 where
 abbrev pub coded : ℕ → Call → Row
 coded n c = record { code = n; call = c }
 
--- RULES C1 to C13, C15, C16: the code, the call and its numbers
+-- RULES C1 to C16: the code, the call and its numbers
 abbrev pub rows : Raw → List Row
 rows r = let a : ℕ = arg 0 r in let b : ℕ = arg 1 r in let c : ℕ = arg 2 r in let d : ℕ = arg 3 r in
     coded 1 (admit a b)
@@ -65,6 +69,7 @@ rows r = let a : ℕ = arg 0 r in let b : ℕ = arg 1 r in let c : ℕ = arg 2 r
     ∷ coded 11 (close a b)
     ∷ coded 12 (exit a)
     ∷ coded 13 (retire a)
+    ∷ coded 14 (maps a b c)
     ∷ coded 15 (mark a b)
     ∷ coded 16 (freeze a)
     ∷ []
@@ -73,7 +78,7 @@ abbrev pub lookup : ℕ → List Row → Call
 lookup n [] = unknown
 lookup n (k ∷ ks) = elim (eqb (k .code) n) [ true ↦ k .call | false ↦ lookup n ks ]
 
--- RULES C1 to C13, C15, C16, R1: the call that a code asks for, `unknown` where no row has the code
+-- RULES C1 to C16, R1: the call that a code asks for, `unknown` where no row has the code
 unfoldable pub decode : Raw → Call
 decode r = lookup (r .code) (rows r)
 
@@ -87,33 +92,49 @@ abbrev pub moves : Dir → Thing → Thing → Thing → Step
 moves reading s c o = mix reads s o c o
 moves writing s c o = mix writes o s o c
 
+-- RULES C110: s has x mapped
+abbrev pub has-mapped : Tables → Thing → ℕ → Bool
+has-mapped t x s = any (λ k. k .mapped && same (object (k .to)) x) (handles-of t s)
+
+-- RULES C8, C111, B29: the reads that follow a write to x, where it is a file: one by each subject that has it mapped, the lowest number first
+unfoldable pub rereads : Tables → Thing → List Step
+rereads t x = elim (a-file x (t .at x)) [
+  | true ↦ each subjects (λ s. keep (has-mapped t x s) (mix reads (subject s) x (cell t s) x) [])
+  | false ↦ []
+]
+
+abbrev pub followed : Tables → Dir → Thing → List Step
+followed t reading x = []
+followed t writing x = rereads t x
+
 -- RULES C15: a place with its handle marked
 abbrev pub marking : Option Handle → Option Handle
 marking none = none
 marking (some k) = some (with-mark k)
 
--- RULES C10: a place without its handle where that is marked
-abbrev pub unmarked : Option Handle → Option Handle
-unmarked none = none
-unmarked (some k) = cond (k .marked) none (some k)
+-- RULES C10: a place without its handle where that is marked or a mapping
+abbrev pub lasting : Option Handle → Option Handle
+lasting none = none
+lasting (some k) = cond (k .marked || k .mapped) none (some k)
 
--- RULES C10, R110: what an exec drops before it runs: the marked handles of s
+-- RULES C10, R110: what an exec drops before it runs: the marked handles and the mappings of s
 unfoldable pub sheds : Tables → ℕ → List Step
-sheds t s = holds s (λ p. unmarked (t .hand s p)) ∷ []
+sheds t s = holds s (λ p. lasting (t .hand s p)) ∷ []
 
--- RULES C1 to C13, C15, C16: the effect, row by row
+-- RULES C1 to C16: the effect, row by row
 abbrev pub steps : Tables → Call → List Step
 steps t (admit s n) = enter (subject s) (entry running (label n)) outside ∷ []
 steps t (register o n) = enter (object o) (entry file (label n)) outside ∷ []
 steps t (create s o) = enter (object o) (entry file (label-of (t .at (cell t s)))) blank ∷ []
 steps t (make-pipe s o r w) = enter (object o) (entry pipe (label-of (t .at (cell t s)))) blank ∷ hold s r (some (handle reading o)) ∷ hold s w (some (handle writing o)) ∷ []
 steps t (opens d s o p) = hold s p (some (handle d o)) ∷ []
-steps t (access d s p) = moves d (subject s) (cell t s) (target (t .hand s p)) ∷ []
+steps t (access d s p) = moves d (subject s) (cell t s) (target (t .hand s p)) ∷ followed t d (target (t .hand s p))
 steps t (fork s c) = enter (subject c) (entry running (label-of (t .at (cell t s)))) (copied (cell t s)) ∷ holds c (t .hand s) ∷ []
 steps t (exec s o) = sheds t s ++ (mix runs (subject s) (object o) (cell t s) (object o) ∷ [])
 steps t (close s p) = hold s p none ∷ []
 steps t (exit s) = holds s (λ p. none) ∷ leave (subject s) ∷ []
 steps t (retire o) = leave (object o) ∷ []
+steps t (maps s o p) = hold s p (some (mapping o)) ∷ mix reads (subject s) (object o) (cell t s) (object o) ∷ []
 steps t (mark s p) = hold s p (marking (t .hand s p)) ∷ []
 steps t (freeze n) = freezes n ∷ []
 steps t unknown = []
@@ -205,6 +226,8 @@ tests (exec s o) = alive s ∷ present o ∷ no-pipe o ∷ suits s o ∷ []
 tests (close s p) = alive s ∷ taken s p ∷ []
 tests (exit s) = alive s ∷ []
 tests (retire o) = present o ∷ no-pipe o ∷ idle o ∷ []
+-- RULES R119: a map is tested as the open for reading is
+tests (maps s o p) = alive s ∷ present o ∷ no-pipe o ∷ vacant s p ∷ enough (opens reading s o p) ∷ []
 tests (mark s p) = alive s ∷ taken s p ∷ []
 tests (freeze n) = freezable n ∷ []
 tests unknown = known ∷ []
@@ -244,7 +267,7 @@ pub data Shown : Type 0 where
   level-at : Thing → Shown
   given : ℕ → Shown
 
--- RULES C1 to C13, C15, C16: of which thing the answer gives the level, or which number it gives
+-- RULES C1 to C16: of which thing the answer gives the level, or which number it gives
 abbrev pub shown : Tables → Call → Shown
 shown t (admit s n) = level-at (subject s)
 shown t (register o n) = level-at (object o)
@@ -258,6 +281,7 @@ shown t (exec s o) = level-at (cell t s)
 shown t (close s p) = level-at (cell t s)
 shown t (exit s) = level-at (cell t s)
 shown t (retire o) = level-at (object o)
+shown t (maps s o p) = level-at (cell t s)
 shown t (mark s p) = level-at (cell t s)
 shown t (freeze n) = given n
 shown t unknown = given 0
@@ -266,16 +290,28 @@ shown t unknown = given 0
 pub data Answer : Type 0 where
   allowed lowered refused : ℕ → Answer
 
--- RULES C104, C105: lowered or allowed, from what the shown thing was and is; no call but C7, C8 and C10 makes a level smaller. A thing
--- that is gone shows its last level.
-abbrev pub outcome : Option Entry → Option Entry → Answer
-outcome b none = allowed (level (label-of b))
-outcome none (some a) = allowed (level (a .label))
-outcome (some b) (some a) = elim (leq (b .label) (a .label)) [ true ↦ allowed (level (a .label)) | false ↦ lowered (level (a .label)) ]
+-- what is there before and after, and has a smaller level after
+abbrev pub smaller : Option Entry → Option Entry → Bool
+smaller none a = false
+smaller (some b) none = false
+smaller (some b) (some a) = not (leq (b .label) (a .label))
+
+-- RULES C104: some thing that is live in t has a smaller level in u
+unfoldable pub lowers : Tables → Tables → Bool
+lowers t u = any (λ x. smaller (t .at x) (u .at x)) (things t)
+
+-- the label after, of a thing that is gone the last one
+abbrev pub last-label : Option Entry → Option Entry → Label
+last-label b none = label-of b
+last-label b (some a) = a .label
+
+-- RULES C104, C105: lowered, or allowed
+abbrev pub outcome : Bool → ℕ → Answer
+outcome b n = cond b (lowered n) (allowed n)
 
 -- what is said of tables t that became u
 abbrev pub said : Tables → Tables → Shown → Answer
-said t u (level-at x) = outcome (t .at x) (u .at x)
+said t u (level-at x) = outcome (lowers t u) (level (last-label (t .at x) (u .at x)))
 said t u (given n) = allowed n
 
 -- RULES R101, C104, C105: the refusal's number, or the outcome

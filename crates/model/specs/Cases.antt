@@ -12,7 +12,7 @@ use Rattle.model.specs.Label.{Label, label, level, leq, meet, join, bot}
 use Rattle.model.specs.Flow.{need}
 use Rattle.model.specs.Tables.{empty, used, cell, speaks, things, handles, edges, safe}
 use Rattle.model.specs.Steps.{ended}
-use Rattle.model.specs.Calls.{Raw, decode, sheds, effect, refusal, Answer, allowed, lowered, refused, answer, answers}
+use Rattle.model.specs.Calls.{Raw, decode, rereads, sheds, effect, refusal, Answer, allowed, lowered, refused, lowers, answer, answers}
 
 abbrev pub call : ℕ → List ℕ → Raw
 call c ns = record { code = c; numbers = ns }
@@ -85,5 +85,5 @@ right journal (c ∷ cs) = all-equal (given-answers journal (c .given)) (c .expe
 
 -- K1 to K9
 pub cases-right : (journal : List ℕ → List Answer) → right journal table ≡ true
-unfolding table Label label level leq meet join bot need used cell speaks things handles edges safe decode sheds ended effect refusal answer
+unfolding table Label label level leq meet join bot need used cell speaks things handles edges safe decode rereads sheds ended effect refusal lowers answer
 cases-right journal = refl

@@ -11,6 +11,7 @@ use Rattle.model.specs.Flow.{Thing, object, Reaches}
 use Rattle.model.specs.Tables.{Dir, Entry, handle, Tables, no-freeze, label-of, is-file, things, edges}
 use Rattle.model.specs.Steps.{hold, apply}
 pub mod Laws
+pub mod Mappings
 
 -- RULES F4, R9: x reaches, through open handles, a file that a thing of label a must not reach: one of a higher level
 -- (of labels that are levels, `not (leq b a)` says that a's level is below b's: `Label.Laws`, `not-least-is-below`)
@@ -28,7 +29,7 @@ pub record Offends (u : Tables) : Type 0 where
   pub low-live : In low (things u)
   pub leaks : Leaks u (label-of (u .at low)) low
 
--- the tables after an open
+-- the tables after an open, and for R119 of a map the tables after the open for reading of the same numbers
 abbrev pub opened : Tables → Dir → ℕ → ℕ → ℕ → Tables
 opened t d s o p = apply (hold s p (some (handle d o))) t
 

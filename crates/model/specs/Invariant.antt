@@ -1,4 +1,4 @@
--- What all tables have to which a list of calls leads from empty ones, and what every answer has. States RULES F8, T25, T26, T27 and T34.
+-- What all tables have to which a list of calls leads from empty ones, and what every answer has. States RULES F8, T25, T26, T27, T34 and T38.
 -- Proved of every list of calls in `Calls.Kept` and `Calls.Sayable`. Assumes nothing.
 use mathlib.Core.Path.{_≡_}
 use mathlib.Core.Option.{some}
@@ -8,8 +8,8 @@ use lib.Dec.{T}
 use Rattle.model.specs.Label.{highest, in-scale, _⊑_}
 use Rattle.model.specs.Lists.{In}
 use Rattle.model.specs.Flow.{Thing, subject, object}
-use Rattle.model.specs.Tables.{Entry, Handle, Tables, no-freeze, places, in-range, live, is-pipe, handles, open-on, needs}
-use Rattle.model.specs.Calls.{Call, admit, register, create, make-pipe, opens, access, fork, exec, close, exit, retire, mark, freeze, unknown, Raw, decode}
+use Rattle.model.specs.Tables.{reading, Entry, Handle, Tables, no-freeze, places, in-range, live, label-of, a-file, is-pipe, cell, handles, open-on, needs}
+use Rattle.model.specs.Calls.{Call, admit, register, create, make-pipe, opens, access, fork, exec, close, exit, retire, maps, mark, freeze, unknown, Raw, decode}
 use Rattle.model.specs.Calls.{Answer, allowed, lowered, refused, order}
 pub mod Laws
 
@@ -40,12 +40,22 @@ pub record Scaled (t : Tables) : Type 0 where
 pub record Frozen (t : Tables) : Type 0 where
   pub bounded : t .freeze ≤ no-freeze
 
+-- RULES T37, T38: the handle k of s, a mapping, is for reading and on a file, and the label of s is at most the file's
+pub record Maps (t : Tables) (s : ℕ) (k : Handle) : Type 0 where
+  pub for-reading : k .dir ≡ reading
+  pub on-file : T (a-file (object (k .to)) (t .at (object (k .to))))
+  pub under : label-of (t .at (cell t s)) ⊑ label-of (t .at (object (k .to)))
+
+pub record Mapped (t : Tables) : Type 0 where
+  pub each : (s p : ℕ) (k : Handle) → t .hand s p ≡ some k → T (k .mapped) → Maps t s k
+
 pub record Kept (t : Tables) : Type 0 where
   pub wf : Wf t
   pub safe : Safe t
   pub piped : Piped t
   pub scaled : Scaled t
   pub frozen : Frozen t
+  pub mapped : Mapped t
 
 -- RULES T27: the highest number that a call's answer gives where it is not refused
 abbrev pub topmost : Call → ℕ
@@ -60,6 +70,7 @@ topmost (exec s o) = highest
 topmost (close s p) = highest
 topmost (exit s) = highest
 topmost (retire o) = highest
+topmost (maps s o p) = highest
 topmost (mark s p) = highest
 topmost (freeze n) = no-freeze
 topmost unknown = highest

@@ -1,15 +1,15 @@
--- Every row of RULES C1 to C13, C15 and C16, and of R1 to R10 and R15, tried once: one list of calls from empty tables with the answer to each, and
+-- Every row of RULES C1 to C16, and of R1 to R10 and R15, tried once: one list of calls from empty tables with the answer to each, and
 -- the contents and the tally after a few short lists. Not cases of the rules' own: they pin the definitions down where no law does, so that
 -- a slip in a row does not go unseen. Assumes nothing.
 use mathlib.Core.Path.{_≡_, refl}
 use mathlib.Core.Bool.{Bool, true, _&&_}
-use mathlib.Core.List.{List, [], _∷_}
+use mathlib.Core.List.{List, [], _∷_, _++_}
 use Prim.Native.Nat.{ℕ, _+_, _*_}
 use Rattle.model.specs.Label.{Label, label, level, leq, meet, join, bot}
 use Rattle.model.specs.Flow.{Thing, subject, object, need}
 use Rattle.model.specs.Tables.{Tables, empty, used, cell, speaks, things, handles, edges, safe}
-use Rattle.model.specs.Steps.{Access, reads, writes, runs, ended}
-use Rattle.model.specs.Calls.{Raw, decode, sheds, effect, refusal, next, Answer, answer}
+use Rattle.model.specs.Steps.{Access, reads, writes, runs, mix, ended}
+use Rattle.model.specs.Calls.{Raw, decode, rereads, sheds, effect, refusal, next, Answer, lowers, answer, after}
 use Rattle.model.specs.Tally.{tally, tallied, zeroed}
 use Rattle.model.specs.Book.{Handling, Outside, book}
 use Rattle.model.specs.Cases.{call, A, L, R, equal}
@@ -24,7 +24,7 @@ line c ns a = record { given = call c ns; answered = a }
 -- ── answers ──
 unfoldable pub lines : List Line
 lines =
-    line 0 [] (R 1) ∷ line 14 [] (R 1)
+    line 0 [] (R 1) ∷ line 17 [] (R 1)
     ∷ line 1 (31 ∷ 15 ∷ []) (A 15) ∷ line 1 (32 ∷ 0 ∷ []) (R 3) ∷ line 1 (31 ∷ 16 ∷ []) (R 3) ∷ line 1 (30 ∷ 16 ∷ []) (R 6) ∷ line 1 (4 ∷ []) (A 0)
     ∷ line 2 (63 ∷ 15 ∷ []) (A 15) ∷ line 2 (64 ∷ 0 ∷ []) (R 3) ∷ line 2 (63 ∷ 1 ∷ []) (R 3) ∷ line 2 (0 ∷ 16 ∷ []) (R 6) ∷ line 2 (0 ∷ 2 ∷ []) (A 2)
     ∷ line 1 (1 ∷ 7 ∷ []) (A 7) ∷ line 3 (1 ∷ 6 ∷ []) (A 7) ∷ line 3 (32 ∷ 64 ∷ []) (R 2) ∷ line 3 (1 ∷ 6 ∷ []) (R 3)
@@ -37,7 +37,7 @@ lines =
     ∷ line 9 (2 ∷ 2 ∷ []) (R 3) ∷ line 9 (2 ∷ 32 ∷ []) (R 3) ∷ line 9 (1 ∷ 3 ∷ []) (A 2)
     ∷ line 13 (7 ∷ []) (R 5) ∷ line 12 (1 ∷ []) (A 2) ∷ line 12 (1 ∷ []) (R 2) ∷ line 8 (3 ∷ 15 ∷ []) (A 2) ∷ line 12 (3 ∷ []) (A 2) ∷ line 5 (2 ∷ 7 ∷ 0 ∷ []) (R 4) ∷ line 13 (6 ∷ []) (A 7) ∷ line 13 (6 ∷ []) (R 4)
     ∷ line 3 (31 ∷ 62 ∷ []) (A 15) ∷ line 13 (62 ∷ []) (A 15) ∷ line 9 (31 ∷ 30 ∷ []) (A 15) ∷ line 12 (31 ∷ []) (A 15)
-    ∷ line 17 [] (R 1) ∷ line 16 (17 ∷ []) (R 6) ∷ line 16 (16 ∷ []) (A 16) ∷ line 16 [] (A 0)
+    ∷ line 16 (17 ∷ []) (R 6) ∷ line 16 (16 ∷ []) (A 16) ∷ line 16 [] (A 0)
     ∷ line 3 (30 ∷ 20 ∷ []) (A 15) ∷ line 1 (5 ∷ 8 ∷ []) (A 8) ∷ line 3 (5 ∷ 21 ∷ []) (A 8) ∷ line 2 (22 ∷ 7 ∷ []) (A 7) ∷ line 4 (30 ∷ 23 ∷ 0 ∷ 1 ∷ []) (A 15)
     ∷ line 6 (5 ∷ 21 ∷ 0 ∷ []) (R 15) ∷ line 16 (9 ∷ []) (A 9) ∷ line 6 (5 ∷ 21 ∷ 0 ∷ []) (A 8) ∷ line 16 (8 ∷ []) (A 8) ∷ line 8 (5 ∷ 0 ∷ []) (A 8)
     ∷ line 6 (5 ∷ 21 ∷ 1 ∷ []) (R 15) ∷ line 6 (5 ∷ 20 ∷ 1 ∷ []) (R 9) ∷ line 6 (30 ∷ 20 ∷ 2 ∷ []) (R 15) ∷ line 6 (5 ∷ 22 ∷ 1 ∷ []) (A 7)
@@ -50,6 +50,12 @@ lines =
     ∷ line 8 (5 ∷ 0 ∷ []) (R 7) ∷ line 7 (5 ∷ 2 ∷ []) (A 2) ∷ line 8 (6 ∷ 0 ∷ []) (A 8) ∷ line 10 (6 ∷ 0 ∷ []) (L 2)
     ∷ line 15 (30 ∷ 0 ∷ []) (A 15) ∷ line 15 (30 ∷ 1 ∷ []) (A 15) ∷ line 15 (30 ∷ 2 ∷ []) (A 15) ∷ line 10 (30 ∷ 20 ∷ []) (A 15)
     ∷ line 5 (30 ∷ 23 ∷ 0 ∷ []) (R 4) ∷ line 6 (30 ∷ 20 ∷ 0 ∷ []) (A 15) ∷ line 10 (30 ∷ 0 ∷ []) (R 9)
+    ∷ line 14 (32 ∷ 64 ∷ 16 ∷ []) (R 2) ∷ line 14 (30 ∷ 64 ∷ 16 ∷ []) (R 4) ∷ line 4 (30 ∷ 23 ∷ 1 ∷ 2 ∷ []) (A 15) ∷ line 14 (30 ∷ 23 ∷ 16 ∷ []) (R 5)
+    ∷ line 14 (30 ∷ 21 ∷ 0 ∷ []) (R 7) ∷ line 14 (30 ∷ 21 ∷ 16 ∷ []) (R 7) ∷ line 14 (30 ∷ 21 ∷ 3 ∷ []) (R 9) ∷ line 11 (30 ∷ 0 ∷ []) (A 15)
+    ∷ line 14 (30 ∷ 21 ∷ 3 ∷ []) (L 8) ∷ line 14 (30 ∷ 20 ∷ 4 ∷ []) (A 8) ∷ line 7 (30 ∷ 3 ∷ []) (A 8) ∷ line 8 (30 ∷ 3 ∷ []) (R 8) ∷ line 13 (20 ∷ []) (R 10)
+    ∷ line 15 (30 ∷ 4 ∷ []) (A 8) ∷ line 9 (30 ∷ 7 ∷ []) (A 8) ∷ line 6 (7 ∷ 21 ∷ 5 ∷ []) (A 8) ∷ line 8 (7 ∷ 5 ∷ []) (A 8) ∷ line 11 (7 ∷ 4 ∷ []) (A 8) ∷ line 7 (7 ∷ 4 ∷ []) (R 7)
+    ∷ line 10 (7 ∷ 22 ∷ []) (R 9) ∷ line 7 (7 ∷ 3 ∷ []) (A 8) ∷ line 10 (30 ∷ 22 ∷ []) (R 9) ∷ line 12 (7 ∷ []) (A 8) ∷ line 7 (30 ∷ 3 ∷ []) (A 8)
+    ∷ line 10 (30 ∷ 22 ∷ []) (L 7) ∷ line 7 (30 ∷ 3 ∷ []) (R 7) ∷ line 7 (30 ∷ 1 ∷ []) (A 7)
     ∷ []
 
 abbrev pub answered-so : Tables → List Line → Bool
@@ -57,7 +63,7 @@ answered-so t [] = true
 answered-so t (l ∷ ls) = equal (answer t (decode (l .given))) (l .answered) && answered-so (next t (decode (l .given))) ls
 
 pub rows-right : answered-so empty lines ≡ true
-unfolding lines Label label level leq meet join bot need used cell speaks things handles edges safe decode sheds ended effect refusal answer
+unfolding lines Label label level leq meet join bot need used cell speaks things handles edges safe decode rereads sheds ended effect refusal lowers answer
 rows-right = refl
 
 -- ── contents ──
@@ -89,11 +95,27 @@ writing-list = call 2 (1 ∷ 2 ∷ []) ∷ call 1 (2 ∷ 9 ∷ []) ∷ call 6 (2
 abbrev running-list : List Raw
 running-list = call 2 (1 ∷ 2 ∷ []) ∷ call 1 (2 ∷ 9 ∷ []) ∷ call 10 (2 ∷ 1 ∷ []) ∷ call 9 (2 ∷ 3 ∷ []) ∷ []
 
+-- admit 2, register 1, map it, fork to 3, which maps it a second time and opens it for writing
+abbrev mapping-list : List Raw
+mapping-list = call 1 (2 ∷ 2 ∷ []) ∷ call 2 (1 ∷ 2 ∷ []) ∷ call 14 (2 ∷ 1 ∷ 0 ∷ []) ∷ call 9 (2 ∷ 3 ∷ []) ∷ call 14 (3 ∷ 1 ∷ 1 ∷ []) ∷ call 6 (3 ∷ 1 ∷ 2 ∷ []) ∷ []
+
+-- then 3 writes, and both read once
+abbrev mapped-list : List Raw
+mapped-list = mapping-list ++ call 8 (3 ∷ 2 ∷ []) ∷ []
+
 pub contents-right : (book telling from-10 reading-list .content (subject 2) ≡ 41024101110) × (book telling from-10 reading-list .content (object 1) ≡ 10)
     × (book telling from-10 writing-list .content (object 1) ≡ 32410201011) × (book telling from-10 writing-list .content (subject 2) ≡ 11)
     × (book telling from-10 running-list .content (subject 3) ≡ 23024101110)
-unfolding Label label level leq meet join bot need used cell speaks things handles edges safe decode sheds ended effect refusal answer
-contents-right = (refl, refl, refl, refl, refl)
+    × (book telling from-10 mapped-list .content (object 1) ≡ 2205854502211) × (book telling from-10 mapped-list .content (subject 2) ≡ 4369288703311)
+    × (book telling from-10 mapped-list .content (subject 3) ≡ 216611308713311)
+unfolding Label label level leq meet join bot need used cell speaks things handles edges safe decode rereads sheds ended effect refusal lowers answer
+contents-right = (refl, refl, refl, refl, refl, refl, refl, refl)
+
+-- the reads that follow the write, in their order
+pub rereads-right : rereads (after empty mapping-list) (object 1) ≡
+    mix reads (subject 2) (object 1) (subject 2) (object 1) ∷ mix reads (subject 3) (object 1) (subject 3) (object 1) ∷ []
+unfolding Label label level leq meet join bot need used cell speaks things handles edges safe decode rereads sheds ended effect refusal
+rereads-right = refl
 
 -- ── the tally ──
 -- RULES K17: its last line, `end 1 0 1`; and a pipe, a fork, a close and an exit
@@ -104,7 +126,11 @@ counting-list = call 1 (0 ∷ 9 ∷ []) ∷ call 4 (0 ∷ 5 ∷ 0 ∷ 1 ∷ []) 
 abbrev marking-list : List Raw
 marking-list = call 2 (1 ∷ 9 ∷ []) ∷ call 1 (0 ∷ 9 ∷ []) ∷ call 5 (0 ∷ 1 ∷ 0 ∷ []) ∷ call 6 (0 ∷ 1 ∷ 1 ∷ []) ∷ call 15 (0 ∷ 1 ∷ []) ∷ call 10 (0 ∷ 1 ∷ []) ∷ []
 
+-- three opens, one of them a map and one marked, exec
+abbrev mapped-away-list : List Raw
+mapped-away-list = call 2 (1 ∷ 9 ∷ []) ∷ call 1 (0 ∷ 9 ∷ []) ∷ call 5 (0 ∷ 1 ∷ 0 ∷ []) ∷ call 14 (0 ∷ 1 ∷ 1 ∷ []) ∷ call 6 (0 ∷ 1 ∷ 2 ∷ []) ∷ call 15 (0 ∷ 2 ∷ []) ∷ call 10 (0 ∷ 1 ∷ []) ∷ []
+
 pub tally-right : (tally empty zeroed reading-list ≡ record { made = 1; gone = 0 }) × (tally empty zeroed counting-list ≡ record { made = 4; gone = 3 })
-    × (tally empty zeroed marking-list ≡ record { made = 2; gone = 1 })
-unfolding tallied Label label level leq meet join bot need used cell speaks things handles edges safe decode sheds ended effect refusal answer
-tally-right = (refl, refl, refl)
+    × (tally empty zeroed marking-list ≡ record { made = 2; gone = 1 }) × (tally empty zeroed mapped-away-list ≡ record { made = 3; gone = 2 })
+unfolding tallied Label label level leq meet join bot need used cell speaks things handles edges safe decode rereads sheds ended effect refusal lowers answer
+tally-right = (refl, refl, refl, refl)

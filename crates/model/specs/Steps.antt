@@ -47,7 +47,7 @@ place h s p v = row h s (λ q. cond (eqb p q) v (h s q))
 -- RULES T7, T8, T9: whose level may fall; a file's stays
 abbrev pub falls : Thing → Kind → Bool
 falls (subject n) k = true
-falls (object n) running = true
+falls (object n) running = false
 falls (object n) file = false
 falls (object n) pipe = true
 

@@ -1,4 +1,4 @@
--- The tables, and what the rules read off them. States RULES T1 to T3, T6 to T12, T17, T18, T20, T24, T32 and T35, and RULES F1 to F3
+-- The tables, and what the rules read off them. States RULES T1 to T3, T6 to T12, T17, T18, T20, T24, T32, T35 and T37, and RULES F1 to F3
 -- and F5 to F8.
 --
 -- What is kept (live things with kind and label, handles by place, the freeze); what is in use and live; the lists of live things, of
@@ -28,11 +28,13 @@ pub record Entry : Type 0 where
   pub kind : Kind
   pub label : Label
 
--- RULES T10, T35: a handle stands at one place of one subject; at its place, the direction and the object, and whether it is marked
+-- RULES T10, T35, T37: a handle stands at one place of one subject; at its place, the direction and the object, whether it is marked, and
+-- whether it is a mapping
 pub record Handle : Type 0 where
   pub dir : Dir
   pub to : ℕ
   pub marked : Bool
+  pub mapped : Bool
 
 -- RULES T6, T11, T32: the entries under the numbers in use; at each place one handle or none; the freeze
 pub record Tables : Type 0 where
@@ -52,12 +54,15 @@ empty = record { at = λ x. none; hand = λ s p. none; freeze = no-freeze }
 abbrev pub entry : Kind → Label → Entry
 entry k l = record { kind = k; label = l }
 
--- RULES T35: one that is placed anew is not marked
+-- RULES T35, T37: one that is placed anew is not marked; a mapping is for reading
 abbrev pub handle : Dir → ℕ → Handle
-handle d o = record { dir = d; to = o; marked = false }
+handle d o = record { dir = d; to = o; marked = false; mapped = false }
+
+abbrev pub mapping : ℕ → Handle
+mapping o = record { dir = reading; to = o; marked = false; mapped = true }
 
 abbrev pub with-mark : Handle → Handle
-with-mark k = record { dir = k .dir; to = k .to; marked = true }
+with-mark k = record { dir = k .dir; to = k .to; marked = true; mapped = k .mapped }
 
 abbrev pub with-at : Tables → (Thing → Option Entry) → Tables
 with-at t a = record { at = a; hand = t .hand; freeze = t .freeze }
@@ -100,11 +105,16 @@ abbrev pub label-of : Option Entry → Label
 label-of none = bot
 label-of (some e) = e .label
 
+-- RULES T2: an object that is no pipe is a file
 abbrev pub is-file : Thing → Kind → Bool
 is-file (subject n) k = false
-is-file (object n) running = false
+is-file (object n) running = true
 is-file (object n) file = true
 is-file (object n) pipe = false
+
+abbrev pub a-file : Thing → Option Entry → Bool
+a-file x none = false
+a-file x (some e) = is-file x (e .kind)
 
 abbrev pub is-pipe : Thing → Option Entry → Bool
 is-pipe (subject n) o = false

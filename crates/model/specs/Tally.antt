@@ -1,26 +1,26 @@
 -- The tally: how many handles were made and how many are gone, over the calls so far. States RULES Y1 to Y9 and Y13. Assumes nothing.
-use mathlib.Core.Bool.{cond}
+use mathlib.Core.Bool.{_||_, cond}
 use mathlib.Core.Option.{Option, none, some}
 use mathlib.Core.List.{List, [], _∷_}
 use Prim.Native.Nat.{ℕ, _+_, _-_, _%_, _^_}
 use lib.ListN.{length}
 use Rattle.model.specs.Lists.{each}
 use Rattle.model.specs.Tables.{Handle, Tables, places, one, handles-of}
-use Rattle.model.specs.Calls.{Call, admit, register, create, make-pipe, opens, access, fork, exec, close, exit, retire, mark, freeze, unknown, Raw, decode, refusal, next}
+use Rattle.model.specs.Calls.{Call, admit, register, create, make-pipe, opens, access, fork, exec, close, exit, retire, maps, mark, freeze, unknown, Raw, decode, refusal, next}
 pub mod Laws
 
 -- RULES Y4, Y6, Y11: how many handles s holds
 abbrev pub held : Tables → ℕ → ℕ
 held t s = length (handles-of t s)
 
--- the handle at a place where it is marked
-abbrev pub only-marked : Option Handle → Option Handle
-only-marked none = none
-only-marked (some k) = cond (k .marked) (some k) none
+-- the handle at a place where it is marked or a mapping
+abbrev pub dropped : Option Handle → Option Handle
+dropped none = none
+dropped (some k) = cond (k .marked || k .mapped) (some k) none
 
--- RULES Y13: how many marked handles s holds
-abbrev pub marks : Tables → ℕ → ℕ
-marks t s = length (each places (λ p. one (only-marked (t .hand s p))))
+-- RULES Y13: how many handles s holds that an exec drops
+abbrev pub drops : Tables → ℕ → ℕ
+drops t s = length (each places (λ p. one (dropped (t .hand s p))))
 
 -- RULES Y2, Y3, Y4, Y7: what a call adds to made
 abbrev pub makes : Tables → Call → ℕ
@@ -35,6 +35,7 @@ makes t (exec s o) = 0
 makes t (close s p) = 0
 makes t (exit s) = 0
 makes t (retire o) = 0
+makes t (maps s o p) = 1
 makes t (mark s p) = 0
 makes t (freeze n) = 0
 makes t unknown = 0
@@ -48,10 +49,11 @@ removes t (make-pipe s o r w) = 0
 removes t (opens d s o p) = 0
 removes t (access d s p) = 0
 removes t (fork s c) = 0
-removes t (exec s o) = marks t s
+removes t (exec s o) = drops t s
 removes t (close s p) = 1
 removes t (exit s) = held t s
 removes t (retire o) = 0
+removes t (maps s o p) = 0
 removes t (mark s p) = 0
 removes t (freeze n) = 0
 removes t unknown = 0

@@ -13,14 +13,15 @@ use Rattle.model.specs.Label.Laws.{⊑-refl, ⊑-trans}
 use Rattle.model.specs.Flow.{Thing, subject, same}
 use Rattle.model.specs.Tables.{Dir, reading, writing, Entry, Handle, Tables, empty, label-of, cell, handles, arc, needs}
 use Rattle.model.specs.Tables.Laws.{cell-entry}
-use Rattle.model.specs.Steps.{outside, blank, copied, Step, enter, leave, hold, holds, mix, freezes, put, fall, apply, applies, ended, reap}
+use Rattle.model.specs.Steps.{outside, blank, copied, writes, Step, enter, leave, hold, holds, mix, freezes, put, fall, apply, applies, ended, reap}
 use Rattle.model.specs.Steps.Laws.{put-cases, fell}
 use Rattle.model.specs.Invariant.{Safe, Kept}
 use Rattle.model.specs.Invariant.Laws.{Pot, pot-safe, needs-pot, Less, less-wf, less-pot, Feeds}
-use Rattle.model.specs.Calls.{Call, admit, register, create, make-pipe, opens, access, fork, exec, close, exit, retire, mark, freeze, unknown, Raw, decode, target, moves, sheds, steps, effect, Test, alive, present, taken, facing, suits, broken, tests, refusal, next, Answer, answer, answers, after}
+use Rattle.model.specs.Calls.{Call, admit, register, create, make-pipe, opens, access, fork, exec, close, exit, retire, maps, mark, freeze, unknown, Raw, decode, target, rereads, sheds, steps, effect, Test, alive, present, taken, facing, suits, broken, tests, refusal, next, Answer, answer, answers, after}
 use Rattle.model.specs.Calls.Refusals.{allowed-iff}
 use Rattle.model.specs.Calls.Passed.{is-alive, is-facing, sheds-less}
-use Rattle.model.specs.Calls.Kept.{access-feeds, exec-feeds, next-kept, empty-kept}
+use Rattle.model.specs.Calls.Moving.{reread-of}
+use Rattle.model.specs.Calls.Kept.{access-feeds, exec-feeds, Going, going-written, reread-feeds, going-next, map-feeds, next-kept, empty-kept}
 use Rattle.model.specs.Book.{Contents, Book, blank-book, Handling, Outside, store, carry, carries, turn, book-from, answers-from, brought-by, brought, Alike-from, Alike, book, book-answers}
 
 -- ── the book's tables and answers are those of the rules ──
@@ -76,6 +77,12 @@ Guards ℓ o₁ o₂ t (k ∷ ks) = Guard ℓ o₁ o₂ t k × Guards ℓ o₁ o
 guards-append : (ℓ : Label) (o₁ o₂ : ℕ) (xs ys : List Step) (t : Tables) → Guards ℓ o₁ o₂ t xs → Guards ℓ o₁ o₂ (applies xs t) ys → Guards ℓ o₁ o₂ t (xs ++ ys)
 guards-append ℓ o₁ o₂ [] ys t g f = f
 guards-append ℓ o₁ o₂ (k ∷ xs) ys t g f = (g .0, guards-append ℓ o₁ o₂ xs ys (apply k t) (g .1) f)
+
+-- where each step of a list has what it asks and keeps what makes it so, the list has it
+guards-keep : (ℓ : Label) (o₁ o₂ : ℕ) (P : Tables → Type 0) (ks : List Step) → ((k : Step) → In k ks → (u : Tables) → P u → Guard ℓ o₁ o₂ u k × P (apply k u))
+    → (u : Tables) → P u → Guards ℓ o₁ o₂ u ks
+guards-keep ℓ o₁ o₂ P [] f u p = tt
+guards-keep ℓ o₁ o₂ P (k ∷ ks) f u p = let r = f k (inl refl) u p in (r .0, guards-keep ℓ o₁ o₂ P ks (λ j i. f j (inr i)) (apply k u) (r .1))
 
 -- one thing changed
 store-agree : (ℓ : Label) (t : Tables) (c d : Contents) (x : Thing) (n : Option Entry) (v w : ℕ) → Agree ℓ t c d
@@ -143,19 +150,25 @@ module _ (ℓ : Label) (o₁ o₂ : ℕ) (t : Tables) (v : Kept t) where
   guarded (create s o) b m = (tt, tt)
   guarded (make-pipe s o r w) b m = (tt, (tt, (tt, tt)))
   guarded (opens d s o p) b m = (tt, tt)
-  guarded (access d s p) b m = (
-    go d (let r = is-facing t d s p (m (taken s p) (inr (inl refl)))
-        (m (facing d s p) (inr (inr (inl refl)))) in access-feeds t (needs t) (v .wf) pot d s p (r .0) (r .1) (r .2)),
-    tt,
-  )
+  guarded (access d s p) b m = went d (let r = is-facing t d s p (m (taken s p) (inr (inl refl)))
+      (m (facing d s p) (inr (inr (inl refl)))) in access-feeds t (needs t) (v .wf) pot d s p (r .0) (r .1) (r .2))
     where
+      x : Thing
+      x = target (t .hand s p)
+
       pot : Pot t (needs t)
       pot = needs-pot (v .wf) (v .safe)
 
-      go : (d : Dir) → Feeds t (needs t) (arc d (cell t s) (target (t .hand s p)) .dst) (arc d (cell t s) (target (t .hand s p)) .src)
-          → Guard ℓ o₁ o₂ t (moves d (subject s) (cell t s) (target (t .hand s p)))
-      go reading f = (needs t, pot, f)
-      go writing f = (needs t, pot, f)
+      went : (d : Dir) → Feeds t (needs t) (arc d (cell t s) x .dst) (arc d (cell t s) x .src) → Guards ℓ o₁ o₂ t (steps t (access d s p))
+      went reading f = ((needs t, pot, f), tt)
+      went writing f = (
+        (needs t, pot, f),
+        guards-keep ℓ o₁ o₂ (Going t (needs t)) (rereads t x) (λ k i u g. let r = reread-of t x k i in
+            subst (λ (j : Step). Guard ℓ o₁ o₂ u j × Going t (needs t) (apply j u)) (r .is) (
+          (needs t, g .pot, reread-feeds t (needs t) (v .mapped) x (r .by) (r .through) u g),
+          going-next t (needs t) (v .mapped) x (r .by) (r .through) u g,
+        )) (apply (mix writes x (subject s) x (cell t s)) t) (going-written t (needs t) (v .wf) pot s x f),
+      )
   guarded (fork s c) b m = let r = cell-entry t s (is-alive t s (m (alive s) (inl refl))) in
       ((r .0, r .1, subst (λ (o : Option Entry). label-of o ⊑ r .0 .label) (sym (r .1)) ⊑-refl), (tt, tt))
   guarded (exec s o) b m = guards-append ℓ o₁ o₂ (sheds t s) _ t (sheds-guards ℓ o₁ o₂ t s) (
@@ -179,6 +192,7 @@ module _ (ℓ : Label) (o₁ o₂ : ℕ) (t : Tables) (v : Kept t) where
   guarded (close s p) b m = (tt, tt)
   guarded (exit s) b m = (tt, (tt, tt))
   guarded (retire o) b m = (tt, tt)
+  guarded (maps s o p) b m = let r = map-feeds t s o p (v .wf) m in (tt, ((r .potential, r .pot, r .feeds), tt))
   guarded (mark s p) b m = (tt, tt)
   guarded (freeze n) b m = (tt, tt)
   guarded unknown b m = tt

@@ -7,31 +7,39 @@ use mathlib.Core.List.{[], _∷_}
 use Prim.Native.Nat.{ℕ}
 use lib.Dec.{T, T-not, not-T, eqb, eqb→eq}
 use Rattle.model.specs.Label.{label}
-use Rattle.model.specs.Flow.{subject, object, same}
-use Rattle.model.specs.Tables.{running, file, pipe, Dir, reading, writing, Entry, entry, Handle, handle, with-mark, Tables, in-range, live}
+use Rattle.model.specs.Flow.{Thing, subject, object, same}
+use Rattle.model.specs.Tables.{running, file, pipe, Dir, reading, writing, Entry, entry, Handle, handle, mapping, with-mark, Tables, in-range, live}
 use Rattle.model.specs.Tables.{label-of, cell, handles, open-on}
 use Rattle.model.specs.Tables.Laws.{open-here}
 use Rattle.model.specs.Steps.{Origin, outside, blank, copied, reads, writes, runs, enter, hold, holds, mix, row, place, apply, applies}
 use Rattle.model.specs.Steps.Laws.{row-cases, live-hand, applies-append}
 use Rattle.model.specs.Invariant.{Ends, Wf}
 use Rattle.model.specs.Invariant.Laws.{row-below, less-close, less-row, less-freeze, less-wf, wf-enter, wf-hand, wf-hold, wf-without, wf-reap, wf-mix}
-use Rattle.model.specs.Calls.{Call, admit, register, create, make-pipe, opens, access, fork, exec, close, exit, retire, mark, freeze, unknown}
+use Rattle.model.specs.Calls.{Call, admit, register, create, make-pipe, opens, access, fork, exec, close, exit, retire, maps, mark, freeze, unknown}
 use Rattle.model.specs.Calls.{target, marking, sheds, steps, effect, next, alive, present, new, vacant, taken, idle, broken, refusal}
 use Rattle.model.specs.Calls.Refusals.{allowed-iff}
+use Rattle.model.specs.Calls.Moving.{rereads-keep}
 use Rattle.model.specs.Calls.Passed.{is-alive, is-present, is-new, is-place, is-taken, Passed, entered-live, old-live, sheds-less}
 
 -- ── the steps of an allowed call ──
 module _ (t : Tables) (w : Wf t) where
+  pub placed-wf : (s p : ℕ) (k : Handle) → T (not (broken t (alive s))) → T (not (broken t (present (k .to)))) → T (not (broken t (vacant s p)))
+      → Wf (apply (hold s p (some k)) t)
+  placed-wf s p k a b c = wf-hold t s p k w (record { from = is-alive t s a; to = is-present t (k .to) b; place = is-place t s p c })
+
   pub open-wf : (d : Dir) (s o p : ℕ) → Passed t (opens d s o p) → Wf (applies (steps t (opens d s o p)) t)
-  open-wf d s o p m = wf-hold t s p (handle d o) w (record {
-    from = is-alive t s (m (alive s) (inl refl));
-    to = is-present t o (m (present o) (inr (inl refl)));
-    place = is-place t s p (m (vacant s p) (inr (inr (inl refl))));
-  })
+  open-wf d s o p m = placed-wf s p (handle d o) (m (alive s) (inl refl)) (m (present o) (inr (inl refl))) (m (vacant s p) (inr (inr (inl refl))))
 
   access-wf : (d : Dir) (s p : ℕ) → Wf (applies (steps t (access d s p)) t)
   access-wf reading s p = wf-mix t reads (subject s) (target (t .hand s p)) (cell t s) (target (t .hand s p)) w
-  access-wf writing s p = wf-mix t writes (target (t .hand s p)) (subject s) (target (t .hand s p)) (cell t s) w
+  access-wf writing s p = rereads-keep Wf t x (λ m h u v. wf-mix u reads (subject m) x (cell t m) x v) (apply (mix writes x (subject s) x (cell t s)) t)
+      (wf-mix t writes x (subject s) x (cell t s) w)
+    where
+      x : Thing
+      x = target (t .hand s p)
+
+  pub map-wf : (s o p : ℕ) → Passed t (maps s o p) → Wf (apply (hold s p (some (mapping o))) t)
+  map-wf s o p m = placed-wf s p (mapping o) (m (alive s) (inl refl)) (m (present o) (inr (inl refl))) (m (vacant s p) (inr (inr (inr (inl refl)))))
 
   exec-wf : (s o : ℕ) → Wf (applies (steps t (exec s o)) t)
   exec-wf s o = subst Wf (sym (applies-append (sheds t s) (mix runs (subject s) (object o) (cell t s) (object o) ∷ []) t))
@@ -122,6 +130,7 @@ module _ (t : Tables) (w : Wf t) where
   call-wf (close s p) m = less-wf (less-close t s p) w
   call-wf (exit s) m = exit-wf s
   call-wf (retire o) m = retire-wf o (m (idle o) (inr (inr (inl refl))))
+  call-wf (maps s o p) m = wf-mix (apply (hold s p (some (mapping o))) t) reads (subject s) (object o) (cell t s) (object o) (map-wf s o p m)
   call-wf (mark s p) m = mark-wf s p (m (taken s p) (inr (inl refl)))
   call-wf (freeze n) m = less-wf (less-freeze t n) w
   call-wf unknown m = w

@@ -1,34 +1,37 @@
 -- Every call keeps the invariant, so every state from empty tables has it: each live thing's level is at least its need, no handle
--- dangles, a pipe has a handle, levels are 0 to 15 and the freeze 0 to 16 (RULES F8, T25, T26, T27, T34). Call by call, then the list. That
--- nothing dangles is in `Dangling`, levels and the freeze are in `Scale`. Assumes nothing.
-use mathlib.Core.Path.{_≡_, refl, sym, _∙_, ap, subst}
+-- dangles, a pipe has a handle, levels are 0 to 15 and the freeze 0 to 16, and who has a file mapped is not above it (RULES F8, T25, T26, T27,
+-- T34, T38). Call by call, then the list. That nothing dangles is in `Dangling`, levels and the freeze are in `Scale`, mappings in `Mapped`.
+-- Assumes nothing.
+use mathlib.Core.Path.{_≡_, refl, sym, _∙_, ap, subst, subst₂}
 use mathlib.Core.Bool.{Bool, true, false, not, cond}
 use mathlib.Core.Logic.{_⊎_, inl, inr}
 use mathlib.Core.Option.{Option, none, some, Option·some-injective}
 use mathlib.Core.List.{List, [], _∷_}
 use Prim.Native.Nat.{ℕ}
-use lib.Dec.{T, T-not}
+use lib.Dec.{T, T-not, eqb}
 use Rattle.model.specs.Bools.{test, not-not}
 use Rattle.model.specs.Label.{Label, label, leq, _⊑_}
 use Rattle.model.specs.Label.Laws.{⊑-refl, bot-least}
 use Rattle.model.specs.Flow.{Thing, subject, object, same}
-use Rattle.model.specs.Tables.{Kind, running, file, pipe, Dir, reading, writing, Entry, entry, Handle, handle, with-mark, Tables, empty}
+use Rattle.model.specs.Tables.{Kind, running, file, pipe, Dir, reading, writing, Entry, entry, Handle, handle, mapping, with-mark, Tables, empty}
 use Rattle.model.specs.Tables.{in-range, label-of, is-pipe, cell, handles, open-on, arc, flow, speaks, demand, needs, safe}
-use Rattle.model.specs.Tables.Laws.{speaks-at, speaks-hand, speaks-cell, cell-self, cell-entry, object-entry, handles-at, open-here}
-use Rattle.model.specs.Tables.Laws.{thing-listed, demand-label, safe-above}
+use Rattle.model.specs.Tables.Laws.{speaks-at, speaks-hand, speaks-cell, cell-self, cell-same, cell-entry, object-entry, handles-at, open-here}
+use Rattle.model.specs.Tables.Laws.{thing-listed, listed-thing, demand-label, not-safe, safe-above}
 use Rattle.model.specs.Steps.{Origin, outside, blank, copied, Access, reads, writes, runs, enter, leave, hold, holds, mix, freezes, put, row}
 use Rattle.model.specs.Steps.{place, fall, apply, applies, ended, reap}
 use Rattle.model.specs.Steps.Laws.{put-cases, row-cases, place-same, applies-append, ended-last}
-use Rattle.model.specs.Invariant.{Wf, Safe, Piped, Scaled, Frozen, Kept}
+use Rattle.model.specs.Invariant.{Wf, Safe, Piped, Scaled, Frozen, Mapped, Kept}
 use Rattle.model.specs.Invariant.Laws.{Pot, pot-safe, needs-pot, row-below, Less, less-close, less-row, less-freeze, less-wf, less-pot, Feeds, flow-feeds}
-use Rattle.model.specs.Invariant.Laws.{empty-wf, wf-reap}
+use Rattle.model.specs.Invariant.Laws.{empty-wf, wf-reap, wf-mix}
 use Rattle.model.specs.Invariant.Laws.{empty-pot, raise, raise-same, raise-other, pot-enter, pot-hand, pot-hold, pot-without, pot-reap, pot-mix}
 use Rattle.model.specs.Invariant.Laws.{empty-scaled, empty-frozen, scaled-without}
-use Rattle.model.specs.Calls.{Call, admit, register, create, make-pipe, opens, access, fork, exec, close, exit, retire, mark, freeze, unknown, Raw, decode}
-use Rattle.model.specs.Calls.{target, moves, marking, sheds, steps, effect, next, after, alive, present, new, taken, facing, enough, suits, broken, refusal}
+use Rattle.model.specs.Calls.{Call, admit, register, create, make-pipe, opens, access, fork, exec, close, exit, retire, maps, mark, freeze, unknown, Raw, decode}
+use Rattle.model.specs.Calls.{target, marking, sheds, steps, effect, next, after, Test, alive, present, new, taken, facing, enough, suits, broken, refusal}
 use Rattle.model.specs.Calls.Refusals.{allowed-iff}
 use Rattle.model.specs.Calls.Passed.{is-alive, is-present, is-new, is-taken, is-facing, Passed, sheds-less}
-use Rattle.model.specs.Calls.Dangling.{open-wf, pipe-wf, call-wf}
+use Rattle.model.specs.Calls.Moving.{Through, rereads-keep}
+use Rattle.model.specs.Calls.Mapped.{empty-mapped, mapped-reap, call-mapped}
+use Rattle.model.specs.Calls.Dangling.{open-wf, map-wf, pipe-wf, call-wf}
 use Rattle.model.specs.Calls.Scale.{call-scaled, call-frozen}
 pub use Rattle.model.specs.Calls.Passed.{is-new, is-facing}
 
@@ -103,6 +106,14 @@ safe-sound u w h = record {
       (safe-above u h x (thing-listed u x e (w .ranged x e q) q));
 }
 
+pub safe-complete : (u : Tables) → Safe u → T (safe u)
+safe-complete u v = elim (test (safe u)) [
+  | inl h ↦ h
+  | inr n ↦ (let r = not-safe u .0 n in let l = listed-thing u (r .0) (r .1) in
+      absurd (T-not (leq (needs u (r .0)) (label-of (u .at (r .0)))) (r .2)
+      (subst (λ (o : Option Entry). needs u (r .0) ⊑ label-of o) (sym (l .1)) (v .above (r .0) (l .0) (l .1)) .tested)))
+]
+
 module _ (t : Tables) (v : Kept t) where
   -- ── open ──
   open-stepped : (d : Dir) (s o p : ℕ) → Passed t (opens d s o p) → Stepped t (applies (steps t (opens d s o p)) t)
@@ -156,15 +167,114 @@ exec-feeds t s o h g = let r = object-entry t o (is-present t o h) in record {
       (record { tested = not-not (leq (needs (applies (sheds t s) t) (cell t s)) (label-of (t .at (object o)))) g });
 }
 
+-- on the way through the reads that follow a write: the handles are those of t, nothing dangles, and φ is still a potential
+pub record Going (t : Tables) (φ : Thing → Label) (u : Tables) : Type 0 where
+  pub hands : u .hand ≡ t .hand
+  pub wf : Wf u
+  pub pot : Pot u φ
+
+module _ (t : Tables) (φ : Thing → Label) where
+  pub going-written : Wf t → Pot t φ → (s : ℕ) (x : Thing) → Feeds t φ x (cell t s) → Going t φ (apply (mix writes x (subject s) x (cell t s)) t)
+  going-written w i s x f = record { hands = refl; wf = wf-mix t writes x (subject s) x (cell t s) w; pot = pot-mix t φ writes x (subject s) x (cell t s) i f }
+
+  -- and each of these reads moves data along a mapping
+  pub reread-feeds : Mapped t → (x : Thing) (s : ℕ) → Through t x s → (u : Tables) → Going t φ u → Feeds u φ (cell t s) x
+  reread-feeds v x s h u g = subst (Feeds u φ (cell t s)) (h .on)
+      (subst (λ (d : Dir). Feeds u φ (arc d (cell t s) (object (k .to)) .dst) (arc d (cell t s) (object (k .to)) .src))
+      (v .each s (h .place) k (h .held) (h .maps) .for-reading)
+      (flow-feeds u φ (g .wf) (g .pot) s (h .place) (cell t s) k (speaks-cell u s ∙ ap {B = Option Thing} some (cell-same u t s))
+      (ap (λ (f : ℕ → ℕ → Option Handle). f s (h .place)) (g .hands) ∙ h .held)))
+    where
+      k : Handle
+      k = h .handle
+
+  pub going-next : Mapped t → (x : Thing) (s : ℕ) → Through t x s → (u : Tables) → Going t φ u → Going t φ (apply (mix reads (subject s) x (cell t s) x) u)
+  going-next v x s h u g = record {
+    hands = g .hands;
+    wf = wf-mix u reads (subject s) x (cell t s) x (g .wf);
+    pot = pot-mix u φ reads (subject s) x (cell t s) x (g .pot) (reread-feeds v x s h u g);
+  }
+
+-- ── map ──
+-- a map that is allowed would be allowed as an open for reading
+pub map-opens : (t : Tables) (s o p : ℕ) → Passed t (maps s o p) → Passed t (opens reading s o p)
+map-opens t s o p m e (inl z) = m e (inl z)
+map-opens t s o p m e (inr (inl z)) = m e (inr (inl z))
+map-opens t s o p m e (inr (inr (inl z))) = m e (inr (inr (inr (inl z))))
+map-opens t s o p m e (inr (inr (inr (inl z)))) = m e (inr (inr (inr (inr (inl z)))))
+map-opens t s o p m e (inr (inr (inr (inr (inl z))))) = subst (λ (k : Test). T (not (broken t k))) z tt
+map-opens t s o p m e (inr (inr (inr (inr (inr z))))) = absurd z
+
+-- another handle of the same flow, at the same place
+pub pot-swap : (t : Tables) (φ : Thing → Label) (s p : ℕ) (j k : Handle) → j .dir ≡ k .dir → j .to ≡ k .to
+    → Pot (apply (hold s p (some j)) t) φ → Pot (apply (hold s p (some k)) t) φ
+pot-swap t φ s p j k d o i = record {
+  low = i .low;
+  cap = i .cap;
+  falls = λ s′ p′ x l z q. (let r = was (eqb s s′) (eqb p p′) (t .hand s p′) (t .hand s′ p′) l q in
+      subst₂ (λ (d : Dir) (n : ℕ). φ (arc d x (object n) .dst) ⊑ φ (arc d x (object n) .src)) (r .2) (r .3)
+      (i .falls s′ p′ x (r .0) (speaks-hand t (place (t .hand) s p (some j)) s′ ∙ sym (speaks-hand t (place (t .hand) s p (some k)) s′) ∙ z) (r .1)));
+}
+  where
+    was : (a b : Bool) (f g : Option Handle) (l : Handle) → cond a (cond b (some k) f) g ≡ some l
+        → (i : Handle) × (cond a (cond b (some j) f) g ≡ some i) × (i .dir ≡ l .dir) × (i .to ≡ l .to)
+    was false b f g l q = (l, q, refl, refl)
+    was true false f g l q = (l, q, refl, refl)
+    was true true f g l q = let e = Option·some-injective k l q in (j, refl, d ∙ ap (λ (z : Handle). z .dir) e, o ∙ ap (λ (z : Handle). z .to) e)
+
+-- the tables with the new mapping, before s falls, have a potential, and along the mapping data may move
+pub record Mapping (t : Tables) (s o p : ℕ) : Type 0 where
+  pub potential : Thing → Label
+  pub pot : Pot (apply (hold s p (some (mapping o))) t) potential
+  pub feeds : Feeds (apply (hold s p (some (mapping o))) t) potential (cell t s) (object o)
+
+pub map-feeds : (t : Tables) (s o p : ℕ) → Wf t → Passed t (maps s o p) → Mapping t s o p
+map-feeds t s o p w m = record {
+  potential = needs u;
+  pot = i;
+  feeds = flow-feeds u′ (needs u) (map-wf t w s o p m) i s p (cell t s) (mapping o) (speaks-cell u′ s ∙ ap {B = Option Thing} some (cell-same u′ t s))
+      (place-same (t .hand) s p (some (mapping o)));
+}
+  where
+    u : Tables
+    u = apply (hold s p (some (handle reading o))) t
+
+    u′ : Tables
+    u′ = apply (hold s p (some (mapping o))) t
+
+    opened : Wf u
+    opened = open-wf t w reading s o p (map-opens t s o p m)
+
+    i : Pot u′ (needs u)
+    i = pot-swap t (needs u) s p (handle reading o) (mapping o) refl refl (needs-pot opened
+        (safe-sound u opened (not-not (safe u) (m (enough (opens reading s o p)) (inr (inr (inr (inr (inl refl)))))))))
+
 module _ (t : Tables) (v : Kept t) where
+  map-stepped : (s o p : ℕ) → Passed t (maps s o p) → Stepped t (applies (steps t (maps s o p)) t)
+  map-stepped s o p m = let r = map-feeds t s o p (v .wf) m in
+      mix-stepped t v (r .potential) reads (subject s) (object o) (cell t s) (object o) u (stepped (r .pot) (old-pipes t u (v .piped) (λ o h. h))) (r .pot) (r .feeds)
+    where
+      u : Tables
+      u = apply (hold s p (some (mapping o))) t
+
   access-stepped : (d : Dir) (s p : ℕ) → Passed t (access d s p) → Stepped t (applies (steps t (access d s p)) t)
-  access-stepped d s p m = go d (let r = is-facing t d s p (m (taken s p) (inr (inl refl)))
+  access-stepped d s p m = went d (let r = is-facing t d s p (m (taken s p) (inr (inl refl)))
       (m (facing d s p) (inr (inr (inl refl)))) in access-feeds t (needs t) (v .wf) (pot t v) d s p (r .0) (r .1) (r .2))
     where
-      go : (d : Dir) → Feeds t (needs t) (arc d (cell t s) (target (t .hand s p)) .dst) (arc d (cell t s) (target (t .hand s p)) .src)
-          → Stepped t (apply (moves d (subject s) (cell t s) (target (t .hand s p))) t)
-      go reading f = mix-stepped t v (needs t) reads (subject s) (target (t .hand s p)) (cell t s) (target (t .hand s p)) t (none-stepped t v) (pot t v) f
-      go writing f = mix-stepped t v (needs t) writes (target (t .hand s p)) (subject s) (target (t .hand s p)) (cell t s) t (none-stepped t v) (pot t v) f
+      x : Thing
+      x = target (t .hand s p)
+
+      written : Tables
+      written = apply (mix writes x (subject s) x (cell t s)) t
+
+      went : (d : Dir) → Feeds t (needs t) (arc d (cell t s) x .dst) (arc d (cell t s) x .src) → Stepped t (applies (steps t (access d s p)) t)
+      went reading f = mix-stepped t v (needs t) reads (subject s) x (cell t s) x t (none-stepped t v) (pot t v) f
+      went writing f = rereads-keep (λ u. Going t (needs t) u × Stepped t u) t x
+          (λ m h u g. (going-next t (needs t) (v .mapped) x m h u (g .0),
+          mix-stepped t v (needs t) reads (subject m) x (cell t m) x u (g .1) (g .0 .pot) (reread-feeds t (needs t) (v .mapped) x m h u (g .0)))) written (
+        going-written t (needs t) (v .wf) (pot t v) s x f,
+        mix-stepped t v (needs t) writes x (subject s) x (cell t s) t (none-stepped t v) (pot t v) f,
+      ) .1
 
   exec-stepped : (s o : ℕ) → T (not (broken t (present o))) → T (not (broken t (suits s o))) → Stepped t (applies (steps t (exec s o)) t)
   exec-stepped s o h g = subst (Stepped t) (sym (applies-append (sheds t s) (mix runs (subject s) (object o) (cell t s) (object o) ∷ []) t))
@@ -288,17 +398,19 @@ module _ (t : Tables) (v : Kept t) where
   call-stepped (close s p) m = less-stepped t v (apply (hold s p none) t) (less-close t s p)
   call-stepped (exit s) m = exit-stepped t v s
   call-stepped (retire o) m = retire-stepped t v o
+  call-stepped (maps s o p) m = map-stepped s o p m
   call-stepped (mark s p) m = mark-stepped t v s p (m (taken s p) (inr (inl refl)))
   call-stepped (freeze n) m = less-stepped t v (apply (freezes n) t) (less-freeze t n)
   call-stepped unknown m = none-stepped t v
 
 -- ── pipes end ──
-reap-kept : (t u : Tables) → Wf u → Scaled u → Frozen u → Stepped t u → Kept (reap (handles t) u)
-reap-kept t u w l z k = record {
+reap-kept : (t u : Tables) → Wf u → Scaled u → Frozen u → Mapped u → Stepped t u → Kept (reap (handles t) u)
+reap-kept t u w l z g k = record {
   wf = wf-reap (handles t) u w;
   safe = pot-safe (pot-reap (handles t) u (needs u) (needs-pot w (k .safe)));
   scaled = scaled-without gone u l;
   frozen = record { bounded = z .bounded };
+  mapped = mapped-reap (handles t) u w g;
   piped = record {
     joined = λ o h. subst (λ (hs : List Handle). T (open-on hs o)) (sym (handles-at u (λ x. cond (gone x) none (u .at x))))
         (still o (gone (object o)) refl h);
@@ -323,7 +435,8 @@ reap-kept t u w l z k = record {
 pub effect-kept : (t : Tables) (c : Call) → Kept t → refusal t c ≡ none → Kept (effect t c)
 unfolding effect
 effect-kept t c v q = let m = allowed-iff t c .0 q in
-    reap-kept t (applies (steps t c) t) (call-wf t (v .wf) c m) (call-scaled t (v .scaled) c m) (call-frozen t (v .frozen) c m) (call-stepped t v c m)
+    reap-kept t (applies (steps t c) t) (call-wf t (v .wf) c m) (call-scaled t (v .scaled) c m) (call-frozen t (v .frozen) c m)
+    (call-mapped t (v .wf) (v .mapped) c m) (call-stepped t v c m)
 
 pub next-kept : (t : Tables) (c : Call) → Kept t → Kept (next t c)
 next-kept t c v = go (refusal t c) refl
@@ -334,13 +447,20 @@ next-kept t c v = go (refusal t c) refl
 
 pub empty-kept : Kept empty
 unfolding handles
-empty-kept = record { wf = empty-wf; safe = pot-safe empty-pot; piped = record { joined = λ o h. absurd h }; scaled = empty-scaled; frozen = empty-frozen }
+empty-kept = record {
+  wf = empty-wf;
+  safe = pot-safe empty-pot;
+  piped = record { joined = λ o h. absurd h };
+  scaled = empty-scaled;
+  frozen = empty-frozen;
+  mapped = empty-mapped;
+}
 
 pub after-kept : (t : Tables) (rs : List Raw) → Kept t → Kept (after t rs)
 after-kept t [] v = v
 after-kept t (r ∷ rs) v = after-kept (next t (decode r)) rs (next-kept t (decode r) v)
 
--- RULES F8, T25, T26, T27, T34: after every list of calls from empty tables no level is below its need, no handle dangles, a pipe has a handle,
--- levels are 0 to 15, and the freeze is 0 to 16.
+-- RULES F8, T25, T26, T27, T34, T38: after every list of calls from empty tables no level is below its need, no handle dangles, a pipe has a handle,
+-- levels are 0 to 15, the freeze is 0 to 16, and who has a file mapped is not above it.
 pub always-kept : (rs : List Raw) → Kept (after empty rs)
 always-kept rs = after-kept empty rs empty-kept

@@ -1,6 +1,6 @@
 -- What the passed tests of an allowed call give, and what is live once a thing has entered or an exec has dropped what it drops. Assumes nothing.
 use mathlib.Core.Path.{_≡_, refl, sym, subst}
-use mathlib.Core.Bool.{Bool, true, false, not, cond}
+use mathlib.Core.Bool.{Bool, true, false, not, _||_, cond}
 use mathlib.Core.Logic.{inl, inr}
 use mathlib.Core.Option.{Option, none, some, Option·none-ne-some}
 use Prim.Native.Nat.{ℕ, _<_}
@@ -13,7 +13,7 @@ use Rattle.model.specs.Tables.Laws.{some-of, used-is}
 use Rattle.model.specs.Steps.{Origin, enter, put, row, apply, applies}
 use Rattle.model.specs.Steps.Laws.{put-same, row-cases, live-at}
 use Rattle.model.specs.Invariant.Laws.{Less, less-hand}
-use Rattle.model.specs.Calls.{Call, unmarked, sheds, Test, alive, present, new, vacant, taken, facing, faces, turned, broken, tests}
+use Rattle.model.specs.Calls.{Call, lasting, sheds, Test, alive, present, new, vacant, taken, facing, faces, turned, broken, tests}
 
 -- ── what a passed test gives ──
 pub is-alive : (t : Tables) (s : ℕ) → T (not (broken t (alive s))) → T (live t (subject s))
@@ -66,9 +66,9 @@ old-live t x e g y l = live-at t (put (t .at) x (some e)) y (go (same x y)) l
     go false h = h
 
 -- what an exec drops before it runs: handles alone
-pub unmarked-was : (o : Option Handle) (k : Handle) → unmarked o ≡ some k → o ≡ some k
-unmarked-was none k q = absurd (Option·none-ne-some k q)
-unmarked-was (some j) k q = go (j .marked) q
+pub lasting-was : (o : Option Handle) (k : Handle) → lasting o ≡ some k → o ≡ some k
+lasting-was none k q = absurd (Option·none-ne-some k q)
+lasting-was (some j) k q = go (j .marked || j .mapped) q
   where
     go : (b : Bool) → cond b none (some j) ≡ some k → some j ≡ some k
     go true z = absurd (Option·none-ne-some k z)
@@ -76,8 +76,8 @@ unmarked-was (some j) k q = go (j .marked) q
 
 pub sheds-less : (t : Tables) (s : ℕ) → Less t (applies (sheds t s) t)
 unfolding sheds
-sheds-less t s = less-hand t (row (t .hand) s (λ p. unmarked (t .hand s p))) (λ s′ p k q. elim
-    (row-cases (t .hand) s (λ p. unmarked (t .hand s p)) s′ p (some k) q) [
-      | inl c ↦ subst (λ (z : ℕ). t .hand z p ≡ some k) (c .0) (unmarked-was (t .hand s p) k (c .1))
+sheds-less t s = less-hand t (row (t .hand) s (λ p. lasting (t .hand s p))) (λ s′ p k q. elim
+    (row-cases (t .hand) s (λ p. lasting (t .hand s p)) s′ p (some k) q) [
+      | inl c ↦ subst (λ (z : ℕ). t .hand z p ≡ some k) (c .0) (lasting-was (t .hand s p) k (c .1))
       | inr c ↦ c .1
     ])

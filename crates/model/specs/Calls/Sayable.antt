@@ -9,33 +9,31 @@ use native.Mathlib.Omega.{arith}
 use borrow.Author.Tests.{ltb-false}
 use lib.Dec.{T, ltb}
 use Rattle.model.specs.Bools.{is-false}
-use Rattle.model.specs.Label.{highest, level, in-scale, leq, bot}
+use Rattle.model.specs.Label.{highest, level, in-scale, bot}
 use Rattle.model.specs.Label.Laws.{bot-in-scale, level-in-scale}
 use Rattle.model.specs.Flow.{Thing, subject, object}
 use Rattle.model.specs.Tables.{reading, writing, Entry, Tables, empty, no-freeze, cell}
 use Rattle.model.specs.Invariant.{Kept, topmost, Sayable, All-sayable}
-use Rattle.model.specs.Calls.{Call, admit, register, create, make-pipe, opens, access, fork, exec, close, exit, retire, mark, freeze, unknown, Raw, decode}
-use Rattle.model.specs.Calls.{target, effect, next, freezable, refusal, level-at, shown, Answer, allowed, lowered, refused, outcome, said, answer, answers}
+use Rattle.model.specs.Calls.{Call, admit, register, create, make-pipe, opens, access, fork, exec, close, exit, retire, maps, mark, freeze, unknown, Raw, decode}
+use Rattle.model.specs.Calls.{target, effect, next, freezable, refusal, level-at, shown, Answer, refused, lowers, last-label, outcome, said, answer, answers}
 use Rattle.model.specs.Calls.Refusals.{allowed-iff, refused-listed}
 use Rattle.model.specs.Calls.Kept.{effect-kept, next-kept, empty-kept}
 
 -- the level of a thing
 level-sayable : (t u : Tables) (c : Call) (x : Thing) → highest ≤ topmost c → Kept t → Kept u → Sayable c (said t u (level-at x))
-level-sayable t u c x h v w = made (t .at x) (u .at x) (v .scaled .within x) (w .scaled .within x)
+level-sayable t u c x h v w = made (lowers t u) (level (last-label (t .at x) (u .at x))) (low (t .at x) (u .at x) (v .scaled .within x) (w .scaled .within x))
   where
     Low : Option Entry → Type 0
     Low o = (e : Entry) → o ≡ some e → T (in-scale (e .label))
 
-    made : (b a : Option Entry) → Low b → Low a → Sayable c (outcome b a)
-    made none none lb la = omega (arith, level-in-scale bot bot-in-scale)
-    made (some b) none lb la = omega (arith, level-in-scale (b .label) (lb b refl))
-    made none (some a) lb la = omega (arith, level-in-scale (a .label) (la a refl))
-    made (some b) (some a) lb la = by-test (leq (b .label) (a .label)) (level-in-scale (a .label) (la a refl))
-      where
-        by-test : (f : Bool) → level (a .label) ≤ highest
-            → Sayable c (elim f as (λ _. Answer) [ true ↦ allowed (level (a .label)) | false ↦ lowered (level (a .label)) ])
-        by-test true l = omega arith
-        by-test false l = l
+    low : (b a : Option Entry) → Low b → Low a → level (last-label b a) ≤ highest
+    low none none lb la = level-in-scale bot bot-in-scale
+    low (some b) none lb la = level-in-scale (b .label) (lb b refl)
+    low b (some a) lb la = level-in-scale (a .label) (la a refl)
+
+    made : (f : Bool) (n : ℕ) → n ≤ highest → Sayable c (outcome f n)
+    made true n l = l
+    made false n l = omega arith
 
 answer-sayable : (t : Tables) (c : Call) → Kept t → Sayable c (answer t c)
 unfolding answer
@@ -57,6 +55,7 @@ answer-sayable t c v = go (refusal t c) refl
     shows (close s p) q = thing (close s p) (cell t s) (omega arith) q
     shows (exit s) q = thing (exit s) (cell t s) (omega arith) q
     shows (retire o) q = thing (retire o) (object o) (omega arith) q
+    shows (maps s o p) q = thing (maps s o p) (cell t s) (omega arith) q
     shows (mark s p) q = thing (mark s p) (cell t s) (omega arith) q
     shows (freeze n) q = ltb-false no-freeze n (is-false (ltb no-freeze n) (allowed-iff t (freeze n) .0 q (freezable n) (inl refl)))
     shows unknown q = omega arith

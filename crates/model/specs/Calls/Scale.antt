@@ -10,13 +10,14 @@ use Rattle.model.specs.Bools.{is-false}
 use Rattle.model.specs.Label.{label, in-scale}
 use Rattle.model.specs.Label.Laws.{label-in-scale, bot-in-scale}
 use Rattle.model.specs.Flow.{Thing, subject, object, same}
-use Rattle.model.specs.Tables.{running, file, pipe, Dir, reading, writing, Entry, entry, Tables, no-freeze, label-of, cell}
-use Rattle.model.specs.Steps.{outside, blank, copied, reads, writes, runs, holds, mix, apply, applies}
+use Rattle.model.specs.Tables.{running, file, pipe, Dir, reading, writing, Entry, entry, mapping, Tables, no-freeze, label-of, cell}
+use Rattle.model.specs.Steps.{outside, blank, copied, reads, writes, runs, hold, holds, mix, apply, applies}
 use Rattle.model.specs.Steps.Laws.{applies-append}
 use Rattle.model.specs.Invariant.{Scaled, Frozen}
 use Rattle.model.specs.Invariant.Laws.{scaled-enter, scaled-same, scaled-without, scaled-mix}
-use Rattle.model.specs.Calls.{Call, admit, register, create, make-pipe, opens, access, fork, exec, close, exit, retire, mark, freeze, unknown}
-use Rattle.model.specs.Calls.{target, moves, sheds, steps, leveled, freezable}
+use Rattle.model.specs.Calls.{Call, admit, register, create, make-pipe, opens, access, fork, exec, close, exit, retire, maps, mark, freeze, unknown}
+use Rattle.model.specs.Calls.{target, moves, followed, sheds, steps, leveled, freezable}
+use Rattle.model.specs.Calls.Moving.{rereads-keep}
 use Rattle.model.specs.Calls.Passed.{Passed, sheds-less}
 
 module _ (t : Tables) (v : Scaled t) where
@@ -27,9 +28,10 @@ module _ (t : Tables) (v : Scaled t) where
       go none f = bot-in-scale
       go (some e) f = f e refl
 
-  access-scaled : (d : Dir) (x c y : Thing) → Scaled (apply (moves d x c y) t)
+  access-scaled : (d : Dir) (x c y : Thing) → Scaled (applies (moves d x c y ∷ followed t d y) t)
   access-scaled reading x c y = scaled-mix t reads x y c y v
-  access-scaled writing x c y = scaled-mix t writes y x y c v
+  access-scaled writing x c y = rereads-keep Scaled t y (λ m h u w. scaled-mix u reads (subject m) y (cell t m) y w) (apply (mix writes y x y c) t)
+      (scaled-mix t writes y x y c v)
 
   pub call-scaled : (c : Call) → Passed t c → Scaled (applies (steps t c) t)
   call-scaled (admit s n) m = scaled-enter t (subject s) (entry running (label n)) outside (label-in-scale n (m (leveled n) (inr (inl refl)))) v
@@ -46,14 +48,15 @@ module _ (t : Tables) (v : Scaled t) where
   call-scaled (close s p) m = scaled-same (λ x. refl) v
   call-scaled (exit s) m = scaled-without (same (subject s)) (apply (holds s (λ p. none)) t) (scaled-same (λ x. refl) v)
   call-scaled (retire o) m = scaled-without (same (object o)) t v
+  call-scaled (maps s o p) m = scaled-mix (apply (hold s p (some (mapping o))) t) reads (subject s) (object o) (cell t s) (object o) (scaled-same (λ x. refl) v)
   call-scaled (mark s p) m = scaled-same (λ x. refl) v
   call-scaled (freeze n) m = scaled-same (λ x. refl) v
   call-scaled unknown m = v
 
 module _ (t : Tables) (v : Frozen t) where
-  access-frozen : (d : Dir) (x c y : Thing) → Frozen (apply (moves d x c y) t)
+  access-frozen : (d : Dir) (x c y : Thing) → Frozen (applies (moves d x c y ∷ followed t d y) t)
   access-frozen reading x c y = record { bounded = v .bounded }
-  access-frozen writing x c y = record { bounded = v .bounded }
+  access-frozen writing x c y = rereads-keep Frozen t y (λ m h u w. record { bounded = w .bounded }) (apply (mix writes y x y c) t) (record { bounded = v .bounded })
 
   exec-frozen : (s o : ℕ) → Frozen (applies (steps t (exec s o)) t)
   unfolding sheds
@@ -71,6 +74,7 @@ module _ (t : Tables) (v : Frozen t) where
   call-frozen (close s p) m = record { bounded = v .bounded }
   call-frozen (exit s) m = record { bounded = v .bounded }
   call-frozen (retire o) m = record { bounded = v .bounded }
+  call-frozen (maps s o p) m = record { bounded = v .bounded }
   call-frozen (mark s p) m = record { bounded = v .bounded }
   call-frozen (freeze n) m = record { bounded = ltb-false no-freeze n (is-false (ltb no-freeze n) (m (freezable n) (inl refl))) }
   call-frozen unknown m = v

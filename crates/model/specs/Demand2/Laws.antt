@@ -1,4 +1,4 @@
--- Refusal 9, both ways: an open that is otherwise in order is refused with 9 if and only if after it some live thing reaches, through
+-- Refusal 9, both ways: an open or a map that is otherwise in order is refused with 9 if and only if after it some live thing reaches, through
 -- open handles, a file of a higher level; an exec if and only if the file's level is below the subject's need, that is, if and only if
 -- the subject reaches a file of a higher level than the program's. Refusal 15, likewise. For every tables, also those that no calls made. Assumes nothing.
 use mathlib.Core.Path.{_≡_, refl, sym, _∙_, ap, subst}
@@ -15,7 +15,7 @@ use Rattle.model.specs.Flow.Laws.{need-upper, need-over}
 use Rattle.model.specs.Tables.{Dir, reading, writing, Entry, Tables, no-freeze, label-of, is-file, cell, edges, demand, needs, safe}
 use Rattle.model.specs.Tables.Laws.{not-safe}
 use Rattle.model.specs.Steps.{applies}
-use Rattle.model.specs.Calls.{opens, exec, sheds, enough, suits, thawed, shut, broken, tests, In-order, refusal}
+use Rattle.model.specs.Calls.{opens, exec, maps, sheds, enough, suits, thawed, shut, broken, tests, In-order, refusal}
 use Rattle.model.specs.Calls.Refusals.{refused-is, refused-by, only}
 use Rattle.model.specs.Demand2.{Leaks, Offends, opened, Closed}
 
@@ -58,7 +58,18 @@ open-refused-iff t d s o p = (
   λ r. refused-is t (opens d s o p) (enough (opens d s o p)) (inr (inr (inr (inl refl)))) (unsafe-iff (opened t d s o p) .1 (r .1)) (r .0),
 )
 
--- RULES R9, R110: an exec. The need is taken in the tables that are left once the exec dropped the marked handles of s
+-- RULES R9, R109, R119: a map, as the open for reading
+pub map-refused-iff : (t : Tables) (s o p : ℕ) → (refusal t (maps s o p) ≡ some 9) ↔ (In-order t (maps s o p) 9 × Offends (opened t reading s o p))
+map-refused-iff t s o p = (
+  λ q. (let r = refused-by t (maps s o p) 9 q in (
+    r .1,
+    unsafe-iff (opened t reading s o p) .0
+        (only t (enough (opens reading s o p)) (tests (maps s o p)) (inl tt, (inl tt, (inl tt, (inl tt, (inr refl, tt))))) (r .0)),
+  )),
+  λ r. refused-is t (maps s o p) (enough (opens reading s o p)) (inr (inr (inr (inr (inl refl))))) (unsafe-iff (opened t reading s o p) .1 (r .1)) (r .0),
+)
+
+-- RULES R9, R110: an exec. The need is taken in the tables that are left once the exec dropped the marked handles and the mappings of s
 pub exec-refused-iff : (t : Tables) (s o : ℕ) → (refusal t (exec s o) ≡ some 9) ↔
     (In-order t (exec s o) 9 × T (not (leq (needs (applies (sheds t s) t) (cell t s)) (label-of (t .at (object o))))))
 exec-refused-iff t s o = (

@@ -42,7 +42,7 @@ pub reaches-in : {es : List Edge} (P : Thing → Type 0) → Closed es P → {x 
 reaches-in P c (here q) p = subst P q p
 reaches-in P c (step e i q r) p = reaches-in P c r (c e i (subst P (sym q) p))
 
-reaches-snoc : {es : List Edge} {x y : Thing} (e : Edge) → In e es → Reaches es x y → e .src ≡ y → Reaches es x (e .dst)
+pub reaches-snoc : {es : List Edge} {x y : Thing} (e : Edge) → In e es → Reaches es x y → e .src ≡ y → Reaches es x (e .dst)
 reaches-snoc e i (here q) s = step e i (s ∙ sym q) (here refl)
 reaches-snoc e i (step d j q r) s = step d j q (reaches-snoc e i r s)
 

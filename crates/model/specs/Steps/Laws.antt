@@ -8,11 +8,13 @@ use mathlib.Core.List.{List, [], _∷_, _++_}
 use Prim.Native.Nat.{ℕ}
 use lib.Dec.{T, T-not, not-T, eqb, eqb→eq, eqb-refl}
 use Rattle.model.specs.Bools.{both, both-of, cond-yes, cond-no, cond-cases}
+use Rattle.model.specs.Lists.{In}
 use Rattle.model.specs.Label.{Label, _⊑_, meet, bot}
 use Rattle.model.specs.Label.Laws.{⊑-refl, meet-left, meet-right, meet-glb}
 use Rattle.model.specs.Flow.{Thing, subject, object, same}
 use Rattle.model.specs.Flow.Laws.{same→eq, same-refl}
-use Rattle.model.specs.Tables.{Kind, running, file, pipe, Entry, Handle, Tables, with-at, with-hand, with-freeze, in-range, is-some, used, live, is-file, is-pipe, handles, open-on, demand}
+use Rattle.model.specs.Tables.{Kind, running, file, pipe, Entry, entry, Handle, Tables, with-at, with-hand, with-freeze, in-range, is-some, used, live, label-of}
+use Rattle.model.specs.Tables.{is-file, a-file, is-pipe, handles, open-on, demand}
 use Rattle.model.specs.Tables.Laws.{used-is, live-of}
 use Rattle.model.specs.Steps.{Step, put, row, place, falls, sunk, fall, apply, applies, ended, reap}
 
@@ -43,6 +45,10 @@ place-cases h s p v s′ p′ k q = elim (row-cases h s (λ q. cond (eqb p q) v 
 pub place-same : (h : ℕ → ℕ → Option Handle) (s p : ℕ) (v : Option Handle) → place h s p v s p ≡ v
 place-same h s p v = cond-yes (eqb s s) (cond (eqb p p) v (h s p)) (h s p) (eqb-refl s) ∙ cond-yes (eqb p p) v (h s p) (eqb-refl p)
 
+-- what had an entry is not the thing that had none
+pub put-apart : (a : Thing → Option Entry) (x y : Thing) (v : Option Entry) (e : Entry) → a x ≡ none → a y ≡ some e → put a x v y ≡ a y
+put-apart a x y v e n q = cond-no (same x y) v (a y) (not-T (same x y) (λ s. Option·none-ne-some e (sym n ∙ ap a (same→eq x y s) ∙ q)))
+
 -- ── used and live after a change ──
 pub live-hand : (t : Tables) (h : ℕ → ℕ → Option Handle) (x : Thing) → T (live t x) → T (live (with-hand t h) x)
 live-hand t h x l = let r = live-of t x l in both (in-range x) (used (with-hand t h) x) (r .0) (subst T (used-is t x ∙ sym (used-is (with-hand t h) x)) (r .1))
@@ -60,6 +66,11 @@ live-at t a x f l = let r = live-of t x l in both (in-range x) (used (with-at t 
 pub applies-append : (xs ys : List Step) (t : Tables) → applies (xs ++ ys) t ≡ applies ys (applies xs t)
 applies-append [] ys t = refl
 applies-append (k ∷ xs) ys t = applies-append xs ys (apply k t)
+
+-- what each step of a list keeps, the list keeps
+pub applies-keep : (P : Tables → Type 0) (ks : List Step) → ((k : Step) → In k ks → (u : Tables) → P u → P (apply k u)) → (u : Tables) → P u → P (applies ks u)
+applies-keep P [] f u p = p
+applies-keep P (k ∷ ks) f u p = applies-keep P ks (λ j i. f j (inr i)) (apply k u) (f k (inl refl) u p)
 
 -- ── a pipe ends with its last handle, and no sooner ──
 pub ended-last : (before after : List Handle) (n : ℕ) (o : Option Entry) → T (is-pipe (object n) o) → T (open-on before n) → T
@@ -110,13 +121,13 @@ reap-more t u f = ap (with-at u) (fun-ext stays)
 -- what does not fall is a file, and a file does not
 pub falls-or-file : (x : Thing) (k : Kind) → T (not (falls x k)) → T (is-file x k)
 falls-or-file (subject n) k t = absurd t
-falls-or-file (object n) running t = absurd t
+falls-or-file (object n) running t = tt
 falls-or-file (object n) file t = tt
 falls-or-file (object n) pipe t = absurd t
 
 file-stays : (x : Thing) (k : Kind) → T (is-file x k) → T (not (falls x k))
 file-stays (subject n) k t = absurd t
-file-stays (object n) running t = absurd t
+file-stays (object n) running t = tt
 file-stays (object n) file t = tt
 file-stays (object n) pipe t = absurd t
 
@@ -147,6 +158,20 @@ fall-under x (some e) (some d) r q = (e, refl, subst (λ (z : Entry). z .label �
     go : (f : Bool) → cond f (meet (e .label) (d .label)) (e .label) ⊑ e .label
     go true = meet-left (e .label) (d .label)
     go false = ⊑-refl
+
+pub fall-label : (x : Thing) (a b : Option Entry) → label-of (fall x a b) ⊑ label-of a
+unfolding fall-under
+fall-label x none b = ⊑-refl
+fall-label x (some e) none = ⊑-refl
+fall-label x (some e) (some d) = let r = fall-under x (some e) (some d) _ refl in
+    subst (λ (z : Entry). sunk x (e .kind) (e .label) (d .label) ⊑ z .label) (sym (Option·some-injective e (r .0) (r .1))) (r .2)
+
+-- a file keeps its entry
+pub file-keeps : (x : Thing) (a b : Option Entry) → T (a-file x a) → fall x a b ≡ a
+file-keeps x none b t = absurd t
+file-keeps x (some e) none t = refl
+file-keeps x (some e) (some d) t = ap (λ (l : Label). some (entry (e .kind) l))
+    (cond-no (falls x (e .kind)) (meet (e .label) (d .label)) (e .label) (file-stays x (e .kind) t))
 
 -- what a receiver is after it took something in from an entry d: not above what it was, and not above d if d was at least its
 -- demand (a file keeps its label: it is its own demand)

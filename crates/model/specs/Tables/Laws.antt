@@ -1,6 +1,6 @@
 -- The laws of `Tables`: what is live, where a subject stands, the lists of handles, flows and live things, what a thing demands,
 -- and the test `safe`. Other files know `used`, `cell`, `speaks`, `things`, `handles`, `edges` and `safe` by these laws. Assumes nothing.
-use mathlib.Core.Path.{_≡_, refl, sym, ap, subst}
+use mathlib.Core.Path.{_≡_, refl, sym, _∙_, ap, subst}
 use mathlib.Core.Bool.{Bool, true, false, not, cond}
 use mathlib.Core.Logic.{_⊎_, inl, inr, _↔_}
 use mathlib.Core.Option.{Option, none, some}
@@ -53,6 +53,9 @@ pub cell-self : (t : Tables) (s : ℕ) → cell t s ≡ subject s
 unfolding cell
 cell-self t s = refl
 
+pub cell-same : (t u : Tables) (s : ℕ) → cell t s ≡ cell u s
+cell-same t u s = cell-self t s ∙ sym (cell-self u s)
+
 -- a live subject's cell and a live object have an entry
 pub cell-entry : (t : Tables) (s : ℕ) → T (live t (subject s)) → (e : Entry) × (t .at (cell t s) ≡ some e)
 cell-entry t s h = subst (λ (x : Thing). (e : Entry) × (t .at x ≡ some e)) (sym (cell-self t s))
@@ -64,6 +67,11 @@ object-entry t o h = some-of (t .at (object o)) (subst T (used-is t (object o)) 
 -- ── handles ──
 in-one : {A : Type 0} (o : Option A) (a : A) → o ≡ some a → In a (one o)
 in-one o a q = subst (λ z. In a (one z)) (sym q) (inl refl)
+
+pub of-one : {A : Type 0} (v : Option A) (k : A) → In k (one v) → v ≡ some k
+of-one none k i = absurd i
+of-one (some a) k (inl q) = ap {B = Option _} some q
+of-one (some a) k (inr i) = absurd i
 
 pub handle-in : (t : Tables) (s p : ℕ) (k : Handle) → s < subjects → p < places → t .hand s p ≡ some k → In k (handles t)
 unfolding handles
@@ -78,11 +86,6 @@ unfolding handles
 open-at t o h = let r = any-at (λ z. eqb (z .to) o) (handles t) h in let a = each-in subjects (handles-of t) (r .0)
     (r .1) in let b = each-in places (λ p. one (t .hand (a .0) p)) (r .0) (a .2) in
     (a .0, b .0, r .0, a .1, b .1, of-one (t .hand (a .0) (b .0)) (r .0) (b .2), eqb→eq (r .0 .to) o (r .2))
-  where
-    of-one : {A : Type 0} (v : Option A) (k : A) → In k (one v) → v ≡ some k
-    of-one none k i = absurd i
-    of-one (some a) k (inl q) = ap {B = Option _} some q
-    of-one (some a) k (inr i) = absurd i
 
 -- the handles go by nothing but what stands at the places
 pub handles-by : (t u : Tables) → t .hand ≡ u .hand → handles t ≡ handles u
@@ -107,6 +110,8 @@ pub record Flows (t : Tables) (e : Edge) : Type 0 where
   pub p : ℕ
   pub x : Thing
   pub k : Handle
+  pub low-s : s < subjects
+  pub low-p : p < places
   pub speaker : speaks t s ≡ some x
   pub holds : t .hand s p ≡ some k
   pub is : flow x k ≡ e
@@ -115,13 +120,13 @@ pub edge-flow : (t : Tables) (e : Edge) → In e (edges t) → Flows t e
 unfolding edges
 edge-flow t e i = let r = each-in subjects (λ s. each places (λ p. flows-of (speaks t s) (t .hand s p))) e i in
     let q = each-in places (λ p. flows-of (speaks t (r .0)) (t .hand (r .0) p)) e (r .2) in
-    at-place (r .0) (q .0) (speaks t (r .0)) (t .hand (r .0) (q .0)) refl refl (q .2)
+    at-place (r .0) (q .0) (r .1) (q .1) (speaks t (r .0)) (t .hand (r .0) (q .0)) refl refl (q .2)
   where
-    at-place : (s p : ℕ) (v : Option Thing) (o : Option Handle) → speaks t s ≡ v → t .hand s p ≡ o → In e (flows-of v o) → Flows t e
-    at-place s p none o z q j = absurd j
-    at-place s p (some x) none z q j = absurd j
-    at-place s p (some x) (some k) z q (inl f) = record { s = s; p = p; x = x; k = k; speaker = z; holds = q; is = f }
-    at-place s p (some x) (some k) z q (inr f) = absurd f
+    at-place : (s p : ℕ) → s < subjects → p < places → (v : Option Thing) (o : Option Handle) → speaks t s ≡ v → t .hand s p ≡ o → In e (flows-of v o) → Flows t e
+    at-place s p a b none o z q j = absurd j
+    at-place s p a b (some x) none z q j = absurd j
+    at-place s p a b (some x) (some k) z q (inl f) = record { s = s; p = p; x = x; k = k; low-s = a; low-p = b; speaker = z; holds = q; is = f }
+    at-place s p a b (some x) (some k) z q (inr f) = absurd f
 
 -- ── things ──
 pub thing-listed : (t : Tables) (x : Thing) (e : Entry) → T (in-range x) → t .at x ≡ some e → In x (things t)

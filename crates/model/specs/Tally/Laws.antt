@@ -2,7 +2,7 @@
 -- which nothing dangles it moves as that number does (RULES Y10, Y11). How many handles a step places or removes; then call by call; then
 -- the list. Assumes nothing.
 use mathlib.Core.Path.{_≡_, refl, _∙_, ap, subst}
-use mathlib.Core.Bool.{Bool, true, false, not, cond}
+use mathlib.Core.Bool.{Bool, true, false, not, _||_, cond}
 use mathlib.Core.Logic.{_⊎_, inl, inr}
 use mathlib.Core.Option.{Option, none, some}
 use mathlib.Core.List.{List, [], _∷_, _++_}
@@ -14,17 +14,18 @@ use lib.Dec.{T, T-not, not-T, eqb, eqb→eq, eqb-refl, ltb, ltb→lt, lit<}
 use Rattle.model.specs.Bools.{test, neither, not-not, cond-yes, cond-no, is-true, is-false}
 use Rattle.model.specs.Lists.{In, each}
 use Rattle.model.specs.Flow.{Thing, subject, object}
-use Rattle.model.specs.Tables.{running, pipe, Dir, reading, writing, Entry, entry, Handle, handle, Tables, empty, with-at, subjects, places, is-some, label-of, cell, one, handles-of, handles}
+use Rattle.model.specs.Tables.{running, pipe, Dir, reading, writing, Entry, entry, Handle, handle, mapping, Tables, empty, with-at, subjects, places, is-some, label-of, cell, one, handles-of, handles}
 use Rattle.model.specs.Tables.Laws.{some-of, live-of, used-is, handles-by, handles-at}
-use Rattle.model.specs.Steps.{blank, copied, runs, enter, leave, hold, holds, mix, freezes, put, apply, applies}
+use Rattle.model.specs.Steps.{blank, copied, writes, runs, enter, leave, hold, holds, mix, freezes, put, apply, applies}
 use Rattle.model.specs.Steps.Laws.{applies-append}
 use Rattle.model.specs.Invariant.{Wf}
 use Rattle.model.specs.Invariant.Laws.{empty-wf}
-use Rattle.model.specs.Calls.{Call, admit, register, create, make-pipe, opens, access, fork, exec, close, exit, retire, mark, freeze, unknown, Raw, decode, target, moves, marking, unmarked, sheds, steps, effect, Test, alive, new, vacant, taken, apart, broken, tests, refusal, next, after}
+use Rattle.model.specs.Calls.{Call, admit, register, create, make-pipe, opens, access, fork, exec, close, exit, retire, maps, mark, freeze, unknown, Raw, decode, target, moves, followed, marking, lasting, sheds, steps, effect, Test, alive, new, vacant, taken, apart, broken, tests, refusal, next, after}
 use Rattle.model.specs.Calls.Refusals.{allowed-iff}
 use Rattle.model.specs.Calls.Passed.{is-alive, is-new, is-place}
+use Rattle.model.specs.Calls.Moving.{rereads-keep}
 use Rattle.model.specs.Calls.Dangling.{next-wf}
-use Rattle.model.specs.Tally.{held, only-marked, marks, makes, removes, wrapped, Tally, zeroed, tallied, tally, difference}
+use Rattle.model.specs.Tally.{held, dropped, drops, makes, removes, wrapped, Tally, zeroed, tallied, tally, difference}
 
 -- ── lengths of lists made for the numbers below a bound ──
 module _ {A : Type 0} where
@@ -95,29 +96,29 @@ count-emptied : (t : Tables) (s p : ℕ) (k : Handle) → s < subjects → p < p
 count-emptied t s p k ls lp q = let a : count (apply (hold s p none) t) + length (one (t .hand s p)) ≡ count t + 0 = count-hold t s p none ls lp in
     let b : length (one (t .hand s p)) ≡ 1 = ap (λ (o : Option Handle). length (one o)) q in omega arith
 
--- each handle of s is marked or not
+-- each handle of s is dropped at an exec or lasts
 pub each-parts : (n : ℕ) (h : ℕ → Option Handle) → length (each n (λ p. one (h p))) ≡
-    length (each n (λ p. one (only-marked (h p)))) + length (each n (λ p. one (unmarked (h p))))
+    length (each n (λ p. one (dropped (h p)))) + length (each n (λ p. one (lasting (h p))))
 each-parts zero h = refl
 each-parts (suc n) h = let a = each-parts n h in let b = parts (h n) in omega (
   arith,
   length-append (each n (λ p. one (h p))) (one (h n)),
-  length-append (each n (λ p. one (only-marked (h p)))) (one (only-marked (h n))),
-  length-append (each n (λ p. one (unmarked (h p)))) (one (unmarked (h n))),
+  length-append (each n (λ p. one (dropped (h p)))) (one (dropped (h n))),
+  length-append (each n (λ p. one (lasting (h p)))) (one (lasting (h n))),
 )
   where
-    parts : (o : Option Handle) → length (one o) ≡ length (one (only-marked o)) + length (one (unmarked o))
+    parts : (o : Option Handle) → length (one o) ≡ length (one (dropped o)) + length (one (lasting o))
     parts none = refl
-    parts (some k) = go (k .marked)
+    parts (some k) = go (k .marked || k .mapped)
       where
         go : (b : Bool) → 1 ≡ length (one (cond b (some k) none)) + length (one (cond b none (some k)))
         go true = refl
         go false = refl
 
--- what an exec drops: the marked ones
-count-sheds : (t : Tables) (s : ℕ) → s < subjects → count (applies (sheds t s) t) + marks t s ≡ count t
+-- what an exec drops
+count-sheds : (t : Tables) (s : ℕ) → s < subjects → count (applies (sheds t s) t) + drops t s ≡ count t
 unfolding sheds
-count-sheds t s l = omega (arith, count-row t s (λ p. unmarked (t .hand s p)) l, each-parts places (t .hand s))
+count-sheds t s l = omega (arith, count-row t s (λ p. lasting (t .hand s p)) l, each-parts places (t .hand s))
 
 marking-one : (o : Option Handle) → length (one (marking o)) ≡ length (one o)
 marking-one none = refl
@@ -194,9 +195,9 @@ module _ (t : Tables) (v : Wf t) where
       u : Tables
       u = apply (enter (subject c) e (copied (cell t s))) t
 
-  exec-count : (s o : ℕ) → T (not (broken t (alive s))) → count (applies (steps t (exec s o)) t) + marks t s ≡ count t + 0
-  exec-count s o h = ap (λ (u : Tables). count u + marks t s) (applies-append (sheds t s) (mix runs (subject s) (object o) (cell t s) (object o) ∷ []) t)
-      ∙ ap (λ (k : ℕ). k + marks t s) (count-at (applies (sheds t s) t) _) ∙ omega (arith, count-sheds t s (row-of t s h))
+  exec-count : (s o : ℕ) → T (not (broken t (alive s))) → count (applies (steps t (exec s o)) t) + drops t s ≡ count t + 0
+  exec-count s o h = ap (λ (u : Tables). count u + drops t s) (applies-append (sheds t s) (mix runs (subject s) (object o) (cell t s) (object o) ∷ []) t)
+      ∙ ap (λ (k : ℕ). k + drops t s) (count-at (applies (sheds t s) t) _) ∙ omega (arith, count-sheds t s (row-of t s h))
 
   mark-count : (s p : ℕ) → T (not (broken t (alive s))) → T (not (broken t (taken s p))) → count (applies (steps t (mark s p)) t) + 0 ≡ count t + 0
   mark-count s p h g = omega (
@@ -222,23 +223,28 @@ module _ (t : Tables) (v : Wf t) where
       u : Tables
       u = apply (holds s (λ p. none)) t
 
-  access-count : (d : Dir) (x c y : Thing) → count (apply (moves d x c y) t) + 0 ≡ count t + 0
+  access-count : (d : Dir) (x c y : Thing) → count (applies (moves d x c y ∷ followed t d y) t) + 0 ≡ count t + 0
   access-count reading x c y = entered-count _
-  access-count writing x c y = entered-count _
+  access-count writing x c y = rereads-keep (λ u. count u + 0 ≡ count t + 0) t y (λ m h u q. ap (λ (k : ℕ). k + 0) (count-at u _) ∙ q)
+      (apply (mix writes y x y c) t) (entered-count _)
+
+  placed-count : (s p : ℕ) (k : Handle) → T (not (broken t (alive s))) → T (not (broken t (vacant s p))) → count (apply (hold s p (some k)) t) + 0 ≡ count t + 1
+  placed-count s p k a h = let b = count-placed t s p k (row-of t s a) (is-place t s p h) (empty-place t s p h) in omega arith
 
   stepped-count : (c : Call) → ((e : Test) → In e (tests c) → T (not (broken t e))) → count (applies (steps t c) t) + removes t c ≡ count t + makes t c
   stepped-count (admit s n) m = entered-count _
   stepped-count (register o n) m = entered-count _
   stepped-count (create s o) m = entered-count _
   stepped-count (make-pipe s o r w) m = pipe-count s o r w m
-  stepped-count (opens d s o p) m = let h = m (vacant s p) (inr (inr (inl refl))) in let a = count-placed t s p (handle d o)
-      (row-of t s (m (alive s) (inl refl))) (is-place t s p h) (empty-place t s p h) in omega arith
+  stepped-count (opens d s o p) m = placed-count s p (handle d o) (m (alive s) (inl refl)) (m (vacant s p) (inr (inr (inl refl))))
   stepped-count (access d s p) m = access-count d (subject s) (cell t s) (target (t .hand s p))
   stepped-count (fork s c) m = fork-count s c m
   stepped-count (exec s o) m = exec-count s o (m (alive s) (inl refl))
   stepped-count (close s p) m = close-count s p m
   stepped-count (exit s) m = exit-count s m
   stepped-count (retire o) m = entered-count _
+  stepped-count (maps s o p) m = ap (λ (k : ℕ). k + 0) (count-at (apply (hold s p (some (mapping o))) t) _)
+      ∙ placed-count s p (mapping o) (m (alive s) (inl refl)) (m (vacant s p) (inr (inr (inr (inl refl)))))
   stepped-count (mark s p) m = mark-count s p (m (alive s) (inl refl)) (m (taken s p) (inr (inl refl)))
   stepped-count (freeze n) m = ap (λ (l : List Handle). length l + 0) (handles-by (apply (freezes n) t) t refl)
   stepped-count unknown m = refl
