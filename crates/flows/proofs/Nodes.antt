@@ -26,7 +26,7 @@ use Rattle.need.specs.Least.{node as nth}
 use Rattle.tables.specs.declared.Subject.{Subject}
 use Rattle.tables.specs.declared.Object.{Object}
 use Rattle.tables.specs.declared.Handle.{Handle}
-use Rattle.tables.specs.Records.{object-entry, held, no-object, no-handle, tables-of}
+use Rattle.tables.specs.Records.{object-entry, reads-by, held, no-object, no-handle, tables-of}
 use Rattle.tables.specs.Needs.{node, Needed}
 use Rattle.flows.specs.Working.{alike, end-by, Ends, demanded-by, Marked}
 
@@ -71,10 +71,10 @@ tip-in-range start s j a b = go start (j .dir)
 -- an end of a record of subject s is that end of its flow
 edge-node : (start : Bool) (h : Handle) (k : Held) (s : ℕ) → held h ≡ some k → k .to < 64 → s < 32
     → end-by h s start % 96 ≡ node (tip start (flow (subject s) k))
-edge-node start h k s q l ls = go (eqb (h .way) 0) (eqb (h .way) 1) q
+edge-node start h k s q l ls = go (eqb (h .way) 0) (reads-by (h .way)) q
   where
     of : Bool → Held
-    of w = record { dir = cond w reading writing; to = h .object; marked = not (eqb (h .mark) 0) }
+    of w = record { dir = cond w reading writing; to = h .object; marked = not (eqb (h .mark) 0); mapped = eqb (h .way) 3 }
 
     at : (w start : Bool) → h .object < 64
         → cond (alike w start) (32 + h .object) s % 96 ≡ node (tip start (flow (subject s) (of w)))

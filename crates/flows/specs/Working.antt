@@ -8,14 +8,14 @@ use lib.Dec.{ltb, eqb}
 use Rattle.tables.specs.declared.Subject.{Subject}
 use Rattle.tables.specs.declared.Object.{Object}
 use Rattle.tables.specs.declared.Handle.{Handle}
-use Rattle.tables.specs.Records.{no-object, no-handle}
+use Rattle.tables.specs.Records.{reads-by, no-object, no-handle}
 
 abbrev pub alike : Bool → Bool → Bool
 alike a b = cond a b (not b)
 
 -- the start or the end of the flow of a handle of subject s
 abbrev pub end-by : Handle → ℕ → Bool → ℕ
-end-by h s start = cond (eqb (h .way) 0) 0 (cond (ltb (h .object) 64) (cond (alike (eqb (h .way) 1) start) (32 + h .object) s) 0)
+end-by h s start = cond (eqb (h .way) 0) 0 (cond (ltb (h .object) 64) (cond (alike (reads-by (h .way)) start) (32 + h .object) s) 0)
 
 -- r has the start, or the end, of the flow of each handle
 pub record Ends (hs : List Handle) (start : Bool) (r : List ℕ) : Type 0 where

@@ -22,10 +22,10 @@ use tables::Handle;
 use tables::OBJECTS;
 use tables::Object;
 use tables::PLACES;
-use tables::READS;
 use tables::SUBJECTS;
 use tables::Subject;
 use tables::THINGS;
+use tables::looks;
 
 fn same(a: bool, b: bool) -> bool
     ensures { λ r. ⌜ r ≡ alike a b ⌝ }
@@ -47,7 +47,7 @@ fn end(h: Handle, s: usize, start: bool) -> u8
     if OBJECTS as u8 <= h.object {
         return 0;
     }
-    let reads = h.way == READS;
+    let reads = looks::is_reading(h.way);
     if same(reads, start) {
         return SUBJECTS as u8 + h.object;
     }

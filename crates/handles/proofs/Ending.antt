@@ -21,8 +21,9 @@ use Rattle.tables.specs.declared.Subject.{Subject}
 use Rattle.tables.specs.declared.Object.{Object}
 use Rattle.tables.specs.declared.Handle.{Handle}
 use Rattle.tables.specs.Records.{object-entry, no-object, no-handle, entries, hands, tables-of}
-use Rattle.handles.specs.Working.{on, slot-of, open-by, Mapping, outlived-by}
+use Rattle.handles.specs.Working.{on, slot-of, Hits, outlived-by}
 use Rattle.tables.proofs.Maps.{Mapped}
+use Rattle.tables.proofs.Below.{below-same}
 use Rattle.handles.proofs.Opening.{open-is}
 
 -- ── the map of open objects ──
@@ -42,29 +43,10 @@ slot-low h = go (eqb (h .way) 0) (ltb (h .object) 64) refl
     go false true q = omega (arith, ltb-true (h .object) 64 q)
     go false false q = omega arith
 
-pub mapping-none : (hs : List Handle) → Mapping hs (replicate 65 false) 0
-mapping-none hs = record { long = length-replicate 65 false; at = λ o l. getD-replicate 65 o false false (omega arith) }
-
-pub mapping-more : (hs : List Handle) (r : List Bool) (i : ℕ) → Mapping hs r i → Mapping hs (set r (slot-of (getD hs i no-handle)) true) (i + 1)
-mapping-more hs r i p = record { long = simp length-set (p .long); at = λ o l. rw add-one (at o l (ℕ-discrete o (slot-of h))) }
-  where
-    h : Handle
-    h = getD hs i no-handle
-
-    or-same : (a b : Bool) → b ≡ true → true ≡ (a || b)
-    or-same true b q = refl
-    or-same false b q = sym q
-
-    or-none : (a b : Bool) → b ≡ false → a ≡ (a || b)
-    or-none true b q = refl
-    or-none false b q = sym q
-
-    at : (o : ℕ) → o < 64 → Dec (o ≡ slot-of h) → getD (set r (slot-of h) true) o false ≡ (open-by hs i o || on h o)
-    at o l (yes e) = ap (λ (z : ℕ). getD (set r (slot-of h) true) z false) e
-        ∙ getD-set-same r (slot-of h) true false (omega (arith, p .long, slot-low h))
-        ∙ or-same (open-by hs i o) (on h o) (sym (slot-on h o l) ∙ eq-eqb (slot-of h) o (sym e))
-    at o l (no ne) = getD-set-other r (slot-of h) o true false ne ∙ p .at o l
-        ∙ or-none (open-by hs i o) (on h o) (sym (slot-on h o l) ∙ ne-eqb (slot-of h) o (λ z. ne (sym z)))
+-- what is marked is what is open
+pub open-hits : (hs : List Handle) (r : List Bool) → Hits (λ j. slot-of (getD hs j no-handle)) 65 r 512 → (o : ℕ) → o < 64
+    → getD r o false ≡ open-on (handles (with-hand empty (hands hs))) o
+open-hits hs r m o l = m .at o (omega arith) ∙ below-same 512 _ _ (λ i h. slot-on (getD hs i no-handle) o l) ∙ open-is hs o
 
 -- ── the end of a pipe ──
 ended-entry : (before after : List Held) (n : ℕ) (x : Object) (was is : Bool) → was ≡ open-on before n → is ≡ open-on after n
@@ -97,7 +79,7 @@ abbrev pub left-at : List Bool → List Bool → ℕ → Object → Object
 left-at was is j x = outlived-by x (getD was j false) (getD is j false)
 
 pub reaped-tables : (rest : Tables) (ss : List Subject) (os r : List Object) (hs₀ hs : List Handle) (before : List Held) (was is : List Bool) (i : ℕ) → 64 ≤ i
-    → Mapped no-object (left-at was is) os r i → length os ≡ 64 → Mapping hs₀ was 512 → Mapping hs is 512
+    → Mapped no-object (left-at was is) os r i → length os ≡ 64 → Hits (λ j. slot-of (getD hs₀ j no-handle)) 65 was 512 → Hits (λ j. slot-of (getD hs j no-handle)) 65 is 512
     → before ≡ handles (with-hand empty (hands hs₀))
     → tables-of rest ss r hs ≡ reap before (tables-of rest ss os hs)
 unfolding tables-of handles ended
@@ -107,7 +89,7 @@ reaped-tables rest ss os r hs₀ hs before was is i full m lo pw pi eb = ap (wit
     after = handles (tables-of rest ss os hs)
 
     open-before : (o : ℕ) → o < 64 → getD was o false ≡ open-on before o
-    open-before o l = rw eb (pw .at o l ∙ open-is hs₀ o)
+    open-before o l = rw eb (open-hits hs₀ was pw o l)
 
     at : (x : Thing) → entries ss r x ≡ cond (ended before after x (entries ss os x)) none (entries ss os x)
     at (subject n) = refl
@@ -116,5 +98,5 @@ reaped-tables rest ss os r hs₀ hs before was is i full m lo pw pi eb = ap (wit
         go : Dec (n < 64) → object-entry (getD r n no-object) ≡ cond (ended before after (object n) (object-entry (getD os n no-object))) none
             (object-entry (getD os n no-object))
         go (yes l) = ap object-entry (m .done n (omega arith)) ∙ ended-entry before after n (getD os n no-object) (getD was n false) (getD is n false)
-            (open-before n l) (pi .at n l ∙ open-is hs n)
+            (open-before n l) (open-hits hs is pi n l)
         go (no nl) = rw (List·getD-eq-default r no-object {n = n} (omega (arith, m .long)), List·getD-eq-default os no-object {n = n} (omega arith))

@@ -1,6 +1,7 @@
 -- The row of one subject: sixteen places read one by one are its handles, and stored one by one are a row of the tables. Assumes nothing.
-use mathlib.Core.Path.{_≡_, refl, ap, fun-ext}
-use mathlib.Core.Bool.{Bool, true, false}
+use mathlib.Core.Path.{_≡_, refl, sym, _∙_, ap, fun-ext}
+use mathlib.Core.Bool.{Bool, true, false, not, _||_, cond}
+use mathlib.Core.Option.{Option, none, some}
 use mathlib.Core.Logic.{_⊎_, inl, inr}
 use mathlib.Core.List.{List}
 use Prim.Native.Nat.{ℕ, _+_, _*_, _≤_, _<_}
@@ -8,15 +9,16 @@ use native.Mathlib.Omega.{arith}
 use native.Mathlib.Decide.{ℕ-discrete, decLt}
 use borrow.Author.Tests.{eq-eqb, ne-eqb, ltb-true}
 use lib.ListN.{getD}
-use lib.Dec.{ltb}
+use lib.Dec.{ltb, eqb}
 use Rattle.model.specs.Tables.{Tables, with-hand}
+use Rattle.model.specs.Tables.{Handle as Held}
 use Rattle.model.specs.Steps.{row}
 use Rattle.tables.specs.declared.Subject.{Subject}
 use Rattle.tables.specs.declared.Object.{Object}
 use Rattle.tables.specs.declared.Handle.{Handle}
-use Rattle.model.specs.Calls.{unmarked}
-use Rattle.tables.specs.Records.{held, no-handle, hands, along, tables-of}
-use Rattle.handles.specs.Working.{unmarked-of}
+use Rattle.model.specs.Calls.{lasting}
+use Rattle.tables.specs.Records.{joins, held, no-handle, hands, along, tables-of}
+use Rattle.handles.specs.Working.{lasting-of}
 use Rattle.tables.proofs.Maps.{Mapped, Rowed}
 
 -- ── reading ──
@@ -28,21 +30,29 @@ row-along hs l r s i full m p = go (ltb p 16) refl
     go true e = rw (e, m .done p (omega (arith, ltb-true p 16 e)))
     go false e = rw e
 
--- ── without the marked ones ──
-unmarked-held : (h : Handle) → held (unmarked-of h) ≡ unmarked (held h)
-unmarked-held h = go (ℕ-discrete (h .way) 0) (ℕ-discrete (h .mark) 0)
+-- ── without those that an exec drops ──
+lasting-held : (h : Handle) → held (lasting-of h) ≡ lasting (held h)
+lasting-held h = go (eqb (h .mark) 0) (eqb (h .way) 3) ∙ sym (dropped (eqb (h .way) 0))
   where
-    go : Dec (h .way ≡ 0) → Dec (h .mark ≡ 0) → held (unmarked-of h) ≡ unmarked (held h)
-    go (yes w) (yes m) = rw (m, w)
-    go (yes w) (no m) = rw (ne-eqb (h .mark) 0 m, w)
-    go (no w) (yes m) = rw (m, ne-eqb (h .way) 0 w)
-    go (no w) (no m) = rw (ne-eqb (h .mark) 0 m, ne-eqb (h .way) 0 w)
+    -- the handle, or none where it is dropped
+    dropped : (z : Bool) → lasting (cond z none (some (joins h))) ≡ cond (not (eqb (h .mark) 0) || eqb (h .way) 3) none (cond z none (some (joins h)))
+    dropped false = refl
+    dropped true = either (not (eqb (h .mark) 0) || eqb (h .way) 3)
+      where
+        either : (b : Bool) → _≡_ {A = Option Held} none (cond b none none)
+        either true = refl
+        either false = refl
 
-pub unmarked-along : (l r : List Handle) (i : ℕ) → 16 ≤ i → Mapped no-handle (λ j x. unmarked-of x) l r i → (p : ℕ) → along r p ≡ unmarked (along l p)
-unmarked-along l r i full m p = go (ltb p 16) refl
+    go : (a d : Bool) → held (cond a (cond d no-handle h) no-handle) ≡ cond (not a || d) none (held h)
+    go true true = refl
+    go true false = refl
+    go false d = refl
+
+pub lasting-along : (l r : List Handle) (i : ℕ) → 16 ≤ i → Mapped no-handle (λ j x. lasting-of x) l r i → (p : ℕ) → along r p ≡ lasting (along l p)
+lasting-along l r i full m p = go (ltb p 16) refl
   where
-    go : (b : Bool) → ltb p 16 ≡ b → along r p ≡ unmarked (along l p)
-    go true e = rw (e, m .done p (omega (arith, ltb-true p 16 e))) (unmarked-held (getD l p no-handle))
+    go : (b : Bool) → ltb p 16 ≡ b → along r p ≡ lasting (along l p)
+    go true e = rw (e, m .done p (omega (arith, ltb-true p 16 e))) (lasting-held (getD l p no-handle))
     go false e = rw e
 
 -- ── storing ──

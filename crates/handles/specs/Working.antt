@@ -9,15 +9,15 @@ use Rattle.tables.specs.declared.Subject.{Subject}
 use Rattle.tables.specs.declared.Object.{Object}
 use Rattle.tables.specs.declared.Handle.{Handle}
 use Rattle.tables.specs.Records.{no-object, no-handle}
-use Rattle.tables.specs.Working.{some-below}
+use Rattle.tables.specs.Working.{some-below, fallen-by}
 
 -- h, of the subject, or an empty record where it dangles
 abbrev pub kept-of : Handle → Subject → Object → Handle
 kept-of h s o = cond (eqb (s .live) 0) no-handle (cond (ltb (h .object) 64) (cond (eqb (o .kind) 0) no-handle h) no-handle)
 
--- h, or an empty record where it is marked
-abbrev pub unmarked-of : Handle → Handle
-unmarked-of h = cond (eqb (h .mark) 0) h no-handle
+-- h, or an empty record where it is marked or a mapping
+abbrev pub lasting-of : Handle → Handle
+lasting-of h = cond (eqb (h .mark) 0) (cond (eqb (h .way) 3) no-handle h) no-handle
 
 abbrev pub on : Handle → ℕ → Bool
 on h o = cond (eqb (h .way) 0) false (eqb (h .object) o)
@@ -29,9 +29,23 @@ slot-of h = cond (eqb (h .way) 0) 64 (cond (ltb (h .object) 64) (h .object) 64)
 abbrev pub open-by : List Handle → ℕ → ℕ → Bool
 open-by hs i o = some-below i (λ j. on (getD hs j no-handle) o)
 
-pub record Mapping (hs : List Handle) (r : List Bool) (i : ℕ) : Type 0 where
-  pub long : length r ≡ 65
-  pub at : (o : ℕ) → o < 64 → getD r o false ≡ open-by hs i o
+-- of the numbers below n, r marks those that g gives for some number below i
+pub record Hits (g : ℕ → ℕ) (n : ℕ) (r : List Bool) (i : ℕ) : Type 0 where
+  pub long : length r ≡ n
+  pub at : (x : ℕ) → x < n → getD r x false ≡ some-below i (λ j. eqb (g j) x)
 
 abbrev pub outlived-by : Object → Bool → Bool → Object
 outlived-by x was is = cond (ltb (x .kind) 2) x (cond is x (cond was no-object x))
+
+-- ── mappings ──
+-- s where h is a mapping on object o, 32 where it is not
+abbrev pub reader-slot : Handle → ℕ → ℕ → ℕ
+reader-slot h o s = cond (eqb (h .way) 3) (cond (eqb (h .object) o) s 32) 32
+
+-- x, or x once it has read something of level l
+abbrev pub taken-by : Subject → Bool → ℕ → Subject
+taken-by x reads l = cond reads (fallen-by x l) x
+
+-- x and y are live, and y has the smaller level
+abbrev pub sank-by : Subject → Subject → Bool
+sank-by x y = cond (eqb (x .live) 0) false (cond (eqb (y .live) 0) false (ltb (y .level) (x .level)))

@@ -1,26 +1,30 @@
-// Whole arrays of handles: those that dangle, those on one object, the row of one subject, the pipes that end.
+// Whole arrays of handles: those that dangle, those on one object, the row of one subject, the pipes that end. Mappings are in `mappings`.
 ghost use mathlib.Core.Path.{_≡_};
 ghost use mathlib.Core.List.{List};
 ghost use Prim.Native.Nat.{ℕ, _<_};
 ghost use Rattle.model.specs.Tables.{Tables, clean, empty, with-hand, open-on};
 ghost use Rattle.model.specs.Tables.{handles as all-handles};
 ghost use Rattle.model.specs.Steps.{reap, row};
-ghost use Rattle.model.specs.Calls.{unmarked};
+ghost use Rattle.model.specs.Calls.{lasting};
 ghost use Rattle.tables.specs.declared.Subject.{Subject};
 ghost use Rattle.tables.specs.declared.Object.{Object};
-ghost use Rattle.tables.specs.Records.{hands, along, tables-of};
+ghost use lib.ListN.{getD};
+ghost use Rattle.tables.specs.Records.{no-handle, hands, along, tables-of};
 ghost use Rattle.tables.specs.Working.{Outlives};
-ghost use Rattle.handles.specs.Working.{kept-of, unmarked-of, on, slot-of, Mapping, outlived-by};
+ghost use Rattle.handles.specs.Working.{kept-of, lasting-of, on, slot-of, Hits, outlived-by};
 use tables::EMPTY;
 use tables::FREE;
 use tables::HANDLES;
 use tables::Handle;
+use tables::MAPS;
 use tables::OBJECTS;
 use tables::Object;
 use tables::PIPE;
 use tables::PLACES;
 use tables::SUBJECTS;
 use tables::Subject;
+
+pub mod mappings;
 
 // ---- tables that no calls made ----
 
@@ -133,7 +137,7 @@ fn slot(h: Handle) -> usize
 
 // Of each object, whether a handle is open on it. The last element stands for none.
 fn open_map(handles: [Handle; HANDLES]) -> [bool; OBJECTS + 1]
-    ensures { λ r. ⌜ Mapping handles r 512 ⌝ }
+    ensures { λ r. ⌜ Hits (λ j. slot-of (getD handles j no-handle)) 65 r 512 ⌝ }
 {
     let mut r = [false; OBJECTS + 1];
     let mut i: usize = 0;
@@ -228,29 +232,36 @@ pub fn with_row(handles: [Handle; HANDLES], s: usize, places: [Handle; PLACES]) 
     r
 }
 
-// A handle record, or an empty one where it is marked.
-fn unless_marked(h: Handle) -> Handle
-    ensures { λ r. ⌜ r ≡ unmarked-of h ⌝ }
+// A handle record, or an empty one where it is marked or a mapping.
+fn unless_dropped(h: Handle) -> Handle
+    ensures { λ r. ⌜ r ≡ lasting-of h ⌝ }
 {
-    if h.mark == 0 {
-        return h;
+    if h.mark != 0 {
+        return Handle {
+            way: EMPTY,
+            object: 0,
+            mark: 0,
+        };
     }
-    Handle {
-        way: EMPTY,
-        object: 0,
-        mark: 0,
+    if h.way == MAPS {
+        return Handle {
+            way: EMPTY,
+            object: 0,
+            mark: 0,
+        };
     }
+    h
 }
 
-// The places of one subject, those with a marked handle emptied.
-pub fn unmarked(places: [Handle; PLACES]) -> [Handle; PLACES]
-    ensures { λ r. ⌜ ((p : ℕ) → along r p ≡ unmarked (along places p)) ⌝ }
+// The places of one subject after an exec: those with a marked handle or a mapping emptied.
+pub fn lasting(places: [Handle; PLACES]) -> [Handle; PLACES]
+    ensures { λ r. ⌜ ((p : ℕ) → along r p ≡ lasting (along places p)) ⌝ }
 {
     let mut r = places;
     let mut p: usize = 0;
     while p < PLACES {
         let h = r[p];
-        let x = unless_marked(h);
+        let x = unless_dropped(h);
         r[p] = x;
         p += 1;
     }

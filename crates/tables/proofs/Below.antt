@@ -1,5 +1,5 @@
 -- A test that holds of some of the first n numbers, or of none. Assumes nothing.
-use mathlib.Core.Path.{_≡_, refl, sym, subst}
+use mathlib.Core.Path.{_≡_, refl, sym, ap₂, subst}
 use mathlib.Core.Bool.{Bool, true, false, _||_}
 use mathlib.Core.Logic.{_⊎_, inl, inr}
 use Prim.Native.Nat.{ℕ, zero, suc, _<_}
@@ -30,6 +30,10 @@ some-at n f i l e = is-true (some-below n f) (below-some n f i l (subst T (sym e
 
 pub none-below : (n : ℕ) (f : ℕ → Bool) → ((i : ℕ) → i < n → f i ≡ false) → some-below n f ≡ false
 none-below n f h = is-false (some-below n f) (not-T (some-below n f) (λ t. let r = some-of-below n f t in subst T (h (r .0) (r .1)) (r .2)))
+
+pub below-same : (n : ℕ) (f g : ℕ → Bool) → ((i : ℕ) → i < n → f i ≡ g i) → some-below n f ≡ some-below n g
+below-same zero f g h = refl
+below-same (suc n) f g h = ap₂ (λ (a b : Bool). a || b) (below-same n f g (λ i l. h i (omega arith))) (h n (omega arith))
 
 -- two tests that hold together
 pub same-test : (a b : Bool) → (T a → T b) → (T b → T a) → a ≡ b

@@ -19,9 +19,9 @@ use Rattle.model.specs.Calls.{alive, new, present, no-pipe, leveled, freezable,
 use Rattle.tables.specs.declared.Subject.{Subject}
 use Rattle.tables.specs.declared.Object.{Object}
 use Rattle.tables.specs.declared.Handle.{Handle}
-use Rattle.tables.specs.Records.{subject-entry, object-entry, held}
+use Rattle.tables.specs.Records.{subject-entry, object-entry, reads-by, held}
 use Rattle.tables.specs.Refusing.{direction}
-use Rattle.tables.specs.Working.{used-subject, used-object, used-place, frozen-by}
+use Rattle.tables.specs.Working.{used-subject, used-object, used-place, writes-by, frozen-by}
 
 and-false : (a : Bool) → (a && false) ≡ false
 and-false true = refl
@@ -82,21 +82,25 @@ module _ (t : Tables) (s p : ℕ) (h : Handle) (q : t .hand s p ≡ held h) wher
   facing-is : (d : Dir) (b : Bool) → turned d (held h) ≡ b → broken t (facing d s p) ≡ b
   facing-is d b e = ap (turned d) q ∙ e
 
-  pub faces-out : broken t (facing reading s p) ≡ ltb 1 (h .way)
-  faces-out = facing-is reading (ltb 1 (h .way)) (go (ℕ-discrete (h .way) 0) (ℕ-discrete (h .way) 1))
+  pub faces-out : broken t (facing reading s p) ≡ writes-by (h .way)
+  faces-out = facing-is reading (writes-by (h .way)) (go (eqb (h .way) 0) (reads-by (h .way)))
     where
-      go : Dec (h .way ≡ 0) → Dec (h .way ≡ 1) → turned reading (held h) ≡ ltb 1 (h .way)
-      go (yes e) d = rw e
-      go (no n) (yes e) = rw e
-      go (no n) (no m) = rw (ne-eqb (h .way) 0 n, ne-eqb (h .way) 1 m, lt-ltb 1 (h .way) (omega arith))
+      go : (a b : Bool) → turned reading (cond a none (some (record { dir = cond b reading writing; to = h .object; marked = not (eqb (h .mark) 0); mapped = eqb (h .way) 3 })))
+          ≡ cond a false (not b)
+      go true b = refl
+      go false true = refl
+      go false false = refl
 
-  pub faces-in : broken t (facing writing s p) ≡ eqb (h .way) 1
-  faces-in = facing-is writing (eqb (h .way) 1) (go (ℕ-discrete (h .way) 0) (ℕ-discrete (h .way) 1))
+  pub faces-in : broken t (facing writing s p) ≡ reads-by (h .way)
+  faces-in = facing-is writing (reads-by (h .way)) (go (ℕ-discrete (h .way) 0))
     where
-      go : Dec (h .way ≡ 0) → Dec (h .way ≡ 1) → turned writing (held h) ≡ eqb (h .way) 1
-      go (yes e) d = rw e
-      go (no n) (yes e) = rw e
-      go (no n) (no m) = rw (ne-eqb (h .way) 0 n, ne-eqb (h .way) 1 m)
+      of : (b : Bool) → turned writing (some (record { dir = cond b reading writing; to = h .object; marked = not (eqb (h .mark) 0); mapped = eqb (h .way) 3 })) ≡ b
+      of true = refl
+      of false = refl
+
+      go : Dec (h .way ≡ 0) → turned writing (held h) ≡ reads-by (h .way)
+      go (yes e) = rw e
+      go (no n) = rw (ne-eqb (h .way) 0 n) (of (reads-by (h .way)))
 
 -- ── levels ──
 pub high-is : (t : Tables) (n : ℕ) → broken t (leveled n) ≡ ltb 15 n

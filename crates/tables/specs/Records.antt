@@ -1,6 +1,6 @@
 -- The records of bytes, and arrays of them, seen as the tables of the rules: the only bridge between the code's arrays and the model.
 -- States RULES T13, T14, T28 to T31 and T36; what of a record is not read here is the free part of RULES T23. Assumes nothing.
-use mathlib.Core.Bool.{not, cond}
+use mathlib.Core.Bool.{Bool, not, _||_, cond}
 use mathlib.Core.Option.{Option, none, some}
 use mathlib.Core.List.{List}
 use Prim.Native.Nat.{ℕ, _+_, _*_}
@@ -24,9 +24,12 @@ subject-entry x = cond (eqb (x .live) 0) none (some (entry running (label (x .le
 abbrev pub object-entry : Object → Option Entry
 object-entry x = cond (eqb (x .kind) 0) none (some (entry (cond (eqb (x .kind) 1) file pipe) (label (x .level))))
 
--- RULES T31, T36: way 0 is an empty place, 1 reads, any other writes; mark 0 is not marked, any other is
+-- RULES T31, T36: way 0 is an empty place, 1 reads, 3 is a mapping and reads, any other writes; mark 0 is not marked, any other is
+abbrev pub reads-by : ℕ → Bool
+reads-by w = eqb w 1 || eqb w 3
+
 abbrev pub joins : Handle → Held
-joins h = record { dir = cond (eqb (h .way) 1) reading writing; to = h .object; marked = not (eqb (h .mark) 0) }
+joins h = record { dir = cond (reads-by (h .way)) reading writing; to = h .object; marked = not (eqb (h .mark) 0); mapped = eqb (h .way) 3 }
 
 abbrev pub held : Handle → Option Held
 held h = cond (eqb (h .way) 0) none (some (joins h))

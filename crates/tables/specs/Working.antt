@@ -9,7 +9,7 @@ use Rattle.model.specs.Tables.{empty, with-hand, handles, open-on}
 use Rattle.tables.specs.declared.Subject.{Subject}
 use Rattle.tables.specs.declared.Object.{Object}
 use Rattle.tables.specs.declared.Handle.{Handle}
-use Rattle.tables.specs.Records.{no-subject, no-object, no-handle, hands}
+use Rattle.tables.specs.Records.{reads-by, no-subject, no-object, no-handle, hands}
 
 abbrev pub some-below : ℕ → (ℕ → Bool) → Bool
 some-below zero f = false
@@ -41,6 +41,10 @@ used-object o y = cond (ltb o 64) (not (eqb (y .kind) 0)) true
 
 abbrev pub used-place : ℕ → Handle → Bool
 used-place p h = cond (ltb p 16) (not (eqb (h .way) 0)) true
+
+-- a handle of this way is for writing; an empty place has none
+abbrev pub writes-by : ℕ → Bool
+writes-by w = cond (eqb w 0) false (not (reads-by w))
 
 abbrev pub frozen-by : ℕ → Bool → Object → Bool
 frozen-by f reads y = cond reads false (ltb f 16 && (eqb (y .kind) 1 && leb f (y .level)))

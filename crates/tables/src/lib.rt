@@ -36,6 +36,8 @@ pub const EMPTY: u8 = 0;
 pub const READS: u8 = 1;
 
 pub const WRITES: u8 = 2;
+// A mapping: it reads.
+pub const MAPS: u8 = 3;
 
 // `live` is 0 for a number that is not in use, `mark` is 0 for a handle that is not marked.
 #[repr(C)]

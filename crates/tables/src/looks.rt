@@ -1,13 +1,16 @@
 // The record at any number that a call names, and what a record becomes where something falls.
 ghost use mathlib.Core.Path.{_≡_};
+ghost use Rattle.tables.specs.Records.{reads-by};
 ghost use Rattle.tables.specs.Working.{subject-at, object-at, handle-at, fallen-by, sunken-by};
 use crate::EMPTY;
 use crate::FILE;
 use crate::FREE;
 use crate::Handle;
+use crate::MAPS;
 use crate::OBJECTS;
 use crate::Object;
 use crate::PLACES;
+use crate::READS;
 use crate::SUBJECTS;
 use crate::Subject;
 
@@ -53,6 +56,16 @@ pub fn handle_at(s: u32, p: u32, h: Handle) -> Handle
         };
     }
     h
+}
+
+// A handle of this way reads: a mapping does, too.
+pub fn is_reading(way: u8) -> bool
+    ensures { λ r. ⌜ r ≡ reads-by way ⌝ }
+{
+    if way == READS {
+        return true;
+    }
+    way == MAPS
 }
 
 // A live subject that takes in something of this level: it falls to it if that is lower.

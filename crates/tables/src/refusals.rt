@@ -8,10 +8,10 @@ ghost use Prim.Native.Nat.{ℕ};
 ghost use Rattle.model.specs.Flow.{subject, object};
 ghost use Rattle.model.specs.Tables.{Tables, Dir, reading, writing};
 ghost use Rattle.model.specs.Invariant.{Wf};
-ghost use Rattle.model.specs.Calls.{Call, admit, register, create, make-pipe, opens, access, fork, exec, close, exit, retire, mark, freeze, thawed, broken};
+ghost use Rattle.model.specs.Calls.{Call, admit, register, create, make-pipe, opens, access, fork, exec, close, exit, retire, maps, mark, freeze, thawed, broken};
 ghost use Rattle.tables.specs.Records.{subject-entry, object-entry, held};
 ghost use Rattle.tables.specs.Refusing.{found, Refuses, Late, Refused, direction};
-ghost use Rattle.tables.specs.Working.{used-subject, used-object, used-place};
+ghost use Rattle.tables.specs.Working.{used-subject, used-object, used-place, writes-by};
 use crate::EMPTY;
 use crate::FILE;
 use crate::FREE;
@@ -22,9 +22,9 @@ use crate::OBJECTS;
 use crate::Object;
 use crate::PIPE;
 use crate::PLACES;
-use crate::READS;
 use crate::SUBJECTS;
 use crate::Subject;
+use crate::looks;
 
 // The number of the first condition that holds, in the order of the rules; 0 where none does.
 fn first(
@@ -108,6 +108,17 @@ fn place_used(p: u32, h: Handle) -> bool
     h.way != EMPTY
 }
 
+// RULES R8: a handle of this way writes; an empty place has none.
+fn is_writing(way: u8) -> bool
+    ensures { λ r. ⌜ r ≡ writes-by way ⌝ }
+{
+    if way == EMPTY {
+        return false;
+    }
+    let reads = looks::is_reading(way);
+    !reads
+}
+
 // Call 1; x stands at s.
 pub fn of_admit(s: u32, level: u32, x: Subject) -> u8
     ensures { λ r. ⌜ ((t : Tables) → Wf t → t .at (subject s) ≡ subject-entry x → Refuses t (admit s level) r) ⌝ }
@@ -162,6 +173,18 @@ pub fn of_open(p: u32, x: Subject, y: Object, h: Handle) -> u8
     first(absent, false, missing, false, false, place, false)
 }
 
+// Call 14; x stands at s, y at o, h at place p.
+pub fn of_map(p: u32, x: Subject, y: Object, h: Handle) -> u8
+    ensures { λ r. ⌜ ((t : Tables) (s o : ℕ) → Wf t → t .at (subject s) ≡ subject-entry x → t .at (object o) ≡ object-entry y →
+        t .hand s p ≡ held h → Refuses t (maps s o p) r) ⌝ }
+{
+    let absent = x.live == 0;
+    let missing = y.kind == FREE;
+    let pipe = PIPE <= y.kind;
+    let place = place_used(p, h);
+    first(absent, false, missing, pipe, false, place, false)
+}
+
 // Call 7; x stands at s, h at place p.
 pub fn of_read(x: Subject, h: Handle) -> u8
     ensures { λ r. ⌜ ((t : Tables) (s p : ℕ) → Wf t → t .at (subject s) ≡ subject-entry x → t .hand s p ≡ held h →
@@ -169,7 +192,7 @@ pub fn of_read(x: Subject, h: Handle) -> u8
 {
     let absent = x.live == 0;
     let empty = h.way == EMPTY;
-    let turned = READS < h.way;
+    let turned = is_writing(h.way);
     first(absent, false, false, false, false, empty, turned)
 }
 
@@ -180,7 +203,7 @@ pub fn of_write(x: Subject, h: Handle) -> u8
 {
     let absent = x.live == 0;
     let empty = h.way == EMPTY;
-    let turned = h.way == READS;
+    let turned = looks::is_reading(h.way);
     first(absent, false, false, false, false, empty, turned)
 }
 

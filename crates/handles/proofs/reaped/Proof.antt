@@ -55,7 +55,8 @@ loop-again c = (omega arith, mapped-more no-object _ _ _ _ _ (c .before .before 
 
 returns : tie.Need-returns Inv-loop μ-loop
 returns c = λ rest ss t e.
-    reaped-tables rest ss _ _ _ _ _ _ _ _ (c .loop-test .left) (c .before .loop .inv .1) (search (needs, unmapped))
+    let a = c .before .before .before .before .args in
+    reaped-tables rest ss _ _ (a .before) (a .after) _ _ _ _ (c .loop-test .left) (c .before .loop .inv .1) (search (needs, unmapped))
     (c .before .before .before .open-map .ensures) (c .before .before .open-map2 .ensures) e
 
 pub reaped-spec : {M : Type 1} → statement M

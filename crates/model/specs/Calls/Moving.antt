@@ -1,22 +1,25 @@
 -- The laws of `rereads`, the reads that follow a write to a mapped file: each is a read along a mapping, and what such reads keep, all of them
 -- keep. And the laws of `lowers`: whether some level got smaller. Assumes nothing.
-use mathlib.Core.Path.{_≡_, refl, sym, _∙_, ap, subst}
-use mathlib.Core.Bool.{Bool, true, false, not, _&&_}
+use mathlib.Core.Path.{_≡_, refl, sym, _∙_, ap, subst, fun-ext}
+use mathlib.Core.Bool.{Bool, true, false, not, _&&_, cond}
 use mathlib.Core.Logic.{_⊎_, inl, inr}
 use mathlib.Core.Option.{Option, none, some, Option·some-injective}
 use mathlib.Core.List.{List, []}
-use Prim.Native.Nat.{ℕ, _<_}
-use lib.Dec.{T, T-not, not-T}
+use Prim.Native.Nat.{ℕ, zero, suc, _<_}
+use native.Mathlib.Omega.{arith}
+use native.Mathlib.Decide.{ℕ-discrete, decLt}
+use borrow.Author.Tests.{lt-ltb, le-ltb, eq-eqb, ne-eqb}
+use lib.Dec.{T, T-not, not-T, ltb}
 use Rattle.model.specs.Bools.{test, both-of, not-not, is-true, is-false}
 use Rattle.model.specs.Lists.{In, each, keep}
 use Rattle.model.specs.Lists.Laws.{each-in, keep-cases, any-of, any-at}
 use Rattle.model.specs.Label.{leq, _⊑_}
 use Rattle.model.specs.Flow.{Thing, subject, object, same}
 use Rattle.model.specs.Flow.Laws.{same→eq}
-use Rattle.model.specs.Tables.{Entry, Handle, Tables, subjects, places, in-range, a-file, cell, things, one, handles-of}
-use Rattle.model.specs.Tables.Laws.{of-one, thing-listed}
-use Rattle.model.specs.Steps.{reads, Step, mix, apply, applies}
-use Rattle.model.specs.Steps.Laws.{applies-keep}
+use Rattle.model.specs.Tables.{Entry, Handle, Tables, with-at, subjects, places, in-range, a-file, cell, things, one, handles-of}
+use Rattle.model.specs.Tables.Laws.{cell-self, of-one, thing-listed}
+use Rattle.model.specs.Steps.{reads, Step, mix, put, fall, apply, applies}
+use Rattle.model.specs.Steps.Laws.{applies-append, applies-keep}
 use Rattle.model.specs.Calls.{has-mapped, rereads, smaller, lowers}
 
 -- ── has-mapped ──
@@ -70,6 +73,72 @@ pub rereads-keep : (P : Tables → Type 0) (t : Tables) (x : Thing)
     → ((s : ℕ) → Through t x s → (u : Tables) → P u → P (apply (mix reads (subject s) x (cell t s) x) u)) → (u : Tables) → P u → P (applies (rereads t x) u)
 rereads-keep P t x f u p = applies-keep P (rereads t x)
     (λ k i u p. let r = reread-of t x k i in subst (λ (j : Step). P (apply j u)) (r .is) (f (r .by) (r .through) u p)) u p
+
+-- ── all of them at once ──
+and-none : (a : Bool) → (a && false) ≡ false
+and-none true = refl
+and-none false = refl
+
+below-next : (s n : ℕ) → (s ≡ n → ⊥) → ltb s n ≡ ltb s (suc n)
+below-next s n ne = go (decLt s n)
+  where
+    go : Dec (s < n) → ltb s n ≡ ltb s (suc n)
+    go (yes l) = rw (lt-ltb s n l, lt-ltb s (suc n) (omega arith))
+    go (no h) = rw (le-ltb s n (omega arith), le-ltb s (suc n) (omega (arith, ne)))
+
+-- the entries once the subjects below n that have object o mapped have read it
+abbrev pub reread-by : Tables → ℕ → ℕ → Thing → Option Entry
+reread-by t o n (subject s) = cond (ltb s n && has-mapped t (object o) s) (fall (subject s) (t .at (subject s)) (t .at (object o))) (t .at (subject s))
+reread-by t o n (object k) = t .at (object k)
+
+pub rereads-none : (t : Tables) (x : Thing) → T (not (a-file x (t .at x))) → rereads t x ≡ []
+unfolding rereads
+rereads-none t x n = ap (λ (b : Bool). elim b as (λ _. List Step) [ true ↦ each subjects (λ s. keep (has-mapped t x s) (mix reads (subject s) x (cell t s) x) []) | false ↦ [] ])
+    (is-false (a-file x (t .at x)) n)
+
+pub rereads-file : (t : Tables) (o : ℕ) → T (a-file (object o) (t .at (object o))) → applies (rereads t (object o)) t ≡ with-at t (reread-by t o subjects)
+unfolding rereads
+rereads-file t o f = ap (λ (b : Bool). applies (elim b as (λ _. List Step) [ true ↦ each subjects at | false ↦ [] ]) t)
+    (is-true (a-file (object o) (t .at (object o))) f) ∙ all subjects
+  where
+    at : ℕ → List Step
+    at s = keep (has-mapped t (object o) s) (mix reads (subject s) (object o) (cell t s) (object o)) []
+
+    -- one more subject that did not have it mapped, and one that did
+    skips : (n : ℕ) → has-mapped t (object o) n ≡ false → (y : Thing) → reread-by t o n y ≡ reread-by t o (suc n) y
+    skips n h (object k) = refl
+    skips n h (subject s) = go (ℕ-discrete n s)
+      where
+        go : Dec (n ≡ s) → reread-by t o n (subject s) ≡ reread-by t o (suc n) (subject s)
+        go (yes e) = rw (← e, h, and-none (ltb n n), and-none (ltb n (suc n)))
+        go (no ne) = rw (below-next s n (λ e. ne (sym e)))
+
+    reads-too : (n : ℕ) → has-mapped t (object o) n ≡ true → (y : Thing) → put (reread-by t o n) (subject n) (fall (subject n) (t .at (subject n)) (t .at (object o))) y
+        ≡ reread-by t o (suc n) y
+    reads-too n h (object k) = refl
+    reads-too n h (subject s) = go (ℕ-discrete n s)
+      where
+        go : Dec (n ≡ s) → put (reread-by t o n) (subject n) (fall (subject n) (t .at (subject n)) (t .at (object o))) (subject s) ≡ reread-by t o (suc n) (subject s)
+        go (yes e) = rw (← e, eq-eqb n n refl, h, lt-ltb n (suc n) (omega arith))
+        go (no ne) = rw (ne-eqb n s ne, below-next s n (λ e. ne (sym e)))
+
+    next : (n : ℕ) (b : Bool) → has-mapped t (object o) n ≡ b
+        → applies (keep b (mix reads (subject n) (object o) (cell t n) (object o)) []) (with-at t (reread-by t o n)) ≡ with-at t (reread-by t o (suc n))
+    next n false h = ap (with-at t) (fun-ext (skips n h))
+    next n true h = ap (λ (c : Thing). with-at t (put (reread-by t o n) c (fall c (reread-by t o n c) (t .at (object o))))) (cell-self t n)
+        ∙ ap (λ (e : Option Entry). with-at t (put (reread-by t o n) (subject n) (fall (subject n) e (t .at (object o))))) before
+        ∙ ap (with-at t) (fun-ext (reads-too n h))
+      where
+        before : reread-by t o n (subject n) ≡ t .at (subject n)
+        before = rw (le-ltb n n (omega arith))
+
+    all : (n : ℕ) → applies (each n at) t ≡ with-at t (reread-by t o n)
+    all zero = ap (with-at t) (fun-ext none-yet)
+      where
+        none-yet : (y : Thing) → t .at y ≡ reread-by t o 0 y
+        none-yet (subject s) = rw (le-ltb s 0 (omega arith))
+        none-yet (object k) = refl
+    all (suc n) = applies-append (each n at) (at n) t ∙ ap (applies (at n)) (all n) ∙ next n (has-mapped t (object o) n) refl
 
 -- ── lowers ──
 -- a thing that is live in t and has a smaller level in u

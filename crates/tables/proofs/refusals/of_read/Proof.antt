@@ -1,10 +1,13 @@
 -- `tables::refusals::of_read` meets its contract. Assumes nothing.
-use mathlib.Core.Path.{refl}
+use mathlib.Core.Path.{refl, sym, _∙_}
 use borrow.Author.Needs.{needs}
 use Rattle.tables.proofs.Testing.{alive-is, taken-is, faces-out}
 use Rattle.tables.proofs.Finding.{alone, finds}
 use Rattle.tables.proofs.refusals.of_read.Statement.{statement}
 use Rattle.tables.proofs.refusals.of_read.Tie as tie
+
+is-writing-requires : tie.Need-is-writing-requires
+is-writing-requires c κs = search needs
 
 first-requires : tie.Need-first-requires
 first-requires c κs = search needs
@@ -21,9 +24,9 @@ returns c = λ t s p w x h.
       six = refl;
       seven = alone
           (taken-is t s p (a .h) h w);
-      eight = alone (faces-out t s p (a .h) h);
+      eight = alone (faces-out t s p (a .h) h ∙ sym (c .before .is-writing .ensures));
     })
     (c .first .ensures)
 
 pub of-read-spec : {M : Type 1} → statement M
-of-read-spec = tie.close (tie.spec first-requires returns)
+of-read-spec = tie.close (tie.spec is-writing-requires first-requires returns)

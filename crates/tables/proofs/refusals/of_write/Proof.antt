@@ -1,10 +1,13 @@
 -- `tables::refusals::of_write` meets its contract. Assumes nothing.
-use mathlib.Core.Path.{refl}
+use mathlib.Core.Path.{refl, sym, _∙_}
 use borrow.Author.Needs.{needs}
 use Rattle.tables.proofs.Testing.{alive-is, taken-is, faces-in}
 use Rattle.tables.proofs.Finding.{alone, finds}
 use Rattle.tables.proofs.refusals.of_write.Statement.{statement}
 use Rattle.tables.proofs.refusals.of_write.Tie as tie
+
+is-reading-requires : tie.Need-is-reading-requires
+is-reading-requires c κs = search needs
 
 first-requires : tie.Need-first-requires
 first-requires c κs = search needs
@@ -21,9 +24,9 @@ returns c = λ t s p w x h.
       six = refl;
       seven = alone
           (taken-is t s p (a .h) h w);
-      eight = alone (faces-in t s p (a .h) h);
+      eight = alone (faces-in t s p (a .h) h ∙ sym (c .before .is-reading .ensures));
     })
     (c .first .ensures)
 
 pub of-write-spec : {M : Type 1} → statement M
-of-write-spec = tie.close (tie.spec first-requires returns)
+of-write-spec = tie.close (tie.spec is-reading-requires first-requires returns)
