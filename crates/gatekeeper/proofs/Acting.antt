@@ -12,7 +12,8 @@ use Rattle.model.specs.Promise.{Meets}
 use Rattle.tables.specs.Refusing.{late, Refuses, Refused}
 use Rattle.gatekeeper.specs.declared.Monitor.{Monitor}
 use Rattle.gatekeeper.specs.declared.Reply.{Reply}
-use Rattle.gatekeeper.specs.View.{view, told, refuses}
+use Rattle.answers.specs.Telling.{told, refuses}
+use Rattle.gatekeeper.specs.View.{view}
 use Rattle.gatekeeper.specs.Acting.{Acts, back, settled}
 use Rattle.gatekeeper.proofs.Doing.{Does}
 

@@ -1,35 +1,38 @@
 -- What each call does and answers where it is allowed: the rules' effect, as one store or a few. x, y and h are the records of the subject, of the object and of
 -- the place that the call names. Assumes nothing.
-use mathlib.Core.Path.{_≡_, refl, sym, _∙_, ap, ap₂, subst, subst₂}
-use mathlib.Core.Bool.{Bool, true, false, not, cond}
-use mathlib.Core.Logic.{inl, inr}
+use mathlib.Core.Path.{_≡_, refl, sym, _∙_, ap, ap₂, subst, subst₂, fun-ext}
+use mathlib.Core.Bool.{Bool, true, false, not, _||_, cond}
+use mathlib.Core.Logic.{_⊎_, inl, inr}
 use mathlib.Core.Option.{Option, none, some, Option·none-ne-some, Option·some-injective}
-use mathlib.Core.List.{List}
-use Prim.Native.Nat.{ℕ, _≤_, _<_}
+use mathlib.Core.List.{List, []}
+use Prim.Native.Nat.{ℕ, _<_}
 use native.Mathlib.Omega.{arith}
-use borrow.Author.Tests.{ltb-true, ltb-false}
-use lib.Dec.{T, not-T, eqb, eqb→eq, eqb-refl, ltb, ltb→lt}
-use Rattle.model.specs.Bools.{is-true, is-false, neither, not-not, cond-yes, cond-no}
+use native.Mathlib.Decide.{decLt}
+use native.Mathlib.Nat.{le-refl}
+use borrow.Author.Tests.{lt-ltb, le-ltb, ltb-true, ltb-false}
+use lib.Dec.{T, T-not, eqb, eqb→eq, eqb-refl, ltb, ltb→lt}
+use Rattle.model.specs.Bools.{is-true, neither, not-not, cond-yes, cond-no}
 use Rattle.model.specs.Lists.{In}
-use Rattle.model.specs.Label.{Label, leq, meet, label, level}
-use Rattle.model.specs.Label.Laws.{⊑-refl, level-label, le→⊑, ⊑→le, meet-stays, meet-falls}
-use Rattle.model.specs.Flow.{Thing, subject, object}
-use Rattle.model.specs.Tables.{Kind, running, file, pipe, Dir, reading, writing, Entry, entry, handle, with-mark, Tables, with-at, with-hand, with-freeze, places, is-some, live, label-of, cell, handles, open-on}
+use Rattle.model.specs.Label.{Label, leq, _⊑_, meet, label, level}
+use Rattle.model.specs.Label.Laws.{⊑-refl, level-label, le→⊑, not-least-is-below, meet-stays, meet-falls}
+use Rattle.model.specs.Flow.{Thing, subject, object, same}
+use Rattle.model.specs.Flow.Laws.{same→eq, same-refl}
+use Rattle.model.specs.Tables.{Kind, running, file, pipe, Dir, reading, writing, Entry, entry, handle, mapping, with-mark, Tables, with-at, with-hand, with-freeze, subjects, places, in-range, is-some, live, label-of, a-file, cell, handles, open-on}
 use Rattle.model.specs.Tables.{Handle as Held}
 use Rattle.model.specs.Tables.Laws.{live-of, used-is, cell-self, handles-by, handles-at, open-here, open-at}
-use Rattle.model.specs.Steps.{put, row, place, falls, sunk, fall, applies, ended, reap}
-use Rattle.model.specs.Steps.Laws.{put-same, ended-subject, reap-more}
+use Rattle.model.specs.Steps.{Step, put, row, place, sunk, fall, applies, ended, reap}
+use Rattle.model.specs.Steps.Laws.{put-cases, put-same, ended-subject, reap-more, file-keeps}
 use Rattle.model.specs.Invariant.{Wf}
-use Rattle.model.specs.Calls.{Call, admit, register, create, make-pipe, opens, access, fork, exec, close, exit, retire, mark, freeze, target, marking, unmarked, sheds, steps, effect, Test, alive, new, present, vacant, taken, apart, broken, tests, refusal, level-at, shown, refused, allowed, lowered, outcome, said, answer}
+use Rattle.model.specs.Calls.{Call, admit, register, create, make-pipe, opens, access, fork, exec, close, exit, retire, maps, mark, freeze, target, rereads, marking, lasting, sheds, steps, effect, Test, alive, new, present, vacant, taken, apart, broken, tests, refusal, level-at, shown, refused, allowed, lowers, last-label, outcome, said, answer}
 use Rattle.model.specs.Calls.{Answer as Told}
 use Rattle.model.specs.Calls.Refusals.{allowed-iff}
+use Rattle.model.specs.Calls.Moving.{reread-by, rereads-none, rereads-file, None-lower, lowers-none, lowers-one}
 use Rattle.model.specs.Calls.Passed.{is-alive, is-present, is-new, is-place}
 use Rattle.tables.specs.declared.Subject.{Subject}
 use Rattle.tables.specs.declared.Object.{Object}
 use Rattle.tables.specs.declared.Handle.{Handle}
 use Rattle.tables.specs.Records.{subject-entry, object-entry, joins, held}
 use Rattle.tables.specs.Working.{fallen-by, sunken-by}
-use Rattle.gatekeeper.specs.Acting.{fell}
 
 -- call c on tables t is allowed, answered a, and makes them u
 pub record Does (t : Tables) (c : Call) (a : Told) (u : Tables) : Type 0 where
@@ -125,11 +128,28 @@ module _ (t : Tables) (c : Call) (e : refusal t c ≡ none) where
         go none h = refl
         go (some k) h = absurd h
 
--- ── outcomes ──
-outcome-same : (o : Option Entry) → outcome o o ≡ allowed (level (label-of o))
-outcome-same none = refl
-outcome-same (some e) = ap (λ (b : Bool). elim b as (λ _. Told) [ true ↦ allowed (level (e .label)) | false ↦ lowered (level (e .label)) ])
-    (is-true (leq (e .label) (e .label)) (⊑-refl .tested))
+-- ── calls that make no level smaller ──
+-- entries that are as they were, that are gone, or that are new
+none-smaller : (t u : Tables) → ((x : Thing) (d : Entry) → u .at x ≡ some d → (t .at x ≡ some d) ⊎ (t .at x ≡ none)) → None-lower t u
+none-smaller t u f x e d p q = elim (f x d q) [
+  | inl z ↦ subst (λ (k : Entry). e .label ⊑ k .label) (Option·some-injective e d (sym p ∙ z)) ⊑-refl
+  | inr z ↦ absurd (Option·none-ne-some e (sym z ∙ p))
+]
+
+new-one : (t : Tables) (x : Thing) (v : Option Entry) → t .at x ≡ none → (y : Thing) (d : Entry) → put (t .at) x v y ≡ some d
+    → (t .at y ≡ some d) ⊎ (t .at y ≡ none)
+new-one t x v n y d q = elim (put-cases (t .at) x v y (some d) q) [ inl c ↦ inr (ap (t .at) (sym (c .0)) ∙ n) | inr c ↦ inl (c .1) ]
+
+-- what is left was there
+left-over : (b : Bool) (o : Option Entry) (d : Entry) → cond b none o ≡ some d → o ≡ some d
+left-over true o d q = absurd (Option·none-ne-some d q)
+left-over false o d q = q
+
+-- x shows level l, and u is what the call makes
+plain : (t : Tables) (c : Call) (x : Thing) (l : ℕ) (u : Tables) → refusal t c ≡ none → effect t c ≡ u → shown t c ≡ level-at x
+    → ((x : Thing) (d : Entry) → u .at x ≡ some d → (t .at x ≡ some d) ⊎ (t .at x ≡ none)) → last-label (t .at x) (u .at x) ≡ label l → Does t c (allowed l) u
+plain t c x l u e is z n q = does t c (allowed l) u e (sym (ap (said t (effect t c)) z ∙ ap (λ (v : Tables). said t v (level-at x)) is
+    ∙ ap₂ outcome (lowers-none t u (none-smaller t u n)) (ap level q ∙ level-label l))) (sym is)
 
 -- ── steps that leave the handles as they are ──
 steady : (t : Tables) (a : Thing → Option Entry) → reap (handles t) (with-at t a) ≡ with-at t a
@@ -149,14 +169,10 @@ freeze-does t n e = does t (freeze n) (allowed n) (with-freeze t n) e refl
 entered : (t : Tables) (c : Call) (x : Thing) (k : Kind) (l : ℕ) → refusal t c ≡ none → applies (steps t c) t ≡ with-at t
     (put (t .at) x (some (entry k (label l))))
     → shown t c ≡ level-at x → t .at x ≡ none → Does t c (allowed l) (with-at t (put (t .at) x (some (entry k (label l)))))
-entered t c x k l e q z b = does t c (allowed l) _ e (ap allowed (sym (level-label l)) ∙ sym shows) (sym f)
+entered t c x k l e q z b = plain t c x l _ e (effect-at t c (put (t .at) x v) q) z (new-one t x v b) (ap (last-label (t .at x)) (put-same (t .at) x v))
   where
-    f : effect t c ≡ with-at t (put (t .at) x (some (entry k (label l))))
-    f = effect-at t c (put (t .at) x (some (entry k (label l)))) q
-
-    shows : said t (effect t c) (shown t c) ≡ allowed (level (label l))
-    shows = ap (said t (effect t c)) z ∙ ap (λ (o : Option Entry). outcome o (effect t c .at x)) b
-        ∙ ap (λ (u : Tables). outcome none (u .at x)) f ∙ ap (outcome none) (put-same (t .at) x (some (entry k (label l))))
+    v : Option Entry
+    v = some (entry k (label l))
 
 pub admit-does : (t : Tables) (s l : ℕ) → refusal t (admit s l) ≡ none → Does t (admit s l) (allowed l)
     (with-at t (put (t .at) (subject s) (some (entry running (label l)))))
@@ -205,17 +221,14 @@ joined : (t : Tables) (c : Call) (x : Thing) (k : Kind) (l : ℕ) (h : ℕ → �
     → ((s p : ℕ) (j : Held) → t .hand s p ≡ some j → h s p ≡ some j)
     → Does t c (allowed l) (with-hand (with-at t (put (t .at) x (some (entry k (label l))))) h)
 unfolding effect
-joined t c x k l h e q z b m = does t c (allowed l) u e (ap allowed (sym (level-label l)) ∙ sym shows) (sym is)
+joined t c x k l h e q z b m = plain t c x l u e (ap (reap (handles t)) q ∙ reap-more t u (more-open t u m)) z (new-one t x v b)
+    (ap (last-label (t .at x)) (put-same (t .at) x v))
   where
+    v : Option Entry
+    v = some (entry k (label l))
+
     u : Tables
-    u = with-hand (with-at t (put (t .at) x (some (entry k (label l))))) h
-
-    is : reap (handles t) (applies (steps t c) t) ≡ u
-    is = ap (reap (handles t)) q ∙ reap-more t u (more-open t u m)
-
-    shows : said t (reap (handles t) (applies (steps t c) t)) (shown t c) ≡ allowed (level (label l))
-    shows = ap (said t (reap (handles t) (applies (steps t c) t))) z
-        ∙ ap (λ (v : Tables). outcome (t .at x) (v .at x)) is ∙ ap₂ outcome b (put-same (t .at) x (some (entry k (label l))))
+    u = with-hand (with-at t (put (t .at) x v)) h
 
 pub pipe-does : (t : Tables) (s o r w : ℕ) (x : Subject) → refusal t (make-pipe s o r w) ≡ none → t .at (subject s) ≡ subject-entry x
     → Does t (make-pipe s o r w) (allowed (x .level)) (with-hand (with-at t (put (t .at) (object o) (some (entry pipe (label (x .level))))))
@@ -238,9 +251,7 @@ pipe-does t s o r w x e q = joined t (make-pipe s o r w) (object o) pipe (x .lev
 pub open-does : (t : Tables) (d : Dir) (s o p : ℕ) (y : Object) → refusal t (opens d s o p) ≡ none → t .at (object o) ≡ object-entry y
     → Does t (opens d s o p) (allowed (y .level)) (with-hand t (place (t .hand) s p (some (handle d o))))
 unfolding effect
-open-does t d s o p y e q = does t (opens d s o p) (allowed (y .level)) u e
-    (ap allowed (sym (level-label (y .level)) ∙ ap (λ (v : Option Entry). level (label-of v)) (sym there))
-    ∙ sym (ap (λ (v : Tables). outcome (t .at (object o)) (v .at (object o))) is ∙ outcome-same (t .at (object o)))) (sym is)
+open-does t d s o p y e q = plain t (opens d s o p) (object o) (y .level) u e is refl (λ x d q. inl q) (ap (λ (v : Option Entry). last-label v v) there)
   where
     u : Tables
     u = with-hand t (place (t .hand) s p (some (handle d o)))
@@ -268,9 +279,8 @@ fork-does t s c x w e q = joined t (fork s c) (subject c) running (x .level) (ro
 pub mark-does : (t : Tables) (s p : ℕ) (x : Subject) → refusal t (mark s p) ≡ none → t .at (subject s) ≡ subject-entry x
     → Does t (mark s p) (allowed (x .level)) (with-hand t (place (t .hand) s p (marking (t .hand s p))))
 unfolding effect
-mark-does t s p x e q = does t (mark s p) (allowed (x .level)) u e
-    (ap allowed (sym (level-label (x .level)) ∙ ap (λ (v : Option Entry). level (label-of v)) (sym (cell-is t (mark s p) e s (inl refl) x q)))
-    ∙ sym (ap (λ (v : Tables). outcome (t .at (cell t s)) (v .at (cell t s))) is ∙ outcome-same (t .at (cell t s)))) (sym is)
+mark-does t s p x e q = plain t (mark s p) (cell t s) (x .level) u e is refl (λ x d q. inl q)
+    (ap (λ (v : Option Entry). last-label v v) (cell-is t (mark s p) e s (inl refl) x q))
   where
     u : Tables
     u = with-hand t (place (t .hand) s p (marking (t .hand s p)))
@@ -295,10 +305,10 @@ mark-does t s p x e q = does t (mark s p) (allowed (x .level)) u e
 pub close-does : (t : Tables) (s p : ℕ) (x : Subject) → refusal t (close s p) ≡ none → t .at (subject s) ≡ subject-entry x
     → Does t (close s p) (allowed (x .level)) (reap (handles t) (with-hand t (place (t .hand) s p none)))
 unfolding effect
-close-does t s p x e q = does t (close s p) (allowed (x .level)) (reap (handles t) u) e
-    (ap allowed (sym (level-label (x .level)) ∙ ap (λ (v : Option Entry). level (label-of v)) (sym (step-is t (close s p) e s (inl refl) x q)))
-    ∙ sym (ap (λ (y : Thing). outcome (t .at y) (reap (handles t) u .at y)) (cell-self t s) ∙ ap (outcome (t .at (subject s))) stays
-    ∙ outcome-same (t .at (subject s)))) refl
+close-does t s p x e q = plain t (close s p) (cell t s) (x .level) (reap (handles t) u) e refl refl
+    (λ y d z. inl (left-over (ended (handles t) (handles u) y (t .at y)) (t .at y) d z))
+    (ap (λ (y : Thing). last-label (t .at y) (reap (handles t) u .at y)) (cell-self t s)
+    ∙ ap₂ last-label (step-is t (close s p) e s (inl refl) x q) (stays ∙ step-is t (close s p) e s (inl refl) x q))
   where
     u : Tables
     u = with-hand t (place (t .hand) s p none)
@@ -310,12 +320,15 @@ close-does t s p x e q = does t (close s p) (allowed (x .level)) (reap (handles 
 pub exit-does : (t : Tables) (s : ℕ) (x : Subject) → refusal t (exit s) ≡ none → t .at (subject s) ≡ subject-entry x
     → Does t (exit s) (allowed (x .level)) (reap (handles t) (with-at (with-hand t (row (t .hand) s (λ p. none))) (put (t .at) (subject s) none)))
 unfolding effect
-exit-does t s x e q = does t (exit s) (allowed (x .level)) (reap (handles t) u) e
-    (ap allowed (sym (level-label (x .level)) ∙ ap (λ (v : Option Entry). level (label-of v)) (sym (step-is t (exit s) e s (inl refl) x q)))
-    ∙ sym (ap (λ (y : Thing). outcome (t .at y) (reap (handles t) u .at y)) (cell-self t s) ∙ ap (outcome (t .at (subject s))) gone)) refl
+exit-does t s x e q = plain t (exit s) (cell t s) (x .level) (reap (handles t) u) e refl refl
+    (λ y d z. inl (without (subject s) y d (left-over (ended (handles t) (handles u) y (u .at y)) (u .at y) d z)))
+    (ap (λ (y : Thing). last-label (t .at y) (reap (handles t) u .at y)) (cell-self t s) ∙ ap₂ last-label (step-is t (exit s) e s (inl refl) x q) gone)
   where
     u : Tables
     u = with-at (with-hand t (row (t .hand) s (λ p. none))) (put (t .at) (subject s) none)
+
+    without : (x y : Thing) (d : Entry) → put (t .at) x none y ≡ some d → t .at y ≡ some d
+    without x y d z = elim (put-cases (t .at) x none y (some d) z) [ inl c ↦ absurd (Option·none-ne-some d (c .1)) | inr c ↦ c .1 ]
 
     gone : reap (handles t) u .at (subject s) ≡ none
     gone = cond-no (ended (handles t) (handles u) (subject s) (u .at (subject s))) none (u .at (subject s))
@@ -323,90 +336,82 @@ exit-does t s x e q = does t (exit s) (allowed (x .level)) (reap (handles t) u) 
 
 pub retire-does : (t : Tables) (o : ℕ) (y : Object) → refusal t (retire o) ≡ none → t .at (object o) ≡ object-entry y
     → Does t (retire o) (allowed (y .level)) (with-at t (put (t .at) (object o) none))
-retire-does t o y e q = does t (retire o) (allowed (y .level)) _ e
-    (ap allowed (sym (level-label (y .level)) ∙ ap (λ (v : Option Entry). level (label-of v)) (sym there)) ∙ sym shows) (sym f)
+retire-does t o y e q = plain t (retire o) (object o) (y .level) _ e (effect-at t (retire o) (put (t .at) (object o) none) refl) refl
+    (λ x d z. elim (put-cases (t .at) (object o) none x (some d) z) [ inl c ↦ absurd (Option·none-ne-some d (c .1)) | inr c ↦ inl (c .1) ])
+    (ap₂ last-label (thing-is t (retire o) e o (present-live t (retire o) e o (inl refl)) y q) (put-same (t .at) (object o) none))
+
+-- ── data moves: read, write, exec, map ──
+-- the smaller of two levels
+below-is : (k n : ℕ) → not (leq (label k) (label n)) ≡ ltb n k
+below-is k n = go (decLt n k)
   where
-    there : t .at (object o) ≡ some (entry (cond (eqb (y .kind) 1) file pipe) (label (y .level)))
-    there = thing-is t (retire o) e o (present-live t (retire o) e o (inl refl)) y q
+    go : Dec (n < k) → not (leq (label k) (label n)) ≡ ltb n k
+    go (yes l) = is-true (not (leq (label k) (label n))) (not-least-is-below (label k) (label n) .1 (rw (level-label k, level-label n) l)) ∙ sym (lt-ltb n k l)
+    go (no h) = ap not (is-true (leq (label k) (label n)) (le→⊑ _ _ (rw (level-label k, level-label n) (omega arith)) .tested)) ∙ sym (le-ltb n k (omega arith))
 
-    f : effect t (retire o) ≡ with-at t (put (t .at) (object o) none)
-    f = effect-at t (retire o) (put (t .at) (object o) none) refl
+meet-level : (k l : ℕ) → meet (label k) (label l) ≡ label (cond (ltb l k) l k)
+meet-level k l = go (ltb l k) refl
+  where
+    go : (b : Bool) → ltb l k ≡ b → meet (label k) (label l) ≡ label (cond b l k)
+    go true h = meet-falls (label k) (label l) (le→⊑ _ _ (rw (level-label k, level-label l) (omega (arith, ltb-true l k h))))
+    go false h = meet-stays (label k) (label l) (le→⊑ _ _ (rw (level-label k, level-label l) (ltb-false l k h)))
 
-    shows : outcome (t .at (object o)) (effect t (retire o) .at (object o)) ≡ allowed (level (label-of (t .at (object o))))
-    shows = ap (λ (u : Tables). outcome (t .at (object o)) (u .at (object o))) f ∙ ap (outcome (t .at (object o))) (put-same (t .at) (object o) none)
-
--- ── data moves: read, write, exec ──
--- y, of kind kd and level k, takes in z, of level l; u is what the steps make, by y's entry after them
+-- y, of kind kd and level k, takes in z, of level l, and has level n then; u is what the steps make, by y's entry after them, and y does not end with the call
 module _ (t : Tables) (c : Call) (y z : Thing) (kd kz : Kind) (k l : ℕ) (e : refusal t c ≡ none) (u : Option Entry → Tables)
-    (q : applies (steps t c) t ≡ u (fall y (t .at y) (t .at z))) (g : shown t c ≡ level-at y)
-    (there : (d : Entry) → reap (handles t) (u (some d)) .at y ≡ some d)
+    (q : applies (steps t c) t ≡ u (fall y (t .at y) (t .at z))) (g : shown t c ≡ level-at y) (w : (v : Option Entry) → u v .at ≡ put (t .at) y v)
+    (there : (d : Entry) → reap (handles t) (u (some d)) .at y ≡ some d) (r : T (in-range y))
     (o : t .at y ≡ some (entry kd (label k))) (s : t .at z ≡ some (entry kz (label l))) where
-  after : ℕ → Tables
-  after n = reap (handles t) (u (some (entry kd (label n))))
-
-  taken-in : (n : ℕ) (a : Told) → sunk y kd (label k) (label l) ≡ label n → a ≡ outcome (some (entry kd (label k))) (some (entry kd (label n)))
-      → Does t c a (after n)
-  unfolding effect after
-  taken-in n a f h = does t c a _ e (h ∙ sym shows) (sym is)
+  taken-in : (n : ℕ) → sunk y kd (label k) (label l) ≡ label n → Does t c (outcome (ltb n k) n) (reap (handles t) (u (some (entry kd (label n)))))
+  unfolding effect
+  taken-in n f = does t c (outcome (ltb n k) n) after e (sym shows) (sym is)
     where
-      is : reap (handles t) (applies (steps t c) t) ≡ reap (handles t) (u (some (entry kd (label n))))
+      d : Entry
+      d = entry kd (label n)
+
+      after : Tables
+      after = reap (handles t) (u (some d))
+
+      is : reap (handles t) (applies (steps t c) t) ≡ after
       is = ap (reap (handles t)) (q ∙ ap u
-          (ap (λ (w : Option Entry). fall y w (t .at z)) o ∙ ap (fall y (some (entry kd (label k)))) s ∙ ap (λ (b : Label). some (entry kd b)) f))
+          (ap (λ (v : Option Entry). fall y v (t .at z)) o ∙ ap (fall y (some (entry kd (label k)))) s ∙ ap (λ (b : Label). some (entry kd b)) f))
 
-      shows : said t (reap (handles t) (applies (steps t c) t)) (shown t c) ≡ outcome (some (entry kd (label k))) (some (entry kd (label n)))
-      shows = ap (said t (reap (handles t) (applies (steps t c) t))) g
-          ∙ ap (λ (w : Option Entry). outcome w (reap (handles t) (applies (steps t c) t) .at y)) o
-          ∙ ap (λ (v : Tables). outcome (some (entry kd (label k))) (v .at y)) is ∙ ap (outcome (some (entry kd (label k)))) (there (entry kd (label n)))
+      -- any other thing is as it was, or gone
+      others : (x : Thing) (a b : Entry) → T (not (same y x)) → t .at x ≡ some a → after .at x ≡ some b → a .label ⊑ b .label
+      others x a b n p h = elim (put-cases (t .at) y (some d) x (some b) (ap (λ (f : Thing → Option Entry). f x) (sym (w (some d)))
+          ∙ left-over (ended (handles t) (handles (u (some d))) x (u (some d) .at x)) (u (some d) .at x) b h)) [
+            | inl i ↦ absurd (T-not (same y x) n (subst (λ (v : Thing). T (same y v)) (i .0) (same-refl y)))
+            | inr i ↦ subst (λ (j : Entry). a .label ⊑ j .label) (Option·some-injective a b (sym p ∙ i .1)) ⊑-refl
+          ]
 
-  same : sunk y kd (label k) (label l) ≡ label k → Does t c (allowed k) (after k)
-  same f = taken-in k (allowed k) f (ap allowed (sym (level-label k)) ∙ sym (outcome-same (some (entry kd (label k)))))
-
-  -- a file keeps its label
-  pub keeps : falls y kd ≡ false → Does t c (allowed k) (reap (handles t) (u (some (entry kd (label k)))))
-  unfolding after
-  keeps f = same (ap (λ (b : Bool). cond b (meet (label k) (label l)) (label k)) f)
-
-  -- what is not higher than what it takes in stays as it is, and what is higher falls
-  sinks : (b : Bool) → ltb l k ≡ b → falls y kd ≡ true → Does t c (cond b (lowered l) (allowed k))
-      (reap (handles t) (u (some (entry kd (label (cond b l k))))))
-  unfolding after
-  sinks false h f = same (ap (λ (b : Bool). cond b (meet (label k) (label l)) (label k)) f ∙ meet-stays (label k) (label l)
-      (le→⊑ _ _ (rw (level-label k, level-label l) (ltb-false l k h))))
-  sinks true h f = taken-in l (lowered l) (ap (λ (b : Bool). cond b (meet (label k) (label l)) (label k)) f ∙ meet-falls (label k) (label l)
-      (le→⊑ _ _ (rw (level-label k, level-label l) (omega (arith, ltb-true l k h))))) (ap lowered (sym (level-label l)) ∙ sym lower)
-    where
-      not-least : T (not (leq (label k) (label l)))
-      not-least = not-T (leq (label k) (label l)) (λ w. let a = ⊑→le (label k) (label l) (record { tested = w }) in let b : k ≤ l = rw
-          (level-label k, level-label l) at a in omega (arith, ltb-true l k h))
-
-      lower : outcome (some (entry kd (label k))) (some (entry kd (label l))) ≡ lowered (level (label l))
-      lower = ap (λ (b : Bool). elim b as (λ _. Told) [ true ↦ allowed (level (label l)) | false ↦ lowered (level (label l)) ])
-          (is-false (leq (label k) (label l)) not-least)
-
--- the answer for a record that fell, or did not
-fell-by : (k l : ℕ) (b : Bool) → ltb l k ≡ b → fell k (cond b l k) ≡ cond b (lowered l) (allowed k)
-fell-by k l true q = rw q
-fell-by k l false q = ap (λ (c : Bool). cond c (lowered k) (allowed k)) (is-false (ltb k k) (not-T (ltb k k) (λ h. omega (arith, ltb→lt k k h))))
+      shows : said t (reap (handles t) (applies (steps t c) t)) (shown t c) ≡ outcome (ltb n k) n
+      shows = ap (said t (reap (handles t) (applies (steps t c) t))) g ∙ ap (λ (v : Tables). said t v (level-at y)) is
+          ∙ ap₂ outcome (lowers-one t after y (entry kd (label k)) d r o (there d) others ∙ below-is k n)
+          (ap (λ (v : Option Entry). level (last-label (t .at y) v)) (there d) ∙ level-label n)
 
 -- s, whose record is x, takes in something of level l
 falls-in : (t : Tables) (c : Call) (s : ℕ) (i : In (alive s) (tests c)) (x : Subject) (z : Thing) (kz : Kind) (l : ℕ) (e : refusal t c ≡ none)
     → t .at (subject s) ≡ subject-entry x → (u : Option Entry → Tables) → applies (steps t c) t ≡ u (fall (cell t s) (t .at (cell t s)) (t .at z))
-    → shown t c ≡ level-at (cell t s) → ((d : Entry) → reap (handles t) (u (some d)) .at (cell t s) ≡ some d) → t .at z ≡ some (entry kz (label l))
-    → Does t c (fell (x .level) (fallen-by x l .level)) (reap (handles t) (u (subject-entry (fallen-by x l))))
-falls-in t c s i x z kz l e q u a g w h = by (ltb l (x .level)) refl
+    → shown t c ≡ level-at (cell t s) → ((v : Option Entry) → u v .at ≡ put (t .at) (cell t s) v)
+    → ((d : Entry) → reap (handles t) (u (some d)) .at (cell t s) ≡ some d) → t .at z ≡ some (entry kz (label l))
+    → Does t c (outcome (ltb (fallen-by x l .level) (x .level)) (fallen-by x l .level)) (reap (handles t) (u (subject-entry (fallen-by x l))))
+falls-in t c s i x z kz l e q u a g p w h = subst (λ (v : Option Entry). Does t c (outcome (ltb n (x .level)) n) (reap (handles t) (u v))) (by (ltb l (x .level)) refl)
+    (taken-in t c (cell t s) z running kz (x .level) l e u a g p w ranged (cell-is t c e s i x q) h n
+    (ap (λ (y : Thing). sunk y running (label (x .level)) (label l)) (cell-self t s) ∙ meet-level (x .level) l ∙ ap label (level-by (ltb l (x .level)))))
   where
-    falls-there : (y : Thing) → y ≡ subject s → falls y running ≡ true
-    falls-there y f = ap (λ (v : Thing). falls v running) f
+    n : ℕ
+    n = fallen-by x l .level
 
-    by : (b : Bool) → ltb l (x .level) ≡ b
-        → Does t c (fell (x .level) (cond b (record { live = x .live; level = l }) x .level))
-        (reap (handles t) (u (subject-entry (cond b (record { live = x .live; level = l }) x))))
-    by true f = subst₂ (λ v n. Does t c v n) (sym (fell-by (x .level) l true f))
-        (ap (λ (v : Option Entry). reap (handles t) (u v)) (sym (step-at t c e s i x q l)))
-        (sinks t c (cell t s) z running kz (x .level) l e u a g w (cell-is t c e s i x q) h true f (falls-there (cell t s) (cell-self t s)))
-    by false f = subst₂ (λ v n. Does t c v n) (sym (fell-by (x .level) l false f))
-        (ap (λ (v : Option Entry). reap (handles t) (u v)) (sym (sym q ∙ step-is t c e s i x q)))
-        (sinks t c (cell t s) z running kz (x .level) l e u a g w (cell-is t c e s i x q) h false f (falls-there (cell t s) (cell-self t s)))
+    ranged : T (in-range (cell t s))
+    ranged = subst (λ (y : Thing). T (in-range y)) (sym (cell-self t s)) (live-of t (subject s) (lives t c e s i) .0)
+
+    level-by : (b : Bool) → cond b l (x .level) ≡ cond b (record { live = x .live; level = l }) x .level
+    level-by true = refl
+    level-by false = refl
+
+    by : (b : Bool) → ltb l (x .level) ≡ b → _≡_ {A = Option Entry} (some (entry running (label (cond b (record { live = x .live; level = l }) x .level))))
+        (subject-entry (cond b (record { live = x .live; level = l }) x))
+    by true f = sym (step-at t c e s i x q l)
+    by false f = sym (sym q ∙ step-is t c e s i x q)
 
 -- where only y's entry changes, no pipe ends
 one-changed : (t : Tables) (y : Thing) (d : Entry) → reap (handles t) (with-at t (put (t .at) y (some d))) .at y ≡ some d
@@ -443,13 +448,13 @@ module _ (t : Tables) (w : Wf t) (c : Call) (s p : ℕ) (h : Handle) (e : refusa
 pub read-does : (t : Tables) (w : Wf t) (s p : ℕ) (x : Subject) (h : Handle) (y : Object) → refusal t (access reading s p) ≡ none → t .at
     (subject s) ≡ subject-entry x
     → t .hand s p ≡ held h → t .at (object (h .object)) ≡ object-entry y
-    → Does t (access reading s p) (fell (x .level) (fallen-by x (y .level) .level))
+    → Does t (access reading s p) (outcome (ltb (fallen-by x (y .level) .level) (x .level)) (fallen-by x (y .level) .level))
     (with-at t (put (t .at) (subject s) (subject-entry (fallen-by x (y .level)))))
-read-does t w s p x h y e q r z = subst (Does t (access reading s p) (fell (x .level) (fallen-by x (y .level) .level)))
+read-does t w s p x h y e q r z = subst (Does t (access reading s p) (outcome (ltb (fallen-by x (y .level) .level) (x .level)) (fallen-by x (y .level) .level)))
     (steady t (put (t .at) (cell t s) v) ∙ ap (λ (c : Thing). with-at t (put (t .at) c v)) (cell-self t s))
     (falls-in t (access reading s p) s (inl refl) x (object (h .object)) _ (y .level) e q (λ a. with-at t (put (t .at) (cell t s) a))
     (ap (λ (o : Thing). with-at t (put (t .at) (cell t s) (fall (cell t s) (t .at (cell t s)) (t .at o))))
-    (found-target t w (access reading s p) s p h e (inr (inl refl)) r)) refl (one-changed t (cell t s))
+    (found-target t w (access reading s p) s p h e (inr (inl refl)) r)) refl (λ v. refl) (one-changed t (cell t s))
     (thing-is t (access reading s p) e (h .object) (found-live t w (access reading s p) s p h e (inr (inl refl)) r) y z))
   where
     v : Option Entry
@@ -457,16 +462,16 @@ read-does t w s p x h y e q r z = subst (Does t (access reading s p) (fell (x .l
 
 pub exec-does : (t : Tables) (s o : ℕ) (x : Subject) (y : Object) → refusal t (exec s o) ≡ none → t .at (subject s) ≡ subject-entry x
     → t .at (object o) ≡ object-entry y
-    → Does t (exec s o) (fell (x .level) (fallen-by x (y .level) .level)) (reap (handles t) (with-hand
-    (with-at t (put (t .at) (subject s) (subject-entry (fallen-by x (y .level))))) (row (t .hand) s (λ p. unmarked (t .hand s p)))))
+    → Does t (exec s o) (outcome (ltb (fallen-by x (y .level) .level) (x .level)) (fallen-by x (y .level) .level)) (reap (handles t) (with-hand
+    (with-at t (put (t .at) (subject s) (subject-entry (fallen-by x (y .level))))) (row (t .hand) s (λ p. lasting (t .hand s p)))))
 unfolding sheds
-exec-does t s o x y e q z = subst (Does t (exec s o) (fell (x .level) (fallen-by x (y .level) .level)))
+exec-does t s o x y e q z = subst (Does t (exec s o) (outcome (ltb (fallen-by x (y .level) .level) (x .level)) (fallen-by x (y .level) .level)))
     (ap (λ (c : Thing). reap (handles t) (u c (subject-entry (fallen-by x (y .level))))) (cell-self t s))
-    (falls-in t (exec s o) s (inl refl) x (object o) _ (y .level) e q (u (cell t s)) refl refl
+    (falls-in t (exec s o) s (inl refl) x (object o) _ (y .level) e q (u (cell t s)) refl refl (λ v. refl)
     (λ d. stays d (cell t s) (sym (cell-self t s))) (thing-is t (exec s o) e o (present-live t (exec s o) e o (inr (inl refl))) y z))
   where
     u : Thing → Option Entry → Tables
-    u c v = with-hand (with-at t (put (t .at) c v)) (row (t .hand) s (λ p. unmarked (t .hand s p)))
+    u c v = with-hand (with-at t (put (t .at) c v)) (row (t .hand) s (λ p. lasting (t .hand s p)))
 
     -- a subject is no pipe, and does not end
     stays : (d : Entry) (c : Thing) → subject s ≡ c → reap (handles t) (u c (some d)) .at c ≡ some d
@@ -475,57 +480,119 @@ exec-does t s o x y e q z = subst (Does t (exec s o) (fell (x .level) (fallen-by
         (u (subject s) (some d) .at (subject s))
         (ended-subject (handles t) (handles (u (subject s) (some d))) s (u (subject s) (some d) .at (subject s))) ∙ put-same (t .at) (subject s) (some d))
 
-pub write-does : (t : Tables) (w : Wf t) (s p : ℕ) (x : Subject) (h : Handle) (y : Object) → refusal t (access writing s p) ≡ none
-    → t .at (subject s) ≡ subject-entry x → t .hand s p ≡ held h → t .at (object (h .object)) ≡ object-entry y
-    → Does t (access writing s p) (fell (y .level) (sunken-by y (x .level) .level))
-    (with-at t (put (t .at) (object (h .object)) (object-entry (sunken-by y (x .level)))))
-write-does t w s p x h y e q r z = by (eqb (y .kind) 1) refl (ltb (x .level) (y .level)) refl
+pub map-does : (t : Tables) (s o p : ℕ) (x : Subject) (y : Object) → refusal t (maps s o p) ≡ none → t .at (subject s) ≡ subject-entry x
+    → t .at (object o) ≡ object-entry y
+    → Does t (maps s o p) (outcome (ltb (fallen-by x (y .level) .level) (x .level)) (fallen-by x (y .level) .level)) (with-hand
+    (with-at t (put (t .at) (subject s) (subject-entry (fallen-by x (y .level))))) (place (t .hand) s p (some (mapping o))))
+map-does t s o p x y e q z = subst (Does t (maps s o p) (outcome (ltb (fallen-by x (y .level) .level) (x .level)) (fallen-by x (y .level) .level)))
+    (still (subject-entry (fallen-by x (y .level))) ∙ ap (λ (c : Thing). u c (subject-entry (fallen-by x (y .level)))) (cell-self t s))
+    (falls-in t (maps s o p) s (inl refl) x (object o) _ (y .level) e q (u (cell t s)) refl refl (λ v. refl)
+    (λ d. ap (λ (v : Tables). v .at (cell t s)) (still (some d)) ∙ put-same (t .at) (cell t s) (some d))
+    (thing-is t (maps s o p) e o (present-live t (maps s o p) e o (inr (inl refl))) y z))
   where
-    c : Call
-    c = access writing s p
+    u : Thing → Option Entry → Tables
+    u c v = with-hand (with-at t (put (t .at) c v)) (place (t .hand) s p (some (mapping o)))
 
-    lives-there : T (live t (object (h .object)))
+    -- no handle goes
+    still : (v : Option Entry) → reap (handles t) (u (cell t s) v) ≡ u (cell t s) v
+    still v = reap-more t (u (cell t s) v) (more-open t (u (cell t s) v)
+        (place-more (t .hand) s p (some (mapping o)) (place-free t (maps s o p) e s p (inr (inr (inr (inl refl)))))))
+
+-- ── write ──
+put-self : (a : Thing → Option Entry) (x : Thing) (v : Option Entry) → v ≡ a x → put a x v ≡ a
+put-self a x v q = fun-ext (λ y. go y (same x y) (same→eq x y))
+  where
+    go : (y : Thing) (b : Bool) → (T b → x ≡ y) → cond b v (a y) ≡ a y
+    go y true e = q ∙ ap a (e tt)
+    go y false e = refl
+
+-- after is what the reads that follow the write make of the tables, and b whether some level got smaller by them
+pub write-does : (t : Tables) (w : Wf t) (s p : ℕ) (x : Subject) (h : Handle) (y : Object) (after : Tables) (b : Bool) → refusal t (access writing s p) ≡ none
+    → t .at (subject s) ≡ subject-entry x → t .hand s p ≡ held h → t .at (object (h .object)) ≡ object-entry y
+    → after ≡ applies (rereads t (object (h .object))) t → lowers t after ≡ b
+    → Does t (access writing s p) (outcome (ltb (sunken-by y (x .level) .level) (y .level) || b) (sunken-by y (x .level) .level))
+    (with-at after (put (after .at) (object (h .object)) (object-entry (sunken-by y (x .level)))))
+unfolding effect
+write-does t w s p x h y after b e q r z f n = by (eqb (y .kind) 1) refl (ltb (x .level) (y .level)) refl
+  where
+    o : Thing
+    o = object (h .object)
+
+    lives-there : T (live t o)
     lives-there = found-live t w (access writing s p) s p h e (inr (inl refl)) r
 
-    there : t .at (object (h .object)) ≡ some (entry (cond (eqb (y .kind) 1) file pipe) (label (y .level)))
+    there : t .at o ≡ some (entry (cond (eqb (y .kind) 1) file pipe) (label (y .level)))
     there = thing-is t (access writing s p) e (h .object) lives-there y z
 
-    a : applies (steps t (access writing s p)) t ≡ with-at t
-        (put (t .at) (object (h .object)) (fall (object (h .object)) (t .at (object (h .object))) (t .at (cell t s))))
-    a = ap (λ (o : Thing). with-at t (put (t .at) o (fall o (t .at o) (t .at (cell t s))))) (found-target t w (access writing s p) s p h e (inr (inl refl)) r)
+    kind-is : (k : Bool) → eqb (y .kind) 1 ≡ k → t .at o ≡ some (entry (cond k file pipe) (label (y .level)))
+    kind-is k m = there ∙ ap (λ (b : Bool). some (entry (cond b file pipe) (label (y .level)))) m
 
-    g : shown t (access writing s p) ≡ level-at (object (h .object))
-    g = ap level-at (found-target t w (access writing s p) s p h e (inr (inl refl)) r)
+    to : target (t .hand s p) ≡ o
+    to = found-target t w (access writing s p) s p h e (inr (inl refl)) r
 
-    kind-is : (f : Bool) → eqb (y .kind) 1 ≡ f → t .at (object (h .object)) ≡ some (entry (cond f file pipe) (label (y .level)))
-    kind-is f m = there ∙ ap (λ (b : Bool). some (entry (cond b file pipe) (label (y .level)))) m
+    g : shown t (access writing s p) ≡ level-at o
+    g = ap level-at to
+
+    made : applies (steps t (access writing s p)) t ≡ applies (rereads t o) (with-at t (put (t .at) o (fall o (t .at o) (t .at (cell t s)))))
+    made = ap (λ (v : Thing). applies (rereads t v) (with-at t (put (t .at) v (fall v (t .at v) (t .at (cell t s)))))) to
+
+    Written : Object → Type 0
+    Written v = Does t (access writing s p) (outcome (ltb (v .level) (y .level) || b) (v .level)) (with-at after (put (after .at) o (object-entry v)))
+
+    -- a file keeps its entry, and those who have it mapped read it
+    to-file : eqb (y .kind) 1 ≡ true → Written y
+    to-file m = subst₂ (λ (a : Told) (u : Tables). Does t (access writing s p) a u)
+        (ap (λ (c : Bool). outcome (c || b) (y .level)) (sym (le-ltb (y .level) (y .level) (le-refl (y .level)))))
+        (sym (ap (with-at after) (put-self (after .at) o (object-entry y) (sym z ∙ sym same-o))))
+        (does t (access writing s p) (outcome b (y .level)) after e (sym shows) (sym is))
+      where
+        a-file-there : T (a-file o (t .at o))
+        a-file-there = subst (λ (v : Option Entry). T (a-file o v)) (sym (kind-is true m)) tt
+
+        read : after ≡ with-at t (reread-by t (h .object) subjects)
+        read = f ∙ rereads-file t (h .object) a-file-there
+
+        same-o : after .at o ≡ t .at o
+        same-o = ap (λ (u : Tables). u .at o) read
+
+        is : reap (handles t) (applies (steps t (access writing s p)) t) ≡ after
+        is = ap (reap (handles t)) (made ∙ ap (λ (a : Thing → Option Entry). applies (rereads t o) (with-at t a))
+            (put-self (t .at) o (fall o (t .at o) (t .at (cell t s))) (file-keeps o (t .at o) (t .at (cell t s)) a-file-there)) ∙ sym f ∙ read)
+            ∙ steady t (reread-by t (h .object) subjects) ∙ sym read
+
+        shows : said t (reap (handles t) (applies (steps t (access writing s p)) t)) (shown t (access writing s p)) ≡ outcome b (y .level)
+        shows = ap (said t (reap (handles t) (applies (steps t (access writing s p)) t))) g ∙ ap (λ (v : Tables). said t v (level-at o)) is
+            ∙ ap₂ outcome n (ap (λ (v : Option Entry). level (last-label (t .at o) v)) (same-o ∙ kind-is true m) ∙ level-label (y .level))
+
+    -- a pipe falls, and nobody reads
+    to-pipe : eqb (y .kind) 1 ≡ false → (v : Object) → object-entry v ≡ some (entry pipe (label (v .level)))
+        → meet (label (y .level)) (label (x .level)) ≡ label (v .level) → Written v
+    to-pipe m v i d = subst₂ (λ (a : Told) (u : Tables). Does t (access writing s p) a u)
+        (ap (λ (c : Bool). outcome c (v .level)) (sym (or-none (ltb (v .level) (y .level)) b quiet)))
+        (steady t (put (t .at) o (some (entry pipe (label (v .level)))))
+        ∙ ap₂ (λ (u : Tables) (c : Option Entry). with-at u (put (u .at) o c)) (sym unread) (sym i))
+        (taken-in t (access writing s p) o (cell t s) pipe running (y .level) (x .level) e (λ c. with-at t (put (t .at) o c))
+        (made ∙ ap (λ (ks : List Step). applies ks (with-at t (put (t .at) o (fall o (t .at o) (t .at (cell t s)))))) none-read) g (λ c. refl) (one-changed t o)
+        (live-of t o lives-there .0) (kind-is false m) (cell-is t (access writing s p) e s (inl refl) x q) (v .level) d)
+      where
+        none-read : rereads t o ≡ []
+        none-read = rereads-none t o (subst (λ (v : Option Entry). T (not (a-file o v))) (sym (kind-is false m)) tt)
+
+        unread : after ≡ t
+        unread = f ∙ ap (λ (ks : List Step). applies ks t) none-read
+
+        quiet : b ≡ false
+        quiet = sym n ∙ ap (lowers t) unread ∙ lowers-none t t (none-smaller t t (λ x d q. inl q))
+
+        or-none : (a c : Bool) → c ≡ false → (a || c) ≡ a
+        or-none true c q = refl
+        or-none false c q = q
 
     pipe-at : eqb (y .kind) 1 ≡ false → (k : ℕ) → object-entry (record { kind = y .kind; level = k }) ≡ some (entry pipe (label k))
     pipe-at m k = thing-at t (access writing s p) e (h .object) lives-there y z k ∙ ap (λ (b : Bool). some (entry (cond b file pipe) (label k))) m
 
-    own-cell : t .at (cell t s) ≡ some (entry running (label (x .level)))
-    own-cell = cell-is t (access writing s p) e s (inl refl) x q
-
-    u : Option Entry → Tables
-    u v = with-at t (put (t .at) (object (h .object)) v)
-
-    settled : {v v′ : Option Entry} → v ≡ v′ → reap (handles t) (u v) ≡ u v′
-    settled {v} f = steady t (put (t .at) (object (h .object)) v) ∙ ap u f
-
-    by : (f : Bool) → eqb (y .kind) 1 ≡ f → (b : Bool) → ltb (x .level) (y .level) ≡ b
-        → Does t (access writing s p) (fell (y .level) (cond f y (cond b (record { kind = y .kind; level = x .level }) y) .level))
-        (with-at t (put (t .at) (object (h .object)) (object-entry (cond f y (cond b (record { kind = y .kind; level = x .level }) y)))))
-    by true m b n = subst₂ (λ v u. Does t (access writing s p) v u)
-        (sym (fell-by (y .level) (y .level) false (is-false (ltb (y .level) (y .level))
-        (not-T (ltb (y .level) (y .level)) (λ j. omega (arith, ltb→lt (y .level) (y .level) j))))))
-        (settled (sym (sym z ∙ kind-is true m)))
-        (keeps t (access writing s p) (object (h .object)) (cell t s) file running (y .level) (x .level) e u a g (one-changed t (object (h .object)))
-        (kind-is true m) own-cell refl)
-    by false m true n = subst₂ (λ v u. Does t (access writing s p) v u) (sym (fell-by (y .level) (x .level) true n))
-        (settled (sym (pipe-at m (x .level))))
-        (sinks t (access writing s p) (object (h .object)) (cell t s) pipe running (y .level) (x .level) e u a g (one-changed t (object (h .object)))
-        (kind-is false m) own-cell true n refl)
-    by false m false n = subst₂ (λ v u. Does t (access writing s p) v u) (sym (fell-by (y .level) (x .level) false n))
-        (settled (sym (sym z ∙ kind-is false m)))
-        (sinks t (access writing s p) (object (h .object)) (cell t s) pipe running (y .level) (x .level) e u a g (one-changed t (object (h .object)))
-        (kind-is false m) own-cell false n refl)
+    by : (k : Bool) → eqb (y .kind) 1 ≡ k → (c : Bool) → ltb (x .level) (y .level) ≡ c → Written (cond k y (cond c (record { kind = y .kind; level = x .level }) y))
+    by true m c d = to-file m
+    by false m true d = to-pipe m (record { kind = y .kind; level = x .level }) (pipe-at m (x .level)) (meet-level (y .level) (x .level)
+        ∙ ap (λ (c : Bool). label (cond c (x .level) (y .level))) d)
+    by false m false d = to-pipe m y (pipe-at m (y .level)) (meet-level (y .level) (x .level) ∙ ap (λ (c : Bool). label (cond c (x .level) (y .level))) d)

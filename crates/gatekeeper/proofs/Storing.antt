@@ -1,6 +1,6 @@
 -- What stands in a monitor's arrays at the numbers that a call names, and each call's stores as the rules' effect: one law a call. Assumes nothing.
 use mathlib.Core.Path.{_≡_, refl, sym, _∙_, ap, ap₂, subst, subst₂, fun-ext}
-use mathlib.Core.Bool.{Bool, true, false, not, _&&_, cond}
+use mathlib.Core.Bool.{Bool, true, false, not, _&&_, _||_, cond}
 use mathlib.Core.Logic.{inl, inr}
 use mathlib.Core.Option.{Option, none, some, Option·none-ne-some, Option·some-injective}
 use mathlib.Core.List.{List}
@@ -13,13 +13,13 @@ use Rattle.model.specs.Bools.{is-false, both-of}
 use Rattle.model.specs.Lists.{In}
 use Rattle.model.specs.Label.{Label, leq, label}
 use Rattle.model.specs.Flow.{Thing, subject, object}
-use Rattle.model.specs.Tables.{pipe, reading, writing, entry, handle, Tables, empty, with-at, with-hand, live, label-of, handles, open-on, needs, safe}
+use Rattle.model.specs.Tables.{pipe, reading, writing, entry, handle, mapping, Tables, empty, with-at, with-hand, live, label-of, handles, open-on, needs, safe}
 use Rattle.model.specs.Tables.{Handle as Held}
 use Rattle.model.specs.Tables.Laws.{live-of, cell-self, handles-by}
 use Rattle.model.specs.Steps.{put, row, place, applies, reap}
 use Rattle.model.specs.Invariant.{Wf}
 use Rattle.model.specs.Invariant.Laws.{less-wf, wf-hold}
-use Rattle.model.specs.Calls.{Call, admit, register, create, make-pipe, opens, access, fork, exec, close, exit, retire, mark, freeze, marking, unmarked, sheds, Test, number, alive, present, vacant, leveled, freezable, enough, suits, idle, thawed, broken, tests, order, earlier, breaks, refusal, allowed}
+use Rattle.model.specs.Calls.{Call, admit, register, create, make-pipe, opens, access, fork, exec, close, exit, retire, maps, mark, freeze, rereads, marking, lasting, sheds, Test, number, alive, present, vacant, leveled, freezable, enough, suits, idle, thawed, broken, tests, order, earlier, breaks, refusal, allowed, lowers, outcome}
 use Rattle.model.specs.Calls.{Answer as Told}
 use Rattle.model.specs.Calls.Refusals.{refused-by}
 use Rattle.model.specs.Calls.Passed.{is-alive, is-present, is-place, sheds-less}
@@ -33,9 +33,9 @@ use Rattle.tables.proofs.Finding.{alone}
 use Rattle.tables.specs.Working.{subject-at, object-at, handle-at, fallen-by, sunken-by, Outlives}
 use Rattle.gatekeeper.specs.declared.Monitor.{Monitor}
 use Rattle.gatekeeper.specs.View.{beside, view}
-use Rattle.gatekeeper.specs.Acting.{Acts, fell, way-by}
+use Rattle.gatekeeper.specs.Acting.{Acts, way-by}
 use Rattle.gatekeeper.proofs.Owned.{Owned, subjects-long, objects-long, handles-long}
-use Rattle.gatekeeper.proofs.Doing.{Does, passed, row-low, live-low, new-row, new-column, place-low, found, found-place, found-to, found-live, full-object, admit-does, register-does, create-does, pipe-does, open-does, read-does, write-does, fork-does, exec-does, close-does, exit-does, retire-does, mark-does, freeze-does}
+use Rattle.gatekeeper.proofs.Doing.{Does, passed, row-low, live-low, new-row, new-column, place-low, found, found-place, found-to, found-live, full-object, admit-does, register-does, create-does, pipe-does, open-does, read-does, write-does, fork-does, exec-does, map-does, close-does, exit-does, retire-does, mark-does, freeze-does}
 use Rattle.gatekeeper.proofs.Acting.{acts}
 
 -- the monitor with these arrays, and what else m has
@@ -132,26 +132,37 @@ module _ (m : Monitor) (g : Owned m) where
   -- ── read, write ──
   pub reads : (s p : ℕ) (x v : Subject) (h : Handle) (a : Told) → Wf (view m) → refusal (view m) (access reading s p) ≡ none
       → view m .at (subject s) ≡ subject-entry x → view m .hand s p ≡ held h → v ≡ fallen-by x (getD (m .objects) (h .object % 64) no-object .level)
-      → a ≡ fell (x .level) (v .level) → Acts m (access reading s p) a (monitor m (set (m .subjects) (s % 32) v) (m .objects) (m .handles))
+      → a ≡ outcome (ltb (v .level) (x .level)) (v .level) → Acts m (access reading s p) a (monitor m (set (m .subjects) (s % 32) v) (m .objects) (m .handles))
   reads s p x v h a w e q r f k = acts m (access reading s p) a _ _ (subst₂ (λ (b : Told) (z : Subject). Does (view m) (access reading s p) b
-      (with-at (view m) (put (view m .at) (subject s) (subject-entry z)))) (sym (k ∙ ap (λ (z : Subject). fell (x .level) (z .level)) f)) (sym f)
+      (with-at (view m) (put (view m .at) (subject s) (subject-entry z)))) (sym (k ∙ ap (λ (z : Subject). outcome (ltb (z .level) (x .level)) (z .level)) f)) (sym f)
       (read-does (view m) w s p x h (getD (m .objects) (h .object % 64) no-object) e q r (object-live (h .object)
       (live-low (view m) (access reading s p) e (h .object) (found-live (view m) w (access reading s p) s p h e (inr (inl refl)) r)))))
       (put-subject s v (row-low (view m) (access reading s p) e s (inl refl)))
 
-  pub writes : (s p : ℕ) (x : Subject) (h : Handle) (v : Object) (a : Told) → Wf (view m) → refusal (view m) (access writing s p) ≡ none
+  -- the subjects once those who have the object mapped have read it, and whether one of them has a smaller level then
+  pub writes : (s p : ℕ) (x : Subject) (h : Handle) (v : Object) (after : List Subject) (b : Bool) (a : Told) → Wf (view m) → refusal (view m) (access writing s p) ≡ none
       → view m .at (subject s) ≡ subject-entry x → view m .hand s p ≡ held h → v ≡ sunken-by (getD (m .objects) (h .object % 64) no-object) (x .level)
-      → a ≡ fell (getD (m .objects) (h .object % 64) no-object .level) (v .level)
-      → Acts m (access writing s p) a (monitor m (m .subjects) (set (m .objects) (h .object % 64) v) (m .handles))
-  writes s p x h v a w e q r f k = acts m (access writing s p) a _ _ (subst₂ (λ (b : Told) (z : Object). Does (view m) (access writing s p) b
-      (with-at (view m) (put (view m .at) (object (h .object)) (object-entry z)))) (sym (k ∙ ap (λ (z : Object). fell (y .level) (z .level)) f)) (sym f)
-      (write-does (view m) w s p x h y e q r (object-live (h .object) low))) (put-object (h .object) v low)
+      → ((rest : Tables) (os : List Object) → getD os (h .object) no-object ≡ getD (m .objects) (h .object % 64) no-object
+      → tables-of rest after os (m .handles) ≡ applies (rereads (tables-of rest (m .subjects) os (m .handles)) (object (h .object))) (tables-of rest (m .subjects) os (m .handles)))
+      → ((rest : Tables) (os : List Object) (hs : List Handle) → lowers (tables-of rest (m .subjects) os hs) (tables-of rest after os hs) ≡ b)
+      → a ≡ outcome (ltb (v .level) (getD (m .objects) (h .object % 64) no-object .level) || b) (v .level)
+      → Acts m (access writing s p) a (monitor m after (set (m .objects) (h .object % 64) v) (m .handles))
+  writes s p x h v after b a w e q r f n l k = acts m (access writing s p) a _ _ (subst₂ (λ (c : Told) (z : Object). Does (view m) (access writing s p) c
+      (with-at u (put (u .at) (object (h .object)) (object-entry z)))) (sym (k ∙ ap (λ (z : Object). outcome (ltb (z .level) (y .level) || b) (z .level)) f)) (sym f)
+      (write-does (view m) w s p x h y u b e q r (object-live (h .object) low) (n (beside m) (m .objects) (ap (λ (i : ℕ). getD (m .objects) i no-object) same))
+      (l (beside m) (m .objects) (m .handles)))) (store-object (beside m) after (m .objects) (m .handles) (h .object) v (objects-long m g) low)
     where
       y : Object
       y = getD (m .objects) (h .object % 64) no-object
 
+      u : Tables
+      u = tables-of (beside m) after (m .objects) (m .handles)
+
       low : h .object < 64
       low = live-low (view m) (access writing s p) e (h .object) (found-live (view m) w (access writing s p) s p h e (inr (inl refl)) r)
+
+      same : h .object ≡ h .object % 64
+      same = omega (arith, low)
 
   -- ── pipe ──
   pub pipes : (s o r w : ℕ) (x : Subject) → refusal (view m) (make-pipe s o r w) ≡ none → view m .at (subject s) ≡ subject-entry x
@@ -278,10 +289,54 @@ module _ (m : Monitor) (g : Owned m) where
         → Acts m (opens (direction b) s o p) (allowed (x .level)) (monitor m (m .subjects) (m .objects) next)
     opens-acts e = acts m (opens (direction b) s o p) (allowed (x .level)) _ _ (open-does (view m) (direction b) s o p x e k) placed
 
+  -- ── map ──
+  module _ (s o p : ℕ) (x : Object) (w : Wf (view m)) (z : Refuses (view m) (maps s o p) 0) (k : view m .at (object o) ≡ object-entry x) where
+    map-lives : T (live (view m) (subject s))
+    map-lives = is-alive (view m) s (early-passed (view m) (maps s o p) z (alive s) (inl refl) tt)
+
+    map-there : T (live (view m) (object o))
+    map-there = is-present (view m) o (early-passed (view m) (maps s o p) z (present o) (inr (inl refl)) tt)
+
+    map-low-s : s < 32
+    map-low-s = ltb→lt s 32 (live-of (view m) (subject s) map-lives .0)
+
+    same-o : o % 64 ≡ o
+    same-o = omega (arith, ltb→lt o 64 (live-of (view m) (object o) map-there .0))
+
+    map-low-p : p < 16
+    map-low-p = is-place (view m) s p (early-passed (view m) (maps s o p) z (vacant s p) (inr (inr (inr (inl refl)))) tt)
+
+    abbrev to-o : ℕ → Handle
+    to-o v = record { way = v; object = o % 64; mark = 0 }
+
+    -- the flow test is that of the open for reading
+    pub map-late : (r : Bool) → Shorts (m .subjects) (m .objects) (set (m .handles) (s % 32 * 16 + p % 16) (to-o 1)) r → Late (view m) (maps s o p) r false false
+    map-late r f = record { nine = alone tested; ten = refl; fifteen = refl }
+      where
+        placed : view (monitor m (m .subjects) (m .objects) (set (m .handles) (s % 32 * 16 + p % 16) (to-o 1)))
+            ≡ with-hand (view m) (place (view m .hand) s p (some (handle reading o)))
+        placed = store-handle (beside m) (m .subjects) (m .objects) (m .handles) s p (to-o 1) (handles-long m g) map-low-s map-low-p
+            ∙ ap (λ (n : ℕ). with-hand (view m) (place (view m .hand) s p (some (handle reading n)))) same-o
+
+        tested : broken (view m) (enough (opens reading s o p)) ≡ r
+        tested = sym (f (beside m) (subst Wf (sym placed)
+            (wf-hold (view m) s p (handle reading o) w (record { from = map-lives; to = map-there; place = map-low-p })))
+            ∙ ap (λ (u : Tables). not (safe u)) placed)
+
+    pub maps-acts : (y v : Subject) (b : Told) → view m .at (subject s) ≡ subject-entry y → refusal (view m) (maps s o p) ≡ none
+        → v ≡ fallen-by y (x .level) → b ≡ outcome (ltb (v .level) (y .level)) (v .level)
+        → Acts m (maps s o p) b (monitor m (set (m .subjects) (s % 32) v) (m .objects) (set (m .handles) (s % 32 * 16 + p % 16) (to-o 3)))
+    maps-acts y v b q e f h = acts m (maps s o p) b _ _ (subst₂ (λ (c : Told) (z : Subject). Does (view m) (maps s o p) c
+        (with-hand (with-at (view m) (put (view m .at) (subject s) (subject-entry z))) (place (view m .hand) s p (some (mapping o)))))
+        (sym (h ∙ ap (λ (z : Subject). outcome (ltb (z .level) (y .level)) (z .level)) f)) (sym f) (map-does (view m) s o p y x e q k))
+        (store-handle (beside m) (set (m .subjects) (s % 32) v) (m .objects) (m .handles) s p (to-o 3) (handles-long m g) map-low-s map-low-p
+        ∙ ap (λ (u : Tables). with-hand u (place (u .hand) s p (held (to-o 3)))) (put-subject s v map-low-s)
+        ∙ ap (λ (n : ℕ). with-hand (with-at (view m) (put (view m .at) (subject s) (subject-entry v))) (place (view m .hand) s p (some (mapping n)))) same-o)
+
   -- ── exec ──
   module _ (s o : ℕ) (y : Object) (places kept after : List Handle) (w : Wf (view m)) (z : Refuses (view m) (exec s o) 0)
       (q : view m .at (object o) ≡ object-entry y) (n : (p : ℕ) → along places p ≡ hands (m .handles) (s % 32) p)
-      (k : (p : ℕ) → along kept p ≡ unmarked (along places p)) (a : Rowed (m .handles) (s % 32) kept after) where
+      (k : (p : ℕ) → along kept p ≡ lasting (along places p)) (a : Rowed (m .handles) (s % 32) kept after) where
     exec-lives : T (live (view m) (subject s))
     exec-lives = is-alive (view m) s (early-passed (view m) (exec s o) z (alive s) (inl refl) tt)
 
@@ -291,12 +346,12 @@ module _ (m : Monitor) (g : Owned m) where
     same-row : s % 32 ≡ s
     same-row = omega (arith, ltb→lt s 32 (live-of (view m) (subject s) exec-lives .0))
 
-    -- the handles are those that are left once the marked ones of s are dropped
+    -- the handles are those that are left once s has dropped what it drops
     shed : (ss : List Subject) → tables-of (beside m) ss (m .objects) after ≡ with-hand (tables-of (beside m) ss (m .objects) (m .handles))
-        (row (hands (m .handles)) s (λ p. unmarked (hands (m .handles) s p)))
+        (row (hands (m .handles)) s (λ p. lasting (hands (m .handles) s p)))
     shed ss = a (beside m) ss (m .objects) ∙ ap (with-hand (tables-of (beside m) ss (m .objects) (m .handles)))
         (ap₂ (λ (i : ℕ) (f : ℕ → Option Held). row (hands (m .handles)) i f) same-row
-        (fun-ext (λ p. k p ∙ ap unmarked (n p ∙ ap (λ (i : ℕ). hands (m .handles) i p) same-row))))
+        (fun-ext (λ p. k p ∙ ap lasting (n p ∙ ap (λ (i : ℕ). hands (m .handles) i p) same-row))))
 
     pub exec-late : (r : Bool) → ((rest : Tables) (ss : List Subject) → Wf (tables-of rest ss (m .objects) after) → r ≡ not
         (leq (needs (tables-of rest ss (m .objects) after) (subject (s % 32))) (label (y .level)))) → Late (view m) (exec s o) r false false
@@ -315,17 +370,17 @@ module _ (m : Monitor) (g : Owned m) where
             ∙ ap₂ (λ (x : Thing) (b : Label). not (leq (needs u x) b)) (ap subject same-row ∙ sym (cell-self (view m) s)) (sym own))
 
     pub execs : (x v : Subject) (left : List Object) (b : Told) → view m .at (subject s) ≡ subject-entry x → refusal (view m) (exec s o) ≡ none
-        → v ≡ fallen-by x (y .level) → b ≡ fell (x .level) (v .level) → Reaps (m .objects) (m .handles) after left
+        → v ≡ fallen-by x (y .level) → b ≡ outcome (ltb (v .level) (x .level)) (v .level) → Reaps (m .objects) (m .handles) after left
         → Acts m (exec s o) b (monitor m (set (m .subjects) (s % 32) v) left after)
     unfolding tables-of
     execs x v left b r e f h d = acts m (exec s o) b _ _ (subst₂ (λ (c : Told) (z : Subject). Does (view m) (exec s o) c (reap (handles (view m))
         (with-hand (with-at (view m) (put (view m .at) (subject s) (subject-entry z))) dropped)))
-        (sym (h ∙ ap (λ (z : Subject). fell (x .level) (z .level)) f)) (sym f) (exec-does (view m) s o x y e r q))
+        (sym (h ∙ ap (λ (z : Subject). outcome (ltb (z .level) (x .level)) (z .level)) f)) (sym f) (exec-does (view m) s o x y e r q))
         (d (beside m) _ (view m) (all-handles m) ∙ ap (reap (handles (view m))) (shed (set (m .subjects) (s % 32) v)
         ∙ ap (λ (u : Tables). with-hand u dropped) (put-subject s v (row-low (view m) (exec s o) e s (inl refl)))))
       where
         dropped : ℕ → ℕ → Option Held
-        dropped = row (hands (m .handles)) s (λ p. unmarked (hands (m .handles) s p))
+        dropped = row (hands (m .handles)) s (λ p. lasting (hands (m .handles) s p))
 
   -- ── mark ──
   pub marks : (s p : ℕ) (x : Subject) (h : Handle) → Wf (view m) → refusal (view m) (mark s p) ≡ none → view m .at (subject s) ≡ subject-entry x

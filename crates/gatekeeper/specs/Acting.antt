@@ -3,13 +3,13 @@ use mathlib.Core.Path.{_≡_}
 use mathlib.Core.Bool.{Bool, cond}
 use mathlib.Core.Option.{none, some}
 use Prim.Native.Nat.{ℕ}
-use lib.Dec.{ltb}
-use Rattle.model.specs.Calls.{Call, refusal, effect, answer, allowed, lowered}
+use Rattle.model.specs.Calls.{Call, refusal, effect, answer}
 use Rattle.model.specs.Calls.{Answer as Told}
 use Rattle.gatekeeper.specs.declared.Monitor.{Monitor}
 use Rattle.gatekeeper.specs.declared.Reply.{Reply}
-use Rattle.gatekeeper.specs.declared.Answer.the-variants.{Refused}
-use Rattle.gatekeeper.specs.View.{view, told, refuses}
+use Rattle.answers.specs.declared.Answer.the-variants.{Refused}
+use Rattle.answers.specs.Telling.{told, refuses}
+use Rattle.gatekeeper.specs.View.{view}
 
 -- call c on monitor m, as its tables stand, is answered a, and monitor n is handed back
 pub record Acts (m : Monitor) (c : Call) (a : Told) (n : Monitor) : Type 0 where
@@ -24,10 +24,6 @@ back m n = record { monitor = m; answer = Refused n }
 -- the reply, or the monitor as it came where that is a refusal
 abbrev pub settled : Monitor → Reply → Reply
 settled m r = record { monitor = cond (refuses (told (r .answer))) m (r .monitor); answer = r .answer }
-
--- the answer of a call after which a level that was b is a
-abbrev pub fell : ℕ → ℕ → Told
-fell b a = cond (ltb a b) (lowered a) (allowed a)
 
 -- the way of the handle of an open
 abbrev pub way-by : Bool → ℕ

@@ -4,7 +4,8 @@ ghost use Rattle.model.specs.Tables.{clean};
 ghost use Rattle.model.specs.Invariant.{Wf};
 ghost use Rattle.model.specs.Calls.{decode};
 ghost use Rattle.model.specs.Promise.{Meets};
-ghost use Rattle.gatekeeper.specs.View.{view, told, direct};
+ghost use Rattle.answers.specs.Telling.{told};
+ghost use Rattle.gatekeeper.specs.View.{view, direct};
 ghost use Rattle.gatekeeper.specs.Acting.{Acts};
 use crate::Monitor;
 use crate::Reply;
@@ -41,6 +42,7 @@ impl Monitor {
             11 => self.close(a, b),
             12 => self.exit(a),
             13 => self.retire(a),
+            14 => self.map(a, b, c),
             15 => self.mark(a, b),
             16 => self.freeze(a),
             _ => self.refuse(1),

@@ -1,11 +1,12 @@
 // The call that freezes files, on tables in which nothing dangles.
 ghost use Rattle.model.specs.Invariant.{Wf};
 ghost use Rattle.model.specs.Calls.{freeze};
-ghost use Rattle.gatekeeper.specs.View.{view, told};
+ghost use Rattle.answers.specs.Telling.{told};
+ghost use Rattle.gatekeeper.specs.View.{view};
 ghost use Rattle.gatekeeper.specs.Acting.{Acts};
-use crate::Answer;
 use crate::Monitor;
 use crate::Reply;
+use answers::Answer;
 use tables::refusals;
 
 impl Monitor {

@@ -4,8 +4,9 @@
 // `made`, `moved`, `gone` and `frozen`, for tables in which nothing dangles; `direct` has the direct call, for every monitor value.
 ghost use mathlib.Core.Path.{_≡_};
 ghost use Rattle.model.specs.Tables.{empty};
-ghost use Rattle.gatekeeper.specs.View.{view, told, letter-of, level-of, value-of, refuses};
-ghost use Rattle.gatekeeper.specs.Acting.{back, settled, fell, way-by};
+ghost use Rattle.gatekeeper.specs.View.{view};
+ghost use Rattle.gatekeeper.specs.Acting.{back, settled, way-by};
+use answers::Answer;
 use tables::EMPTY;
 use tables::FREE;
 use tables::HANDLES;
@@ -33,69 +34,9 @@ pub struct Monitor {
     pub freeze: u8,
 }
 
-// The answer to a call: its outcome with the level, or the number of the refusal.
-pub enum Answer {
-    Allowed(u8),
-    Lowered(u8),
-    Refused(u8),
-}
-
 pub struct Reply {
     pub monitor: Monitor,
     pub answer: Answer,
-}
-
-// The outcome of an answer as its letter: A, L or R.
-pub fn letter(a: Answer) -> u8
-    ensures { λ r. ⌜ r ≡ letter-of (told a) ⌝ }
-{
-    match a {
-        Answer::Allowed(_) => b'A',
-        Answer::Lowered(_) => b'L',
-        Answer::Refused(_) => b'R',
-    }
-}
-
-// The level in an answer, or the number of its refusal.
-pub fn value(a: Answer) -> u8
-    ensures { λ r. ⌜ r ≡ value-of (told a) ⌝ }
-{
-    match a {
-        Answer::Allowed(l) => l,
-        Answer::Lowered(l) => l,
-        Answer::Refused(n) => n,
-    }
-}
-
-// The level in an answer, 0 in a refusal.
-pub fn level(a: Answer) -> u8
-    ensures { λ r. ⌜ r ≡ level-of (told a) ⌝ }
-{
-    match a {
-        Answer::Allowed(l) => l,
-        Answer::Lowered(l) => l,
-        Answer::Refused(_) => 0,
-    }
-}
-
-pub fn is_refused(a: Answer) -> bool
-    ensures { λ r. ⌜ r ≡ refuses (told a) ⌝ }
-{
-    match a {
-        Answer::Allowed(_) => false,
-        Answer::Lowered(_) => false,
-        Answer::Refused(_) => true,
-    }
-}
-
-// The answer of a call after which a level that was `was` is `is`.
-fn fallen(was: u8, is: u8) -> Answer
-    ensures { λ r. ⌜ told r ≡ fell was is ⌝ }
-{
-    if is < was {
-        return Answer::Lowered(is);
-    }
-    Answer::Allowed(is)
 }
 
 // The way of a handle for reading, or for writing.
@@ -147,7 +88,7 @@ impl Monitor {
         ensures { λ a. ⌜ a ≡ settled self r ⌝ }
     {
         let answer = r.answer;
-        if is_refused(answer) {
+        if answers::is_refused(answer) {
             return Reply {
                 monitor: self,
                 answer: answer,

@@ -1,12 +1,13 @@
 // Calls that make things, and that place and mark handles, on tables in which nothing dangles.
 ghost use Rattle.model.specs.Invariant.{Wf};
 ghost use Rattle.model.specs.Calls.{admit, register, create, make-pipe, opens, fork, mark};
-ghost use Rattle.gatekeeper.specs.View.{view, told};
+ghost use Rattle.answers.specs.Telling.{told};
+ghost use Rattle.gatekeeper.specs.View.{view};
 ghost use Rattle.gatekeeper.specs.Acting.{Acts};
 ghost use Rattle.tables.specs.Refusing.{direction};
-use crate::Answer;
 use crate::Monitor;
 use crate::Reply;
+use answers::Answer;
 use tables::FILE;
 use tables::Handle;
 use tables::OBJECT_NUMBERS;

@@ -62,7 +62,11 @@ fn taken_in(x: Subject, reads: bool, level: u8) -> Subject
 }
 
 // The subjects once each of these readers has read something of this level.
-fn read_by(subjects: [Subject; SUBJECTS], reads: [bool; SUBJECTS + 1], level: u8) -> [Subject; SUBJECTS]
+fn read_by(
+    subjects: [Subject; SUBJECTS],
+    reads: [bool; SUBJECTS + 1],
+    level: u8,
+) -> [Subject; SUBJECTS]
     ensures { λ r. ⌜ ((s : ℕ) → s < 32 → getD r s no-subject ≡ taken-by (getD subjects s no-subject) (getD reads s false) level) ⌝ }
 {
     let mut r = subjects;

@@ -23,7 +23,7 @@ use Rattle.journal.specs.Answers.{Answer, answers, refused, record-answer, leng
 use Rattle.journal.specs.Calls.{known}
 use Rattle.journal.specs.Record.{longest-record, record-of, fitting, recording}
 use Rattle.journal.specs.Record.Laws.{record-length}
-use Rattle.gatekeeper.specs.View.{letter-of, value-of}
+use Rattle.answers.specs.Telling.{letter-of, value-of}
 use Rattle.host.specs.Numbers.{answer-number, answer-in, record-number, roomy-number, reading-number}
 use Rattle.host.specs.Numbers.Laws.{answer-back}
 

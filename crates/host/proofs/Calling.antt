@@ -13,7 +13,8 @@ use Rattle.model.specs.Promise.{Meets}
 use Rattle.model.specs.Tally.{tallied}
 use Rattle.gatekeeper.specs.declared.Monitor.{Monitor}
 use Rattle.tally.specs.declared.Tally.{Tally}
-use Rattle.gatekeeper.specs.View.{view, letter-of}
+use Rattle.answers.specs.Telling.{letter-of}
+use Rattle.gatekeeper.specs.View.{view}
 use Rattle.tally.specs.Counting.{counts-of}
 use Rattle.host.specs.State.{state-bytes, Sized, monitor-of, tally-of, Stands, state-view, Stored}
 use Rattle.host.specs.Numbers.{answer-number, answer-in, call-number}

@@ -15,7 +15,7 @@ use Rattle.journal.specs.Answers.{answers, refused}
 use Rattle.journal.specs.Answers.{Answer as Recording}
 use Rattle.journal.specs.Calls.{known}
 use Rattle.journal.specs.Record.{record-of}
-use Rattle.gatekeeper.specs.View.{letter-of, value-of}
+use Rattle.answers.specs.Telling.{letter-of, value-of}
 use Rattle.host.specs.State.{state-bytes, state-view}
 pub mod Laws
 

@@ -12,14 +12,15 @@ ghost use Rattle.number.specs.Leb.{largest, number};
 ghost use Rattle.number.specs.Put.{put, fitted};
 ghost use Rattle.journal.specs.Record.{longest-record, recording, recorded};
 ghost use Rattle.replay.specs.Replay.{reply, reply-room, Begun};
-ghost use Rattle.gatekeeper.specs.View.{told, direct};
+ghost use Rattle.answers.specs.Telling.{told};
+ghost use Rattle.gatekeeper.specs.View.{direct};
 ghost use Rattle.host.specs.State.{state-bytes, objects-at, handles-at, Sized, live-of, sort-of, live-byte, sort-byte, whole, digits};
 ghost use Rattle.host.specs.State.{subjects-of, objects-of, handles-of, made-of, gone-of, monitor-of, tally-of};
 ghost use Rattle.host.specs.State.{subject-bytes, object-bytes, handle-bytes, blank-bytes, Stands, Blank};
 ghost use Rattle.host.specs.Over.{over};
 ghost use Rattle.host.specs.Numbers.{sized, answer-number, answer-in, record-number, roomy-number, reading-number};
 ghost use Rattle.host.specs.Demand3.{Called};
-use gatekeeper::Answer;
+use answers::Answer;
 use gatekeeper::Monitor;
 use journal::Call;
 use journal::Numbers;
@@ -295,8 +296,8 @@ fn to_number(a: Answer) -> u32
     ensures number { λ r. ⌜ r ≡ answer-number (told a) ⌝ }
     ensures back { λ r. ⌜ answer-in r ≡ told a ⌝ }
 {
-    let letter = gatekeeper::letter(a);
-    let value = gatekeeper::value(a);
+    let letter = answers::letter(a);
+    let value = answers::value(a);
     256 * (letter as u32) + value as u32
 }
 
@@ -350,7 +351,7 @@ pub extern "C" fn gatekeeper_call(
     let reply = counted.reply;
     let answer = reply.answer;
     let r = to_number(answer);
-    if gatekeeper::letter(answer) == b'R' {
+    if answers::letter(answer) == b'R' {
         return r;
     }
     let monitor = reply.monitor;

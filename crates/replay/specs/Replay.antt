@@ -14,7 +14,7 @@ use Rattle.model.specs.Tally.{Tally, zeroed, tally, difference}
 use Rattle.journal.specs.Answers.{Said, said, Next, body, end}
 use Rattle.journal.specs.Answers.{Answer as Read, answers as reads, refused as bad}
 use Rattle.journal.specs.Journal.{entry-at, body-in}
-use Rattle.gatekeeper.specs.View.{letter-of, value-of}
+use Rattle.answers.specs.Telling.{letter-of, value-of}
 use Rattle.text.specs.Reply.{line, ending, longest-line, longest-end}
 pub mod Laws
 

@@ -22,7 +22,8 @@ use Rattle.journal.specs.Answers.{answers as reads, refused as bad}
 use Rattle.journal.specs.Journal.{entry-at, body-in}
 use Rattle.journal.specs.Journal.Laws.{entry-next}
 use Rattle.gatekeeper.specs.declared.Monitor.{Monitor}
-use Rattle.gatekeeper.specs.View.{letter-of, value-of, view}
+use Rattle.answers.specs.Telling.{letter-of, value-of}
+use Rattle.gatekeeper.specs.View.{view}
 use Rattle.text.specs.Reply.{line, ending, longest-line, longest-end}
 use Rattle.text.specs.Decimal.{decimal, digits}
 use Rattle.text.specs.Parts.{Over}

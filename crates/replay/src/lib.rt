@@ -8,13 +8,14 @@ ghost use Rattle.model.specs.Tally.{difference};
 ghost use Rattle.number.specs.Put.{put, fitted};
 ghost use Rattle.number.specs.Answers.{writing};
 ghost use Rattle.journal.specs.Journal.{body-in};
-ghost use Rattle.gatekeeper.specs.View.{view, told};
+ghost use Rattle.answers.specs.Telling.{told};
+ghost use Rattle.gatekeeper.specs.View.{view};
 ghost use Rattle.tally.specs.Counting.{counts-of};
 ghost use Rattle.replay.specs.One.{One};
 ghost use Rattle.replay.specs.Replay.{reply, largest-journal, Begun};
 ghost use Rattle.replay.specs.Demand3.{Ended};
 ghost use Rattle.replay.specs.Stage.{whole, refusal, Ends};
-use gatekeeper::Answer;
+use answers::Answer;
 use gatekeeper::Monitor;
 use journal::Body;
 use journal::Entry;
@@ -110,8 +111,8 @@ fn records(journal: &[u8], out: &mut [u8]) -> Ran
             Entry::Record { start, len, next } => {
                 let r = one(m, tally, journal::body_at(journal, start, len));
                 let answer = r.answer;
-                let letter = gatekeeper::letter(answer);
-                let value = gatekeeper::value(answer);
+                let letter = answers::letter(answer);
+                let value = answers::value(answer);
                 match text::write_line(&mut out[used..], position, r.code, letter, value) {
                     Written::Bytes(n) => {
                         used = used + n;

@@ -6,7 +6,8 @@ use lib.ListN.{getD}
 use lib.Dec.{ltb, eqb}
 use Rattle.model.specs.Lists.{each}
 use Rattle.model.specs.Calls.{Raw, Answer, allowed, lowered, refused}
-use Rattle.gatekeeper.specs.View.{letter-of, value-of, direct}
+use Rattle.answers.specs.Telling.{letter-of, value-of}
+use Rattle.gatekeeper.specs.View.{direct}
 pub mod Laws
 
 abbrev pub lesser : ℕ → ℕ → ℕ

@@ -47,8 +47,8 @@ pub fn run(calls: &[u32], out: &mut [u8]) -> Ran
         );
         let answer = r.answer;
         let to = i * 2;
-        out[to] = gatekeeper::letter(answer);
-        out[to + 1] = gatekeeper::value(answer);
+        out[to] = answers::letter(answer);
+        out[to + 1] = answers::value(answer);
         m = r.monitor;
         i += 1;
     }

@@ -1,5 +1,6 @@
-// The record at any number that a call names, and what a record becomes where something falls.
+// The record at any number that a call names, what its way says, and what a record becomes where something falls.
 ghost use mathlib.Core.Path.{_≡_};
+ghost use mathlib.Core.Bool.{_||_};
 ghost use Rattle.tables.specs.Records.{reads-by};
 ghost use Rattle.tables.specs.Working.{subject-at, object-at, handle-at, fallen-by, sunken-by};
 use crate::EMPTY;
@@ -56,6 +57,15 @@ pub fn handle_at(s: u32, p: u32, h: Handle) -> Handle
         };
     }
     h
+}
+
+pub fn either(a: bool, b: bool) -> bool
+    ensures { λ r. ⌜ r ≡ (a || b) ⌝ }
+{
+    if a {
+        return true;
+    }
+    b
 }
 
 // A handle of this way reads: a mapping does, too.

@@ -3,7 +3,7 @@
 //
 // The records are those at the numbers that the call names, empty ones where a number is out of range (`looks`).
 ghost use mathlib.Core.Path.{_≡_};
-ghost use mathlib.Core.Bool.{_&&_, _||_};
+ghost use mathlib.Core.Bool.{_&&_};
 ghost use Prim.Native.Nat.{ℕ};
 ghost use Rattle.model.specs.Flow.{subject, object};
 ghost use Rattle.model.specs.Tables.{Tables, Dir, reading, writing};
@@ -60,15 +60,6 @@ fn first(
         return 8;
     }
     0
-}
-
-fn either(a: bool, b: bool) -> bool
-    ensures { λ r. ⌜ r ≡ (a || b) ⌝ }
-{
-    if a {
-        return true;
-    }
-    b
 }
 
 fn both(a: bool, b: bool) -> bool
@@ -157,8 +148,8 @@ pub fn of_pipe(o: u32, r: u32, w: u32, x: Subject, y: Object, h: Handle, k: Hand
     let at_r = place_used(r, h);
     let at_w = place_used(w, k);
     let same = r == w;
-    let w_or_same = either(at_w, same);
-    let place = either(at_r, w_or_same);
+    let w_or_same = looks::either(at_w, same);
+    let place = looks::either(at_r, w_or_same);
     first(absent, used, false, false, false, place, false)
 }
 

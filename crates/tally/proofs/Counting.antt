@@ -26,7 +26,8 @@ use Rattle.tables.specs.declared.Subject.{Subject}
 use Rattle.tables.specs.declared.Object.{Object}
 use Rattle.tables.specs.declared.Handle.{Handle}
 use Rattle.tables.specs.Records.{hands, along, tables-of}
-use Rattle.gatekeeper.specs.View.{direct, refuses}
+use Rattle.answers.specs.Telling.{refuses}
+use Rattle.gatekeeper.specs.View.{direct}
 use Rattle.tally.specs.Counting.{made-by, gone-by}
 
 -- ── what a code makes and removes ──

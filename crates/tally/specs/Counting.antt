@@ -10,7 +10,8 @@ use Rattle.model.specs.Tally.{tallied}
 use Rattle.model.specs.Tally.{Tally as Counts}
 use Rattle.gatekeeper.specs.declared.Monitor.{Monitor}
 use Rattle.gatekeeper.specs.declared.Reply.{Reply}
-use Rattle.gatekeeper.specs.View.{view, told, direct}
+use Rattle.answers.specs.Telling.{told}
+use Rattle.gatekeeper.specs.View.{view, direct}
 use Rattle.tally.specs.declared.Tally.{Tally}
 
 abbrev pub counts-of : Tally → Counts

@@ -138,7 +138,7 @@ fn tallied_call(
 {
     let r = monitor.call(code, a, b, c, d);
     let answer = r.answer;
-    if gatekeeper::is_refused(answer) {
+    if answers::is_refused(answer) {
         return Counted {
             reply: r,
             tally: tally,

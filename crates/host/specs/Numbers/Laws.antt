@@ -13,7 +13,7 @@ use Rattle.number.specs.Leb.{Reading, good, largest, number}
 use Rattle.number.specs.Leb.Laws.{number-bytes}
 use Rattle.text.specs.Reply.{end-word, space, newline, field, ending}
 use Rattle.replay.specs.Replay.{Replied, replied, replies, calls-of, records-of, lines, last-line, text, largest-journal, reply}
-use Rattle.gatekeeper.specs.View.{letter-of, value-of}
+use Rattle.answers.specs.Telling.{letter-of, value-of}
 use Rattle.host.specs.Numbers.{answer-number, letter-in, value-in, answer-by, answer-in, reading-number}
 
 -- ── calls ──

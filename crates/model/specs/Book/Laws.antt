@@ -165,9 +165,9 @@ module _ (ℓ : Label) (o₁ o₂ : ℕ) (t : Tables) (v : Kept t) where
         (needs t, pot, f),
         guards-keep ℓ o₁ o₂ (Going t (needs t)) (rereads t x) (λ k i u g. let r = reread-of t x k i in
             subst (λ (j : Step). Guard ℓ o₁ o₂ u j × Going t (needs t) (apply j u)) (r .is) (
-          (needs t, g .pot, reread-feeds t (needs t) (v .mapped) x (r .by) (r .through) u g),
-          going-next t (needs t) (v .mapped) x (r .by) (r .through) u g,
-        )) (apply (mix writes x (subject s) x (cell t s)) t) (going-written t (needs t) (v .wf) pot s x f),
+              (needs t, g .pot, reread-feeds t (needs t) (v .mapped) x (r .by) (r .through) u g),
+              going-next t (needs t) (v .mapped) x (r .by) (r .through) u g,
+            )) (apply (mix writes x (subject s) x (cell t s)) t) (going-written t (needs t) (v .wf) pot s x f),
       )
   guarded (fork s c) b m = let r = cell-entry t s (is-alive t s (m (alive s) (inl refl))) in
       ((r .0, r .1, subst (λ (o : Option Entry). label-of o ⊑ r .0 .label) (sym (r .1)) ⊑-refl), (tt, tt))

@@ -270,11 +270,13 @@ module _ (t : Tables) (v : Kept t) where
       went : (d : Dir) → Feeds t (needs t) (arc d (cell t s) x .dst) (arc d (cell t s) x .src) → Stepped t (applies (steps t (access d s p)) t)
       went reading f = mix-stepped t v (needs t) reads (subject s) x (cell t s) x t (none-stepped t v) (pot t v) f
       went writing f = rereads-keep (λ u. Going t (needs t) u × Stepped t u) t x
-          (λ m h u g. (going-next t (needs t) (v .mapped) x m h u (g .0),
-          mix-stepped t v (needs t) reads (subject m) x (cell t m) x u (g .1) (g .0 .pot) (reread-feeds t (needs t) (v .mapped) x m h u (g .0)))) written (
-        going-written t (needs t) (v .wf) (pot t v) s x f,
-        mix-stepped t v (needs t) writes x (subject s) x (cell t s) t (none-stepped t v) (pot t v) f,
-      ) .1
+          (λ m h u g. (
+            going-next t (needs t) (v .mapped) x m h u (g .0),
+            mix-stepped t v (needs t) reads (subject m) x (cell t m) x u (g .1) (g .0 .pot) (reread-feeds t (needs t) (v .mapped) x m h u (g .0)),
+          )) written (
+            going-written t (needs t) (v .wf) (pot t v) s x f,
+            mix-stepped t v (needs t) writes x (subject s) x (cell t s) t (none-stepped t v) (pot t v) f,
+          ) .1
 
   exec-stepped : (s o : ℕ) → T (not (broken t (present o))) → T (not (broken t (suits s o))) → Stepped t (applies (steps t (exec s o)) t)
   exec-stepped s o h g = subst (Stepped t) (sym (applies-append (sheds t s) (mix runs (subject s) (object o) (cell t s) (object o) ∷ []) t))

@@ -3,7 +3,7 @@ use mathlib.Core.Path.{refl, sym, _∙_, ap, subst}
 use borrow.Author.Needs.{needs}
 use Rattle.model.specs.Calls.{refused}
 use Rattle.journal.specs.Answers.{Said, body-answer}
-use Rattle.gatekeeper.specs.View.{told}
+use Rattle.answers.specs.Telling.{told}
 use Rattle.tally.specs.Counting.{counts-of}
 use Rattle.replay.specs.One.{One}
 use Rattle.replay.proofs.one.Statement.{statement}

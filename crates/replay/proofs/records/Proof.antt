@@ -17,7 +17,8 @@ use Rattle.journal.specs.Answers.{answers as reads, refused as bad}
 use Rattle.journal.specs.Journal.{entry-at, body-in}
 use Rattle.replay.specs.One.{One}
 use Rattle.journal.specs.Journal.Laws.{entry-next}
-use Rattle.gatekeeper.specs.View.{view, told, letter-of, value-of}
+use Rattle.answers.specs.Telling.{told, letter-of, value-of}
+use Rattle.gatekeeper.specs.View.{view}
 use Rattle.tally.specs.Counting.{counts-of}
 use Rattle.replay.specs.Demand3.Laws.{run-ended}
 use Rattle.replay.specs.Stage.{Going, going-begun, at-test, record-turn, record-ends, broken-turn, broken-ends, end-turn, ended, end-short}

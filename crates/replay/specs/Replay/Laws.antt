@@ -23,7 +23,8 @@ use Rattle.journal.specs.Answers.{Answer as Read, answers as reads, refused as 
 use Rattle.journal.specs.Calls.{arity-of, known}
 use Rattle.journal.specs.Journal.{sized, entry-at, arguments-in, call-with, coded, body-in}
 use Rattle.gatekeeper.specs.declared.Monitor.{Monitor}
-use Rattle.gatekeeper.specs.View.{letter-of, value-of, view}
+use Rattle.answers.specs.Telling.{letter-of, value-of}
+use Rattle.gatekeeper.specs.View.{view}
 use Rattle.text.specs.Reply.{line}
 use Rattle.replay.specs.Replay.{followed, records, raw, unknown-call, calls-of, replies, lines, last-line}
 use Rattle.replay.specs.One.{One}

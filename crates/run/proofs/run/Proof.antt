@@ -4,7 +4,8 @@ use Prim.Native.Nat.{ℕ, _+_, _*_, _-_, _/_, _≤_}
 use native.Mathlib.Omega.{arith}
 use borrow.Author.Needs.{needs}
 use lib.ListN.{length, set, length-set}
-use Rattle.gatekeeper.specs.View.{view, told}
+use Rattle.answers.specs.Telling.{told}
+use Rattle.gatekeeper.specs.View.{view}
 use Rattle.run.specs.Buffers.{lesser}
 use Rattle.run.specs.Buffers.Laws.{lesser-left, lesser-right, So-far, so-far-none, so-far-more, run-demand3}
 use Rattle.run.proofs.run.Statement.{statement}

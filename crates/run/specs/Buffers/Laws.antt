@@ -16,7 +16,8 @@ use Rattle.model.specs.Promise.{Meets}
 use Rattle.model.specs.Demand3.{Demand3}
 use Rattle.model.specs.Demand3.Laws.{rules-demand3, after-more, answers-more, meets-next}
 use Rattle.gatekeeper.specs.declared.Monitor.{Monitor}
-use Rattle.gatekeeper.specs.View.{letter-of, value-of, view}
+use Rattle.answers.specs.Telling.{letter-of, value-of}
+use Rattle.gatekeeper.specs.View.{view}
 use Rattle.run.specs.Buffers.{lesser, call-at, calls-in, bytes, answers-in}
 
 pub lesser-left : (a b : ℕ) → lesser a b ≤ a

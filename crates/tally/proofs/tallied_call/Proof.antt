@@ -5,7 +5,8 @@ use borrow.Author.Needs.{needs}
 use Rattle.model.specs.Tables.{clean}
 use Rattle.model.specs.Calls.{decode}
 use Rattle.model.specs.Tally.{wrapped}
-use Rattle.gatekeeper.specs.View.{view, told, direct}
+use Rattle.answers.specs.Telling.{told}
+use Rattle.gatekeeper.specs.View.{view, direct}
 use Rattle.tally.specs.Counting.{counts-of}
 use Rattle.tally.proofs.Counting.{makes-is, removes-is, tally-same, tally-moved}
 use Rattle.tally.proofs.tallied_call.Statement.{statement}

@@ -2,7 +2,8 @@
 use mathlib.Core.Path.{sym, subst}
 use Rattle.model.specs.Calls.{Call, unknown, decode}
 use Rattle.model.specs.Calls.Codes.{decode-unknown, unknown-refused}
-use Rattle.gatekeeper.specs.View.{view, told, direct}
+use Rattle.answers.specs.Telling.{told}
+use Rattle.gatekeeper.specs.View.{view, direct}
 use Rattle.gatekeeper.specs.Acting.{Acts}
 use Rattle.gatekeeper.proofs.Acting.{halts}
 use borrow.Author.Needs.{needs}
@@ -47,6 +48,9 @@ exit-requires c κs = c .before .pre
 
 retire-requires : tie.Need-retire-requires
 retire-requires c κs = c .before .pre
+
+map-requires : tie.Need-map-requires
+map-requires c κs = c .before .pre
 
 mark-requires : tie.Need-mark-requires
 mark-requires c κs = c .before .pre
@@ -111,18 +115,22 @@ returns-13 c = rw (c .before .match .keys13) (c .retire .ensures)
 
 returns-14 : tie.Need-returns-14
 unfolding decode
-returns-14 c = rw (c .before .match .keys14) (c .mark .ensures)
+returns-14 c = rw (c .before .match .keys14) (c .map .ensures)
 
 returns-15 : tie.Need-returns-15
 unfolding decode
-returns-15 c = rw (c .before .match .keys15) (c .freeze .ensures)
+returns-15 c = rw (c .before .match .keys15) (c .mark .ensures)
 
 returns-16 : tie.Need-returns-16
-returns-16 c =
+unfolding decode
+returns-16 c = rw (c .before .match .keys16) (c .freeze .ensures)
+
+returns-17 : tie.Need-returns-17
+returns-17 c =
     let c2 = c .before .before in
     let a = c2 .args in
     subst (λ (k : Call). Acts (a .self) k (told (c .refuse .result .answer)) (c .refuse .result .monitor))
-    (sym (decode-unknown (direct (a .code) (a .a) (a .b) (a .c) (a .d)) (c .before .match .rest .0 .0 .0 .0 .0 .0 .0 .0 .0 .0 .0 .0 .0 .0 .1, (c .before .match .rest .0 .0 .0 .0 .0 .0 .0 .0 .0 .0 .0 .0 .0 .1, (c .before .match .rest .0 .0 .0 .0 .0 .0 .0 .0 .0 .0 .0 .0 .1, (c .before .match .rest .0 .0 .0 .0 .0 .0 .0 .0 .0 .0 .0 .1, (c .before .match .rest .0 .0 .0 .0 .0 .0 .0 .0 .0 .0 .1, (c .before .match .rest .0 .0 .0 .0 .0 .0 .0 .0 .0 .1, (c .before .match .rest .0 .0 .0 .0 .0 .0 .0 .0 .1, (c .before .match .rest .0 .0 .0 .0 .0 .0 .0 .1, (c .before .match .rest .0 .0 .0 .0 .0 .0 .1, (c .before .match .rest .0 .0 .0 .0 .0 .1, (c .before .match .rest .0 .0 .0 .0 .1, (c .before .match .rest .0 .0 .0 .1, (c .before .match .rest .0 .0 .1, (c .before .match .rest .0 .1, (c .before .match .rest .1, tt)))))))))))))))))
+    (sym (decode-unknown (direct (a .code) (a .a) (a .b) (a .c) (a .d)) (c .before .match .rest .0 .0 .0 .0 .0 .0 .0 .0 .0 .0 .0 .0 .0 .0 .0 .1, (c .before .match .rest .0 .0 .0 .0 .0 .0 .0 .0 .0 .0 .0 .0 .0 .0 .1, (c .before .match .rest .0 .0 .0 .0 .0 .0 .0 .0 .0 .0 .0 .0 .0 .1, (c .before .match .rest .0 .0 .0 .0 .0 .0 .0 .0 .0 .0 .0 .0 .1, (c .before .match .rest .0 .0 .0 .0 .0 .0 .0 .0 .0 .0 .0 .1, (c .before .match .rest .0 .0 .0 .0 .0 .0 .0 .0 .0 .0 .1, (c .before .match .rest .0 .0 .0 .0 .0 .0 .0 .0 .0 .1, (c .before .match .rest .0 .0 .0 .0 .0 .0 .0 .0 .1, (c .before .match .rest .0 .0 .0 .0 .0 .0 .0 .1, (c .before .match .rest .0 .0 .0 .0 .0 .0 .1, (c .before .match .rest .0 .0 .0 .0 .0 .1, (c .before .match .rest .0 .0 .0 .0 .1, (c .before .match .rest .0 .0 .0 .1, (c .before .match .rest .0 .0 .1, (c .before .match .rest .0 .1, (c .before .match .rest .1, tt))))))))))))))))))
     (halts (a .self) unknown 1 (c .refuse .result) (unknown-refused (view (a .self))) (c .refuse .ensures))
 
 pub dispatch-spec : {M : Type 1} → statement M
@@ -142,6 +150,7 @@ dispatch-spec =
     close-requires
     exit-requires
     retire-requires
+    map-requires
     mark-requires
     freeze-requires
     refuse-requires
@@ -160,4 +169,5 @@ dispatch-spec =
     returns-13
     returns-14
     returns-15
-    returns-16)
+    returns-16
+    returns-17)

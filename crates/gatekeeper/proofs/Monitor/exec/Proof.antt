@@ -1,6 +1,7 @@
 -- `gatekeeper::Monitor::exec` meets its contract. Assumes nothing.
 use Rattle.model.specs.Calls.{exec}
-use Rattle.gatekeeper.specs.View.{view, told}
+use Rattle.answers.specs.Telling.{told}
+use Rattle.gatekeeper.specs.View.{view}
 use Rattle.gatekeeper.proofs.Acting.{stops, ends, waits, frees}
 use Rattle.gatekeeper.proofs.Storing.{subject-got, object-got, exec-late, execs}
 use borrow.Author.Needs.{needs}
@@ -47,8 +48,8 @@ returns c =
 row-of-requires : tie.Need-row-of-requires
 row-of-requires c κs = search needs
 
-unmarked-requires : tie.Need-unmarked-requires
-unmarked-requires c κs = search needs
+lasting-requires : tie.Need-lasting-requires
+lasting-requires c κs = search needs
 
 with-row-requires : tie.Need-with-row-requires
 with-row-requires c κs = search needs
@@ -81,8 +82,8 @@ returns-2 c =
     let y = object-got (a .t1) g (a .o) (c11 .object-at .result) (c11 .object-at .ensures) in
     let z = waits (c10 .of-exec .ensures (view (a .t1)) (a .s) (a .o) w x y) (c9 .if1 .left) in
     let e = c2 .last .ensures (view (a .t1)) (exec (a .s) (a .o)) z
-    (exec-late (a .t1) g (a .s) (a .o) (c11 .object-at .result) (c6 .row-of .result) (c5 .unmarked .result) (c4 .with-row .result)
-    w z y (c6 .row-of .ensures) (c5 .unmarked .ensures) (c4 .with-row .ensures) (c3 .is-below .result)
+    (exec-late (a .t1) g (a .s) (a .o) (c11 .object-at .result) (c6 .row-of .result) (c5 .lasting .result) (c4 .with-row .result)
+    w z y (c6 .row-of .ensures) (c5 .lasting .ensures) (c4 .with-row .ensures) (c3 .is-below .result)
     (c3 .is-below .ensures)) in
     ends (a .t1) (exec (a .s) (a .o)) (c2 .last .result) (c .refuse2 .result) e (c .before .if2 .taken) (c .refuse2 .ensures)
 
@@ -98,37 +99,38 @@ mul-put c = search needs
 element-set-from-put : tie.Need-element-set-from-put
 element-set-from-put c = search needs
 
-fallen-requires-2 : tie.Need-fallen-requires-2
-fallen-requires-2 c κs = search needs
+not-refused-requires : tie.Need-not-refused-requires
+not-refused-requires c κs = search needs
 
 returns-3 : tie.Need-returns-3
 returns-3 c =
-    let c4 = c .before .before .before .before in
+    let c3 = c .before .before .before in
+    let c4 = c3 .before in
     let c5 = c4 .before in
     let c6 = c5 .before in
     let c7 = c6 .before in
     let c8 = c7 .before in
-    let c11 = c8 .before .before .before in
-    let c12 = c11 .before in
-    let c13 = c12 .before in
+    let c9 = c8 .before in
+    let c10 = c9 .before in
+    let c13 = c10 .before .before .before in
     let c14 = c13 .before in
-    let c17 = c14 .before .before .before in
-    let a = c17 .args in
-    let g = c17 .good .0 in
-    let w = c17 .pre in
-    let x = subject-got (a .t1) g (a .s) (c14 .subject-at .result) (c14 .subject-at .ensures) in
-    let y = object-got (a .t1) g (a .o) (c13 .object-at .result) (c13 .object-at .ensures) in
-    let z = waits (c12 .of-exec .ensures (view (a .t1)) (a .s) (a .o) w x y) (c11 .if1 .left) in
-    let e = c4 .last .ensures (view (a .t1)) (exec (a .s) (a .o)) z
-    (exec-late (a .t1) g (a .s) (a .o) (c13 .object-at .result) (c8 .row-of .result) (c7 .unmarked .result) (c6 .with-row .result)
-    w z y (c8 .row-of .ensures) (c7 .unmarked .ensures) (c6 .with-row .ensures) (c5 .is-below .result)
-    (c5 .is-below .ensures)) in
-    let c1 = c .before in
-    let c2 = c1 .before in
-    execs (a .t1) g (a .s) (a .o) (c13 .object-at .result) (c8 .row-of .result) (c7 .unmarked .result) (c6 .with-row .result)
-    w z y (c8 .row-of .ensures) (c7 .unmarked .ensures) (c6 .with-row .ensures) (c14 .subject-at .result)
-    (c2 .fallen .result) (c1 .reaped .result) (told (c .fallen2 .result)) x (frees e (c2 .before .if2 .left)) (c2 .fallen .ensures) (c .fallen2 .ensures)
-    (c1 .reaped .ensures)
+    let c15 = c14 .before in
+    let c16 = c15 .before in
+    let c19 = c16 .before .before .before in
+    let a = c19 .args in
+    let g = c19 .good .0 in
+    let w = c19 .pre in
+    let x = subject-got (a .t1) g (a .s) (c16 .subject-at .result) (c16 .subject-at .ensures) in
+    let y = object-got (a .t1) g (a .o) (c15 .object-at .result) (c15 .object-at .ensures) in
+    let z = waits (c14 .of-exec .ensures (view (a .t1)) (a .s) (a .o) w x y) (c13 .if1 .left) in
+    let e = c6 .last .ensures (view (a .t1)) (exec (a .s) (a .o)) z
+    (exec-late (a .t1) g (a .s) (a .o) (c15 .object-at .result) (c10 .row-of .result) (c9 .lasting .result) (c8 .with-row .result)
+    w z y (c10 .row-of .ensures) (c9 .lasting .ensures) (c8 .with-row .ensures) (c7 .is-below .result)
+    (c7 .is-below .ensures)) in
+    execs (a .t1) g (a .s) (a .o) (c15 .object-at .result) (c10 .row-of .result) (c9 .lasting .result) (c8 .with-row .result)
+    w z y (c10 .row-of .ensures) (c9 .lasting .ensures) (c8 .with-row .ensures) (c16 .subject-at .result)
+    (c4 .fallen .result) (c3 .reaped .result) (told (c .not-refused .result)) x (frees e (c5 .if2 .left)) (c4 .fallen .ensures) (c .not-refused .ensures)
+    (c3 .reaped .ensures)
 
 pub exec-spec : {M : Type 1} → statement M
 exec-spec =
@@ -144,7 +146,7 @@ exec-spec =
     refuse-requires
     returns
     row-of-requires
-    unmarked-requires
+    lasting-requires
     with-row-requires
     is-below-requires
     last-requires
@@ -154,5 +156,5 @@ exec-spec =
     reaped-requires
     mul-put
     element-set-from-put
-    fallen-requires-2
+    not-refused-requires
     returns-3)

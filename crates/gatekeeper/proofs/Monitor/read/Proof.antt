@@ -1,7 +1,8 @@
 -- `gatekeeper::Monitor::read` meets its contract. Assumes nothing.
 use Rattle.model.specs.Tables.{reading}
 use Rattle.model.specs.Calls.{access}
-use Rattle.gatekeeper.specs.View.{view, told}
+use Rattle.answers.specs.Telling.{told}
+use Rattle.gatekeeper.specs.View.{view}
 use Rattle.gatekeeper.proofs.Acting.{stops, goes}
 use Rattle.gatekeeper.proofs.Storing.{subject-got, handle-got, reads}
 use borrow.Author.Needs.{needs}
@@ -69,24 +70,24 @@ mul-put c = search needs
 element-set-from-put : tie.Need-element-set-from-put
 element-set-from-put c = search needs
 
-fallen-requires-2 : tie.Need-fallen-requires-2
-fallen-requires-2 c κs = search needs
+not-refused-requires : tie.Need-not-refused-requires
+not-refused-requires c κs = search needs
 
 returns-2 : tie.Need-returns-2
 returns-2 c =
-    let c4 = c .before .before .before .before in
-    let c5 = c4 .before in
-    let c6 = c5 .before in
+    let c3 = c .before .before .before in
+    let c6 = c3 .before .before .before in
     let c7 = c6 .before in
-    let c10 = c7 .before .before .before in
-    let a = c10 .args in
-    let g = c10 .good .0 in
-    let w = c10 .pre in
-    let z = goes (c5 .of-read .ensures (view (a .t1)) (a .s) (a .p) w (subject-got (a .t1) g (a .s) (c7 .subject-at .result) (c7 .subject-at .ensures))
-    (handle-got (a .t1) g (a .s) (a .p) (c6 .handle-at .result) (c6 .handle-at .ensures))) (c4 .if1 .left) in
-    reads (a .t1) g (a .s) (a .p) (c7 .subject-at .result) (c .before .fallen .result) (c6 .handle-at .result) (told (c .fallen2 .result)) w z
-    (subject-got (a .t1) g (a .s) (c7 .subject-at .result) (c7 .subject-at .ensures))
-    (handle-got (a .t1) g (a .s) (a .p) (c6 .handle-at .result) (c6 .handle-at .ensures)) (c .before .fallen .ensures) (c .fallen2 .ensures)
+    let c8 = c7 .before in
+    let c9 = c8 .before in
+    let c12 = c9 .before .before .before in
+    let a = c12 .args in
+    let g = c12 .good .0 in
+    let w = c12 .pre in
+    let x = subject-got (a .t1) g (a .s) (c9 .subject-at .result) (c9 .subject-at .ensures) in
+    let h = handle-got (a .t1) g (a .s) (a .p) (c8 .handle-at .result) (c8 .handle-at .ensures) in
+    reads (a .t1) g (a .s) (a .p) (c9 .subject-at .result) (c3 .fallen .result) (c8 .handle-at .result) (told (c .not-refused .result)) w
+    (goes (c7 .of-read .ensures (view (a .t1)) (a .s) (a .p) w x h) (c6 .if1 .left)) x h (c3 .fallen .ensures) (c .not-refused .ensures)
 
 pub read-spec : {M : Type 1} → statement M
 read-spec =
@@ -109,5 +110,5 @@ read-spec =
     fallen-requires
     mul-put
     element-set-from-put
-    fallen-requires-2
+    not-refused-requires
     returns-2)

@@ -1,7 +1,10 @@
 -- `gatekeeper::Monitor::write` meets its contract. Assumes nothing.
+use mathlib.Core.Path.{_∙_, ap}
+use mathlib.Core.Bool.{Bool}
 use Rattle.model.specs.Tables.{writing}
-use Rattle.model.specs.Calls.{access}
-use Rattle.gatekeeper.specs.View.{view, told}
+use Rattle.model.specs.Calls.{access, outcome}
+use Rattle.answers.specs.Telling.{told}
+use Rattle.gatekeeper.specs.View.{view}
 use Rattle.gatekeeper.proofs.Acting.{stops, goes}
 use Rattle.gatekeeper.proofs.Storing.{subject-got, handle-got, writes}
 use borrow.Author.Needs.{needs}
@@ -63,30 +66,42 @@ element-copy-out-y c = search needs
 sunken-requires : tie.Need-sunken-requires
 sunken-requires c κs = search needs
 
+reread-requires : tie.Need-reread-requires
+reread-requires c κs = search needs
+
+is-lower-requires : tie.Need-is-lower-requires
+is-lower-requires c κs = search needs
+
+either-requires : tie.Need-either-requires
+either-requires c κs = search needs
+
 mul-put : tie.Need-mul-put
 mul-put c = search needs
 
 element-set-from-put : tie.Need-element-set-from-put
 element-set-from-put c = search needs
 
-fallen-requires : tie.Need-fallen-requires
-fallen-requires c κs = search needs
+not-refused-requires : tie.Need-not-refused-requires
+not-refused-requires c κs = search needs
 
 returns-2 : tie.Need-returns-2
 returns-2 c =
-    let c4 = c .before .before .before .before in
-    let c5 = c4 .before in
-    let c6 = c5 .before in
-    let c7 = c6 .before in
-    let c10 = c7 .before .before .before in
-    let a = c10 .args in
-    let g = c10 .good .0 in
-    let w = c10 .pre in
-    let z = goes (c5 .of-write .ensures (view (a .t1)) (a .s) (a .p) w (subject-got (a .t1) g (a .s) (c7 .subject-at .result) (c7 .subject-at .ensures))
-    (handle-got (a .t1) g (a .s) (a .p) (c6 .handle-at .result) (c6 .handle-at .ensures))) (c4 .if1 .left) in
-    writes (a .t1) g (a .s) (a .p) (c7 .subject-at .result) (c6 .handle-at .result) (c .before .sunken .result) (told (c .fallen .result)) w z
-    (subject-got (a .t1) g (a .s) (c7 .subject-at .result) (c7 .subject-at .ensures))
-    (handle-got (a .t1) g (a .s) (a .p) (c6 .handle-at .result) (c6 .handle-at .ensures)) (c .before .sunken .ensures) (c .fallen .ensures)
+    let c2 = c .before .before in
+    let c5 = c2 .before .before .before in
+    let c8 = c5 .before .before .before in
+    let c11 = c8 .before .before .before in
+    let c12 = c11 .before in
+    let c13 = c12 .before in
+    let c14 = c13 .before in
+    let c17 = c14 .before .before .before in
+    let a = c17 .args in
+    let g = c17 .good .0 in
+    let w = c17 .pre in
+    let x = subject-got (a .t1) g (a .s) (c14 .subject-at .result) (c14 .subject-at .ensures) in
+    let h = handle-got (a .t1) g (a .s) (a .p) (c13 .handle-at .result) (c13 .handle-at .ensures) in
+    writes (a .t1) g (a .s) (a .p) (c14 .subject-at .result) (c13 .handle-at .result) (c8 .sunken .result) (c5 .reread .result) (c2 .is-lower .result)
+    (told (c .not-refused .result)) w (goes (c12 .of-write .ensures (view (a .t1)) (a .s) (a .p) w x h) (c11 .if1 .left)) x h (c8 .sunken .ensures)
+    (c5 .reread .ensures) (c2 .is-lower .ensures) (c .not-refused .ensures ∙ ap (λ (b : Bool). outcome b (c8 .sunken .result .level)) (c .before .either .ensures))
 
 pub write-spec : {M : Type 1} → statement M
 write-spec =
@@ -107,7 +122,10 @@ write-spec =
     mul-y
     element-copy-out-y
     sunken-requires
+    reread-requires
+    is-lower-requires
+    either-requires
     mul-put
     element-set-from-put
-    fallen-requires
+    not-refused-requires
     returns-2)

@@ -44,8 +44,7 @@ loop-less c = search needs
 loop-again : tie.Need-loop-again Inv-loop μ-loop
 loop-again c =
     let i = c .before .before .before .loop .i in
-    let a = c .before .before .before .before .args in
-    (
+    let a = c .before .before .before .before .args in (
       omega arith,
       let p = hits-more (λ j. reader-slot (getD (a .t1) j no-handle) (a .o) (j / 16)) 33 _ i (slot-below (getD (a .t1) i no-handle) (a .o) (i / 16) (omega arith))
           (c .before .before .before .loop .inv .1) in
