@@ -75,16 +75,23 @@ flat g (x ∷ l) = g x ++ flat g l
 abbrev pub live-of : ℕ → ℕ
 live-of n = cond (eqb n 1) 1 0
 
--- RULES H7, H8: of an object, 1 is a file, 2 a pipe, anything else free; of a handle, 1 reads, 2 writes, anything else is an empty place
-abbrev pub sort-of : ℕ → ℕ
-sort-of n = cond (eqb n 1) 1 (cond (eqb n 2) 2 0)
+-- RULES H7, H8: a byte below k is what it says, anything else is 0: of an object, 1 is a file, 2 a pipe, anything else free; of a handle, 1 reads,
+-- 2 writes, 3 is a mapping, anything else is an empty place
+abbrev pub sort-of : ℕ → ℕ → ℕ
+sort-of k n = cond (ltb n k) n 0
+
+abbrev pub kinds : ℕ
+kinds = 3
+
+abbrev pub ways : ℕ
+ways = 4
 
 -- as what byte each is stored
 abbrev pub live-byte : ℕ → ℕ
 live-byte n = cond (eqb n 0) 0 1
 
-abbrev pub sort-byte : ℕ → ℕ
-sort-byte n = cond (ltb n 2) n 2
+abbrev pub sort-byte : ℕ → ℕ → ℕ
+sort-byte k n = cond (ltb n k) n 2
 
 -- RULES H6 to H9, H15: the first byte, the second, and of a handle the third
 abbrev pub subject-of : List ℕ → Subject
@@ -94,16 +101,16 @@ abbrev pub subject-record : Subject → List ℕ
 subject-record x = live-byte (x .live) ∷ x .level ∷ []
 
 abbrev pub object-of : List ℕ → Object
-object-of b = record { kind = sort-of (getD b 0 0); level = getD b 1 0 }
+object-of b = record { kind = sort-of kinds (getD b 0 0); level = getD b 1 0 }
 
 abbrev pub object-record : Object → List ℕ
-object-record x = sort-byte (x .kind) ∷ x .level ∷ []
+object-record x = sort-byte kinds (x .kind) ∷ x .level ∷ []
 
 abbrev pub handle-of : List ℕ → Handle
-handle-of b = record { way = sort-of (getD b 0 0); object = getD b 1 0; mark = live-of (getD b 2 0) }
+handle-of b = record { way = sort-of ways (getD b 0 0); object = getD b 1 0; mark = live-of (getD b 2 0) }
 
 abbrev pub handle-record : Handle → List ℕ
-handle-record x = sort-byte (x .way) ∷ x .object ∷ live-byte (x .mark) ∷ []
+handle-record x = sort-byte ways (x .way) ∷ x .object ∷ live-byte (x .mark) ∷ []
 
 -- ── numbers, lowest byte first ──
 unfoldable pub whole : List ℕ → ℕ

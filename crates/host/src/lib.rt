@@ -58,8 +58,12 @@ const UNSIZED: u32 = 0;
 
 // ---- one record, from bytes and to bytes
 
-// What the first byte of a record means: of a subject 1 is live; of an object 1 is a file and 2 a pipe; of a handle 1 reads and 2 writes. Of a handle's
-// third byte 1 is a mark.
+const KINDS: u8 = 3;
+
+const WAYS: u8 = 4;
+
+// What the first byte of a record means: of a subject 1 is live; of an object 1 is a file and 2 a pipe; of a handle 1 reads, 2 writes and 3 is a mapping. Of
+// a handle's third byte 1 is a mark. Objects have KINDS such bytes and handles WAYS; anything else is 0.
 fn to_live(b: u8) -> u8
     ensures { λ r. ⌜ r ≡ live-of b ⌝ }
 {
@@ -69,14 +73,11 @@ fn to_live(b: u8) -> u8
     0
 }
 
-fn to_sort(b: u8) -> u8
-    ensures { λ r. ⌜ r ≡ sort-of b ⌝ }
+fn to_sort(known: u8, b: u8) -> u8
+    ensures { λ r. ⌜ r ≡ sort-of known b ⌝ }
 {
-    if b == 1 {
-        return 1;
-    }
-    if b == 2 {
-        return 2;
+    if b < known {
+        return b;
     }
     0
 }
@@ -91,10 +92,10 @@ fn from_live(live: u8) -> u8
     1
 }
 
-fn from_sort(b: u8) -> u8
-    ensures { λ r. ⌜ r ≡ sort-byte b ⌝ }
+fn from_sort(known: u8, b: u8) -> u8
+    ensures { λ r. ⌜ r ≡ sort-byte known b ⌝ }
 {
-    if b < 2 {
+    if b < known {
         return b;
     }
     2
@@ -133,7 +134,7 @@ fn load_objects(state: &[u8]) -> [Object; OBJECTS]
     let mut i: usize = 0;
     while i < OBJECTS {
         let at = OBJECTS_AT + 2 * i;
-        let kind = to_sort(state[at]);
+        let kind = to_sort(KINDS, state[at]);
         let next = at + 1;
         let level = state[next];
         r[i] = Object { kind, level };
@@ -154,7 +155,7 @@ fn load_handles(state: &[u8]) -> [Handle; HANDLES]
     let mut i: usize = 0;
     while i < HANDLES {
         let at = HANDLES_AT + 3 * i;
-        let way = to_sort(state[at]);
+        let way = to_sort(WAYS, state[at]);
         let next = at + 1;
         let object = state[next];
         let last = next + 1;
@@ -234,7 +235,7 @@ fn store_objects(state: &mut [u8], objects: [Object; OBJECTS])
         let kind = x.kind;
         let place = OBJECTS_AT + 2 * i;
         let next = place + 1;
-        state[place] = from_sort(kind);
+        state[place] = from_sort(KINDS, kind);
         state[next] = x.level;
         i += 1;
     }
@@ -252,7 +253,7 @@ fn store_handles(state: &mut [u8], handles: [Handle; HANDLES])
         let place = HANDLES_AT + 3 * i;
         let next = place + 1;
         let last = next + 1;
-        state[place] = from_sort(way);
+        state[place] = from_sort(WAYS, way);
         state[next] = x.object;
         state[last] = from_live(mark);
         i += 1;

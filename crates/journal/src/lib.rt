@@ -36,7 +36,7 @@ const ARITIES: [usize; CODES] = [
     2, // close s, p
     1, // exit s
     1, // retire o
-    0, // no call
+    3, // map s, o, p
     2, // mark s, p
     1, // freeze level
 ];

@@ -15,10 +15,10 @@ use Rattle.model.specs.Flow.{subject}
 use Rattle.model.specs.Tables.{Tables, one, clean}
 use Rattle.model.specs.Tables.Laws.{live-of}
 use Rattle.model.specs.Invariant.{Wf}
-use Rattle.model.specs.Calls.{Call, unmarked, decode, refusal, Answer, allowed, lowered, refused, answer}
+use Rattle.model.specs.Calls.{Call, lasting, decode, refusal, Answer, allowed, lowered, refused, answer}
 use Rattle.model.specs.Calls.Codes.{decode-by}
 use Rattle.model.specs.Calls.Refusals.{answered-refused}
-use Rattle.model.specs.Tally.{held, marks, makes, removes, wrapped, tallied}
+use Rattle.model.specs.Tally.{held, drops, makes, removes, wrapped, tallied}
 use Rattle.model.specs.Tally.Laws.{each-parts}
 use Rattle.model.specs.Tables.{Handle as Held}
 use Rattle.model.specs.Tally.{Tally as Counts}
@@ -33,14 +33,15 @@ use Rattle.tally.specs.Counting.{made-by, gone-by}
 -- ── what a code makes and removes ──
 pub makes-is : (t : Tables) (code a b c d : ℕ) → makes t (decode (direct code a b c d)) ≡ made-by code (held t a)
 makes-is t code a b c d = decode-by (λ (k : Call). makes t k ≡ made-by code (held t a)) (direct code a b c d)
-    (λ e. rw e, (λ e. rw e, (λ e. rw e, (λ e. rw e, (λ e. rw e, (λ e. rw e, (λ e. rw e, (λ e. rw e, (λ e. rw e, (λ e. rw e, (λ e. rw e, (λ e. rw e, (λ e. rw e, (λ e. rw e, (λ e. rw e, tt)))))))))))))))
+    (λ e. rw e, (λ e. rw e, (λ e. rw e, (λ e. rw e, (λ e. rw e, (λ e. rw e, (λ e. rw e, (λ e. rw e, (λ e. rw e, (λ e. rw e, (λ e. rw e, (λ e. rw e, (λ e. rw e, (λ e. rw e, (λ e. rw e, (λ e. rw e, tt))))))))))))))))
     (λ m. past (eqb code 4) 2 _ (ne-eqb code 4 (m .1 .1 .1 .0)) (past (eqb code 5) 1 _ (ne-eqb code 5 (m .1 .1 .1 .1 .0))
-    (past (eqb code 6) 1 _ (ne-eqb code 6 (m .1 .1 .1 .1 .1 .0)) (past (eqb code 9) (held t a) _ (ne-eqb code 9 (m .1 .1 .1 .1 .1 .1 .1 .1 .0)) refl))))
+    (past (eqb code 6) 1 _ (ne-eqb code 6 (m .1 .1 .1 .1 .1 .0)) (past (eqb code 9) (held t a) _ (ne-eqb code 9 (m .1 .1 .1 .1 .1 .1 .1 .1 .0))
+    (past (eqb code 14) 1 _ (ne-eqb code 14 (m .1 .1 .1 .1 .1 .1 .1 .1 .1 .1 .1 .1 .1 .0)) refl)))))
 
-pub removes-is : (t : Tables) (code a b c d : ℕ) → removes t (decode (direct code a b c d)) ≡ gone-by code (held t a) (marks t a)
-removes-is t code a b c d = decode-by (λ (k : Call). removes t k ≡ gone-by code (held t a) (marks t a)) (direct code a b c d)
-    (λ e. rw e, (λ e. rw e, (λ e. rw e, (λ e. rw e, (λ e. rw e, (λ e. rw e, (λ e. rw e, (λ e. rw e, (λ e. rw e, (λ e. rw e, (λ e. rw e, (λ e. rw e, (λ e. rw e, (λ e. rw e, (λ e. rw e, tt)))))))))))))))
-    (λ m. past (eqb code 10) (marks t a) _ (ne-eqb code 10 (m .1 .1 .1 .1 .1 .1 .1 .1 .1 .0)) (past (eqb code 11) 1 _ (ne-eqb code 11 (m .1 .1 .1 .1 .1 .1 .1 .1 .1 .1 .0))
+pub removes-is : (t : Tables) (code a b c d : ℕ) → removes t (decode (direct code a b c d)) ≡ gone-by code (held t a) (drops t a)
+removes-is t code a b c d = decode-by (λ (k : Call). removes t k ≡ gone-by code (held t a) (drops t a)) (direct code a b c d)
+    (λ e. rw e, (λ e. rw e, (λ e. rw e, (λ e. rw e, (λ e. rw e, (λ e. rw e, (λ e. rw e, (λ e. rw e, (λ e. rw e, (λ e. rw e, (λ e. rw e, (λ e. rw e, (λ e. rw e, (λ e. rw e, (λ e. rw e, (λ e. rw e, tt))))))))))))))))
+    (λ m. past (eqb code 10) (drops t a) _ (ne-eqb code 10 (m .1 .1 .1 .1 .1 .1 .1 .1 .1 .0)) (past (eqb code 11) 1 _ (ne-eqb code 11 (m .1 .1 .1 .1 .1 .1 .1 .1 .1 .1 .0))
     (past (eqb code 12) (held t a) _ (ne-eqb code 12 (m .1 .1 .1 .1 .1 .1 .1 .1 .1 .1 .1 .0)) refl)))
 
 -- ── the handles of a subject ──
@@ -62,22 +63,22 @@ none-held t w s h p = go (t .hand s p) refl
     go none q = refl
     go (some k) q = absurd (omega (arith, ltb→lt s 32 (live-of t (subject s) (w .ends s p k q .from) .0)))
 
--- the places of s, counted, and those without a mark
+-- the places of s, counted, and those that an exec leaves
 module _ (t : Tables) (s : ℕ) (row : List Handle) (e : (p : ℕ) → along row p ≡ t .hand s p) where
   pub held-is : (n : ℕ) → n ≡ length (each 16 (λ p. one (along row p))) → n ≡ held t s
   held-is n q = q ∙ ap (λ (g : ℕ → Option Held). length (each 16 (λ p. one (g p)))) (fun-ext e)
 
-  module _ (left : List Handle) (all rest : ℕ) (f : (p : ℕ) → along left p ≡ unmarked (along row p)) (qa : all ≡ length (each 16 (λ p. one (along row p))))
+  module _ (left : List Handle) (all rest : ℕ) (f : (p : ℕ) → along left p ≡ lasting (along row p)) (qa : all ≡ length (each 16 (λ p. one (along row p))))
       (qr : rest ≡ length (each 16 (λ p. one (along left p)))) where
-    parts : all ≡ marks t s + rest
-    parts = held-is all qa ∙ each-parts 16 (t .hand s) ∙ ap (λ (k : ℕ). marks t s + k)
-        (sym (qr ∙ ap (λ (g : ℕ → Option Held). length (each 16 (λ p. one (g p)))) (fun-ext (λ p. f p ∙ ap unmarked (e p)))))
+    parts : all ≡ drops t s + rest
+    parts = held-is all qa ∙ each-parts 16 (t .hand s) ∙ ap (λ (k : ℕ). drops t s + k)
+        (sym (qr ∙ ap (λ (g : ℕ → Option Held). length (each 16 (λ p. one (g p)))) (fun-ext (λ p. f p ∙ ap lasting (e p)))))
 
     pub rest-within : rest ≤ all
     rest-within = omega (arith, parts)
 
-    pub marks-is : all - rest ≡ marks t s
-    marks-is = omega (arith, parts)
+    pub drops-is : all - rest ≡ drops t s
+    drops-is = omega (arith, parts)
 
 -- ── the tally after a call ──
 false-true : false ≡ true → ⊥

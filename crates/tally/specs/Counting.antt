@@ -25,7 +25,7 @@ Counting m y code a b c d reply after =
 
 -- ── by the code: inner functions alone cite these ──
 abbrev pub made-by : ℕ → ℕ → ℕ
-made-by code held = cond (eqb code 4) 2 (cond (eqb code 5) 1 (cond (eqb code 6) 1 (cond (eqb code 9) held 0)))
+made-by code held = cond (eqb code 4) 2 (cond (eqb code 5) 1 (cond (eqb code 6) 1 (cond (eqb code 9) held (cond (eqb code 14) 1 0))))
 
 abbrev pub gone-by : ℕ → ℕ → ℕ → ℕ
-gone-by code held marked = cond (eqb code 10) marked (cond (eqb code 11) 1 (cond (eqb code 12) held 0))
+gone-by code held dropped = cond (eqb code 10) dropped (cond (eqb code 11) 1 (cond (eqb code 12) held 0))

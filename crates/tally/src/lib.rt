@@ -5,7 +5,7 @@ ghost use lib.ListN.{length};
 ghost use Rattle.model.specs.Lists.{each};
 ghost use Rattle.model.specs.Tables.{one, clean};
 ghost use Rattle.model.specs.Tally.{held as held-count};
-ghost use Rattle.model.specs.Tally.{marks};
+ghost use Rattle.model.specs.Tally.{drops};
 ghost use Rattle.tables.specs.Records.{held, along};
 ghost use Rattle.gatekeeper.specs.View.{view};
 ghost use Rattle.tally.specs.Counting.{Counting, made-by, gone-by};
@@ -72,7 +72,7 @@ fn row_by(monitor: Monitor, s: u32) -> [Handle; PLACES]
     handles::row_of(kept, i)
 }
 
-// How many handles subject s holds, and how many marked ones.
+// How many handles subject s holds, and how many of them an exec drops.
 fn held_by(monitor: Monitor, s: u32) -> u64
     ensures { λ r. ⌜ r ≡ held-count (clean (view monitor)) s ⌝ }
 {
@@ -80,11 +80,11 @@ fn held_by(monitor: Monitor, s: u32) -> u64
     count(row)
 }
 
-fn marked_by(monitor: Monitor, s: u32) -> u64
-    ensures { λ r. ⌜ r ≡ marks (clean (view monitor)) s ⌝ }
+fn dropped_by(monitor: Monitor, s: u32) -> u64
+    ensures { λ r. ⌜ r ≡ drops (clean (view monitor)) s ⌝ }
 {
     let row = row_by(monitor, s);
-    let left = handles::unmarked(row);
+    let left = handles::lasting(row);
     let all = count(row);
     let rest = count(left);
     all - rest
@@ -106,14 +106,17 @@ fn made_by(monitor: Monitor, code: u32, s: u32) -> u64
     if code == 9 {
         return held_by(monitor, s);
     }
+    if code == 14 {
+        return 1;
+    }
     0
 }
 
 fn gone_by(monitor: Monitor, code: u32, s: u32) -> u64
-    ensures { λ r. ⌜ r ≡ gone-by code (held-count (clean (view monitor)) s) (marks (clean (view monitor)) s) ⌝ }
+    ensures { λ r. ⌜ r ≡ gone-by code (held-count (clean (view monitor)) s) (drops (clean (view monitor)) s) ⌝ }
 {
     if code == 10 {
-        return marked_by(monitor, s);
+        return dropped_by(monitor, s);
     }
     if code == 11 {
         return 1;

@@ -7,7 +7,7 @@ use mathlib.Core.List.{List, [], _∷_, _++_, map, append-assoc}
 use Prim.Native.Nat.{ℕ, zero, suc, _+_, _*_, _/_, _^_, _≤_, _<_}
 use native.Mathlib.Omega.{arith}
 use native.Mathlib.Nat.{mul-zero, mul-suc}
-use borrow.Author.Tests.{le-ltb, ne-eqb}
+use borrow.Author.Tests.{lt-ltb, le-ltb, ne-eqb}
 use lib.Dec.{ltb, eqb}
 use lib.ListN.{length, take, drop, getD, set, replicate, length-append, length-replicate, List·getD-map}
 use lib.Seq.{take-at, drop-at, drop-drop, getD-drop, set-at}
@@ -25,7 +25,7 @@ use Rattle.tables.specs.Records.Laws.{empty-tables}
 use Rattle.gatekeeper.specs.View.{beside, view}
 use Rattle.tally.specs.Counting.{counts-of}
 use Rattle.host.specs.State.{state-bytes, subject-width, object-width, handle-width, objects-at, handles-at, made-at, gone-at, freeze-at}
-use Rattle.host.specs.State.{records, flat, live-of, sort-of, live-byte, sort-byte, subject-of, subject-record, object-of, object-record}
+use Rattle.host.specs.State.{records, flat, live-of, sort-of, kinds, ways, live-byte, sort-byte, subject-of, subject-record, object-of, object-record}
 use Rattle.host.specs.State.{handle-of, handle-record, whole, digits}
 use Rattle.host.specs.State.{subjects-of, objects-of, handles-of, made-of, gone-of, freeze-of, monitor-of, tally-of}
 use Rattle.host.specs.State.{subject-bytes, object-bytes, handle-bytes, bytes-of, blank-bytes, state-view, Blank}
@@ -107,7 +107,7 @@ plain-object x = object-of (object-record x)
 abbrev plain-handle : Handle → Handle
 plain-handle x = handle-of (handle-record x)
 
--- by the two ways in which a first byte is stored, and by the three
+-- by the two ways in which such a byte is stored
 live-cases : {A : Type 0} (f : ℕ → A) (g : Bool → A) → f 0 ≡ g true → f 1 ≡ g false → (n : ℕ) → f (live-byte n) ≡ g (eqb n 0)
 live-cases f g a b n = go (eqb n 0)
   where
@@ -115,34 +115,39 @@ live-cases f g a b n = go (eqb n 0)
     go true = a
     go false = b
 
-sort-cases : {A : Type 0} (f g : ℕ → A) → f 0 ≡ g 0 → f 1 ≡ g 1 → ((n : ℕ) → 2 ≤ n → f n ≡ g n) → (n : ℕ) → f n ≡ g n
-sort-cases f g a b c zero = a
-sort-cases f g a b c (suc zero) = b
-sort-cases f g a b c (suc (suc n)) = c (suc (suc n)) (omega arith)
-
 -- it is stored as the same byte again
 live-same : (n : ℕ) → live-byte (live-of (live-byte n)) ≡ live-byte n
 live-same = live-cases (λ k. live-byte (live-of k)) (λ t. cond t 0 1) refl refl
 
-sort-same : (n : ℕ) → sort-byte (sort-of (sort-byte n)) ≡ sort-byte n
-sort-same = sort-cases (λ n. sort-byte (sort-of (sort-byte n))) sort-byte refl refl (λ n h. rw (le-ltb n 2 h))
+sort-same : (k n : ℕ) → 2 < k → sort-byte k (sort-of k (sort-byte k n)) ≡ sort-byte k n
+sort-same k n l = go (ltb n k) refl
+  where
+    go : (b : Bool) → ltb n k ≡ b → sort-byte k (sort-of k (cond b n 2)) ≡ cond b n 2
+    go true q = rw (q, q)
+    go false q = rw (lt-ltb 2 k l, lt-ltb 2 k l)
 
 -- and tests that tables are read by see no other value
 live-tested : (n : ℕ) → eqb (live-of (live-byte n)) 0 ≡ eqb n 0
 live-tested = live-cases (λ k. eqb (live-of k) 0) (λ t. t) refl refl
 
-sort-tested : (v n : ℕ) → v < 2 → eqb (sort-of (sort-byte n)) v ≡ eqb n v
-sort-tested v n l = sort-cases (λ k. eqb (sort-of (sort-byte k)) v) (λ k. eqb k v) refl refl
-    (λ k h. rw (le-ltb k 2 h, ne-eqb 2 v (λ e. omega arith), ne-eqb k v (λ e. omega arith))) n
+sort-tested : (k v n : ℕ) → 2 < k → v < k → (v ≡ 2 → ⊥) → eqb (sort-of k (sort-byte k n)) v ≡ eqb n v
+sort-tested k v n l lv ne = go (ltb n k) refl
+  where
+    go : (b : Bool) → ltb n k ≡ b → eqb (sort-of k (cond b n 2)) v ≡ eqb n v
+    go true q = rw q
+    go false q = rw (lt-ltb 2 k l, ne-eqb 2 v (λ e. ne (sym e)), ne-eqb n v (λ e. omega (arith, ltb-false n k q)))
 
 subject-same : (x : Subject) → subject-entry (plain-subject x) ≡ subject-entry x
 subject-same x = rw (live-tested (x .live))
 
 object-same : (x : Object) → object-entry (plain-object x) ≡ object-entry x
-object-same x = rw (sort-tested 0 (x .kind) (omega arith), sort-tested 1 (x .kind) (omega arith))
+object-same x = rw (sort-tested kinds 0 (x .kind) (omega arith) (omega arith) (λ e. omega arith), sort-tested kinds 1 (x .kind) (omega arith) (omega arith) (λ e. omega arith))
 
 handle-same : (x : Handle) → held (plain-handle x) ≡ held x
-handle-same x = rw (sort-tested 0 (x .way) (omega arith), sort-tested 1 (x .way) (omega arith), live-tested (x .mark))
+handle-same x = rw (tested 0 (omega arith) (λ e. omega arith), tested 1 (omega arith) (λ e. omega arith), tested 3 (omega arith) (λ e. omega arith), live-tested (x .mark))
+  where
+    tested : (v : ℕ) → v < ways → (v ≡ 2 → ⊥) → eqb (sort-of ways (sort-byte ways (x .way))) v ≡ eqb (x .way) v
+    tested v l ne = sort-tested ways v (x .way) (omega arith) l ne
 
 abbrev plain : Monitor → Monitor
 plain m = record {
@@ -165,8 +170,8 @@ plain-view m = ap₂ (λ (a : Thing → Option Entry) (h : ℕ → ℕ → Optio
 plain-bytes : (m : Monitor) (y : Tally) → bytes-of (plain m) y ≡ bytes-of m y
 unfolding bytes-of subject-bytes object-bytes handle-bytes
 plain-bytes m y = λ i. flat-map subject-record plain-subject (λ x. ap (λ (n : ℕ). n ∷ drop 1 (subject-record x)) (live-same (x .live))) (m .subjects) i
-    ++ flat-map object-record plain-object (λ x. ap (λ (n : ℕ). n ∷ drop 1 (object-record x)) (sort-same (x .kind))) (m .objects) i
-    ++ flat-map handle-record plain-handle (λ x. ap₂ (λ (n k : ℕ). n ∷ x .object ∷ k ∷ []) (sort-same (x .way)) (live-same (x .mark)))
+    ++ flat-map object-record plain-object (λ x. ap (λ (n : ℕ). n ∷ drop 1 (object-record x)) (sort-same kinds (x .kind) (omega arith))) (m .objects) i
+    ++ flat-map handle-record plain-handle (λ x. ap₂ (λ (n k : ℕ). n ∷ x .object ∷ k ∷ []) (sort-same ways (x .way) (omega arith)) (live-same (x .mark)))
     (m .handles) i
     ++ digits 8 (y .made) ++ digits 8 (y .gone) ++ (m .freeze ∷ [])
 
