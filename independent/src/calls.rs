@@ -1,4 +1,4 @@
-//! The fifteen calls: RULES C1 to C13, C15 and C16, codes and numbers.
+//! The sixteen calls: RULES C1 to C16, codes and numbers.
 //!
 //! Which numbers a call takes and what each of them names. The effects are in `monitor`, the conditions
 //! in `refusals`.
@@ -18,8 +18,8 @@ const fn shape(code: u32, word: &'static str, numbers: &'static [&'static str]) 
     Shape { code, word, numbers }
 }
 
-/// RULES C1 to C13, C15 and C16, in the order of their codes.
-pub const SHAPES: [Shape; 15] = [
+/// RULES C1 to C16, in the order of their codes.
+pub const SHAPES: [Shape; 16] = [
     shape(1, "admit", &["s", "level"]),
     shape(2, "register", &["o", "level"]),
     shape(3, "create", &["s", "o"]),
@@ -33,11 +33,12 @@ pub const SHAPES: [Shape; 15] = [
     shape(11, "close", &["s", "p"]),
     shape(12, "exit", &["s"]),
     shape(13, "retire", &["o"]),
+    shape(14, "map", &["s", "o", "p"]),
     shape(15, "mark", &["s", "p"]),
     shape(16, "freeze", &["level"]),
 ];
 
-/// The shape of the call with this code; none for a code not 1 to 13, 15 or 16 (RULES R1).
+/// The shape of the call with this code; none for a code not 1 to 16 (RULES R1).
 pub fn shape_of_code(code: u32) -> Option<&'static Shape> {
     SHAPES.iter().find(|shape| shape.code == code)
 }
@@ -63,6 +64,7 @@ pub enum Call {
     Close { s: u32, p: u32 },
     Exit { s: u32 },
     Retire { o: u32 },
+    Map { s: u32, o: u32, p: u32 },
     Mark { s: u32, p: u32 },
     Freeze { level: u32 },
 }
@@ -85,13 +87,14 @@ impl Call {
             11 => Call::Close { s: a, p: b },
             12 => Call::Exit { s: a },
             13 => Call::Retire { o: a },
+            14 => Call::Map { s: a, o: b, p: c },
             15 => Call::Mark { s: a, p: b },
             16 => Call::Freeze { level: a },
             _ => return None,
         })
     }
 
-    /// The subject s that asks, in C3 to C12 and C15.
+    /// The subject s that asks, in C3 to C12, C14 and C15.
     pub fn asker(self) -> Option<u32> {
         match self {
             Call::Create { s, .. }
@@ -104,6 +107,7 @@ impl Call {
             | Call::Exec { s, .. }
             | Call::Close { s, .. }
             | Call::Exit { s }
+            | Call::Map { s, .. }
             | Call::Mark { s, .. } => Some(s),
             Call::Admit { .. } | Call::Register { .. } | Call::Retire { .. } | Call::Freeze { .. } => None,
         }
@@ -126,13 +130,14 @@ impl Call {
         }
     }
 
-    /// The object of C5, C6, C10 and C13.
+    /// The object of C5, C6, C10, C13 and C14.
     pub fn named_object(self) -> Option<u32> {
         match self {
             Call::OpenRead { o, .. }
             | Call::OpenWrite { o, .. }
             | Call::Exec { o, .. }
-            | Call::Retire { o } => Some(o),
+            | Call::Retire { o }
+            | Call::Map { o, .. } => Some(o),
             _ => None,
         }
     }
@@ -145,13 +150,13 @@ impl Call {
         }
     }
 
-    /// The handle that an open asks for, with the subject that asks.
+    /// The handle that an open or a map asks for, with the subject that asks.
     pub fn sought(self) -> Option<(u32, Handle)> {
-        let (s, object, direction) = match self {
-            Call::OpenRead { s, o, .. } => (s, o, Direction::Reading),
-            Call::OpenWrite { s, o, .. } => (s, o, Direction::Writing),
-            _ => return None,
-        };
-        Some((s, Handle::new(object, direction)))
+        match self {
+            Call::OpenRead { s, o, .. } => Some((s, Handle::new(o, Direction::Reading))),
+            Call::OpenWrite { s, o, .. } => Some((s, Handle::new(o, Direction::Writing))),
+            Call::Map { s, o, .. } => Some((s, Handle::mapping(o))),
+            _ => None,
+        }
     }
 }

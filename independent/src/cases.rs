@@ -1,5 +1,5 @@
-//! Worked cases: RULES K0 to K17, single sentences of the freeze (RULES C16, R15) and of marks (RULES C15,
-//! R110), and DWARF's examples of numbers.
+//! Worked cases: RULES K0 to K17, single sentences of the freeze (RULES C16, R15), of marks (RULES C15, R110) and of
+//! mappings (RULES C14, C111), and DWARF's examples of numbers.
 //!
 //! The replies stand here as the rules settle them; they are not worked out by this program.
 
@@ -284,6 +284,100 @@ const AFTER_START: &[(&str, &str, &str, &str)] = &[
         "open-write 0 0 0; freeze 0; mark 0 0; exec 0 0; open-write 0 0 0",
         "4 6 A 9; 5 16 A 0; 6 15 A 9; 7 10 A 9; 8 6 R 15; end 1 1 0",
     ),
+    (
+        "map-answer",
+        "a map is a read at that moment and answers with the subject's level, also where the file's is higher",
+        "map 0 0 0; map 0 1 1; map 0 0 2; close 0 1",
+        "4 14 A 9; 5 14 L 2; 6 14 A 2; 7 11 A 2; end 3 1 2",
+    ),
+    (
+        "map-refused",
+        "2, 4, 5, 7 and 9 are said of a map, in this order",
+        "pipe 0 5 0 1; open-write 0 0 2; map 32 64 16; map 1 64 16; map 0 64 16; map 0 6 16; map 0 5 16; map 0 5 3; \
+         map 0 0 16; map 0 1 1; map 0 1 3; close 0 2; map 0 1 15",
+        "4 4 A 9; 5 6 A 9; 6 14 R 2; 7 14 R 2; 8 14 R 4; 9 14 R 4; 10 14 R 5; 11 14 R 5; 12 14 R 7; 13 14 R 7; \
+         14 14 R 9; 15 11 A 9; 16 14 L 2; end 4 1 3",
+    ),
+    (
+        "map-pipe",
+        "a pipe is not mapped: 5; it is opened for reading",
+        "pipe 0 5 0 1; map 0 5 2; open-read 0 5 2",
+        "4 4 A 9; 5 14 R 5; 6 5 A 9; end 3 0 3",
+    ),
+    (
+        "map-flow",
+        "the importer: while the pay book is open a low sheet is not mapped; once it is mapped, the book is not opened",
+        "open-write 0 0 0; map 0 1 1; close 0 0; map 0 1 1; open-write 0 0 0; close 0 1; open-write 0 0 0",
+        "4 6 A 9; 5 14 R 9; 6 11 A 9; 7 14 L 2; 8 6 R 9; 9 11 A 2; 10 6 R 9; end 2 2 0",
+    ),
+    (
+        "map-flow-upstream",
+        "as K6, with a map in the place of the last open: 9; as K7: lowered",
+        "pipe 0 5 0 1; fork 0 1; open-write 0 0 2; map 1 1 2; close 0 0; close 1 1; map 1 1 2; close 0 2",
+        "4 4 A 9; 5 9 A 9; 6 6 A 9; 7 14 R 9; 8 11 A 9; 9 11 A 9; 10 14 L 2; 11 11 A 9; end 6 3 3",
+    ),
+    (
+        "map-write",
+        "a write to a mapped file is allowed and lowers nobody: who has it mapped has read it, and the writer has not",
+        "admit 1 9; map 1 1 0; map 1 1 1; fork 1 2; open-write 0 1 0; write 0 0; read 1 0; read 2 1; close 0 0",
+        "4 1 A 9; 5 14 L 2; 6 14 A 2; 7 9 A 2; 8 6 A 2; 9 8 A 2; 10 7 A 2; 11 7 A 2; 12 11 A 9; end 5 1 4",
+    ),
+    (
+        "map-handle",
+        "a mapping is a reading handle: it is read and not written to, its place is taken, the file is not retired",
+        "map 0 1 0; read 0 0; write 0 0; open-write 0 1 0; map 0 1 0; retire 1; mark 0 0; close 0 0; read 0 0; retire 1",
+        "4 14 L 2; 5 7 A 2; 6 8 R 8; 7 6 R 7; 8 14 R 7; 9 13 R 10; 10 15 A 2; 11 11 A 2; 12 7 R 7; 13 13 A 2; end 1 1 0",
+    ),
+    (
+        "map-exec",
+        "exec closes every mapping of its caller, counts each as gone, and keeps the other handles",
+        "map 0 0 0; map 0 0 15; open-read 0 0 2; exec 0 0; read 0 0; read 0 15; read 0 2",
+        "4 14 A 9; 5 14 A 9; 6 5 A 9; 7 10 A 9; 8 7 R 7; 9 7 R 7; 10 7 A 9; end 3 2 1",
+    ),
+    (
+        "map-exec-refused",
+        "an exec refused with 9, 5 or 4 closes no mapping and counts nothing",
+        "pipe 0 5 2 3; map 0 0 0; open-write 0 0 1; exec 0 1; exec 0 5; exec 0 6; read 0 0; close 0 1; exec 0 1; read 0 0",
+        "4 4 A 9; 5 14 A 9; 6 6 A 9; 7 10 R 9; 8 10 R 5; 9 10 R 4; 10 7 A 9; 11 11 A 9; 12 10 L 2; 13 7 R 7; end 4 2 2",
+    ),
+    (
+        "map-others",
+        "exec closes the mappings of its caller and of nobody else",
+        "admit 1 9; map 0 0 0; map 1 0 0; exec 1 0; read 1 0; read 0 0",
+        "4 1 A 9; 5 14 A 9; 6 14 A 9; 7 10 A 9; 8 7 R 7; 9 7 A 9; end 2 1 1",
+    ),
+    (
+        "map-fork",
+        "fork copies a mapping: the child's is closed by its own exec, the caller's stays",
+        "map 0 0 0; open-read 0 0 1; fork 0 1; exec 1 0; read 1 0; read 1 1; read 0 0; exec 0 0; read 0 0",
+        "4 14 A 9; 5 5 A 9; 6 9 A 9; 7 10 A 9; 8 7 R 7; 9 7 A 9; 10 7 A 9; 11 10 A 9; 12 7 R 7; end 4 2 2",
+    ),
+    (
+        "map-marked",
+        "a marked mapping is closed by exec and counted once",
+        "map 0 0 0; mark 0 0; exec 0 0; close 0 0",
+        "4 14 A 9; 5 15 A 9; 6 10 A 9; 7 11 R 7; end 1 1 0",
+    ),
+    (
+        "map-again",
+        "a handle opened where a mapping was closed, by close, by exec or by exit, is no mapping",
+        "map 0 0 0; close 0 0; open-read 0 0 0; exec 0 0; close 0 0; map 0 0 0; exec 0 0; open-read 0 0 0; exec 0 0; \
+         close 0 0; map 0 0 0; exit 0; admit 0 9; open-read 0 0 0; exec 0 0; read 0 0",
+        "4 14 A 9; 5 11 A 9; 6 5 A 9; 7 10 A 9; 8 11 A 9; 9 14 A 9; 10 10 A 9; 11 5 A 9; 12 10 A 9; 13 11 A 9; \
+         14 14 A 9; 15 12 A 9; 16 1 A 9; 17 5 A 9; 18 10 A 9; 19 7 A 9; end 6 5 1",
+    ),
+    (
+        "map-exit",
+        "exit closes mappings and counts them, and then the file can be retired",
+        "map 0 0 0; map 0 0 1; fork 0 1; exit 0; retire 0; exit 1; retire 0",
+        "4 14 A 9; 5 14 A 9; 6 9 A 9; 7 12 A 9; 8 13 R 10; 9 12 A 9; 10 13 A 9; end 4 4 0",
+    ),
+    (
+        "map-freeze",
+        "a freeze asks nothing of a map, nor of a write that mappers read",
+        "open-write 0 0 0; freeze 0; map 0 0 1; write 0 0; open-write 0 0 2; map 0 0 2",
+        "4 6 A 9; 5 16 A 0; 6 14 A 9; 7 8 A 9; 8 6 R 15; 9 14 A 9; end 3 0 3",
+    ),
 ];
 
 /// Name, what it shows, calls from empty tables, replies.
@@ -325,10 +419,18 @@ const FROM_EMPTY: &[(&str, &str, &str, &str)] = &[
         "1 1 A 9; 2 2 A 9; 3 6 A 9; 4 15 R 12; 5 15 R 12; 6 15 R 12; 7 15 R 12; 8 15 R 2; 9 15 A 9; end 1 0 1",
     ),
     (
-        "codes-14-and-15",
-        "code 14 is unknown, and so is 17; 15 is known, and its record has two numbers",
-        "call 14 9; call 15 9; call 17 9; call 16 9",
-        "1 14 R 1; 2 15 R 12; 3 17 R 1; 4 16 A 9; end 0 0 0",
+        "map-record",
+        "a record of a map has three numbers: the subject, the file, the place",
+        "admit 1 9; register 2 9; call 14; call 14 1; call 14 1 2; call 14 1 2 3 4; bytes 04 0e 01 02 83; \
+         bytes 04 0e 02 01 03; bytes 04 0e 01 02 03; close 1 3",
+        "1 1 A 9; 2 2 A 9; 3 14 R 12; 4 14 R 12; 5 14 R 12; 6 14 R 12; 7 14 R 12; 8 14 R 2; 9 14 A 9; 10 11 A 9; \
+         end 1 1 0",
+    ),
+    (
+        "known-codes",
+        "codes 1 to 16 are known, 0 and 17 are not",
+        "call 0 9; call 1 9; call 13; call 14 9; call 15 9; call 16 9; call 17 9",
+        "1 0 R 1; 2 1 R 12; 3 13 R 12; 4 14 R 12; 5 15 R 12; 6 16 A 9; 7 17 R 1; end 0 0 0",
     ),
     (
         "pipe-ends",
@@ -402,9 +504,9 @@ pub fn all() -> Vec<Case> {
     }
 
     // The limit of a journal's length: one long record of an unknown code.
-    for (bytes, replies) in [(65_536, "1 14 R 1; end 0 0 0"), (65_537, "1 0 R 14; end 0 0 0")] {
+    for (bytes, replies) in [(65_536, "1 77 R 1; end 0 0 0"), (65_537, "1 0 R 14; end 0 0 0")] {
         let mut body = vec![0; bytes - 3];
-        body[0] = 14;
+        body[0] = 77;
         let mut journal = Vec::new();
         crate::records::write_body(&body, &mut journal);
         let what = format!("a journal of {bytes} bytes");

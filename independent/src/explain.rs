@@ -1,10 +1,12 @@
 //! A journal's replies in plain words, for a payroll clerk: who asked what, what was answered, and for
 //! a refusal what can be done about it. For refusal 9 it shows the chain of flows that was in the way
 //! (RULES F4), for refusal 15 from which level on the books are closed and since which record (RULES T32). For
-//! an exec it says which marked handles were closed (RULES C10).
+//! a write to a mapped file it says who reads it then (RULES C111), for an exec which marked handles and which
+//! mappings were closed (RULES C10).
 
 mod flow;
 mod freeze;
+mod maps;
 mod marks;
 mod names;
 mod refused;
@@ -127,6 +129,7 @@ fn request(call: Call, tables: &Tables) -> String {
         }
         Call::Exit { s } => format!("Step {s} exits"),
         Call::Retire { o } => format!("{} is retired", capital(&object(o))),
+        Call::Map { s, o, p } => maps::request(s, o, p, tables),
         Call::Mark { s, p } => marks::request(s, p, tables),
         Call::Freeze { level } => freeze::request(level),
     }
@@ -171,9 +174,11 @@ fn outcome(call: Call, before: &Tables, after: &Tables, closing: Option<Closing>
             old(subject(s))
         ),
         Call::Read { s, .. } => fall(subject(s)),
-        Call::Exec { s, .. } => fall(subject(s)) + &marks::closed(s, before, after),
+        Call::Exec { s, .. } => {
+            fall(subject(s)) + &marks::closed(s, before, after) + &maps::closed(s, before, after)
+        }
         Call::Write { s, p } => match before.handle(s, p) {
-            Some(handle) => fall(object(handle.object)),
+            Some(handle) => fall(object(handle.object)) + &maps::rereads(handle.object, before),
             None => String::new(),
         },
         Call::Fork { s, c } => {
@@ -183,7 +188,8 @@ fn outcome(call: Call, before: &Tables, after: &Tables, closing: Option<Closing>
                 1 => format!("a copy of step {s}'s handle"),
                 count => format!("copies of step {s}'s {count} handles"),
             };
-            format!("Step {c} starts at level {level} with {handles}{}.", marks::copied(c, after))
+            let (marked, mapped) = (marks::copied(c, after), maps::copied(c, after));
+            format!("Step {c} starts at level {level} with {handles}{marked}{mapped}.")
         }
         Call::Close { s, p } => match before.handle(s, p) {
             Some(handle) => format!("Place {p} is empty.{}", ended(&[handle.object], before, after)),
@@ -203,6 +209,7 @@ fn outcome(call: Call, before: &Tables, after: &Tables, closing: Option<Closing>
             )
         }
         Call::Retire { o } => format!("Its last level was {}; its number is free.", old(object(o))),
+        Call::Map { s, o, p } => maps::outcome(s, o, p, before, after),
         Call::Mark { s, p } => marks::outcome(s, p, before),
         Call::Freeze { level } => freeze::outcome(level, closing),
     }

@@ -5,11 +5,12 @@
 //! against need are often close. Then numbers go wrong, records are damaged, tables fill up, pipes form
 //! chains and rings, and journals take every length up to 65,537 bytes, as the style says. In every second
 //! journal the books are closed now and then, for a few calls; in most of them launchers mark what they opened
-//! and run programs below it.
+//! and run programs below it, and importers map sheets that others write to.
 
 mod arrangements;
 mod damage;
 mod draws;
+mod imports;
 mod launches;
 
 use crate::monitor::{Answer, Monitor};
@@ -37,7 +38,7 @@ pub enum Style {
 pub const STYLES: &[(Style, &str, &str)] = &[
     (Style::Mixed, "mixed", "one of the others, by turns (the default)"),
     (Style::Payrun, "payrun", "a shell that joins steps by pipes and forks, then lets them work"),
-    (Style::Calls, "calls", "all fifteen calls, mostly allowed"),
+    (Style::Calls, "calls", "all sixteen calls, mostly allowed"),
     (Style::Edges, "edges", "numbers out of range, in use or not live; several faults in one call"),
     (Style::Full, "full", "32 subjects, 64 objects, 512 handles, then calls on them"),
     (Style::Rings, "rings", "long chains and rings of pipes, opened and closed"),
@@ -93,6 +94,8 @@ struct Draft {
     closings: u32,
     /// One call in so many is the first of a launcher's; 0 for none, and then no handle is marked.
     launches: u32,
+    /// One call in so many is the first of an importer's; 0 for none, and then hardly a file is mapped.
+    imports: u32,
     journal: Vec<u8>,
     records: u32,
 }
@@ -114,6 +117,7 @@ impl Draft {
             damage: 0,
             closings: 0,
             launches: 0,
+            imports: 0,
             journal: Vec::new(),
             records: 0,
         }
@@ -141,9 +145,10 @@ impl Draft {
         // In a ring one handle matters that a freeze would keep out.
         let closings = if style == Style::Rings { [0, 0, 0, 40] } else { [0, 0, 15, 40] };
         self.closings = self.random.pick(&closings).unwrap_or(0);
-        // Nor should an exec take its links away.
-        let launches = if style == Style::Rings { [0, 0, 0, 60] } else { [0, 25, 25, 60] };
-        self.launches = self.random.pick(&launches).unwrap_or(0);
+        // Nor should an exec take its links away, or a map lower its members.
+        let turns = if style == Style::Rings { [0, 0, 0, 60] } else { [0, 25, 25, 60] };
+        self.launches = self.random.pick(&turns).unwrap_or(0);
+        self.imports = self.random.pick(&turns).unwrap_or(0);
         match style {
             Style::Payrun => self.pipeline(calls),
             Style::Rings => self.ring(),
@@ -162,6 +167,8 @@ impl Draft {
                 self.closed_books();
             } else if self.random.once_in(self.launches) {
                 self.launch();
+            } else if self.random.once_in(self.imports) {
+                self.import();
             } else if style == Style::Rings && self.random.once_in(3) {
                 self.ring_turn();
             } else {

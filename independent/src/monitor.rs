@@ -1,5 +1,5 @@
-//! The monitor: RULES C1 to C13, C15 and C16, effects and levels in the answers; and the counting of
-//! handles, RULES Y1 to Y9 and Y13.
+//! The monitor: RULES C1 to C16, effects and levels in the answers; and the counting of handles, RULES Y1 to Y9
+//! and Y13.
 //!
 //! `Monitor::call` is the direct call: a code and four numbers in, an answer out.
 
@@ -15,7 +15,7 @@ use crate::variants::Rules;
 pub enum Answer {
     /// Allowed, with a level.
     Allowed(u32),
-    /// RULES C104: C7, C8 or C10 made a level smaller; with the level after.
+    /// RULES C104: C7, C8, C10 or C14 made a level smaller; with the level that the answer gives.
     Lowered(u32),
     /// Refused, with the refusal number.
     Refused(u32),
@@ -56,6 +56,8 @@ pub struct Monitor {
     kept: Needs,
     /// Places whose marked handle went. No rule looks at them: only variants whose marks outlive their handles.
     pub(crate) left_marks: Vec<(u32, u32)>,
+    /// The same of mappings.
+    pub(crate) left_maps: Vec<(u32, u32)>,
     rules: Rules,
 }
 
@@ -79,7 +81,14 @@ impl Monitor {
     /// A monitor with any tables, those that no calls could have made among them.
     pub fn of_tables(tables: Tables, rules: Rules) -> Monitor {
         let kept = Needs::none(&tables);
-        Monitor { tables, tally: Tally::default(), kept, left_marks: Vec::new(), rules }
+        Monitor {
+            tables,
+            tally: Tally::default(),
+            kept,
+            left_marks: Vec::new(),
+            left_maps: Vec::new(),
+            rules,
+        }
     }
 
     pub fn tables(&self) -> &Tables {
@@ -118,7 +127,7 @@ impl Monitor {
         self.effect(call)
     }
 
-    /// RULES C1 to C13, C15 and C16, row by row, for a call that is not refused.
+    /// RULES C1 to C16, row by row, for a call that is not refused.
     fn effect(&mut self, call: Call) -> Answer {
         match call {
             // RULES C1.
@@ -171,7 +180,8 @@ impl Monitor {
             Call::Write { s, p } => {
                 let level = self.subject_level(s);
                 match self.held_object(s, p) {
-                    Some((o, object)) if object.kind == Kind::Pipe && level < object.level => {
+                    Some((o, object)) if object.kind == Kind::File => self.reread(o, object.level),
+                    Some((o, object)) if level < object.level => {
                         self.new_object(o, Kind::Pipe, level);
                         Answer::Lowered(level)
                     }
@@ -180,7 +190,7 @@ impl Monitor {
                 }
             }
 
-            // RULES C9: each handle with its mark.
+            // RULES C9: each handle with its mark, and a mapping as a mapping.
             Call::Fork { s, c } => {
                 let level = self.subject_level(s);
                 self.tables.set_subject(c, Some(Subject { level }));
@@ -191,11 +201,11 @@ impl Monitor {
                 Answer::Allowed(level)
             }
 
-            // RULES C10, Y13: the marked handles go.
+            // RULES C10, Y13: the marked handles and the mappings go.
             Call::Exec { s, o } => {
                 let level = self.object_level(o);
-                let marked: Vec<u32> = self.tables.marked_places(s).collect();
-                for p in marked {
+                let ending: Vec<u32> = self.tables.places_ending_at_exec(s).collect();
+                for p in ending {
                     self.remove_handle(s, p);
                 }
                 self.lower_subject(s, level)
@@ -222,6 +232,12 @@ impl Monitor {
                 let level = self.object_level(o);
                 self.tables.set_object(o, None);
                 Answer::Allowed(level)
+            }
+
+            // RULES C14: the handle, and a read at that moment.
+            Call::Map { s, o, p } => {
+                self.place_handle(s, p, Handle::mapping(o));
+                self.lower_subject(s, self.object_level(o))
             }
 
             // RULES C15.
@@ -258,6 +274,19 @@ impl Monitor {
         if object.kind == Kind::Pipe && !self.tables.is_held(o) {
             self.tables.set_object(o, None);
         }
+    }
+
+    /// RULES C8, C104, C111: what follows a write to a file of this level. Each subject that has it mapped reads it
+    /// once, the lowest number first; the answer has the file's level, and is lowered if one of them fell.
+    fn reread(&mut self, o: u32, level: u32) -> Answer {
+        let mappers: Vec<u32> = self.tables.mappers(o).collect();
+        let mut answer = Answer::Allowed(level);
+        for s in mappers {
+            if let Answer::Lowered(_) = self.lower_subject(s, level) {
+                answer = Answer::Lowered(level);
+            }
+        }
+        answer
     }
 
     /// The level that a subject has after falling to `level`: the smaller of the two.

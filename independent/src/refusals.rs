@@ -17,7 +17,7 @@ pub fn meaning(number: u32) -> &'static str {
         2 => "the step that asks is not there",
         3 => "the number for the new thing cannot be used",
         4 => "the file or pipe is not there",
-        5 => "a pipe cannot be run or retired",
+        5 => "a pipe cannot be run, retired or mapped",
         6 => "the level is above 15, or a freeze above 16",
         7 => "the place does not fit",
         8 => "the handle is for the other direction",
@@ -42,7 +42,7 @@ pub fn conditions(tables: &Tables, call: Call, needs: &Needs) -> [Condition; 10]
         (2, asker_is_missing(tables, call)),
         (3, new_number_is_unfit(tables, call)),
         (4, object_is_missing(tables, call)),
-        (5, pipe_is_run_or_retired(tables, call)),
+        (5, pipe_is_named(tables, call)),
         (6, level_is_too_high(tables, call)),
         (7, place_is_unfit(tables, call)),
         (8, direction_is_wrong(tables, call)),
@@ -80,9 +80,9 @@ fn object_is_missing(tables: &Tables, call: Call) -> bool {
 }
 
 /// RULES R5: a pipe where a file is asked for.
-fn pipe_is_run_or_retired(tables: &Tables, call: Call) -> bool {
+fn pipe_is_named(tables: &Tables, call: Call) -> bool {
     match call {
-        Call::Exec { o, .. } | Call::Retire { o } => {
+        Call::Exec { o, .. } | Call::Retire { o } | Call::Map { o, .. } => {
             tables.object(o).is_some_and(|object| object.kind == Kind::Pipe)
         }
         _ => false,
@@ -103,7 +103,9 @@ fn place_is_unfit(tables: &Tables, call: Call) -> bool {
     let taken = |s: u32, p: u32| tables.handle(s, p).is_some();
     match call {
         Call::Pipe { s, r, w, .. } => above(r) || above(w) || taken(s, r) || taken(s, w) || r == w,
-        Call::OpenRead { s, p, .. } | Call::OpenWrite { s, p, .. } => above(p) || taken(s, p),
+        Call::OpenRead { s, p, .. } | Call::OpenWrite { s, p, .. } | Call::Map { s, p, .. } => {
+            above(p) || taken(s, p)
+        }
         Call::Read { s, p } | Call::Write { s, p } | Call::Close { s, p } | Call::Mark { s, p } => {
             above(p) || !taken(s, p)
         }
@@ -123,8 +125,8 @@ fn direction_is_wrong(tables: &Tables, call: Call) -> bool {
     }
 }
 
-/// The needs that a call is tested by: with the flow that an open asks for (RULES R9), without the handles that
-/// an exec leaves out (RULES R110).
+/// The needs that a call is tested by: with the flow that an open or a map asks for (RULES R9, R119), without the
+/// handles that an exec leaves out (RULES R110).
 pub fn needs_for(tables: &Tables, call: Call, rules: Rules, kept: &Needs) -> Needs {
     let sought = sought_flow(tables, call);
     Needs::work_out(&tables_tested(tables, call, rules), sought, rules, kept)
@@ -144,15 +146,15 @@ pub fn tables_tested(tables: &Tables, call: Call, rules: Rules) -> Cow<'_, Table
     Cow::Owned(tested)
 }
 
-/// RULES R110: for an exec, the places of s with a marked handle, and of no other subject.
+/// RULES R110: for an exec, the places of s with a marked handle or a mapping, and of no other subject.
 fn left_out(tables: &Tables, call: Call) -> Vec<(u32, u32)> {
     match call {
-        Call::Exec { s, .. } => tables.marked_places(s).map(|p| (s, p)).collect(),
+        Call::Exec { s, .. } => tables.places_ending_at_exec(s).map(|p| (s, p)).collect(),
         _ => Vec::new(),
     }
 }
 
-/// The flow that an open would add, if its subject and its object are there.
+/// The flow that an open or a map would add, if its subject and its object are there.
 pub fn sought_flow(tables: &Tables, call: Call) -> Option<Flow> {
     let (s, handle) = call.sought()?;
     tables.subject(s)?;
@@ -160,10 +162,10 @@ pub fn sought_flow(tables: &Tables, call: Call) -> Option<Flow> {
     Some(Flow::of(s, handle))
 }
 
-/// RULES R9, R109, R110: a level would be below a need.
+/// RULES R9, R109, R110, R119: a level would be below a need.
 fn flow_is_unsafe(tables: &Tables, call: Call, needs: &Needs) -> bool {
     match call {
-        Call::OpenRead { .. } | Call::OpenWrite { .. } => {
+        Call::OpenRead { .. } | Call::OpenWrite { .. } | Call::Map { .. } => {
             sought_flow(tables, call).is_some() && needs.unmet(tables).next().is_some()
         }
         Call::Exec { s, o } => {

@@ -1,4 +1,4 @@
-//! The tables: RULES T1 to T20, T32, T33 and T35; and the tally: RULES Y1 to Y10.
+//! The tables: RULES T1 to T20, T32, T33, T35 and T37; and the tally: RULES Y1 to Y10.
 //!
 //! Subjects, objects and handles by number, what counts as a handle, the freeze, and the tally of handles
 //! made and gone. No rule of a call is here; see `monitor` and `refusals`.
@@ -45,19 +45,30 @@ pub enum Direction {
     Writing,
 }
 
-/// RULES T10, T35: what a handle is on, what for, and whether it is marked. The place is where it stands in
-/// the table.
+/// RULES T10, T35, T37: what a handle is on, what for, whether it is marked, and whether it is a mapping, as only
+/// one for reading can be. The place is where it stands in the table.
 #[derive(Clone, Copy, Debug, PartialEq, Eq)]
 pub struct Handle {
     pub object: u32,
     pub direction: Direction,
     pub marked: bool,
+    pub mapped: bool,
 }
 
 impl Handle {
-    /// RULES T35: a handle that is placed anew is not marked.
+    /// RULES T35, T37: a handle that is placed anew is not marked, and a mapping only if C14 places it.
     pub fn new(object: u32, direction: Direction) -> Handle {
-        Handle { object, direction, marked: false }
+        Handle { object, direction, marked: false, mapped: false }
+    }
+
+    /// RULES C14: a mapping that is placed anew.
+    pub fn mapping(object: u32) -> Handle {
+        Handle { mapped: true, ..Handle::new(object, Direction::Reading) }
+    }
+
+    /// RULES C10: whether an exec of its subject closes it.
+    pub fn ends_at_exec(self) -> bool {
+        self.marked || self.mapped
     }
 }
 
@@ -126,6 +137,17 @@ impl Tables {
     /// The places of one subject with a marked handle.
     pub fn marked_places(&self, s: u32) -> impl Iterator<Item = u32> + '_ {
         self.handles_of(s).filter(|(_, handle)| handle.marked).map(|(p, _)| p)
+    }
+
+    /// RULES C10: the places of one subject that its exec empties.
+    pub fn places_ending_at_exec(&self, s: u32) -> impl Iterator<Item = u32> + '_ {
+        self.handles_of(s).filter(|(_, handle)| handle.ends_at_exec()).map(|(p, _)| p)
+    }
+
+    /// RULES C110, C111: the subjects that have the object mapped, each once, the lowest number first.
+    pub fn mappers(&self, o: u32) -> impl Iterator<Item = u32> + '_ {
+        let maps = move |handle: Handle| handle.mapped && handle.object == o;
+        self.live_subjects().filter(move |&s| self.handles_of(s).any(|(_, handle)| maps(handle)))
     }
 
     /// Whether some handle is open on the object.

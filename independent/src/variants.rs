@@ -1,10 +1,11 @@
 //! Deliberately wrong variants of the program, to show that the generated journals find mistakes.
 //!
 //! `Rules` says which variant is on; by default none is, and then every function here leaves the rules
-//! as they are. Each variant is read at exactly one place: here, in `freeze`, in `marks`, in `outcomes`, or
-//! at the one place in the reader that it speaks of.
+//! as they are. Each variant is read at exactly one place: here, in `freeze`, in `maps`, in `marks`, in
+//! `outcomes`, or at the one place in the reader that it speaks of.
 
 mod freeze;
+mod maps;
 mod marks;
 mod outcomes;
 
@@ -19,6 +20,7 @@ use crate::refusals::{sought_flow, Condition};
 use crate::replies::{Content, Step, LONGEST_JOURNAL};
 use crate::tables::{Direction, Kind, Limits, Tables, LIMITS};
 use freeze::bend_frozen;
+use maps::bend_mapped;
 use marks::bend_marked;
 use outcomes::{bend_answer, bend_effect, bend_refused};
 
@@ -100,6 +102,25 @@ variants! {
     MarkedNotClosed "marked-not-closed" "a marked handle is not closed by a close";
     MarkedAsFree "marked-as-free" "an open may take the place of a marked handle";
     MarkedRetired "marked-retired" "a file on which only marked handles are may be retired";
+    // Mappings: what is refused. That exec leaves the mappings out of its test cannot be told (RULES R110), nor
+    // whether a map is tested before the fall or after it (RULES R119).
+    MapUntested "map-untested" "a map is not tested against the need";
+    MapperOnly "mapper-only" "a map tests the level of the mapper only";
+    MapAsWriting "map-as-writing" "a map is tested as an open for writing";
+    MapPipe "map-pipe" "a pipe may be mapped";
+    MapTakenPlace "map-taken-place" "a map may take a place that is in use";
+    MapPlace16Allowed "map-place-16-allowed" "a map at a place above 15 is allowed";
+    MapTwiceRefused "map-twice-refused" "a file that the subject has mapped is not mapped again: 7";
+    MapSharedRefused "map-shared-refused" "a file that another subject has mapped is refused with 10";
+    MapWrittenRefused "map-written-refused" "a file that is open for writing is not mapped: 10";
+    FreezeMaps "freeze-maps" "a frozen file is not mapped";
+    MappedCutOff "mapped-cut-off" "a read on a mapping is refused with 8";
+    MappedWritten "mapped-written" "a write on a mapping is not refused";
+    MappedNotClosed "mapped-not-closed" "a mapping is not closed by a close";
+    MappedNotMarked "mapped-not-marked" "a mark of a mapping is refused with 7";
+    MappedAsFree "mapped-as-free" "an open may take the place of a mapping";
+    MappedRetired "mapped-retired" "a file on which only mappings are may be retired";
+    MappedWriteRefused "mapped-write-refused" "a write to a file that is mapped is refused with 10";
     // Other conditions.
     Mod256 "mod-256" "takes a call's numbers modulo 256";
     Mod65536 "mod-65536" "takes a call's numbers modulo 65,536";
@@ -121,6 +142,7 @@ variants! {
     Order36 "order-3-6" "says 6 before 3";
     Order37 "order-3-7" "says 7 before 3";
     Order47 "order-4-7" "says 7 before 4";
+    Order57 "order-5-7" "says 7 before 5";
     Order59 "order-5-9" "says 9 before 5";
     Order79 "order-7-9" "says 9 before 7";
     Order215 "order-2-15" "says 15 before 2";
@@ -186,6 +208,36 @@ variants! {
     RefusedExecCloses "refused-exec-closes" "an exec refused with 9 still closes the marked handles";
     UnfitExecCloses "unfit-exec-closes" "an exec refused with 4 or 5 still closes the marked handles";
     RefusedExecUnmarks "refused-exec-unmarks" "an exec refused with 9 takes the marks off";
+    // That the reads after a write lower a mapper, and their order, cannot be told from empty tables: a mapper fell to
+    // the file's level when it mapped it (RULES T38). Nor can it be told whether a mapping is marked (RULES C10).
+    MapKeepsLevel "map-keeps-level" "a map does not lower the subject";
+    MapTakesLevel "map-takes-level" "a map raises the subject, too";
+    MapPlacesNone "map-places-none" "a map places no handle";
+    MapAsOpen "map-as-open" "a map places a reading handle that is no mapping";
+    OpenAsMap "open-as-map" "an open for reading places a mapping";
+    OpenOfMappedMaps "open-of-mapped-maps" "an open for reading of a file that the subject has mapped places a mapping";
+    RefusedMapStays "refused-map-stays" "a map refused with 9 still places its handle";
+    RefusedMapLowers "refused-map-lowers" "a map refused with 9 still lowers the subject";
+    ReadUnmaps "read-unmaps" "a read makes a plain handle of a mapping";
+    WriteUnmaps "write-unmaps" "a write to a file closes the mappings of it";
+    WriteLowersWriter "write-lowers-writer" "a write to a mapped file lowers the writer to the file's level";
+    WriteLowersReaders "write-lowers-readers" "a write to a file lowers all who have it open for reading";
+    CloseUnmapsFile "close-unmaps-file" "a close of a mapping closes all of the subject's mappings of that file";
+    CloseUnmapsAll "close-unmaps-all" "a close of a mapping closes the mappings of that file by all subjects";
+    MapStaysAtClose "map-stays-at-close" "what is opened for reading after a mapping's close is a mapping, too";
+    MapStaysAtExec "map-stays-at-exec" "what is opened for reading where exec closed a mapping is one, too";
+    MapStaysAtExit "map-stays-at-exit" "what is opened for reading where an exited subject had a mapping is one";
+    ForkUnmaps "fork-unmaps" "fork copies a mapping as a plain reading handle";
+    ForkLeavesMapped "fork-leaves-mapped" "fork does not copy mappings";
+    ForkMovesMapping "fork-moves-mapping" "fork makes plain handles of the caller's mappings";
+    ForkMapsAll "fork-maps-all" "fork makes mappings of all reading handles of the child";
+    ExecKeepsMapped "exec-keeps-mapped" "an allowed exec keeps the mappings";
+    ExecUnmaps "exec-unmaps" "an allowed exec makes plain handles of the mappings and closes none";
+    ExecClosesOneMapping "exec-closes-one-mapping" "an allowed exec closes the first mapping only";
+    ExecClosesMappedFile "exec-closes-mapped-file" "exec closes all of the caller's handles on a file that it has mapped";
+    ExecClosesOthersMappings "exec-closes-others-mappings" "exec closes the mappings of all subjects";
+    RefusedExecClosesMapped "refused-exec-closes-mapped" "an exec refused with 9 still closes the mappings";
+    UnfitExecClosesMapped "unfit-exec-closes-mapped" "an exec refused with 4 or 5 still closes the mappings";
     OldMonitor "old-monitor" "hands the old monitor back";
     // Answers.
     OpenAnswersSubject "open-answers-subject" "an open answers with the subject's level";
@@ -199,6 +251,12 @@ variants! {
     MarkAnswersObject "mark-answers-object" "a mark answers with the object's level";
     MarkAnswersPlace "mark-answers-place" "a mark answers with the place";
     ClosingAsLowered "closing-as-lowered" "an exec that closes a handle is said as lowered";
+    MapAnswersFile "map-answers-file" "a map answers with the file's level";
+    MapAnswersOld "map-answers-old" "a map answers with the level that the subject had before";
+    MapLoweredAsAllowed "map-lowered-as-allowed" "a map that lowers is said as allowed";
+    MapEqualAsLowered "map-equal-as-lowered" "a map at the same level is said as lowered";
+    RereadAsLowered "reread-as-lowered" "a write to a mapped file is said as lowered";
+    RereadAnswersMapper "reread-answers-mapper" "a write to a mapped file answers with the level of its last mapper";
     LoweredAsAllowed "lowered-as-allowed" "lowered is said as allowed";
     PipeLoweredAsAllowed "pipe-lowered-as-allowed" "a lowered pipe is said as allowed";
     EqualAsLowered "equal-as-lowered" "a read at the same level is said as lowered";
@@ -216,17 +274,32 @@ variants! {
     ExecCountedOnce "exec-counted-once" "exec counts one handle gone, however many it closes";
     ExecCountsAll "exec-counts-all" "exec counts all of the caller's handles gone";
     RefusedExecCounted "refused-exec-counted" "an exec refused with 9 counts the marked handles gone";
+    MapNotCounted "map-not-counted" "a map counts nothing";
+    MapCountedTwice "map-counted-twice" "a map counts two handles made";
+    RefusedMapCounted "refused-map-counted" "a refused map counts a handle made";
+    RereadCounted "reread-counted" "a write to a mapped file counts a handle made for each mapper";
+    CloseMapNotCounted "close-map-not-counted" "a close of a mapping counts nothing";
+    ExitMapsNotCounted "exit-maps-not-counted" "exit does not count mappings";
+    ExecMapsNotCounted "exec-maps-not-counted" "exec closes the mappings without counting them";
+    ExecCountsFiles "exec-counts-files" "exec counts one handle gone for each file that it had mapped";
+    RefusedExecCountsMaps "refused-exec-counts-maps" "an exec refused with 9 counts the mappings gone";
     OpenAsMade "open-as-made" "the end line gives the handles made as those open";
     // Codes.
-    Code14Known "code-14-known" "takes code 14 for a freeze";
+    Code14Unknown "code-14-unknown" "does not know code 14";
+    Code14AsOpen "code-14-as-open" "takes code 14 for an open for reading";
     Code14AsMark "code-14-as-mark" "takes code 14 for a mark";
     Code15AsFreeze "code-15-as-freeze" "takes code 15 for a freeze";
     Code15Unknown "code-15-unknown" "does not know code 15";
     Code16Unknown "code-16-unknown" "does not know code 16";
+    Code17AsMap "code-17-as-map" "takes code 17 for a map";
     // Numbers and records.
     PaddedAccepted "padded-accepted" "a number longer than it need be is taken";
     AboveWrapped "above-wrapped" "a number above 4294967295 is wrapped";
     ReadsPastBody "reads-past-body" "a number may end behind its record's body";
+    MapTwoNumbers "map-two-numbers" "a record of a map has two numbers";
+    MapFourNumbers "map-four-numbers" "a record of a map has four numbers";
+    MapFileFirst "map-file-first" "a map has the file before the subject";
+    MapPlaceFirst "map-place-first" "a map has the place before the file";
     MarkOneNumber "mark-one-number" "a record of a mark has one number";
     MarkThreeNumbers "mark-three-numbers" "a record of a mark has three numbers";
     MarkSwapped "mark-swapped" "a mark has the place before the subject";
@@ -298,11 +371,13 @@ impl Rules {
     /// The code that a code is taken for.
     pub fn bend_code(self, code: u32) -> u32 {
         match (self.variant, code) {
-            (Some(Variant::Code14Known), 14) => 16,
+            (Some(Variant::Code14Unknown), 14) => 0,
+            (Some(Variant::Code14AsOpen), 14) => 5,
             (Some(Variant::Code14AsMark), 14) => 15,
             (Some(Variant::Code15AsFreeze), 15) => 16,
             (Some(Variant::Code15Unknown), 15) => 0,
             (Some(Variant::Code16Unknown), 16) => 0,
+            (Some(Variant::Code17AsMap), 17) => 14,
             _ => code,
         }
     }
@@ -310,6 +385,8 @@ impl Rules {
     /// How many numbers a record of this shape has.
     pub fn bend_count(self, shape: &Shape) -> usize {
         match self.variant {
+            Some(Variant::MapTwoNumbers) if shape.code == 14 => 2,
+            Some(Variant::MapFourNumbers) if shape.code == 14 => 4,
             Some(Variant::MarkOneNumber) if shape.code == 15 => 1,
             Some(Variant::MarkThreeNumbers) if shape.code == 15 => 3,
             Some(Variant::FreezeTwoNumbers) if shape.code == 16 => 2,
@@ -320,6 +397,8 @@ impl Rules {
     /// The numbers that a call of this code is made with.
     pub fn bend_numbers(self, code: u32, numbers: [u32; 4]) -> [u32; 4] {
         match self.variant {
+            Some(Variant::MapFileFirst) if code == 14 => [numbers[1], numbers[0], numbers[2], 0],
+            Some(Variant::MapPlaceFirst) if code == 14 => [numbers[0], numbers[2], numbers[1], 0],
             Some(Variant::MarkSwapped) if code == 15 => [numbers[1], numbers[0], 0, 0],
             Some(Variant::Mod256) => numbers.map(|number| number % 256),
             Some(Variant::Mod65536) => numbers.map(|number| number % 65_536),
@@ -382,6 +461,10 @@ impl Rules {
         if let Some((number, holds)) = bend_marked(variant, tables, call) {
             set(number, holds);
         }
+        if let Some((number, holds)) = bend_mapped(variant, tables, call, needs) {
+            set(number, holds);
+        }
+        // A map is tested as an open is.
         let is_open = sought_flow(tables, call).is_some();
         let unmet_among = |tested: &dyn Fn(Thing) -> bool| needs.unmet(tables).any(tested);
         let kind_of = |thing| match thing {
@@ -469,6 +552,7 @@ impl Rules {
             Some(Variant::Order36) => swap(3, 6),
             Some(Variant::Order37) => swap(3, 7),
             Some(Variant::Order47) => swap(4, 7),
+            Some(Variant::Order57) => swap(5, 7),
             Some(Variant::Order59) => swap(5, 9),
             Some(Variant::Order79) => swap(7, 9),
             Some(Variant::Order215) => swap(2, 15),

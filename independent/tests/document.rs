@@ -48,7 +48,18 @@ fn the_cases_are_all_there() {
         "mark-pipe-ends",
         "mark-again",
         "mark-record",
-        "codes-14-and-15",
+        "map-answer",
+        "map-refused",
+        "map-pipe",
+        "map-flow",
+        "map-write",
+        "map-handle",
+        "map-exec",
+        "map-exec-refused",
+        "map-fork",
+        "map-again",
+        "map-record",
+        "known-codes",
     ] {
         assert!(names.iter().any(|known| known == name), "{name}");
     }
@@ -71,11 +82,12 @@ fn a_direct_call_ignores_the_numbers_its_code_does_not_use() {
     assert_eq!(monitor.call(1, [0, 9, any, any]), Answer::Allowed(9));
     assert_eq!(monitor.call(2, [0, 9, any, any]), Answer::Allowed(9));
     assert_eq!(monitor.call(5, [0, 0, 0, any]), Answer::Allowed(9));
+    assert_eq!(monitor.call(14, [0, 0, 1, any]), Answer::Allowed(9));
     assert_eq!(monitor.call(15, [0, 0, any, any]), Answer::Allowed(9));
     assert_eq!(monitor.call(12, [0, any, any, any]), Answer::Allowed(9));
     assert_eq!(monitor.call(13, [0, any, any, any]), Answer::Allowed(9));
     assert_eq!(monitor.call(16, [9, any, any, any]), Answer::Allowed(9));
-    for code in [0, 14, 17, 255, 256, 256 + 15, 256 + 16, u32::MAX] {
+    for code in [0, 17, 18, 255, 256, 256 + 14, 256 + 15, 256 + 16, u32::MAX] {
         assert_eq!(monitor.call(code, [0, 0, 0, 0]), Answer::Refused(1));
     }
 }
@@ -317,6 +329,168 @@ fn a_pipe_without_handles_stays_at_an_exec() {
     });
     assert_eq!(monitor.call(10, [0, 0, 0, 0]), Answer::Allowed(9));
     assert!(monitor.tables().object(7).is_some() && monitor.tables().object(8).is_none());
+}
+
+// Mappings.
+
+fn mapping(object: u32) -> Option<Handle> {
+    Some(Handle::mapping(object))
+}
+
+/// RULES C14, Y3: at every pair of levels, beside an open for reading and a read.
+#[test]
+fn a_map_places_a_reading_handle_and_is_a_read() {
+    for level in 0..=15 {
+        for file in 0..=15 {
+            let start = made_up(|tables| {
+                tables.set_subject(0, Some(Subject { level }));
+                tables.set_object(0, Some(Object { kind: Kind::File, level: file }));
+            });
+            let mut monitor = start.clone();
+            let answer = if file < level { Answer::Lowered(file) } else { Answer::Allowed(level) };
+            assert_eq!(monitor.call(14, [0, 0, 3, 0]), answer);
+            assert_eq!(monitor.tables().handle(0, 3), mapping(0));
+            assert_eq!((monitor.tally().made, monitor.tally().gone), (1, 0));
+            let mut opened = start;
+            assert_eq!(opened.call(5, [0, 0, 3, 0]), Answer::Allowed(file));
+            assert_eq!(opened.call(7, [0, 3, 0, 0]), answer);
+            assert_eq!(monitor.tables().subject(0), opened.tables().subject(0));
+        }
+    }
+}
+
+/// RULES C8, C104, C110, C111: in tables that no calls made a mapper may be above its file.
+#[test]
+fn a_write_to_a_file_is_followed_by_a_read_by_each_who_has_it_mapped() {
+    let start = |levels: [u32; 5]| {
+        made_up(move |tables| {
+            tables.set_object(0, Some(Object { kind: Kind::File, level: 5 }));
+            tables.set_object(1, Some(Object { kind: Kind::File, level: 5 }));
+            for (s, level) in (0..).zip(levels) {
+                tables.set_subject(s, Some(Subject { level }));
+            }
+            // The writer has the file mapped, twice; 3 has it open and not mapped; 4 has another file mapped.
+            tables.set_handle(0, 0, handle(0, WRITING));
+            tables.set_handle(0, 1, mapping(0));
+            tables.set_handle(0, 2, mapping(0));
+            tables.set_handle(1, 7, Some(Handle { marked: true, ..Handle::mapping(0) }));
+            tables.set_handle(2, 15, mapping(0));
+            tables.set_handle(3, 0, handle(0, READING));
+            tables.set_handle(4, 0, mapping(1));
+        })
+    };
+    for (levels, answer, after) in [
+        ([9, 9, 9, 9, 9], Answer::Lowered(5), [5, 5, 5, 9, 9]),
+        ([9, 5, 4, 9, 9], Answer::Lowered(5), [5, 5, 4, 9, 9]),
+        ([5, 5, 6, 9, 9], Answer::Lowered(5), [5, 5, 5, 9, 9]),
+        ([5, 5, 4, 9, 9], Answer::Allowed(5), [5, 5, 4, 9, 9]),
+    ] {
+        let mut monitor = start(levels);
+        let handles: Vec<(u32, u32, Handle)> = monitor.tables().handles().collect();
+        assert_eq!(monitor.tables().mappers(0).collect::<Vec<u32>>(), [0, 1, 2]);
+        assert_eq!(monitor.call(8, [0, 0, 0, 0]), answer);
+        let level = |s: u32| monitor.tables().subject(s).map(|subject| subject.level);
+        assert_eq!([0, 1, 2, 3, 4].map(level), after.map(Some));
+        assert_eq!(monitor.tables().object(0), Some(Object { kind: Kind::File, level: 5 }));
+        assert_eq!(monitor.tables().handles().collect::<Vec<_>>(), handles);
+        assert_eq!((monitor.tally().made, monitor.tally().gone), (0, 0));
+    }
+}
+
+/// RULES C111: a mapping on a pipe is not asked. In all else it goes by the rules of a mapping.
+#[test]
+fn a_write_to_a_pipe_is_followed_by_nothing() {
+    let start = made_up(|tables| {
+        tables.set_subject(1, Some(Subject { level: 9 }));
+        tables.set_subject(2, Some(Subject { level: 2 }));
+        tables.set_object(7, Some(Object { kind: Kind::Pipe, level: 9 }));
+        tables.set_handle(1, 0, mapping(7));
+        tables.set_handle(2, 0, handle(7, WRITING));
+    });
+    let mut monitor = start.clone();
+    assert_eq!(monitor.call(8, [2, 0, 0, 0]), Answer::Lowered(2));
+    assert_eq!(monitor.tables().subject(1), Some(Subject { level: 9 }));
+    assert_eq!(monitor.call(7, [1, 0, 0, 0]), Answer::Lowered(2));
+    // It is copied by a fork, closed by an exec, and the pipe ends with it.
+    let mut monitor = start;
+    assert_eq!(monitor.call(9, [1, 3, 0, 0]), Answer::Allowed(9));
+    assert_eq!(monitor.tables().handle(3, 0), mapping(7));
+    assert_eq!(monitor.call(10, [1, 0, 0, 0]), Answer::Allowed(9));
+    assert_eq!(monitor.call(11, [2, 0, 0, 0]), Answer::Allowed(2));
+    assert!(monitor.tables().object(7).is_some());
+    assert_eq!(monitor.call(10, [3, 0, 0, 0]), Answer::Allowed(9));
+    assert!(monitor.tables().object(7).is_none());
+    assert_eq!((monitor.tally().made, monitor.tally().gone), (1, 3));
+}
+
+/// RULES C10, Y13: over every place, beside a handle that stays.
+#[test]
+fn a_mapping_is_closed_by_exec_wherever_it_stands() {
+    for p in 0..16 {
+        for marked in [false, true] {
+            let stays = (p + 1) % 16;
+            let mut monitor = made_up(|tables| {
+                tables.set_handle(0, p, Some(Handle { marked, ..Handle::mapping(0) }));
+                tables.set_handle(0, stays, handle(0, READING));
+            });
+            assert_eq!(monitor.call(10, [0, 0, 0, 0]), Answer::Allowed(9));
+            assert_eq!((monitor.tables().handle(0, p), monitor.tally().gone), (None, 1));
+            assert_eq!(monitor.tables().handle(0, stays), handle(0, READING));
+        }
+    }
+}
+
+/// RULES T17, T18, Y11: it is no handle, so nobody has the file mapped by it, and it is not closed or counted.
+#[test]
+fn a_mapping_that_dangles_counts_as_an_empty_place() {
+    let start = made_up(|tables| {
+        tables.set_subject(1, Some(Subject { level: 9 }));
+        tables.set_object(0, Some(Object { kind: Kind::File, level: 5 }));
+        tables.set_handle(0, 0, handle(0, WRITING));
+        tables.set_handle(1, 3, mapping(64));
+        tables.set_handle(1, 4, mapping(5));
+        tables.set_handle(7, 0, mapping(0));
+    });
+    assert_eq!(start.tables().mappers(0).next(), None);
+    for p in [3, 4] {
+        for code in [7, 8, 11, 15] {
+            assert_eq!(start.clone().call(code, [1, p, 0, 0]), Answer::Refused(7));
+        }
+        assert_eq!(start.clone().call(14, [1, 0, p, 0]), Answer::Lowered(5));
+    }
+    let mut monitor = start.clone();
+    assert_eq!(monitor.call(8, [0, 0, 0, 0]), Answer::Allowed(5));
+    // The numbers come into use afterwards: no mapping comes with them.
+    assert_eq!(monitor.call(1, [7, 9, 0, 0]), Answer::Allowed(9));
+    assert_eq!(monitor.call(2, [5, 9, 0, 0]), Answer::Allowed(9));
+    assert_eq!(monitor.tables().handle_count(), 1);
+    let mut run = start;
+    assert_eq!(run.call(10, [1, 0, 0, 0]), Answer::Lowered(5));
+    assert_eq!((run.tally().gone, run.tables().handle_count()), (0, 1));
+}
+
+#[test]
+fn a_map_empties_places_that_count_as_empty_and_a_refused_one_does_not() {
+    let stale = |tables: &mut Tables| tables.set_handle(0, 3, mapping(1));
+    let mut monitor = made_up(stale);
+    let tables = monitor.tables().clone();
+    assert_eq!(monitor.call(14, [0, 1, 3, 0]), Answer::Refused(4));
+    assert_eq!(*monitor.tables(), tables);
+    assert_eq!(monitor.call(14, [0, 0, 0, 0]), Answer::Allowed(9));
+    let cleaned = made_up(|tables| tables.set_handle(0, 0, mapping(0)));
+    assert_eq!(monitor.tables(), cleaned.tables());
+}
+
+/// RULES R119: where a thing is below its need already, a map is refused as an open for reading is.
+#[test]
+fn where_a_thing_is_below_its_need_already_every_map_is_refused() {
+    let mut monitor = made_up(|tables| {
+        tables.set_subject(1, Some(Subject { level: 2 }));
+        tables.set_handle(1, 0, handle(0, WRITING));
+    });
+    assert_eq!(monitor.call(14, [0, 0, 0, 0]), Answer::Refused(9));
+    assert_eq!(monitor.call(11, [1, 0, 0, 0]), Answer::Allowed(2));
+    assert_eq!(monitor.call(14, [0, 0, 0, 0]), Answer::Allowed(9));
 }
 
 // The freeze.

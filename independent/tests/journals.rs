@@ -11,7 +11,7 @@ use gatekeeper_independent::monitor::Answer;
 use gatekeeper_independent::needs::{level, live_things, Flow, Needs, Thing};
 use gatekeeper_independent::records::Body;
 use gatekeeper_independent::replies::{replies, Content, Run};
-use gatekeeper_independent::tables::{Direction, Handle, Kind, Object, Tables};
+use gatekeeper_independent::tables::{Direction, Handle, Kind, Object, Subject, Tables};
 use gatekeeper_independent::variants::Rules;
 
 const SEED: u64 = 20;
@@ -202,10 +202,10 @@ fn handles_are_marked_as_the_calls_say() {
     }
 }
 
-/// RULES C10, R110, Y13: an exec goes by the need of the tables without its marked handles, found by a search; it
-/// closes these and no others, or none if it is refused.
+/// RULES C10, R110, Y13: an exec goes by the need of the tables without its marked handles and its mappings, found by
+/// a search; it closes these and no others, or none if it is refused.
 #[test]
-fn an_exec_closes_the_marked_handles_of_its_caller_and_no_others() {
+fn an_exec_closes_the_marked_handles_and_mappings_of_its_caller_and_no_others() {
     for journal in mixed(150) {
         let mut run = Run::new(&journal, Rules::default());
         loop {
@@ -217,9 +217,13 @@ fn an_exec_closes_the_marked_handles_of_its_caller_and_no_others() {
                 continue;
             };
             let after = run.monitor().tables();
+            let mut without_marked = before.clone();
             let mut without = before.clone();
             for p in 0..16 {
                 if before.handle(s, p).is_some_and(|handle| handle.marked) {
+                    without_marked.set_handle(s, p, None);
+                }
+                if before.handle(s, p).is_some_and(|handle| handle.marked || handle.mapped) {
                     without.set_handle(s, p, None);
                 }
             }
@@ -237,6 +241,8 @@ fn an_exec_closes_the_marked_handles_of_its_caller_and_no_others() {
                 let need = need_by_search(&without, Thing::Subject(s));
                 let level = before.object(o).map_or(0, |object| object.level);
                 assert_eq!(closes, level >= need, "exec {s} {o}");
+                // RULES R110: the mappings make no difference to it.
+                assert_eq!(need, need_by_search(&without_marked, Thing::Subject(s)));
             }
         }
     }
@@ -321,6 +327,204 @@ fn marks_are_met_often() {
         });
     }
     assert_eq!(met.len(), 18, "{met:?}");
+    assert!(met.values().all(|&times| times >= 10), "{met:?}");
+}
+
+/// RULES T37, C9, C10, C14: the mappings, kept beside the journal by its calls and their answers alone.
+#[test]
+fn handles_are_mappings_as_the_calls_say() {
+    for journal in mixed(150) {
+        let mut mapped = BTreeSet::new();
+        each_call(&journal, |call, answer, before| {
+            let held: BTreeSet<(u32, u32, u32)> = before
+                .handles()
+                .filter(|(_, _, handle)| handle.mapped)
+                .map(|(s, p, handle)| (s, p, handle.object))
+                .collect();
+            assert_eq!(held, mapped, "{call:?}");
+            if matches!(answer, Answer::Refused(_)) {
+                return;
+            }
+            match call {
+                Call::Map { s, o, p } => {
+                    mapped.insert((s, p, o));
+                }
+                Call::Close { s, p } => mapped.retain(|&(other, place, _)| (other, place) != (s, p)),
+                Call::Exec { s, .. } | Call::Exit { s } => mapped.retain(|&(other, ..)| other != s),
+                Call::Fork { s, c } => {
+                    let own: Vec<(u32, u32, u32)> =
+                        mapped.iter().copied().filter(|mapping| mapping.0 == s).collect();
+                    mapped.extend(own.into_iter().map(|(_, p, o)| (c, p, o)));
+                }
+                _ => {}
+            }
+        });
+    }
+}
+
+/// RULES T38: who has a file mapped fell when it mapped it, and so no write to a file lowers anyone.
+#[test]
+fn no_mapper_is_above_its_file_and_no_write_to_a_file_lowers() {
+    for journal in mixed(150) {
+        each_call(&journal, |call, answer, before| {
+            for (s, _, handle) in before.handles().filter(|(_, _, handle)| handle.mapped) {
+                let (subject, object) = (before.subject(s).unwrap(), before.object(handle.object).unwrap());
+                assert_eq!((object.kind, handle.direction), (Kind::File, Direction::Reading));
+                assert!(subject.level <= object.level);
+            }
+            if let Call::Write { s, p } = call {
+                let object = before.handle(s, p).and_then(|handle| before.object(handle.object));
+                if object.is_some_and(|object| object.kind == Kind::File) {
+                    assert!(!matches!(answer, Answer::Lowered(_)), "{call:?}");
+                }
+            }
+        });
+    }
+}
+
+/// RULES C14, R119: a map of a file is refused as an open for reading is; else it leaves what that and a read leave,
+/// with a mapping in the place of the handle, and is answered as the read is.
+#[test]
+fn a_map_is_an_open_for_reading_and_a_read() {
+    let mut maps = 0;
+    for journal in mixed(150) {
+        let mut run = Run::new(&journal, Rules::default());
+        loop {
+            let before = run.monitor().clone();
+            let Some(step) = run.next_step() else {
+                break;
+            };
+            let Content::Body(_, Body::Call { code: 14, numbers }) = step.content else {
+                continue;
+            };
+            let [s, o, p, _] = numbers;
+            let mut copy = before.clone();
+            let opened = copy.call(5, numbers);
+            let is_pipe = before.tables().object(o).is_some_and(|object| object.kind == Kind::Pipe);
+            if is_pipe && before.tables().subject(s).is_some() {
+                assert_eq!(step.answer, Answer::Refused(5));
+            } else if let Answer::Refused(_) = opened {
+                assert_eq!(step.answer, opened);
+            } else {
+                assert_eq!(step.answer, copy.call(7, [s, p, 0, 0]));
+                let mut tables = copy.tables().clone();
+                tables.set_handle(s, p, Some(Handle::mapping(o)));
+                assert_eq!((run.monitor().tables(), run.tally()), (&tables, copy.tally()));
+                maps += 1;
+            }
+            if step.answer == Answer::Refused(9) {
+                // RULES R119: with s at the file's level it is refused as well.
+                let mut tables = before.tables().clone();
+                let level = |tables: &Tables, thing| level(tables, thing).unwrap();
+                let lower = level(&tables, Thing::Subject(s)).min(level(&tables, Thing::Object(o)));
+                tables.set_subject(s, Some(Subject { level: lower }));
+                tables.set_handle(s, p, Some(Handle::mapping(o)));
+                assert!(Needs::of_tables(&tables).unmet(&tables).next().is_some());
+            }
+        }
+    }
+    assert!(maps >= 500, "{maps}");
+}
+
+/// What mappings come to in a call.
+fn maps_met(call: Call, answer: Answer, before: &Tables) -> Vec<&'static str> {
+    let mut met = Vec::new();
+    let is_mapping = |s, p| before.handle(s, p).is_some_and(|handle: Handle| handle.mapped);
+    let mappings = |s| before.handles_of(s).filter(|(_, handle)| handle.mapped).count();
+    let frozen = |o| before.is_frozen(o);
+    match (call, answer) {
+        (Call::Map { .. }, Answer::Refused(2)) => met.push("2"),
+        (Call::Map { .. }, Answer::Refused(4)) => met.push("4"),
+        (Call::Map { p, .. }, Answer::Refused(5)) if p > 15 => met.push("5, with a place above 15"),
+        (Call::Map { .. }, Answer::Refused(5)) => met.push("5"),
+        (Call::Map { p, .. }, Answer::Refused(7)) if p > 15 => met.push("7, a place above 15"),
+        (Call::Map { s, p, .. }, Answer::Refused(7)) if is_mapping(s, p) => {
+            met.push("7, a mapping's place")
+        }
+        (Call::Map { .. }, Answer::Refused(7)) => met.push("7"),
+        (Call::Map { .. }, Answer::Refused(_)) => met.push("9"),
+        (Call::Map { s, o, .. }, _) => {
+            let mappers: Vec<u32> = before.mappers(o).collect();
+            let level = level(before, Thing::Object(o));
+            met.push(match answer {
+                Answer::Lowered(_) => "lowered",
+                Answer::Allowed(own) if Some(own) < level => "allowed, from below",
+                _ => "allowed, from the same level",
+            });
+            if mappers.contains(&s) {
+                met.push("mapped again");
+            }
+            if mappers.iter().any(|&mapper| mapper != s) {
+                met.push("mapped by others, too");
+            }
+            if frozen(o) {
+                met.push("a frozen file mapped");
+            }
+            if before.handles_of(s).any(|(_, handle)| handle.object == o && !handle.mapped) {
+                met.push("mapped and open");
+            }
+        }
+        (Call::Read { s, p }, Answer::Allowed(_)) if is_mapping(s, p) => met.push("read"),
+        (Call::Write { s, p }, Answer::Refused(8)) if is_mapping(s, p) => met.push("8"),
+        (Call::Write { s, p }, Answer::Allowed(_)) => {
+            let file = before.handle(s, p).map(|handle| handle.object);
+            let mappers: Vec<u32> = file.map_or_else(Vec::new, |o| before.mappers(o).collect());
+            match mappers.as_slice() {
+                [] => {}
+                [_] => met.push("written to, mapped by one"),
+                _ => met.push("written to, mapped by several"),
+            }
+            if mappers.contains(&s) {
+                met.push("written to by a mapper");
+            }
+            let levels = |thing| level(before, thing);
+            if !mappers.is_empty()
+                && file.is_some_and(|o| levels(Thing::Subject(s)) > levels(Thing::Object(o)))
+            {
+                met.push("written to from above");
+            }
+        }
+        (Call::Mark { s, p }, _) if is_mapping(s, p) => met.push("marked"),
+        (Call::Close { s, p }, _) if is_mapping(s, p) => met.push("closed"),
+        (Call::Retire { o }, Answer::Refused(10)) => {
+            let mapped = before.handles().all(|(_, _, handle)| handle.object != o || handle.mapped);
+            met.extend(mapped.then_some("10, for mappings alone"));
+        }
+        (Call::Fork { s, .. }, Answer::Allowed(_)) if mappings(s) > 0 => met.push("forked"),
+        (Call::Exit { s }, Answer::Allowed(_)) if mappings(s) > 0 => met.push("exit"),
+        (Call::Exec { s, .. }, Answer::Refused(number)) if mappings(s) > 0 => {
+            met.push(if number == 9 { "exec refused with 9" } else { "exec refused otherwise" });
+        }
+        (Call::Exec { s, .. }, _) => {
+            met.extend((mappings(s) > 0).then_some("exec"));
+            met.extend((mappings(s) > 1).then_some("exec with several"));
+            met.extend(
+                before.marked_places(s).any(|p| is_mapping(s, p)).then_some("exec with a marked one"),
+            );
+            met.extend(
+                before
+                    .handles()
+                    .any(|(t, p, _)| t != s && is_mapping(t, p))
+                    .then_some("exec beside others'"),
+            );
+        }
+        _ => {}
+    }
+    met
+}
+
+/// What mappings do, and what they must not do, stands in the journals often enough to be compared.
+#[test]
+fn mappings_are_met_often() {
+    let mut met = BTreeMap::new();
+    for journal in mixed(150) {
+        each_call(&journal, |call, answer, before| {
+            for what in maps_met(call, answer, before) {
+                *met.entry(what).or_insert(0) += 1;
+            }
+        });
+    }
+    assert_eq!(met.len(), 32, "{met:?}");
     assert!(met.values().all(|&times| times >= 10), "{met:?}");
 }
 

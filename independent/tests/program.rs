@@ -271,11 +271,11 @@ fn a_freeze_is_written_read_and_answered() {
     assert!(err(&gk(&["assemble"], b"freez 9")).contains("Did you mean: freeze"));
     assert!(err(&gk(&["assemble"], b"freeze")).contains("expected the number level"));
     assert!(err(&gk(&["assemble"], b"freeze 9 9")).contains("call 16 9 9"));
-    let output = gk(&["disassemble"], &[1, 16, 3, 16, 9, 9, 2, 14, 9, 2, 15, 9]);
+    let output = gk(&["disassemble"], &[1, 16, 3, 16, 9, 9, 2, 17, 9, 2, 15, 9]);
     for part in [
         "call 16                  # refusal 12: the number level of freeze is missing\n",
         "call 16 9 9              # refusal 12: 1 byte is left over behind freeze\n",
-        "call 14 9                # refusal 1: no call has the code 14\n",
+        "call 17 9                # refusal 1: no call has the code 17\n",
         "call 15 9                # refusal 12: the number p of mark is missing\n",
     ] {
         assert!(out(&output).contains(part), "{}", out(&output));
@@ -301,6 +301,30 @@ fn a_mark_is_written_read_and_answered() {
     for part in [
         "call 15                  # refusal 12: the number s of mark is missing\n",
         "call 15 0 3 1            # refusal 12: 1 byte is left over behind mark\n",
+    ] {
+        assert!(out(&output).contains(part), "{}", out(&output));
+    }
+}
+
+#[test]
+fn a_map_is_written_read_and_answered() {
+    let output =
+        gk(&["assemble"], b"admit 0 9\nregister 0 2\nmap 0 0 3 # unchecked hours\nmap 0 0 3\nread 0 3\n");
+    let journal = [3, 1, 0, 9, 3, 2, 0, 2, 4, 14, 0, 0, 3, 4, 14, 0, 0, 3, 3, 7, 0, 3];
+    assert_eq!(output.stdout, journal);
+    assert!(
+        out(&gk(&["disassemble"], &journal)).ends_with("register 0 2\nmap 0 0 3\nmap 0 0 3\nread 0 3\n")
+    );
+    let replies = "1 1 A 9\n2 2 A 2\n3 14 L 2\n4 14 R 7\n5 7 A 2\nend 1 0 1\n";
+    assert_eq!(out(&gk(&["run"], &journal)), replies);
+
+    assert!(err(&gk(&["assemble"], b"maps 0 0 3")).contains("Did you mean: map"));
+    assert!(err(&gk(&["assemble"], b"map 0 0")).contains("expected the number p"));
+    assert!(err(&gk(&["assemble"], b"map 0 0 3 1")).contains("call 14 0 0 3 1"));
+    let output = gk(&["disassemble"], &[1, 14, 5, 14, 0, 0, 3, 1]);
+    for part in [
+        "call 14                  # refusal 12: the number s of map is missing\n",
+        "call 14 0 0 3 1          # refusal 12: 1 byte is left over behind map\n",
     ] {
         assert!(out(&output).contains(part), "{}", out(&output));
     }
@@ -471,6 +495,88 @@ fn a_9_of_an_exec_names_the_marks_that_are_enough() {
     let text = explained(&format!("{BOOKS}open-write 0 0 0\nopen-read 0 1 1\n"));
     sees(&text, &["Refused (9): "]);
     assert!(!text.contains("mark"), "{text}");
+}
+
+#[test]
+fn mappings_are_explained() {
+    let text = explained(&format!(
+        "{BOOKS}map 0 1 0\nmap 0 0 1\nfork 0 2\nmap 1 1 0\nopen-write 1 1 1\nwrite 1 1\nread 0 0\nmark 2 0\nexec 0 0\n\
+         exec 2 0\nclose 1 0\nwrite 1 1\nfork 1 3\nexec 1 0\n"
+    ));
+    sees(
+        &text,
+        &[
+            "5. Step 0 maps file 1 at place 0. Lowered. File 1 (level 2) is read at that moment: step 0 falls from level 9 \
+             to level 2. From now on step 0 reads it after each write to it, until place 0 is closed; its next exec that \
+             is allowed closes it, too. 6.",
+            "6. Step 0 maps file 0 at place 1. Allowed. File 0 (level 9) is read at that moment: step 0 stays at level 2. \
+             From now on",
+            "7. Step 0 forks step 2. Allowed. Step 2 starts at level 2 with copies of step 0's 2 handles, 2 of them \
+             mappings. 8.",
+            "10. Step 1 writes at place 1, its writing handle on file 1 (level 2). Allowed. File 1 stays at level 2. Then \
+             step 0, step 1 and step 2, which have it mapped, read it, each once and in this order. 11.",
+            "11. Step 0 reads at place 0, its mapping of file 1 (level 2). Allowed. Step 0 stays at level 2. 12.",
+            "12. Step 2 marks place 0, its mapping of file 1 (level 2). Allowed. It is a mapping, which step 2's next exec \
+             that is allowed closes in any case. 13.",
+            "13. Step 0 runs file 0. Allowed. Step 0 stays at level 2. Its 2 mappings are closed: place 0 (file 1), place 1 \
+             (file 0). 14.",
+            "14. Step 2 runs file 0. Allowed. Step 2 stays at level 2. Its 2 mappings are closed: place 0 (file 1), place 1 \
+             (file 0). 15.",
+            "15. Step 1 closes place 0, its mapping of file 1 (level 2). Allowed. Place 0 is empty. 16.",
+            // Nobody has it mapped any more.
+            "16. Step 1 writes at place 1, its writing handle on file 1 (level 2). Allowed. File 1 stays at level 2. 17.",
+            "18. Step 1 runs file 0. Allowed. Step 1 stays at level 2. End of the run",
+        ],
+    );
+    let text = explained(&format!(
+        "{BOOKS}open-write 0 0 0\nmark 0 0\nmap 0 0 1\nmap 1 1 0\nmap 1 1 1\nfork 0 2\nwrite 0 0\nexec 0 1\n"
+    ));
+    sees(
+        &text,
+        &[
+            "with copies of step 0's 2 handles, 1 of them marked, 1 of them a mapping. 11.",
+            "Then step 0 and step 2, which have it mapped, read it, each once and in this order. 12.",
+            "Its marked handle is closed: place 0 (writing file 0). Its mapping is closed: place 1 (file 0). End",
+        ],
+    );
+    let text = explained(&format!("{BOOKS}map 1 1 0\nopen-write 0 1 0\nwrite 0 0\n"));
+    sees(&text, &["File 1 stays at level 2. Then step 1, which has it mapped, reads it. End"]);
+    let text = explained(&format!("{BOOKS}map 1 1 0\nmap 1 1 1\n"));
+    sees(
+        &text,
+        &["Step 1 had it mapped before: it reads it once after each write to it, as until now. End"],
+    );
+}
+
+#[test]
+fn a_map_that_is_refused_is_explained() {
+    let text = explained(&format!(
+        "{BOOKS}open-write 0 0 0\nmap 0 1 1\npipe 0 5 1 2\nmap 0 5 3\nmap 0 0 2\nmap 0 7 3\nmap 7 0 0\n"
+    ));
+    sees(
+        &text,
+        &[
+            "6. Step 0 maps file 1 at place 1. Refused (9): low data could reach a higher file. file 1 (level 2) → step 0 \
+             (level 9) → file 0 (level 9) File 1 has level 2, and file 0 takes nothing from below level 9. What to do: \
+             close place 0 of step 0 (writing file 0); map it after that. Or: let another step map it, one with no way to \
+             file 0. 7.",
+            "8. Step 0 maps pipe 5 at place 3. Refused (5): a pipe cannot be run, retired or mapped. Only files can be run, \
+             retired or mapped. What to do: name a file; a pipe is opened for reading and read. 9.",
+            "9. Step 0 maps file 0 at place 2. Refused (7): the place does not fit. Place 2 of step 0 is taken by its \
+             writing handle on pipe 5 (level 9). ",
+            "10. Step 0 maps file or pipe 7 at place 3. Refused (4): ",
+            "11. Step 7 maps file 0 at place 0. Refused (2): ",
+        ],
+    );
+    let text = explained(&format!("{BOOKS}map 0 1 2\nwrite 0 2\nretire 1\n"));
+    sees(
+        &text,
+        &[
+            "Refused (8): the handle is for the other direction. Place 2 holds its mapping of file 1 (level 2). What to \
+             do: open it for writing at another place. 7.",
+            "Refused (10): a handle is still open on the file. File 1 is held open by step 0 at place 2. ",
+        ],
+    );
 }
 
 #[test]

@@ -19,7 +19,7 @@ struct Chain {
 
 /// The refusal with its chain and what would open the way.
 pub fn flow_refusal(call: Call, tables: &Tables) -> String {
-    // RULES R110: the marked handles that an exec leaves out are in no chain.
+    // RULES R110: the marked handles and the mappings that an exec leaves out are in no chain.
     let tables = &*tables_tested(tables, call, Rules::default());
     let mut text = format!("  Refused (9): {}.\n", meaning(9));
     let Some((chain, sought)) = chain_in_the_way(call, tables) else {
@@ -136,6 +136,7 @@ fn advice(call: Call, tables: &Tables, chain: &Chain, sought: Flow) -> String {
     }
     let again = match call {
         Call::Exec { .. } => "run it after that".to_string(),
+        Call::Map { .. } => "map it after that".to_string(),
         Call::OpenWrite { o, .. } => when_open("open it after that", Some(Thing::Object(o)), tables),
         _ => "open it after that".to_string(),
     };
@@ -269,6 +270,7 @@ fn other_asker(call: Call, tables: &Tables, chain: &Chain) -> String {
         Call::Exec { s, .. } => format!(
             "let step {s} fork another one, which closes its ways to {high_name} and runs the file."
         ),
+        Call::Map { .. } => format!("let another step map it, one with no way to {high_name}."),
         _ => format!("let another step read it, one with no way to {high_name}."),
     }
 }

@@ -1,4 +1,5 @@
-//! Marks in words: what a mark will do, and what an exec has closed by it.
+//! Marks in words: what a mark will do, and what an exec has closed by it. The mappings that it has closed are in
+//! `maps`.
 
 use super::names::{at_place, capital, direction_word, name};
 use crate::needs::Thing;
@@ -14,6 +15,9 @@ pub fn request(s: u32, p: u32, tables: &Tables) -> String {
 pub fn outcome(s: u32, p: u32, before: &Tables) -> String {
     match before.handle(s, p) {
         Some(handle) if handle.marked => "It was marked before: nothing changes.".to_string(),
+        Some(handle) if handle.mapped => {
+            format!("It is a mapping, which step {s}'s next exec that is allowed closes in any case.")
+        }
         _ => format!("Step {s}'s next exec that is allowed closes it; until then it is used as before."),
     }
 }
@@ -27,10 +31,12 @@ pub fn copied(c: u32, after: &Tables) -> String {
     }
 }
 
-/// RULES C10, C102: the handles that an exec has closed and the pipes that have ended so.
+/// RULES C10, C102: the handles that an exec has closed for their marks and the pipes that have ended so.
 pub fn closed(s: u32, before: &Tables, after: &Tables) -> String {
-    let handles: Vec<(u32, Handle)> =
-        before.handles_of(s).filter(|&(p, _)| after.handle(s, p).is_none()).collect();
+    let handles: Vec<(u32, Handle)> = before
+        .handles_of(s)
+        .filter(|&(p, handle)| !handle.mapped && after.handle(s, p).is_none())
+        .collect();
     if handles.is_empty() {
         return String::new();
     }

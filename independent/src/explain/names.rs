@@ -32,9 +32,13 @@ pub fn direction_word(direction: Direction) -> &'static str {
 pub fn at_place(s: u32, p: u32, tables: &Tables) -> String {
     match tables.handle(s, p) {
         Some(handle) => format!(
-            "its {}{} handle on {}",
+            "its {}{} {}",
             if handle.marked { "marked " } else { "" },
-            direction_word(handle.direction),
+            if handle.mapped {
+                "mapping of".to_string()
+            } else {
+                format!("{} handle on", direction_word(handle.direction))
+            },
             name_and_level(Thing::Object(handle.object), tables)
         ),
         None => "nothing".to_string(),

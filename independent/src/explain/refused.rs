@@ -23,10 +23,7 @@ fn plain_refusal(call: Call, number: u32, tables: &Tables) -> String {
         2 => missing_subject(call),
         3 => unfit_number(call, tables),
         4 => missing_object(call),
-        5 => (
-            "Only files can be run or retired.".to_string(),
-            "name a file; a pipe ends by itself when its last handle is closed.".to_string(),
-        ),
+        5 => named_pipe(call),
         6 => high_level(call),
         7 => unfit_place(call, tables),
         8 => wrong_direction(call, tables),
@@ -85,9 +82,17 @@ fn missing_object(call: Call) -> (String, String) {
     } else {
         (
             format!("There is no file or pipe {o}, or it is gone."),
-            format!("register, create or make it first, or use another number."),
+            "register, create or make it first, or use another number.".to_string(),
         )
     }
+}
+
+fn named_pipe(call: Call) -> (String, String) {
+    let advice = match call {
+        Call::Map { .. } => "name a file; a pipe is opened for reading and read.",
+        _ => "name a file; a pipe ends by itself when its last handle is closed.",
+    };
+    ("Only files can be run, retired or mapped.".to_string(), advice.to_string())
 }
 
 fn high_level(call: Call) -> (String, String) {
@@ -103,7 +108,9 @@ fn high_level(call: Call) -> (String, String) {
 fn unfit_place(call: Call, tables: &Tables) -> (String, String) {
     let (s, places, wants_empty) = match call {
         Call::Pipe { s, r, w, .. } => (s, vec![r, w], true),
-        Call::OpenRead { s, p, .. } | Call::OpenWrite { s, p, .. } => (s, vec![p], true),
+        Call::OpenRead { s, p, .. } | Call::OpenWrite { s, p, .. } | Call::Map { s, p, .. } => {
+            (s, vec![p], true)
+        }
         Call::Read { s, p } | Call::Write { s, p } | Call::Close { s, p } | Call::Mark { s, p } => {
             (s, vec![p], false)
         }

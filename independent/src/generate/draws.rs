@@ -134,6 +134,7 @@ impl Draft {
             some(handles, if handles < 60 { 8 } else { 14 }),
             some(subjects, if subjects < 4 { 1 } else { 5 }),
             some(objects, if objects < 8 { 2 } else { 6 }),
+            some(self.imports * subjects * objects, 5),
             some(self.launches * handles, 5),
             some(self.closings, if frozen { 6 } else { 1 }),
         ];
@@ -157,7 +158,7 @@ impl Draft {
                 let w = if w == r && !self.random.once_in(4) { again } else { w };
                 vec![s, o, r, w]
             }
-            5 | 6 => self.open_numbers(code),
+            5 | 6 | 14 => self.open_numbers(code),
             7 | 8 => {
                 let right = if code == 7 { Direction::Reading } else { Direction::Writing };
                 let direction = if self.random.once_in(12) { None } else { Some(right) };
@@ -193,15 +194,16 @@ impl Draft {
         }
     }
 
-    /// An open; every second time one that is allowed is looked for.
+    /// An open or a map; every second time one that is allowed is looked for.
     fn open_numbers(&mut self, code: u32) -> Vec<u32> {
         let tries = if self.random.once_in(2) { 3 } else { 1 };
         let mut numbers = Vec::new();
         for _ in 0..tries {
             let kind = match self.random.below(3) {
-                0 => Some(Kind::Pipe),
-                1 => Some(Kind::File),
-                _ => None,
+                // Of a pipe there is no map.
+                0 if code != 14 || self.random.once_in(4) => Some(Kind::Pipe),
+                2 if code != 14 => None,
+                _ => Some(Kind::File),
             };
             numbers = self.one_open(kind);
             let answer = self.picture.clone().call(code, four(&numbers));

@@ -39,7 +39,7 @@ impl Draft {
     }
 
     /// A file of this level, registered if there is none.
-    fn file_at(&mut self, level: u32) -> u32 {
+    pub(super) fn file_at(&mut self, level: u32) -> u32 {
         let tables = self.picture.tables();
         let is_fit = |&o: &u32| {
             tables.object(o).is_some_and(|object| object.kind == Kind::File && object.level == level)

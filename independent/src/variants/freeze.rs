@@ -28,6 +28,7 @@ pub fn bend_frozen(variant: Variant, tables: &Tables, call: Call) -> Option<bool
         (Variant::FreezeCreates, Call::Create { s, .. }) => subject_level(s).map(|level| level >= freeze),
         (Variant::FreezeRegisters, Call::Register { level, .. }) => Some(level >= freeze),
         (Variant::FreezeExecs, Call::Exec { o, .. }) => Some(tables.is_frozen(o)),
+        (Variant::FreezeMaps, Call::Map { o, .. }) => Some(tables.is_frozen(o)),
         (Variant::FreezeRetires, Call::Retire { o }) => Some(tables.is_frozen(o)),
         _ => None,
     }

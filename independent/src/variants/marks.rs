@@ -16,11 +16,11 @@ pub fn bend_left_out(variant: Variant, tables: &Tables, call: Call, left_out: &m
         (Variant::OthersLeftOut, Call::Exec { .. }) => {
             *left_out = tables.live_subjects().flat_map(marked).collect();
         }
-        (Variant::OneLeftOut, Call::Exec { .. }) => left_out.truncate(1),
+        (Variant::OneLeftOut, Call::Exec { s, .. }) => *left_out = marked(s).take(1).collect(),
         (Variant::FilesLeftOut, Call::Exec { .. }) => {
             left_out.retain(|&(s, p)| kind_at(tables, s, p) == Some(Kind::File));
         }
-        (Variant::AllLeftOut, Call::Exec { s, .. }) if !left_out.is_empty() => {
+        (Variant::AllLeftOut, Call::Exec { s, .. }) if marked(s).next().is_some() => {
             *left_out = tables.handles_of(s).map(|(p, _)| (s, p)).collect();
         }
         (Variant::OpensLeaveOut, Call::OpenRead { s, .. } | Call::OpenWrite { s, .. }) => {
@@ -125,19 +125,13 @@ pub fn bend_marks(variant: Variant, before: &Monitor, after: &mut Monitor, call:
                 after.tally.made = after.tally.made.wrapping_sub(1);
             }
         }
-        (Variant::ExecKeepsMarked, Call::Exec { s, .. }) => reopen(before, after, s),
+        (Variant::ExecKeepsMarked, Call::Exec { s, .. }) => reopen(before, after, s, |_, held| held.marked),
         (Variant::ExecUnmarks, Call::Exec { s, .. }) => {
-            reopen(before, after, s);
+            reopen(before, after, s, |_, held| held.marked);
             set_marks(&mut after.tables, s, false);
         }
         (Variant::ExecKeepsReading, Call::Exec { s, .. }) => {
-            for p in old.marked_places(s) {
-                if let Some(handle) = old.handle(s, p).filter(|held| held.direction == Direction::Reading) {
-                    after.tables.set_object(handle.object, old.object(handle.object));
-                    after.tables.set_handle(s, p, Some(handle));
-                    after.tally.gone = after.tally.gone.wrapping_sub(1);
-                }
-            }
+            reopen(before, after, s, |_, held| held.marked && held.direction == Direction::Reading);
         }
         (Variant::ExecClosesOthers, Call::Exec { .. }) => {
             for s in old.live_subjects() {
@@ -214,7 +208,7 @@ pub fn bend_marked_answer(variant: Variant, before: &Monitor, call: Call, answer
         }
         (Variant::MarkAnswersPlace, Call::Mark { p, .. }, Answer::Allowed(_)) => Answer::Allowed(p),
         (Variant::ClosingAsLowered, Call::Exec { s, .. }, Answer::Allowed(level)) => {
-            match old.marked_places(s).next() {
+            match old.places_ending_at_exec(s).next() {
                 Some(_) => Answer::Lowered(level),
                 None => answer,
             }
@@ -228,19 +222,20 @@ fn kind_at(tables: &Tables, s: u32, p: u32) -> Option<Kind> {
     tables.handle(s, p).and_then(|handle| tables.object(handle.object)).map(|object| object.kind)
 }
 
-fn close(monitor: &mut Monitor, s: u32, places: &[u32]) {
+pub(super) fn close(monitor: &mut Monitor, s: u32, places: &[u32]) {
     for &p in places {
         monitor.remove_handle(s, p);
     }
 }
 
-/// Takes an exec's closing back: the marked handles, the pipes that ended with them, and the count.
-fn reopen(before: &Monitor, after: &mut Monitor, s: u32) {
-    restore_pipes(&before.tables, &mut after.tables);
-    for p in before.tables.marked_places(s) {
-        after.tables.set_handle(s, p, before.tables.handle(s, p));
+/// Takes an exec's closing of such handles back: with the pipes that ended with them, and the count.
+pub(super) fn reopen(before: &Monitor, after: &mut Monitor, s: u32, which: impl Fn(u32, Handle) -> bool) {
+    let old = &before.tables;
+    for (p, handle) in old.handles_of(s).filter(|&(p, handle)| which(p, handle)) {
+        after.tables.set_object(handle.object, old.object(handle.object));
+        after.tables.set_handle(s, p, Some(handle));
+        after.tally.gone = after.tally.gone.wrapping_sub(1);
     }
-    after.tally = before.tally;
 }
 
 /// Marks every handle of a subject, or none.

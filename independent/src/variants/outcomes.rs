@@ -1,5 +1,6 @@
 //! Variants of what a call does and answers: each is a change to the outcome of the right rules.
 
+use super::maps::{bend_map_counts, bend_mapped_answer, bend_maps, bend_refused_map};
 use super::marks::{bend_counts, bend_marked_answer, bend_marks, bend_refused_exec};
 use super::Variant;
 use crate::calls::Call;
@@ -9,8 +10,14 @@ use crate::tables::{Direction, Kind, Object, Subject, Tables, NO_FREEZE};
 /// What a refused call leaves behind.
 pub fn bend_refused(variant: Variant, after: &mut Monitor, call: Call, number: u32) {
     bend_refused_exec(variant, after, call, number);
+    bend_refused_map(variant, after, call, number);
     match (variant, call) {
-        (Variant::RefusedOpenStays, _) if number == 9 => place_sought(&mut after.tables, call),
+        (Variant::RefusedOpenStays, Call::OpenRead { .. } | Call::OpenWrite { .. }) if number == 9 => {
+            place_sought(&mut after.tables, call);
+        }
+        (Variant::RefusedMapStays, Call::Map { .. }) if number == 9 => {
+            place_sought(&mut after.tables, call);
+        }
         (Variant::FifteenStays, _) if number == 15 => place_sought(&mut after.tables, call),
         (Variant::FifteenLifts, _) if number == 15 => after.tables.set_freeze(NO_FREEZE),
         (Variant::RefusedFreezeLifts, Call::Freeze { .. }) => after.tables.set_freeze(NO_FREEZE),
@@ -26,10 +33,12 @@ pub fn bend_refused(variant: Variant, after: &mut Monitor, call: Call, number: u
     }
 }
 
-/// Places the handle that an open asks for.
+/// Places the handle that an open or a map asks for.
 fn place_sought(tables: &mut Tables, call: Call) {
-    if let (Some((s, handle)), Call::OpenRead { p, .. } | Call::OpenWrite { p, .. }) = (call.sought(), call)
-    {
+    let Some((s, handle)) = call.sought() else {
+        return;
+    };
+    if let Call::OpenRead { p, .. } | Call::OpenWrite { p, .. } | Call::Map { p, .. } = call {
         tables.set_handle(s, p, Some(handle));
     }
 }
@@ -38,6 +47,8 @@ fn place_sought(tables: &mut Tables, call: Call) {
 pub fn bend_effect(variant: Variant, before: &Monitor, after: &mut Monitor, call: Call) {
     bend_marks(variant, before, after, call);
     bend_counts(variant, before, after, call);
+    bend_maps(variant, before, after, call);
+    bend_map_counts(variant, before, after, call);
     let made = after.tally.made.wrapping_sub(before.tally.made);
     let gone = after.tally.gone.wrapping_sub(before.tally.gone);
     let old = &before.tables;
@@ -86,7 +97,7 @@ pub fn bend_effect(variant: Variant, before: &Monitor, after: &mut Monitor, call
             tables.set_subject(s, Some(Subject { level }));
         }
         (Variant::ExecCloses, Call::Exec { s, .. }) => {
-            for (p, _) in old.handles_of(s).filter(|(_, handle)| !handle.marked) {
+            for (p, _) in old.handles_of(s).filter(|(_, handle)| !handle.ends_at_exec()) {
                 tables.set_handle(s, p, None);
                 after.tally.count_gone(1);
             }
@@ -203,6 +214,7 @@ pub fn bend_answer(variant: Variant, before: &Monitor, call: Call, answer: Answe
     let subject_level = |s| old.subject(s).map(|subject| subject.level);
     let object_level = |o| old.object(o).map(|object| object.level);
     let answer = bend_marked_answer(variant, before, call, answer);
+    let answer = bend_mapped_answer(variant, before, call, answer);
     match (variant, call) {
         (Variant::OpenAnswersSubject, Call::OpenRead { s, .. } | Call::OpenWrite { s, .. }) => {
             with(subject_level(s))
