@@ -1,4 +1,4 @@
-//! The fifteen calls by code, and what a call is answered with.
+//! The sixteen calls by code, and what a call is answered with.
 
 use crate::refusals::Refusal;
 use crate::tables::{Direction, Level};
@@ -7,7 +7,7 @@ use crate::tables::{Direction, Level};
 #[derive(Clone, Copy, Debug, PartialEq, Eq)]
 pub enum Answer {
     Allowed(Level),
-    /// Allowed, and a read, write or exec made a level smaller.
+    /// Allowed, and a read, write, exec or map made a level smaller.
     Lowered(Level),
     /// Refused, with the refusal's number.
     Refused(u8),
@@ -34,6 +34,7 @@ pub enum Call {
     Close { s: u32, p: u32 },
     Exit { s: u32 },
     Retire { o: u32 },
+    Map { s: u32, o: u32, p: u32 },
     Mark { s: u32, p: u32 },
     Freeze { level: u32 },
 }
@@ -46,7 +47,7 @@ impl Call {
     pub fn numbers_of(code: u32) -> Option<usize> {
         match code {
             4 => Some(4),
-            5 | 6 => Some(3),
+            5 | 6 | 14 => Some(3),
             1..=3 | 7..=11 | 15 => Some(2),
             12 | 13 | 16 => Some(1),
             _ => None,
@@ -69,6 +70,7 @@ impl Call {
             11 => Call::Close { s: a, p: b },
             12 => Call::Exit { s: a },
             13 => Call::Retire { o: a },
+            14 => Call::Map { s: a, o: b, p: c },
             15 => Call::Mark { s: a, p: b },
             16 => Call::Freeze { level: a },
             _ => return None,

@@ -10,7 +10,7 @@ use crate::tables::{Direction, Kind, Level, Object, Place, Tables, Tally, PLACES
 pub enum When {
     /// At each call, refused ones too.
     EachCall,
-    /// Where a call goes by them: an open or an exec that nothing else refuses.
+    /// Where a call goes by them: an open, a map or an exec that nothing else refuses.
     Asked,
 }
 
@@ -37,7 +37,8 @@ impl Monitor {
         self.tables.tally
     }
 
-    /// The needs worked out last: for an open, as if it were allowed; for an exec, without the caller's marked handles.
+    /// The needs worked out last: for an open or a map, as if it were allowed; for an exec, without the caller's marked
+    /// handles.
     pub fn needs(&self) -> &Needs {
         &self.needs
     }
@@ -68,6 +69,7 @@ impl Monitor {
             Call::Close { s, p } => self.close(s, p),
             Call::Exit { s } => self.exit(s),
             Call::Retire { o } => self.retire(o),
+            Call::Map { s, o, p } => self.map(s, o, p),
             Call::Mark { s, p } => self.mark(s, p),
             Call::Freeze { level } => self.freeze(level),
         };
@@ -115,10 +117,7 @@ impl Monitor {
         let (s, _) = self.tables.subject(s)?;
         let (o, object) = self.tables.object(o)?;
         let p = self.tables.empty_place(s, p)?;
-        self.ask(|tables| Needs::work_out(tables, Place::of(s, o, direction)));
-        if !self.needs.are_met(&self.tables) {
-            return Err(Refusal::Flow);
-        }
+        self.test_flow(Place::of(s, o, direction))?;
         if direction == Direction::Writing {
             self.tables.writable(object)?;
         }
@@ -136,6 +135,7 @@ impl Monitor {
         let (s, level) = self.tables.subject(s)?;
         let Held { o, object, .. } = self.tables.held_for(s, p, Direction::Writing)?;
         Ok(match object.kind {
+            // Who has it mapped reads it now, and fell to its level when it mapped it: nobody falls any more.
             Kind::File => Answer::Allowed(object.level),
             Kind::Pipe => {
                 fall(object.level, level, |level| self.tables.objects[o] = Some(Object { level, ..object }))
@@ -153,6 +153,7 @@ impl Monitor {
             }
         }
         self.tables.marks[c] = self.tables.marks[s];
+        self.tables.maps[c] = self.tables.maps[s];
         Ok(Answer::Allowed(level))
     }
 
@@ -164,7 +165,7 @@ impl Monitor {
             return Err(Refusal::Flow);
         }
         for place in 0..PLACES {
-            if self.tables.is_marked(s, place) {
+            if self.tables.ends_at_exec(s, place) {
                 self.tables.empty(s, place);
             }
         }
@@ -196,6 +197,16 @@ impl Monitor {
         Ok(Answer::Allowed(object.level))
     }
 
+    fn map(&mut self, s: u32, o: u32, p: u32) -> Result<Answer, Refusal> {
+        let (s, level) = self.tables.subject(s)?;
+        let (o, object) = self.tables.file(o)?;
+        let p = self.tables.empty_place(s, p)?;
+        self.test_flow(Place::of(s, o, Direction::Reading))?;
+        self.tables.fill(s, p, o, Direction::Reading);
+        self.tables.map(s, p);
+        Ok(fall(level, object.level, |level| self.tables.subjects[s] = Some(level)))
+    }
+
     fn mark(&mut self, s: u32, p: u32) -> Result<Answer, Refusal> {
         let (s, level) = self.tables.subject(s)?;
         let Held { p, .. } = self.tables.held(s, p)?;
@@ -211,6 +222,16 @@ impl Monitor {
 
 /// When needs are worked out, and of what.
 impl Monitor {
+    /// Refusal 9: with this handle, every live subject and object has at least the level of its need.
+    fn test_flow(&mut self, sought: Place) -> Result<(), Refusal> {
+        self.ask(|tables| Needs::work_out(tables, sought));
+        if self.needs.are_met(&self.tables) {
+            Ok(())
+        } else {
+            Err(Refusal::Flow)
+        }
+    }
+
     /// Works needs out for the test of a call, unless that was done before all else.
     fn ask(&mut self, work_out: impl FnOnce(&Tables) -> Needs) {
         if self.when == When::Asked {
@@ -228,9 +249,13 @@ impl Monitor {
         Needs::work_out(&self.tables, self.sought(call).unwrap_or(Place::EMPTY))
     }
 
-    /// The handle that an open seeks, where its subject and its object are live.
+    /// The handle that an open or a map seeks, where its subject and its object are live.
     fn sought(&self, call: Call) -> Option<Place> {
-        let Call::Open { s, o, direction, .. } = call else { return None };
+        let (s, o, direction) = match call {
+            Call::Open { s, o, direction, .. } => (s, o, direction),
+            Call::Map { s, o, .. } => (s, o, Direction::Reading),
+            _ => return None,
+        };
         let (s, _) = self.tables.subject(s).ok()?;
         let (o, _) = self.tables.object(o).ok()?;
         Some(Place::of(s, o, direction))
@@ -326,6 +351,54 @@ mod tests {
         let again = (2, [5, 4, 0, 0]);
         assert_eq!(last(&[&start[..], &ended[..], &[again]].concat()), Answer::Allowed(4));
         assert_eq!(last(&[&start[..], &ended[1..], &[again]].concat()), Answer::Refused(3));
+    }
+
+    #[test]
+    fn a_map_is_an_open_for_reading_and_a_read() {
+        let start = [(1, [0, 9, 0, 0]), (2, [0, 9, 0, 0]), (2, [1, 2, 0, 0]), (4, [0, 5, 14, 15])];
+        let after = |calls: &[(u32, [u32; NUMBERS])]| last(&[&start[..], calls].concat());
+        let (high, low) = ((14, [0, 0, 0, 0]), (14, [0, 1, 1, 0]));
+        assert_eq!(after(&[high]), Answer::Allowed(9));
+        assert_eq!(after(&[low]), Answer::Lowered(2));
+        assert_eq!(after(&[low, high]), Answer::Allowed(2));
+        assert_eq!(after(&[low, (7, [0, 1, 0, 0])]), Answer::Allowed(2));
+        assert_eq!(after(&[low, (8, [0, 1, 0, 0])]), Answer::Refused(8));
+        // Unfit in every way, and in less and less of them.
+        assert_eq!(after(&[(14, [1, 64, 16, 0])]), Answer::Refused(2));
+        assert_eq!(after(&[(14, [0, 64, 16, 0])]), Answer::Refused(4));
+        assert_eq!(after(&[(14, [0, 5, 16, 0])]), Answer::Refused(5));
+        assert_eq!(after(&[(6, [0, 0, 0, 0]), (14, [0, 1, 16, 0])]), Answer::Refused(7));
+        assert_eq!(after(&[(6, [0, 0, 0, 0]), (14, [0, 1, 0, 0])]), Answer::Refused(7));
+        assert_eq!(after(&[(6, [0, 0, 0, 0]), low]), Answer::Refused(9));
+        assert_eq!(after(&[(16, [0; NUMBERS]), low]), Answer::Lowered(2));
+    }
+
+    #[test]
+    fn a_write_to_a_mapped_file_lowers_nobody() {
+        let start = [(1, [0, 9, 0, 0]), (1, [1, 9, 0, 0]), (2, [0, 2, 0, 0]), (14, [1, 0, 0, 0])];
+        let after = |calls: &[(u32, [u32; NUMBERS])]| last(&[&start[..], calls].concat());
+        let (open, write) = ((6, [0, 0, 3, 0]), (8, [0, 3, 0, 0]));
+        assert_eq!(after(&[open, write]), Answer::Allowed(2));
+        assert_eq!(after(&[open, write, (7, [1, 0, 0, 0])]), Answer::Allowed(2));
+        assert_eq!(after(&[open, write, (11, [0, 3, 0, 0])]), Answer::Allowed(9));
+    }
+
+    #[test]
+    fn an_exec_closes_the_caller_s_mappings() {
+        let start = [(1, [0, 9, 0, 0]), (2, [0, 9, 0, 0]), (2, [1, 2, 0, 0]), (14, [0, 0, 0, 0])];
+        let after = |calls: &[(u32, [u32; NUMBERS])]| last(&[&start[..], calls].concat());
+        let (exec, read) = ((10, [0; 4]), (7, [0; 4]));
+        assert_eq!(after(&[exec]), Answer::Allowed(9));
+        assert_eq!(after(&[exec, read]), Answer::Refused(7));
+        assert_eq!(after(&[(5, [0, 0, 1, 0]), exec, (7, [0, 1, 0, 0])]), Answer::Allowed(9));
+        // What is opened where it was is no mapping.
+        assert_eq!(after(&[exec, (5, [0; 4]), exec, read]), Answer::Allowed(9));
+        // A refused exec closes none, and a fork copies it.
+        assert_eq!(after(&[(6, [0, 0, 1, 0]), (10, [0, 1, 0, 0])]), Answer::Refused(9));
+        assert_eq!(after(&[(6, [0, 0, 1, 0]), (10, [0, 1, 0, 0]), read]), Answer::Allowed(9));
+        let (fork, child) = ((9, [0, 1, 0, 0]), (10, [1, 0, 0, 0]));
+        assert_eq!(after(&[fork, child, (7, [1, 0, 0, 0])]), Answer::Refused(7));
+        assert_eq!(after(&[fork, child, read]), Answer::Allowed(9));
     }
 
     #[test]

@@ -39,7 +39,7 @@ impl Needs {
         needs
     }
 
-    /// The same without the marked handles of a subject.
+    /// The same without the marked handles of a subject. Its mappings may stay: a flow to it does not change its need.
     pub fn without_marked(tables: &Tables, s: usize) -> Needs {
         if tables.marks[s] == 0 {
             return Needs::work_out(tables, Place::EMPTY);

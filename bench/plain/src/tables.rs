@@ -1,4 +1,4 @@
-//! The tables: subjects, objects and handles, by number, the marks, the freeze, and the tally of handles.
+//! The tables: subjects, objects and handles, by number, the marks, the mappings, the freeze, and the tally of handles.
 
 /// How many there are of each.
 pub const SUBJECTS: usize = 32;
@@ -95,7 +95,7 @@ impl Tally {
 pub type Places = u16;
 
 /// Every table. A subject that is not live holds no handle, every handle's object is live, and an empty place has no
-/// mark.
+/// mark and is no mapping. A mapping is a reading handle on a file that its subject is not above.
 #[derive(Clone, Debug, PartialEq, Eq)]
 pub struct Tables {
     /// The levels of the live subjects; none for a number that is free.
@@ -105,6 +105,8 @@ pub struct Tables {
     pub places: [[Place; PLACES]; SUBJECTS],
     /// The places with a marked handle, by subject: an exec closes those.
     pub marks: [Places; SUBJECTS],
+    /// The places with a mapping, by subject: an exec closes those, too.
+    pub maps: [Places; SUBJECTS],
     /// The level from which on no file is opened for writing.
     pub freeze: Level,
     pub tally: Tally,
@@ -116,11 +118,12 @@ impl Tables {
         objects: [None; OBJECTS],
         places: [[Place::EMPTY; PLACES]; SUBJECTS],
         marks: [0; SUBJECTS],
+        maps: [0; SUBJECTS],
         freeze: NO_FREEZE,
         tally: Tally { made: 0, gone: 0 },
     };
 
-    /// Places a handle on a live object at an empty place of a live subject. It has no mark.
+    /// Places a handle on a live object at an empty place of a live subject. It has no mark and is no mapping.
     pub fn fill(&mut self, s: usize, p: usize, o: usize, direction: Direction) {
         self.places[s][p] = Place::of(s, o, direction);
         if let Some(object) = &mut self.objects[o] {
@@ -138,6 +141,16 @@ impl Tables {
         self.marks[s] >> p & 1 == 1
     }
 
+    /// Makes a mapping of the reading handle at a place.
+    pub fn map(&mut self, s: usize, p: usize) {
+        self.maps[s] |= 1 << p;
+    }
+
+    /// Whether an exec closes the handle at a place: it is marked, or a mapping.
+    pub fn ends_at_exec(&self, s: usize, p: usize) -> bool {
+        (self.marks[s] | self.maps[s]) >> p & 1 == 1
+    }
+
     /// The places of a subject as they are without its marked handles.
     pub fn unmarked(&self, s: usize) -> [Place; PLACES] {
         let mut places = self.places[s];
@@ -149,11 +162,13 @@ impl Tables {
         places
     }
 
-    /// Empties a place; a mark goes with its handle. A pipe ends, and its number is free, when its last handle goes.
+    /// Empties a place; a mark or a mapping goes with its handle. A pipe ends, and its number is free, when its last
+    /// handle goes.
     pub fn empty(&mut self, s: usize, p: usize) {
         let Some((o, _)) = self.places[s][p].handle() else { return };
         self.places[s][p] = Place::EMPTY;
         self.marks[s] &= !(1 << p);
+        self.maps[s] &= !(1 << p);
         let entry = &mut self.objects[o];
         if let Some(object) = entry {
             object.handles -= 1;
@@ -195,6 +210,23 @@ mod tests {
             assert_eq!(tables.unmarked(31)[p], Place::of(31, 5, Direction::Reading));
         }
         assert_eq!(tables.marks, [0; SUBJECTS]);
+    }
+
+    #[test]
+    fn a_mapping_goes_with_its_handle() {
+        let mut tables = Tables::EMPTY;
+        tables.subjects[31] = Some(9);
+        tables.objects[5] = Some(Object { kind: Kind::File, level: 9, handles: 0 });
+        for p in [0, 15] {
+            tables.fill(31, p, 5, Direction::Reading);
+            assert!(!tables.ends_at_exec(31, p));
+            tables.map(31, p);
+            assert!(tables.ends_at_exec(31, p) && !tables.is_marked(31, p) && !tables.ends_at_exec(31, 1));
+            tables.empty(31, p);
+            tables.fill(31, p, 5, Direction::Reading);
+            assert!(!tables.ends_at_exec(31, p));
+        }
+        assert_eq!(tables.maps, [0; SUBJECTS]);
     }
 
     #[test]

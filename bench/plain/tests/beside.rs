@@ -1,5 +1,6 @@
 //! The plain program beside the independent one: the same replies to every journal, and after each direct call the
-//! same answer, the same tally, the same marks and freeze, and the needs as the independent program works them out.
+//! same answer, the same tally, levels, marks, mappings and freeze, and the needs as the independent program works them
+//! out.
 
 use gatekeeper_independent::calls::SHAPES;
 use gatekeeper_independent::cases;
@@ -80,19 +81,36 @@ impl Pair {
         assert_eq!((tally.made, tally.gone), (tally_beside.made, tally_beside.gone));
         assert_eq!(tally.open(), self.independent.tables().handle_count());
         assert_eq!(u32::from(self.plain.tables().freeze), self.independent.tables().freeze());
-        self.compare_marks();
+        self.compare_handles();
+        self.compare_levels();
         if let Answer::Refused(_) = answer {
             assert_eq!(self.plain.tables(), &before, "a refused call changed a table");
         }
         answer
     }
 
-    /// Sees that the same handles are marked.
-    fn compare_marks(&self) {
+    /// Sees that the same handles are marked, and the same are mappings.
+    fn compare_handles(&self) {
         for s in 0..32 {
-            let marked = self.independent.tables().marked_places(s);
-            let marks = marked.fold(0, |marks: u16, p| marks | 1 << p);
+            let (mut marks, mut maps) = (0, 0);
+            for (p, handle) in self.independent.tables().handles_of(s) {
+                marks |= u16::from(handle.marked) << p;
+                maps |= u16::from(handle.mapped) << p;
+            }
             assert_eq!(self.plain.tables().marks[s as usize], marks, "marks of subject {s}");
+            assert_eq!(self.plain.tables().maps[s as usize], maps, "mappings of subject {s}");
+        }
+    }
+
+    /// Sees that the same subjects and objects are live, at the same levels.
+    fn compare_levels(&self) {
+        let (plain, tables) = (self.plain.tables(), self.independent.tables());
+        for (s, level) in (0..).zip(plain.subjects) {
+            assert_eq!(level.map(u32::from), tables.subject(s).map(|subject| subject.level), "subject {s}");
+        }
+        for (o, entry) in (0..).zip(plain.objects) {
+            let level = entry.map(|object| u32::from(object.level));
+            assert_eq!(level, tables.object(o).map(|object| object.level), "object {o}");
         }
     }
 
