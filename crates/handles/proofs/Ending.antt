@@ -1,16 +1,14 @@
 -- The end of a pipe: which objects have a handle open, worked out handle by handle, is what the rules ask; and the objects with the ended pipes
 -- freed are the tables after `reap`. Assumes nothing.
 use mathlib.Core.Path.{_≡_, refl, sym, _∙_, ap, subst₂, fun-ext}
-use mathlib.Core.Bool.{Bool, true, false, not, _&&_, _||_, cond}
+use mathlib.Core.Bool.{Bool, true, false, not, _&&_, cond}
 use mathlib.Core.Option.{none, some}
 use mathlib.Core.List.{List}
-use Prim.Native.Nat.{ℕ, zero, suc, _+_, _≤_, _<_}
+use Prim.Native.Nat.{ℕ, zero, suc, _≤_, _<_}
 use native.Mathlib.Omega.{arith}
-use native.Mathlib.Decide.{ℕ-discrete, decLt}
-use native.Mathlib.Numerals.{add-one}
-use borrow.Author.Tests.{le-ltb, eq-eqb, ne-eqb, ltb-true, ltb-false}
-use lib.ListN.{length, getD, set, length-set, replicate, length-replicate, getD-replicate, List·getD-eq-default}
-use lib.Seq.{getD-set-same, getD-set-other}
+use native.Mathlib.Decide.{decLt}
+use borrow.Author.Tests.{le-ltb, ne-eqb, ltb-true, ltb-false}
+use lib.ListN.{length, getD, List·getD-eq-default}
 use lib.Dec.{ltb, eqb}
 use Rattle.model.specs.Label.{label}
 use Rattle.model.specs.Flow.{Thing, subject, object}

@@ -1,4 +1,4 @@
--- The book: the rules' term for what demand 3 is measured by. (A reference model of the tables with contents.) States RULES B1 to B21, and
+-- The book: the rules' term for what demand 3 is measured by. (A reference model of the tables with contents.) States RULES B1 to B21 and B29, and
 -- of B28 which outside contents differ only below a level.
 --
 -- What is kept; the handling of data; what each step does to contents; the book run over a list of calls; where contents are
@@ -46,7 +46,7 @@ born outside o c = o
 born blank o c = 0
 born (copied y) o c = c y
 
--- RULES B13, B14, B15: where data moves, the receiver's content is worked out from its own and the source's; RULES B17, B18: the source
+-- RULES B13, B14, B15, B29: where data moves, the receiver's content is worked out from its own and the source's; RULES B17, B18: the source
 -- keeps its own, and no other step changes a content
 abbrev pub carry : Handling → ℕ → ℕ → Step → Contents → Contents
 carry h i o (enter x e g) c = store c x (born g o c)

@@ -2,24 +2,24 @@
 -- it mapped it, a file keeps its label, and no subject's rises. One law for each step, then call by call. Assumes nothing.
 use mathlib.Core.Path.{_≡_, refl, sym, _∙_, ap, subst, subst₂}
 use mathlib.Core.Bool.{Bool, true, false, not, cond}
-use mathlib.Core.Logic.{_⊎_, inl, inr}
+use mathlib.Core.Logic.{inl, inr}
 use mathlib.Core.Option.{Option, none, some, Option·none-ne-some, Option·some-injective}
 use mathlib.Core.List.{List, [], _∷_}
 use Prim.Native.Nat.{ℕ}
 use lib.Dec.{T, T-not, not-T, eqb, eqb→eq}
-use Rattle.model.specs.Bools.{cond-no, not-not}
+use Rattle.model.specs.Bools.{cond-no}
 use Rattle.model.specs.Label.{label, _⊑_, meet}
 use Rattle.model.specs.Label.Laws.{⊑-refl, ⊑-trans, meet-right, meet-glb}
 use Rattle.model.specs.Flow.{Thing, subject, object, same}
 use Rattle.model.specs.Flow.Laws.{same→eq}
-use Rattle.model.specs.Tables.{Kind, running, file, pipe, Dir, reading, writing, Entry, entry, Handle, handle, mapping, with-mark, Tables, empty, with-at, with-hand}
+use Rattle.model.specs.Tables.{Kind, running, file, pipe, Dir, reading, writing, Entry, entry, Handle, handle, mapping, with-mark, Tables, empty, with-hand}
 use Rattle.model.specs.Tables.{label-of, is-file, a-file, is-pipe, cell, handles, open-on}
 use Rattle.model.specs.Tables.Laws.{cell-self, cell-same, cell-entry, object-entry, open-here}
-use Rattle.model.specs.Steps.{Origin, outside, blank, copied, Access, reads, writes, runs, enter, leave, hold, holds, mix, put, row, place, fall, apply, applies}
+use Rattle.model.specs.Steps.{Origin, outside, blank, copied, Access, reads, writes, runs, enter, hold, holds, mix, put, row, place, fall, apply, applies}
 use Rattle.model.specs.Steps.{falls, sunk, ended, reap}
-use Rattle.model.specs.Steps.Laws.{put-cases, put-same, put-apart, row-cases, place-cases, applies-append, ended-open, ended-subject, fall-label, file-keeps}
-use Rattle.model.specs.Invariant.{Ends, Wf, Maps, Mapped}
-use Rattle.model.specs.Invariant.Laws.{row-below, Less, less-hand, less-close, less-row, less-freeze, less-wf, without, wf-enter}
+use Rattle.model.specs.Steps.Laws.{put-same, put-apart, row-cases, place-cases, applies-append, ended-open, ended-subject, fall-label, file-keeps}
+use Rattle.model.specs.Invariant.{Wf, Maps, Mapped}
+use Rattle.model.specs.Invariant.Laws.{row-below, Less, less-close, less-row, less-freeze, without}
 use Rattle.model.specs.Calls.{Call, admit, register, create, make-pipe, opens, access, fork, exec, close, exit, retire, maps, mark, freeze, unknown}
 use Rattle.model.specs.Calls.{target, moves, followed, marking, sheds, steps, effect, alive, present, new, taken, no-pipe, idle, broken, lowers}
 use Rattle.model.specs.Calls.Moving.{rereads-keep, lowers-none}

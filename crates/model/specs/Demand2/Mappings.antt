@@ -4,7 +4,6 @@ use mathlib.Core.Path.{_≡_, refl, sym, _∙_, ap, subst, subst₂}
 use mathlib.Core.Bool.{Bool, true, false, not, _||_, cond}
 use mathlib.Core.Logic.{_⊎_, inl, inr, _↔_}
 use mathlib.Core.Option.{Option, none, some, Option·none-ne-some, Option·some-injective}
-use mathlib.Core.List.{[], _∷_}
 use Prim.Native.Nat.{ℕ}
 use lib.Dec.{T, eqb, eqb→eq}
 use Rattle.model.specs.Bools.{yes-not-not}
@@ -15,7 +14,7 @@ use Rattle.model.specs.Flow.{Thing, subject, object, same, Edge, Reaches
 use Rattle.model.specs.Flow.Laws.{same→eq, reaches-in, reaches-snoc, need-upper, need-least}
 use Rattle.model.specs.Tables.{Dir, reading, Entry, Handle, handle, mapping, Tables, is-some, label-of, cell, arc, flow, speaks, edges, demand, needs, safe}
 use Rattle.model.specs.Tables.Laws.{some-of, some-is, speaks-hand, speaks-at, speaks-cell, flow-edge, edge-flow}
-use Rattle.model.specs.Steps.{reads, hold, holds, mix, row, fall, apply, applies}
+use Rattle.model.specs.Steps.{reads, hold, holds, row, fall, apply, applies}
 use Rattle.model.specs.Steps.Laws.{fall-some, fall-demand}
 use Rattle.model.specs.Invariant.{Wf}
 use Rattle.model.specs.Invariant.Laws.{Pot, pot-safe, needs-pot, wf-mix, pot-mix}
