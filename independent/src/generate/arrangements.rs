@@ -101,7 +101,12 @@ impl Draft {
             }
             let next = members[(index + 1) % members.len()];
             let pipe = objects[4 + index];
-            let (r, w) = (self.random.below(8), self.random.between(8, 15));
+            // Two free places of a member, which has one handle so far: no link is missing.
+            let tables = self.picture.tables();
+            let mut free: Vec<u32> =
+                (0..LIMITS.places).filter(|&p| tables.handle(s, p).is_none()).collect();
+            self.random.shuffle(&mut free);
+            let (r, w) = (free[0], free[1]);
             self.record(4, &[s, pipe, r, w]);
             let p = self.free_place(next);
             self.record(5, &[next, pipe, p]);
