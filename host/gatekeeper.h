@@ -49,8 +49,8 @@ extern "C" {
  *
  *   at 0, 32 times     1 where the subject is live, and its level
  *   at 64, 64 times    1 for a file, 2 for a pipe, and its level
- *   at 192, 512 times  1 for a reading handle, 2 for a writing one, its object, and 1 where it is marked; place p of
- *                      subject s is the (16 s + p)th, three bytes at 192 + 3 (16 s + p)
+ *   at 192, 512 times  1 for a reading handle, 2 for a writing one, 3 for a mapping, its object, and 1 where it is
+ *                      marked; place p of subject s is the (16 s + p)th, three bytes at 192 + 3 (16 s + p)
  *   at 1728            handles made, eight bytes, the lowest first
  *   at 1736            handles gone, likewise
  *   at 1744            the freeze, one byte: the level from which on files are frozen; 16 and above: none is
@@ -59,20 +59,29 @@ extern "C" {
  * not marked. The empty monitor has 16 as its freeze and 0 everywhere else: bytes that are all 0 have no subject,
  * object or handle either, but they freeze every file.
  *
- * Bytes that a version before 2.0.0 kept have neither marks nor a freeze, which is a wrong length. With a byte 0 after
- * the two of each handle, and a byte of GATEKEEPER_NO_FREEZE after all, they are the same monitor.
+ * Bytes that version 2.0.0 kept are the same monitor as they stand: its calls made no mapping. Those of a version
+ * before it have neither marks nor a freeze, which is a wrong length. With a byte 0 after the two of each handle, and a
+ * byte of GATEKEEPER_NO_FREEZE after all, they are the same monitor.
  */
 
 /* The calls, with the numbers a, b, c and d that each takes. s and c are subjects, o is an object, p, r and w are
  * places.
  *
- * A handle that is marked ends when its subject runs a program: the flow rule is asked of an exec as if s did not have
- * its marked handles, and an exec that is not refused closes them. They count as gone, a pipe ends with its last
- * handle, and a host that carries the exec out closes the same ones; a refused exec closes none. A new handle is not
- * marked, a fork's are marked as s's are, and no call takes a mark off.
+ * A mapping is a reading handle on a file that its subject has mapped into memory. A host reports one with
+ * GATEKEEPER_MAP in place of GATEKEEPER_OPEN_READ, and its end with GATEKEEPER_CLOSE. No call to read follows, so the
+ * map itself is one: s falls at that moment. The memory shows what is written to the file later, so each write to it,
+ * whoever makes it, is followed by one read by each subject that has it mapped, the lowest number first. The monitor
+ * does that by itself, and the host carries out the write and nothing more. On a monitor that started empty no subject
+ * falls at such a write: it fell when it mapped the file. In all else a mapping is a reading handle.
  *
- * A freeze is one for all subjects, in the place of the one before it; pipes, opens for reading and handles that are
- * held go on as without it. */
+ * A handle that is marked ends when its subject runs a program, and so does a mapping: the flow rule is asked of an
+ * exec as if s had neither, and an exec that is not refused closes both. They count as gone, and a pipe ends with its
+ * last handle. A host that carries the exec out closes the marked ones; mappings go with the memory that they are in.
+ * A refused exec closes none. A new handle is not marked; a fork's are marked, and are mappings, as s's are; and no
+ * call takes a mark off.
+ *
+ * A freeze is one for all subjects, in the place of the one before it; pipes, opens for reading, maps and handles
+ * that are held go on as without it. */
 enum gatekeeper_code {
     GATEKEEPER_ADMIT = 1,      /* s, level: a new subject from outside, without handles */
     GATEKEEPER_REGISTER = 2,   /* o, level: a new file from outside */
@@ -81,12 +90,13 @@ enum gatekeeper_code {
     GATEKEEPER_OPEN_READ = 5,  /* s, o, p: a reading handle */
     GATEKEEPER_OPEN_WRITE = 6, /* s, o, p: a writing handle */
     GATEKEEPER_READ = 7,       /* s, p: s falls to the object's level if that is lower */
-    GATEKEEPER_WRITE = 8,      /* s, p: a pipe falls to s's level if that is lower */
-    GATEKEEPER_FORK = 9,       /* s, c: a new subject with s's level, and s's handles and marks at the same places */
-    GATEKEEPER_EXEC = 10,      /* s, o: file o is run; s falls to its level if that is lower; marked handles close */
+    GATEKEEPER_WRITE = 8,      /* s, p: a pipe falls to s's level if that is lower; who has a file mapped reads it */
+    GATEKEEPER_FORK = 9,       /* s, c: a new subject: s's level, and s's handles, marks and mappings at their places */
+    GATEKEEPER_EXEC = 10,      /* s, o: file o is run; s falls to its level if lower; marked handles and mappings end */
     GATEKEEPER_CLOSE = 11,     /* s, p: the place is empty */
     GATEKEEPER_EXIT = 12,      /* s: all its handles are closed, its number is free */
     GATEKEEPER_RETIRE = 13,    /* o: the file is gone, its number is free */
+    GATEKEEPER_MAP = 14,       /* s, o, p: a mapping, and a read: s falls to the file's level if that is lower */
     GATEKEEPER_MARK = 15,      /* s, p: the handle is marked: it ends when s runs a program */
     GATEKEEPER_FREEZE = 16     /* level: files at or above it are frozen: no open for writing; with 16, none is */
 };
@@ -94,18 +104,18 @@ enum gatekeeper_code {
 /* How a call came out. */
 enum gatekeeper_outcome {
     GATEKEEPER_ALLOWED = 'A',
-    GATEKEEPER_LOWERED = 'L', /* allowed, and a read, write or exec made a level smaller */
+    GATEKEEPER_LOWERED = 'L', /* allowed, and a read, write, exec or map made some level smaller */
     GATEKEEPER_REFUSED = 'R'
 };
 
 /* Why a call, a record or a journal is refused. Where several hold, the smallest number is given, but 14 goes before
  * all others, and 12 before 2 to 10. So an open that is refused with 15 is one that nothing but the freeze forbids. */
 enum gatekeeper_refusal {
-    GATEKEEPER_UNKNOWN_CODE = 1,      /* the code is none of 1 to 13, 15 and 16 */
+    GATEKEEPER_UNKNOWN_CODE = 1,      /* the code is none of 1 to 16 */
     GATEKEEPER_NO_SUBJECT = 2,        /* the subject that asks is out of range or not live */
     GATEKEEPER_NUMBER_TAKEN = 3,      /* the number for a new thing is out of range or in use */
     GATEKEEPER_NO_OBJECT = 4,         /* the object is out of range or not live */
-    GATEKEEPER_IS_PIPE = 5,           /* a pipe cannot be run or retired */
+    GATEKEEPER_IS_PIPE = 5,           /* a pipe cannot be run, retired or mapped */
     GATEKEEPER_LEVEL_TOO_HIGH = 6,    /* the level is above 15, or a freeze above 16 */
     GATEKEEPER_PLACE_UNFIT = 7,       /* the place is above 15, taken, or empty where a handle is named; r is w */
     GATEKEEPER_WRONG_DIRECTION = 8,   /* a read on a writing handle, or a write on a reading one */
@@ -146,7 +156,9 @@ static inline bool gatekeeper_allows(uint32_t answer)
 }
 
 /* The level in an answer of gatekeeper_call, or where it was refused the `enum gatekeeper_refusal`. On a monitor that
- * started empty a level is below GATEKEEPER_LEVELS, but for that of a freeze that is lifted: GATEKEEPER_NO_FREEZE. */
+ * started empty a level is below GATEKEEPER_LEVELS, but for that of a freeze that is lifted: GATEKEEPER_NO_FREEZE.
+ * After a read, an exec and a map it is s's; after an open and a write it is the object's, also where what the write
+ * made fall is a subject that has the file mapped. */
 static inline uint32_t gatekeeper_value(uint32_t answer) { return answer % 256; }
 
 /* Handles made and handles gone over all calls on this monitor, modulo 2 to the 64th. On a monitor that started empty

@@ -11,13 +11,13 @@
 #include "gatekeeper.h"
 
 /* What comes from outside, and the numbers that this host gives to it and to what it makes. */
-enum { SHELL = 0, ADDER = 1, LISTER = 2, LAUNCHER = 3 };           /* subjects */
-enum { PAY_BOOK = 0, SHEET = 1, HOURS = 2, LIST = 3, VIEWER = 4 }; /* files */
-enum { PIPE = 8 };                                                 /* the adder writes to it, the shell reads it */
+enum { SHELL = 0, ADDER = 1, LISTER = 2, LAUNCHER = 3, IMPORTER = 4, TERMINAL = 5 }; /* subjects */
+enum { PAY_BOOK = 0, SHEET = 1, HOURS = 2, LIST = 3, VIEWER = 4 };                   /* files */
+enum { PIPE = 8 };                                                                   /* from the adder to the shell */
 
 struct host {
     uint8_t monitor[GATEKEEPER_STATE_BYTES];
-    uint8_t journal[40 * GATEKEEPER_RECORD_ROOM]; /* room for 40 calls */
+    uint8_t journal[60 * GATEKEEPER_RECORD_ROOM]; /* room for 60 calls */
     size_t written;
 };
 
@@ -113,6 +113,17 @@ int main(void)
         must(&host, "The launcher runs the viewer.", GATEKEEPER_EXEC, LAUNCHER, VIEWER, 0, 0);
     }
     must(&host, "The viewer exits.", GATEKEEPER_EXIT, LAUNCHER, 0, 0, 0);
+
+    puts("\nA spreadsheet importer maps the unchecked sheet, and falls at once: it never makes a call to read");
+    must(&host, "The shell forks the importer, step 4.", GATEKEEPER_FORK, SHELL, IMPORTER, 0, 0);
+    must(&host, "The importer closes the pay book.", GATEKEEPER_CLOSE, IMPORTER, 2, 0, 0);
+    must(&host, "The importer maps the sheet of shop 3.", GATEKEEPER_MAP, IMPORTER, SHEET, 1, 0);
+    must(&host, "The terminal of shop 3 is step 5.", GATEKEEPER_ADMIT, TERMINAL, 2, 0, 0);
+    must(&host, "The terminal opens the sheet for writing.", GATEKEEPER_OPEN_WRITE, TERMINAL, SHEET, 0, 0);
+    must(&host, "The terminal writes late hours: the importer sees them, too.", GATEKEEPER_WRITE, TERMINAL, 0, 0, 0);
+    must(&host, "The terminal exits.", GATEKEEPER_EXIT, TERMINAL, 0, 0, 0);
+    must(&host, "The importer runs the viewer: the mapping ends.", GATEKEEPER_EXEC, IMPORTER, VIEWER, 0, 0);
+    must(&host, "The viewer exits.", GATEKEEPER_EXIT, IMPORTER, 0, 0, 0);
 
     puts("\nThe books are closed until the bank file is sent; who has the pay book open goes on");
     must(&host, "Files of level 9 and above are frozen.", GATEKEEPER_FREEZE, 9, 0, 0, 0);

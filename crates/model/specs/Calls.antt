@@ -112,10 +112,13 @@ abbrev pub marking : Option Handle → Option Handle
 marking none = none
 marking (some k) = some (with-mark k)
 
--- RULES C10: a place without its handle where that is marked or a mapping
+-- RULES C10: a handle that an exec closes, and a place without its handle where that is one
+abbrev pub ends-at-exec : Handle → Bool
+ends-at-exec k = k .marked || k .mapped
+
 abbrev pub lasting : Option Handle → Option Handle
 lasting none = none
-lasting (some k) = cond (k .marked || k .mapped) none (some k)
+lasting (some k) = cond (ends-at-exec k) none (some k)
 
 -- RULES C10, R110: what an exec drops before it runs: the marked handles and the mappings of s
 unfoldable pub sheds : Tables → ℕ → List Step

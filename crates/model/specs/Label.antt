@@ -37,7 +37,7 @@ infix 40 _⊑_
 pub record _⊑_ (a b : Label) : Type 0 where
   pub tested : T (leq a b)
 
--- RULES C7, C8, C10: what a thing falls to, the smaller of two
+-- RULES C7, C8, C10, C14: what a thing falls to, the smaller of two
 unfoldable pub meet : Label → Label → Label
 unfolding Label
 meet a b = min a b

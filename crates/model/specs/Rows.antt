@@ -4,12 +4,13 @@
 use mathlib.Core.Path.{_≡_, refl}
 use mathlib.Core.Bool.{Bool, true, _&&_}
 use mathlib.Core.List.{List, [], _∷_, _++_}
-use Prim.Native.Nat.{ℕ, _+_, _*_}
+use mathlib.Core.Option.{Option, none, some}
+use Prim.Native.Nat.{ℕ, zero, suc, _+_, _*_}
 use Rattle.model.specs.Label.{Label, label, level, leq, meet, join, bot}
 use Rattle.model.specs.Flow.{Thing, subject, object, need}
-use Rattle.model.specs.Tables.{Tables, empty, used, cell, speaks, things, handles, edges, safe}
+use Rattle.model.specs.Tables.{Kind, running, file, pipe, writing, Entry, entry, Handle, handle, mapping, Tables, no-freeze, label-of, empty, used, cell, speaks, things, handles, edges, safe}
 use Rattle.model.specs.Steps.{Access, reads, writes, runs, mix, ended}
-use Rattle.model.specs.Calls.{Raw, decode, rereads, sheds, effect, refusal, next, Answer, lowers, answer, after}
+use Rattle.model.specs.Calls.{access, Raw, decode, rereads, sheds, effect, refusal, next, Answer, allowed, lowered, lowers, answer, after}
 use Rattle.model.specs.Tally.{tally, tallied, zeroed}
 use Rattle.model.specs.Book.{Handling, Outside, book}
 use Rattle.model.specs.Cases.{call, A, L, R, equal}
@@ -50,12 +51,12 @@ lines =
     ∷ line 8 (5 ∷ 0 ∷ []) (R 7) ∷ line 7 (5 ∷ 2 ∷ []) (A 2) ∷ line 8 (6 ∷ 0 ∷ []) (A 8) ∷ line 10 (6 ∷ 0 ∷ []) (L 2)
     ∷ line 15 (30 ∷ 0 ∷ []) (A 15) ∷ line 15 (30 ∷ 1 ∷ []) (A 15) ∷ line 15 (30 ∷ 2 ∷ []) (A 15) ∷ line 10 (30 ∷ 20 ∷ []) (A 15)
     ∷ line 5 (30 ∷ 23 ∷ 0 ∷ []) (R 4) ∷ line 6 (30 ∷ 20 ∷ 0 ∷ []) (A 15) ∷ line 10 (30 ∷ 0 ∷ []) (R 9)
-    ∷ line 14 (32 ∷ 64 ∷ 16 ∷ []) (R 2) ∷ line 14 (30 ∷ 64 ∷ 16 ∷ []) (R 4) ∷ line 4 (30 ∷ 23 ∷ 1 ∷ 2 ∷ []) (A 15) ∷ line 14 (30 ∷ 23 ∷ 16 ∷ []) (R 5)
+    ∷ line 16 [] (A 0) ∷ line 14 (32 ∷ 64 ∷ 16 ∷ []) (R 2) ∷ line 14 (30 ∷ 64 ∷ 16 ∷ []) (R 4) ∷ line 4 (30 ∷ 23 ∷ 1 ∷ 2 ∷ []) (A 15) ∷ line 14 (30 ∷ 23 ∷ 16 ∷ []) (R 5)
     ∷ line 14 (30 ∷ 21 ∷ 0 ∷ []) (R 7) ∷ line 14 (30 ∷ 21 ∷ 16 ∷ []) (R 7) ∷ line 14 (30 ∷ 21 ∷ 3 ∷ []) (R 9) ∷ line 11 (30 ∷ 0 ∷ []) (A 15)
     ∷ line 14 (30 ∷ 21 ∷ 3 ∷ []) (L 8) ∷ line 14 (30 ∷ 20 ∷ 4 ∷ []) (A 8) ∷ line 7 (30 ∷ 3 ∷ []) (A 8) ∷ line 8 (30 ∷ 3 ∷ []) (R 8) ∷ line 13 (20 ∷ []) (R 10)
-    ∷ line 15 (30 ∷ 4 ∷ []) (A 8) ∷ line 9 (30 ∷ 7 ∷ []) (A 8) ∷ line 6 (7 ∷ 21 ∷ 5 ∷ []) (A 8) ∷ line 8 (7 ∷ 5 ∷ []) (A 8) ∷ line 11 (7 ∷ 4 ∷ []) (A 8) ∷ line 7 (7 ∷ 4 ∷ []) (R 7)
+    ∷ line 16 (16 ∷ []) (A 16) ∷ line 15 (30 ∷ 4 ∷ []) (A 8) ∷ line 9 (30 ∷ 7 ∷ []) (A 8) ∷ line 6 (7 ∷ 21 ∷ 5 ∷ []) (A 8) ∷ line 8 (7 ∷ 5 ∷ []) (A 8) ∷ line 11 (7 ∷ 4 ∷ []) (A 8) ∷ line 7 (7 ∷ 4 ∷ []) (R 7)
     ∷ line 10 (7 ∷ 22 ∷ []) (R 9) ∷ line 7 (7 ∷ 3 ∷ []) (A 8) ∷ line 10 (30 ∷ 22 ∷ []) (R 9) ∷ line 7 (30 ∷ 3 ∷ []) (A 8)
-    ∷ line 11 (7 ∷ 5 ∷ []) (A 8) ∷ line 10 (7 ∷ 22 ∷ []) (L 7) ∷ line 7 (7 ∷ 3 ∷ []) (R 7) ∷ line 7 (7 ∷ 1 ∷ []) (A 7) ∷ line 12 (7 ∷ []) (A 7)
+    ∷ line 11 (7 ∷ 5 ∷ []) (A 8) ∷ line 10 (7 ∷ 22 ∷ []) (L 7) ∷ line 7 (30 ∷ 3 ∷ []) (A 8) ∷ line 7 (7 ∷ 3 ∷ []) (R 7) ∷ line 7 (7 ∷ 1 ∷ []) (A 7) ∷ line 12 (7 ∷ []) (A 7)
     ∷ line 10 (30 ∷ 22 ∷ []) (L 7) ∷ line 7 (30 ∷ 3 ∷ []) (R 7) ∷ line 7 (30 ∷ 1 ∷ []) (A 7)
     ∷ []
 
@@ -112,11 +113,32 @@ pub contents-right : (book telling from-10 reading-list .content (subject 2) ≡
 unfolding Label label level leq meet join bot need used cell speaks things handles edges safe decode rereads sheds ended effect refusal lowers answer
 contents-right = (refl, refl, refl, refl, refl, refl, refl, refl)
 
--- the reads that follow the write, in their order
-pub rereads-right : rereads (after empty mapping-list) (object 1) ≡
+-- the reads that follow the write, in their order; a marked mapping is one, and a handle that is no mapping is none
+abbrev marked-list : List Raw
+marked-list = mapping-list ++ call 15 (2 ∷ 0 ∷ []) ∷ call 1 (4 ∷ 2 ∷ []) ∷ call 5 (4 ∷ 1 ∷ 0 ∷ []) ∷ []
+
+pub rereads-right : rereads (after empty marked-list) (object 1) ≡
     mix reads (subject 2) (object 1) (subject 2) (object 1) ∷ mix reads (subject 3) (object 1) (subject 3) (object 1) ∷ []
 unfolding Label label level leq meet join bot need used cell speaks things handles edges safe decode rereads sheds ended effect refusal
 rereads-right = refl
+
+-- ── tables that no calls made ──
+-- subject 0 writes object 0, of level 2, which subject 1, of level 9, has mapped
+abbrev above : Kind → Tables
+above k = record {
+  at = λ x. elim x as (λ _. Option Entry) [ subject n ↦ some (entry running (label 9)) | object n ↦ some (entry k (label 2)) ];
+  hand = λ s p. elim s as (λ _. Option Handle) [ zero ↦ elim p as (λ _. Option Handle) [ zero ↦ some (handle writing 0) | suc p ↦ none ] | suc s ↦ some (mapping 0) ];
+  freeze = no-freeze;
+}
+
+abbrev level-after : Tables → ℕ
+level-after t = level (label-of (t .at (subject 1)))
+
+-- a write to the file lowers who has it mapped, and says so; a write to a pipe of that level is followed by no read
+pub above-right : (answer (above file) (access writing 0 0) ≡ lowered 2) × (level-after (effect (above file) (access writing 0 0)) ≡ 2)
+    × (answer (above pipe) (access writing 0 0) ≡ allowed 2) × (level-after (effect (above pipe) (access writing 0 0)) ≡ 9)
+unfolding Label label level leq meet join bot need used cell speaks things handles edges safe decode rereads sheds ended effect refusal lowers answer
+above-right = (refl, refl, refl, refl)
 
 -- ── the tally ──
 -- RULES K17: its last line, `end 1 0 1`; and a pipe, a fork, a close and an exit

@@ -1,5 +1,5 @@
 -- The primitive steps that calls are made of, and what each does to the tables. States RULES C102, and how a level falls in
--- RULES C7, C8 and C10. What a step does to contents is in `Book`. Assumes nothing.
+-- RULES C7, C8, C10 and C14. What a step does to contents is in `Book`. Assumes nothing.
 use mathlib.Core.Bool.{Bool, true, false, not, _&&_, cond}
 use mathlib.Core.Option.{Option, none, some}
 use mathlib.Core.List.{List, [], _∷_}
@@ -51,7 +51,7 @@ falls (object n) running = false
 falls (object n) file = false
 falls (object n) pipe = true
 
--- RULES C7, C8, C10: a subject and a pipe take the smaller of their label and that of what they take in
+-- RULES C7, C8, C10, C14: a subject and a pipe take the smaller of their label and that of what they take in
 abbrev pub sunk : Thing → Kind → Label → Label → Label
 sunk x k a b = cond (falls x k) (meet a b) a
 

@@ -1,22 +1,22 @@
 -- The tally: how many handles were made and how many are gone, over the calls so far. States RULES Y1 to Y9 and Y13. Assumes nothing.
-use mathlib.Core.Bool.{_||_, cond}
+use mathlib.Core.Bool.{cond}
 use mathlib.Core.Option.{Option, none, some}
 use mathlib.Core.List.{List, [], _∷_}
 use Prim.Native.Nat.{ℕ, _+_, _-_, _%_, _^_}
 use lib.ListN.{length}
 use Rattle.model.specs.Lists.{each}
 use Rattle.model.specs.Tables.{Handle, Tables, places, one, handles-of}
-use Rattle.model.specs.Calls.{Call, admit, register, create, make-pipe, opens, access, fork, exec, close, exit, retire, maps, mark, freeze, unknown, Raw, decode, refusal, next}
+use Rattle.model.specs.Calls.{Call, admit, register, create, make-pipe, opens, access, fork, exec, close, exit, retire, maps, mark, freeze, unknown, ends-at-exec, Raw, decode, refusal, next}
 pub mod Laws
 
 -- RULES Y4, Y6, Y11: how many handles s holds
 abbrev pub held : Tables → ℕ → ℕ
 held t s = length (handles-of t s)
 
--- the handle at a place where it is marked or a mapping
+-- the handle at a place where an exec closes it
 abbrev pub dropped : Option Handle → Option Handle
 dropped none = none
-dropped (some k) = cond (k .marked || k .mapped) (some k) none
+dropped (some k) = cond (ends-at-exec k) (some k) none
 
 -- RULES Y13: how many handles s holds that an exec drops
 abbrev pub drops : Tables → ℕ → ℕ

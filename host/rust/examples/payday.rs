@@ -10,12 +10,14 @@ const SHELL: u32 = 0;
 const ADDER: u32 = 1;
 const LISTER: u32 = 2;
 const LAUNCHER: u32 = 3;
+const IMPORTER: u32 = 4;
+const TERMINAL: u32 = 5;
 const PAY_BOOK: u32 = 0;
 const SHEET: u32 = 1;
 const HOURS: u32 = 2;
 const LIST: u32 = 3;
 const VIEWER: u32 = 4;
-/// The adder writes to it, the shell reads it.
+/// From the adder to the shell.
 const PIPE: u32 = 8;
 
 #[derive(Default)]
@@ -137,6 +139,31 @@ fn main() {
         host.must("The launcher runs the viewer.", Call::Exec { subject: LAUNCHER, object: VIEWER });
     }
     host.must("The viewer exits.", Call::Exit { subject: LAUNCHER });
+
+    println!(
+        "\nA spreadsheet importer maps the unchecked sheet, and falls at once: it never makes a call to read"
+    );
+    host.must("The shell forks the importer, step 4.", Call::Fork { subject: SHELL, child: IMPORTER });
+    host.must("The importer closes the pay book.", Call::Close { subject: IMPORTER, place: 2 });
+    host.must(
+        "The importer maps the sheet of shop 3.",
+        Call::Map { subject: IMPORTER, object: SHEET, place: 1 },
+    );
+    host.must("The terminal of shop 3 is step 5.", Call::Admit { subject: TERMINAL, level: 2 });
+    host.must(
+        "The terminal opens the sheet for writing.",
+        Call::OpenWrite { subject: TERMINAL, object: SHEET, place: 0 },
+    );
+    host.must(
+        "The terminal writes late hours: the importer sees them, too.",
+        Call::Write { subject: TERMINAL, place: 0 },
+    );
+    host.must("The terminal exits.", Call::Exit { subject: TERMINAL });
+    host.must(
+        "The importer runs the viewer: the mapping ends.",
+        Call::Exec { subject: IMPORTER, object: VIEWER },
+    );
+    host.must("The viewer exits.", Call::Exit { subject: IMPORTER });
 
     println!("\nThe books are closed until the bank file is sent; who has the pay book open goes on");
     host.must("Files of level 9 and above are frozen.", Call::Freeze { level: 9 });

@@ -12,7 +12,9 @@ pub enum Answer {
     /// Allowed, with a level: that of the new, opened, written or retired thing, or of the freeze, or else the
     /// subject's.
     Allowed(u8),
-    /// Allowed, and a read, write or exec made a level smaller: with the level after it.
+    /// Allowed, and a read, write, exec or map made a level smaller: with that thing's level after it. Only at a write
+    /// to a file it is the file's, which stays, and what fell is a subject that has the file mapped; on a monitor that
+    /// started empty there is no such answer.
     Lowered(u8),
     /// Refused. Nothing has changed.
     Refused(Refusal),
@@ -104,7 +106,7 @@ impl Refusal {
             Refusal::NoSubject => "the step that asks is not there",
             Refusal::NumberTaken => "the number for the new thing cannot be used",
             Refusal::NoObject => "the file or pipe is not there",
-            Refusal::IsPipe => "a pipe cannot be run or retired",
+            Refusal::IsPipe => "a pipe cannot be run, retired or mapped",
             Refusal::LevelTooHigh => "the level is above 15, or a freeze above 16",
             Refusal::PlaceUnfit => "the place does not fit",
             Refusal::WrongDirection => "the handle is for the other direction",

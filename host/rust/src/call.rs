@@ -1,4 +1,4 @@
-//! The fifteen calls.
+//! The sixteen calls.
 
 use crate::journal;
 
@@ -26,12 +26,13 @@ pub enum Call {
     OpenWrite { subject: u32, object: u32, place: u32 },
     /// The subject falls to the object's level if that is lower.
     Read { subject: u32, place: u32 },
-    /// A pipe falls to the subject's level if that is lower; a file keeps its own.
+    /// A pipe falls to the subject's level if that is lower; a file keeps its own, and each subject that has it mapped
+    /// ([`Call::Map`]) reads it once, the lowest number first.
     Write { subject: u32, place: u32 },
-    /// A new subject with the level of the first, and its handles and their marks at the same places.
+    /// A new subject with the level of the first, and its handles, marks and mappings at the same places.
     Fork { subject: u32, child: u32 },
     /// A file is run; the subject falls to its level if that is lower. The flow rule is asked as if it did not have its
-    /// marked handles, and if the call is not refused they are closed; it keeps the others.
+    /// marked handles and its mappings, and if the call is not refused they are closed; it keeps the others.
     Exec { subject: u32, object: u32 },
     /// The place is empty.
     Close { subject: u32, place: u32 },
@@ -39,16 +40,23 @@ pub enum Call {
     Exit { subject: u32 },
     /// The file is gone, and its number is free.
     Retire { object: u32 },
+    /// The file is mapped into the subject's memory. The handle is a *mapping*, which reads; it is refused where an open
+    /// for reading with the same numbers would be, and on a pipe. No call to read follows, so the map itself is a read:
+    /// the subject falls to the file's level if that is lower, and the answer has the subject's level. The memory shows
+    /// what is written to the file later, so each write to it is followed by a read by the subject; the host does nothing
+    /// for that, and on a monitor that started empty no subject falls there. A close or an exec ends the mapping; at an
+    /// exec it goes with the memory that it is in. In all else a mapping is a reading handle.
+    Map { subject: u32, object: u32, place: u32 },
     /// The handle is marked: it ends when the subject runs a program ([`Call::Exec`]), and the host that carries that
     /// out closes it, too. A new handle is not marked, and no call takes a mark off.
     Mark { subject: u32, place: u32 },
     /// From now on, for all subjects, no file at or above the level is opened for writing; with [`NO_FREEZE`], which
-    /// lifts the freeze, any may be. Handles that are held, pipes and opens for reading go on as without it.
+    /// lifts the freeze, any may be. Handles that are held, pipes, opens for reading and maps go on as without it.
     Freeze { level: u32 },
 }
 
 impl Call {
-    /// The call's code, one of 1 to 13, 15 and 16.
+    /// The call's code, one of 1 to 16.
     pub fn code(self) -> u32 {
         match self {
             Call::Admit { .. } => 1,
@@ -64,6 +72,7 @@ impl Call {
             Call::Close { .. } => 11,
             Call::Exit { .. } => 12,
             Call::Retire { .. } => 13,
+            Call::Map { .. } => 14,
             Call::Mark { .. } => 15,
             Call::Freeze { .. } => 16,
         }
@@ -85,6 +94,7 @@ impl Call {
             Call::Close { subject, place } => [subject, place, 0, 0],
             Call::Exit { subject } => [subject, 0, 0, 0],
             Call::Retire { object } => [object, 0, 0, 0],
+            Call::Map { subject, object, place } => [subject, object, place, 0],
             Call::Mark { subject, place } => [subject, place, 0, 0],
             Call::Freeze { level } => [level, 0, 0, 0],
         }

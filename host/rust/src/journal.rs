@@ -118,6 +118,23 @@ mod tests {
     }
 
     #[test]
+    fn a_journal_has_mappings() {
+        let mut journal = Vec::new();
+        Call::Register { object: 1, level: 2 }.write_record(&mut journal);
+        Call::Admit { subject: 0, level: 9 }.write_record(&mut journal);
+        Call::Map { subject: 0, object: 0, place: 3 }.write_record(&mut journal);
+        Call::Map { subject: 0, object: 1, place: 3 }.write_record(&mut journal);
+        Call::OpenWrite { subject: 0, object: 1, place: 4 }.write_record(&mut journal);
+        Call::Write { subject: 0, place: 4 }.write_record(&mut journal);
+        Call::Exec { subject: 0, object: 1 }.write_record(&mut journal);
+        Call::Read { subject: 0, place: 3 }.write_record(&mut journal);
+        assert_eq!(journal[13..18], [4, 14, 0, 1, 3]);
+        let reply =
+            "1 2 A 2\n2 1 A 9\n3 14 R 4\n4 14 L 2\n5 6 A 2\n6 8 A 2\n7 10 A 2\n8 7 R 7\nend 2 1 1\n";
+        assert_eq!(replay(&journal), reply);
+    }
+
+    #[test]
     fn empty_broken_and_long_journals_have_a_reply() {
         assert_eq!(replay(&[]), "end 0 0 0\n");
         assert_eq!(replay(&[0x80, 0x00]), "1 0 R 11\nend 0 0 0\n");
@@ -136,7 +153,7 @@ mod tests {
     #[test]
     fn a_refused_record_leaves_the_buffer() {
         let mut out = [7; RECORD_ROOM];
-        assert_eq!(write_record(&mut out, 14, [0; 4]), Err(Refusal::UnknownCode));
+        assert_eq!(write_record(&mut out, 17, [0; 4]), Err(Refusal::UnknownCode));
         assert_eq!(write_record(&mut out[1..], 4, [u32::MAX; 4]), Err(Refusal::RecordTooLong));
         assert_eq!(out, [7; RECORD_ROOM]);
         assert_eq!(write_record(&mut out, 4, [u32::MAX; 4]), Ok(RECORD_ROOM));

@@ -28,8 +28,9 @@ impl Monitor {
         Monitor { state }
     }
 
-    /// The monitor that these bytes are. Any bytes are one; `host/gatekeeper.h` has the layout. Bytes that a version
-    /// before 2.0.0 kept lack the third of each handle, which is 0, and the last, which is [`NO_FREEZE`].
+    /// The monitor that these bytes are. Any bytes are one; `host/gatekeeper.h` has the layout. Bytes that version 2.0.0
+    /// kept are taken up as they are. Those of a version before it lack the third of each handle, which is 0, and the
+    /// last, which is [`NO_FREEZE`].
     pub fn from_bytes(state: [u8; STATE_BYTES]) -> Monitor {
         Monitor { state }
     }
@@ -135,6 +136,19 @@ impl Monitor {
         self.call(Call::Retire { object })
     }
 
+    /// ```
+    /// use gatekeeper::{Answer, Monitor, Refusal};
+    ///
+    /// let mut monitor = Monitor::new();
+    /// monitor.admit(0, 9).granted()?; // an importer of level 9
+    /// monitor.register(1, 2).granted()?; // an hours sheet that nobody has checked
+    /// assert_eq!(monitor.map(0, 1, 0), Answer::Lowered(2)); // the importer's level: it sees the sheet from now on
+    /// # Ok::<(), Refusal>(())
+    /// ```
+    pub fn map(&mut self, subject: u32, object: u32, place: u32) -> Answer {
+        self.call(Call::Map { subject, object, place })
+    }
+
     pub fn mark(&mut self, subject: u32, place: u32) -> Answer {
         self.call(Call::Mark { subject, place })
     }
@@ -206,6 +220,10 @@ mod tests {
         assert_eq!(monitor.exec(0, 1), Answer::Allowed(2));
         assert_eq!(monitor.read(0, 0), Answer::Refused(Refusal::PlaceUnfit));
         assert_eq!((monitor.made(), monitor.gone(), monitor.open()), (6, 5, 1));
+        assert_eq!(monitor.admit(1, 9), Answer::Allowed(9));
+        assert_eq!(monitor.map(1, 1, 0), Answer::Lowered(2));
+        assert_eq!(monitor.exec(1, 1), Answer::Allowed(2));
+        assert_eq!((monitor.made(), monitor.gone(), monitor.open()), (7, 6, 1));
     }
 
     /// Subject 0 at level 9; file 0 at level 9, which it has open for writing at place 0; file 1 at level 2.
@@ -305,6 +323,155 @@ mod tests {
     }
 
     #[test]
+    fn a_map_is_a_read_at_that_moment() {
+        let mut monitor = Monitor::new();
+        assert_eq!(monitor.register(0, 9), Answer::Allowed(9));
+        assert_eq!(monitor.admit(0, 12), Answer::Allowed(12));
+        assert_eq!(monitor.map(0, 0, 0), Answer::Lowered(9));
+        assert_eq!(monitor.map(0, 0, 1), Answer::Allowed(9));
+        assert_eq!((monitor.made(), monitor.gone()), (2, 0));
+
+        // The level is the subject's, not the file's.
+        assert_eq!(monitor.admit(1, 2), Answer::Allowed(2));
+        assert_eq!(monitor.map(1, 0, 0), Answer::Allowed(2));
+
+        // In all else a mapping is a reading handle.
+        assert_eq!(monitor.read(0, 0), Answer::Allowed(9));
+        assert_eq!(monitor.write(0, 0), Answer::Refused(Refusal::WrongDirection));
+        assert_eq!(monitor.map(0, 0, 0), Answer::Refused(Refusal::PlaceUnfit));
+        assert_eq!(monitor.retire(0), Answer::Refused(Refusal::StillOpen));
+        assert_eq!(monitor.exit(1), Answer::Allowed(2));
+        assert_eq!(monitor.close(0, 1), Answer::Allowed(9));
+        assert_eq!(monitor.close(0, 0), Answer::Allowed(9));
+        assert_eq!(monitor.retire(0), Answer::Allowed(9));
+        assert_eq!((monitor.made(), monitor.gone(), monitor.open()), (3, 3, 0));
+    }
+
+    #[test]
+    fn a_map_is_refused_as_an_open_for_reading_and_on_a_pipe() {
+        let mut monitor = launcher();
+        assert_eq!(monitor.pipe(0, 2, 1, 2), Answer::Allowed(9));
+        let before = monitor.clone();
+        assert_eq!(monitor.map(1, 64, 16), Answer::Refused(Refusal::NoSubject));
+        assert_eq!(monitor.map(32, 64, 16), Answer::Refused(Refusal::NoSubject));
+        assert_eq!(monitor.map(0, 64, 16), Answer::Refused(Refusal::NoObject));
+        assert_eq!(monitor.map(0, 3, 16), Answer::Refused(Refusal::NoObject));
+        assert_eq!(monitor.map(0, 2, 16), Answer::Refused(Refusal::IsPipe));
+        assert_eq!(monitor.map(0, 1, 16), Answer::Refused(Refusal::PlaceUnfit));
+        assert_eq!(monitor.map(0, 1, 0), Answer::Refused(Refusal::PlaceUnfit));
+        assert_eq!(monitor.map(0, 1, 3), Answer::Refused(Refusal::Flow));
+        assert_eq!(monitor.open_read(0, 1, 3), Answer::Refused(Refusal::Flow));
+        assert_eq!(monitor, before);
+
+        // A freeze asks nothing of it, and the flow rule nothing once the way up is closed.
+        assert_eq!(monitor.freeze(0), Answer::Allowed(0));
+        assert_eq!(monitor.map(0, 0, 3), Answer::Allowed(9));
+        assert_eq!(monitor.close(0, 0), Answer::Allowed(9));
+        assert_eq!(monitor.map(0, 1, 0), Answer::Lowered(2));
+    }
+
+    #[test]
+    fn who_has_a_file_mapped_reads_it_after_each_write() {
+        // Subject 0 writes file 1; subjects 1 and 2 have it mapped, and 3 has it open for reading.
+        let mut monitor = Monitor::new();
+        assert_eq!(monitor.register(1, 2), Answer::Allowed(2));
+        for subject in 0..4 {
+            assert_eq!(monitor.admit(subject, 9), Answer::Allowed(9));
+        }
+        assert_eq!(monitor.open_write(0, 1, 0), Answer::Allowed(2));
+        assert_eq!(monitor.map(1, 1, 0), Answer::Lowered(2));
+        assert_eq!(monitor.map(2, 1, 0), Answer::Lowered(2));
+        assert_eq!(monitor.open_read(3, 1, 0), Answer::Allowed(2));
+
+        // They fell when they mapped it, so that the write changes nothing.
+        let before = monitor.clone();
+        assert_eq!(monitor.write(0, 0), Answer::Allowed(2));
+        assert_eq!(monitor, before);
+
+        // In bytes that no calls made one of them is higher. It falls, and the answer has the file's level.
+        let mut state = *monitor.as_bytes();
+        state[2 * 2 + 1] = 12;
+        let mut monitor = Monitor::from_bytes(state);
+        assert_eq!(monitor.write(0, 0), Answer::Lowered(2));
+        assert_eq!(monitor, before);
+        assert_eq!(monitor.write(0, 0), Answer::Allowed(2));
+
+        // The writer is one of them where it has the file mapped.
+        assert_eq!(monitor.map(0, 1, 1), Answer::Lowered(2));
+        let before = monitor.clone();
+        let mut state = *monitor.as_bytes();
+        state[1] = 12;
+        let mut monitor = Monitor::from_bytes(state);
+        assert_eq!(monitor.write(0, 0), Answer::Lowered(2));
+        assert_eq!(monitor, before);
+    }
+
+    #[test]
+    fn mappings_go_with_a_fork_and_end_at_exec() {
+        let mut monitor = Monitor::new();
+        assert_eq!(monitor.register(0, 9), Answer::Allowed(9));
+        assert_eq!(monitor.register(1, 2), Answer::Allowed(2));
+        assert_eq!(monitor.admit(0, 9), Answer::Allowed(9));
+        assert_eq!(monitor.map(0, 0, 0), Answer::Allowed(9));
+        assert_eq!(monitor.map(0, 0, 1), Answer::Allowed(9));
+        assert_eq!(monitor.open_read(0, 0, 2), Answer::Allowed(9));
+        assert_eq!(monitor.open_write(0, 0, 3), Answer::Allowed(9));
+
+        // An exec that is refused closes none.
+        let before = monitor.clone();
+        assert_eq!(monitor.exec(0, 1), Answer::Refused(Refusal::Flow));
+        assert_eq!(monitor, before);
+
+        // The child's exec closes the child's own.
+        assert_eq!(monitor.fork(0, 1), Answer::Allowed(9));
+        assert_eq!(monitor.close(1, 3), Answer::Allowed(9));
+        assert_eq!((monitor.made(), monitor.gone()), (8, 1));
+        assert_eq!(monitor.exec(1, 1), Answer::Lowered(2));
+        assert_eq!((monitor.made(), monitor.gone()), (8, 3));
+        assert_eq!(monitor.read(1, 0), Answer::Refused(Refusal::PlaceUnfit));
+        assert_eq!(monitor.read(1, 1), Answer::Refused(Refusal::PlaceUnfit));
+        assert_eq!(monitor.read(1, 2), Answer::Allowed(2));
+        assert_eq!(monitor.read(0, 0), Answer::Allowed(9));
+
+        // A mapping that is marked as well is one handle; what is opened in its place is no mapping.
+        assert_eq!(monitor.mark(0, 0), Answer::Allowed(9));
+        assert_eq!(monitor.exec(0, 0), Answer::Allowed(9));
+        assert_eq!((monitor.made(), monitor.gone(), monitor.open()), (8, 5, 3));
+        assert_eq!(monitor.open_read(0, 0, 0), Answer::Allowed(9));
+        assert_eq!(monitor.exec(0, 0), Answer::Allowed(9));
+        assert_eq!(monitor.read(0, 0), Answer::Allowed(9));
+    }
+
+    #[test]
+    fn a_mapping_is_a_first_byte_of_a_handle() {
+        let mut monitor = Monitor::new();
+        assert_eq!(monitor.admit(31, 9), Answer::Allowed(9));
+        assert_eq!(monitor.register(63, 9), Answer::Allowed(9));
+        assert_eq!(monitor.map(31, 63, 15), Answer::Allowed(9));
+        let handle = HANDLES_AT + 3 * (16 * 31 + 15);
+        assert_eq!(monitor.as_bytes()[handle..handle + 3], [3, 63, 0]);
+
+        // What other values of it are: whether it is read, whether written, and whether an exec closes it.
+        for byte in 0..=255 {
+            let mut state = *monitor.as_bytes();
+            state[handle] = byte;
+            let mut monitor = Monitor::from_bytes(state);
+            let reads = monitor.read(31, 15).granted().is_ok();
+            let writes = monitor.write(31, 15).granted().is_ok();
+            let gone = monitor.gone();
+            assert_eq!(monitor.exec(31, 63), Answer::Allowed(9));
+            let closed = monitor.gone() > gone;
+            let expected = match byte {
+                1 => (true, false, false),
+                2 => (false, true, false),
+                3 => (true, false, true),
+                _ => (false, false, false),
+            };
+            assert_eq!((reads, writes, closed), expected, "a first byte of {byte}");
+        }
+    }
+
+    #[test]
     fn a_freeze_is_for_opens_of_files_for_writing() {
         let mut monitor = Monitor::new();
         assert_eq!(monitor.admit(0, 9), Answer::Allowed(9));
@@ -377,7 +544,8 @@ mod tests {
         assert_eq!(monitor.admit(0, 9), Answer::Refused(Refusal::NumberTaken));
         assert_eq!(monitor.freeze(17), Answer::Refused(Refusal::LevelTooHigh));
         assert_eq!(monitor.mark(0, 0), Answer::Refused(Refusal::PlaceUnfit));
-        for code in [0, 14, 17] {
+        assert_eq!(monitor.map(0, 0, 0), Answer::Refused(Refusal::NoObject));
+        for code in [0, 17] {
             assert_eq!(monitor.direct(code, [0; 4]), Answer::Refused(Refusal::UnknownCode));
         }
         assert_eq!(monitor, before);
@@ -423,5 +591,13 @@ mod tests {
         assert_eq!(monitor.read(0, 4), Answer::Refused(Refusal::PlaceUnfit));
         assert_eq!(monitor.read(0, 5), Answer::Allowed(1));
         assert_eq!(monitor.read(1, 4), Answer::Allowed(1));
+
+        // In bytes that are all 3 every place has a mapping, but its subject and object are not live: it is none.
+        let mut monitor = Monitor::from_bytes([3; STATE_BYTES]);
+        assert_eq!(monitor.register(3, 2), Answer::Allowed(2));
+        assert_eq!(monitor.admit(0, 9), Answer::Allowed(9));
+        assert_eq!(monitor.read(0, 0), Answer::Refused(Refusal::PlaceUnfit));
+        assert_eq!(monitor.map(0, 3, 0), Answer::Lowered(2));
+        assert_eq!(monitor.open(), 1);
     }
 }

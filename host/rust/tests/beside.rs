@@ -2,6 +2,8 @@
 //! compared after each. The calls come from generated journals, which start with empty tables, and are drawn for
 //! states that no calls made. The same comparison has to tell every wrong variant of the independent program apart.
 
+use std::fmt;
+
 use gatekeeper::{Answer, Monitor, Refusal, STATE_BYTES};
 use gatekeeper_independent::calls::{shape_of_code, SHAPES};
 use gatekeeper_independent::generate::{self, Wish};
@@ -20,7 +22,11 @@ const HANDLES_AT: usize = 192;
 const MADE_AT: usize = 1728;
 const FREEZE_AT: usize = 1744;
 
+const OPEN_READ: u32 = 5;
+const READ: u32 = 7;
+const WRITE: u32 = 8;
 const EXEC: u32 = 10;
+const MAP: u32 = 14;
 
 /// How many calls each of the two large comparisons makes.
 const CALLS_OF_JOURNALS: usize = 300_000;
@@ -112,8 +118,9 @@ fn tables_of(state: &[u8; STATE_BYTES]) -> Tables {
             at / 16,
             at % 16,
             match record[0] {
-                1 => Some(Handle { object, direction: Direction::Reading, marked }),
-                2 => Some(Handle { object, direction: Direction::Writing, marked }),
+                1 => Some(Handle { marked, ..Handle::new(object, Direction::Reading) }),
+                2 => Some(Handle { marked, ..Handle::new(object, Direction::Writing) }),
+                3 => Some(Handle { marked, ..Handle::mapping(object) }),
                 _ => None,
             },
         );
@@ -137,8 +144,9 @@ fn calls_of(journal: &[u8]) -> Vec<(u32, [u32; 4])> {
 }
 
 /// A state of any bytes. In most of them many records mean something: how many handles, how many of these are
-/// marked, and how far levels lie apart, differs from state to state. The freeze is any byte, and often one of the
-/// levels; so is the third byte of a handle, and often a mark or none.
+/// marked, and how far levels lie apart, differs from state to state. As many handles are mappings as read and as
+/// write. The freeze is any byte, and often one of the levels; so is the third byte of a handle, and often a mark or
+/// none.
 fn drawn_state(random: &mut Random) -> [u8; STATE_BYTES] {
     let mut state = [0; STATE_BYTES];
     for byte in &mut state {
@@ -148,7 +156,7 @@ fn drawn_state(random: &mut Random) -> [u8; STATE_BYTES] {
         return state;
     }
     let levels = random.pick(&[1, 2, 4, 16, 256]).unwrap_or(16);
-    let handles = random.pick(&[3, 6, 40, 200]).unwrap_or(3);
+    let handles = random.pick(&[4, 8, 40, 200]).unwrap_or(4);
     let marks = random.pick(&[1, 2, 3, 256]).unwrap_or(2);
     let (things, rest) = state.split_at_mut(HANDLES_AT);
     for (index, record) in things.chunks_exact_mut(2).enumerate() {
@@ -165,21 +173,33 @@ fn drawn_state(random: &mut Random) -> [u8; STATE_BYTES] {
     state
 }
 
-/// A call whose numbers are mostly in range. Many are execs: few of those are allowed, and only these close handles.
-fn drawn_call(random: &mut Random) -> (u32, [u32; 4]) {
+/// A call whose numbers are mostly in range, and often those of live things. Many are execs and maps: few of those are
+/// allowed, and only these close handles and place mappings. Many are writes to what is mapped, where something is.
+fn drawn_call(random: &mut Random, tables: &Tables) -> (u32, [u32; 4]) {
+    let code = random.pick(&[EXEC, EXEC, MAP, WRITE, 0, 0, 0, 0]).unwrap_or(0);
+    if code == WRITE {
+        if let Some((s, p)) = random.pick(&writers_of_mapped(tables)) {
+            return (WRITE, [s, p, random.below(u32::MAX), random.below(u32::MAX)]);
+        }
+    }
     let any = SHAPES.get(random.below(SHAPES.len() as u32 + 1) as usize);
-    let Some(shape) = (if random.once_in(3) { shape_of_code(EXEC) } else { any }) else {
+    let Some(shape) = shape_of_code(code).or(any) else {
         // Any code, or one near those that calls have.
         let most = random.pick(&[20, u32::MAX]).unwrap_or(20);
         return (random.below(most), [0; 4]);
     };
+    let (mut subjects, mut objects): (Vec<u32>, Vec<u32>) = ((0..33).collect(), (0..65).collect());
+    if random.once_in(2) {
+        subjects.retain(|&s| tables.subject(s).is_some());
+        objects.retain(|&o| tables.object(o).is_some());
+    }
     // Numbers that the code does not use are ignored, whatever they are.
     let mut numbers = [0; 4].map(|_| random.below(u32::MAX));
     for (number, name) in numbers.iter_mut().zip(shape.numbers) {
         if !random.once_in(60) {
             *number = match *name {
-                "s" | "c" => random.below(33),
-                "o" => random.below(65),
+                "s" | "c" => random.pick(&subjects).unwrap_or(0),
+                "o" => random.pick(&objects).unwrap_or(0),
                 _ => random.below(18),
             };
         }
@@ -187,44 +207,104 @@ fn drawn_call(random: &mut Random) -> (u32, [u32; 4]) {
     (shape.code, numbers)
 }
 
-/// Which outcomes and refusals were seen, and how many handles execs closed; a comparison that saw few says little.
+/// The places that have an object open for writing which some subject, the same one or another, has mapped.
+fn writers_of_mapped(tables: &Tables) -> Vec<(u32, u32)> {
+    let writing = tables.handles().filter(|(_, _, handle)| handle.direction == Direction::Writing);
+    let mapped = writing.filter(|(_, _, handle)| tables.mappers(handle.object).next().is_some());
+    mapped.map(|(s, p, _)| (s, p)).collect()
+}
+
+fn is_mapped_file(o: u32, tables: &Tables) -> bool {
+    let is_file = tables.object(o).is_some_and(|object| object.kind == Kind::File);
+    is_file && tables.mappers(o).next().is_some()
+}
+
+/// Which outcomes and refusals were seen, of all calls, of maps and of writes to files that are mapped, and how many
+/// handles execs closed; a comparison that saw few says little.
 #[derive(Default)]
 struct Seen {
+    all: Outcomes,
+    maps: Outcomes,
+    mapped_writes: Outcomes,
+    ended_at_exec: u64,
+    /// How many of these were mappings.
+    unmapped_at_exec: u64,
+}
+
+#[derive(Default)]
+struct Outcomes {
     allowed: usize,
     lowered: usize,
     refused: [usize; 16],
-    ended_at_exec: u64,
+}
+
+impl Outcomes {
+    fn count(&mut self, answer: Answer) {
+        match answer {
+            Answer::Allowed(_) => self.allowed += 1,
+            Answer::Lowered(_) => self.lowered += 1,
+            Answer::Refused(refusal) => self.refused[refusal.number() as usize] += 1,
+        }
+    }
+
+    fn refused(&self) -> usize {
+        self.refused.iter().sum()
+    }
+}
+
+impl fmt::Display for Outcomes {
+    fn fmt(&self, f: &mut fmt::Formatter<'_>) -> fmt::Result {
+        write!(f, "{} allowed, {} lowered, {} refused", self.allowed, self.lowered, self.refused())
+    }
 }
 
 impl Seen {
     /// Makes a call and counts what came of it.
     fn call(&mut self, pair: &mut Pair, code: u32, numbers: [u32; 4]) -> Result<(), String> {
+        let [s, p, ..] = numbers;
+        let before = pair.plain.tables();
+        let mappings = before.handles_of(s).filter(|(_, handle)| handle.mapped).count() as u64;
+        let written = before.handle(s, p).filter(|handle| handle.direction == Direction::Writing);
+        let to_mapped_file = written.is_some_and(|handle| is_mapped_file(handle.object, before));
         let gone = pair.proved.gone();
-        match pair.call(code, numbers)? {
-            Answer::Allowed(_) => self.allowed += 1,
-            Answer::Lowered(_) => self.lowered += 1,
-            Answer::Refused(refusal) => self.refused[refusal.number() as usize] += 1,
+
+        let answer = pair.call(code, numbers)?;
+        self.all.count(answer);
+        if code == MAP {
+            self.maps.count(answer);
         }
-        if code == EXEC {
+        if code == WRITE && to_mapped_file {
+            self.mapped_writes.count(answer);
+        }
+        if code == EXEC && answer.granted().is_ok() {
             self.ended_at_exec += pair.proved.gone().wrapping_sub(gone);
+            self.unmapped_at_exec += mappings;
         }
         Ok(())
     }
 
     fn report(&self, what: &str) {
-        let refused: usize = self.refused.iter().sum();
-        let Seen { allowed, lowered, ended_at_exec, .. } = self;
-        let calls = allowed + lowered + refused;
+        let Seen { all, maps, mapped_writes, ended_at_exec, unmapped_at_exec } = self;
+        let calls = all.allowed + all.lowered + all.refused();
+        println!("beside: {what}: {calls} calls, {all}");
+        println!("beside: {what}: maps: {maps}; writes to mapped files: {mapped_writes}");
         println!(
-            "beside: {what}: {calls} calls, {allowed} allowed, {lowered} lowered, {refused} refused; \
-             {ended_at_exec} handles ended at exec"
+            "beside: {what}: {ended_at_exec} handles ended at exec, {unmapped_at_exec} of them mappings"
         );
-        assert!(*allowed > calls / 10 && *lowered > 100, "few calls were not refused");
-        assert!(*ended_at_exec > 100, "few marked handles ended at exec");
+        assert!(all.allowed > calls / 10 && all.lowered > 100, "few calls were not refused");
+        assert!(maps.allowed > 100 && maps.lowered > 100, "few maps were not refused");
+        assert!(mapped_writes.allowed > 100, "few writes were to mapped files");
+        assert_eq!(mapped_writes.refused(), 0, "a write with a handle that is held was refused");
+        assert!(*unmapped_at_exec > 100, "few mappings ended at exec");
+        assert!(ended_at_exec - unmapped_at_exec > 100, "few handles ended at exec for their mark");
         // Those that answer a direct call.
         for number in (1..=10).chain([15]) {
             let words = refusals::meaning(number as u32);
-            assert!(self.refused[number] > 0, "no call was refused with {number}: {words}");
+            assert!(all.refused[number] > 0, "no call was refused with {number}: {words}");
+        }
+        for number in [2, 4, 5, 7, 9] {
+            let words = refusals::meaning(number as u32);
+            assert!(maps.refused[number] > 0, "no map was refused with {number}: {words}");
         }
     }
 }
@@ -246,6 +326,8 @@ fn the_calls_of_generated_journals_are_answered_alike() {
         }
     }
     seen.report("calls of generated journals");
+    // From empty tables a subject has fallen when it mapped the file: RULES T38.
+    assert_eq!(seen.mapped_writes.lowered, 0, "a write to a mapped file lowered a subject");
 }
 
 #[test]
@@ -257,11 +339,12 @@ fn calls_on_any_state_are_answered_alike() {
         if call % 20 == 0 {
             pair = Pair::of_bytes(drawn_state(&mut random));
         }
-        let (code, numbers) = drawn_call(&mut random);
+        let (code, numbers) = drawn_call(&mut random, pair.plain.tables());
         seen.call(&mut pair, code, numbers)
             .unwrap_or_else(|difference| panic!("call {call}: {difference}"));
     }
     seen.report("calls on drawn states");
+    assert!(seen.mapped_writes.lowered > 100, "few writes to mapped files lowered a subject");
 }
 
 #[test]
@@ -309,6 +392,61 @@ fn execs_with_any_mark_are_answered_alike() {
     }
     // The handle on file 0, by a mark of 1 alone and whatever the program's level.
     assert_eq!(closed, 16);
+}
+
+#[test]
+fn handles_with_any_first_byte_are_answered_alike() {
+    for (byte, level) in (0..=255).flat_map(|byte| (0..16).map(move |level| (byte, level))) {
+        for kind in [Kind::File, Kind::Pipe] {
+            let first = if kind == Kind::File { 1 } else { 2 };
+            let mut state = [0; STATE_BYTES];
+            state[..4].copy_from_slice(&[1, 9, 1, level]); // subjects 0 and 1
+            state[64..68].copy_from_slice(&[first, 9, 1, 15]); // object 0, a file or a pipe; file 1, a program
+            state[HANDLES_AT..][..3].copy_from_slice(&[2, 0, 0]); // subject 0 writes object 0
+            state[HANDLES_AT + 3 * 16..][..6].copy_from_slice(&[byte, 0, 0, byte, 0, 0]); // subject 1 has it twice
+            state[FREEZE_AT] = 16;
+            let mut pair = Pair::of_bytes(state);
+            let mut call = |code, numbers| {
+                let answer = pair.call(code, numbers);
+                answer.unwrap_or_else(|difference| panic!("byte {byte}, level {level}: {difference}"))
+            };
+            // The write to a file lowers who has it mapped; one to a pipe is followed by nothing.
+            let falls = byte == 3 && level > 9 && kind == Kind::File;
+            let answer = if falls { Answer::Lowered(9) } else { Answer::Allowed(9) };
+            assert_eq!(call(WRITE, [0; 4]), answer, "byte {byte}, level {level}, {kind:?}");
+            // An exec closes both mappings, a pipe's too, and no other handle.
+            let reads = call(READ, [1, 0, 0, 0]).granted().is_ok();
+            assert!(call(EXEC, [1, 1, 0, 0]).granted().is_ok());
+            let still_reads = call(READ, [1, 1, 0, 0]).granted().is_ok();
+            assert_eq!((reads, still_reads), (matches!(byte, 1 | 3), byte == 1), "byte {byte}, {kind:?}");
+        }
+    }
+}
+
+#[test]
+fn maps_are_tested_as_opens_for_reading() {
+    let mut random = Random::new(SEED, 3);
+    let mut maps = Outcomes::default();
+    for draw in 0..20_000 {
+        let state = drawn_state(&mut random);
+        let numbers = [random.below(33), random.below(65), random.below(18), 0];
+        let answer = |code| {
+            let answer = Pair::of_bytes(state).call(code, numbers);
+            answer.unwrap_or_else(|difference| panic!("draw {draw}: {difference}"))
+        };
+        let (open, map) = (answer(OPEN_READ), answer(MAP));
+        maps.count(map);
+        match (open.granted(), map.granted()) {
+            (Ok(_), Ok(_)) => {}
+            (Err(refusal), Err(same)) if refusal == same => {}
+            // For a pipe the map is refused where the open is not, or only for its place or for the flow.
+            (Ok(_) | Err(Refusal::PlaceUnfit | Refusal::Flow), Err(Refusal::IsPipe)) => {}
+            _ => panic!("draw {draw}: {open:?} for the open, {map:?} for the map"),
+        }
+    }
+    println!("beside: maps on drawn states, beside opens for reading: {maps}");
+    assert!(maps.allowed > 100 && maps.lowered > 100, "few maps were not refused");
+    assert!([2, 4, 5, 7, 9].into_iter().all(|number| maps.refused[number] > 100), "few maps were refused");
 }
 
 #[test]

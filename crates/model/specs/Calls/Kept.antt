@@ -223,12 +223,12 @@ pot-swap t φ s p j k d o i = record {
     was true true f g l q = let e = Option·some-injective k l q in (j, refl, d ∙ ap (λ (z : Handle). z .dir) e, o ∙ ap (λ (z : Handle). z .to) e)
 
 -- the tables with the new mapping, before s falls, have a potential, and along the mapping data may move
-pub record Mapping (t : Tables) (s o p : ℕ) : Type 0 where
+pub record Map-moves (t : Tables) (s o p : ℕ) : Type 0 where
   pub potential : Thing → Label
   pub pot : Pot (apply (hold s p (some (mapping o))) t) potential
   pub feeds : Feeds (apply (hold s p (some (mapping o))) t) potential (cell t s) (object o)
 
-pub map-feeds : (t : Tables) (s o p : ℕ) → Wf t → Passed t (maps s o p) → Mapping t s o p
+pub map-feeds : (t : Tables) (s o p : ℕ) → Wf t → Passed t (maps s o p) → Map-moves t s o p
 map-feeds t s o p w m = record {
   potential = needs u;
   pot = i;

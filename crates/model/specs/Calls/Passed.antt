@@ -1,6 +1,6 @@
 -- What the passed tests of an allowed call give, and what is live once a thing has entered or an exec has dropped what it drops. Assumes nothing.
 use mathlib.Core.Path.{_≡_, refl, sym, subst}
-use mathlib.Core.Bool.{Bool, true, false, not, _||_, cond}
+use mathlib.Core.Bool.{Bool, true, false, not, cond}
 use mathlib.Core.Logic.{inl, inr}
 use mathlib.Core.Option.{Option, none, some, Option·none-ne-some}
 use Prim.Native.Nat.{ℕ, _<_}
@@ -13,7 +13,7 @@ use Rattle.model.specs.Tables.Laws.{some-of, used-is}
 use Rattle.model.specs.Steps.{Origin, enter, put, row, apply, applies}
 use Rattle.model.specs.Steps.Laws.{put-same, row-cases, live-at}
 use Rattle.model.specs.Invariant.Laws.{Less, less-hand}
-use Rattle.model.specs.Calls.{Call, lasting, sheds, Test, alive, present, new, vacant, taken, facing, faces, turned, broken, tests}
+use Rattle.model.specs.Calls.{Call, ends-at-exec, lasting, sheds, Test, alive, present, new, vacant, taken, facing, faces, turned, broken, tests}
 
 -- ── what a passed test gives ──
 pub is-alive : (t : Tables) (s : ℕ) → T (not (broken t (alive s))) → T (live t (subject s))
@@ -68,7 +68,7 @@ old-live t x e g y l = live-at t (put (t .at) x (some e)) y (go (same x y)) l
 -- what an exec drops before it runs: handles alone
 pub lasting-was : (o : Option Handle) (k : Handle) → lasting o ≡ some k → o ≡ some k
 lasting-was none k q = absurd (Option·none-ne-some k q)
-lasting-was (some j) k q = go (j .marked || j .mapped) q
+lasting-was (some j) k q = go (ends-at-exec j) q
   where
     go : (b : Bool) → cond b none (some j) ≡ some k → some j ≡ some k
     go true z = absurd (Option·none-ne-some k z)

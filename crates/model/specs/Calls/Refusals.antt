@@ -1,6 +1,6 @@
 -- The laws of `refusal`: it is none exactly where no test of the call fails, and n exactly where a test of number n fails and none
 -- that comes earlier in the order. Assumes nothing.
-use mathlib.Core.Path.{_≡_, refl, sym, _∙_, ap, subst}
+use mathlib.Core.Path.{_≡_, refl, sym, _∙_, ap, ap₂, subst}
 use mathlib.Core.Bool.{Bool, true, false, not, _||_}
 use mathlib.Core.Logic.{_⊎_, inl, inr, _↔_}
 use mathlib.Core.Option.{Option, none, some, Option·none-ne-some, Option·some-ne-none, Option·some-injective}
@@ -153,6 +153,15 @@ refused-by t c n q = let r = first-hit t (tests c) order n q in (breaks-at t n (
 
 pub refused-listed : (t : Tables) (c : Call) (n : ℕ) → refusal t c ≡ some n → In n order
 refused-listed t c n q = let (d, i, e, b) = refused-by t c n q .0 in subst (λ (k : ℕ). In k order) e (listed d)
+
+-- calls whose tests of each number come to the same are refused alike
+pub refusal-same : (t : Tables) (c e : Call) → ((n : ℕ) → breaks t n (tests c) ≡ breaks t n (tests e)) → refusal t c ≡ refusal t e
+unfolding refusal
+refusal-same t c e f = go order
+  where
+    go : (ns : List ℕ) → first t (tests c) ns ≡ first t (tests e) ns
+    go [] = refl
+    go (n ∷ ns) = ap₂ (λ (b : Bool) (o : Option ℕ). elim b as (λ _. Option ℕ) [ true ↦ some n | false ↦ o ]) (f n) (go ns)
 
 -- ── the only test of its number: each of the list that has the number of d is d ──
 abbrev Only : Test → List Test → Type 0

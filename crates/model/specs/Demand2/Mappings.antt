@@ -1,4 +1,4 @@
--- Two things that make no difference to refusal 9: whether an exec's need is taken with the caller's mappings or without them (RULES R110), and whether
+-- A map of a file is refused as the open for reading of the same numbers is, and with no other number (RULES R119, R118). Two things that make no difference to refusal 9: whether an exec's need is taken with the caller's mappings or without them (RULES R110), and whether
 -- a map is tested before the caller falls or after (RULES R119). Assumes nothing.
 use mathlib.Core.Path.{_≡_, refl, sym, _∙_, ap, subst, subst₂}
 use mathlib.Core.Bool.{Bool, true, false, not, _||_, cond}
@@ -6,24 +6,42 @@ use mathlib.Core.Logic.{_⊎_, inl, inr, _↔_}
 use mathlib.Core.Option.{Option, none, some, Option·none-ne-some, Option·some-injective}
 use Prim.Native.Nat.{ℕ}
 use lib.Dec.{T, eqb, eqb→eq}
-use Rattle.model.specs.Bools.{yes-not-not}
+use Rattle.model.specs.Bools.{yes-not-not, is-false}
 use Rattle.model.specs.Lists.{In}
 use Rattle.model.specs.Label.{Label, _⊑_}
 use Rattle.model.specs.Label.Laws.{⊑-trans, ⊑-antisym}
 use Rattle.model.specs.Flow.{Thing, subject, object, same, Edge, Reaches, here}
 use Rattle.model.specs.Flow.Laws.{same→eq, reaches-in, reaches-snoc, need-upper, need-least}
-use Rattle.model.specs.Tables.{Dir, reading, Entry, Handle, handle, mapping, Tables, is-some, label-of, cell, arc, flow, speaks, edges, demand, needs, safe}
+use Rattle.model.specs.Tables.{Dir, reading, Entry, Handle, handle, mapping, Tables, is-some, is-pipe, label-of, cell, arc, flow, speaks, edges, demand, needs, safe}
 use Rattle.model.specs.Tables.Laws.{some-of, some-is, speaks-hand, speaks-at, speaks-cell, flow-edge, edge-flow}
 use Rattle.model.specs.Steps.{reads, hold, holds, row, fall, apply, applies}
 use Rattle.model.specs.Steps.Laws.{fall-some, fall-demand}
 use Rattle.model.specs.Invariant.{Wf}
 use Rattle.model.specs.Invariant.Laws.{Pot, pot-safe, needs-pot, wf-mix, pot-mix}
-use Rattle.model.specs.Calls.{maps, lasting, sheds, steps, Test, number, alive, present, vacant, broken, order, earlier, In-order}
+use Rattle.model.specs.Calls.{opens, maps, lasting, sheds, steps, Test, number, alive, present, no-pipe, vacant, enough, broken, order, earlier, In-order, refusal}
+use Rattle.model.specs.Calls.Refusals.{refusal-same}
 use Rattle.model.specs.Calls.Passed.{Passed}
 use Rattle.model.specs.Calls.Mapped.{put-label}
 use Rattle.model.specs.Calls.Dangling.{placed-wf}
 use Rattle.model.specs.Calls.Kept.{safe-sound, safe-complete, pot-swap, map-feeds}
 use Rattle.model.specs.Demand2.{opened}
+
+-- ── a map is refused as the open for reading is ──
+-- RULES R118, R119: no test but that of a pipe tells them apart; the freeze asks nothing of either
+pub map-as-open : (t : Tables) (s o p : ℕ) → T (not (is-pipe (object o) (t .at (object o)))) → refusal t (maps s o p) ≡ refusal t (opens reading s o p)
+map-as-open t s o p n = refusal-same t (maps s o p) (opens reading s o p) (λ k. ap (λ (b : Bool). with-number k (alive s) || (with-number k (present o) || b))
+    (ap (λ (b : Bool). b || (with-number k (vacant s p) || (with-number k (enough (opens reading s o p)) || false)))
+    (quiet (eqb 5 k) (broken t (no-pipe o)) (is-false (broken t (no-pipe o)) n))
+    ∙ ap (λ (b : Bool). with-number k (vacant s p) || (with-number k (enough (opens reading s o p)) || (b || false))) (sym (quiet (eqb 15 k) false refl))))
+  where
+    -- a test that counts where it has this number
+    with-number : ℕ → Test → Bool
+    with-number k d = elim (eqb (number d) k) as (λ _. Bool) [ true ↦ broken t d | false ↦ false ]
+
+    -- a test that passes counts nowhere
+    quiet : (b x : Bool) → x ≡ false → elim b as (λ _. Bool) [ true ↦ x | false ↦ false ] ≡ false
+    quiet true x q = q
+    quiet false x q = refl
 
 -- ── an exec, with the caller's mappings or without them ──
 -- flows that are missing and lead to c itself take nothing from what c reaches

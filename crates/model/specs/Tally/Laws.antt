@@ -2,7 +2,7 @@
 -- which nothing dangles it moves as that number does (RULES Y10, Y11). How many handles a step places or removes; then call by call; then
 -- the list. Assumes nothing.
 use mathlib.Core.Path.{_≡_, refl, _∙_, ap, subst}
-use mathlib.Core.Bool.{Bool, true, false, not, _||_, cond}
+use mathlib.Core.Bool.{Bool, true, false, not, cond}
 use mathlib.Core.Logic.{_⊎_, inl, inr}
 use mathlib.Core.Option.{Option, none, some}
 use mathlib.Core.List.{List, [], _∷_, _++_}
@@ -20,7 +20,7 @@ use Rattle.model.specs.Steps.{blank, copied, writes, runs, enter, leave,
 use Rattle.model.specs.Steps.Laws.{applies-append}
 use Rattle.model.specs.Invariant.{Wf}
 use Rattle.model.specs.Invariant.Laws.{empty-wf}
-use Rattle.model.specs.Calls.{Call, admit, register, create, make-pipe, opens, access, fork, exec, close, exit, retire, maps, mark, freeze, unknown, Raw, decode, target, moves, followed, marking, lasting, sheds, steps, effect, Test, alive, new, vacant, taken, apart, broken, tests, refusal, next, after}
+use Rattle.model.specs.Calls.{Call, admit, register, create, make-pipe, opens, access, fork, exec, close, exit, retire, maps, mark, freeze, unknown, Raw, decode, target, moves, followed, marking, ends-at-exec, lasting, sheds, steps, effect, Test, alive, new, vacant, taken, apart, broken, tests, refusal, next, after}
 use Rattle.model.specs.Calls.Refusals.{allowed-iff}
 use Rattle.model.specs.Calls.Passed.{is-alive, is-new, is-place}
 use Rattle.model.specs.Calls.Moving.{rereads-keep}
@@ -109,7 +109,7 @@ each-parts (suc n) h = let a = each-parts n h in let b = parts (h n) in omega (
   where
     parts : (o : Option Handle) → length (one o) ≡ length (one (dropped o)) + length (one (lasting o))
     parts none = refl
-    parts (some k) = go (k .marked || k .mapped)
+    parts (some k) = go (ends-at-exec k)
       where
         go : (b : Bool) → 1 ≡ length (one (cond b (some k) none)) + length (one (cond b none (some k)))
         go true = refl
