@@ -1,5 +1,5 @@
--- The sixteen calls: what each asks, what it tests, what it does, what it answers. States RULES C1 to C16 and C101 to C111, R1 to R10 and R15,
--- and of the sentences about all refusals RULES R101, R102, R105, R108, R110 and R117 to R119.
+-- The seventeen calls: what each asks, what it tests, what it does, what it answers. States RULES C1 to C17 and C101 to C112, R1 to R10, R15 and R16,
+-- and of the sentences about all refusals RULES R101, R102, R105, R108, R110 and R117 to R121.
 --
 -- In order: the calls by code; the effect of each row as a list of steps; the conditions of the refusals and which of them each call
 -- tests; the refusal; the tables after; the answer. A new call is a row in `rows`, `steps`, `tests`,
@@ -33,6 +33,7 @@ pub data Call : Type 0 where
   opens : Dir → ℕ → ℕ → ℕ → Call
   maps : ℕ → ℕ → ℕ → Call
   access : Dir → ℕ → ℕ → Call
+  connect : ℕ → ℕ → ℕ → ℕ → ℕ → ℕ → Call
   fork exec close mark : ℕ → ℕ → Call
   exit retire freeze : ℕ → Call
   unknown : Call
@@ -53,9 +54,9 @@ pub record Row : Type 0 where
 abbrev pub coded : ℕ → Call → Row
 coded n c = record { code = n; call = c }
 
--- RULES C1 to C16: the code, the call and its numbers
+-- RULES C1 to C17: the code, the call and its numbers
 abbrev pub rows : Raw → List Row
-rows r = let a : ℕ = arg 0 r in let b : ℕ = arg 1 r in let c : ℕ = arg 2 r in let d : ℕ = arg 3 r in
+rows r = let a : ℕ = arg 0 r in let b : ℕ = arg 1 r in let c : ℕ = arg 2 r in let d : ℕ = arg 3 r in let e : ℕ = arg 4 r in let f : ℕ = arg 5 r in
     coded 1 (admit a b)
     ∷ coded 2 (register a b)
     ∷ coded 3 (create a b)
@@ -72,13 +73,14 @@ rows r = let a : ℕ = arg 0 r in let b : ℕ = arg 1 r in let c : ℕ = arg 2 r
     ∷ coded 14 (maps a b c)
     ∷ coded 15 (mark a b)
     ∷ coded 16 (freeze a)
+    ∷ coded 17 (connect a b c d e f)
     ∷ []
 
 abbrev pub lookup : ℕ → List Row → Call
 lookup n [] = unknown
 lookup n (k ∷ ks) = elim (eqb (k .code) n) [ true ↦ k .call | false ↦ lookup n ks ]
 
--- RULES C1 to C16, R1: the call that a code asks for, `unknown` where no row has the code
+-- RULES C1 to C17, R1: the call that a code asks for, `unknown` where no row has the code
 unfoldable pub decode : Raw → Call
 decode r = lookup (r .code) (rows r)
 
@@ -124,7 +126,18 @@ lasting (some k) = cond (ends-at-exec k) none (some k)
 unfoldable pub sheds : Tables → ℕ → List Step
 sheds t s = holds s (λ p. lasting (t .hand s p)) ∷ []
 
--- RULES C1 to C16: the effect, row by row
+-- RULES C17, C112: the two pipes of a channel between s and u, then the ends of s and those of u: each reads the other's pipe at p and writes its own at q
+abbrev pub channel : Tables → ℕ → ℕ → ℕ → ℕ → ℕ → ℕ → List Step
+channel t s u a b p q =
+    enter (object a) (entry pipe (label-of (t .at (cell t s)))) blank
+    ∷ enter (object b) (entry pipe (label-of (t .at (cell t u)))) blank
+    ∷ hold s p (some (handle reading b))
+    ∷ hold s q (some (handle writing a))
+    ∷ hold u p (some (handle reading a))
+    ∷ hold u q (some (handle writing b))
+    ∷ []
+
+-- RULES C1 to C17: the effect, row by row
 abbrev pub steps : Tables → Call → List Step
 steps t (admit s n) = enter (subject s) (entry running (label n)) outside ∷ []
 steps t (register o n) = enter (object o) (entry file (label n)) outside ∷ []
@@ -140,6 +153,7 @@ steps t (retire o) = leave (object o) ∷ []
 steps t (maps s o p) = hold s p (some (mapping o)) ∷ mix reads (subject s) (object o) (cell t s) (object o) ∷ []
 steps t (mark s p) = hold s p (marking (t .hand s p)) ∷ []
 steps t (freeze n) = freezes n ∷ []
+steps t (connect s u a b p q) = channel t s u a b p q
 steps t unknown = []
 
 -- RULES C102, C109: the steps of the row, the end of the pipes that they leave without a handle, and nothing else
@@ -151,18 +165,19 @@ pub data Test : Type 0 where
   known : Test
   alive present no-pipe leveled freezable : ℕ → Test
   new : Thing → Test
-  vacant taken apart : ℕ → ℕ → Test
+  vacant taken apart unlike others : ℕ → ℕ → Test
   facing : Dir → ℕ → ℕ → Test
   enough : Call → Test
   suits : ℕ → ℕ → Test
   idle : ℕ → Test
   thawed : Dir → ℕ → Test
 
--- RULES R1 to R10, R15: the number of the refusal that the test is of
+-- RULES R1 to R10, R15, R16: the number of the refusal that the test is of
 abbrev pub number : Test → ℕ
 number known = 1
 number (alive s) = 2
 number (new x) = 3
+number (unlike a b) = 3
 number (present o) = 4
 number (no-pipe o) = 5
 number (leveled n) = 6
@@ -175,6 +190,7 @@ number (enough c) = 9
 number (suits s o) = 9
 number (idle o) = 10
 number (thawed d o) = 15
+number (others s u) = 16
 
 abbrev pub faces : Dir → Dir → Bool
 faces reading reading = true
@@ -197,12 +213,13 @@ abbrev pub shut : ℕ → Dir → Thing → Option Entry → Bool
 shut f reading x v = false
 shut f writing x v = frozen f x v
 
--- RULES R1 to R10, R15: the test fails, as the row says
+-- RULES R1 to R10, R15, R16: the test fails, as the row says
 abbrev pub broken : Tables → Test → Bool
 -- (asked of unknown codes alone)
 broken t known = true
 broken t (alive s) = not (live t (subject s))
 broken t (new x) = not (in-range x) || used t x
+broken t (unlike a b) = eqb a b
 broken t (present o) = not (live t (object o))
 broken t (no-pipe o) = is-pipe (object o) (t .at (object o))
 broken t (leveled n) = ltb highest n
@@ -215,8 +232,9 @@ broken t (enough c) = not (safe (applies (steps t c) t))
 broken t (suits s o) = not (leq (needs (applies (sheds t s) t) (cell t s)) (label-of (t .at (object o))))
 broken t (idle o) = open-on (handles t) o
 broken t (thawed d o) = shut (t .freeze) d (object o) (t .at (object o))
+broken t (others s u) = eqb s u
 
--- RULES R1 to R10, R15, C101, C103: which conditions speak of which call
+-- RULES R1 to R10, R15, R16, R121, C101, C103: which conditions speak of which call
 abbrev pub tests : Call → List Test
 tests (admit s n) = new (subject s) ∷ leveled n ∷ []
 tests (register o n) = new (object o) ∷ leveled n ∷ []
@@ -233,11 +251,14 @@ tests (retire o) = present o ∷ no-pipe o ∷ idle o ∷ []
 tests (maps s o p) = alive s ∷ present o ∷ no-pipe o ∷ vacant s p ∷ enough (opens reading s o p) ∷ []
 tests (mark s p) = alive s ∷ taken s p ∷ []
 tests (freeze n) = freezable n ∷ []
+tests (connect s u a b p q) =
+    alive s ∷ alive u ∷ others s u ∷ new (object a) ∷ new (object b) ∷ unlike a b
+    ∷ vacant s p ∷ vacant s q ∷ vacant u p ∷ vacant u q ∷ apart p q ∷ enough (connect s u a b p q) ∷ []
 tests unknown = known ∷ []
 
--- RULES R105, R117: the smallest number first
+-- RULES R105, R117, R120: the smallest number first, but that 16 comes after 2
 abbrev pub order : List ℕ
-order = 1 ∷ 2 ∷ 3 ∷ 4 ∷ 5 ∷ 6 ∷ 7 ∷ 8 ∷ 9 ∷ 10 ∷ 15 ∷ []
+order = 1 ∷ 2 ∷ 16 ∷ 3 ∷ 4 ∷ 5 ∷ 6 ∷ 7 ∷ 8 ∷ 9 ∷ 10 ∷ 15 ∷ []
 
 -- some test of this number fails
 abbrev pub breaks : Tables → ℕ → List Test → Bool
@@ -270,7 +291,7 @@ pub data Shown : Type 0 where
   level-at : Thing → Shown
   given : ℕ → Shown
 
--- RULES C1 to C16: of which thing the answer gives the level, or which number it gives
+-- RULES C1 to C17: of which thing the answer gives the level, or which number it gives
 abbrev pub shown : Tables → Call → Shown
 shown t (admit s n) = level-at (subject s)
 shown t (register o n) = level-at (object o)
@@ -287,6 +308,7 @@ shown t (retire o) = level-at (object o)
 shown t (maps s o p) = level-at (cell t s)
 shown t (mark s p) = level-at (cell t s)
 shown t (freeze n) = given n
+shown t (connect s u a b p q) = level-at (cell t s)
 shown t unknown = given 0
 
 -- the outcome with the level in the answer, or the number of the refusal (whose level is 0)

@@ -9,7 +9,7 @@ use Rattle.model.specs.Label.{highest, in-scale, _⊑_}
 use Rattle.model.specs.Lists.{In}
 use Rattle.model.specs.Flow.{Thing, subject, object}
 use Rattle.model.specs.Tables.{reading, Entry, Handle, Tables, no-freeze, places, in-range, live, label-of, a-file, is-pipe, cell, handles, open-on, needs}
-use Rattle.model.specs.Calls.{Call, admit, register, create, make-pipe, opens, access, fork, exec, close, exit, retire, maps, mark, freeze, unknown, Raw, decode}
+use Rattle.model.specs.Calls.{Call, admit, register, create, make-pipe, opens, access, fork, exec, close, exit, retire, maps, mark, freeze, connect, unknown, Raw, decode}
 use Rattle.model.specs.Calls.{Answer, allowed, lowered, refused, order}
 pub mod Laws
 
@@ -73,6 +73,7 @@ topmost (retire o) = highest
 topmost (maps s o p) = highest
 topmost (mark s p) = highest
 topmost (freeze n) = no-freeze
+topmost (connect s u a b p q) = highest
 topmost unknown = highest
 
 -- RULES T27, R112: the answer to a call gives a level of 0 to 15, to a freeze 0 to 16, or the number of a refusal that calls have

@@ -1,4 +1,4 @@
--- Every row of RULES C1 to C16, and of R1 to R10 and R15, tried once: one list of calls from empty tables with the answer to each, and
+-- Every row of RULES C1 to C17, and of R1 to R10, R15 and R16, tried once: one list of calls from empty tables with the answer to each, and
 -- the contents and the tally after a few short lists. Not cases of the rules' own: they pin the definitions down where no law does, so that
 -- a slip in a row does not go unseen. Assumes nothing.
 use mathlib.Core.Path.{_≡_, refl}
@@ -25,7 +25,7 @@ line c ns a = record { given = call c ns; answered = a }
 -- ── answers ──
 unfoldable pub lines : List Line
 lines =
-    line 0 [] (R 1) ∷ line 17 [] (R 1)
+    line 0 [] (R 1) ∷ line 18 [] (R 1)
     ∷ line 1 (31 ∷ 15 ∷ []) (A 15) ∷ line 1 (32 ∷ 0 ∷ []) (R 3) ∷ line 1 (31 ∷ 16 ∷ []) (R 3) ∷ line 1 (30 ∷ 16 ∷ []) (R 6) ∷ line 1 (4 ∷ []) (A 0)
     ∷ line 2 (63 ∷ 15 ∷ []) (A 15) ∷ line 2 (64 ∷ 0 ∷ []) (R 3) ∷ line 2 (63 ∷ 1 ∷ []) (R 3) ∷ line 2 (0 ∷ 16 ∷ []) (R 6) ∷ line 2 (0 ∷ 2 ∷ []) (A 2)
     ∷ line 1 (1 ∷ 7 ∷ []) (A 7) ∷ line 3 (1 ∷ 6 ∷ []) (A 7) ∷ line 3 (32 ∷ 64 ∷ []) (R 2) ∷ line 3 (1 ∷ 6 ∷ []) (R 3)
@@ -58,6 +58,16 @@ lines =
     ∷ line 10 (7 ∷ 22 ∷ []) (R 9) ∷ line 7 (7 ∷ 3 ∷ []) (A 8) ∷ line 10 (30 ∷ 22 ∷ []) (R 9) ∷ line 7 (30 ∷ 3 ∷ []) (A 8)
     ∷ line 11 (7 ∷ 5 ∷ []) (A 8) ∷ line 10 (7 ∷ 22 ∷ []) (L 7) ∷ line 7 (30 ∷ 3 ∷ []) (A 8) ∷ line 7 (7 ∷ 3 ∷ []) (R 7) ∷ line 7 (7 ∷ 1 ∷ []) (A 7) ∷ line 12 (7 ∷ []) (A 7)
     ∷ line 10 (30 ∷ 22 ∷ []) (L 7) ∷ line 7 (30 ∷ 3 ∷ []) (R 7) ∷ line 7 (30 ∷ 1 ∷ []) (A 7)
+    ∷ line 1 (8 ∷ 6 ∷ []) (A 6) ∷ line 1 (9 ∷ 3 ∷ []) (A 3) ∷ line 2 (40 ∷ 3 ∷ []) (A 3) ∷ line 2 (41 ∷ 6 ∷ []) (A 6)
+    ∷ line 17 (32 ∷ 32 ∷ 0 ∷ 0 ∷ 16 ∷ 16 ∷ []) (R 2) ∷ line 17 (8 ∷ 32 ∷ 0 ∷ 0 ∷ 16 ∷ 16 ∷ []) (R 2) ∷ line 17 (31 ∷ 8 ∷ 0 ∷ 0 ∷ 16 ∷ 16 ∷ []) (R 2)
+    ∷ line 17 (8 ∷ 8 ∷ 0 ∷ 0 ∷ 16 ∷ 16 ∷ []) (R 16) ∷ line 17 (8 ∷ 9 ∷ 0 ∷ 42 ∷ 16 ∷ 16 ∷ []) (R 3) ∷ line 17 (8 ∷ 9 ∷ 42 ∷ 64 ∷ 16 ∷ 16 ∷ []) (R 3)
+    ∷ line 17 (8 ∷ 9 ∷ 42 ∷ 42 ∷ 16 ∷ 16 ∷ []) (R 3) ∷ line 17 (8 ∷ 9 ∷ 42 ∷ 43 ∷ 16 ∷ 1 ∷ []) (R 7) ∷ line 17 (8 ∷ 9 ∷ 42 ∷ 43 ∷ 0 ∷ 16 ∷ []) (R 7)
+    ∷ line 17 (8 ∷ 9 ∷ 42 ∷ 43 ∷ 0 ∷ 0 ∷ []) (R 7) ∷ line 6 (8 ∷ 41 ∷ 2 ∷ []) (A 6) ∷ line 5 (9 ∷ 41 ∷ 3 ∷ []) (A 6) ∷ line 17 (8 ∷ 9 ∷ 42 ∷ 43 ∷ 2 ∷ 1 ∷ []) (R 7)
+    ∷ line 17 (8 ∷ 9 ∷ 42 ∷ 43 ∷ 1 ∷ 2 ∷ []) (R 7) ∷ line 17 (8 ∷ 9 ∷ 42 ∷ 43 ∷ 3 ∷ 1 ∷ []) (R 7) ∷ line 17 (8 ∷ 9 ∷ 42 ∷ 43 ∷ 1 ∷ 3 ∷ []) (R 7)
+    ∷ line 17 (8 ∷ 9 ∷ 42 ∷ 43 ∷ 0 ∷ 1 ∷ []) (R 9) ∷ line 17 (9 ∷ 8 ∷ 42 ∷ 43 ∷ 0 ∷ 1 ∷ []) (R 9) ∷ line 5 (8 ∷ 42 ∷ 0 ∷ []) (R 4) ∷ line 11 (8 ∷ 2 ∷ []) (A 6)
+    ∷ line 6 (9 ∷ 40 ∷ 2 ∷ []) (A 3) ∷ line 17 (8 ∷ 9 ∷ 42 ∷ 43 ∷ 0 ∷ 1 ∷ []) (A 6) ∷ line 8 (8 ∷ 0 ∷ []) (R 8) ∷ line 7 (9 ∷ 1 ∷ []) (R 8)
+    ∷ line 8 (8 ∷ 1 ∷ []) (A 6) ∷ line 7 (9 ∷ 0 ∷ []) (A 3) ∷ line 5 (31 ∷ 42 ∷ 0 ∷ []) (R 2) ∷ line 3 (8 ∷ 43 ∷ []) (R 3) ∷ line 8 (9 ∷ 1 ∷ []) (A 3)
+    ∷ line 7 (8 ∷ 0 ∷ []) (L 3) ∷ line 8 (8 ∷ 1 ∷ []) (L 3) ∷ line 11 (8 ∷ 0 ∷ []) (A 3) ∷ line 11 (9 ∷ 1 ∷ []) (A 3) ∷ line 13 (43 ∷ []) (R 4) ∷ line 13 (42 ∷ []) (R 5)
     ∷ []
 
 abbrev pub answered-so : Tables → List Line → Bool
@@ -153,7 +163,12 @@ marking-list = call 2 (1 ∷ 9 ∷ []) ∷ call 1 (0 ∷ 9 ∷ []) ∷ call 5 (0
 abbrev mapped-away-list : List Raw
 mapped-away-list = call 2 (1 ∷ 9 ∷ []) ∷ call 1 (0 ∷ 9 ∷ []) ∷ call 5 (0 ∷ 1 ∷ 0 ∷ []) ∷ call 14 (0 ∷ 1 ∷ 1 ∷ []) ∷ call 6 (0 ∷ 1 ∷ 2 ∷ []) ∷ call 15 (0 ∷ 2 ∷ []) ∷ call 10 (0 ∷ 1 ∷ []) ∷ []
 
+-- admit 0 and 1, connect them, exit
+abbrev channel-list : List Raw
+channel-list = call 1 (0 ∷ 9 ∷ []) ∷ call 1 (1 ∷ 9 ∷ []) ∷ call 17 (0 ∷ 1 ∷ 5 ∷ 6 ∷ 2 ∷ 3 ∷ []) ∷ call 17 (0 ∷ 1 ∷ 7 ∷ 8 ∷ 2 ∷ 4 ∷ []) ∷ call 12 (1 ∷ []) ∷ []
+
 pub tally-right : (tally empty zeroed reading-list ≡ record { made = 1; gone = 0 }) × (tally empty zeroed counting-list ≡ record { made = 4; gone = 3 })
     × (tally empty zeroed marking-list ≡ record { made = 2; gone = 1 }) × (tally empty zeroed mapped-away-list ≡ record { made = 3; gone = 2 })
+    × (tally empty zeroed channel-list ≡ record { made = 4; gone = 2 })
 unfolding tallied Label label level leq meet join bot need used cell speaks things handles edges safe decode rereads sheds ended effect refusal lowers answer
-tally-right = (refl, refl, refl, refl)
+tally-right = (refl, refl, refl, refl, refl)

@@ -6,7 +6,7 @@ use Prim.Native.Nat.{ℕ, _+_, _-_, _%_, _^_}
 use lib.ListN.{length}
 use Rattle.model.specs.Lists.{each}
 use Rattle.model.specs.Tables.{Handle, Tables, places, one, handles-of}
-use Rattle.model.specs.Calls.{Call, admit, register, create, make-pipe, opens, access, fork, exec, close, exit, retire, maps, mark, freeze, unknown, ends-at-exec, Raw, decode, refusal, next}
+use Rattle.model.specs.Calls.{Call, admit, register, create, make-pipe, opens, access, fork, exec, close, exit, retire, maps, mark, freeze, connect, unknown, ends-at-exec, Raw, decode, refusal, next}
 pub mod Laws
 
 -- RULES Y4, Y6, Y11: how many handles s holds
@@ -22,7 +22,7 @@ dropped (some k) = cond (ends-at-exec k) (some k) none
 abbrev pub drops : Tables → ℕ → ℕ
 drops t s = length (each places (λ p. one (dropped (t .hand s p))))
 
--- RULES Y2, Y3, Y4, Y7: what a call adds to made
+-- RULES Y2, Y3, Y4, Y7, Y14: what a call adds to made
 abbrev pub makes : Tables → Call → ℕ
 makes t (admit s n) = 0
 makes t (register o n) = 0
@@ -38,6 +38,7 @@ makes t (retire o) = 0
 makes t (maps s o p) = 1
 makes t (mark s p) = 0
 makes t (freeze n) = 0
+makes t (connect s u a b p q) = 4
 makes t unknown = 0
 
 -- RULES Y5, Y6, Y7, Y13: what a call adds to gone
@@ -56,6 +57,7 @@ removes t (retire o) = 0
 removes t (maps s o p) = 0
 removes t (mark s p) = 0
 removes t (freeze n) = 0
+removes t (connect s u a b p q) = 0
 removes t unknown = 0
 
 -- RULES Y9: a count has 64 bits

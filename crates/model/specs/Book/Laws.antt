@@ -17,7 +17,7 @@ use Rattle.model.specs.Steps.{outside, blank, copied, writes, Step, ente
 use Rattle.model.specs.Steps.Laws.{put-cases, fell}
 use Rattle.model.specs.Invariant.{Safe, Kept}
 use Rattle.model.specs.Invariant.Laws.{Pot, pot-safe, needs-pot, Less, less-wf, less-pot, Feeds}
-use Rattle.model.specs.Calls.{Call, admit, register, create, make-pipe, opens, access, fork, exec, close, exit, retire, maps, mark, freeze, unknown, Raw, decode, target, rereads, sheds, steps, effect, Test, alive, present, taken, facing, suits, broken, tests, refusal, next, Answer, answer, answers, after}
+use Rattle.model.specs.Calls.{Call, admit, register, create, make-pipe, opens, access, fork, exec, close, exit, retire, maps, mark, freeze, connect, unknown, Raw, decode, target, rereads, sheds, steps, effect, Test, alive, present, taken, facing, suits, broken, tests, refusal, next, Answer, answer, answers, after}
 use Rattle.model.specs.Calls.Refusals.{allowed-iff}
 use Rattle.model.specs.Calls.Passed.{is-alive, is-facing, sheds-less}
 use Rattle.model.specs.Calls.Moving.{reread-of}
@@ -195,6 +195,7 @@ module _ (ℓ : Label) (o₁ o₂ : ℕ) (t : Tables) (v : Kept t) where
   guarded (maps s o p) b m = let r = map-feeds t s o p (v .wf) m in (tt, ((r .potential, r .pot, r .feeds), tt))
   guarded (mark s p) b m = (tt, tt)
   guarded (freeze n) b m = (tt, tt)
+  guarded (connect s u x y p q) b m = (tt, (tt, (tt, (tt, (tt, (tt, tt))))))
   guarded unknown b m = tt
 
 -- ── lists of calls ──

@@ -15,8 +15,8 @@ use Rattle.model.specs.Steps.{Origin, outside, blank, copied, reads, wri
 use Rattle.model.specs.Steps.Laws.{row-cases, live-hand, applies-append}
 use Rattle.model.specs.Invariant.{Ends, Wf}
 use Rattle.model.specs.Invariant.Laws.{row-below, less-close, less-row, less-freeze, less-wf, wf-enter, wf-hand, wf-hold, wf-without, wf-reap, wf-mix}
-use Rattle.model.specs.Calls.{Call, admit, register, create, make-pipe, opens, access, fork, exec, close, exit, retire, maps, mark, freeze, unknown}
-use Rattle.model.specs.Calls.{target, marking, sheds, steps, effect, next, alive, present, new, vacant, taken, idle, broken, refusal}
+use Rattle.model.specs.Calls.{Call, admit, register, create, make-pipe, opens, access, fork, exec, close, exit, retire, maps, mark, freeze, connect, unknown}
+use Rattle.model.specs.Calls.{target, marking, sheds, channel, steps, effect, next, alive, present, new, vacant, taken, idle, broken, refusal}
 use Rattle.model.specs.Calls.Refusals.{allowed-iff}
 use Rattle.model.specs.Calls.Moving.{rereads-keep}
 use Rattle.model.specs.Calls.Passed.{is-alive, is-present, is-new, is-place, is-taken, Passed, entered-live, old-live, sheds-less}
@@ -90,10 +90,18 @@ module _ (t : Tables) (w : Wf t) where
         | inr z ↦ inl (z .1)
       ]
 
+  -- an end that joins stays one where another handle is placed
+  still-ends : (u : Tables) (s p : ℕ) (v : Option Handle) (s′ p′ : ℕ) (k : Handle) → Ends u s′ p′ k → Ends (apply (hold s p v) u) s′ p′ k
+  still-ends u s p v s′ p′ k f = record {
+    from = live-hand u (place (u .hand) s p v) (subject s′) (f .from);
+    to = live-hand u (place (u .hand) s p v) (object (k .to)) (f .to);
+    place = f .place;
+  }
+
   pub pipe-wf : (s o r p : ℕ) → Passed t (make-pipe s o r p) → Wf (applies (steps t (make-pipe s o r p)) t)
   pipe-wf s o r p m = wf-hold u₁ s p (handle writing o)
       (wf-hold u s r (handle reading o) (wf-enter t (object o) e blank ranged w) (ends′ reading r (m (vacant s r) (inr (inr (inl refl))))))
-      (still (ends′ writing p (m (vacant s p) (inr (inr (inr (inl refl)))))))
+      (still-ends u s r (some (handle reading o)) s p (handle writing o) (ends′ writing p (m (vacant s p) (inr (inr (inr (inl refl)))))))
     where
       ranged : T (in-range (object o))
       ranged = is-new t (object o) (m (new (object o)) (inr (inl refl))) .0
@@ -114,8 +122,60 @@ module _ (t : Tables) (w : Wf t) where
         place = is-place t s q h;
       }
 
-      still : Ends u s p (handle writing o) → Ends u₁ s p (handle writing o)
-      still f = record { from = live-hand u (u₁ .hand) (subject s) (f .from); to = live-hand u (u₁ .hand) (object o) (f .to); place = f .place }
+  pub connect-wf : (s r a b p q : ℕ) → Passed t (connect s r a b p q) → Wf (applies (channel t s r a b p q) t)
+  connect-wf s r a b p q m =
+      wf-hold u₃ r q (handle writing b) (wf-hold u₂ r p (handle reading a) (wf-hold u₁ s q (handle writing a) (wf-hold u s p (handle reading b)
+      (wf-enter (apply (enter (object a) e blank) t) (object b) f blank (new-b .0) (wf-enter t (object a) e blank (new-a .0) w))
+      (ends′ s p (handle reading b) in-s at-b (m (vacant s p) (inr (inr (inr (inr (inr (inr (inl refl)))))))))
+      ) (still-ends u s p (some (handle reading b)) s q (handle writing a)
+      (ends′ s q (handle writing a) in-s at-a (m (vacant s q) (inr (inr (inr (inr (inr (inr (inr (inl refl)))))))))))
+      ) (still-ends u₁ s q (some (handle writing a)) r p (handle reading a) (still-ends u s p (some (handle reading b)) r p (handle reading a)
+      (ends′ r p (handle reading a) in-r at-a (m (vacant r p) (inr (inr (inr (inr (inr (inr (inr (inr (inl refl)))))))))))))
+      ) (still-ends u₂ r p (some (handle reading a)) r q (handle writing b) (still-ends u₁ s q (some (handle writing a)) r q (handle writing b)
+      (still-ends u s p (some (handle reading b)) r q (handle writing b)
+      (ends′ r q (handle writing b) in-r at-b (m (vacant r q) (inr (inr (inr (inr (inr (inr (inr (inr (inr (inl refl)))))))))))))))
+    where
+      new-a : T (in-range (object a)) × (t .at (object a) ≡ none)
+      new-a = is-new t (object a) (m (new (object a)) (inr (inr (inr (inl refl)))))
+
+      new-b : T (in-range (object b)) × (t .at (object b) ≡ none)
+      new-b = is-new t (object b) (m (new (object b)) (inr (inr (inr (inr (inl refl))))))
+
+      e : Entry
+      e = entry pipe (label-of (t .at (cell t s)))
+
+      f : Entry
+      f = entry pipe (label-of (t .at (cell t r)))
+
+      u₀ : Tables
+      u₀ = apply (enter (object a) e blank) t
+
+      u : Tables
+      u = apply (enter (object b) f blank) u₀
+
+      u₁ : Tables
+      u₁ = apply (hold s p (some (handle reading b))) u
+
+      u₂ : Tables
+      u₂ = apply (hold s q (some (handle writing a))) u₁
+
+      u₃ : Tables
+      u₃ = apply (hold r p (some (handle reading a))) u₂
+
+      in-s : T (live u (subject s))
+      in-s = old-live u₀ (object b) f blank (subject s) (old-live t (object a) e blank (subject s) (is-alive t s (m (alive s) (inl refl))))
+
+      in-r : T (live u (subject r))
+      in-r = old-live u₀ (object b) f blank (subject r) (old-live t (object a) e blank (subject r) (is-alive t r (m (alive r) (inr (inl refl)))))
+
+      at-a : T (live u (object a))
+      at-a = old-live u₀ (object b) f blank (object a) (entered-live t (object a) e blank (new-a .0))
+
+      at-b : T (live u (object b))
+      at-b = entered-live u₀ (object b) f blank (new-b .0)
+
+      ends′ : (z j : ℕ) (k : Handle) → T (live u (subject z)) → T (live u (object (k .to))) → T (not (broken t (vacant z j))) → Ends u z j k
+      ends′ z j k x y h = record { from = x; to = y; place = is-place t z j h }
 
   pub call-wf : (c : Call) → Passed t c → Wf (applies (steps t c) t)
   call-wf (admit s n) m = wf-enter t (subject s) (entry running (label n)) outside (is-new t (subject s) (m (new (subject s)) (inl refl)) .0) w
@@ -133,6 +193,7 @@ module _ (t : Tables) (w : Wf t) where
   call-wf (maps s o p) m = wf-mix (apply (hold s p (some (mapping o))) t) reads (subject s) (object o) (cell t s) (object o) (map-wf s o p m)
   call-wf (mark s p) m = mark-wf s p (m (taken s p) (inr (inl refl)))
   call-wf (freeze n) m = less-wf (less-freeze t n) w
+  call-wf (connect s r a b p q) m = connect-wf s r a b p q m
   call-wf unknown m = w
 
 -- ── calls ──

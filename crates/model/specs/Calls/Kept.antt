@@ -8,7 +8,7 @@ use mathlib.Core.Logic.{_⊎_, inl, inr}
 use mathlib.Core.Option.{Option, none, some, Option·some-injective}
 use mathlib.Core.List.{List, [], _∷_}
 use Prim.Native.Nat.{ℕ}
-use lib.Dec.{T, T-not, eqb}
+use lib.Dec.{T, T-not, not-T, eqb, eqb→eq, eqb-refl}
 use Rattle.model.specs.Bools.{test, not-not}
 use Rattle.model.specs.Label.{Label, label, leq, _⊑_}
 use Rattle.model.specs.Label.Laws.{⊑-refl, bot-least}
@@ -19,19 +19,19 @@ use Rattle.model.specs.Tables.Laws.{speaks-at, speaks-hand, speaks-cell,
 use Rattle.model.specs.Tables.Laws.{thing-listed, listed-thing, demand-label, not-safe, safe-above}
 use Rattle.model.specs.Steps.{Origin, outside, blank, copied, Access, reads, writes, runs, enter, leave, hold, holds, mix, freezes, put, row}
 use Rattle.model.specs.Steps.{place, fall, apply, applies, ended, reap}
-use Rattle.model.specs.Steps.Laws.{put-cases, row-cases, place-same, applies-append, ended-last}
+use Rattle.model.specs.Steps.Laws.{put-cases, row-cases, place-same, place-other, applies-append, ended-last}
 use Rattle.model.specs.Invariant.{Wf, Safe, Piped, Scaled, Frozen, Mapped, Kept}
 use Rattle.model.specs.Invariant.Laws.{Pot, pot-safe, needs-pot, row-below, Less, less-close, less-row, less-freeze, less-wf, less-pot, Feeds, flow-feeds}
 use Rattle.model.specs.Invariant.Laws.{empty-wf, wf-reap, wf-mix}
 use Rattle.model.specs.Invariant.Laws.{empty-pot, raise, raise-same, raise-other, pot-enter, pot-hand, pot-hold, pot-without, pot-reap, pot-mix}
 use Rattle.model.specs.Invariant.Laws.{empty-scaled, empty-frozen, scaled-without}
-use Rattle.model.specs.Calls.{Call, admit, register, create, make-pipe, opens, access, fork, exec, close, exit, retire, maps, mark, freeze, unknown, Raw, decode}
-use Rattle.model.specs.Calls.{target, marking, sheds, steps, effect, next, after, Test, alive, present, new, taken, facing, enough, suits, broken, refusal}
+use Rattle.model.specs.Calls.{Call, admit, register, create, make-pipe, opens, access, fork, exec, close, exit, retire, maps, mark, freeze, connect, unknown, Raw, decode}
+use Rattle.model.specs.Calls.{target, marking, sheds, channel, steps, effect, next, after, Test, alive, present, new, taken, apart, facing, enough, suits, broken, refusal}
 use Rattle.model.specs.Calls.Refusals.{allowed-iff}
 use Rattle.model.specs.Calls.Passed.{is-alive, is-present, is-new, is-taken, is-facing, Passed, sheds-less}
 use Rattle.model.specs.Calls.Moving.{Through, rereads-keep}
 use Rattle.model.specs.Calls.Mapped.{empty-mapped, mapped-reap, call-mapped}
-use Rattle.model.specs.Calls.Dangling.{open-wf, map-wf, pipe-wf, call-wf}
+use Rattle.model.specs.Calls.Dangling.{open-wf, map-wf, pipe-wf, connect-wf, call-wf}
 use Rattle.model.specs.Calls.Scale.{call-scaled, call-frozen}
 pub use Rattle.model.specs.Calls.Passed.{is-new, is-facing}
 
@@ -388,6 +388,53 @@ module _ (t : Tables) (v : Kept t) where
             held : u₂ .hand s w ≡ some (handle writing o)
             held = place-same (u₁ .hand) s w (some (handle writing o))
 
+  -- ── connect: the test is asked of the tables with both pipes and all four handles ──
+  connect-stepped : (s r a b p q : ℕ) → Passed t (connect s r a b p q) → Stepped t (applies (channel t s r a b p q) t)
+  connect-stepped s r a b p q m = record {
+    safe = safe-sound u w (not-not (safe u) (m (enough (connect s r a b p q)) (inr (inr (inr (inr (inr (inr (inr (inr (inr (inr (inr (inl refl))))))))))))));
+    pipes = λ o h. elim (put-pipes u₀ (object b) (some f) o h) [
+      | inl c ↦ inr (subst open-number (c .0) (open-at-place r q (handle writing b) (place-same (u₁ .hand) r q (some (handle writing b)))))
+      | inr c ↦ elim (put-pipes t (object a) (some e) o c) [
+        | inl d ↦ inr (subst open-number (d .0) (open-at-place r p (handle reading a)
+            (place-other (u₁ .hand) r q (some (handle writing b)) p (flip p q (m (apart p q) (inr (inr (inr (inr (inr (inr (inr (inr (inr (inr (inl refl)))))))))))))
+            ∙ place-same (u₂ .hand) r p (some (handle reading a)))))
+        | inr d ↦ inl (v .piped .joined o d)
+      ]
+    ];
+  }
+    where
+      e : Entry
+      e = entry pipe (label-of (t .at (cell t s)))
+
+      f : Entry
+      f = entry pipe (label-of (t .at (cell t r)))
+
+      u₀ : Tables
+      u₀ = apply (enter (object a) e blank) t
+
+      -- before the last two handles, and before the last
+      u₂ : Tables
+      u₂ = apply (hold s q (some (handle writing a))) (apply (hold s p (some (handle reading b))) (apply (enter (object b) f blank) u₀))
+
+      u₁ : Tables
+      u₁ = apply (hold r p (some (handle reading a))) u₂
+
+      u : Tables
+      u = applies (channel t s r a b p q) t
+
+      w : Wf u
+      w = connect-wf t (v .wf) s r a b p q m
+
+      open-number : Thing → Type 0
+      open-number (subject j) = Unit {0}
+      open-number (object j) = T (open-on (handles u) j)
+
+      flip : (i j : ℕ) → T (not (eqb i j)) → T (not (eqb j i))
+      flip i j n = not-T (eqb j i) (λ h. T-not (eqb i j) n (subst (λ (k : ℕ). T (eqb i k)) (sym (eqb→eq j i h)) (eqb-refl i)))
+
+      open-at-place : (z j : ℕ) (k : Handle) → u .hand z j ≡ some k → T (open-on (handles u) (k .to))
+      open-at-place z j k h = let g = w .ends z j k h in open-here u z j k (row-below g) (g .place) h
+
   call-stepped : (c : Call) → Passed t c → Stepped t (applies (steps t c) t)
   call-stepped (admit s n) m = enter-stepped t v (subject s) (entry running (label n)) outside (m (new (subject s)) (inl refl)) (λ o. tt)
   call-stepped (register o n) m = enter-stepped t v (object o) (entry file (label n)) outside (m (new (object o)) (inl refl)) (λ o. tt)
@@ -403,6 +450,7 @@ module _ (t : Tables) (v : Kept t) where
   call-stepped (maps s o p) m = map-stepped s o p m
   call-stepped (mark s p) m = mark-stepped t v s p (m (taken s p) (inr (inl refl)))
   call-stepped (freeze n) m = less-stepped t v (apply (freezes n) t) (less-freeze t n)
+  call-stepped (connect s r a b p q) m = connect-stepped s r a b p q m
   call-stepped unknown m = none-stepped t v
 
 -- ── pipes end ──

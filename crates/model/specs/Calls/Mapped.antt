@@ -19,9 +19,9 @@ use Rattle.model.specs.Steps.{Origin, outside, blank, copied, Access, re
 use Rattle.model.specs.Steps.{falls, sunk, ended, reap}
 use Rattle.model.specs.Steps.Laws.{put-same, put-apart, row-cases, place-cases, applies-append, ended-open, ended-subject, fall-label, file-keeps}
 use Rattle.model.specs.Invariant.{Wf, Maps, Mapped}
-use Rattle.model.specs.Invariant.Laws.{row-below, Less, less-close, less-row, less-freeze, without}
-use Rattle.model.specs.Calls.{Call, admit, register, create, make-pipe, opens, access, fork, exec, close, exit, retire, maps, mark, freeze, unknown}
-use Rattle.model.specs.Calls.{target, moves, followed, marking, sheds, steps, effect, alive, present, new, taken, no-pipe, idle, broken, lowers}
+use Rattle.model.specs.Invariant.Laws.{row-below, Less, less-close, less-row, less-freeze, without, wf-enter}
+use Rattle.model.specs.Calls.{Call, admit, register, create, make-pipe, opens, access, fork, exec, close, exit, retire, maps, mark, freeze, connect, unknown}
+use Rattle.model.specs.Calls.{target, moves, followed, marking, sheds, steps, effect, alive, present, new, unlike, taken, no-pipe, idle, broken, lowers}
 use Rattle.model.specs.Calls.Moving.{rereads-keep, lowers-none}
 use Rattle.model.specs.Calls.Passed.{is-alive, is-present, is-new, is-taken, Passed, sheds-less}
 
@@ -263,6 +263,35 @@ module _ (t : Tables) (w : Wf t) (v : Mapped t) where
   call-mapped (maps s o p) m = map-mapped s o p m
   call-mapped (mark s p) m = mark-mapped s p (m (taken s p) (inr (inl refl)))
   call-mapped (freeze n) m = less-mapped (less-freeze t n) v
+  call-mapped (connect s r a b p q) m = mapped-hold u₃ r q (handle writing b) tt (mapped-hold u₂ r p (handle reading a) tt
+      (mapped-hold u₁ s q (handle writing a) tt (mapped-hold u s p (handle reading b) tt
+      (mapped-enter u₀ (object b) f blank (wf-enter t (object a) e blank (is-new t (object a) new-a .0) w)
+      (cond-no (eqb a b) (some e) (t .at (object b)) (m (unlike a b) (inr (inr (inr (inr (inr (inl refl)))))))
+      ∙ is-new t (object b) (m (new (object b)) (inr (inr (inr (inr (inl refl)))))) .1) (new-mapped (object a) e blank new-a)))))
+    where
+      new-a : T (not (broken t (new (object a))))
+      new-a = m (new (object a)) (inr (inr (inr (inl refl))))
+
+      e : Entry
+      e = entry pipe (label-of (t .at (cell t s)))
+
+      f : Entry
+      f = entry pipe (label-of (t .at (cell t r)))
+
+      u₀ : Tables
+      u₀ = apply (enter (object a) e blank) t
+
+      u : Tables
+      u = apply (enter (object b) f blank) u₀
+
+      u₁ : Tables
+      u₁ = apply (hold s p (some (handle reading b))) u
+
+      u₂ : Tables
+      u₂ = apply (hold s q (some (handle writing a))) u₁
+
+      u₃ : Tables
+      u₃ = apply (hold r p (some (handle reading a))) u₂
   call-mapped unknown m = v
 
 -- ── a write to a file lowers nobody ──

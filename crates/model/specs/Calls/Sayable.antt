@@ -14,7 +14,7 @@ use Rattle.model.specs.Label.Laws.{bot-in-scale, level-in-scale}
 use Rattle.model.specs.Flow.{Thing, subject, object}
 use Rattle.model.specs.Tables.{reading, writing, Entry, Tables, empty, no-freeze, cell}
 use Rattle.model.specs.Invariant.{Kept, topmost, Sayable, All-sayable}
-use Rattle.model.specs.Calls.{Call, admit, register, create, make-pipe, opens, access, fork, exec, close, exit, retire, maps, mark, freeze, unknown, Raw, decode}
+use Rattle.model.specs.Calls.{Call, admit, register, create, make-pipe, opens, access, fork, exec, close, exit, retire, maps, mark, freeze, connect, unknown, Raw, decode}
 use Rattle.model.specs.Calls.{target, effect, next, freezable, refusal, level-at, shown, Answer, refused, lowers, last-label, outcome, said, answer, answers}
 use Rattle.model.specs.Calls.Refusals.{allowed-iff, refused-listed}
 use Rattle.model.specs.Calls.Kept.{effect-kept, next-kept, empty-kept}
@@ -58,6 +58,7 @@ answer-sayable t c v = go (refusal t c) refl
     shows (maps s o p) q = thing (maps s o p) (cell t s) (omega arith) q
     shows (mark s p) q = thing (mark s p) (cell t s) (omega arith) q
     shows (freeze n) q = ltb-false no-freeze n (is-false (ltb no-freeze n) (allowed-iff t (freeze n) .0 q (freezable n) (inl refl)))
+    shows (connect s u a b p r) q = thing (connect s u a b p r) (cell t s) (omega arith) q
     shows unknown q = omega arith
 
     go : (o : Option ℕ) → refusal t c ≡ o → Sayable c (elim o as (λ _. Answer) [ none ↦ said t (effect t c) (shown t c) | some n ↦ refused n ])

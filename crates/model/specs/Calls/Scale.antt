@@ -11,11 +11,11 @@ use Rattle.model.specs.Label.{label, in-scale}
 use Rattle.model.specs.Label.Laws.{label-in-scale, bot-in-scale}
 use Rattle.model.specs.Flow.{Thing, subject, object, same}
 use Rattle.model.specs.Tables.{running, file, pipe, Dir, reading, writing, Entry, entry, mapping, Tables, no-freeze, label-of, cell}
-use Rattle.model.specs.Steps.{outside, blank, copied, reads, writes, runs, hold, holds, mix, apply, applies}
+use Rattle.model.specs.Steps.{outside, blank, copied, reads, writes, runs, enter, hold, holds, mix, apply, applies}
 use Rattle.model.specs.Steps.Laws.{applies-append}
 use Rattle.model.specs.Invariant.{Scaled, Frozen}
 use Rattle.model.specs.Invariant.Laws.{scaled-enter, scaled-same, scaled-without, scaled-mix}
-use Rattle.model.specs.Calls.{Call, admit, register, create, make-pipe, opens, access, fork, exec, close, exit, retire, maps, mark, freeze, unknown}
+use Rattle.model.specs.Calls.{Call, admit, register, create, make-pipe, opens, access, fork, exec, close, exit, retire, maps, mark, freeze, connect, unknown}
 use Rattle.model.specs.Calls.{target, moves, followed, sheds, steps, leveled, freezable}
 use Rattle.model.specs.Calls.Moving.{rereads-keep}
 use Rattle.model.specs.Calls.Passed.{Passed, sheds-less}
@@ -51,6 +51,9 @@ module _ (t : Tables) (v : Scaled t) where
   call-scaled (maps s o p) m = scaled-mix (apply (hold s p (some (mapping o))) t) reads (subject s) (object o) (cell t s) (object o) (scaled-same (λ x. refl) v)
   call-scaled (mark s p) m = scaled-same (λ x. refl) v
   call-scaled (freeze n) m = scaled-same (λ x. refl) v
+  call-scaled (connect s u a b p q) m = scaled-same (λ x. refl)
+      (scaled-enter (apply (enter (object a) (entry pipe (label-of (t .at (cell t s)))) blank) t) (object b) (entry pipe (label-of (t .at (cell t u)))) blank
+      (own-in-scale u) (scaled-enter t (object a) (entry pipe (label-of (t .at (cell t s)))) blank (own-in-scale s) v))
   call-scaled unknown m = v
 
 module _ (t : Tables) (v : Frozen t) where
@@ -77,4 +80,5 @@ module _ (t : Tables) (v : Frozen t) where
   call-frozen (maps s o p) m = record { bounded = v .bounded }
   call-frozen (mark s p) m = record { bounded = v .bounded }
   call-frozen (freeze n) m = record { bounded = ltb-false no-freeze n (is-false (ltb no-freeze n) (m (freezable n) (inl refl))) }
+  call-frozen (connect s u a b p q) m = record { bounded = v .bounded }
   call-frozen unknown m = v

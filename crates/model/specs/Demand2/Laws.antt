@@ -1,4 +1,4 @@
--- Refusal 9, both ways: an open or a map that is otherwise in order is refused with 9 if and only if after it some live thing reaches, through
+-- Refusal 9, both ways: an open, a map or a connect that is otherwise in order is refused with 9 if and only if after it some live thing reaches, through
 -- open handles, a file of a higher level; an exec if and only if the file's level is below the subject's need, that is, if and only if
 -- the subject reaches a file of a higher level than the program's. Refusal 15, likewise. For every tables, also those that no calls made. Assumes nothing.
 use mathlib.Core.Path.{_≡_, refl, sym, _∙_, ap, subst}
@@ -6,7 +6,7 @@ use mathlib.Core.Bool.{Bool, true, false, not, _&&_, cond}
 use mathlib.Core.Logic.{inl, inr, _↔_}
 use mathlib.Core.Option.{Option, none, some}
 use Prim.Native.Nat.{ℕ}
-use lib.Dec.{T, T-not, not-T, ltb, ltb→lt, lt→ltb, leb, leb→le, le→leb}
+use lib.Dec.{T, T-not, not-T, eqb, eqb→eq, eqb-refl, ltb, ltb→lt, lt→ltb, leb, leb→le, le→leb}
 use Rattle.model.specs.Bools.{cond-yes, both, both-of}
 use Rattle.model.specs.Label.{Label, level, leq, _⊑_, bot}
 use Rattle.model.specs.Label.Laws.{⊑-trans, bot-least}
@@ -15,7 +15,7 @@ use Rattle.model.specs.Flow.Laws.{need-upper, need-over}
 use Rattle.model.specs.Tables.{Dir, reading, writing, Entry, Tables, no-freeze, label-of, is-file, cell, edges, demand, needs, safe}
 use Rattle.model.specs.Tables.Laws.{not-safe}
 use Rattle.model.specs.Steps.{applies}
-use Rattle.model.specs.Calls.{opens, exec, maps, sheds, enough, suits, thawed, shut, broken, tests, In-order, refusal}
+use Rattle.model.specs.Calls.{opens, exec, maps, connect, sheds, channel, enough, suits, thawed, others, shut, broken, tests, In-order, refusal}
 use Rattle.model.specs.Calls.Refusals.{refused-is, refused-by, only}
 use Rattle.model.specs.Demand2.{Leaks, Offends, opened, Closed}
 
@@ -67,6 +67,30 @@ map-refused-iff t s o p = (
         (only t (enough (opens reading s o p)) (tests (maps s o p)) (inl tt, (inl tt, (inl tt, (inl tt, (inr refl, tt))))) (r .0)),
   )),
   λ r. refused-is t (maps s o p) (enough (opens reading s o p)) (inr (inr (inr (inr (inl refl))))) (unsafe-iff (opened t reading s o p) .1 (r .1)) (r .0),
+)
+
+-- RULES R9, R109, R121: a connect, with both pipes and all four handles
+pub connect-refused-iff : (t : Tables) (s u a b p q : ℕ) → (refusal t (connect s u a b p q) ≡ some 9) ↔
+    (In-order t (connect s u a b p q) 9 × Offends (applies (channel t s u a b p q) t))
+connect-refused-iff t s u a b p q = (
+  λ r. (let k = refused-by t (connect s u a b p q) 9 r in (
+    k .1,
+    unsafe-iff (applies (channel t s u a b p q) t) .0 (only t (enough (connect s u a b p q)) (tests (connect s u a b p q))
+        (inl tt, (inl tt, (inl tt, (inl tt, (inl tt, (inl tt, (inl tt, (inl tt, (inl tt, (inl tt, (inl tt, (inr refl, tt)))))))))))) (k .0)),
+  )),
+  λ r. refused-is t (connect s u a b p q) (enough (connect s u a b p q)) (inr (inr (inr (inr (inr (inr (inr (inr (inr (inr (inr (inl refl))))))))))))
+      (unsafe-iff (applies (channel t s u a b p q) t) .1 (r .1)) (r .0),
+)
+
+-- RULES R16, R120: it is refused with 16 if and only if both subjects are live and are the same
+pub connect-same-iff : (t : Tables) (s u a b p q : ℕ) → (refusal t (connect s u a b p q) ≡ some 16) ↔ (In-order t (connect s u a b p q) 16 × (s ≡ u))
+connect-same-iff t s u a b p q = (
+  λ r. (let k = refused-by t (connect s u a b p q) 16 r in (
+    k .1,
+    eqb→eq s u (only t (others s u) (tests (connect s u a b p q))
+        (inl tt, (inl tt, (inr refl, (inl tt, (inl tt, (inl tt, (inl tt, (inl tt, (inl tt, (inl tt, (inl tt, (inl tt, tt)))))))))))) (k .0)),
+  )),
+  λ r. refused-is t (connect s u a b p q) (others s u) (inr (inr (inl refl))) (subst (λ (z : ℕ). T (eqb s z)) (r .1) (eqb-refl s)) (r .0),
 )
 
 -- RULES R9, R110: an exec. The need is taken in the tables that are left once the exec dropped the marked handles and the mappings of s

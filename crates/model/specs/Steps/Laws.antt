@@ -45,6 +45,13 @@ place-cases h s p v s′ p′ k q = elim (row-cases h s (λ q. cond (eqb p q) v 
 pub place-same : (h : ℕ → ℕ → Option Handle) (s p : ℕ) (v : Option Handle) → place h s p v s p ≡ v
 place-same h s p v = cond-yes (eqb s s) (cond (eqb p p) v (h s p)) (h s p) (eqb-refl s) ∙ cond-yes (eqb p p) v (h s p) (eqb-refl p)
 
+-- another place of s, and a place of another subject
+pub place-other : (h : ℕ → ℕ → Option Handle) (s p : ℕ) (v : Option Handle) (p′ : ℕ) → T (not (eqb p p′)) → place h s p v s p′ ≡ h s p′
+place-other h s p v p′ n = cond-yes (eqb s s) (cond (eqb p p′) v (h s p′)) (h s p′) (eqb-refl s) ∙ cond-no (eqb p p′) v (h s p′) n
+
+pub place-apart : (h : ℕ → ℕ → Option Handle) (s p : ℕ) (v : Option Handle) (s′ p′ : ℕ) → T (not (eqb s s′)) → place h s p v s′ p′ ≡ h s′ p′
+place-apart h s p v s′ p′ n = cond-no (eqb s s′) (cond (eqb p p′) v (h s p′)) (h s′ p′) n
+
 -- what had an entry is not the thing that had none
 pub put-apart : (a : Thing → Option Entry) (x y : Thing) (v : Option Entry) (e : Entry) → a x ≡ none → a y ≡ some e → put a x v y ≡ a y
 put-apart a x y v e n q = cond-no (same x y) v (a y) (not-T (same x y) (λ s. Option·none-ne-some e (sym n ∙ ap a (same→eq x y s) ∙ q)))

@@ -17,10 +17,10 @@ use Rattle.model.specs.Flow.{Thing, subject, object}
 use Rattle.model.specs.Tables.{running, pipe, Dir, reading, writing, Entry, entry, Handle, handle, mapping, Tables, empty, with-at, subjects, places, is-some, label-of, cell, one, handles-of, handles}
 use Rattle.model.specs.Tables.Laws.{some-of, live-of, used-is, handles-by, handles-at}
 use Rattle.model.specs.Steps.{blank, copied, writes, runs, enter, leave, hold, holds, mix, freezes, put, apply, applies}
-use Rattle.model.specs.Steps.Laws.{applies-append}
+use Rattle.model.specs.Steps.Laws.{place-other, place-apart, applies-append}
 use Rattle.model.specs.Invariant.{Wf}
 use Rattle.model.specs.Invariant.Laws.{empty-wf}
-use Rattle.model.specs.Calls.{Call, admit, register, create, make-pipe, opens, access, fork, exec, close, exit, retire, maps, mark, freeze, unknown, Raw, decode, target, moves, followed, marking, ends-at-exec, lasting, sheds, steps, effect, Test, alive, new, vacant, taken, apart, broken, tests, refusal, next, after}
+use Rattle.model.specs.Calls.{Call, admit, register, create, make-pipe, opens, access, fork, exec, close, exit, retire, maps, mark, freeze, connect, unknown, Raw, decode, target, moves, followed, marking, ends-at-exec, lasting, sheds, channel, steps, effect, Test, alive, new, vacant, taken, apart, others, broken, tests, refusal, next, after}
 use Rattle.model.specs.Calls.Refusals.{allowed-iff}
 use Rattle.model.specs.Calls.Passed.{is-alive, is-new, is-place}
 use Rattle.model.specs.Calls.Moving.{rereads-keep}
@@ -182,6 +182,57 @@ module _ (t : Tables) (v : Wf t) where
       still = cond-yes (eqb s s) (cond (eqb r w) (some (handle reading o)) (t .hand s w)) (t .hand s w) (eqb-refl s)
           ∙ cond-no (eqb r w) (some (handle reading o)) (t .hand s w) (m (apart r w) (inr (inr (inr (inr (inl refl)))))) ∙ empty-place t s w hw
 
+  connect-count : (s r a b p q : ℕ) → ((e : Test) → In e (tests (connect s r a b p q)) → T (not (broken t e))) → count (applies (channel t s r a b p q) t) + 0 ≡ count t + 4
+  connect-count s r a b p q m =
+      let c₀ : count u ≡ count t = count-at t _ ∙ count-at t _ in
+      let c₁ : count u₁ ≡ count u + 1 = count-placed u s p (handle reading b) ls (is-place t s p sp) (empty-place t s p sp) in
+      let c₂ : count u₂ ≡ count u₁ + 1 = count-placed u₁ s q (handle writing a) ls (is-place t s q sq)
+          (place-other (t .hand) s p (some (handle reading b)) q pq ∙ empty-place t s q sq) in
+      let c₃ : count u₃ ≡ count u₂ + 1 = count-placed u₂ r p (handle reading a) lr (is-place t r p rp) (still p ∙ empty-place t r p rp) in
+      let c₄ : count (apply (hold r q (some (handle writing b))) u₃) ≡ count u₃ + 1 = count-placed u₃ r q (handle writing b) lr (is-place t r q rq)
+          (place-other (u₂ .hand) r p (some (handle reading a)) q pq ∙ still q ∙ empty-place t r q rq) in
+      omega arith
+    where
+      ls : s < subjects
+      ls = row-of t s (m (alive s) (inl refl))
+
+      lr : r < subjects
+      lr = row-of t r (m (alive r) (inr (inl refl)))
+
+      sp : T (not (broken t (vacant s p)))
+      sp = m (vacant s p) (inr (inr (inr (inr (inr (inr (inl refl)))))))
+
+      sq : T (not (broken t (vacant s q)))
+      sq = m (vacant s q) (inr (inr (inr (inr (inr (inr (inr (inl refl))))))))
+
+      rp : T (not (broken t (vacant r p)))
+      rp = m (vacant r p) (inr (inr (inr (inr (inr (inr (inr (inr (inl refl)))))))))
+
+      rq : T (not (broken t (vacant r q)))
+      rq = m (vacant r q) (inr (inr (inr (inr (inr (inr (inr (inr (inr (inl refl))))))))))
+
+      pq : T (not (eqb p q))
+      pq = m (apart p q) (inr (inr (inr (inr (inr (inr (inr (inr (inr (inr (inl refl)))))))))))
+
+      u : Tables
+      u = apply (enter (object b) (entry pipe (label-of (t .at (cell t r)))) blank) (apply (enter (object a) (entry pipe (label-of (t .at (cell t s)))) blank) t)
+
+      u₁ : Tables
+      u₁ = apply (hold s p (some (handle reading b))) u
+
+      u₂ : Tables
+      u₂ = apply (hold s q (some (handle writing a))) u₁
+
+      u₃ : Tables
+      u₃ = apply (hold r p (some (handle reading a))) u₂
+
+      -- the places of r are as they were
+      still : (j : ℕ) → u₂ .hand r j ≡ t .hand r j
+      still j = place-apart (u₁ .hand) s q (some (handle writing a)) r j sr ∙ place-apart (t .hand) s p (some (handle reading b)) r j sr
+        where
+          sr : T (not (eqb s r))
+          sr = m (others s r) (inr (inr (inl refl)))
+
   fork-count : (s c : ℕ) → ((e : Test) → In e (tests (fork s c)) → T (not (broken t e))) → count (applies (steps t (fork s c)) t) + 0 ≡ count t + held t s
   fork-count s c m = let n = is-new t (subject c) (m (new (subject c)) (inr (inl refl))) in
       let a : count (apply (holds c (t .hand s)) u) + held u c ≡ count u + held t s = count-row u c (t .hand s) (ltb→lt c subjects (n .0)) in
@@ -247,6 +298,7 @@ module _ (t : Tables) (v : Wf t) where
       ∙ placed-count s p (mapping o) (m (alive s) (inl refl)) (m (vacant s p) (inr (inr (inr (inl refl)))))
   stepped-count (mark s p) m = mark-count s p (m (alive s) (inl refl)) (m (taken s p) (inr (inl refl)))
   stepped-count (freeze n) m = ap (λ (l : List Handle). length l + 0) (handles-by (apply (freezes n) t) t refl)
+  stepped-count (connect s r a b p q) m = connect-count s r a b p q m
   stepped-count unknown m = refl
 
 pub effect-count : (t : Tables) (c : Call) → Wf t → refusal t c ≡ none → length (handles (effect t c)) + removes t c ≡ length (handles t) + makes t c
