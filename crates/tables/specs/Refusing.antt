@@ -8,10 +8,10 @@ use lib.Dec.{eqb}
 use Rattle.model.specs.Tables.{Tables, Dir, reading, writing}
 use Rattle.model.specs.Calls.{Call, tests, breaks, first, refusal}
 
--- the first condition of RULES R2 to R8 that holds, 0 where none does
-abbrev pub found : Bool → Bool → Bool → Bool → Bool → Bool → Bool → ℕ
-found absent used missing pipe high place turned =
-    cond absent 2 (cond used 3 (cond missing 4 (cond pipe 5 (cond high 6 (cond place 7 (cond turned 8 0))))))
+-- the first condition of RULES R2 to R8 and R16 that holds, in the order of the rules, 0 where none does
+abbrev pub found : Bool → Bool → Bool → Bool → Bool → Bool → Bool → Bool → ℕ
+found absent same used missing pipe high place turned =
+    cond absent 2 (cond same 16 (cond used 3 (cond missing 4 (cond pipe 5 (cond high 6 (cond place 7 (cond turned 8 0)))))))
 
 -- the rows that are asked when those have passed, in their order
 abbrev pub late : List ℕ

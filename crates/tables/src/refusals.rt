@@ -1,14 +1,14 @@
-// The conditions of RULES R2 to R8 over the few records that a call looks at: for each call the number of its refusal, 0 where
+// The conditions of RULES R2 to R8 and R16 over the few records that a call looks at: for each call the number of its refusal, 0 where
 // none of them holds. R9 and R10 ask whole tables: the caller asks them next, and `last` has their order and that of R15.
 //
 // The records are those at the numbers that the call names, empty ones where a number is out of range (`looks`).
 ghost use mathlib.Core.Path.{_≡_};
-ghost use mathlib.Core.Bool.{_&&_};
+ghost use mathlib.Core.Bool.{_&&_, _||_};
 ghost use Prim.Native.Nat.{ℕ};
 ghost use Rattle.model.specs.Flow.{subject, object};
 ghost use Rattle.model.specs.Tables.{Tables, Dir, reading, writing};
 ghost use Rattle.model.specs.Invariant.{Wf};
-ghost use Rattle.model.specs.Calls.{Call, admit, register, create, make-pipe, opens, access, fork, exec, close, exit, retire, maps, mark, freeze, thawed, broken};
+ghost use Rattle.model.specs.Calls.{Call, admit, register, create, make-pipe, opens, access, fork, exec, close, exit, retire, maps, mark, freeze, connect, thawed, broken};
 ghost use Rattle.tables.specs.Records.{subject-entry, object-entry, held};
 ghost use Rattle.tables.specs.Refusing.{found, Refuses, Late, Refused, direction};
 ghost use Rattle.tables.specs.Working.{used-subject, used-object, used-place, writes-by};
@@ -29,6 +29,7 @@ use crate::looks;
 // The number of the first condition that holds, in the order of the rules; 0 where none does.
 fn first(
     absent: bool,
+    same: bool,
     used: bool,
     missing: bool,
     pipe: bool,
@@ -36,10 +37,13 @@ fn first(
     place: bool,
     turned: bool,
 ) -> u8
-    ensures { λ r. ⌜ r ≡ found absent used missing pipe high place turned ⌝ }
+    ensures { λ r. ⌜ r ≡ found absent same used missing pipe high place turned ⌝ }
 {
     if absent {
         return 2;
+    }
+    if same {
+        return 16;
     }
     if used {
         return 3;
@@ -99,6 +103,15 @@ fn place_used(p: u32, h: Handle) -> bool
     h.way != EMPTY
 }
 
+// RULES R7 of two places that handles are to take.
+fn ends_used(p: u32, q: u32, h: Handle, k: Handle) -> bool
+    ensures { λ r. ⌜ r ≡ (used-place p h || used-place q k) ⌝ }
+{
+    let at_p = place_used(p, h);
+    let at_q = place_used(q, k);
+    looks::either(at_p, at_q)
+}
+
 // RULES R8: a handle of this way writes; an empty place has none.
 fn is_writing(way: u8) -> bool
     ensures { λ r. ⌜ r ≡ writes-by way ⌝ }
@@ -116,7 +129,7 @@ pub fn of_admit(s: u32, level: u32, x: Subject) -> u8
 {
     let used = subject_used(s, x);
     let high = HIGHEST < level;
-    first(false, used, false, false, high, false, false)
+    first(false, false, used, false, false, high, false, false)
 }
 
 // Call 2; y stands at o.
@@ -125,7 +138,7 @@ pub fn of_register(o: u32, level: u32, y: Object) -> u8
 {
     let used = object_used(o, y);
     let high = HIGHEST < level;
-    first(false, used, false, false, high, false, false)
+    first(false, false, used, false, false, high, false, false)
 }
 
 // Call 3; x stands at s, y at o.
@@ -135,7 +148,7 @@ pub fn of_create(o: u32, x: Subject, y: Object) -> u8
 {
     let absent = x.live == 0;
     let used = object_used(o, y);
-    first(absent, used, false, false, false, false, false)
+    first(absent, false, used, false, false, false, false, false)
 }
 
 // Call 4; x stands at s, y at o, h at place r and k at place w.
@@ -145,12 +158,48 @@ pub fn of_pipe(o: u32, r: u32, w: u32, x: Subject, y: Object, h: Handle, k: Hand
 {
     let absent = x.live == 0;
     let used = object_used(o, y);
-    let at_r = place_used(r, h);
-    let at_w = place_used(w, k);
+    let taken = ends_used(r, w, h, k);
     let same = r == w;
-    let w_or_same = looks::either(at_w, same);
-    let place = looks::either(at_r, w_or_same);
-    first(absent, used, false, false, false, place, false)
+    let place = looks::either(taken, same);
+    first(absent, false, used, false, false, false, place, false)
+}
+
+// Call 17; x stands at s and z at u, y at a and v at b, h and k at the places p and q of s, i and j at those of u.
+pub fn of_connect(
+    s: u32,
+    u: u32,
+    a: u32,
+    b: u32,
+    p: u32,
+    q: u32,
+    x: Subject,
+    z: Subject,
+    y: Object,
+    v: Object,
+    h: Handle,
+    k: Handle,
+    i: Handle,
+    j: Handle,
+) -> u8
+    ensures { λ n. ⌜ ((t : Tables) → Wf t → t .at (subject s) ≡ subject-entry x → t .at (subject u) ≡ subject-entry z →
+        t .at (object a) ≡ object-entry y → t .at (object b) ≡ object-entry v →
+        t .hand s p ≡ held h → t .hand s q ≡ held k → t .hand u p ≡ held i → t .hand u q ≡ held j → Refuses t (connect s u a b p q) n) ⌝ }
+{
+    let no_s = x.live == 0;
+    let no_u = z.live == 0;
+    let absent = looks::either(no_s, no_u);
+    let itself = s == u;
+    let used_a = object_used(a, y);
+    let used_b = object_used(b, v);
+    let alike = a == b;
+    let numbers = looks::either(used_a, used_b);
+    let used = looks::either(numbers, alike);
+    let at_s = ends_used(p, q, h, k);
+    let at_u = ends_used(p, q, i, j);
+    let taken = looks::either(at_s, at_u);
+    let one = p == q;
+    let place = looks::either(taken, one);
+    first(absent, itself, used, false, false, false, place, false)
 }
 
 // Calls 5 and 6; x stands at s, y at o, h at place p.
@@ -161,7 +210,7 @@ pub fn of_open(p: u32, x: Subject, y: Object, h: Handle) -> u8
     let absent = x.live == 0;
     let missing = y.kind == FREE;
     let place = place_used(p, h);
-    first(absent, false, missing, false, false, place, false)
+    first(absent, false, false, missing, false, false, place, false)
 }
 
 // Call 14; x stands at s, y at o, h at place p.
@@ -173,7 +222,7 @@ pub fn of_map(p: u32, x: Subject, y: Object, h: Handle) -> u8
     let missing = y.kind == FREE;
     let pipe = PIPE <= y.kind;
     let place = place_used(p, h);
-    first(absent, false, missing, pipe, false, place, false)
+    first(absent, false, false, missing, pipe, false, place, false)
 }
 
 // Call 7; x stands at s, h at place p.
@@ -184,7 +233,7 @@ pub fn of_read(x: Subject, h: Handle) -> u8
     let absent = x.live == 0;
     let empty = h.way == EMPTY;
     let turned = is_writing(h.way);
-    first(absent, false, false, false, false, empty, turned)
+    first(absent, false, false, false, false, false, empty, turned)
 }
 
 // Call 8; x stands at s, h at place p.
@@ -195,7 +244,7 @@ pub fn of_write(x: Subject, h: Handle) -> u8
     let absent = x.live == 0;
     let empty = h.way == EMPTY;
     let turned = looks::is_reading(h.way);
-    first(absent, false, false, false, false, empty, turned)
+    first(absent, false, false, false, false, false, empty, turned)
 }
 
 // Call 9; x stands at s, z at c.
@@ -205,7 +254,7 @@ pub fn of_fork(c: u32, x: Subject, z: Subject) -> u8
 {
     let absent = x.live == 0;
     let used = subject_used(c, z);
-    first(absent, used, false, false, false, false, false)
+    first(absent, false, used, false, false, false, false, false)
 }
 
 // Call 10; x stands at s, y at o.
@@ -216,7 +265,7 @@ pub fn of_exec(x: Subject, y: Object) -> u8
     let absent = x.live == 0;
     let missing = y.kind == FREE;
     let pipe = PIPE <= y.kind;
-    first(absent, false, missing, pipe, false, false, false)
+    first(absent, false, false, missing, pipe, false, false, false)
 }
 
 // Calls 11 and 15; x stands at s, h at place p.
@@ -226,7 +275,7 @@ pub fn of_held(x: Subject, h: Handle) -> u8
 {
     let absent = x.live == 0;
     let empty = h.way == EMPTY;
-    first(absent, false, false, false, false, empty, false)
+    first(absent, false, false, false, false, false, empty, false)
 }
 
 // Call 12; x stands at s.
@@ -234,7 +283,7 @@ pub fn of_exit(x: Subject) -> u8
     ensures { λ r. ⌜ ((t : Tables) (s : ℕ) → Wf t → t .at (subject s) ≡ subject-entry x → Refuses t (exit s) r) ⌝ }
 {
     let absent = x.live == 0;
-    first(absent, false, false, false, false, false, false)
+    first(absent, false, false, false, false, false, false, false)
 }
 
 // Call 13; y stands at o.
@@ -243,7 +292,7 @@ pub fn of_retire(y: Object) -> u8
 {
     let missing = y.kind == FREE;
     let pipe = PIPE <= y.kind;
-    first(false, false, missing, pipe, false, false, false)
+    first(false, false, false, missing, pipe, false, false, false)
 }
 
 // Call 16.
@@ -251,7 +300,7 @@ pub fn of_freeze(level: u32) -> u8
     ensures { λ r. ⌜ ((t : Tables) → Wf t → Refuses t (freeze level) r) ⌝ }
 {
     let high = (NO_FREEZE as u32) < level;
-    first(false, false, false, false, high, false, false)
+    first(false, false, false, false, false, high, false, false)
 }
 
 // RULES R15 of an open for reading, or for writing; y stands at o. A freeze of NO_FREEZE and above freezes nothing.

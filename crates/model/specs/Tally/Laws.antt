@@ -187,10 +187,10 @@ module _ (t : Tables) (v : Wf t) where
       let c₀ : count u ≡ count t = count-at t _ ∙ count-at t _ in
       let c₁ : count u₁ ≡ count u + 1 = count-placed u s p (handle reading b) ls (is-place t s p sp) (empty-place t s p sp) in
       let c₂ : count u₂ ≡ count u₁ + 1 = count-placed u₁ s q (handle writing a) ls (is-place t s q sq)
-          (place-other (t .hand) s p (some (handle reading b)) q pq ∙ empty-place t s q sq) in
+      (place-other (t .hand) s p (some (handle reading b)) q pq ∙ empty-place t s q sq) in
       let c₃ : count u₃ ≡ count u₂ + 1 = count-placed u₂ r p (handle reading a) lr (is-place t r p rp) (still p ∙ empty-place t r p rp) in
       let c₄ : count (apply (hold r q (some (handle writing b))) u₃) ≡ count u₃ + 1 = count-placed u₃ r q (handle writing b) lr (is-place t r q rq)
-          (place-other (u₂ .hand) r p (some (handle reading a)) q pq ∙ still q ∙ empty-place t r q rq) in
+      (place-other (u₂ .hand) r p (some (handle reading a)) q pq ∙ still q ∙ empty-place t r q rq) in
       omega arith
     where
       ls : s < subjects

@@ -18,6 +18,7 @@ returns c = λ t w x.
     finds (record {
       one = refl;
       two = refl;
+      sixteen = refl;
       three = alone (new-subject-is t (a .s) (a .x) x ∙ sym
           (c .before .subject-used .ensures));
       four = refl;

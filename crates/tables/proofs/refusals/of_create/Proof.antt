@@ -18,6 +18,7 @@ returns c = λ t s w x y.
     finds (record {
       one = refl;
       two = alone (alive-is t w s (a .x) x);
+      sixteen = refl;
       three = alone
           (new-object-is t (a .o) (a .y) y ∙ sym
           (c .before .object-used .ensures));

@@ -15,6 +15,7 @@ returns c = λ t s o w x y.
     finds (record {
       one = refl;
       two = alone (alive-is t w s (a .x) x);
+      sixteen = refl;
       three = refl;
       four = alone (present-is t w o (a .y) y);
       five = alone

@@ -18,6 +18,7 @@ returns c = λ t s w x z.
     finds (record {
       one = refl;
       two = alone (alive-is t w s (a .x) x);
+      sixteen = refl;
       three = alone
           (new-subject-is t (a .c) (a .z) z ∙ sym
           (c .before .subject-used .ensures));

@@ -17,6 +17,7 @@ returns c = λ t w.
     finds (record {
       one = refl;
       two = refl;
+      sixteen = refl;
       three = refl;
       four = refl;
       five = refl;

@@ -18,6 +18,7 @@ returns c = λ t d s o w x y h.
     finds (record {
       one = refl;
       two = alone (alive-is t w s (a .x) x);
+      sixteen = refl;
       three = refl;
       four = alone
           (present-is t w o (a .y) y);

@@ -9,37 +9,30 @@ use Rattle.tables.proofs.refusals.of_pipe.Tie as tie
 object-used-requires : tie.Need-object-used-requires
 object-used-requires c κs = search needs
 
-place-used-requires : tie.Need-place-used-requires
-place-used-requires c κs = search needs
-
-place-used-requires-2 : tie.Need-place-used-requires-2
-place-used-requires-2 c κs = search needs
+ends-used-requires : tie.Need-ends-used-requires
+ends-used-requires c κs = search needs
 
 either-requires : tie.Need-either-requires
 either-requires c κs = search needs
-
-either-requires-2 : tie.Need-either-requires-2
-either-requires-2 c κs = search needs
 
 first-requires : tie.Need-first-requires
 first-requires c κs = search needs
 
 returns : tie.Need-returns
 returns c = λ t s w x y h k.
-    let a = c .before .before .before .before .before .before .before .args in
+    let a = c .before .before .before .before .before .args in
     finds (record {
       one = refl;
       two = alone (alive-is t w s (a .x) x);
-      three = alone (new-object-is t (a .o) (a .y) y ∙ sym (c .before .before .before .before .before .object-used .ensures));
+      sixteen = refl;
+      three = alone (new-object-is t (a .o) (a .y) y ∙ sym (c .before .before .before .object-used .ensures));
       four = refl;
       five = refl;
       six = refl;
-      seven = places _ (vacant-is t s (a .r) (a .h) h ∙ sym (c .before .before .before .before .place-used .ensures))
-          (vacant-is t s (a .w) (a .k) k ∙ sym (c .before .before .before .place-used2 .ensures)) (c .before .before .either .ensures)
-          (c .before .either2 .ensures);
+      seven = places _ (vacant-is t s (a .r) (a .h) h) (vacant-is t s (a .w) (a .k) k) (c .before .before .ends-used .ensures) (c .before .either .ensures);
       eight = refl;
     })
     (c .first .ensures)
 
 pub of-pipe-spec : {M : Type 1} → statement M
-of-pipe-spec = tie.close (tie.spec object-used-requires place-used-requires place-used-requires-2 either-requires either-requires-2 first-requires returns)
+of-pipe-spec = tie.close (tie.spec object-used-requires ends-used-requires either-requires first-requires returns)

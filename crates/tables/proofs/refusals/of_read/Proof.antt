@@ -18,6 +18,7 @@ returns c = λ t s p w x h.
     finds (record {
       one = refl;
       two = alone (alive-is t w s (a .x) x);
+      sixteen = refl;
       three = refl;
       four = refl;
       five = refl;

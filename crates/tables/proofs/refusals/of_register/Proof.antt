@@ -18,6 +18,7 @@ returns c = λ t w y.
     finds (record {
       one = refl;
       two = refl;
+      sixteen = refl;
       three = alone (new-object-is t (a .o) (a .y) y ∙ sym
           (c .before .object-used .ensures));
       four = refl;

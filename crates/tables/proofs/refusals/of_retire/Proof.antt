@@ -15,6 +15,7 @@ returns c = λ t o w y.
     finds (record {
       one = refl;
       two = refl;
+      sixteen = refl;
       three = refl;
       four = alone (present-is t w o (a .y) y);
       five = alone
