@@ -21,9 +21,9 @@ use Rattle.model.specs.Tables.{Kind, running, file, pipe, Dir, reading, writing
 use Rattle.model.specs.Tables.{Handle as Held}
 use Rattle.model.specs.Tables.Laws.{live-of, used-is, cell-self, handles-by, handles-at, open-here, open-at}
 use Rattle.model.specs.Steps.{Step, put, row, place, sunk, fall, applies, ended, reap}
-use Rattle.model.specs.Steps.Laws.{put-cases, put-same, ended-subject, reap-more, file-keeps}
+use Rattle.model.specs.Steps.Laws.{put-cases, put-same, put-apart, place-other, place-apart, ended-subject, reap-more, file-keeps}
 use Rattle.model.specs.Invariant.{Wf}
-use Rattle.model.specs.Calls.{Call, admit, register, create, make-pipe, opens, access, fork, exec, close, exit, retire, maps, mark, freeze, target, rereads, marking, lasting, sheds, steps, effect, Test, alive, new, present, vacant, taken, apart, broken, tests, refusal, level-at, shown, refused, allowed, lowers, last-label, outcome, said, answer}
+use Rattle.model.specs.Calls.{Call, admit, register, create, make-pipe, opens, access, fork, exec, close, exit, retire, maps, mark, freeze, connect, target, rereads, marking, lasting, sheds, channel, steps, effect, Test, alive, new, present, vacant, taken, apart, unlike, others, broken, tests, refusal, level-at, shown, refused, allowed, lowers, last-label, outcome, said, answer}
 use Rattle.model.specs.Calls.{Answer as Told}
 use Rattle.model.specs.Calls.Refusals.{allowed-iff}
 use Rattle.model.specs.Calls.Moving.{reread-by, rereads-none, rereads-file, None-lower, lowers-none, lowers-one}
@@ -274,6 +274,83 @@ fork-does t s c x w e q = joined t (fork s c) (subject c) running (x .level) (ro
     bare : (p : ℕ) (k : Held) → t .hand c p ≡ some k → ⊥
     bare p k z = subst (λ (o : Option Entry). T (is-some o)) (fresh t (fork s c) e (subject c) (inr (inl refl)))
         (subst T (used-is t (subject c)) (live-of t (subject c) (w .ends c p k z .from) .1))
+
+-- ── connect ──
+pub connect-does : (t : Tables) (s u a b p q : ℕ) (x z : Subject) → refusal t (connect s u a b p q) ≡ none → t .at (subject s) ≡ subject-entry x
+    → t .at (subject u) ≡ subject-entry z
+    → Does t (connect s u a b p q) (allowed (x .level))
+    (with-hand (with-at t (put (put (t .at) (object a) (some (entry pipe (label (x .level))))) (object b) (some (entry pipe (label (z .level))))))
+    (place (place (place (place (t .hand) s p (some (handle reading b))) s q (some (handle writing a))) u p (some (handle reading a))) u q (some (handle writing b))))
+unfolding effect
+connect-does t s u a b p q x z e i j = plain t c (cell t s) (x .level) n e (ap (reap (handles t)) made ∙ reap-more t n (more-open t n more)) refl new-ones
+    (ap (last-label (t .at (cell t s))) (put-apart (put (t .at) (object a) ea) (object b) (cell t s) eb (own-entry .0) free-b (still-own ∙ own-entry .1) ∙ still-own)
+    ∙ ap (λ (v : Option Entry). last-label v v) (cell-is t c e s (inl refl) x i))
+  where
+    c : Call
+    c = connect s u a b p q
+
+    ea : Option Entry
+    ea = some (entry pipe (label (x .level)))
+
+    eb : Option Entry
+    eb = some (entry pipe (label (z .level)))
+
+    h₁ : ℕ → ℕ → Option Held
+    h₁ = place (t .hand) s p (some (handle reading b))
+
+    h₂ : ℕ → ℕ → Option Held
+    h₂ = place h₁ s q (some (handle writing a))
+
+    h₃ : ℕ → ℕ → Option Held
+    h₃ = place h₂ u p (some (handle reading a))
+
+    n : Tables
+    n = with-hand (with-at t (put (put (t .at) (object a) ea) (object b) eb)) (place h₃ u q (some (handle writing b)))
+
+    made : applies (channel t s u a b p q) t ≡ n
+    made = ap₂ (λ (k l : Label). with-hand (with-at t (put (put (t .at) (object a) (some (entry pipe k))) (object b) (some (entry pipe l))))
+        (place h₃ u q (some (handle writing b)))) (own t c e s (inl refl) x i) (own t c e u (inr (inl refl)) z j)
+
+    free-a : t .at (object a) ≡ none
+    free-a = fresh t c e (object a) (inr (inr (inr (inl refl))))
+
+    -- a and b are apart, so b is still free
+    free-b : put (t .at) (object a) ea (object b) ≡ none
+    free-b = cond-no (eqb a b) ea (t .at (object b)) (passed t c e (unlike a b) (inr (inr (inr (inr (inr (inl refl)))))))
+        ∙ fresh t c e (object b) (inr (inr (inr (inr (inl refl)))))
+
+    own-entry : (d : Entry) × (t .at (cell t s) ≡ some d)
+    own-entry = (_, cell-is t c e s (inl refl) x i)
+
+    still-own : put (t .at) (object a) ea (cell t s) ≡ t .at (cell t s)
+    still-own = put-apart (t .at) (object a) (cell t s) ea (own-entry .0) free-a (own-entry .1)
+
+    new-ones : (y : Thing) (d : Entry) → n .at y ≡ some d → (t .at y ≡ some d) ⊎ (t .at y ≡ none)
+    new-ones y d k = elim (put-cases (put (t .at) (object a) ea) (object b) eb y (some d) k) [
+      | inl l ↦ inr (was-free (ap (put (t .at) (object a) ea) (sym (l .0)) ∙ free-b))
+      | inr l ↦ new-one t (object a) ea free-a y d (l .1)
+    ]
+      where
+        was-free : put (t .at) (object a) ea y ≡ none → t .at y ≡ none
+        was-free f = elim (put-cases (t .at) (object a) ea y none f) [ inl l ↦ absurd (Option·none-ne-some _ (sym (l .1))) | inr l ↦ l .1 ]
+
+    pq : T (not (eqb p q))
+    pq = passed t c e (apart p q) (inr (inr (inr (inr (inr (inr (inr (inr (inr (inr (inl refl)))))))))))
+
+    su : T (not (eqb s u))
+    su = passed t c e (others s u) (inr (inr (inl refl)))
+
+    still-u : (k : ℕ) → h₂ u k ≡ t .hand u k
+    still-u k = place-apart h₁ s q (some (handle writing a)) u k su ∙ place-apart (t .hand) s p (some (handle reading b)) u k su
+
+    more : (s′ p′ : ℕ) (k : Held) → t .hand s′ p′ ≡ some k → place h₃ u q (some (handle writing b)) s′ p′ ≡ some k
+    more s′ p′ k f =
+        place-more h₃ u q (some (handle writing b)) (place-other h₂ u p (some (handle reading a)) q pq ∙ still-u q
+        ∙ place-free t c e u q (inr (inr (inr (inr (inr (inr (inr (inr (inr (inl refl))))))))))) s′ p′ k
+        (place-more h₂ u p (some (handle reading a)) (still-u p ∙ place-free t c e u p (inr (inr (inr (inr (inr (inr (inr (inr (inl refl)))))))))) s′ p′ k
+        (place-more h₁ s q (some (handle writing a)) (place-other (t .hand) s p (some (handle reading b)) q pq
+        ∙ place-free t c e s q (inr (inr (inr (inr (inr (inr (inr (inl refl))))))))) s′ p′ k
+        (place-more (t .hand) s p (some (handle reading b)) (place-free t c e s p (inr (inr (inr (inr (inr (inr (inl refl)))))))) s′ p′ k f)))
 
 -- ── mark ──
 pub mark-does : (t : Tables) (s p : ℕ) (x : Subject) → refusal t (mark s p) ≡ none → t .at (subject s) ≡ subject-entry x

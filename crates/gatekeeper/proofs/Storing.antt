@@ -165,33 +165,91 @@ module _ (m : Monitor) (g : Owned m) where
       same = omega (arith, low)
 
   -- ── pipe ──
-  pub pipes : (s o r w : ℕ) (x : Subject) → refusal (view m) (make-pipe s o r w) ≡ none → view m .at (subject s) ≡ subject-entry x
-      → Acts m (make-pipe s o r w) (allowed (x .level)) (monitor m (m .subjects) (set (m .objects) (o % 64) (record { kind = 2; level = x .level }))
-      (set (set (m .handles) (s % 32 * 16 + r % 16) (record { way = 1; object = o % 64; mark = 0 })) (s % 32 * 16 + w % 16) (record { way = 2; object = o % 64; mark = 0 })))
-  pipes s o r w x e q = acts m (make-pipe s o r w) (allowed (x .level)) _ _ (pipe-does (view m) s o r w x e q)
-      (store-handle (beside m) (m .subjects) (set (m .objects) (o % 64) y) (set (m .handles) (s % 32 * 16 + r % 16) h) s w k
-      (simp length-set (handles-long m g)) row-is (place-low (view m) (make-pipe s o r w) e s w (inr (inr (inr (inl refl)))))
-      ∙ ap (λ (u : Tables). with-hand u (place (u .hand) s w (held k))) (store-handle (beside m) (m .subjects) (set (m .objects) (o % 64) y) (m .handles) s r h
-      (handles-long m g) row-is (place-low (view m) (make-pipe s o r w) e s r (inr (inr (inl refl)))))
-      ∙ ap (λ (u : Tables). with-hand (with-hand u (place (u .hand) s r (held h))) (place (place (u .hand) s r (held h)) s w (held k)))
-      (put-object o y (new-column (view m) (make-pipe s o r w) e o (inr (inl refl))))
-      ∙ ap (λ (n : ℕ). with-hand (with-at (view m) (put (view m .at) (object o) (some (entry pipe (label (x .level))))))
-      (place (place (view m .hand) s r (some (handle reading n))) s w (some (handle writing n)))) same)
+  pub pipes : (s o r w : ℕ) (x : Subject) (next : List Handle) → refusal (view m) (make-pipe s o r w) ≡ none → view m .at (subject s) ≡ subject-entry x
+      → Joins (m .handles) (s % 32) (r % 16) (w % 16) (o % 64) (o % 64) next
+      → Acts m (make-pipe s o r w) (allowed (x .level)) (monitor m (m .subjects) (set (m .objects) (o % 64) (record { kind = 2; level = x .level })) next)
+  unfolding tables-of
+  pipes s o r w x next e q f = acts m (make-pipe s o r w) (allowed (x .level)) _ _ (pipe-does (view m) s o r w x e q)
+      (f (beside m) (m .subjects) (set (m .objects) (o % 64) y)
+      ∙ ap (λ (u : Tables). with-hand u (joined (hands (m .handles)) (s % 32) (r % 16) (w % 16) (o % 64) (o % 64))) (put-object o y low)
+      ∙ ap (λ (h : ℕ → ℕ → Option Held). with-hand (with-at (view m) (put (view m .at) (object o) (some (entry pipe (label (x .level)))))) h)
+      (joined-same (hands (m .handles)) s r w o o (row-low (view m) (make-pipe s o r w) e s (inl refl)) (place-low (view m) (make-pipe s o r w) e s r (inr (inr (inl refl))))
+      (place-low (view m) (make-pipe s o r w) e s w (inr (inr (inr (inl refl))))) low low))
     where
-      same : o % 64 ≡ o
-      same = let l = new-column (view m) (make-pipe s o r w) e o (inr (inl refl)) in omega arith
-
-      row-is : s < 32
-      row-is = row-low (view m) (make-pipe s o r w) e s (inl refl)
+      low : o < 64
+      low = new-column (view m) (make-pipe s o r w) e o (inr (inl refl))
 
       y : Object
       y = record { kind = 2; level = x .level }
 
-      h : Handle
-      h = record { way = 1; object = o % 64; mark = 0 }
+  -- ── connect ──
+  module _ (s u a b p q : ℕ) (x z : Subject) (one next : List Handle) (w : Wf (view m)) (k : Refuses (view m) (connect s u a b p q) 0)
+      (i : view m .at (subject s) ≡ subject-entry x) (j : view m .at (subject u) ≡ subject-entry z)
+      (f : Joins (m .handles) (s % 32) (p % 16) (q % 16) (b % 64) (a % 64) one) (g′ : Joins one (u % 32) (p % 16) (q % 16) (a % 64) (b % 64) next) where
+    c : Call
+    c = connect s u a b p q
 
-      k : Handle
-      k = record { way = 2; object = o % 64; mark = 0 }
+    passes : (d : Test) → In d (tests (connect s u a b p q)) → T (earlier (number d) 9 order && (earlier (number d) 10 order && earlier (number d) 15 order)) → T (not (broken (view m) d))
+    passes = early-passed (view m) (connect s u a b p q) k
+
+    low-row : (v : ℕ) → In (alive v) (tests (connect s u a b p q)) → v < 32
+    low-row v d = ltb→lt v 32 (live-of (view m) (subject v) (is-alive (view m) v (passes (alive v) d tt)) .0)
+
+    low-a : a < 64
+    low-a = ltb→lt a 64 (is-new (view m) (object a) (passes (new (object a)) (inr (inr (inr (inl refl)))) tt) .0)
+
+    low-b : b < 64
+    low-b = ltb→lt b 64 (is-new (view m) (object b) (passes (new (object b)) (inr (inr (inr (inr (inl refl))))) tt) .0)
+
+    low-p′ : p < 16
+    low-p′ = is-place (view m) s p (passes (vacant s p) (inr (inr (inr (inr (inr (inr (inl refl))))))) tt)
+
+    low-q′ : q < 16
+    low-q′ = is-place (view m) s q (passes (vacant s q) (inr (inr (inr (inr (inr (inr (inr (inl refl)))))))) tt)
+
+    abbrev pipe-of : ℕ → Object
+    pipe-of l = record { kind = 2; level = l }
+
+    abbrev both-pipes : List Object
+    both-pipes = set (set (m .objects) (a % 64) (pipe-of (x .level))) (b % 64) (pipe-of (z .level))
+
+    -- both pipes and all four handles
+    connected : tables-of (beside m) (m .subjects) both-pipes next ≡ with-hand
+        (with-at (view m) (put (put (view m .at) (object a) (some (entry pipe (label (x .level))))) (object b) (some (entry pipe (label (z .level))))))
+        (joined (joined (view m .hand) s p q b a) u p q a b)
+    unfolding tables-of
+    connected = g′ (beside m) (m .subjects) both-pipes
+        ∙ ap (λ (v : Tables). with-hand v (joined (v .hand) (u % 32) (p % 16) (q % 16) (a % 64) (b % 64))) (f (beside m) (m .subjects) both-pipes)
+        ∙ ap (λ (v : Tables). with-hand v (joined (joined (hands (m .handles)) (s % 32) (p % 16) (q % 16) (b % 64) (a % 64)) (u % 32) (p % 16) (q % 16) (a % 64) (b % 64)))
+        (store-object (beside m) (m .subjects) (set (m .objects) (a % 64) (pipe-of (x .level))) (m .handles) b (pipe-of (z .level)) (simp length-set (objects-long m g)) low-b
+        ∙ ap (λ (v : Tables). with-at v (put (v .at) (object b) (some (entry pipe (label (z .level)))))) (put-object a (pipe-of (x .level)) low-a))
+        ∙ ap (λ (h : ℕ → ℕ → Option Held). with-hand
+        (with-at (view m) (put (put (view m .at) (object a) (some (entry pipe (label (x .level))))) (object b) (some (entry pipe (label (z .level)))))) h)
+        (ap (λ (h : ℕ → ℕ → Option Held). joined h (u % 32) (p % 16) (q % 16) (a % 64) (b % 64))
+        (joined-same (hands (m .handles)) s p q b a (low-row s (inl refl)) low-p′ low-q′ low-b low-a)
+        ∙ joined-same (joined (hands (m .handles)) s p q b a) u p q a b (low-row u (inr (inl refl))) low-p′ low-q′ low-a low-b)
+
+    -- which is what the rules' steps make
+    stepped : tables-of (beside m) (m .subjects) both-pipes next ≡ applies (channel (view m) s u a b p q) (view m)
+    stepped = connected ∙ ap₂ (λ (k l : Label). with-hand
+        (with-at (view m) (put (put (view m .at) (object a) (some (entry pipe k))) (object b) (some (entry pipe l)))) (joined (joined (view m .hand) s p q b a) u p q a b))
+        (sym (own-label s x (inl refl) i)) (sym (own-label u z (inr (inl refl)) j))
+      where
+        own-label : (v : ℕ) (y : Subject) → In (alive v) (tests (connect s u a b p q)) → view m .at (subject v) ≡ subject-entry y
+            → label-of (view m .at (cell (view m) v)) ≡ label (y .level)
+        own-label v y d e = ap label-of (ap (view m .at) (cell-self (view m) v) ∙ full-subject (view m) v y e (is-alive (view m) v (passes (alive v) d tt)))
+
+    pub connect-late : (r : Bool) → Shorts (m .subjects) both-pipes next r → Late (view m) (connect s u a b p q) r false false
+    connect-late r h = record { nine = alone tested; ten = refl; fifteen = refl }
+      where
+        tested : broken (view m) (enough (connect s u a b p q)) ≡ r
+        tested = sym (h (beside m) (subst Wf (sym stepped) (connect-wf (view m) w s u a b p q every)) ∙ ap (λ (v : Tables). not (safe v)) stepped)
+          where
+            every : (d : Test) → In d (tests (connect s u a b p q)) → T (not (broken (view m) d))
+            every d n = {!!}
+
+    pub connects : refusal (view m) (connect s u a b p q) ≡ none → Acts m (connect s u a b p q) (allowed (x .level)) (monitor m (m .subjects) both-pipes next)
+    connects e = acts m (connect s u a b p q) (allowed (x .level)) _ _ (connect-does (view m) s u a b p q x z e i j) connected
 
   -- ── close, exit, fork ──
   pub closes : (s p : ℕ) (x : Subject) (h : Handle) (r : Object) → Wf (view m) → refusal (view m) (close s p) ≡ none → view m .at (subject s) ≡ subject-entry x

@@ -16,6 +16,6 @@ abbrev pub view : Monitor → Tables
 view m = tables-of (beside m) (m .subjects) (m .objects) (m .handles)
 
 -- ── direct calls ──
--- RULES C106: a code and four numbers
-abbrev pub direct : ℕ → ℕ → ℕ → ℕ → ℕ → Raw
-direct code a b c d = record { code = code; numbers = a ∷ b ∷ c ∷ d ∷ [] }
+-- RULES C106: a code and six numbers
+abbrev pub direct : ℕ → ℕ → ℕ → ℕ → ℕ → ℕ → ℕ → Raw
+direct code a b c d e f = record { code = code; numbers = a ∷ b ∷ c ∷ d ∷ e ∷ f ∷ [] }

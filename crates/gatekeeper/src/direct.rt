@@ -23,10 +23,10 @@ impl Monitor {
         self
     }
 
-    // A code and four numbers; those that the code does not use are ignored. Nothing dangles in the tables.
-    fn dispatch(self, code: u32, a: u32, b: u32, c: u32, d: u32) -> Reply
+    // A code and six numbers; those that the code does not use are ignored. Nothing dangles in the tables.
+    fn dispatch(self, code: u32, a: u32, b: u32, c: u32, d: u32, e: u32, f: u32) -> Reply
         requires { ⌜ Wf (view self) ⌝ }
-        ensures { λ r. ⌜ Acts self (decode (direct code a b c d)) (told (r .answer)) (r .monitor) ⌝ }
+        ensures { λ r. ⌜ Acts self (decode (direct code a b c d e f)) (told (r .answer)) (r .monitor) ⌝ }
     {
         match code {
             1 => self.admit(a, b),
@@ -45,17 +45,18 @@ impl Monitor {
             14 => self.map(a, b, c),
             15 => self.mark(a, b),
             16 => self.freeze(a),
+            17 => self.connect(a, b, c, d, e, f),
             _ => self.refuse(1),
         }
     }
 
-    // A code and four numbers; those that the code does not use are ignored. A refused call hands the same struct back, free part included;
+    // A code and six numbers; those that the code does not use are ignored. A refused call hands the same struct back, free part included;
     // any other hands back the rules' next tables, and its free part is any (model, `Promise`).
-    pub fn call(self, code: u32, a: u32, b: u32, c: u32, d: u32) -> Reply
-        ensures { λ r. ⌜ Meets view self (decode (direct code a b c d)) (told (r .answer)) (r .monitor) ⌝ }
+    pub fn call(self, code: u32, a: u32, b: u32, c: u32, d: u32, e: u32, f: u32) -> Reply
+        ensures { λ r. ⌜ Meets view self (decode (direct code a b c d e f)) (told (r .answer)) (r .monitor) ⌝ }
     {
         let t = self.cleaned();
-        let r = t.dispatch(code, a, b, c, d);
+        let r = t.dispatch(code, a, b, c, d, e, f);
         self.settle(r)
     }
 }

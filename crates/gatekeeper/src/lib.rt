@@ -19,6 +19,7 @@ use tables::SUBJECTS;
 use tables::Subject;
 use tables::WRITES;
 
+mod connected;
 mod direct;
 mod frozen;
 mod gone;

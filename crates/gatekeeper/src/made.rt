@@ -15,10 +15,8 @@ use tables::OBJECTS;
 use tables::Object;
 use tables::PIPE;
 use tables::PLACES;
-use tables::READS;
 use tables::SUBJECTS;
 use tables::Subject;
-use tables::WRITES;
 use tables::looks;
 use tables::refusals;
 
@@ -98,8 +96,10 @@ impl Monitor {
     {
         let i = s as usize % SUBJECTS;
         let j = o as usize % OBJECTS;
-        let reader = i * PLACES + r as usize % PLACES;
-        let writer = i * PLACES + w as usize % PLACES;
+        let to_r = r as usize % PLACES;
+        let to_w = w as usize % PLACES;
+        let reader = i * PLACES + to_r;
+        let writer = i * PLACES + to_w;
         let step = self.subjects[i];
         let there = self.objects[j];
         let at_reader = self.handles[reader];
@@ -113,20 +113,13 @@ impl Monitor {
             return self.refuse(n);
         }
         let number = (o % OBJECT_NUMBERS) as u8;
+        let held = self.handles;
+        let next = handles::with_ends(held, i, to_r, to_w, number, number);
         self.objects[j] = Object {
             kind: PIPE,
             level: x.level,
         };
-        self.handles[reader] = Handle {
-            way: READS,
-            object: number,
-            mark: 0,
-        };
-        self.handles[writer] = Handle {
-            way: WRITES,
-            object: number,
-            mark: 0,
-        };
+        self.handles = next;
         Reply {
             monitor: self,
             answer: Answer::Allowed(x.level),

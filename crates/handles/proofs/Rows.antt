@@ -1,24 +1,26 @@
--- The row of one subject: sixteen places read one by one are its handles, and stored one by one are a row of the tables. Assumes nothing.
-use mathlib.Core.Path.{_≡_, refl, sym, _∙_, ap, fun-ext}
+-- The row of one subject: sixteen places read one by one are its handles, and stored one by one are a row of the tables; and two of its places
+-- stored as the ends of pipes. Assumes nothing.
+use mathlib.Core.Path.{_≡_, refl, sym, _∙_, ap, ap₂, fun-ext}
 use mathlib.Core.Bool.{Bool, true, false, not, _||_, cond}
 use mathlib.Core.Option.{Option, none, some}
 use mathlib.Core.Logic.{_⊎_, inl, inr}
 use mathlib.Core.List.{List}
-use Prim.Native.Nat.{ℕ, _+_, _*_, _≤_, _<_}
+use Prim.Native.Nat.{ℕ, _+_, _*_, _%_, _≤_, _<_}
 use native.Mathlib.Omega.{arith}
 use native.Mathlib.Decide.{ℕ-discrete, decLt}
 use borrow.Author.Tests.{eq-eqb, ne-eqb, ltb-true}
-use lib.ListN.{getD}
+use lib.ListN.{length, getD, set, length-set}
 use lib.Dec.{ltb, eqb}
-use Rattle.model.specs.Tables.{Tables, with-hand}
+use Rattle.model.specs.Tables.{reading, writing, handle, Tables, with-hand}
 use Rattle.model.specs.Tables.{Handle as Held}
-use Rattle.model.specs.Steps.{row}
+use Rattle.model.specs.Steps.{row, place}
 use Rattle.tables.specs.declared.Subject.{Subject}
 use Rattle.tables.specs.declared.Object.{Object}
 use Rattle.tables.specs.declared.Handle.{Handle}
 use Rattle.model.specs.Calls.{lasting}
 use Rattle.tables.specs.Records.{joins, held, no-handle, hands, along, tables-of}
 use Rattle.handles.specs.Working.{lasting-of}
+use Rattle.tables.specs.Records.Laws.{store-handle}
 use Rattle.tables.proofs.Maps.{Mapped, Rowed}
 
 -- ── reading ──
@@ -69,3 +71,21 @@ module _ (hs r places : List Handle) (c i : ℕ) (full : i ≡ 16) (m : Rowed no
   pub rowed-tables : (rest : Tables) (ss : List Subject) (os : List Object) → tables-of rest ss os r ≡ with-hand (tables-of rest ss os hs) (row (hands hs) c (along places))
   unfolding tables-of
   rowed-tables rest ss os = ap (with-hand (tables-of rest ss os hs)) (fun-ext (λ s. fun-ext (λ q. row-at s q (ltb q 16) refl (ℕ-discrete c s))))
+
+-- ── the ends of pipes ──
+pub ends-tables : (rest : Tables) (ss : List Subject) (os : List Object) (hs : List Handle) (s p q from to : ℕ) → length hs ≡ 512 → s < 32 → p < 16 → q < 16
+    → tables-of rest ss os (set (set hs (s * 16 + p) (record { way = 1; object = from; mark = 0 })) (s * 16 + q) (record { way = 2; object = to; mark = 0 }))
+    ≡ with-hand (tables-of rest ss os hs) (place (place (hands hs) s p (some (handle reading from))) s q (some (handle writing to)))
+unfolding tables-of
+ends-tables rest ss os hs s p q from to l ls lp lq =
+    let i : s % 32 * 16 + p % 16 ≡ s * 16 + p = omega arith in
+    let j : s % 32 * 16 + q % 16 ≡ s * 16 + q = omega arith in
+    ap₂ (λ (a b : ℕ). tables-of rest ss os (set (set hs a reads) b writes)) (sym i) (sym j)
+    ∙ store-handle rest ss os (set hs (s % 32 * 16 + p % 16) reads) s q writes (simp length-set l) ls lq
+    ∙ ap (λ (u : Tables). with-hand u (place (u .hand) s q (some (handle writing to)))) (store-handle rest ss os hs s p reads l ls lp)
+  where
+    reads : Handle
+    reads = record { way = 1; object = from; mark = 0 }
+
+    writes : Handle
+    writes = record { way = 2; object = to; mark = 0 }

@@ -1,10 +1,11 @@
-// Whole arrays of handles: those that dangle, those on one object, the row of one subject, the pipes that end. Mappings are in `mappings`.
+// Whole arrays of handles: those that dangle, those on one object, the ends of a pipe, the row of one subject, the pipes that end. Mappings are in `mappings`.
 ghost use mathlib.Core.Path.{_≡_};
 ghost use mathlib.Core.List.{List};
 ghost use Prim.Native.Nat.{ℕ, _<_};
-ghost use Rattle.model.specs.Tables.{Tables, clean, empty, with-hand, open-on};
+ghost use mathlib.Core.Option.{some};
+ghost use Rattle.model.specs.Tables.{Tables, reading, writing, handle, clean, empty, with-hand, open-on};
 ghost use Rattle.model.specs.Tables.{handles as all-handles};
-ghost use Rattle.model.specs.Steps.{reap, row};
+ghost use Rattle.model.specs.Steps.{reap, row, place};
 ghost use Rattle.model.specs.Calls.{lasting};
 ghost use Rattle.tables.specs.declared.Subject.{Subject};
 ghost use Rattle.tables.specs.declared.Object.{Object};
@@ -21,8 +22,10 @@ use tables::OBJECTS;
 use tables::Object;
 use tables::PIPE;
 use tables::PLACES;
+use tables::READS;
 use tables::SUBJECTS;
 use tables::Subject;
+use tables::WRITES;
 
 pub mod mappings;
 
@@ -188,6 +191,40 @@ pub fn reaped(
         r[i] = x;
         i += 1;
     }
+    r
+}
+
+// ---- the ends of pipes ----
+
+// The handles with a reading end on object `from` at place p of subject s, and a writing end on object `to` at place q.
+pub fn with_ends(
+    handles: [Handle; HANDLES],
+    s: usize,
+    p: usize,
+    q: usize,
+    from: u8,
+    to: u8,
+) -> [Handle; HANDLES]
+    requires { ⌜ (s < 32) × (p < 16) × (q < 16) ⌝ }
+    ensures { λ r. ⌜ ((rest : Tables) (ss : List Subject) (os : List Object) →
+        tables-of rest ss os r ≡ with-hand (tables-of rest ss os handles)
+        (place (place (hands handles) s p (some (handle reading from))) s q (some (handle writing to)))) ⌝ }
+{
+    let mut r = handles;
+    let reader = s * PLACES + p;
+    let writer = s * PLACES + q;
+    let reads = Handle {
+        way: READS,
+        object: from,
+        mark: 0,
+    };
+    let writes = Handle {
+        way: WRITES,
+        object: to,
+        mark: 0,
+    };
+    r[reader] = reads;
+    r[writer] = writes;
     r
 }
 

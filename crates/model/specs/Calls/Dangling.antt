@@ -16,7 +16,7 @@ use Rattle.model.specs.Steps.Laws.{row-cases, live-hand, applies-append}
 use Rattle.model.specs.Invariant.{Ends, Wf}
 use Rattle.model.specs.Invariant.Laws.{row-below, less-close, less-row, less-freeze, less-wf, wf-enter, wf-hand, wf-hold, wf-without, wf-reap, wf-mix}
 use Rattle.model.specs.Calls.{Call, admit, register, create, make-pipe, opens, access, fork, exec, close, exit, retire, maps, mark, freeze, connect, unknown}
-use Rattle.model.specs.Calls.{target, marking, sheds, channel, steps, effect, next, alive, present, new, vacant, taken, idle, broken, refusal}
+use Rattle.model.specs.Calls.{target, marking, sheds, channel, steps, effect, next, alive, present, new, vacant, taken, idle, broken, In-order, refusal}
 use Rattle.model.specs.Calls.Refusals.{allowed-iff}
 use Rattle.model.specs.Calls.Moving.{rereads-keep}
 use Rattle.model.specs.Calls.Passed.{is-alive, is-present, is-new, is-place, is-taken, Passed, entered-live, old-live, sheds-less}
@@ -122,25 +122,11 @@ module _ (t : Tables) (w : Wf t) where
         place = is-place t s q h;
       }
 
-  pub connect-wf : (s r a b p q : ℕ) → Passed t (connect s r a b p q) → Wf (applies (channel t s r a b p q) t)
-  connect-wf s r a b p q m =
-      wf-hold u₃ r q (handle writing b) (wf-hold u₂ r p (handle reading a) (wf-hold u₁ s q (handle writing a) (wf-hold u s p (handle reading b)
-      (wf-enter (apply (enter (object a) e blank) t) (object b) f blank (new-b .0) (wf-enter t (object a) e blank (new-a .0) w))
-      (ends′ s p (handle reading b) in-s at-b (m (vacant s p) (inr (inr (inr (inr (inr (inr (inl refl)))))))))
-      ) (still-ends u s p (some (handle reading b)) s q (handle writing a)
-      (ends′ s q (handle writing a) in-s at-a (m (vacant s q) (inr (inr (inr (inr (inr (inr (inr (inl refl)))))))))))
-      ) (still-ends u₁ s q (some (handle writing a)) r p (handle reading a) (still-ends u s p (some (handle reading b)) r p (handle reading a)
-      (ends′ r p (handle reading a) in-r at-a (m (vacant r p) (inr (inr (inr (inr (inr (inr (inr (inr (inl refl)))))))))))))
-      ) (still-ends u₂ r p (some (handle reading a)) r q (handle writing b) (still-ends u₁ s q (some (handle writing a)) r q (handle writing b)
-      (still-ends u s p (some (handle reading b)) r q (handle writing b)
-      (ends′ r q (handle writing b) in-r at-b (m (vacant r q) (inr (inr (inr (inr (inr (inr (inr (inr (inr (inl refl)))))))))))))))
+  -- (its flow test is asked of these tables)
+  pub connect-wf : (s r a b p q : ℕ) → In-order t (connect s r a b p q) 9 → Wf (applies (channel t s r a b p q) t)
+  connect-wf s r a b p q m = wf-hold u₃ r q (handle writing b) w₃ (still-ends u₂ r p (some (handle reading a)) r q (handle writing b)
+      (beyond r q (handle writing b) (ends′ r q (handle writing b) in-r at-b (m (vacant r q) (inr (inr (inr (inr (inr (inr (inr (inr (inr (inl refl)))))))))) tt))))
     where
-      new-a : T (in-range (object a)) × (t .at (object a) ≡ none)
-      new-a = is-new t (object a) (m (new (object a)) (inr (inr (inr (inl refl)))))
-
-      new-b : T (in-range (object b)) × (t .at (object b) ≡ none)
-      new-b = is-new t (object b) (m (new (object b)) (inr (inr (inr (inr (inl refl))))))
-
       e : Entry
       e = entry pipe (label-of (t .at (cell t s)))
 
@@ -163,19 +149,40 @@ module _ (t : Tables) (w : Wf t) where
       u₃ = apply (hold r p (some (handle reading a))) u₂
 
       in-s : T (live u (subject s))
-      in-s = old-live u₀ (object b) f blank (subject s) (old-live t (object a) e blank (subject s) (is-alive t s (m (alive s) (inl refl))))
+      in-s = old-live u₀ (object b) f blank (subject s) (old-live t (object a) e blank (subject s) (is-alive t s (m (alive s) (inl refl) tt)))
 
       in-r : T (live u (subject r))
-      in-r = old-live u₀ (object b) f blank (subject r) (old-live t (object a) e blank (subject r) (is-alive t r (m (alive r) (inr (inl refl)))))
+      in-r = old-live u₀ (object b) f blank (subject r) (old-live t (object a) e blank (subject r) (is-alive t r (m (alive r) (inr (inl refl)) tt)))
+
+      new-a : T (in-range (object a))
+      new-a = is-new t (object a) (m (new (object a)) (inr (inr (inr (inl refl)))) tt) .0
+
+      new-b : T (in-range (object b))
+      new-b = is-new t (object b) (m (new (object b)) (inr (inr (inr (inr (inl refl))))) tt) .0
 
       at-a : T (live u (object a))
-      at-a = old-live u₀ (object b) f blank (object a) (entered-live t (object a) e blank (new-a .0))
+      at-a = old-live u₀ (object b) f blank (object a) (entered-live t (object a) e blank new-a)
 
       at-b : T (live u (object b))
-      at-b = entered-live u₀ (object b) f blank (new-b .0)
+      at-b = entered-live u₀ (object b) f blank new-b
 
       ends′ : (z j : ℕ) (k : Handle) → T (live u (subject z)) → T (live u (object (k .to))) → T (not (broken t (vacant z j))) → Ends u z j k
       ends′ z j k x y h = record { from = x; to = y; place = is-place t z j h }
+
+      -- an end stays one beyond the two of s
+      beyond : (z j : ℕ) (k : Handle) → Ends u z j k → Ends u₂ z j k
+      beyond z j k h = still-ends u₁ s q (some (handle writing a)) z j k (still-ends u s p (some (handle reading b)) z j k h)
+
+      w₁ : Wf u₁
+      w₁ = wf-hold u s p (handle reading b) (wf-enter u₀ (object b) f blank new-b (wf-enter t (object a) e blank new-a w))
+          (ends′ s p (handle reading b) in-s at-b (m (vacant s p) (inr (inr (inr (inr (inr (inr (inl refl))))))) tt))
+
+      w₂ : Wf u₂
+      w₂ = wf-hold u₁ s q (handle writing a) w₁ (still-ends u s p (some (handle reading b)) s q (handle writing a)
+          (ends′ s q (handle writing a) in-s at-a (m (vacant s q) (inr (inr (inr (inr (inr (inr (inr (inl refl)))))))) tt)))
+
+      w₃ : Wf u₃
+      w₃ = wf-hold u₂ r p (handle reading a) w₂ (beyond r p (handle reading a) (ends′ r p (handle reading a) in-r at-a (m (vacant r p) (inr (inr (inr (inr (inr (inr (inr (inr (inl refl))))))))) tt)))
 
   pub call-wf : (c : Call) → Passed t c → Wf (applies (steps t c) t)
   call-wf (admit s n) m = wf-enter t (subject s) (entry running (label n)) outside (is-new t (subject s) (m (new (subject s)) (inl refl)) .0) w
@@ -193,7 +200,7 @@ module _ (t : Tables) (w : Wf t) where
   call-wf (maps s o p) m = wf-mix (apply (hold s p (some (mapping o))) t) reads (subject s) (object o) (cell t s) (object o) (map-wf s o p m)
   call-wf (mark s p) m = mark-wf s p (m (taken s p) (inr (inl refl)))
   call-wf (freeze n) m = less-wf (less-freeze t n) w
-  call-wf (connect s r a b p q) m = connect-wf s r a b p q m
+  call-wf (connect s r a b p q) m = connect-wf s r a b p q (λ e i h. m e i)
   call-wf unknown m = w
 
 -- ── calls ──

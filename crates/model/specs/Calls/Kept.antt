@@ -423,7 +423,7 @@ module _ (t : Tables) (v : Kept t) where
       u = applies (channel t s r a b p q) t
 
       w : Wf u
-      w = connect-wf t (v .wf) s r a b p q m
+      w = connect-wf t (v .wf) s r a b p q (λ e i h. m e i)
 
       open-number : Thing → Type 0
       open-number (subject j) = Unit {0}
