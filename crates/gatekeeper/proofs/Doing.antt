@@ -58,7 +58,10 @@ full : {A : Type 0} (b : Bool) (e : A) (o : Option A) → o ≡ cond b none (som
 full true e o q h = absurd (subst (λ z. T (is-some z)) q h)
 full false e o q h = (q, refl)
 
--- a live object is what its record says
+-- a live subject and a live object are what their records say
+pub full-subject : (t : Tables) (s : ℕ) (x : Subject) → t .at (subject s) ≡ subject-entry x → T (live t (subject s)) → t .at (subject s) ≡ some (entry running (label (x .level)))
+full-subject t s x q l = full (eqb (x .live) 0) _ (t .at (subject s)) q (subst T (used-is t (subject s)) (live-of t (subject s) l .1)) .0
+
 pub full-object : (t : Tables) (o : ℕ) (y : Object) → t .at (object o) ≡ object-entry y → T (live t (object o))
     → t .at (object o) ≡ some (entry (cond (eqb (y .kind) 1) file pipe) (label (y .level)))
 full-object t o y q l = full (eqb (y .kind) 0) _ (t .at (object o)) q (subst T (used-is t (object o)) (live-of t (object o) l .1)) .0

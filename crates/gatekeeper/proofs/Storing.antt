@@ -13,16 +13,17 @@ use Rattle.model.specs.Bools.{is-false, both-of}
 use Rattle.model.specs.Lists.{In}
 use Rattle.model.specs.Label.{Label, leq, label}
 use Rattle.model.specs.Flow.{Thing, subject, object}
-use Rattle.model.specs.Tables.{pipe, reading, writing, entry, handle, mapping, Tables, empty, with-at, with-hand, live, label-of, handles, open-on, needs, safe}
+use Rattle.model.specs.Tables.{pipe, reading, writing, entry, handle, mapping, Tables, empty, with-at, with-hand, live, label-of, cell, handles, open-on, needs, safe}
 use Rattle.model.specs.Tables.{Handle as Held}
 use Rattle.model.specs.Tables.Laws.{live-of, cell-self, handles-by}
 use Rattle.model.specs.Steps.{put, row, place, applies, reap}
 use Rattle.model.specs.Invariant.{Wf}
 use Rattle.model.specs.Invariant.Laws.{less-wf, wf-hold}
-use Rattle.model.specs.Calls.{Call, admit, register, create, make-pipe, opens, access, fork, exec, close, exit, retire, maps, mark, freeze, rereads, marking, lasting, sheds, Test, number, alive, present, vacant, leveled, freezable, enough, suits, idle, thawed, broken, tests, order, earlier, breaks, refusal, allowed, lowers, outcome}
+use Rattle.model.specs.Calls.{Call, admit, register, create, make-pipe, opens, access, fork, exec, close, exit, retire, maps, mark, freeze, connect, rereads, marking, lasting, sheds, channel, Test, number, known, alive, present, no-pipe, leveled, freezable, new, vacant, taken, apart, unlike, others, facing, enough, suits, idle, thawed, broken, tests, order, earlier, In-order, breaks, refusal, allowed, lowers, outcome}
 use Rattle.model.specs.Calls.{Answer as Told}
 use Rattle.model.specs.Calls.Refusals.{refused-by}
-use Rattle.model.specs.Calls.Passed.{is-alive, is-present, is-place, sheds-less}
+use Rattle.model.specs.Calls.Passed.{is-alive, is-present, is-new, is-place, sheds-less}
+use Rattle.model.specs.Calls.Dangling.{connect-wf}
 use Rattle.tables.specs.declared.Subject.{Subject}
 use Rattle.tables.specs.declared.Object.{Object}
 use Rattle.tables.specs.declared.Handle.{Handle}
@@ -35,7 +36,7 @@ use Rattle.gatekeeper.specs.declared.Monitor.{Monitor}
 use Rattle.gatekeeper.specs.View.{beside, view}
 use Rattle.gatekeeper.specs.Acting.{Acts, way-by}
 use Rattle.gatekeeper.proofs.Owned.{Owned, subjects-long, objects-long, handles-long}
-use Rattle.gatekeeper.proofs.Doing.{Does, passed, row-low, live-low, new-row, new-column, place-low, found, found-place, found-to, found-live, full-object, admit-does, register-does, create-does, pipe-does, open-does, read-does, write-does, fork-does, exec-does, map-does, close-does, exit-does, retire-does, mark-does, freeze-does}
+use Rattle.gatekeeper.proofs.Doing.{Does, passed, row-low, live-low, new-row, new-column, place-low, found, found-place, found-to, found-live, full-subject, full-object, admit-does, register-does, create-does, pipe-does, open-does, read-does, write-does, fork-does, exec-does, map-does, connect-does, close-does, exit-does, retire-does, mark-does, freeze-does}
 use Rattle.gatekeeper.proofs.Acting.{acts}
 
 -- the monitor with these arrays, and what else m has
@@ -75,6 +76,47 @@ early-passed t c z d i h = go (refusal t c) refl
     go : (o : Option ℕ) → refusal t c ≡ o → T (not (broken t d))
     go none q = passed t c q d i
     go (some n) q = refused-by t c n q .1 d i (before (breaks t 9 (tests c)) (breaks t 10 (tests c)) (breaks t 15 (tests c)) n (sym (z .said) ∙ q))
+
+-- what comes before 9 comes before 10 and 15, too
+before-nine : (d : Test) → T (earlier (number d) 9 order) → T (earlier (number d) 9 order && (earlier (number d) 10 order && earlier (number d) 15 order))
+before-nine known h = tt
+before-nine (alive s) h = tt
+before-nine (present o) h = tt
+before-nine (no-pipe o) h = tt
+before-nine (leveled n) h = tt
+before-nine (freezable n) h = tt
+before-nine (new x) h = tt
+before-nine (vacant s p) h = tt
+before-nine (taken s p) h = tt
+before-nine (apart p q) h = tt
+before-nine (unlike a b) h = tt
+before-nine (others s u) h = tt
+before-nine (facing d s p) h = tt
+before-nine (enough c) h = absurd h
+before-nine (suits s o) h = absurd h
+before-nine (idle o) h = absurd h
+before-nine (thawed d o) h = absurd h
+
+early-order : (t : Tables) (c : Call) → Refuses t c 0 → In-order t c 9
+early-order t c z d i h = early-passed t c z d i (before-nine d h)
+
+-- the ends of pipes at two places of a subject: one reads and one writes
+abbrev joined : (ℕ → ℕ → Option Held) → ℕ → ℕ → ℕ → ℕ → ℕ → ℕ → ℕ → Option Held
+joined h s p q from to = place (place h s p (some (handle reading from))) s q (some (handle writing to))
+
+abbrev Joins : List Handle → ℕ → ℕ → ℕ → ℕ → ℕ → List Handle → Type 0
+Joins hs s p q from to next = (rest : Tables) (ss : List Subject) (os : List Object)
+    → tables-of rest ss os next ≡ with-hand (tables-of rest ss os hs) (joined (hands hs) s p q from to)
+
+joined-same : (h : ℕ → ℕ → Option Held) (s p q from to : ℕ) → s < 32 → p < 16 → q < 16 → from < 64 → to < 64
+    → joined h (s % 32) (p % 16) (q % 16) (from % 64) (to % 64) ≡ joined h s p q from to
+joined-same h s p q from to ls lp lq lf lt =
+    let a : s % 32 ≡ s = omega arith in
+    let b : p % 16 ≡ p = omega arith in
+    let c : q % 16 ≡ q = omega arith in
+    let d : from % 64 ≡ from = omega arith in
+    let e : to % 64 ≡ to = omega arith in
+    rw (a, b, c, d, e)
 
 -- the handles with one row of places changed; the objects that are left when pipes end; the flow test of whole arrays
 abbrev Rowed : List Handle → ℕ → List Handle → List Handle → Type 0
@@ -186,9 +228,6 @@ module _ (m : Monitor) (g : Owned m) where
   module _ (s u a b p q : ℕ) (x z : Subject) (one next : List Handle) (w : Wf (view m)) (k : Refuses (view m) (connect s u a b p q) 0)
       (i : view m .at (subject s) ≡ subject-entry x) (j : view m .at (subject u) ≡ subject-entry z)
       (f : Joins (m .handles) (s % 32) (p % 16) (q % 16) (b % 64) (a % 64) one) (g′ : Joins one (u % 32) (p % 16) (q % 16) (a % 64) (b % 64) next) where
-    c : Call
-    c = connect s u a b p q
-
     passes : (d : Test) → In d (tests (connect s u a b p q)) → T (earlier (number d) 9 order && (earlier (number d) 10 order && earlier (number d) 15 order)) → T (not (broken (view m) d))
     passes = early-passed (view m) (connect s u a b p q) k
 
@@ -243,10 +282,8 @@ module _ (m : Monitor) (g : Owned m) where
     connect-late r h = record { nine = alone tested; ten = refl; fifteen = refl }
       where
         tested : broken (view m) (enough (connect s u a b p q)) ≡ r
-        tested = sym (h (beside m) (subst Wf (sym stepped) (connect-wf (view m) w s u a b p q every)) ∙ ap (λ (v : Tables). not (safe v)) stepped)
-          where
-            every : (d : Test) → In d (tests (connect s u a b p q)) → T (not (broken (view m) d))
-            every d n = {!!}
+        tested = sym (h (beside m) (subst Wf (sym stepped) (connect-wf (view m) w s u a b p q (early-order (view m) (connect s u a b p q) k)))
+            ∙ ap (λ (v : Tables). not (safe v)) stepped)
 
     pub connects : refusal (view m) (connect s u a b p q) ≡ none → Acts m (connect s u a b p q) (allowed (x .level)) (monitor m (m .subjects) both-pipes next)
     connects e = acts m (connect s u a b p q) (allowed (x .level)) _ _ (connect-does (view m) s u a b p q x z e i j) connected

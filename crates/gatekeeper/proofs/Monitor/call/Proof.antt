@@ -23,7 +23,7 @@ settle-requires c κs = search needs
 returns : tie.Need-returns
 returns c =
     let a = c .before .before .before .args in
-    settles (a .self) (c .before .before .cleaned .result) (decode (direct (a .code) (a .a) (a .b) (a .c) (a .d)))
+    settles (a .self) (c .before .before .cleaned .result) (decode (direct (a .code) (a .a) (a .b) (a .c) (a .d) (a .e) (a .f)))
     (c .before .dispatch .result) (c .settle .result) (c .before .before .cleaned .ensures) (c .before .dispatch .ensures)
     (c .settle .ensures)
 

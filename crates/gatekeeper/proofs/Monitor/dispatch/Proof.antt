@@ -58,6 +58,9 @@ mark-requires c κs = c .before .pre
 freeze-requires : tie.Need-freeze-requires
 freeze-requires c κs = c .before .pre
 
+connect-requires : tie.Need-connect-requires
+connect-requires c κs = c .before .pre
+
 refuse-requires : tie.Need-refuse-requires
 refuse-requires c κs = search needs
 
@@ -126,11 +129,15 @@ unfolding decode
 returns-16 c = rw (c .before .match .keys16) (c .freeze .ensures)
 
 returns-17 : tie.Need-returns-17
-returns-17 c =
+unfolding decode
+returns-17 c = rw (c .before .match .keys17) (c .connect .ensures)
+
+returns-18 : tie.Need-returns-18
+returns-18 c =
     let c2 = c .before .before in
     let a = c2 .args in
     subst (λ (k : Call). Acts (a .self) k (told (c .refuse .result .answer)) (c .refuse .result .monitor))
-    (sym (decode-unknown (direct (a .code) (a .a) (a .b) (a .c) (a .d)) (c .before .match .rest .0 .0 .0 .0 .0 .0 .0 .0 .0 .0 .0 .0 .0 .0 .0 .1, (c .before .match .rest .0 .0 .0 .0 .0 .0 .0 .0 .0 .0 .0 .0 .0 .0 .1, (c .before .match .rest .0 .0 .0 .0 .0 .0 .0 .0 .0 .0 .0 .0 .0 .1, (c .before .match .rest .0 .0 .0 .0 .0 .0 .0 .0 .0 .0 .0 .0 .1, (c .before .match .rest .0 .0 .0 .0 .0 .0 .0 .0 .0 .0 .0 .1, (c .before .match .rest .0 .0 .0 .0 .0 .0 .0 .0 .0 .0 .1, (c .before .match .rest .0 .0 .0 .0 .0 .0 .0 .0 .0 .1, (c .before .match .rest .0 .0 .0 .0 .0 .0 .0 .0 .1, (c .before .match .rest .0 .0 .0 .0 .0 .0 .0 .1, (c .before .match .rest .0 .0 .0 .0 .0 .0 .1, (c .before .match .rest .0 .0 .0 .0 .0 .1, (c .before .match .rest .0 .0 .0 .0 .1, (c .before .match .rest .0 .0 .0 .1, (c .before .match .rest .0 .0 .1, (c .before .match .rest .0 .1, (c .before .match .rest .1, tt))))))))))))))))))
+    (sym (decode-unknown (direct (a .code) (a .a) (a .b) (a .c) (a .d) (a .e) (a .f)) (c .before .match .rest .0 .0 .0 .0 .0 .0 .0 .0 .0 .0 .0 .0 .0 .0 .0 .0 .1, (c .before .match .rest .0 .0 .0 .0 .0 .0 .0 .0 .0 .0 .0 .0 .0 .0 .0 .1, (c .before .match .rest .0 .0 .0 .0 .0 .0 .0 .0 .0 .0 .0 .0 .0 .0 .1, (c .before .match .rest .0 .0 .0 .0 .0 .0 .0 .0 .0 .0 .0 .0 .0 .1, (c .before .match .rest .0 .0 .0 .0 .0 .0 .0 .0 .0 .0 .0 .0 .1, (c .before .match .rest .0 .0 .0 .0 .0 .0 .0 .0 .0 .0 .0 .1, (c .before .match .rest .0 .0 .0 .0 .0 .0 .0 .0 .0 .0 .1, (c .before .match .rest .0 .0 .0 .0 .0 .0 .0 .0 .0 .1, (c .before .match .rest .0 .0 .0 .0 .0 .0 .0 .0 .1, (c .before .match .rest .0 .0 .0 .0 .0 .0 .0 .1, (c .before .match .rest .0 .0 .0 .0 .0 .0 .1, (c .before .match .rest .0 .0 .0 .0 .0 .1, (c .before .match .rest .0 .0 .0 .0 .1, (c .before .match .rest .0 .0 .0 .1, (c .before .match .rest .0 .0 .1, (c .before .match .rest .0 .1, (c .before .match .rest .1, tt)))))))))))))))))))
     (halts (a .self) unknown 1 (c .refuse .result) (unknown-refused (view (a .self))) (c .refuse .ensures))
 
 pub dispatch-spec : {M : Type 1} → statement M
@@ -153,6 +160,7 @@ dispatch-spec =
     map-requires
     mark-requires
     freeze-requires
+    connect-requires
     refuse-requires
     returns
     returns-2
@@ -170,4 +178,5 @@ dispatch-spec =
     returns-14
     returns-15
     returns-16
-    returns-17)
+    returns-17
+    returns-18)

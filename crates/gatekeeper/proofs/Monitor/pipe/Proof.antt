@@ -72,32 +72,24 @@ returns c =
     let a = c11 .args in
     let g = c11 .good .0 in
     let w = c11 .pre in
+    let x = subject-got (a .t1) g (a .s) (c6 .subject-at .result) (c6 .subject-at .ensures) in
+    let y = object-got (a .t1) g (a .o) (c5 .object-at .result) (c5 .object-at .ensures) in
+    let h = handle-got (a .t1) g (a .s) (a .r) (c4 .handle-at .result) (c4 .handle-at .ensures) in
+    let k = handle-got (a .t1) g (a .s) (a .w) (c3 .handle-at2 .result) (c3 .handle-at2 .ensures) in
     stops (a .t1) (make-pipe (a .s) (a .o) (a .r) (a .w)) (c2 .of-pipe .result) (c .refuse .result)
-    (c2 .of-pipe .ensures (view (a .t1)) (a .s) w (subject-got (a .t1) g (a .s) (c6 .subject-at .result) (c6 .subject-at .ensures))
-    (object-got (a .t1) g (a .o) (c5 .object-at .result) (c5 .object-at .ensures))
-    (handle-got (a .t1) g (a .s) (a .r) (c4 .handle-at .result) (c4 .handle-at .ensures))
-    (handle-got (a .t1) g (a .s) (a .w) (c3 .handle-at2 .result) (c3 .handle-at2 .ensures))) (c .before .if1 .taken) (c .refuse .ensures)
+    (c2 .of-pipe .ensures (view (a .t1)) (a .s) w x y h k) (c .before .if1 .taken) (c .refuse .ensures)
 
 cast-number : tie.Need-cast-number
 cast-number c = search needs
 
-mul-t23 : tie.Need-mul-t23
-mul-t23 c = search needs
+with-ends-requires : tie.Need-with-ends-requires
+with-ends-requires c κs = search needs
+
+mul-t25 : tie.Need-mul-t25
+mul-t25 c = search needs
 
 element-set-from-self : tie.Need-element-set-from-self
 element-set-from-self c = search needs
-
-mul-self : tie.Need-mul-self
-mul-self c = search needs
-
-element-set-from-self-2 : tie.Need-element-set-from-self-2
-element-set-from-self-2 c = search needs
-
-mul-t21 : tie.Need-mul-t21
-mul-t21 c = search needs
-
-element-set-from-self-3 : tie.Need-element-set-from-self-3
-element-set-from-self-3 c = search needs
 
 returns-2 : tie.Need-returns-2
 returns-2 c =
@@ -105,16 +97,18 @@ returns-2 c =
     let c3 = c2 .before in
     let c4 = c3 .before in
     let c5 = c4 .before in
-    let c10 = c5 .before .before .before .before .before in
-    let a = c10 .args in
-    let g = c10 .good .0 in
-    let w = c10 .pre in
-    let z = goes (c .before .of-pipe .ensures (view (a .t1)) (a .s) w
-    (subject-got (a .t1) g (a .s) (c5 .subject-at .result) (c5 .subject-at .ensures))
-    (object-got (a .t1) g (a .o) (c4 .object-at .result) (c4 .object-at .ensures))
-    (handle-got (a .t1) g (a .s) (a .r) (c3 .handle-at .result) (c3 .handle-at .ensures))
-    (handle-got (a .t1) g (a .s) (a .w) (c2 .handle-at2 .result) (c2 .handle-at2 .ensures))) (c .if1 .left) in
-    pipes (a .t1) g (a .s) (a .o) (a .r) (a .w) (c5 .subject-at .result) z (subject-got (a .t1) g (a .s) (c5 .subject-at .result) (c5 .subject-at .ensures))
+    let c6 = c5 .before in
+    let c7 = c6 .before in
+    let c12 = c7 .before .before .before .before .before in
+    let a = c12 .args in
+    let g = c12 .good .0 in
+    let w = c12 .pre in
+    let x = subject-got (a .t1) g (a .s) (c7 .subject-at .result) (c7 .subject-at .ensures) in
+    let y = object-got (a .t1) g (a .o) (c6 .object-at .result) (c6 .object-at .ensures) in
+    let h = handle-got (a .t1) g (a .s) (a .r) (c5 .handle-at .result) (c5 .handle-at .ensures) in
+    let k = handle-got (a .t1) g (a .s) (a .w) (c4 .handle-at2 .result) (c4 .handle-at2 .ensures) in
+    pipes (a .t1) g (a .s) (a .o) (a .r) (a .w) (c7 .subject-at .result) (c .with-ends .result)
+    (goes (c3 .of-pipe .ensures (view (a .t1)) (a .s) w x y h k) (c2 .if1 .left)) x (c .with-ends .ensures)
 
 pub pipe-spec : {M : Type 1} → statement M
 pipe-spec =
@@ -140,10 +134,7 @@ pipe-spec =
     refuse-requires
     returns
     cast-number
-    mul-t23
+    with-ends-requires
+    mul-t25
     element-set-from-self
-    mul-self
-    element-set-from-self-2
-    mul-t21
-    element-set-from-self-3
     returns-2)
