@@ -31,16 +31,17 @@ use Rattle.gatekeeper.specs.View.{direct}
 use Rattle.tally.specs.Counting.{made-by, gone-by}
 
 -- ── what a code makes and removes ──
-pub makes-is : (t : Tables) (code a b c d : ℕ) → makes t (decode (direct code a b c d)) ≡ made-by code (held t a)
-makes-is t code a b c d = decode-by (λ (k : Call). makes t k ≡ made-by code (held t a)) (direct code a b c d)
-    (λ e. rw e, (λ e. rw e, (λ e. rw e, (λ e. rw e, (λ e. rw e, (λ e. rw e, (λ e. rw e, (λ e. rw e, (λ e. rw e, (λ e. rw e, (λ e. rw e, (λ e. rw e, (λ e. rw e, (λ e. rw e, (λ e. rw e, (λ e. rw e, tt))))))))))))))))
+pub makes-is : (t : Tables) (code a b c d e f : ℕ) → makes t (decode (direct code a b c d e f)) ≡ made-by code (held t a)
+makes-is t code a b c d e f = decode-by (λ (k : Call). makes t k ≡ made-by code (held t a)) (direct code a b c d e f)
+    (λ e. rw e, (λ e. rw e, (λ e. rw e, (λ e. rw e, (λ e. rw e, (λ e. rw e, (λ e. rw e, (λ e. rw e, (λ e. rw e, (λ e. rw e, (λ e. rw e, (λ e. rw e, (λ e. rw e, (λ e. rw e, (λ e. rw e, (λ e. rw e, (λ e. rw e, tt)))))))))))))))))
     (λ m. past (eqb code 4) 2 _ (ne-eqb code 4 (m .1 .1 .1 .0)) (past (eqb code 5) 1 _ (ne-eqb code 5 (m .1 .1 .1 .1 .0))
     (past (eqb code 6) 1 _ (ne-eqb code 6 (m .1 .1 .1 .1 .1 .0)) (past (eqb code 9) (held t a) _ (ne-eqb code 9 (m .1 .1 .1 .1 .1 .1 .1 .1 .0))
-    (past (eqb code 14) 1 _ (ne-eqb code 14 (m .1 .1 .1 .1 .1 .1 .1 .1 .1 .1 .1 .1 .1 .0)) refl)))))
+    (past (eqb code 14) 1 _ (ne-eqb code 14 (m .1 .1 .1 .1 .1 .1 .1 .1 .1 .1 .1 .1 .1 .0))
+    (past (eqb code 17) 4 _ (ne-eqb code 17 (m .1 .1 .1 .1 .1 .1 .1 .1 .1 .1 .1 .1 .1 .1 .1 .1 .0)) refl))))))
 
-pub removes-is : (t : Tables) (code a b c d : ℕ) → removes t (decode (direct code a b c d)) ≡ gone-by code (held t a) (drops t a)
-removes-is t code a b c d = decode-by (λ (k : Call). removes t k ≡ gone-by code (held t a) (drops t a)) (direct code a b c d)
-    (λ e. rw e, (λ e. rw e, (λ e. rw e, (λ e. rw e, (λ e. rw e, (λ e. rw e, (λ e. rw e, (λ e. rw e, (λ e. rw e, (λ e. rw e, (λ e. rw e, (λ e. rw e, (λ e. rw e, (λ e. rw e, (λ e. rw e, (λ e. rw e, tt))))))))))))))))
+pub removes-is : (t : Tables) (code a b c d e f : ℕ) → removes t (decode (direct code a b c d e f)) ≡ gone-by code (held t a) (drops t a)
+removes-is t code a b c d e f = decode-by (λ (k : Call). removes t k ≡ gone-by code (held t a) (drops t a)) (direct code a b c d e f)
+    (λ e. rw e, (λ e. rw e, (λ e. rw e, (λ e. rw e, (λ e. rw e, (λ e. rw e, (λ e. rw e, (λ e. rw e, (λ e. rw e, (λ e. rw e, (λ e. rw e, (λ e. rw e, (λ e. rw e, (λ e. rw e, (λ e. rw e, (λ e. rw e, (λ e. rw e, tt)))))))))))))))))
     (λ m. past (eqb code 10) (drops t a) _ (ne-eqb code 10 (m .1 .1 .1 .1 .1 .1 .1 .1 .1 .0)) (past (eqb code 11) 1 _ (ne-eqb code 11 (m .1 .1 .1 .1 .1 .1 .1 .1 .1 .1 .0))
     (past (eqb code 12) (held t a) _ (ne-eqb code 12 (m .1 .1 .1 .1 .1 .1 .1 .1 .1 .1 .1 .0)) refl)))
 

@@ -18,14 +18,14 @@ abbrev pub counts-of : Tally → Counts
 counts-of x = record { made = x .made; gone = x .gone }
 
 -- RULES Y9, Y12: the direct call's reply by the rules, and the lent tally after it by the history of calls, modulo 2 to the 64th
-abbrev pub Counting : Monitor → Tally → (code a b c d : ℕ) → Reply → Tally → Type 0
-Counting m y code a b c d reply after =
-    let k = decode (direct code a b c d) in
+abbrev pub Counting : Monitor → Tally → (code a b c d e f : ℕ) → Reply → Tally → Type 0
+Counting m y code a b c d e f reply after =
+    let k = decode (direct code a b c d e f) in
     Meets view m k (told (reply .answer)) (reply .monitor) × (counts-of after ≡ tallied (clean (view m)) k (counts-of y))
 
 -- ── by the code: inner functions alone cite these ──
 abbrev pub made-by : ℕ → ℕ → ℕ
-made-by code held = cond (eqb code 4) 2 (cond (eqb code 5) 1 (cond (eqb code 6) 1 (cond (eqb code 9) held (cond (eqb code 14) 1 0))))
+made-by code held = cond (eqb code 4) 2 (cond (eqb code 5) 1 (cond (eqb code 6) 1 (cond (eqb code 9) held (cond (eqb code 14) 1 (cond (eqb code 17) 4 0)))))
 
 abbrev pub gone-by : ℕ → ℕ → ℕ → ℕ
 gone-by code held dropped = cond (eqb code 10) dropped (cond (eqb code 11) 1 (cond (eqb code 12) held 0))

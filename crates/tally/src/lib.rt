@@ -109,6 +109,9 @@ fn made_by(monitor: Monitor, code: u32, s: u32) -> u64
     if code == 14 {
         return 1;
     }
+    if code == 17 {
+        return 4;
+    }
     0
 }
 
@@ -136,10 +139,12 @@ fn tallied_call(
     b: u32,
     c: u32,
     d: u32,
+    e: u32,
+    f: u32,
 ) -> Counted
-    ensures { λ r. ⌜ Counting monitor tally code a b c d (r .reply) (r .tally) ⌝ }
+    ensures { λ r. ⌜ Counting monitor tally code a b c d e f (r .reply) (r .tally) ⌝ }
 {
-    let r = monitor.call(code, a, b, c, d);
+    let r = monitor.call(code, a, b, c, d, e, f);
     let answer = r.answer;
     if answers::is_refused(answer) {
         return Counted {
@@ -167,11 +172,13 @@ pub fn lent_call(
     b: u32,
     c: u32,
     d: u32,
+    e: u32,
+    f: u32,
 ) -> Reply
-    ensures { λ r. ⌜ Counting monitor (now (tally .entry)) code a b c d r (now (tally .exit)) ⌝ }
+    ensures { λ r. ⌜ Counting monitor (now (tally .entry)) code a b c d e f r (now (tally .exit)) ⌝ }
 {
     let was = *tally;
-    let out = tallied_call(monitor, was, code, a, b, c, d);
+    let out = tallied_call(monitor, was, code, a, b, c, d, e, f);
     *tally = out.tally;
     out.reply
 }
@@ -185,10 +192,12 @@ pub fn counted_call(
     b: u32,
     c: u32,
     d: u32,
+    e: u32,
+    f: u32,
 ) -> Counted
-    ensures { λ r. ⌜ Counting monitor tally code a b c d (r .reply) (r .tally) ⌝ }
+    ensures { λ r. ⌜ Counting monitor tally code a b c d e f (r .reply) (r .tally) ⌝ }
 {
     let mut mine = tally;
-    let reply = lent_call(monitor, &mut mine, code, a, b, c, d);
+    let reply = lent_call(monitor, &mut mine, code, a, b, c, d, e, f);
     Counted { reply, tally: mine }
 }

@@ -25,14 +25,13 @@ returns-4 c = past _ _ _ (ne-eqb _ _ (c .before .before .before .before .if1 .le
     (past _ _ _ (ne-eqb _ _ (c .before .before .if3 .left)) (here _ _ _ (eq-eqb _ _ (c .before .if4 .taken)) (c .held-by .ensures))))
 
 returns-5 : tie.Need-returns-5
-returns-5 c = past _ _ _ (ne-eqb _ _ (c .before .before .before .before .if1 .left))
-    (past _ _ _ (ne-eqb _ _ (c .before .before .before .if2 .left)) (past _ _ _ (ne-eqb _ _ (c .before .before .if3 .left))
-    (past _ _ _ (ne-eqb _ _ (c .before .if4 .left)) (here _ _ _ (eq-eqb _ _ (c .if5 .taken)) refl))))
+returns-5 c = past _ _ _ (ne-eqb _ _ (c .before .before .before .before .if1 .left)) (past _ _ _ (ne-eqb _ _ (c .before .before .before .if2 .left)) (past _ _ _ (ne-eqb _ _ (c .before .before .if3 .left)) (past _ _ _ (ne-eqb _ _ (c .before .if4 .left)) (here _ _ _ (eq-eqb _ _ (c .if5 .taken)) refl))))
 
 returns-6 : tie.Need-returns-6
-returns-6 c = past _ _ _ (ne-eqb _ _ (c .before .before .before .before .if1 .left))
-    (past _ _ _ (ne-eqb _ _ (c .before .before .before .if2 .left)) (past _ _ _ (ne-eqb _ _ (c .before .before .if3 .left))
-    (past _ _ _ (ne-eqb _ _ (c .before .if4 .left)) (past _ _ _ (ne-eqb _ _ (c .if5 .left)) refl))))
+returns-6 c = past _ _ _ (ne-eqb _ _ (c .before .before .before .before .before .if1 .left)) (past _ _ _ (ne-eqb _ _ (c .before .before .before .before .if2 .left)) (past _ _ _ (ne-eqb _ _ (c .before .before .before .if3 .left)) (past _ _ _ (ne-eqb _ _ (c .before .before .if4 .left)) (past _ _ _ (ne-eqb _ _ (c .before .if5 .left)) (here _ _ _ (eq-eqb _ _ (c .if6 .taken)) refl)))))
+
+returns-7 : tie.Need-returns-7
+returns-7 c = past _ _ _ (ne-eqb _ _ (c .before .before .before .before .before .if1 .left)) (past _ _ _ (ne-eqb _ _ (c .before .before .before .before .if2 .left)) (past _ _ _ (ne-eqb _ _ (c .before .before .before .if3 .left)) (past _ _ _ (ne-eqb _ _ (c .before .before .if4 .left)) (past _ _ _ (ne-eqb _ _ (c .before .if5 .left)) (past _ _ _ (ne-eqb _ _ (c .if6 .left)) refl)))))
 
 pub made-by-spec : {M : Type 1} → statement M
 made-by-spec =
@@ -44,4 +43,5 @@ made-by-spec =
     held-by-requires
     returns-4
     returns-5
-    returns-6)
+    returns-6
+    returns-7)

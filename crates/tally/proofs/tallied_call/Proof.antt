@@ -23,7 +23,7 @@ returns c =
     let a = c .before .before .before .args in
     let k = c .before .before .call in (
       k .ensures,
-      tally-same (told (k .result .answer)) (clean (view (a .monitor))) (decode (direct (a .code) (a .a) (a .b) (a .c) (a .d)))
+      tally-same (told (k .result .answer)) (clean (view (a .monitor))) (decode (direct (a .code) (a .a) (a .b) (a .c) (a .d) (a .e) (a .f)))
           (counts-of (a .tally)) (k .ensures .answered)
           (sym (c .before .is-refused .ensures) ∙ c .if1 .taken),
     )
@@ -52,12 +52,12 @@ returns-2 c =
     let k = c6 .call in
     let t = clean (view (a .monitor)) in (
       k .ensures,
-      tally-moved (told (k .result .answer)) t (decode (direct (a .code) (a .a) (a .b) (a .c) (a .d))) (counts-of (a .tally)) _ _ (k .ensures .answered)
+      tally-moved (told (k .result .answer)) t (decode (direct (a .code) (a .a) (a .b) (a .c) (a .d) (a .e) (a .f))) (counts-of (a .tally)) _ _ (k .ensures .answered)
           (sym (c5 .is-refused .ensures) ∙ c4 .if1 .left)
           (c2 .wrapping-add-u64 .ensures ∙ ap (λ n. wrapped (a .tally .made + n))
-          (c3 .made-by .ensures ∙ sym (makes-is t (a .code) (a .a) (a .b) (a .c) (a .d))))
+          (c3 .made-by .ensures ∙ sym (makes-is t (a .code) (a .a) (a .b) (a .c) (a .d) (a .e) (a .f))))
           (c .wrapping-add-u642 .ensures ∙ ap (λ n. wrapped (a .tally .gone + n))
-          (c .before .gone-by .ensures ∙ sym (removes-is t (a .code) (a .a) (a .b) (a .c) (a .d)))),
+          (c .before .gone-by .ensures ∙ sym (removes-is t (a .code) (a .a) (a .b) (a .c) (a .d) (a .e) (a .f)))),
     )
 
 pub tallied-call-spec : {M : Type 1} → statement M
