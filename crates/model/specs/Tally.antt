@@ -1,4 +1,4 @@
--- The tally: how many handles were made and how many are gone, over the calls so far. States RULES Y1 to Y9 and Y13. Assumes nothing.
+-- The tally: how many handles were made and how many are gone, over the calls so far. States RULES Y1 to Y9, Y13 and Y14. Assumes nothing.
 use mathlib.Core.Bool.{cond}
 use mathlib.Core.Option.{Option, none, some}
 use mathlib.Core.List.{List, [], _∷_}

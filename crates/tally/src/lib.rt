@@ -1,4 +1,4 @@
-// The counted call: handles made and handles gone, over the history of calls (RULES Y1 to Y13).
+// The counted call: handles made and handles gone, over the history of calls (RULES Y1 to Y14).
 ghost use mathlib.Core.Path.{_≡_};
 ghost use Prim.Native.Nat.{ℕ};
 ghost use lib.ListN.{length};
