@@ -1,9 +1,24 @@
-//! The sixteen calls: RULES C1 to C16, codes and numbers.
+//! The seventeen calls: RULES C1 to C17, codes and numbers.
 //!
 //! Which numbers a call takes and what each of them names. The effects are in `monitor`, the conditions
 //! in `refusals`.
 
 use crate::tables::{Direction, Handle};
+
+/// RULES C106: how many numbers a direct call has.
+pub const NUMBERS: usize = 6;
+
+/// The numbers of a direct call, of which it uses as many as its row has.
+pub type Numbers = [u32; NUMBERS];
+
+/// RULES C108: the numbers that are given, and 0 for each that is not.
+pub fn filled(numbers: &[u32]) -> Numbers {
+    let mut filled = [0; NUMBERS];
+    for (slot, &number) in filled.iter_mut().zip(numbers) {
+        *slot = number;
+    }
+    filled
+}
 
 /// A call's code, the word it has in assembly text, and the names of its numbers in their order,
 /// in a direct call as in a record.
@@ -18,8 +33,8 @@ const fn shape(code: u32, word: &'static str, numbers: &'static [&'static str]) 
     Shape { code, word, numbers }
 }
 
-/// RULES C1 to C16, in the order of their codes.
-pub const SHAPES: [Shape; 16] = [
+/// RULES C1 to C17, in the order of their codes.
+pub const SHAPES: [Shape; 17] = [
     shape(1, "admit", &["s", "level"]),
     shape(2, "register", &["o", "level"]),
     shape(3, "create", &["s", "o"]),
@@ -36,9 +51,10 @@ pub const SHAPES: [Shape; 16] = [
     shape(14, "map", &["s", "o", "p"]),
     shape(15, "mark", &["s", "p"]),
     shape(16, "freeze", &["level"]),
+    shape(17, "connect", &["s", "t", "a", "b", "p", "q"]),
 ];
 
-/// The shape of the call with this code; none for a code not 1 to 16 (RULES R1).
+/// The shape of the call with this code; none for a code not 1 to 17 (RULES R1).
 pub fn shape_of_code(code: u32) -> Option<&'static Shape> {
     SHAPES.iter().find(|shape| shape.code == code)
 }
@@ -48,7 +64,7 @@ pub fn shape_of_word(word: &str) -> Option<&'static Shape> {
     SHAPES.iter().find(|shape| shape.word == word)
 }
 
-/// A call with its numbers by name, as RULES C1 to C16 name them.
+/// A call with its numbers by name, as RULES C1 to C17 name them.
 #[derive(Clone, Copy, Debug, PartialEq, Eq)]
 pub enum Call {
     Admit { s: u32, level: u32 },
@@ -67,12 +83,13 @@ pub enum Call {
     Map { s: u32, o: u32, p: u32 },
     Mark { s: u32, p: u32 },
     Freeze { level: u32 },
+    Connect { s: u32, t: u32, a: u32, b: u32, p: u32, q: u32 },
 }
 
 impl Call {
-    /// RULES C106, C107: a code and four numbers, of which the call uses as many as its row has.
-    pub fn new(code: u32, numbers: [u32; 4]) -> Option<Call> {
-        let [a, b, c, d] = numbers;
+    /// RULES C106, C107: a code and six numbers, of which the call uses as many as its row has.
+    pub fn new(code: u32, numbers: Numbers) -> Option<Call> {
+        let [a, b, c, d, e, f] = numbers;
         Some(match code {
             1 => Call::Admit { s: a, level: b },
             2 => Call::Register { o: a, level: b },
@@ -90,11 +107,12 @@ impl Call {
             14 => Call::Map { s: a, o: b, p: c },
             15 => Call::Mark { s: a, p: b },
             16 => Call::Freeze { level: a },
+            17 => Call::Connect { s: a, t: b, a: c, b: d, p: e, q: f },
             _ => return None,
         })
     }
 
-    /// The subject s that asks, in C3 to C12, C14 and C15.
+    /// The subject s that asks, in C3 to C12, C14, C15 and C17.
     pub fn asker(self) -> Option<u32> {
         match self {
             Call::Create { s, .. }
@@ -108,8 +126,17 @@ impl Call {
             | Call::Close { s, .. }
             | Call::Exit { s }
             | Call::Map { s, .. }
-            | Call::Mark { s, .. } => Some(s),
+            | Call::Mark { s, .. }
+            | Call::Connect { s, .. } => Some(s),
             Call::Admit { .. } | Call::Register { .. } | Call::Retire { .. } | Call::Freeze { .. } => None,
+        }
+    }
+
+    /// The subject t that C17 joins s to.
+    pub fn partner(self) -> Option<u32> {
+        match self {
+            Call::Connect { t, .. } => Some(t),
+            _ => None,
         }
     }
 
@@ -122,11 +149,12 @@ impl Call {
         }
     }
 
-    /// The number for a new object: C2, C3, C4.
-    pub fn new_object(self) -> Option<u32> {
+    /// The numbers for new objects: one in C2, C3 and C4, two in C17.
+    pub fn new_objects(self) -> Vec<u32> {
         match self {
-            Call::Register { o, .. } | Call::Create { o, .. } | Call::Pipe { o, .. } => Some(o),
-            _ => None,
+            Call::Register { o, .. } | Call::Create { o, .. } | Call::Pipe { o, .. } => vec![o],
+            Call::Connect { a, b, .. } => vec![a, b],
+            _ => Vec::new(),
         }
     }
 
@@ -157,6 +185,20 @@ impl Call {
             Call::OpenWrite { s, o, .. } => Some((s, Handle::new(o, Direction::Writing))),
             Call::Map { s, o, .. } => Some((s, Handle::mapping(o))),
             _ => None,
+        }
+    }
+
+    /// RULES C17: the four handles that a connect places, each with its subject and its place: s writes a, which t
+    /// reads, and t writes b, which s reads.
+    pub fn ends(self) -> Vec<(u32, u32, Handle)> {
+        match self {
+            Call::Connect { s, t, a, b, p, q } => vec![
+                (s, q, Handle::new(a, Direction::Writing)),
+                (t, p, Handle::new(a, Direction::Reading)),
+                (t, q, Handle::new(b, Direction::Writing)),
+                (s, p, Handle::new(b, Direction::Reading)),
+            ],
+            _ => Vec::new(),
         }
     }
 }

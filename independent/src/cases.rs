@@ -1,5 +1,5 @@
-//! Worked cases: RULES K0 to K17, single sentences of the freeze (RULES C16, R15), of marks (RULES C15, R110) and of
-//! mappings (RULES C14, C111), and DWARF's examples of numbers.
+//! Worked cases: RULES K0 to K17, single sentences of the freeze (RULES C16, R15), of marks (RULES C15, R110), of
+//! mappings (RULES C14, C111) and of two-way channels (RULES C17, R16), and DWARF's examples of numbers.
 //!
 //! The replies stand here as the rules settle them; they are not worked out by this program.
 
@@ -378,6 +378,90 @@ const AFTER_START: &[(&str, &str, &str, &str)] = &[
         "open-write 0 0 0; freeze 0; map 0 0 1; write 0 0; open-write 0 0 2; map 0 0 2",
         "4 6 A 9; 5 16 A 0; 6 14 A 9; 7 8 A 9; 8 6 R 15; 9 14 A 9; end 3 0 3",
     ),
+    (
+        "connect-answer",
+        "a connect answers with the level of s; each pipe starts at its writer's level, and each end reads at p and writes \
+         at q",
+        "admit 1 2; connect 0 1 5 6 0 1; write 0 1; read 1 0; write 1 1; read 0 0; close 0 1; close 1 1",
+        "4 1 A 2; 5 17 A 9; 6 8 A 9; 7 7 A 2; 8 8 A 2; 9 7 L 2; 10 11 A 2; 11 11 A 2; end 4 2 2",
+    ),
+    (
+        "connect-to-higher",
+        "the lower step asks: its level is answered, and the pipe back starts at the other's",
+        "admit 1 2; connect 1 0 5 6 0 1; write 0 1; write 1 1; read 0 0; write 0 1",
+        "4 1 A 2; 5 17 A 2; 6 8 A 9; 7 8 A 2; 8 7 L 2; 9 8 L 2; end 4 0 4",
+    ),
+    (
+        "connect-refused",
+        "2 is said of s and of t, then 16, 3, 7 and 9",
+        "admit 1 2; open-write 0 0 2; connect 32 32 64 64 16 16; connect 0 32 64 64 16 16; connect 2 2 64 64 16 16; \
+         connect 0 0 64 64 16 16; connect 0 1 64 6 16 16; connect 0 1 5 64 16 16; connect 0 1 0 6 16 16; \
+         connect 0 1 5 1 16 16; connect 0 1 5 5 16 16; connect 0 1 5 6 16 1; connect 0 1 5 6 0 16; connect 0 1 5 6 0 0; \
+         connect 0 1 5 6 2 0; connect 0 1 5 6 0 2; connect 1 0 5 6 2 0; connect 1 0 5 6 0 2; connect 0 1 5 6 0 1; \
+         connect 1 0 5 6 0 1; close 0 2; connect 0 1 5 6 0 1",
+        "4 1 A 2; 5 6 A 9; 6 17 R 2; 7 17 R 2; 8 17 R 2; 9 17 R 16; 10 17 R 3; 11 17 R 3; 12 17 R 3; 13 17 R 3; 14 17 R 3; \
+         15 17 R 7; 16 17 R 7; 17 17 R 7; 18 17 R 7; 19 17 R 7; 20 17 R 7; 21 17 R 7; 22 17 R 9; 23 17 R 9; 24 11 A 9; \
+         25 17 A 9; end 5 1 4",
+    ),
+    (
+        "connect-flow",
+        "a low sheet at one end and the pay book at the other: 9, whichever end asks; without one of them: allowed",
+        "admit 1 9; open-read 0 1 2; open-write 1 0 2; connect 0 1 5 6 0 1; connect 1 0 5 6 0 1; close 0 2; \
+         connect 0 1 5 6 0 1",
+        "4 1 A 9; 5 5 A 2; 6 6 A 9; 7 17 R 9; 8 17 R 9; 9 11 A 9; 10 17 A 9; end 6 1 5",
+    ),
+    (
+        "connect-nothing-left",
+        "a connect refused with 9 leaves neither pipe and no handle, and counts nothing",
+        "admit 1 2; open-write 0 0 2; connect 0 1 5 6 0 1; register 5 4; register 6 4; read 0 0; read 1 0; write 0 1; \
+         write 1 1",
+        "4 1 A 2; 5 6 A 9; 6 17 R 9; 7 2 A 4; 8 2 A 4; 9 7 R 7; 10 7 R 7; 11 8 R 7; 12 8 R 7; end 1 0 1",
+    ),
+    (
+        "connect-open",
+        "opens are tested through both pipes: as K6, 9; with the low reader's writing end closed: allowed",
+        "admit 1 9; connect 0 1 5 6 0 1; open-write 0 0 2; open-read 1 1 2; close 1 1; open-read 1 1 2; open-write 1 0 3",
+        "4 1 A 9; 5 17 A 9; 6 6 A 9; 7 5 R 9; 8 11 A 9; 9 5 A 2; 10 6 R 9; end 6 1 5",
+    ),
+    (
+        "connect-ends",
+        "each of the two pipes ends with its last handle, and its number is free",
+        "admit 1 9; connect 0 1 5 6 0 1; close 0 1; register 5 4; close 1 0; register 5 4; register 6 4; exit 0; \
+         register 6 4; exit 1; register 6 4",
+        "4 1 A 9; 5 17 A 9; 6 11 A 9; 7 2 R 3; 8 11 A 9; 9 2 A 4; 10 2 R 3; 11 12 A 9; 12 2 R 3; 13 12 A 9; 14 2 A 4; \
+         end 4 4 0",
+    ),
+    (
+        "connect-exec",
+        "exec closes the ends that are marked, and no others",
+        "admit 1 9; connect 0 1 5 6 0 1; mark 0 0; exec 0 0; read 0 0; write 0 1; exec 1 0; read 1 0; write 1 1",
+        "4 1 A 9; 5 17 A 9; 6 15 A 9; 7 10 A 9; 8 7 R 7; 9 8 A 9; 10 10 A 9; 11 7 A 9; 12 8 A 9; end 4 1 3",
+    ),
+    (
+        "connect-fork",
+        "fork copies both ends of its caller",
+        "admit 1 2; connect 0 1 5 6 0 1; fork 0 2; close 0 0; close 0 1; write 2 1; read 1 0; write 1 1; read 2 0; \
+         close 0 0",
+        "4 1 A 2; 5 17 A 9; 6 9 A 9; 7 11 A 9; 8 11 A 9; 9 8 A 9; 10 7 A 2; 11 8 A 2; 12 7 L 2; 13 11 R 7; end 6 2 4",
+    ),
+    (
+        "connect-places",
+        "places 15 and 0 are taken, in either order",
+        "admit 1 9; connect 0 1 5 6 15 0; write 0 0; read 1 15; write 1 0; read 0 15; read 0 0; write 1 15",
+        "4 1 A 9; 5 17 A 9; 6 8 A 9; 7 7 A 9; 8 8 A 9; 9 7 A 9; 10 7 R 8; 11 8 R 8; end 4 0 4",
+    ),
+    (
+        "connect-again",
+        "two steps may be connected once more, by other pipes at other places",
+        "admit 1 9; connect 0 1 5 6 0 1; connect 0 1 7 8 0 2; connect 0 1 5 8 2 3; connect 1 0 7 8 2 3",
+        "4 1 A 9; 5 17 A 9; 6 17 R 7; 7 17 R 3; 8 17 A 9; end 8 0 8",
+    ),
+    (
+        "connect-freeze",
+        "a freeze asks nothing of a connect",
+        "admit 1 9; freeze 0; connect 0 1 5 6 0 1; write 0 1",
+        "4 1 A 9; 5 16 A 0; 6 17 A 9; 7 8 A 9; end 4 0 4",
+    ),
 ];
 
 /// Name, what it shows, calls from empty tables, replies.
@@ -427,10 +511,25 @@ const FROM_EMPTY: &[(&str, &str, &str, &str)] = &[
          end 1 1 0",
     ),
     (
+        "connect-record",
+        "a record of a connect has six numbers: two subjects, two pipes, the place that reads and the one that writes",
+        "admit 1 9; admit 2 4; call 17; call 17 1 2 3 4; call 17 1 2 3 4 5; call 17 1 2 3 4 5 6 7; \
+         bytes 07 11 01 02 03 04 05 86; bytes 07 11 01 02 03 04 05 06; write 1 6; write 2 6; read 2 5; read 1 5",
+        "1 1 A 9; 2 1 A 4; 3 17 R 12; 4 17 R 12; 5 17 R 12; 6 17 R 12; 7 17 R 12; 8 17 A 9; 9 8 A 9; 10 8 A 4; 11 7 A 4; \
+         12 7 L 4; end 4 0 4",
+    ),
+    (
+        "connect-32-bytes",
+        "the longest record of all: 32 bytes",
+        "bytes 1f 11 ff ff ff ff 0f ff ff ff ff 0f ff ff ff ff 0f ff ff ff ff 0f ff ff ff ff 0f ff ff ff ff 0f; \
+         call 17 4294967295 4294967295 4294967295 4294967295 4294967295 4294967295",
+        "1 17 R 2; 2 17 R 2; end 0 0 0",
+    ),
+    (
         "known-codes",
-        "codes 1 to 16 are known, 0 and 17 are not",
-        "call 0 9; call 1 9; call 13; call 14 9; call 15 9; call 16 9; call 17 9",
-        "1 0 R 1; 2 1 R 12; 3 13 R 12; 4 14 R 12; 5 15 R 12; 6 16 A 9; 7 17 R 1; end 0 0 0",
+        "codes 1 to 17 are known, 0 and 18 are not",
+        "call 0 9; call 1 9; call 13; call 14 9; call 15 9; call 16 9; call 17 9; call 18 9",
+        "1 0 R 1; 2 1 R 12; 3 13 R 12; 4 14 R 12; 5 15 R 12; 6 16 A 9; 7 17 R 12; 8 18 R 1; end 0 0 0",
     ),
     (
         "pipe-ends",

@@ -4,6 +4,7 @@
 //! a write to a mapped file it says who reads it then (RULES C111), for an exec which marked handles and which
 //! mappings were closed (RULES C10).
 
+mod channels;
 mod flow;
 mod freeze;
 mod maps;
@@ -20,6 +21,7 @@ use crate::refusals::meaning;
 use crate::replies::{Content, Run, Step};
 use crate::tables::Tables;
 use crate::variants::Rules;
+use channels::Channel;
 use freeze::Closing;
 use names::{at_place, capital, name, sentence};
 use refused::refusal;
@@ -132,6 +134,7 @@ fn request(call: Call, tables: &Tables) -> String {
         Call::Map { s, o, p } => maps::request(s, o, p, tables),
         Call::Mark { s, p } => marks::request(s, p, tables),
         Call::Freeze { level } => freeze::request(level),
+        Call::Connect { s, t, a, b, p, q } => Channel { s, t, a, b, p, q }.request(),
     }
 }
 
@@ -212,6 +215,7 @@ fn outcome(call: Call, before: &Tables, after: &Tables, closing: Option<Closing>
         Call::Map { s, o, p } => maps::outcome(s, o, p, before, after),
         Call::Mark { s, p } => marks::outcome(s, p, before),
         Call::Freeze { level } => freeze::outcome(level, closing),
+        Call::Connect { s, t, a, b, p, q } => Channel { s, t, a, b, p, q }.outcome(after),
     }
 }
 

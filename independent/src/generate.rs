@@ -5,14 +5,16 @@
 //! against need are often close. Then numbers go wrong, records are damaged, tables fill up, pipes form
 //! chains and rings, and journals take every length up to 65,537 bytes, as the style says. In every second
 //! journal the books are closed now and then, for a few calls; in most of them launchers mark what they opened
-//! and run programs below it, and importers map sheets that others write to.
+//! and run programs below it, importers map sheets that others write to, and print stations are connected.
 
 mod arrangements;
+mod channels;
 mod damage;
 mod draws;
 mod imports;
 mod launches;
 
+use crate::calls::filled;
 use crate::monitor::{Answer, Monitor};
 use crate::numbers;
 use crate::random::Random;
@@ -38,7 +40,7 @@ pub enum Style {
 pub const STYLES: &[(Style, &str, &str)] = &[
     (Style::Mixed, "mixed", "one of the others, by turns (the default)"),
     (Style::Payrun, "payrun", "a shell that joins steps by pipes and forks, then lets them work"),
-    (Style::Calls, "calls", "all sixteen calls, mostly allowed"),
+    (Style::Calls, "calls", "all seventeen calls, mostly allowed"),
     (Style::Edges, "edges", "numbers out of range, in use or not live; several faults in one call"),
     (Style::Full, "full", "32 subjects, 64 objects, 512 handles, then calls on them"),
     (Style::Rings, "rings", "long chains and rings of pipes, opened and closed"),
@@ -96,6 +98,8 @@ struct Draft {
     launches: u32,
     /// One call in so many is the first of an importer's; 0 for none, and then hardly a file is mapped.
     imports: u32,
+    /// One call in so many is the first of a print station's; 0 for none, and then hardly a step is connected.
+    channels: u32,
     journal: Vec<u8>,
     records: u32,
 }
@@ -118,6 +122,7 @@ impl Draft {
             closings: 0,
             launches: 0,
             imports: 0,
+            channels: 0,
             journal: Vec::new(),
             records: 0,
         }
@@ -145,10 +150,11 @@ impl Draft {
         // In a ring one handle matters that a freeze would keep out.
         let closings = if style == Style::Rings { [0, 0, 0, 40] } else { [0, 0, 15, 40] };
         self.closings = self.random.pick(&closings).unwrap_or(0);
-        // Nor should an exec take its links away, or a map lower its members.
-        let turns = if style == Style::Rings { [0, 0, 0, 60] } else { [0, 25, 25, 60] };
+        // Nor should an exec take its links away, a map lower its members, or a connect fill its places.
+        let turns = if style == Style::Rings { [0, 0, 0, 60] } else { [0, 20, 20, 50] };
         self.launches = self.random.pick(&turns).unwrap_or(0);
         self.imports = self.random.pick(&turns).unwrap_or(0);
+        self.channels = self.random.pick(&turns).unwrap_or(0);
         match style {
             Style::Payrun => self.pipeline(calls),
             Style::Rings => self.ring(),
@@ -169,6 +175,8 @@ impl Draft {
                 self.launch();
             } else if self.random.once_in(self.imports) {
                 self.import();
+            } else if self.random.once_in(self.channels) {
+                self.channel();
             } else if style == Style::Rings && self.random.once_in(3) {
                 self.ring_turn();
             } else {
@@ -239,7 +247,7 @@ impl Draft {
 
     fn good_record(&mut self, code: u32, numbers: &[u32]) -> Answer {
         records::write(code, numbers, &mut self.journal);
-        self.picture.call(code, four(numbers))
+        self.picture.call(code, filled(numbers))
     }
 
     fn loose_byte(&mut self) {
@@ -264,14 +272,6 @@ fn longest_body(bytes: usize) -> Option<usize> {
             length.len() == prefix
         })
         .map(|(_, body)| body)
-}
-
-fn four(numbers: &[u32]) -> [u32; 4] {
-    let mut four = [0; 4];
-    for (slot, &number) in four.iter_mut().zip(numbers) {
-        *slot = number;
-    }
-    four
 }
 
 #[cfg(test)]

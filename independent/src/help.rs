@@ -75,10 +75,11 @@ from a low thing to a higher file, and which handles to close so that the call i
 which to mark. For refusal 15 it says from which level on the books are closed, and since which record. At a
 write to a file that is mapped it says which steps read it then.
 
-Examples: the pay run of March, a handle that ends at exec, a mapped sheet, and books that are closed
+Examples: the pay run of March, a handle that ends at exec, a mapped sheet, a channel, and closed books
   tools/gk assemble independent/examples/march.txt | tools/gk explain | grep -A 5 'Refused'
   tools/gk cases --journal mark-exec | tools/gk explain
   tools/gk cases --journal map-write | tools/gk explain
+  tools/gk cases --journal connect-flow | tools/gk explain
   tools/gk cases --journal freeze-flow | tools/gk explain
 ";
 
@@ -92,11 +93,13 @@ One call a line; # starts a comment. The calls and their numbers:
   open-read s o p     open-write s o p     read s p           write s p
   fork s c            exec s o             close s p          exit s
   retire o            map s o p            mark s p           freeze level
-s and c are steps, o is a file or pipe, p, r and w are places. A file that is mapped is read at that moment and
-after each write to it. A mapping, and a handle that is marked, is closed by its step's next exec. `freeze 9`
-closes the books from level 9 up, `freeze 16` opens them again. For a record with any code and any numbers write
-`call 77 1 2`, for any bytes `bytes 80 00` (hex). A journal above 65,536 bytes is written, and standard error says
-that it will be refused.
+  connect s t a b p q
+s and c are steps, and so is t; o is a file or pipe, a and b are new pipes; p, q, r and w are places. A file that
+is mapped is read at that moment and after each write to it. A mapping, and a handle that is marked, is closed by
+its step's next exec. `freeze 9` closes the books from level 9 up, `freeze 16` opens them again. A connect makes
+pipe a from s to t and pipe b from t to s; each step reads at p and writes at q. For a record with any code and any
+numbers write `call 77 1 2`, for any bytes `bytes 80 00` (hex). A journal above 65,536 bytes is written, and
+standard error says that it will be refused.
 
 Example: a step of level 9 reads a sheet of level 2
   printf 'admit 0 9\\nregister 1 2\\nopen-read 0 1 0\\nread 0 0\\n' | tools/gk assemble > sheet.journal

@@ -10,7 +10,7 @@
 //! |---|---|
 //! | [`tables`] | T: subjects, objects, handles with their marks and mappings, their limits, and the freeze |
 //! | [`needs`] | F: flow and need |
-//! | [`calls`] | C: the sixteen codes and what their numbers name |
+//! | [`calls`] | C: the seventeen codes and what their numbers name |
 //! | [`monitor`] | C: effects and answers; the direct call |
 //! | [`refusals`] | R: conditions and which is said |
 //! | [`numbers`], [`records`] | J: numbers and records |

@@ -1,9 +1,9 @@
-//! The monitor: RULES C1 to C16, effects and levels in the answers; and the counting of handles, RULES Y1 to Y9
+//! The monitor: RULES C1 to C17, effects and levels in the answers; and the counting of handles, RULES Y1 to Y9
 //! and Y13.
 //!
-//! `Monitor::call` is the direct call: a code and four numbers in, an answer out.
+//! `Monitor::call` is the direct call: a code and six numbers in, an answer out.
 
-use crate::calls::Call;
+use crate::calls::{Call, Numbers};
 use crate::needs::Needs;
 use crate::refusals;
 use crate::tables::{Direction, Handle, Kind, Object, Subject, Tables, Tally};
@@ -58,6 +58,8 @@ pub struct Monitor {
     pub(crate) left_marks: Vec<(u32, u32)>,
     /// The same of mappings.
     pub(crate) left_maps: Vec<(u32, u32)>,
+    /// The pipes that connects made, two by two. No rule looks at them: only variants in which they end otherwise.
+    pub(crate) channels: Vec<[u32; 2]>,
     rules: Rules,
 }
 
@@ -87,6 +89,7 @@ impl Monitor {
             kept,
             left_marks: Vec::new(),
             left_maps: Vec::new(),
+            channels: Vec::new(),
             rules,
         }
     }
@@ -100,7 +103,7 @@ impl Monitor {
     }
 
     /// The direct call: RULES C106, C107.
-    pub fn call(&mut self, code: u32, numbers: [u32; 4]) -> Answer {
+    pub fn call(&mut self, code: u32, numbers: Numbers) -> Answer {
         // RULES R1: an unknown code.
         let Some(call) = Call::new(self.rules.bend_code(code), self.rules.bend_numbers(code, numbers))
         else {
@@ -127,7 +130,7 @@ impl Monitor {
         self.effect(call)
     }
 
-    /// RULES C1 to C16, row by row, for a call that is not refused.
+    /// RULES C1 to C17, row by row, for a call that is not refused.
     fn effect(&mut self, call: Call) -> Answer {
         match call {
             // RULES C1.
@@ -250,6 +253,16 @@ impl Monitor {
             Call::Freeze { level } => {
                 self.tables.set_freeze(level);
                 Answer::Allowed(level)
+            }
+
+            // RULES C17: a from s to t at the level of s, b from t to s at that of t.
+            Call::Connect { s, t, a, b, .. } => {
+                self.new_object(a, Kind::Pipe, self.subject_level(s));
+                self.new_object(b, Kind::Pipe, self.subject_level(t));
+                for (holder, place, handle) in call.ends() {
+                    self.place_handle(holder, place, handle);
+                }
+                Answer::Allowed(self.subject_level(s))
             }
         }
     }

@@ -94,8 +94,8 @@ impl Needs {
     /// RULES F4, F5, F6: the largest of the levels of all files that a chain of flows leads to, 0 if there
     /// are none.
     ///
-    /// `sought` is a flow that is tried beside those of the handles in the table.
-    pub fn work_out(tables: &Tables, sought: Option<Flow>, rules: Rules, kept: &Needs) -> Needs {
+    /// `sought` are flows that are tried beside those of the handles in the table.
+    pub fn work_out(tables: &Tables, sought: &[Flow], rules: Rules, kept: &Needs) -> Needs {
         // A chain of no flow: a file reaches itself.
         let mut needs = Needs::none(tables);
         for o in tables.live_objects() {
@@ -109,7 +109,7 @@ impl Needs {
         for pass in 0.. {
             let mut changed = false;
             let flows = tables.handles().map(|(s, _, handle)| Flow::of(s, handle));
-            for flow in flows.chain(sought).filter(|&flow| rules.carries(tables, flow)) {
+            for flow in flows.chain(sought.iter().copied()).filter(|&flow| rules.carries(tables, flow)) {
                 let beyond = needs.of(flow.to);
                 changed |= needs.raise(flow.from, beyond);
             }
@@ -122,7 +122,7 @@ impl Needs {
 
     /// The needs of the tables as they stand, by the rules.
     pub fn of_tables(tables: &Tables) -> Needs {
-        Needs::work_out(tables, None, Rules::default(), &Needs::none(tables))
+        Needs::work_out(tables, &[], Rules::default(), &Needs::none(tables))
     }
 
     /// The live things whose level is below their need.

@@ -3,7 +3,7 @@
 //! `Reader` cuts a journal into records, `read_body` turns a record's body into a call's code and
 //! numbers, `write` makes a record.
 
-use crate::calls::shape_of_code;
+use crate::calls::{shape_of_code, Numbers, NUMBERS};
 use crate::numbers::{self, Malformed};
 use crate::variants::{Rules, Variant};
 
@@ -85,14 +85,14 @@ pub enum BodyFault {
     /// The body ends before this number.
     Missing(usize),
     /// All numbers are there, and this many bytes behind them.
-    LeftOver { numbers: [u32; 4], bytes: usize },
+    LeftOver { numbers: Numbers, bytes: usize },
 }
 
 /// What a body holds.
 #[derive(Clone, Copy, Debug, PartialEq, Eq)]
 pub enum Body {
     /// A known code and its numbers, 0 for those it does not use.
-    Call { code: u32, numbers: [u32; 4] },
+    Call { code: u32, numbers: Numbers },
     /// RULES J14: an unknown code; what follows it is not looked at.
     UnknownCode { code: u32 },
     /// RULES R12, with the code, 0 where none was read (RULES J13).
@@ -123,7 +123,7 @@ pub fn read_body(journal: &[u8], span: Span, rules: Rules) -> Body {
         return rules.bend_unknown_code(code, &body[taken..]);
     };
 
-    let mut numbers = [0; 4];
+    let mut numbers = [0; NUMBERS];
     for (index, number) in numbers.iter_mut().take(rules.bend_count(shape)).enumerate() {
         if taken >= length {
             if rules.has(Variant::MissingIsZero) {
@@ -170,21 +170,20 @@ pub fn write_body(body: &[u8], journal: &mut Vec<u8>) {
 #[cfg(test)]
 mod tests {
     use super::*;
-    use crate::calls::SHAPES;
+    use crate::calls::{filled, SHAPES};
 
     #[test]
-    fn a_written_call_is_read_again_and_has_at_most_22_bytes() {
+    fn a_written_call_is_read_again_and_has_at_most_32_bytes() {
         for shape in &SHAPES {
             for value in [0, 127, 128, u32::MAX] {
                 let mut journal = Vec::new();
-                write(shape.code, &vec![value; shape.numbers.len()], &mut journal);
-                assert!(journal.len() <= 22);
+                let given = vec![value; shape.numbers.len()];
+                write(shape.code, &given, &mut journal);
+                assert!(journal.len() <= 32);
                 let mut reader = Reader::new(&journal, Rules::default());
                 let span = reader.next_record().unwrap().unwrap();
-                let mut numbers = [0; 4];
-                numbers[..shape.numbers.len()].fill(value);
-                let code = shape.code;
-                assert_eq!(read_body(&journal, span, Rules::default()), Body::Call { code, numbers });
+                let call = Body::Call { code: shape.code, numbers: filled(&given) };
+                assert_eq!(read_body(&journal, span, Rules::default()), call);
                 assert_eq!(reader.next_record(), None);
             }
         }

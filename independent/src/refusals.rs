@@ -1,4 +1,4 @@
-//! Which calls are refused: RULES R2 to R10 and R15.
+//! Which calls are refused: RULES R2 to R10, R15 and R16.
 //!
 //! R1 is in `monitor`, where a code becomes a call. R11, R12 and R14 speak of journals and are in
 //! `records` and `replies`. R13 speaks of the writer's buffer; the writer here has no limit.
@@ -28,6 +28,7 @@ pub fn meaning(number: u32) -> &'static str {
         13 => "the record is longer than the buffer",
         14 => "the journal is longer than 65,536 bytes",
         15 => "the file is frozen while the books are closed",
+        16 => "a step cannot be connected to itself",
         _ => "not a refusal of this document",
     }
 }
@@ -35,11 +36,12 @@ pub fn meaning(number: u32) -> &'static str {
 /// A row's number and whether its condition holds.
 pub type Condition = (u32, bool);
 
-/// RULES R2 to R10 and R15 for a call, in the order in which they are tested: RULES R105, R117. `needs`
-/// are those of `needs_for`.
-pub fn conditions(tables: &Tables, call: Call, needs: &Needs) -> [Condition; 10] {
+/// RULES R2 to R10, R15 and R16 for a call, in the order in which they are tested: RULES R105, R117; R16 comes right
+/// after R2. `needs` are those of `needs_for`.
+pub fn conditions(tables: &Tables, call: Call, needs: &Needs) -> [Condition; 11] {
     [
-        (2, asker_is_missing(tables, call)),
+        (2, subject_is_missing(tables, call)),
+        (16, subject_is_its_own_partner(call)),
         (3, new_number_is_unfit(tables, call)),
         (4, object_is_missing(tables, call)),
         (5, pipe_is_named(tables, call)),
@@ -60,18 +62,23 @@ pub fn refusal(tables: &Tables, call: Call, needs: &Needs, rules: Rules) -> Opti
     conditions.into_iter().find(|&(_, holds)| holds).map(|(number, _)| number)
 }
 
-/// RULES R2: the caller is out of range or not live.
-fn asker_is_missing(tables: &Tables, call: Call) -> bool {
-    call.asker().is_some_and(|s| tables.subject(s).is_none())
+/// RULES R2: the caller, or the subject that it is joined to, is out of range or not live.
+fn subject_is_missing(tables: &Tables, call: Call) -> bool {
+    [call.asker(), call.partner()].into_iter().flatten().any(|s| tables.subject(s).is_none())
 }
 
-/// RULES R3: the new number is out of range or in use.
+/// RULES R16: the two subjects of a connect are the same.
+fn subject_is_its_own_partner(call: Call) -> bool {
+    matches!(call, Call::Connect { s, t, .. } if s == t)
+}
+
+/// RULES R3: a new number is out of range or in use, or is to be that of two pipes.
 fn new_number_is_unfit(tables: &Tables, call: Call) -> bool {
     let limits = tables.limits();
-    let subject = call.new_subject();
-    let object = call.new_object();
-    subject.is_some_and(|s| s >= limits.subjects || tables.subject(s).is_some())
-        || object.is_some_and(|o| o >= limits.objects || tables.object(o).is_some())
+    let is_unfit = |o: u32| o >= limits.objects || tables.object(o).is_some();
+    call.new_subject().is_some_and(|s| s >= limits.subjects || tables.subject(s).is_some())
+        || call.new_objects().into_iter().any(is_unfit)
+        || matches!(call, Call::Connect { a, b, .. } if a == b)
 }
 
 /// RULES R4: the object is out of range or not live.
@@ -109,6 +116,10 @@ fn place_is_unfit(tables: &Tables, call: Call) -> bool {
         Call::Read { s, p } | Call::Write { s, p } | Call::Close { s, p } | Call::Mark { s, p } => {
             above(p) || !taken(s, p)
         }
+        Call::Connect { s, t, p, q, .. } => {
+            let unfit = |place| above(place) || taken(s, place) || taken(t, place);
+            unfit(p) || unfit(q) || p == q
+        }
         _ => false,
     }
 }
@@ -125,11 +136,12 @@ fn direction_is_wrong(tables: &Tables, call: Call) -> bool {
     }
 }
 
-/// The needs that a call is tested by: with the flow that an open or a map asks for (RULES R9, R119), without the
-/// handles that an exec leaves out (RULES R110).
+/// The needs that a call is tested by: with the flows that an open, a map or a connect asks for (RULES R9, R119), without
+/// the handles that an exec leaves out (RULES R110).
 pub fn needs_for(tables: &Tables, call: Call, rules: Rules, kept: &Needs) -> Needs {
-    let sought = sought_flow(tables, call);
-    Needs::work_out(&tables_tested(tables, call, rules), sought, rules, kept)
+    let mut sought = sought_flows(tables, call);
+    rules.bend_sought(&mut sought, call);
+    Needs::work_out(&tables_tested(tables, call, rules), &sought, rules, kept)
 }
 
 /// RULES R110: the tables in which the needs of a call are worked out.
@@ -162,11 +174,25 @@ pub fn sought_flow(tables: &Tables, call: Call) -> Option<Flow> {
     Some(Flow::of(s, handle))
 }
 
+/// All the flows that a call would add: that of an open or a map, or both of a connect.
+pub fn sought_flows(tables: &Tables, call: Call) -> Vec<Flow> {
+    match call {
+        // RULES C17: nobody else has a handle on a new pipe, so that data comes by it from its writer to its reader and
+        // nowhere else. The pipe has its writer's level and its reader's need: it is below its need only where its writer
+        // is.
+        Call::Connect { s, t, .. } if tables.subject(s).is_some() && tables.subject(t).is_some() => {
+            let (s, t) = (Thing::Subject(s), Thing::Subject(t));
+            vec![Flow { from: s, to: t }, Flow { from: t, to: s }]
+        }
+        _ => sought_flow(tables, call).into_iter().collect(),
+    }
+}
+
 /// RULES R9, R109, R110, R119: a level would be below a need.
 fn flow_is_unsafe(tables: &Tables, call: Call, needs: &Needs) -> bool {
     match call {
-        Call::OpenRead { .. } | Call::OpenWrite { .. } | Call::Map { .. } => {
-            sought_flow(tables, call).is_some() && needs.unmet(tables).next().is_some()
+        Call::OpenRead { .. } | Call::OpenWrite { .. } | Call::Map { .. } | Call::Connect { .. } => {
+            !sought_flows(tables, call).is_empty() && needs.unmet(tables).next().is_some()
         }
         Call::Exec { s, o } => {
             tables.object(o).is_some_and(|object| object.level < needs.of(Thing::Subject(s)))

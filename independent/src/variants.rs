@@ -1,9 +1,10 @@
 //! Deliberately wrong variants of the program, to show that the generated journals find mistakes.
 //!
 //! `Rules` says which variant is on; by default none is, and then every function here leaves the rules
-//! as they are. Each variant is read at exactly one place: here, in `freeze`, in `maps`, in `marks`, in
-//! `outcomes`, or at the one place in the reader that it speaks of.
+//! as they are. Each variant is read at exactly one place: here, in `channels`, in `freeze`, in `maps`, in
+//! `marks`, in `outcomes`, or at the one place in the reader that it speaks of.
 
+mod channels;
 mod freeze;
 mod maps;
 mod marks;
@@ -11,7 +12,7 @@ mod outcomes;
 
 use std::cmp::Reverse;
 
-use crate::calls::{shape_of_code, Call, Shape};
+use crate::calls::{shape_of_code, Call, Numbers, Shape};
 use crate::monitor::{Answer, Monitor};
 use crate::needs::{level, Flow, Needs, Thing};
 use crate::numbers;
@@ -19,6 +20,7 @@ use crate::records::{Body, BodyFault};
 use crate::refusals::{sought_flow, Condition};
 use crate::replies::{Content, Step, LONGEST_JOURNAL};
 use crate::tables::{Direction, Kind, Limits, Tables, LIMITS};
+use channels::bend_connected;
 use freeze::bend_frozen;
 use maps::bend_mapped;
 use marks::bend_marked;
@@ -121,6 +123,25 @@ variants! {
     MappedAsFree "mapped-as-free" "an open may take the place of a mapping";
     MappedRetired "mapped-retired" "a file on which only mappings are may be retired";
     MappedWriteRefused "mapped-write-refused" "a write to a file that is mapped is refused with 10";
+    // Channels: what is refused. Whether the two flows of a connect are tested together or one by one cannot be told:
+    // it comes to the same, since what may reach both ends has a level for the needs of both.
+    ConnectUntested "connect-untested" "a connect is not tested against the need";
+    ConnectForwardOnly "connect-forward-only" "a connect tests the flow from s to t only";
+    ConnectBackOnly "connect-back-only" "a connect tests the flow from t to s only";
+    ConnectCallerOnly "connect-caller-only" "a connect tests the level of s only";
+    ConnectEndsOnly "connect-ends-only" "a connect tests the levels of s and t, nothing upstream";
+    ConnectEqualOnly "connect-equal-only" "a connect of subjects at different levels is refused with 9";
+    ConnectToItself "connect-to-itself" "a subject may be connected to itself";
+    PartnerUntested "partner-untested" "a connect to a subject that is not there is not refused with 2";
+    SamePipeAllowed "same-pipe-allowed" "both pipes of a connect may have one number";
+    FirstPipeUntested "first-pipe-untested" "the first pipe's number may be in use";
+    SecondPipeUntested "second-pipe-untested" "the second pipe's number may be in use";
+    ConnectSamePlace "connect-same-place" "a connect may read and write at one place";
+    ConnectPlace16Allowed "connect-place-16-allowed" "a connect at a place above 15 is allowed";
+    PlacesAtCallerOnly "places-at-caller-only" "a connect tests the places of s only";
+    PlacesAtPartnerOnly "places-at-partner-only" "a connect tests the places of t only";
+    ReadingPlacesOnly "reading-places-only" "a connect may write at a place that is in use";
+    FreezeConnects "freeze-connects" "a subject at or above the freeze is not connected";
     // Other conditions.
     Mod256 "mod-256" "takes a call's numbers modulo 256";
     Mod65536 "mod-65536" "takes a call's numbers modulo 65,536";
@@ -145,10 +166,15 @@ variants! {
     Order57 "order-5-7" "says 7 before 5";
     Order59 "order-5-9" "says 9 before 5";
     Order79 "order-7-9" "says 9 before 7";
+    Order39 "order-3-9" "says 9 before 3";
+    Order216 "order-2-16" "says 16 before 2";
+    Order163 "order-16-3" "says 3 before 16";
+    Order167 "order-16-7" "says 7 before 16";
+    SixteenLast "16-last" "says 16 by its number, after all others";
     Order215 "order-2-15" "says 15 before 2";
     Order715 "order-7-15" "says 15 before 7";
     Order915 "order-9-15" "says 15 before 9";
-    TwelveLast "12-last" "a left-over number is 12 only if 2 to 10 and 15 do not hold";
+    TwelveLast "12-last" "a left-over number is 12 only if 2 to 10, 15 and 16 do not hold";
     FifteenBefore12 "15-before-12" "a left-over number is 12 only if 15 does not hold";
     // Effects.
     LowerAtOpen "lower-at-open" "an open for reading lowers the subject at once";
@@ -238,6 +264,25 @@ variants! {
     ExecClosesOthersMappings "exec-closes-others-mappings" "exec closes the mappings of all subjects";
     RefusedExecClosesMapped "refused-exec-closes-mapped" "an exec refused with 9 still closes the mappings";
     UnfitExecClosesMapped "unfit-exec-closes-mapped" "an exec refused with 4 or 5 still closes the mappings";
+    ConnectAtCaller "connect-at-caller" "both pipes of a connect start at the level of s";
+    ConnectAtPartner "connect-at-partner" "both pipes of a connect start at the level of t";
+    ConnectLevelsSwapped "connect-levels-swapped" "each pipe of a connect starts at its reader's level";
+    ConnectAtLower "connect-at-lower" "both pipes of a connect start at the lower of the two levels";
+    ConnectAtFifteen "connect-at-fifteen" "the pipes of a connect start at level 15";
+    ConnectPlacesSwapped "connect-places-swapped" "a connect reads at q and writes at p";
+    PartnerPlacesSwapped "partner-places-swapped" "t reads at q and writes at p, unlike s";
+    ConnectPipesSwapped "connect-pipes-swapped" "pipe a goes from t to s, and pipe b from s to t";
+    ConnectOneWay "connect-one-way" "a connect makes the pipe from s to t only";
+    ConnectMakesFiles "connect-makes-files" "a connect makes files";
+    ConnectMarks "connect-marks" "a connect marks its handles";
+    ConnectLowers "connect-lowers" "a connect lowers both subjects to the lower of the two levels";
+    RefusedConnectLeavesOne "refused-connect-leaves-one" "a connect refused with 9 leaves its first pipe";
+    RefusedConnectLeavesBoth "refused-connect-leaves-both" "a connect refused with 9 leaves both pipes";
+    SevenLeavesPipe "7-leaves-pipe" "a connect refused with 7 leaves its first pipe, without handles";
+    ThreeLeavesPipe "3-leaves-pipe" "a connect whose second number is unfit leaves its first pipe";
+    ChannelNeverEnds "channel-never-ends" "a pipe of a connect stays when its last handle goes";
+    ChannelEndsTogether "channel-ends-together" "when one pipe of a connect ends, so does the other";
+    ChannelClosesBoth "channel-closes-both" "a close of one end of a connect closes the subject's other end";
     OldMonitor "old-monitor" "hands the old monitor back";
     // Answers.
     OpenAnswersSubject "open-answers-subject" "an open answers with the subject's level";
@@ -257,6 +302,9 @@ variants! {
     MapEqualAsLowered "map-equal-as-lowered" "a map at the same level is said as lowered";
     RereadAsLowered "reread-as-lowered" "a write to a mapped file is said as lowered";
     RereadAnswersMapper "reread-answers-mapper" "a write to a mapped file answers with the level of its last mapper";
+    ConnectAnswersPartner "connect-answers-partner" "a connect answers with the level of t";
+    ConnectAnswersLower "connect-answers-lower" "a connect answers with the lower of the two levels";
+    ConnectAsLowered "connect-as-lowered" "a connect to a lower subject is said as lowered";
     LoweredAsAllowed "lowered-as-allowed" "lowered is said as allowed";
     PipeLoweredAsAllowed "pipe-lowered-as-allowed" "a lowered pipe is said as allowed";
     EqualAsLowered "equal-as-lowered" "a read at the same level is said as lowered";
@@ -283,6 +331,10 @@ variants! {
     ExecMapsNotCounted "exec-maps-not-counted" "exec closes the mappings without counting them";
     ExecCountsFiles "exec-counts-files" "exec counts one handle gone for each file that it had mapped";
     RefusedExecCountsMaps "refused-exec-counts-maps" "an exec refused with 9 counts the mappings gone";
+    ConnectNotCounted "connect-not-counted" "a connect counts nothing";
+    ConnectCountedTwo "connect-counted-two" "a connect counts two handles made";
+    ConnectCountedThree "connect-counted-three" "a connect counts three handles made";
+    RefusedConnectCounted "refused-connect-counted" "a refused connect counts four handles made";
     OpenAsMade "open-as-made" "the end line gives the handles made as those open";
     // Codes.
     Code14Unknown "code-14-unknown" "does not know code 14";
@@ -291,7 +343,9 @@ variants! {
     Code15AsFreeze "code-15-as-freeze" "takes code 15 for a freeze";
     Code15Unknown "code-15-unknown" "does not know code 15";
     Code16Unknown "code-16-unknown" "does not know code 16";
-    Code17AsMap "code-17-as-map" "takes code 17 for a map";
+    Code17Unknown "code-17-unknown" "does not know code 17";
+    Code17AsPipe "code-17-as-pipe" "takes code 17 for a pipe";
+    Code18AsConnect "code-18-as-connect" "takes code 18 for a connect";
     // Numbers and records.
     PaddedAccepted "padded-accepted" "a number longer than it need be is taken";
     AboveWrapped "above-wrapped" "a number above 4294967295 is wrapped";
@@ -304,6 +358,12 @@ variants! {
     MarkThreeNumbers "mark-three-numbers" "a record of a mark has three numbers";
     MarkSwapped "mark-swapped" "a mark has the place before the subject";
     FreezeTwoNumbers "freeze-two-numbers" "a record of a freeze has two numbers";
+    ConnectFourNumbers "connect-four-numbers" "a record of a connect has four numbers";
+    ConnectFiveNumbers "connect-five-numbers" "a record of a connect has five numbers";
+    ConnectPlacesLost "connect-places-lost" "a call has its first four numbers only, and 0 for the others";
+    ConnectPartnerFirst "connect-partner-first" "a connect has t before s";
+    ConnectBackFirst "connect-back-first" "a connect has b before a";
+    ConnectPipesBetween "connect-pipes-between" "a connect has a before t";
     MissingIsZero "missing-is-zero" "a missing number is taken as 0";
     LeftOverIgnored "left-over-ignored" "what is left over in a record is ignored";
     UnknownRestRead "unknown-rest-read" "a malformed number behind an unknown code is 12";
@@ -377,7 +437,9 @@ impl Rules {
             (Some(Variant::Code15AsFreeze), 15) => 16,
             (Some(Variant::Code15Unknown), 15) => 0,
             (Some(Variant::Code16Unknown), 16) => 0,
-            (Some(Variant::Code17AsMap), 17) => 14,
+            (Some(Variant::Code17Unknown), 17) => 0,
+            (Some(Variant::Code17AsPipe), 17) => 4,
+            (Some(Variant::Code18AsConnect), 18) => 17,
             _ => code,
         }
     }
@@ -390,20 +452,39 @@ impl Rules {
             Some(Variant::MarkOneNumber) if shape.code == 15 => 1,
             Some(Variant::MarkThreeNumbers) if shape.code == 15 => 3,
             Some(Variant::FreezeTwoNumbers) if shape.code == 16 => 2,
+            Some(Variant::ConnectFourNumbers) if shape.code == 17 => 4,
+            Some(Variant::ConnectFiveNumbers) if shape.code == 17 => 5,
             _ => shape.numbers.len(),
         }
     }
 
     /// The numbers that a call of this code is made with.
-    pub fn bend_numbers(self, code: u32, numbers: [u32; 4]) -> [u32; 4] {
+    pub fn bend_numbers(self, code: u32, numbers: Numbers) -> Numbers {
+        let [a, b, c, d, e, f] = numbers;
         match self.variant {
-            Some(Variant::MapFileFirst) if code == 14 => [numbers[1], numbers[0], numbers[2], 0],
-            Some(Variant::MapPlaceFirst) if code == 14 => [numbers[0], numbers[2], numbers[1], 0],
-            Some(Variant::MarkSwapped) if code == 15 => [numbers[1], numbers[0], 0, 0],
+            Some(Variant::MapFileFirst) if code == 14 => [b, a, c, d, e, f],
+            Some(Variant::MapPlaceFirst) if code == 14 => [a, c, b, d, e, f],
+            Some(Variant::MarkSwapped) if code == 15 => [b, a, c, d, e, f],
+            Some(Variant::ConnectPlacesLost) if code == 17 => [a, b, c, d, 0, 0],
+            Some(Variant::ConnectPartnerFirst) if code == 17 => [b, a, c, d, e, f],
+            Some(Variant::ConnectBackFirst) if code == 17 => [a, b, d, c, e, f],
+            Some(Variant::ConnectPipesBetween) if code == 17 => [a, c, b, d, e, f],
             Some(Variant::Mod256) => numbers.map(|number| number % 256),
             Some(Variant::Mod65536) => numbers.map(|number| number % 65_536),
             Some(Variant::Mod31Bits) => numbers.map(|number| number % (1 << 31)),
             _ => numbers,
+        }
+    }
+
+    /// RULES R9: the flows that the test of a call adds.
+    pub fn bend_sought(self, sought: &mut Vec<Flow>, call: Call) {
+        let Call::Connect { s, .. } = call else {
+            return;
+        };
+        match self.variant {
+            Some(Variant::ConnectForwardOnly) => sought.retain(|flow| flow.from == Thing::Subject(s)),
+            Some(Variant::ConnectBackOnly) => sought.retain(|flow| flow.to == Thing::Subject(s)),
+            _ => {}
         }
     }
 
@@ -445,7 +526,7 @@ impl Rules {
         }
     }
 
-    /// The conditions of RULES R2 to R10 and R15 for one call.
+    /// The conditions of RULES R2 to R10, R15 and R16 for one call.
     pub fn bend_conditions(self, tables: &Tables, call: Call, needs: &Needs, conditions: &mut [Condition]) {
         let Some(variant) = self.variant else {
             return;
@@ -462,6 +543,9 @@ impl Rules {
             set(number, holds);
         }
         if let Some((number, holds)) = bend_mapped(variant, tables, call, needs) {
+            set(number, holds);
+        }
+        if let Some((number, holds)) = bend_connected(variant, tables, call, needs) {
             set(number, holds);
         }
         // A map is tested as an open is.
@@ -553,6 +637,11 @@ impl Rules {
             Some(Variant::Order37) => swap(3, 7),
             Some(Variant::Order47) => swap(4, 7),
             Some(Variant::Order57) => swap(5, 7),
+            Some(Variant::Order39) => swap(3, 9),
+            Some(Variant::Order216) => swap(2, 16),
+            Some(Variant::Order163) => swap(16, 3),
+            Some(Variant::Order167) => swap(16, 7),
+            Some(Variant::SixteenLast) => conditions.sort_by_key(|condition| condition.0),
             Some(Variant::Order59) => swap(5, 9),
             Some(Variant::Order79) => swap(7, 9),
             Some(Variant::Order215) => swap(2, 15),

@@ -59,6 +59,14 @@ fn the_cases_are_all_there() {
         "map-fork",
         "map-again",
         "map-record",
+        "connect-answer",
+        "connect-to-higher",
+        "connect-refused",
+        "connect-flow",
+        "connect-nothing-left",
+        "connect-ends",
+        "connect-record",
+        "connect-32-bytes",
         "known-codes",
     ] {
         assert!(names.iter().any(|known| known == name), "{name}");
@@ -79,27 +87,27 @@ fn the_example_of_the_document() {
 fn a_direct_call_ignores_the_numbers_its_code_does_not_use() {
     let mut monitor = Monitor::new();
     let any = u32::MAX;
-    assert_eq!(monitor.call(1, [0, 9, any, any]), Answer::Allowed(9));
-    assert_eq!(monitor.call(2, [0, 9, any, any]), Answer::Allowed(9));
-    assert_eq!(monitor.call(5, [0, 0, 0, any]), Answer::Allowed(9));
-    assert_eq!(monitor.call(14, [0, 0, 1, any]), Answer::Allowed(9));
-    assert_eq!(monitor.call(15, [0, 0, any, any]), Answer::Allowed(9));
-    assert_eq!(monitor.call(12, [0, any, any, any]), Answer::Allowed(9));
-    assert_eq!(monitor.call(13, [0, any, any, any]), Answer::Allowed(9));
-    assert_eq!(monitor.call(16, [9, any, any, any]), Answer::Allowed(9));
-    for code in [0, 17, 18, 255, 256, 256 + 14, 256 + 15, 256 + 16, u32::MAX] {
-        assert_eq!(monitor.call(code, [0, 0, 0, 0]), Answer::Refused(1));
+    assert_eq!(monitor.call(1, [0, 9, any, any, 0, 0]), Answer::Allowed(9));
+    assert_eq!(monitor.call(2, [0, 9, any, any, 0, 0]), Answer::Allowed(9));
+    assert_eq!(monitor.call(5, [0, 0, 0, any, 0, 0]), Answer::Allowed(9));
+    assert_eq!(monitor.call(14, [0, 0, 1, any, 0, 0]), Answer::Allowed(9));
+    assert_eq!(monitor.call(15, [0, 0, any, any, 0, 0]), Answer::Allowed(9));
+    assert_eq!(monitor.call(12, [0, any, any, any, 0, 0]), Answer::Allowed(9));
+    assert_eq!(monitor.call(13, [0, any, any, any, 0, 0]), Answer::Allowed(9));
+    assert_eq!(monitor.call(16, [9, any, any, any, 0, 0]), Answer::Allowed(9));
+    for code in [0, 18, 19, 255, 256, 256 + 14, 256 + 15, 256 + 16, 256 + 17, u32::MAX] {
+        assert_eq!(monitor.call(code, [0, 0, 0, 0, 0, 0]), Answer::Refused(1));
     }
 }
 
 #[test]
 fn a_refusal_answers_with_level_0_and_changes_nothing() {
     let mut monitor = Monitor::new();
-    assert_eq!(monitor.call(1, [0, 9, 0, 0]), Answer::Allowed(9));
-    assert_eq!(monitor.call(16, [9, 0, 0, 0]), Answer::Allowed(9));
+    assert_eq!(monitor.call(1, [0, 9, 0, 0, 0, 0]), Answer::Allowed(9));
+    assert_eq!(monitor.call(16, [9, 0, 0, 0, 0, 0]), Answer::Allowed(9));
     let (tables, tally) = (monitor.tables().clone(), monitor.tally());
-    for code in 0..=17 {
-        let answer = monitor.call(code, [99, 99, 99, 99]);
+    for code in 0..=18 {
+        let answer = monitor.call(code, [99, 99, 99, 99, 0, 0]);
         assert!(matches!(answer, Answer::Refused(_)), "{code}");
         assert_eq!(answer.level(), 0);
         assert_eq!((monitor.tables(), monitor.tally()), (&tables, tally));
@@ -132,10 +140,10 @@ fn a_handle_on_what_is_not_live_counts_as_an_empty_place() {
     for object in [1, 63, 64, u32::MAX] {
         let monitor = made_up(|tables| tables.set_handle(0, 3, handle(object, READING)));
         for code in [7, 8, 11, 15] {
-            assert_eq!(monitor.clone().call(code, [0, 3, 0, 0]), Answer::Refused(7));
+            assert_eq!(monitor.clone().call(code, [0, 3, 0, 0, 0, 0]), Answer::Refused(7));
         }
         let mut monitor = monitor;
-        assert_eq!(monitor.call(5, [0, 0, 3, 0]), Answer::Allowed(9));
+        assert_eq!(monitor.call(5, [0, 0, 3, 0, 0, 0]), Answer::Allowed(9));
         assert_eq!(monitor.tables().handle_count(), 1);
     }
 }
@@ -148,13 +156,13 @@ fn every_allowed_call_empties_such_places() {
     };
     // The numbers come into use afterwards: no handle comes with them.
     let mut monitor = made_up(stale);
-    assert_eq!(monitor.call(2, [1, 9, 0, 0]), Answer::Allowed(9));
-    assert_eq!(monitor.call(1, [5, 9, 0, 0]), Answer::Allowed(9));
+    assert_eq!(monitor.call(2, [1, 9, 0, 0, 0, 0]), Answer::Allowed(9));
+    assert_eq!(monitor.call(1, [5, 9, 0, 0, 0, 0]), Answer::Allowed(9));
     assert_eq!(monitor.tables().handle_count(), 0);
     // A refused call leaves them.
     let mut monitor = made_up(stale);
     let tables = monitor.tables().clone();
-    assert_eq!(monitor.call(1, [0, 9, 0, 0]), Answer::Refused(3));
+    assert_eq!(monitor.call(1, [0, 9, 0, 0, 0, 0]), Answer::Refused(3));
     assert_eq!(*monitor.tables(), tables);
 }
 
@@ -164,9 +172,9 @@ fn such_places_hold_no_file_make_no_flow_and_are_not_counted() {
         tables.set_handle(5, 0, handle(0, WRITING));
         tables.set_handle(0, 1, handle(40, WRITING));
     });
-    assert_eq!(monitor.call(9, [0, 1, 0, 0]), Answer::Allowed(9));
+    assert_eq!(monitor.call(9, [0, 1, 0, 0, 0, 0]), Answer::Allowed(9));
     assert_eq!(monitor.tally().made, 0);
-    assert_eq!(monitor.call(13, [0, 0, 0, 0]), Answer::Allowed(9));
+    assert_eq!(monitor.call(13, [0, 0, 0, 0, 0, 0]), Answer::Allowed(9));
 }
 
 #[test]
@@ -176,22 +184,22 @@ fn where_a_thing_is_below_its_need_already_every_open_is_refused() {
         tables.set_handle(1, 0, handle(0, WRITING));
         tables.set_object(1, Some(Object { kind: Kind::File, level: 2 }));
     });
-    assert_eq!(monitor.call(5, [0, 0, 0, 0]), Answer::Refused(9));
-    assert_eq!(monitor.call(6, [0, 1, 0, 0]), Answer::Refused(9));
+    assert_eq!(monitor.call(5, [0, 0, 0, 0, 0, 0]), Answer::Refused(9));
+    assert_eq!(monitor.call(6, [0, 1, 0, 0, 0, 0]), Answer::Refused(9));
     // Exec looks at the caller's need alone.
-    assert_eq!(monitor.call(10, [0, 1, 0, 0]), Answer::Lowered(2));
-    assert_eq!(monitor.call(10, [1, 1, 0, 0]), Answer::Refused(9));
+    assert_eq!(monitor.call(10, [0, 1, 0, 0, 0, 0]), Answer::Lowered(2));
+    assert_eq!(monitor.call(10, [1, 1, 0, 0, 0, 0]), Answer::Refused(9));
     // RULES C8: a file stays.
-    assert_eq!(monitor.call(8, [1, 0, 0, 0]), Answer::Allowed(9));
+    assert_eq!(monitor.call(8, [1, 0, 0, 0, 0, 0]), Answer::Allowed(9));
 }
 
 #[test]
 fn a_pipe_without_handles_stays_until_a_last_handle_goes() {
     let mut monitor = made_up(|tables| tables.set_object(7, Some(Object { kind: Kind::Pipe, level: 9 })));
-    assert_eq!(monitor.call(2, [7, 1, 0, 0]), Answer::Refused(3));
-    assert_eq!(monitor.call(5, [0, 7, 0, 0]), Answer::Allowed(9));
-    assert_eq!(monitor.call(11, [0, 0, 0, 0]), Answer::Allowed(9));
-    assert_eq!(monitor.call(2, [7, 1, 0, 0]), Answer::Allowed(1));
+    assert_eq!(monitor.call(2, [7, 1, 0, 0, 0, 0]), Answer::Refused(3));
+    assert_eq!(monitor.call(5, [0, 7, 0, 0, 0, 0]), Answer::Allowed(9));
+    assert_eq!(monitor.call(11, [0, 0, 0, 0, 0, 0]), Answer::Allowed(9));
+    assert_eq!(monitor.call(2, [7, 1, 0, 0, 0, 0]), Answer::Allowed(1));
 }
 
 // Marks.
@@ -207,14 +215,14 @@ fn a_marked_handle_is_closed_by_exec_wherever_it_stands() {
                     tables.set_handle(0, p, handle(1, direction));
                     tables.set_handle(0, (p + 1) % 16, handle(0, direction));
                 });
-                assert_eq!(monitor.call(10, [0, 0, 0, 0]), Answer::Allowed(9));
+                assert_eq!(monitor.call(10, [0, 0, 0, 0, 0, 0]), Answer::Allowed(9));
                 assert_eq!(monitor.tables().handle_count(), 2);
                 for _ in 0..2 {
-                    assert_eq!(monitor.call(15, [0, p, 0, 0]), Answer::Allowed(9));
+                    assert_eq!(monitor.call(15, [0, p, 0, 0, 0, 0]), Answer::Allowed(9));
                     assert_eq!(monitor.tables().handle(0, p), marked(1, direction));
                 }
                 assert_eq!(monitor.tally().gone, 0);
-                assert_eq!(monitor.call(10, [0, 0, 0, 0]), Answer::Allowed(9));
+                assert_eq!(monitor.call(10, [0, 0, 0, 0, 0, 0]), Answer::Allowed(9));
                 assert_eq!((monitor.tables().handle(0, p), monitor.tally().gone), (None, 1));
                 assert_eq!(monitor.tables().handle(0, (p + 1) % 16), handle(0, direction));
                 // RULES C102: the pipe has no handle left.
@@ -238,7 +246,7 @@ fn exec_is_tested_without_the_caller_s_marked_handles() {
                 tables.set_handle(0, 1, handle(1, WRITING));
             });
             let before = monitor.tables().clone();
-            let answer = monitor.call(10, [0, 2, 0, 0]);
+            let answer = monitor.call(10, [0, 2, 0, 0, 0, 0]);
             if program < unmarked {
                 assert_eq!((answer, monitor.tables()), (Answer::Refused(9), &before));
             } else {
@@ -271,9 +279,9 @@ fn the_marked_handles_of_others_are_in_the_test_and_stay() {
         })
     };
     for others in [false, true] {
-        assert_eq!(ring([false, others]).call(10, [0, 1, 0, 0]), Answer::Refused(9));
+        assert_eq!(ring([false, others]).call(10, [0, 1, 0, 0, 0, 0]), Answer::Refused(9));
         let mut monitor = ring([true, others]);
-        assert_eq!(monitor.call(10, [0, 1, 0, 0]), Answer::Lowered(2));
+        assert_eq!(monitor.call(10, [0, 1, 0, 0, 0, 0]), Answer::Lowered(2));
         assert_eq!((monitor.tables().handle_count(), monitor.tally().gone), (2, 1));
         assert_eq!(monitor.tables().marked_places(1).count(), if others { 2 } else { 0 });
     }
@@ -288,17 +296,17 @@ fn a_marked_handle_that_dangles_counts_as_an_empty_place() {
             tables.set_handle(0, 4, marked(0, WRITING));
             tables.set_handle(7, 0, marked(0, WRITING));
         });
-        assert_eq!(monitor.clone().call(15, [0, 3, 0, 0]), Answer::Refused(7));
-        assert_eq!(monitor.clone().call(15, [7, 0, 0, 0]), Answer::Refused(2));
+        assert_eq!(monitor.clone().call(15, [0, 3, 0, 0, 0, 0]), Answer::Refused(7));
+        assert_eq!(monitor.clone().call(15, [7, 0, 0, 0, 0, 0]), Answer::Refused(2));
         let mut run = monitor.clone();
-        assert_eq!(run.call(10, [0, 0, 0, 0]), Answer::Allowed(9));
+        assert_eq!(run.call(10, [0, 0, 0, 0, 0, 0]), Answer::Allowed(9));
         assert_eq!((run.tally().made, run.tally().gone, run.tables().handle_count()), (0, 1, 0));
         let mut forked = monitor.clone();
-        assert_eq!(forked.call(9, [0, 1, 0, 0]), Answer::Allowed(9));
+        assert_eq!(forked.call(9, [0, 1, 0, 0, 0, 0]), Answer::Allowed(9));
         assert_eq!((forked.tally().made, forked.tables().marked_places(1).count()), (1, 1));
         // What is opened there is new: it has no mark.
         let mut opened = monitor;
-        assert_eq!(opened.call(5, [0, 0, 3, 0]), Answer::Allowed(9));
+        assert_eq!(opened.call(5, [0, 0, 3, 0, 0, 0]), Answer::Allowed(9));
         assert_eq!(opened.tables().handle(0, 3), handle(0, READING));
     }
 }
@@ -311,9 +319,9 @@ fn a_mark_empties_places_that_count_as_empty_and_a_refused_one_does_not() {
     };
     let mut monitor = made_up(stale);
     let tables = monitor.tables().clone();
-    assert_eq!(monitor.call(15, [0, 3, 0, 0]), Answer::Refused(7));
+    assert_eq!(monitor.call(15, [0, 3, 0, 0, 0, 0]), Answer::Refused(7));
     assert_eq!(*monitor.tables(), tables);
-    assert_eq!(monitor.call(15, [0, 0, 0, 0]), Answer::Allowed(9));
+    assert_eq!(monitor.call(15, [0, 0, 0, 0, 0, 0]), Answer::Allowed(9));
     let cleaned = made_up(|tables| tables.set_handle(0, 0, marked(0, READING)));
     assert_eq!(monitor.tables(), cleaned.tables());
 }
@@ -327,7 +335,7 @@ fn a_pipe_without_handles_stays_at_an_exec() {
         tables.set_handle(0, 0, marked(8, READING));
         tables.set_handle(9, 0, marked(7, READING));
     });
-    assert_eq!(monitor.call(10, [0, 0, 0, 0]), Answer::Allowed(9));
+    assert_eq!(monitor.call(10, [0, 0, 0, 0, 0, 0]), Answer::Allowed(9));
     assert!(monitor.tables().object(7).is_some() && monitor.tables().object(8).is_none());
 }
 
@@ -348,12 +356,12 @@ fn a_map_places_a_reading_handle_and_is_a_read() {
             });
             let mut monitor = start.clone();
             let answer = if file < level { Answer::Lowered(file) } else { Answer::Allowed(level) };
-            assert_eq!(monitor.call(14, [0, 0, 3, 0]), answer);
+            assert_eq!(monitor.call(14, [0, 0, 3, 0, 0, 0]), answer);
             assert_eq!(monitor.tables().handle(0, 3), mapping(0));
             assert_eq!((monitor.tally().made, monitor.tally().gone), (1, 0));
             let mut opened = start;
-            assert_eq!(opened.call(5, [0, 0, 3, 0]), Answer::Allowed(file));
-            assert_eq!(opened.call(7, [0, 3, 0, 0]), answer);
+            assert_eq!(opened.call(5, [0, 0, 3, 0, 0, 0]), Answer::Allowed(file));
+            assert_eq!(opened.call(7, [0, 3, 0, 0, 0, 0]), answer);
             assert_eq!(monitor.tables().subject(0), opened.tables().subject(0));
         }
     }
@@ -388,7 +396,7 @@ fn a_write_to_a_file_is_followed_by_a_read_by_each_who_has_it_mapped() {
         let mut monitor = start(levels);
         let handles: Vec<(u32, u32, Handle)> = monitor.tables().handles().collect();
         assert_eq!(monitor.tables().mappers(0).collect::<Vec<u32>>(), [0, 1, 2]);
-        assert_eq!(monitor.call(8, [0, 0, 0, 0]), answer);
+        assert_eq!(monitor.call(8, [0, 0, 0, 0, 0, 0]), answer);
         let level = |s: u32| monitor.tables().subject(s).map(|subject| subject.level);
         assert_eq!([0, 1, 2, 3, 4].map(level), after.map(Some));
         assert_eq!(monitor.tables().object(0), Some(Object { kind: Kind::File, level: 5 }));
@@ -408,17 +416,17 @@ fn a_write_to_a_pipe_is_followed_by_nothing() {
         tables.set_handle(2, 0, handle(7, WRITING));
     });
     let mut monitor = start.clone();
-    assert_eq!(monitor.call(8, [2, 0, 0, 0]), Answer::Lowered(2));
+    assert_eq!(monitor.call(8, [2, 0, 0, 0, 0, 0]), Answer::Lowered(2));
     assert_eq!(monitor.tables().subject(1), Some(Subject { level: 9 }));
-    assert_eq!(monitor.call(7, [1, 0, 0, 0]), Answer::Lowered(2));
+    assert_eq!(monitor.call(7, [1, 0, 0, 0, 0, 0]), Answer::Lowered(2));
     // It is copied by a fork, closed by an exec, and the pipe ends with it.
     let mut monitor = start;
-    assert_eq!(monitor.call(9, [1, 3, 0, 0]), Answer::Allowed(9));
+    assert_eq!(monitor.call(9, [1, 3, 0, 0, 0, 0]), Answer::Allowed(9));
     assert_eq!(monitor.tables().handle(3, 0), mapping(7));
-    assert_eq!(monitor.call(10, [1, 0, 0, 0]), Answer::Allowed(9));
-    assert_eq!(monitor.call(11, [2, 0, 0, 0]), Answer::Allowed(2));
+    assert_eq!(monitor.call(10, [1, 0, 0, 0, 0, 0]), Answer::Allowed(9));
+    assert_eq!(monitor.call(11, [2, 0, 0, 0, 0, 0]), Answer::Allowed(2));
     assert!(monitor.tables().object(7).is_some());
-    assert_eq!(monitor.call(10, [3, 0, 0, 0]), Answer::Allowed(9));
+    assert_eq!(monitor.call(10, [3, 0, 0, 0, 0, 0]), Answer::Allowed(9));
     assert!(monitor.tables().object(7).is_none());
     assert_eq!((monitor.tally().made, monitor.tally().gone), (1, 3));
 }
@@ -433,7 +441,7 @@ fn a_mapping_is_closed_by_exec_wherever_it_stands() {
                 tables.set_handle(0, p, Some(Handle { marked, ..Handle::mapping(0) }));
                 tables.set_handle(0, stays, handle(0, READING));
             });
-            assert_eq!(monitor.call(10, [0, 0, 0, 0]), Answer::Allowed(9));
+            assert_eq!(monitor.call(10, [0, 0, 0, 0, 0, 0]), Answer::Allowed(9));
             assert_eq!((monitor.tables().handle(0, p), monitor.tally().gone), (None, 1));
             assert_eq!(monitor.tables().handle(0, stays), handle(0, READING));
         }
@@ -454,18 +462,18 @@ fn a_mapping_that_dangles_counts_as_an_empty_place() {
     assert_eq!(start.tables().mappers(0).next(), None);
     for p in [3, 4] {
         for code in [7, 8, 11, 15] {
-            assert_eq!(start.clone().call(code, [1, p, 0, 0]), Answer::Refused(7));
+            assert_eq!(start.clone().call(code, [1, p, 0, 0, 0, 0]), Answer::Refused(7));
         }
-        assert_eq!(start.clone().call(14, [1, 0, p, 0]), Answer::Lowered(5));
+        assert_eq!(start.clone().call(14, [1, 0, p, 0, 0, 0]), Answer::Lowered(5));
     }
     let mut monitor = start.clone();
-    assert_eq!(monitor.call(8, [0, 0, 0, 0]), Answer::Allowed(5));
+    assert_eq!(monitor.call(8, [0, 0, 0, 0, 0, 0]), Answer::Allowed(5));
     // The numbers come into use afterwards: no mapping comes with them.
-    assert_eq!(monitor.call(1, [7, 9, 0, 0]), Answer::Allowed(9));
-    assert_eq!(monitor.call(2, [5, 9, 0, 0]), Answer::Allowed(9));
+    assert_eq!(monitor.call(1, [7, 9, 0, 0, 0, 0]), Answer::Allowed(9));
+    assert_eq!(monitor.call(2, [5, 9, 0, 0, 0, 0]), Answer::Allowed(9));
     assert_eq!(monitor.tables().handle_count(), 1);
     let mut run = start;
-    assert_eq!(run.call(10, [1, 0, 0, 0]), Answer::Lowered(5));
+    assert_eq!(run.call(10, [1, 0, 0, 0, 0, 0]), Answer::Lowered(5));
     assert_eq!((run.tally().gone, run.tables().handle_count()), (0, 1));
 }
 
@@ -474,9 +482,9 @@ fn a_map_empties_places_that_count_as_empty_and_a_refused_one_does_not() {
     let stale = |tables: &mut Tables| tables.set_handle(0, 3, mapping(1));
     let mut monitor = made_up(stale);
     let tables = monitor.tables().clone();
-    assert_eq!(monitor.call(14, [0, 1, 3, 0]), Answer::Refused(4));
+    assert_eq!(monitor.call(14, [0, 1, 3, 0, 0, 0]), Answer::Refused(4));
     assert_eq!(*monitor.tables(), tables);
-    assert_eq!(monitor.call(14, [0, 0, 0, 0]), Answer::Allowed(9));
+    assert_eq!(monitor.call(14, [0, 0, 0, 0, 0, 0]), Answer::Allowed(9));
     let cleaned = made_up(|tables| tables.set_handle(0, 0, mapping(0)));
     assert_eq!(monitor.tables(), cleaned.tables());
 }
@@ -488,9 +496,136 @@ fn where_a_thing_is_below_its_need_already_every_map_is_refused() {
         tables.set_subject(1, Some(Subject { level: 2 }));
         tables.set_handle(1, 0, handle(0, WRITING));
     });
-    assert_eq!(monitor.call(14, [0, 0, 0, 0]), Answer::Refused(9));
-    assert_eq!(monitor.call(11, [1, 0, 0, 0]), Answer::Allowed(2));
-    assert_eq!(monitor.call(14, [0, 0, 0, 0]), Answer::Allowed(9));
+    assert_eq!(monitor.call(14, [0, 0, 0, 0, 0, 0]), Answer::Refused(9));
+    assert_eq!(monitor.call(11, [1, 0, 0, 0, 0, 0]), Answer::Allowed(2));
+    assert_eq!(monitor.call(14, [0, 0, 0, 0, 0, 0]), Answer::Allowed(9));
+}
+
+// Channels.
+
+const CONNECT: [u32; 6] = [0, 1, 5, 6, 0, 1];
+
+/// RULES C17: at every pair of levels.
+#[test]
+fn a_connect_makes_each_pipe_at_its_writer_s_level() {
+    for level in 0..=15 {
+        for other in 0..=15 {
+            let mut monitor = made_up(|tables| {
+                tables.set_subject(0, Some(Subject { level }));
+                tables.set_subject(1, Some(Subject { level: other }));
+            });
+            assert_eq!(monitor.call(17, CONNECT), Answer::Allowed(level));
+            let tables = monitor.tables();
+            assert_eq!(tables.object(5), Some(Object { kind: Kind::Pipe, level }));
+            assert_eq!(tables.object(6), Some(Object { kind: Kind::Pipe, level: other }));
+            assert_eq!(
+                (tables.handle(0, 0), tables.handle(0, 1)),
+                (handle(6, READING), handle(5, WRITING))
+            );
+            assert_eq!(
+                (tables.handle(1, 0), tables.handle(1, 1)),
+                (handle(5, READING), handle(6, WRITING))
+            );
+            assert_eq!((monitor.tally().made, monitor.tally().gone, tables.handle_count()), (4, 0, 4));
+            assert_eq!([0, 1].map(|s| tables.subject(s).map(|s| s.level)), [Some(level), Some(other)]);
+        }
+    }
+}
+
+/// RULES R9: what one end writes to asks for the level of the other and of all that is upstream of it, at every pair of
+/// levels and from both ends.
+#[test]
+fn a_connect_is_tested_by_both_flows() {
+    for (high, low) in [(0, 1), (1, 0)] {
+        for book in 0..=15 {
+            for level in 0..=15 {
+                for upstream in [false, true] {
+                    let mut monitor = made_up(|tables| {
+                        tables.set_subject(high, Some(Subject { level: 15 }));
+                        tables.set_subject(low, Some(Subject { level: if upstream { 15 } else { level } }));
+                        tables.set_object(0, Some(Object { kind: Kind::File, level: book }));
+                        tables.set_object(1, Some(Object { kind: Kind::File, level }));
+                        tables.set_handle(high, 2, handle(0, WRITING));
+                        if upstream {
+                            tables.set_handle(low, 2, handle(1, READING));
+                        }
+                    });
+                    let before = monitor.tables().clone();
+                    match monitor.call(17, CONNECT) {
+                        Answer::Refused(number) => {
+                            assert_eq!((number, level < book), (9, true));
+                            assert_eq!((monitor.tables(), monitor.tally().made), (&before, 0));
+                        }
+                        _ => assert!(level >= book),
+                    }
+                }
+            }
+        }
+    }
+}
+
+/// RULES R2, R3, R7, R16, over every number that a connect has.
+#[test]
+fn the_numbers_of_a_connect_are_tested_in_order() {
+    let monitor = made_up(|tables| {
+        tables.set_subject(1, Some(Subject { level: 9 }));
+        tables.set_handle(0, 7, handle(0, READING));
+        tables.set_handle(1, 8, handle(0, READING));
+    });
+    let answer = |numbers: [u32; 6]| monitor.clone().call(17, numbers);
+    assert_eq!(answer(CONNECT), Answer::Allowed(9));
+    let any = u32::MAX;
+    for missing in [2, 31, 32, any] {
+        assert_eq!(answer([missing, missing, any, any, any, any]), Answer::Refused(2));
+        assert_eq!(answer([missing, 1, 5, 6, 0, 1]), Answer::Refused(2));
+        assert_eq!(answer([0, missing, 5, 6, 0, 1]), Answer::Refused(2));
+    }
+    assert_eq!(answer([0, 0, any, any, any, any]), Answer::Refused(16));
+    assert_eq!(answer([1, 1, 5, 6, 0, 1]), Answer::Refused(16));
+    for unfit in [0, 64, any] {
+        assert_eq!(answer([0, 1, unfit, 6, any, any]), Answer::Refused(3));
+        assert_eq!(answer([0, 1, 5, unfit, any, any]), Answer::Refused(3));
+    }
+    assert_eq!(answer([0, 1, 5, 5, any, any]), Answer::Refused(3));
+    for unfit in [7, 8, 16, any] {
+        assert_eq!(answer([0, 1, 5, 6, unfit, 1]), Answer::Refused(7));
+        assert_eq!(answer([0, 1, 5, 6, 0, unfit]), Answer::Refused(7));
+    }
+    assert_eq!(answer([0, 1, 5, 6, 3, 3]), Answer::Refused(7));
+}
+
+/// RULES T17 to T19: places that count as empty are empty for a connect, and no handle comes with its pipes' numbers.
+#[test]
+fn a_connect_empties_places_that_count_as_empty_and_a_refused_one_does_not() {
+    let stale = |tables: &mut Tables| {
+        tables.set_subject(1, Some(Subject { level: 9 }));
+        tables.set_subject(2, Some(Subject { level: 2 }));
+        tables.set_handle(0, 0, handle(40, WRITING));
+        tables.set_handle(1, 1, handle(41, READING));
+        // It would write to the first pipe from below, and read the second one.
+        tables.set_handle(2, 0, handle(5, WRITING));
+        tables.set_handle(2, 1, handle(6, READING));
+        tables.set_handle(1, 2, handle(0, WRITING));
+    };
+    let mut monitor = made_up(stale);
+    let tables = monitor.tables().clone();
+    assert_eq!(monitor.call(17, [0, 1, 5, 5, 0, 1]), Answer::Refused(3));
+    assert_eq!(*monitor.tables(), tables);
+    assert_eq!(monitor.call(17, CONNECT), Answer::Allowed(9));
+    assert_eq!((monitor.tables().handle_count(), monitor.tally().made), (5, 4));
+    assert_eq!(monitor.tables().handles_of(2).count(), 0);
+}
+
+#[test]
+fn where_a_thing_is_below_its_need_already_every_connect_is_refused() {
+    let mut monitor = made_up(|tables| {
+        tables.set_subject(1, Some(Subject { level: 9 }));
+        tables.set_subject(2, Some(Subject { level: 2 }));
+        tables.set_handle(2, 0, handle(0, WRITING));
+    });
+    assert_eq!(monitor.call(17, CONNECT), Answer::Refused(9));
+    assert_eq!(monitor.call(11, [2, 0, 0, 0, 0, 0]), Answer::Allowed(2));
+    assert_eq!(monitor.call(17, CONNECT), Answer::Allowed(9));
 }
 
 // The freeze.
@@ -500,14 +635,14 @@ fn tables_start_without_a_freeze_and_a_freeze_is_any_number_up_to_16() {
     let mut monitor = Monitor::new();
     assert_eq!((monitor.tables().freeze(), monitor.tables().frozen_from()), (16, None));
     for level in 0..=15 {
-        assert_eq!(monitor.call(16, [level, 0, 0, 0]), Answer::Allowed(level));
+        assert_eq!(monitor.call(16, [level, 0, 0, 0, 0, 0]), Answer::Allowed(level));
         assert_eq!(monitor.tables().frozen_from(), Some(level));
     }
     for level in [17, 18, 31, 255, 256, 256 + 9, u32::MAX] {
-        assert_eq!(monitor.call(16, [level, 0, 0, 0]), Answer::Refused(6));
+        assert_eq!(monitor.call(16, [level, 0, 0, 0, 0, 0]), Answer::Refused(6));
         assert_eq!(monitor.tables().frozen_from(), Some(15));
     }
-    assert_eq!(monitor.call(16, [16, 0, 0, 0]), Answer::Allowed(16));
+    assert_eq!(monitor.call(16, [16, 0, 0, 0, 0, 0]), Answer::Allowed(16));
     assert_eq!((monitor.tables().freeze(), monitor.tables().frozen_from()), (16, None));
     // RULES Y7.
     assert_eq!((monitor.tally().made, monitor.tally().gone), (0, 0));
@@ -518,7 +653,7 @@ fn every_file_is_frozen_at_or_above_the_freeze_and_no_pipe_is() {
     for freeze in 0..=16 {
         for level in 0..=15 {
             let mut monitor = Monitor::new();
-            let numbers = |a, b, c, d| [a, b, c, d];
+            let numbers = |a, b, c, d| [a, b, c, d, 0, 0];
             assert_eq!(monitor.call(1, numbers(0, level, 0, 0)), Answer::Allowed(level));
             assert_eq!(monitor.call(2, numbers(0, level, 0, 0)), Answer::Allowed(level));
             assert_eq!(monitor.call(4, numbers(0, 1, 0, 1)), Answer::Allowed(level));
@@ -537,12 +672,12 @@ fn every_file_is_frozen_at_or_above_the_freeze_and_no_pipe_is() {
 fn a_stored_freeze_above_16_is_none_and_stays() {
     for freeze in [17, 18, 255, u32::MAX] {
         let mut monitor = made_up(|tables| tables.set_freeze(freeze));
-        assert_eq!(monitor.call(6, [0, 0, 0, 0]), Answer::Allowed(9));
-        assert_eq!(monitor.call(8, [0, 0, 0, 0]), Answer::Allowed(9));
-        assert_eq!(monitor.call(16, [17, 0, 0, 0]), Answer::Refused(6));
-        assert_eq!(monitor.call(12, [0, 0, 0, 0]), Answer::Allowed(9));
+        assert_eq!(monitor.call(6, [0, 0, 0, 0, 0, 0]), Answer::Allowed(9));
+        assert_eq!(monitor.call(8, [0, 0, 0, 0, 0, 0]), Answer::Allowed(9));
+        assert_eq!(monitor.call(16, [17, 0, 0, 0, 0, 0]), Answer::Refused(6));
+        assert_eq!(monitor.call(12, [0, 0, 0, 0, 0, 0]), Answer::Allowed(9));
         assert_eq!(monitor.tables().freeze(), freeze);
-        assert_eq!(monitor.call(16, [3, 0, 0, 0]), Answer::Allowed(3));
+        assert_eq!(monitor.call(16, [3, 0, 0, 0, 0, 0]), Answer::Allowed(3));
         assert_eq!(monitor.tables().freeze(), 3);
     }
 }
@@ -561,7 +696,7 @@ fn no_file_is_frozen_without_a_freeze_not_even_one_above_level_15() {
             tables.set_object(1, Some(Object { kind: Kind::File, level: 20 }));
             tables.set_freeze(freeze);
         });
-        assert_eq!(monitor.call(6, [1, 1, 0, 0]), answer, "freeze {freeze}");
+        assert_eq!(monitor.call(6, [1, 1, 0, 0, 0, 0]), answer, "freeze {freeze}");
     }
 }
 
@@ -570,9 +705,9 @@ fn a_freeze_empties_places_that_count_as_empty_and_a_refused_one_does_not() {
     let stale = |tables: &mut Tables| tables.set_handle(0, 3, handle(1, READING));
     let mut monitor = made_up(stale);
     let tables = monitor.tables().clone();
-    assert_eq!(monitor.call(16, [17, 0, 0, 0]), Answer::Refused(6));
+    assert_eq!(monitor.call(16, [17, 0, 0, 0, 0, 0]), Answer::Refused(6));
     assert_eq!(*monitor.tables(), tables);
-    assert_eq!(monitor.call(16, [9, 0, 0, 0]), Answer::Allowed(9));
+    assert_eq!(monitor.call(16, [9, 0, 0, 0, 0, 0]), Answer::Allowed(9));
     let mut cleaned = made_up(|_| ()).tables().clone();
     cleaned.set_freeze(9);
     assert_eq!(*monitor.tables(), cleaned);
@@ -585,9 +720,9 @@ fn where_a_thing_is_below_its_need_already_9_is_said_of_a_frozen_file_too() {
         tables.set_handle(1, 0, handle(0, WRITING));
         tables.set_freeze(0);
     });
-    assert_eq!(monitor.call(6, [0, 0, 0, 0]), Answer::Refused(9));
-    assert_eq!(monitor.call(11, [1, 0, 0, 0]), Answer::Allowed(2));
-    assert_eq!(monitor.call(6, [0, 0, 0, 0]), Answer::Refused(15));
+    assert_eq!(monitor.call(6, [0, 0, 0, 0, 0, 0]), Answer::Refused(9));
+    assert_eq!(monitor.call(11, [1, 0, 0, 0, 0, 0]), Answer::Allowed(2));
+    assert_eq!(monitor.call(6, [0, 0, 0, 0, 0, 0]), Answer::Refused(15));
 }
 
 #[test]

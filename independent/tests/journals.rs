@@ -1,5 +1,6 @@
 //! What holds of every journal, over generated ones.
 
+use std::cmp::Ordering;
 use std::collections::{BTreeMap, BTreeSet};
 
 use gatekeeper_independent::assembly::assemble;
@@ -397,7 +398,7 @@ fn a_map_is_an_open_for_reading_and_a_read() {
             let Content::Body(_, Body::Call { code: 14, numbers }) = step.content else {
                 continue;
             };
-            let [s, o, p, _] = numbers;
+            let [s, o, p, ..] = numbers;
             let mut copy = before.clone();
             let opened = copy.call(5, numbers);
             let is_pipe = before.tables().object(o).is_some_and(|object| object.kind == Kind::Pipe);
@@ -406,7 +407,7 @@ fn a_map_is_an_open_for_reading_and_a_read() {
             } else if let Answer::Refused(_) = opened {
                 assert_eq!(step.answer, opened);
             } else {
-                assert_eq!(step.answer, copy.call(7, [s, p, 0, 0]));
+                assert_eq!(step.answer, copy.call(7, [s, p, 0, 0, 0, 0]));
                 let mut tables = copy.tables().clone();
                 tables.set_handle(s, p, Some(Handle::mapping(o)));
                 assert_eq!((run.monitor().tables(), run.tally()), (&tables, copy.tally()));
@@ -528,8 +529,191 @@ fn mappings_are_met_often() {
     assert!(met.values().all(|&times| times >= 10), "{met:?}");
 }
 
+/// The tables with what a connect that is allowed makes.
+fn with_channel(before: &Tables, [s, t, a, b, p, q]: [u32; 6]) -> Tables {
+    let mut after = before.clone();
+    for (holder, writes, reads) in [(s, a, b), (t, b, a)] {
+        let level = before.subject(holder).unwrap().level;
+        assert!(before.object(writes).is_none());
+        after.set_object(writes, Some(Object { kind: Kind::Pipe, level }));
+        for (place, object, direction) in [(p, reads, Direction::Reading), (q, writes, Direction::Writing)]
+        {
+            assert!(before.handle(holder, place).is_none());
+            after.set_handle(holder, place, Some(Handle::new(object, direction)));
+        }
+    }
+    after
+}
+
+/// RULES C17, R9: a connect that nothing else refuses is allowed exactly where, with both pipes and all four handles,
+/// no live thing is below its need, as a search finds it. Asked of the two flows one by one it comes to the same.
+#[test]
+fn a_connect_goes_by_both_flows() {
+    let mut connects = [0, 0];
+    for journal in mixed(150) {
+        each_call(&journal, |call, answer, before| {
+            let Call::Connect { s, t, a, b, p, q } = call else {
+                return;
+            };
+            let refused = match answer {
+                Answer::Allowed(_) => false,
+                Answer::Refused(9) => true,
+                _ => return,
+            };
+            let after = with_channel(before, [s, t, a, b, p, q]);
+            let is_below = |thing| level(&after, thing).unwrap() < need_by_search(&after, thing);
+            assert_eq!(refused, live_things(&after).any(is_below), "{call:?}");
+            let offends = |from: u32, to: u32| {
+                let need = need_by_search(before, Thing::Subject(to));
+                live_things(before)
+                    .filter(|&thing| reached_from(before, thing).contains(&Thing::Subject(from)))
+                    .any(|thing| level(before, thing).unwrap() < need)
+            };
+            // And never of both.
+            assert_eq!(refused, offends(s, t) != offends(t, s), "{call:?}");
+            connects[usize::from(refused)] += 1;
+        });
+    }
+    assert!(connects[0] >= 200 && connects[1] >= 50, "{connects:?}");
+}
+
+/// RULES C17: a connect that is allowed makes two pipes and four handles, which are counted, and changes nothing else.
+#[test]
+fn a_connect_makes_two_pipes_and_four_handles() {
+    for journal in mixed(150) {
+        let mut run = Run::new(&journal, Rules::default());
+        loop {
+            let (before, tally) = (run.monitor().tables().clone(), run.tally());
+            let Some(step) = run.next_step() else {
+                break;
+            };
+            let Content::Body(_, Body::Call { code: 17, numbers }) = step.content else {
+                continue;
+            };
+            if let Answer::Allowed(level) = step.answer {
+                assert_eq!(Some(Subject { level }), before.subject(numbers[0]));
+                assert_eq!(*run.monitor().tables(), with_channel(&before, numbers));
+                assert_eq!((run.tally().made - tally.made, run.tally().gone), (4, tally.gone));
+            } else {
+                assert!(matches!(step.answer, Answer::Refused(2 | 3 | 7 | 9 | 16)), "{:?}", step.answer);
+            }
+        }
+    }
+}
+
+/// What channels come to in a call; `pipes` are those that connects made.
+fn channels_met(call: Call, answer: Answer, before: &Tables, pipes: &BTreeSet<u32>) -> Vec<&'static str> {
+    let mut met = Vec::new();
+    let at_channel =
+        |s, p| before.handle(s, p).is_some_and(|handle: Handle| pipes.contains(&handle.object));
+    let level_of = |s| before.subject(s).map(|subject| subject.level);
+    match (call, answer) {
+        (Call::Connect { s, t, .. }, Answer::Refused(2)) => {
+            met.push(match (before.subject(s), before.subject(t)) {
+                (None, None) if s == t => "2, and both are the same",
+                (None, _) => "2, of s",
+                _ => "2, of t",
+            });
+        }
+        (Call::Connect { a, b, p, q, .. }, Answer::Refused(16)) => {
+            met.push("16");
+            let is_unfit = |o| o > 63 || before.object(o).is_some();
+            met.extend((is_unfit(a) || is_unfit(b) || a == b).then_some("16 and 3"));
+            met.extend((p > 15 || q > 15 || p == q).then_some("16 and 7"));
+        }
+        (Call::Connect { a, b, .. }, Answer::Refused(3)) => {
+            met.push(match (before.object(a), before.object(b)) {
+                (Some(_), _) => "3, the first in use",
+                (_, Some(_)) => "3, the second in use",
+                _ if a == b && a < 64 => "3, both the same",
+                _ => "3, out of range",
+            })
+        }
+        (Call::Connect { s, t, p, q, .. }, Answer::Refused(7)) => {
+            let taken = |holder| before.handle(holder, p).is_some() || before.handle(holder, q).is_some();
+            met.push(match (taken(s), taken(t)) {
+                _ if p > 15 || q > 15 => "7, above 15",
+                _ if p == q => "7, both the same",
+                (true, false) => "7, taken at s alone",
+                (false, true) => "7, taken at t alone",
+                _ => "7, taken at both",
+            });
+        }
+        (Call::Connect { s, t, .. }, Answer::Refused(_)) => {
+            let needs = [s, t].map(|s| need_by_search(before, Thing::Subject(s)));
+            let levels = [s, t].map(|s| level_of(s).unwrap());
+            met.push(match (levels[0] < needs[1], levels[1] < needs[0]) {
+                (true, _) => "9, s below the need of t",
+                (_, true) => "9, t below the need of s",
+                _ => "9, something upstream",
+            });
+        }
+        (Call::Connect { s, t, .. }, _) => met.push(match level_of(s).cmp(&level_of(t)) {
+            Ordering::Less => "connected to a higher one",
+            Ordering::Equal => "connected to an equal",
+            Ordering::Greater => "connected to a lower one",
+        }),
+        (Call::Read { s, p }, Answer::Lowered(_)) if at_channel(s, p) => met.push("read, lowered"),
+        (Call::Read { s, p }, Answer::Allowed(_)) if at_channel(s, p) => met.push("read"),
+        (Call::Write { s, p }, Answer::Lowered(_)) if at_channel(s, p) => met.push("written to, lowered"),
+        (Call::Write { s, p }, Answer::Allowed(_)) if at_channel(s, p) => met.push("written to"),
+        (Call::Close { s, p }, _) if at_channel(s, p) => met.push("closed"),
+        (Call::Mark { s, p }, _) if at_channel(s, p) => met.push("marked"),
+        (Call::Exit { s } | Call::Exec { s, .. } | Call::Fork { s, .. }, Answer::Allowed(_))
+            if (0..16).any(|p| at_channel(s, p)) =>
+        {
+            met.push(match call {
+                Call::Exit { .. } => "exit",
+                Call::Exec { .. } => "exec",
+                _ => "forked",
+            });
+        }
+        (Call::OpenRead { o, .. } | Call::OpenWrite { o, .. }, Answer::Allowed(_))
+            if pipes.contains(&o) =>
+        {
+            met.push("opened by its number");
+        }
+        _ => {}
+    }
+    met
+}
+
+/// What channels do, and what they must not do, stands in the journals often enough to be compared.
+#[test]
+fn channels_are_met_often() {
+    let mut met = BTreeMap::new();
+    for journal in mixed(150) {
+        let mut pipes = BTreeSet::new();
+        each_call(&journal, |call, answer, before| {
+            let live = pipes.len();
+            pipes.retain(|&o| before.object(o).is_some());
+            if pipes.len() < live {
+                *met.entry("a pipe ended").or_insert(0) += 1;
+            }
+            for what in channels_met(call, answer, before, &pipes) {
+                *met.entry(what).or_insert(0) += 1;
+            }
+            if let (Call::Connect { a, b, .. }, Answer::Allowed(_)) = (call, answer) {
+                pipes.extend([a, b]);
+            }
+        });
+    }
+    assert_eq!(met.len(), 32, "{met:?}");
+    assert!(met.values().all(|&times| times >= 10), "{met:?}");
+}
+
 /// RULES F5, F6: the need, by a search from the thing.
 fn need_by_search(tables: &Tables, start: Thing) -> u32 {
+    let file_level = |thing: &Thing| match *thing {
+        Thing::Object(o) => tables.object(o).filter(|object| object.kind == Kind::File),
+        Thing::Subject(_) => None,
+    };
+    let reached = reached_from(tables, start);
+    reached.iter().filter_map(file_level).map(|file| file.level).max().unwrap_or(0)
+}
+
+/// RULES F4: what a chain of flows leads to.
+fn reached_from(tables: &Tables, start: Thing) -> Vec<Thing> {
     let mut reached = vec![start];
     let mut next = 0;
     while next < reached.len() {
@@ -541,11 +725,7 @@ fn need_by_search(tables: &Tables, start: Thing) -> u32 {
         }
         next += 1;
     }
-    let file_level = |thing: &Thing| match *thing {
-        Thing::Object(o) => tables.object(o).filter(|object| object.kind == Kind::File),
-        Thing::Subject(_) => None,
-    };
-    reached.iter().filter_map(file_level).map(|file| file.level).max().unwrap_or(0)
+    reached
 }
 
 #[test]
@@ -638,7 +818,7 @@ fn the_marks_that_are_advised_are_enough() {
             for left_out in 0..=places.len() {
                 let mut copy = before.clone();
                 for (_, &p) in places.iter().enumerate().filter(|&(index, _)| index != left_out) {
-                    assert!(matches!(copy.call(15, [numbers[0], p, 0, 0]), Answer::Allowed(_)));
+                    assert!(matches!(copy.call(15, [numbers[0], p, 0, 0, 0, 0]), Answer::Allowed(_)));
                 }
                 let refused = copy.call(10, numbers) == Answer::Refused(9);
                 assert_eq!(refused, left_out < places.len(), "record {}: {places:?}", step.position);

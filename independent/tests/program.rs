@@ -271,11 +271,11 @@ fn a_freeze_is_written_read_and_answered() {
     assert!(err(&gk(&["assemble"], b"freez 9")).contains("Did you mean: freeze"));
     assert!(err(&gk(&["assemble"], b"freeze")).contains("expected the number level"));
     assert!(err(&gk(&["assemble"], b"freeze 9 9")).contains("call 16 9 9"));
-    let output = gk(&["disassemble"], &[1, 16, 3, 16, 9, 9, 2, 17, 9, 2, 15, 9]);
+    let output = gk(&["disassemble"], &[1, 16, 3, 16, 9, 9, 2, 18, 9, 2, 15, 9]);
     for part in [
         "call 16                  # refusal 12: the number level of freeze is missing\n",
         "call 16 9 9              # refusal 12: 1 byte is left over behind freeze\n",
-        "call 17 9                # refusal 1: no call has the code 17\n",
+        "call 18 9                # refusal 1: no call has the code 18\n",
         "call 15 9                # refusal 12: the number p of mark is missing\n",
     ] {
         assert!(out(&output).contains(part), "{}", out(&output));
@@ -325,6 +325,31 @@ fn a_map_is_written_read_and_answered() {
     for part in [
         "call 14                  # refusal 12: the number s of map is missing\n",
         "call 14 0 0 3 1          # refusal 12: 1 byte is left over behind map\n",
+    ] {
+        assert!(out(&output).contains(part), "{}", out(&output));
+    }
+}
+
+#[test]
+fn a_connect_is_written_read_and_answered() {
+    let output = gk(
+        &["assemble"],
+        b"admit 0 9\nadmit 1 2\nconnect 0 1 5 6 0 1 # the print station\nread 0 0\nconnect 1 1 7 8 2 3\n",
+    );
+    let journal = [3, 1, 0, 9, 3, 1, 1, 2, 7, 17, 0, 1, 5, 6, 0, 1, 3, 7, 0, 0, 7, 17, 1, 1, 7, 8, 2, 3];
+    assert_eq!(output.stdout, journal);
+    let text = out(&gk(&["disassemble"], &journal));
+    assert!(text.ends_with("admit 1 2\nconnect 0 1 5 6 0 1\nread 0 0\nconnect 1 1 7 8 2 3\n"), "{text}");
+    let replies = "1 1 A 9\n2 1 A 2\n3 17 A 9\n4 7 L 2\n5 17 R 16\nend 4 0 4\n";
+    assert_eq!(out(&gk(&["run"], &journal)), replies);
+
+    assert!(err(&gk(&["assemble"], b"conect 0 1 5 6 0 1")).contains("Did you mean: connect"));
+    assert!(err(&gk(&["assemble"], b"connect 0 1 5 6 0")).contains("expected the number q"));
+    assert!(err(&gk(&["assemble"], b"connect 0 1 5 6 0 1 2")).contains("call 17 0 1 5 6 0 1 2"));
+    let output = gk(&["disassemble"], &[5, 17, 0, 1, 5, 6, 8, 17, 0, 1, 5, 6, 0, 1, 2]);
+    for part in [
+        "call 17 0 1 5 6          # refusal 12: the number p of connect is missing\n",
+        "call 17 0 1 5 6 0 1 2    # refusal 12: 1 byte is left over behind connect\n",
     ] {
         assert!(out(&output).contains(part), "{}", out(&output));
     }
@@ -575,6 +600,89 @@ fn a_map_that_is_refused_is_explained() {
             "Refused (8): the handle is for the other direction. Place 2 holds its mapping of file 1 (level 2). What to \
              do: open it for writing at another place. 7.",
             "Refused (10): a handle is still open on the file. File 1 is held open by step 0 at place 2. ",
+        ],
+    );
+}
+
+#[test]
+fn both_directions_of_a_channel_are_explained() {
+    let text = explained(&format!("{BOOKS}connect 0 1 5 6 3 4\nread 0 3\nclose 0 4\nclose 1 3\n"));
+    sees(
+        &text,
+        &[
+            "5. Step 0 is connected to step 1 by pipe 5 and back by pipe 6, both reading at place 3 and writing at place 4. \
+             Allowed. Both pipes are empty. One way: step 0 writes pipe 5 (level 9) at place 4, and step 1 reads it at place \
+             3. Back: step 1 writes pipe 6 (level 8) at place 4, and step 0 reads it at place 3. 6.",
+            "6. Step 0 reads at place 3, its reading handle on pipe 6 (level 8). Lowered. Step 0 falls from level 9 to level \
+             8. 7.",
+            "Place 3 is empty. That was the last handle on pipe 5, which ends. End",
+        ],
+    );
+}
+
+#[test]
+fn a_connect_that_is_refused_is_explained() {
+    let text = explained(&format!(
+        "{BOOKS}open-write 0 0 2\nconnect 7 9 5 6 3 4\nconnect 0 9 5 6 3 4\nconnect 0 0 5 6 3 4\nconnect 0 1 64 6 3 4\n\
+         connect 0 1 5 1 3 4\nconnect 0 1 5 5 3 4\nconnect 0 1 5 6 3 16\nconnect 0 1 5 6 2 4\nconnect 1 0 5 6 4 2\n\
+         connect 0 1 5 6 4 4\n"
+    ));
+    sees(
+        &text,
+        &[
+            "6. Step 7 is connected to step 9 by pipe 5 and back by pipe 6, ",
+            "Refused (2): the step that asks is not there. Step 7 was not admitted or forked, or it has exited.",
+            "Step 9 was not admitted or forked, or it has exited. What to do: admit or fork step 9 first",
+            "Refused (16): a step cannot be connected to itself. Both ends are to be step 0. What to do: name another step, \
+             or let step 0 make a pipe, which has both its ends at one step. 9.",
+            "Refused (3): the number for the new thing cannot be used. The number of a file or pipe is 0 to 63. What to do: \
+             use two free numbers, for example 2 and 3. 10.",
+            "Number 1 is in use for a file or pipe. What to do: use two free numbers, for example 2 and 3. 11.",
+            "Both pipes are to have the number 5. What to do: use two free numbers, for example 2 and 3. 12.",
+            "Places are 0 to 15, and 16 is none of them. What to do: use two places that are empty at step 0 and at step 1: \
+             0, 1, 3, 4,",
+            "Place 2 of step 0 is taken by its writing handle on file 0 (level 9). What to do: use two places that are empty \
+             at step 0 and at step 1: 0, 1, 3, 4,",
+            "Place 2 of step 0 is taken by its writing handle on file 0 (level 9). What to do: use two places that are empty \
+             at step 1 and at step 0: ",
+            "Reading and writing need two places. ",
+        ],
+    );
+    let full: String = (0..15).map(|p| format!("open-read 0 0 {p}\n")).collect();
+    let text = explained(&format!("{BOOKS}{full}connect 0 1 5 6 0 1\n"));
+    sees(&text, &["close handles until two places are empty at step 0 and at step 1, the same two."]);
+}
+
+#[test]
+fn a_9_of_a_connect_shows_the_new_pipe_and_the_direction_that_is_left() {
+    // Step 1, at level 8, would write to the pay book through step 0.
+    let text = explained(&format!("{BOOKS}open-write 0 0 0\nconnect 0 1 5 6 3 4\n"));
+    sees(
+        &text,
+        &[
+            "Refused (9): low data could reach a higher file. pipe 6 (level 8) → step 0 (level 9) → file 0 (level 9) Pipe 6 \
+             has level 8, and file 0 takes nothing from below level 9. What to do: close place 0 of step 0 (writing file \
+             0); connect them after that. Or: if data need only go from step 0 to step 1, let step 0 make a pipe and step 1 \
+             open it for reading. End",
+        ],
+    );
+    let text = explained(&format!("{BOOKS}open-write 0 0 0\nconnect 1 0 5 6 3 4\n"));
+    sees(
+        &text,
+        &[
+            "pipe 5 (level 8) → step 0 (level 9) → file 0 (level 9)",
+            "only go from step 0 to step 1, let step 0",
+        ],
+    );
+    // A low file upstream of the one end; the other direction is left.
+    let text =
+        explained(&format!("{BOOKS}admit 2 9\nopen-read 2 1 0\nopen-write 0 0 0\nconnect 2 0 5 6 3 4\n"));
+    sees(
+        &text,
+        &[
+            "file 1 (level 2) → step 2 (level 9) → pipe 5 (level 9) → step 0 (level 9) → file 0 (level 9) File 1 has level 2",
+            "close place 0 of step 2 (reading file 1), or close place 0 of step 0 (writing file 0); connect them after that. \
+             Or: if data need only go from step 0 to step 2, let step 0 make a pipe and step 2 open it for reading. End",
         ],
     );
 }

@@ -57,7 +57,7 @@ fn every_pair_of_conditions_that_can_hold_together_has_a_variant() {
             }
         }
     }
-    let expected = "2-3 2-4 2-5 2-7 2-15 3-6 3-7 4-7 5-7 5-9 7-9 7-15 9-15";
+    let expected = "2-3 2-4 2-5 2-7 2-15 2-16 3-6 3-7 3-9 4-7 5-7 5-9 7-9 7-15 9-15 16-3 16-7";
     let pairs: Vec<String> = pairs.iter().map(|(smaller, larger)| format!("{smaller}-{larger}")).collect();
     assert_eq!(pairs.join(" "), expected);
     for pair in pairs {

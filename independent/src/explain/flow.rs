@@ -1,10 +1,11 @@
 //! Refusal 9: the chain of flows from the low thing to the higher file, and what would open the way.
 
+use super::channels::Channel;
 use super::freeze::when_open;
 use super::names::{capital, direction_word, name, name_and_level};
 use crate::calls::Call;
 use crate::needs::{level, live_things, Flow, Needs, Thing};
-use crate::refusals::{meaning, needs_for, sought_flow, tables_tested};
+use crate::refusals::{meaning, needs_for, sought_flows, tables_tested};
 use crate::tables::{Direction, Handle, Kind, Tables};
 use crate::text::{paragraph, wrapped};
 use crate::variants::Rules;
@@ -19,8 +20,11 @@ struct Chain {
 
 /// The refusal with its chain and what would open the way.
 pub fn flow_refusal(call: Call, tables: &Tables) -> String {
-    // RULES R110: the marked handles and the mappings that an exec leaves out are in no chain.
-    let tables = &*tables_tested(tables, call, Rules::default());
+    // RULES R110, C17: what an exec leaves out is in no chain, and the pipes of a connect are.
+    let tables = match Channel::of(call) {
+        Some(channel) => &channel.placed(tables),
+        None => &*tables_tested(tables, call, Rules::default()),
+    };
     let mut text = format!("  Refused (9): {}.\n", meaning(9));
     let Some((chain, sought)) = chain_in_the_way(call, tables) else {
         return text;
@@ -40,43 +44,46 @@ pub fn flow_refusal(call: Call, tables: &Tables) -> String {
         level(tables, low).unwrap_or(0),
         name(high, tables)
     ));
-    text.push_str(&advice(call, tables, &chain, sought));
-    text.push_str(&closed_for_good(tables, &chain, sought));
+    text.push_str(&advice(call, tables, &chain, &sought));
+    text.push_str(&closed_for_good(tables, &chain, &sought));
     text
 }
 
-/// The shortest chain from a thing that would be below its need to a file above its level; and the flow
+/// The shortest chain from a thing that would be below its need to a file above its level; and the flows
 /// that the call asks for.
-fn chain_in_the_way(call: Call, tables: &Tables) -> Option<(Chain, Flow)> {
-    let (sought, low): (Flow, Vec<Thing>) = match call {
+fn chain_in_the_way(call: Call, tables: &Tables) -> Option<(Chain, Vec<Flow>)> {
+    let (sought, low): (Vec<Flow>, Vec<Thing>) = match call {
         Call::Exec { s, o } => {
             // Running a file is a flow from it to the subject.
             let from = Thing::Object(o);
             let to = Thing::Subject(s);
-            (Flow { from, to }, vec![from])
+            (vec![Flow { from, to }], vec![from])
+        }
+        Call::Connect { .. } => {
+            let sought = call.ends().into_iter().map(|(s, _, handle)| Flow::of(s, handle)).collect();
+            (sought, needs_with(tables, &[]).unmet(tables).collect())
         }
         _ => {
-            let sought = sought_flow(tables, call)?;
-            let needs = needs_with(tables, Some(sought));
-            let low = needs.unmet(tables).collect();
+            let sought = sought_flows(tables, call);
+            let low = needs_with(tables, &sought).unmet(tables).collect();
             (sought, low)
         }
     };
     low.into_iter()
-        .filter_map(|thing| chain_up(thing, tables, sought))
+        .filter_map(|thing| chain_up(thing, tables, &sought))
         .min_by_key(|chain| chain.things.len())
         .map(|chain| (chain, sought))
 }
 
-fn needs_with(tables: &Tables, sought: Option<Flow>) -> Needs {
+fn needs_with(tables: &Tables, sought: &[Flow]) -> Needs {
     Needs::work_out(tables, sought, Rules::default(), &Needs::none(tables))
 }
 
 /// The shortest chain of flows from a thing to a file of a higher level.
-fn chain_up(start: Thing, tables: &Tables, sought: Flow) -> Option<Chain> {
+fn chain_up(start: Thing, tables: &Tables, sought: &[Flow]) -> Option<Chain> {
     let own = level(tables, start)?;
     let mut flows: Vec<Flow> = tables.handles().map(|(s, _, handle)| Flow::of(s, handle)).collect();
-    flows.push(sought);
+    flows.extend(sought);
     let is_higher_file = |thing| match thing {
         Thing::Object(o) => {
             tables.object(o).is_some_and(|object| object.kind == Kind::File && object.level > own)
@@ -114,13 +121,13 @@ fn carriers(tables: &Tables, from: Thing, to: Thing) -> Vec<(u32, u32, Handle)> 
 }
 
 /// Which handles to close, or to mark, so that the call is allowed, or who else could ask.
-fn advice(call: Call, tables: &Tables, chain: &Chain, sought: Flow) -> String {
+fn advice(call: Call, tables: &Tables, chain: &Chain, sought: &[Flow]) -> String {
     let mut ways = Vec::new();
     let mut first_link = None;
     for link in chain.things.windows(2) {
         let (from, to) = (link[0], link[1]);
         let handles = carriers(tables, from, to);
-        if (Flow { from, to }) == sought || handles.is_empty() {
+        if sought.contains(&Flow { from, to }) || handles.is_empty() {
             continue;
         }
         let mut without = tables.clone();
@@ -137,6 +144,7 @@ fn advice(call: Call, tables: &Tables, chain: &Chain, sought: Flow) -> String {
     let again = match call {
         Call::Exec { .. } => "run it after that".to_string(),
         Call::Map { .. } => "map it after that".to_string(),
+        Call::Connect { .. } => "connect them after that".to_string(),
         Call::OpenWrite { o, .. } => when_open("open it after that", Some(Thing::Object(o)), tables),
         _ => "open it after that".to_string(),
     };
@@ -169,7 +177,7 @@ fn advice(call: Call, tables: &Tables, chain: &Chain, sought: Flow) -> String {
 
 /// RULES R110: the handles of the caller that its exec asks to be marked, tried on a copy of the tables; none
 /// where the call is no exec. With one fewer it would not be allowed.
-fn marks_enough(call: Call, tables: &Tables, sought: Flow) -> Vec<(u32, u32, Handle)> {
+fn marks_enough(call: Call, tables: &Tables, sought: &[Flow]) -> Vec<(u32, u32, Handle)> {
     let Call::Exec { s, .. } = call else {
         return Vec::new();
     };
@@ -195,10 +203,10 @@ fn marks_enough(call: Call, tables: &Tables, sought: Flow) -> Vec<(u32, u32, Han
 }
 
 /// RULES R15: a handle on a frozen file, once closed, is not to be had again while the books are closed.
-fn closed_for_good(tables: &Tables, chain: &Chain, sought: Flow) -> String {
+fn closed_for_good(tables: &Tables, chain: &Chain, sought: &[Flow]) -> String {
     let frozen = chain.things.windows(2).find_map(|link| match (link[0], link[1]) {
         (from @ Thing::Subject(_), to @ Thing::Object(o)) if tables.is_frozen(o) => {
-            (Flow { from, to } != sought).then_some(to)
+            (!sought.contains(&Flow { from, to })).then_some(to)
         }
         _ => None,
     });
@@ -208,8 +216,8 @@ fn closed_for_good(tables: &Tables, chain: &Chain, sought: Flow) -> String {
     })
 }
 
-/// Whether the flow that the call asks for offends nothing in these tables.
-fn is_free(call: Call, tables: &Tables, sought: Flow) -> bool {
+/// Whether the flows that the call asks for offend nothing in these tables.
+fn is_free(call: Call, tables: &Tables, sought: &[Flow]) -> bool {
     match call {
         // A pipe without handles has ended.
         Call::OpenRead { o, .. } | Call::OpenWrite { o, .. }
@@ -221,7 +229,7 @@ fn is_free(call: Call, tables: &Tables, sought: Flow) -> bool {
             let needs = needs_for(tables, call, Rules::default(), &Needs::none(tables));
             tables.object(o).is_some_and(|object| object.level >= needs.of(Thing::Subject(s)))
         }
-        _ => needs_with(tables, Some(sought)).unmet(tables).next().is_none(),
+        _ => needs_with(tables, sought).unmet(tables).next().is_none(),
     }
 }
 
@@ -250,7 +258,7 @@ fn other_asker(call: Call, tables: &Tables, chain: &Chain) -> String {
             let fit = live_things(tables).find_map(|thing| match thing {
                 Thing::Subject(other) if other != s => {
                     let sought = Flow::of(other, Handle::new(o, Direction::Writing));
-                    is_free(call, tables, sought).then_some(other)
+                    is_free(call, tables, &[sought]).then_some(other)
                 }
                 _ => None,
             });
@@ -271,6 +279,9 @@ fn other_asker(call: Call, tables: &Tables, chain: &Chain) -> String {
             "let step {s} fork another one, which closes its ways to {high_name} and runs the file."
         ),
         Call::Map { .. } => format!("let another step map it, one with no way to {high_name}."),
+        Call::Connect { s, t, a, b, p, q } => {
+            Channel { s, t, a, b, p, q }.one_way(|tried| is_free(call, tried, &[]), tables)
+        }
         _ => format!("let another step read it, one with no way to {high_name}."),
     }
 }

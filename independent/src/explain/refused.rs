@@ -1,5 +1,7 @@
-//! Refusals 2 to 10 and 15: the reason in plain words and a way out. Refusal 9 is in `flow`, 15 in `freeze`.
+//! Refusals 2 to 10, 15 and 16: the reason in plain words and a way out. Refusal 9 is in `flow`, 15 in `freeze`, what
+//! refuses a connect in `channels`.
 
+use super::channels::Channel;
 use super::flow::flow_refusal;
 use super::freeze::{also_frozen, frozen_refusal, when_open, Closing};
 use super::names::{at_place, direction_word};
@@ -8,7 +10,7 @@ use crate::needs::Thing;
 use crate::refusals::meaning;
 use crate::tables::{Direction, Tables, LIMITS};
 
-/// A refusal 2 to 10 or 15 with its reason and a way out; `closing` is the freeze that is set.
+/// A refusal 2 to 10, 15 or 16 with its reason and a way out; `closing` is the freeze that is set.
 pub fn refusal(call: Call, number: u32, tables: &Tables, closing: Option<Closing>) -> String {
     let text = match number {
         9 => flow_refusal(call, tables),
@@ -19,8 +21,18 @@ pub fn refusal(call: Call, number: u32, tables: &Tables, closing: Option<Closing
 }
 
 fn plain_refusal(call: Call, number: u32, tables: &Tables) -> String {
-    let (why, advice) = match number {
-        2 => missing_subject(call),
+    let (why, advice) = match (number, Channel::of(call)) {
+        (3, Some(channel)) => channel.unfit_numbers(tables),
+        (7, Some(channel)) => channel.unfit_places(tables),
+        (16, Some(channel)) => channel.same_step(),
+        _ => reason(call, number, tables),
+    };
+    format!("  Refused ({number}): {}. {why}\n  What to do: {advice}\n", meaning(number))
+}
+
+fn reason(call: Call, number: u32, tables: &Tables) -> (String, String) {
+    match number {
+        2 => missing_subject(call, tables),
         3 => unfit_number(call, tables),
         4 => missing_object(call),
         5 => named_pipe(call),
@@ -29,12 +41,12 @@ fn plain_refusal(call: Call, number: u32, tables: &Tables) -> String {
         8 => wrong_direction(call, tables),
         10 => held_file(call, tables),
         _ => (String::new(), String::new()),
-    };
-    format!("  Refused ({number}): {}. {why}\n  What to do: {advice}\n", meaning(number))
+    }
 }
 
-fn missing_subject(call: Call) -> (String, String) {
-    let s = call.asker().unwrap_or(0);
+fn missing_subject(call: Call, tables: &Tables) -> (String, String) {
+    let mut named = [call.asker(), call.partner()].into_iter().flatten();
+    let s = named.find(|&s| tables.subject(s).is_none()).unwrap_or(0);
     if s >= LIMITS.subjects {
         (
             format!("Steps have numbers 0 to 31, and {s} is none of them."),
@@ -49,14 +61,15 @@ fn missing_subject(call: Call) -> (String, String) {
 }
 
 fn unfit_number(call: Call, tables: &Tables) -> (String, String) {
-    let (kind, number, limit, free) = match (call.new_subject(), call.new_object()) {
-        (Some(s), _) => {
+    let (kind, number, limit, free) = match call.new_subject() {
+        Some(s) => {
             let free = (0..LIMITS.subjects).find(|&s| tables.subject(s).is_none());
             ("step", s, LIMITS.subjects, free)
         }
-        (None, o) => {
+        None => {
+            let o = call.new_objects().first().copied().unwrap_or(0);
             let free = (0..LIMITS.objects).find(|&o| tables.object(o).is_none());
-            ("file or pipe", o.unwrap_or(0), LIMITS.objects, free)
+            ("file or pipe", o, LIMITS.objects, free)
         }
     };
     let why = if number >= limit {

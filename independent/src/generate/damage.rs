@@ -113,7 +113,7 @@ impl Draft {
     }
 
     pub(super) fn unknown_code(&mut self) -> u32 {
-        let codes = [0, 17, 21, 77, 127, 128, 129, 256 + 1, 12_857, 65_536 + 2, u32::MAX];
+        let codes = [0, 18, 21, 77, 127, 128, 129, 256 + 1, 12_857, 65_536 + 2, u32::MAX];
         self.random.pick(&codes).unwrap_or(0)
     }
 }

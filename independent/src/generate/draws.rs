@@ -1,7 +1,7 @@
 //! Calls drawn one at a time: which number to name, and which call to make, where things stand.
 
-use super::{four, Draft};
-use crate::calls::{shape_of_code, SHAPES};
+use super::Draft;
+use crate::calls::{filled, shape_of_code, SHAPES};
 use crate::monitor::Answer;
 use crate::tables::{Direction, Kind, LIMITS, NO_FREEZE};
 
@@ -9,7 +9,7 @@ impl Draft {
     // Numbers.
 
     /// This number, or now and then another one that may not fit.
-    fn maybe_odd(&mut self, number: u32, limit: u32) -> u32 {
+    pub(super) fn maybe_odd(&mut self, number: u32, limit: u32) -> u32 {
         if !self.random.once_in(self.odd_numbers) {
             return number;
         }
@@ -137,6 +137,7 @@ impl Draft {
             some(self.imports * subjects * objects, 5),
             some(self.launches * handles, 5),
             some(self.closings, if frozen { 6 } else { 1 }),
+            some(self.channels * subjects, 4),
         ];
         let code = SHAPES[self.random.weighted(&weights)].code;
         let numbers = self.numbers_for(code);
@@ -190,6 +191,7 @@ impl Draft {
                 let empty = self.free_place(s);
                 vec![s, if self.random.once_in(12) { empty } else { p }]
             }
+            17 => self.connect_numbers(),
             _ => vec![self.freeze()],
         }
     }
@@ -206,7 +208,7 @@ impl Draft {
                 _ => Some(Kind::File),
             };
             numbers = self.one_open(kind);
-            let answer = self.picture.clone().call(code, four(&numbers));
+            let answer = self.picture.clone().call(code, filled(&numbers));
             if !matches!(answer, Answer::Refused(_)) {
                 break;
             }
@@ -219,7 +221,7 @@ impl Draft {
         let mut numbers = Vec::new();
         for _ in 0..3 {
             numbers = self.one_open(Some(kind));
-            let answer = self.picture.clone().call(code, four(&numbers));
+            let answer = self.picture.clone().call(code, filled(&numbers));
             if matches!(answer, Answer::Allowed(_) | Answer::Refused(15)) {
                 break;
             }

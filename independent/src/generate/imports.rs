@@ -37,7 +37,7 @@ impl Draft {
     }
 
     /// A subject that is admitted, as a rule at the highest level.
-    fn new_step(&mut self) -> u32 {
+    pub(super) fn new_step(&mut self) -> u32 {
         let s = self.free_subject();
         let top = self.levels.last().copied().unwrap_or(15);
         let level = if self.random.once_in(4) { self.level() } else { top };
@@ -45,7 +45,7 @@ impl Draft {
         s
     }
 
-    fn level_of(&self, s: u32) -> u32 {
+    pub(super) fn level_of(&self, s: u32) -> u32 {
         self.picture.tables().subject(s).map_or(0, |subject| subject.level)
     }
 

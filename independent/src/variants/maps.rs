@@ -22,7 +22,7 @@ pub fn bend_mapped(variant: Variant, tables: &Tables, call: Call, needs: &Needs)
         }
         (Variant::MapAsWriting, Call::Map { s, o, .. }) => {
             let flow = Flow::of(s, Handle::new(o, Direction::Writing));
-            let needs = Needs::work_out(tables, Some(flow), Rules::default(), &Needs::none(tables));
+            let needs = Needs::work_out(tables, &[flow], Rules::default(), &Needs::none(tables));
             sought_flow(tables, call).map(|_| (9, needs.unmet(tables).next().is_some()))
         }
         (Variant::MapPipe, Call::Map { .. }) => Some((5, false)),
