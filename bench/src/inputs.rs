@@ -6,7 +6,7 @@ use gatekeeper::{Answer, Call, Monitor};
 use gatekeeper_independent::generate::{self, Style, Wish};
 use gatekeeper_independent::numbers;
 use gatekeeper_independent::random::Random;
-use gatekeeper_plain::{replies, Answer as PlainAnswer, Monitor as PlainMonitor, When};
+use gatekeeper_plain::{calls, replies, Answer as PlainAnswer, Monitor as PlainMonitor, When};
 
 use crate::layouts::{Layout, LAYOUTS};
 use crate::leb::{self, Form};
@@ -170,8 +170,8 @@ fn as_journal(layout: Layout) -> Vec<u8> {
 /// A round over full tables, call by call.
 fn called(layout: Layout) -> Input {
     let numbered = |call: Call| (call.code(), call.numbers());
-    let filling: Vec<(u32, [u32; 4])> = layout.filling().into_iter().map(numbered).collect();
-    let round: Vec<(u32, [u32; 4])> = layout.round().into_iter().map(numbered).collect();
+    let filling: Vec<(u32, [u32; calls::NUMBERS])> = layout.filling().into_iter().map(numbered).collect();
+    let round: Vec<(u32, [u32; calls::NUMBERS])> = layout.round().into_iter().map(numbered).collect();
 
     let mut proved = Monitor::new();
     for &(code, numbers) in &filling {

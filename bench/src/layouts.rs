@@ -329,8 +329,8 @@ mod tests {
                 let mut monitor = filled(layout);
                 assert_eq!(monitor.tables().handle_count(), u64::from(16 * subjects), "{}", layout.name);
                 // The low file is not for those whose need is 12.
-                monitor.call(11, [0, 2, 0, 0]);
-                assert_eq!(monitor.call(5, [0, LOW_FILE, 2, 0]), AnswerBeside::Refused(9));
+                assert_eq!(monitor.call(11, [0, 2, 0, 0, 0, 0]), AnswerBeside::Allowed(LEVEL));
+                assert_eq!(monitor.call(5, [0, LOW_FILE, 2, 0, 0, 0]), AnswerBeside::Refused(9));
             }
         }
     }

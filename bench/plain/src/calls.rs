@@ -1,4 +1,4 @@
-//! The sixteen calls by code, and what a call is answered with.
+//! The seventeen calls by code, and what a call is answered with.
 
 use crate::refusals::Refusal;
 use crate::tables::{Direction, Level};
@@ -37,15 +37,17 @@ pub enum Call {
     Map { s: u32, o: u32, p: u32 },
     Mark { s: u32, p: u32 },
     Freeze { level: u32 },
+    Connect { s: u32, t: u32, a: u32, b: u32, p: u32, q: u32 },
 }
 
 /// The most numbers that a call takes.
-pub const NUMBERS: usize = 4;
+pub const NUMBERS: usize = 6;
 
 impl Call {
     /// How many numbers the call with this code takes; none for an unknown code.
     pub fn numbers_of(code: u32) -> Option<usize> {
         match code {
+            17 => Some(6),
             4 => Some(4),
             5 | 6 | 14 => Some(3),
             1..=3 | 7..=11 | 15 => Some(2),
@@ -55,7 +57,7 @@ impl Call {
     }
 
     /// The call with this code; numbers that it does not use are ignored.
-    pub fn new(code: u32, [a, b, c, d]: [u32; NUMBERS]) -> Option<Call> {
+    pub fn new(code: u32, [a, b, c, d, e, f]: [u32; NUMBERS]) -> Option<Call> {
         Some(match code {
             1 => Call::Admit { s: a, level: b },
             2 => Call::Register { o: a, level: b },
@@ -73,6 +75,7 @@ impl Call {
             14 => Call::Map { s: a, o: b, p: c },
             15 => Call::Mark { s: a, p: b },
             16 => Call::Freeze { level: a },
+            17 => Call::Connect { s: a, t: b, a: c, b: d, p: e, q: f },
             _ => return None,
         })
     }

@@ -9,7 +9,7 @@
 //! |---|---|
 //! | [`tables`] | subjects, objects and handles, by number, the marks, the mappings and the freeze |
 //! | [`needs`] | the need of every subject and object |
-//! | [`calls`] | the sixteen calls by code, and what a call is answered with |
+//! | [`calls`] | the seventeen calls by code, and what a call is answered with |
 //! | [`refusals`] | what refuses a call's numbers |
 //! | [`monitor`] | the calls: each refuses, then takes effect |
 //! | [`journal`] | numbers and records |

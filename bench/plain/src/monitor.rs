@@ -10,7 +10,7 @@ use crate::tables::{Direction, Kind, Level, Object, Place, Tables, Tally, PLACES
 pub enum When {
     /// At each call, refused ones too.
     EachCall,
-    /// Where a call goes by them: an open, a map or an exec that nothing else refuses.
+    /// Where a call goes by them: an open, a map, an exec or a connect that nothing else refuses.
     Asked,
 }
 
@@ -37,13 +37,13 @@ impl Monitor {
         self.tables.tally
     }
 
-    /// The needs worked out last: for an open or a map, as if it were allowed; for an exec, without the caller's marked
-    /// handles.
+    /// The needs worked out last: for an open, a map or a connect, as if it were allowed; for an exec, without the
+    /// caller's marked handles.
     pub fn needs(&self) -> &Needs {
         &self.needs
     }
 
-    /// The direct call: a code and four numbers.
+    /// The direct call: a code and six numbers.
     pub fn direct(&mut self, code: u32, numbers: [u32; NUMBERS]) -> Answer {
         match Call::new(code, numbers) {
             Some(call) => self.call(call),
@@ -72,6 +72,7 @@ impl Monitor {
             Call::Map { s, o, p } => self.map(s, o, p),
             Call::Mark { s, p } => self.mark(s, p),
             Call::Freeze { level } => self.freeze(level),
+            Call::Connect { s, t, a, b, p, q } => self.connect([s, t], [a, b], [p, q]),
         };
         answer.unwrap_or_else(Answer::from)
     }
@@ -103,10 +104,7 @@ impl Monitor {
     fn pipe(&mut self, s: u32, o: u32, r: u32, w: u32) -> Result<Answer, Refusal> {
         let (s, level) = self.tables.subject(s)?;
         let o = self.tables.new_object(o)?;
-        let (r, w) = (self.tables.empty_place(s, r)?, self.tables.empty_place(s, w)?);
-        if r == w {
-            return Err(Refusal::PlaceUnfit);
-        }
+        let [r, w] = self.tables.two_empty_places(s, r, w)?;
         self.tables.objects[o] = Some(Object { kind: Kind::Pipe, level, handles: 0 });
         self.tables.fill(s, r, o, Direction::Reading);
         self.tables.fill(s, w, o, Direction::Writing);
@@ -117,7 +115,7 @@ impl Monitor {
         let (s, _) = self.tables.subject(s)?;
         let (o, object) = self.tables.object(o)?;
         let p = self.tables.empty_place(s, p)?;
-        self.test_flow(Place::of(s, o, direction))?;
+        self.test_flow([Place::of(s, o, direction)])?;
         if direction == Direction::Writing {
             self.tables.writable(object)?;
         }
@@ -201,7 +199,7 @@ impl Monitor {
         let (s, level) = self.tables.subject(s)?;
         let (o, object) = self.tables.file(o)?;
         let p = self.tables.empty_place(s, p)?;
-        self.test_flow(Place::of(s, o, Direction::Reading))?;
+        self.test_flow([Place::of(s, o, Direction::Reading)])?;
         self.tables.fill(s, p, o, Direction::Reading);
         self.tables.map(s, p);
         Ok(fall(level, object.level, |level| self.tables.subjects[s] = Some(level)))
@@ -218,12 +216,27 @@ impl Monitor {
         self.tables.freeze = freeze_in_range(level)?;
         Ok(Answer::Allowed(self.tables.freeze))
     }
+
+    /// Pipe a from s to t and pipe b from t to s, each read at p and written at q.
+    fn connect(&mut self, [s, t]: [u32; 2], [a, b]: [u32; 2], [p, q]: [u32; 2]) -> Result<Answer, Refusal> {
+        let [(s, level), (t, other)] = self.tables.two_subjects(s, t)?;
+        let [a, b] = self.tables.two_new_objects(a, b)?;
+        let [p, q] = self.tables.two_empty_places(s, p, q).and(self.tables.two_empty_places(t, p, q))?;
+        self.test_flow([Place::between(s, t), Place::between(t, s)])?;
+        for (writer, reader, o, level) in [(s, t, a, level), (t, s, b, other)] {
+            self.tables.objects[o] = Some(Object { kind: Kind::Pipe, level, handles: 0 });
+            self.tables.fill(writer, q, o, Direction::Writing);
+            self.tables.fill(reader, p, o, Direction::Reading);
+        }
+        Ok(Answer::Allowed(level))
+    }
 }
 
 /// When needs are worked out, and of what.
 impl Monitor {
-    /// Refusal 9: with this handle, every live subject and object has at least the level of its need.
-    fn test_flow(&mut self, sought: Place) -> Result<(), Refusal> {
+    /// Refusal 9: with what is sought, every live subject and object has at least the level of its need. So has then a
+    /// new pipe, which has its writer's level and its reader's need.
+    fn test_flow<const N: usize>(&mut self, sought: [Place; N]) -> Result<(), Refusal> {
         self.ask(|tables| Needs::work_out(tables, sought));
         if self.needs.are_met(&self.tables) {
             Ok(())
@@ -239,26 +252,27 @@ impl Monitor {
         }
     }
 
-    /// The needs that a call is tested by: for an exec, without the caller's marked handles.
+    /// The needs that a call is tested by, where the subjects and the object that it names are live: for an exec, without
+    /// the caller's marked handles; for an open, a map or a connect, with what it seeks.
     fn needs_for(&self, call: Call) -> Needs {
-        if let Call::Exec { s, .. } = call {
-            if let Ok((s, _)) = self.tables.subject(s) {
-                return Needs::without_marked(&self.tables, s);
-            }
-        }
-        Needs::work_out(&self.tables, self.sought(call).unwrap_or(Place::EMPTY))
+        let tables = &self.tables;
+        let needs = match call {
+            Call::Exec { s, .. } => tables.subject(s).map(|(s, _)| Needs::without_marked(tables, s)),
+            Call::Open { s, o, direction, .. } => self.needs_with(s, o, direction),
+            Call::Map { s, o, .. } => self.needs_with(s, o, Direction::Reading),
+            Call::Connect { s, t, .. } => tables.two_subjects(s, t).map(|[(s, _), (t, _)]| {
+                Needs::work_out(tables, [Place::between(s, t), Place::between(t, s)])
+            }),
+            _ => return Needs::work_out(tables, []),
+        };
+        needs.unwrap_or_else(|_| Needs::work_out(tables, []))
     }
 
-    /// The handle that an open or a map seeks, where its subject and its object are live.
-    fn sought(&self, call: Call) -> Option<Place> {
-        let (s, o, direction) = match call {
-            Call::Open { s, o, direction, .. } => (s, o, direction),
-            Call::Map { s, o, .. } => (s, o, Direction::Reading),
-            _ => return None,
-        };
-        let (s, _) = self.tables.subject(s).ok()?;
-        let (o, _) = self.tables.object(o).ok()?;
-        Some(Place::of(s, o, direction))
+    /// The needs with a handle that is sought.
+    fn needs_with(&self, s: u32, o: u32, direction: Direction) -> Result<Needs, Refusal> {
+        let (s, _) = self.tables.subject(s)?;
+        let (o, _) = self.tables.object(o)?;
+        Ok(Needs::work_out(&self.tables, [Place::of(s, o, direction)]))
     }
 }
 
@@ -276,11 +290,16 @@ fn fall(from: Level, to: Level, set: impl FnOnce(Level)) -> Answer {
 mod tests {
     use super::*;
 
-    /// Makes calls on new tables, some allowed and a last one; the answer to that.
-    fn last(calls: &[(u32, [u32; NUMBERS])]) -> Answer {
+    /// Makes calls on new tables, some allowed and a last one; the answer to that. Numbers that are not given are 0.
+    fn last<const N: usize>(calls: &[(u32, [u32; N])]) -> Answer {
         let answers = [When::EachCall, When::Asked].map(|when| {
             let mut monitor = Monitor::new(when);
-            calls.iter().map(|&(code, numbers)| monitor.direct(code, numbers)).last()
+            let answers = calls.iter().map(|&(code, given)| {
+                let mut numbers = [0; NUMBERS];
+                numbers[..N].copy_from_slice(&given);
+                monitor.direct(code, numbers)
+            });
+            answers.last()
         });
         assert_eq!(answers[0], answers[1]);
         answers[0].expect("there is a call")
@@ -301,27 +320,27 @@ mod tests {
     #[test]
     fn a_frozen_file_is_not_opened_for_writing() {
         let start = [(1, [0, 9, 0, 0]), (2, [0, 9, 0, 0]), (4, [0, 1, 0, 1])];
-        let after = |calls: &[(u32, [u32; NUMBERS])]| last(&[&start[..], calls].concat());
+        let after = |calls: &[(u32, [u32; 4])]| last(&[&start[..], calls].concat());
         let (file, pipe) = ([0, 0, 2, 0], [0, 1, 2, 0]);
         for level in 0..=16 {
             let answer = if level > 9 { Answer::Allowed(9) } else { Answer::Refused(15) };
-            assert_eq!(after(&[(16, [level; NUMBERS])]), Answer::Allowed(level as u8));
-            assert_eq!(after(&[(16, [level; NUMBERS]), (6, file)]), answer, "{level}");
-            assert_eq!(after(&[(16, [level; NUMBERS]), (6, pipe)]), Answer::Allowed(9));
-            assert_eq!(after(&[(16, [level; NUMBERS]), (5, file)]), Answer::Allowed(9));
-            assert_eq!(after(&[(6, file), (16, [level; NUMBERS]), (8, [0, 2, 0, 0])]), Answer::Allowed(9));
+            assert_eq!(after(&[(16, [level; 4])]), Answer::Allowed(level as u8));
+            assert_eq!(after(&[(16, [level; 4]), (6, file)]), answer, "{level}");
+            assert_eq!(after(&[(16, [level; 4]), (6, pipe)]), Answer::Allowed(9));
+            assert_eq!(after(&[(16, [level; 4]), (5, file)]), Answer::Allowed(9));
+            assert_eq!(after(&[(6, file), (16, [level; 4]), (8, [0, 2, 0, 0])]), Answer::Allowed(9));
         }
-        assert_eq!(after(&[(16, [0; NUMBERS]), (16, [16; NUMBERS]), (6, file)]), Answer::Allowed(9));
-        assert_eq!(after(&[(16, [0; NUMBERS]), (16, [17; NUMBERS])]), Answer::Refused(6));
-        assert_eq!(after(&[(16, [0; NUMBERS]), (16, [17; NUMBERS]), (6, file)]), Answer::Refused(15));
+        assert_eq!(after(&[(16, [0; 4]), (16, [16; 4]), (6, file)]), Answer::Allowed(9));
+        assert_eq!(after(&[(16, [0; 4]), (16, [17; 4])]), Answer::Refused(6));
+        assert_eq!(after(&[(16, [0; 4]), (16, [17; 4]), (6, file)]), Answer::Refused(15));
         // Below the file's level: that is said first.
-        assert_eq!(after(&[(1, [1, 8, 0, 0]), (16, [0; NUMBERS]), (6, [1, 0, 0, 0])]), Answer::Refused(9));
+        assert_eq!(after(&[(1, [1, 8, 0, 0]), (16, [0; 4]), (6, [1, 0, 0, 0])]), Answer::Refused(9));
     }
 
     #[test]
     fn an_exec_leaves_the_caller_s_marked_handles_out_and_closes_them() {
         let start = [(1, [0, 9, 0, 0]), (2, [0, 9, 0, 0]), (2, [1, 2, 0, 0]), (6, [0, 0, 0, 0])];
-        let after = |calls: &[(u32, [u32; NUMBERS])]| last(&[&start[..], calls].concat());
+        let after = |calls: &[(u32, [u32; 4])]| last(&[&start[..], calls].concat());
         let (mark, exec, write) = ((15, [0; 4]), (10, [0, 1, 0, 0]), (8, [0; 4]));
         assert_eq!(after(&[mark]), Answer::Allowed(9));
         assert_eq!(after(&[mark, mark]), Answer::Allowed(9));
@@ -356,7 +375,7 @@ mod tests {
     #[test]
     fn a_map_is_an_open_for_reading_and_a_read() {
         let start = [(1, [0, 9, 0, 0]), (2, [0, 9, 0, 0]), (2, [1, 2, 0, 0]), (4, [0, 5, 14, 15])];
-        let after = |calls: &[(u32, [u32; NUMBERS])]| last(&[&start[..], calls].concat());
+        let after = |calls: &[(u32, [u32; 4])]| last(&[&start[..], calls].concat());
         let (high, low) = ((14, [0, 0, 0, 0]), (14, [0, 1, 1, 0]));
         assert_eq!(after(&[high]), Answer::Allowed(9));
         assert_eq!(after(&[low]), Answer::Lowered(2));
@@ -370,13 +389,13 @@ mod tests {
         assert_eq!(after(&[(6, [0, 0, 0, 0]), (14, [0, 1, 16, 0])]), Answer::Refused(7));
         assert_eq!(after(&[(6, [0, 0, 0, 0]), (14, [0, 1, 0, 0])]), Answer::Refused(7));
         assert_eq!(after(&[(6, [0, 0, 0, 0]), low]), Answer::Refused(9));
-        assert_eq!(after(&[(16, [0; NUMBERS]), low]), Answer::Lowered(2));
+        assert_eq!(after(&[(16, [0; 4]), low]), Answer::Lowered(2));
     }
 
     #[test]
     fn a_write_to_a_mapped_file_lowers_nobody() {
         let start = [(1, [0, 9, 0, 0]), (1, [1, 9, 0, 0]), (2, [0, 2, 0, 0]), (14, [1, 0, 0, 0])];
-        let after = |calls: &[(u32, [u32; NUMBERS])]| last(&[&start[..], calls].concat());
+        let after = |calls: &[(u32, [u32; 4])]| last(&[&start[..], calls].concat());
         let (open, write) = ((6, [0, 0, 3, 0]), (8, [0, 3, 0, 0]));
         assert_eq!(after(&[open, write]), Answer::Allowed(2));
         assert_eq!(after(&[open, write, (7, [1, 0, 0, 0])]), Answer::Allowed(2));
@@ -386,7 +405,7 @@ mod tests {
     #[test]
     fn an_exec_closes_the_caller_s_mappings() {
         let start = [(1, [0, 9, 0, 0]), (2, [0, 9, 0, 0]), (2, [1, 2, 0, 0]), (14, [0, 0, 0, 0])];
-        let after = |calls: &[(u32, [u32; NUMBERS])]| last(&[&start[..], calls].concat());
+        let after = |calls: &[(u32, [u32; 4])]| last(&[&start[..], calls].concat());
         let (exec, read) = ((10, [0; 4]), (7, [0; 4]));
         assert_eq!(after(&[exec]), Answer::Allowed(9));
         assert_eq!(after(&[exec, read]), Answer::Refused(7));
@@ -399,6 +418,71 @@ mod tests {
         let (fork, child) = ((9, [0, 1, 0, 0]), (10, [1, 0, 0, 0]));
         assert_eq!(after(&[fork, child, (7, [1, 0, 0, 0])]), Answer::Refused(7));
         assert_eq!(after(&[fork, child, read]), Answer::Allowed(9));
+    }
+
+    /// Subjects 0 of level 9 and 1 of level 2, files 0 of level 9 and 1 of level 2, then these calls.
+    fn after(calls: &[(u32, [u32; 6])]) -> Answer {
+        let start = [
+            (1, [0, 9, 0, 0, 0, 0]),
+            (1, [1, 2, 0, 0, 0, 0]),
+            (2, [0, 9, 0, 0, 0, 0]),
+            (2, [1, 2, 0, 0, 0, 0]),
+        ];
+        last(&[&start[..], calls].concat())
+    }
+
+    const CONNECT: (u32, [u32; 6]) = (17, [0, 1, 5, 6, 3, 4]);
+
+    /// A call at a place of a subject.
+    fn at(code: u32, s: u32, p: u32) -> (u32, [u32; 6]) {
+        (code, [s, p, 0, 0, 0, 0])
+    }
+
+    #[test]
+    fn a_connect_makes_a_pipe_each_way() {
+        assert_eq!(after(&[CONNECT]), Answer::Allowed(9));
+        assert_eq!(after(&[(17, [1, 0, 5, 6, 3, 4])]), Answer::Allowed(2));
+        // Each pipe has its writer's level.
+        assert_eq!(after(&[CONNECT, at(8, 0, 4)]), Answer::Allowed(9));
+        assert_eq!(after(&[CONNECT, at(7, 1, 3)]), Answer::Allowed(2));
+        assert_eq!(after(&[CONNECT, at(8, 1, 4)]), Answer::Allowed(2));
+        assert_eq!(after(&[CONNECT, at(7, 0, 3)]), Answer::Lowered(2));
+        for s in [0, 1] {
+            assert_eq!(after(&[CONNECT, at(7, s, 4)]), Answer::Refused(8));
+            assert_eq!(after(&[CONNECT, at(8, s, 3)]), Answer::Refused(8));
+        }
+        // A pipe ends with its last handle.
+        let again = (2, [5, 4, 0, 0, 0, 0]);
+        assert_eq!(after(&[CONNECT, at(11, 0, 4), again]), Answer::Refused(3));
+        assert_eq!(after(&[CONNECT, at(11, 0, 4), at(11, 1, 3), again]), Answer::Allowed(4));
+    }
+
+    #[test]
+    fn a_connect_is_refused_for_its_numbers_in_order() {
+        let connect = |numbers| after(&[(17, numbers)]);
+        for missing in [2, 32] {
+            assert_eq!(connect([missing, missing, 64, 64, 16, 16]), Answer::Refused(2));
+            assert_eq!(connect([0, missing, 64, 64, 16, 16]), Answer::Refused(2));
+        }
+        assert_eq!(connect([0, 0, 64, 64, 16, 16]), Answer::Refused(16));
+        for (a, b) in [(64, 6), (5, 64), (0, 6), (5, 1), (5, 5)] {
+            assert_eq!(connect([0, 1, a, b, 16, 16]), Answer::Refused(3));
+        }
+        for (p, q) in [(16, 4), (3, 16), (3, 3)] {
+            assert_eq!(connect([0, 1, 5, 6, p, q]), Answer::Refused(7));
+        }
+        // Places that are in use at one of the two, and then the flow, one way and the other.
+        let write = (6, [0, 0, 3, 0, 0, 0]);
+        assert_eq!(after(&[write, CONNECT]), Answer::Refused(7));
+        assert_eq!(after(&[write, (17, [1, 0, 5, 6, 4, 3])]), Answer::Refused(7));
+        let write = (6, [0, 0, 9, 0, 0, 0]);
+        assert_eq!(after(&[write, CONNECT]), Answer::Refused(9));
+        assert_eq!(after(&[write, (17, [1, 0, 5, 6, 3, 4])]), Answer::Refused(9));
+        assert_eq!(after(&[write, at(11, 0, 9), CONNECT]), Answer::Allowed(9));
+        // Upstream of the one end, a file that it has open and has not read.
+        let (admit, read) = ((1, [2, 9, 0, 0, 0, 0]), (5, [2, 1, 0, 0, 0, 0]));
+        assert_eq!(after(&[write, admit, (17, [0, 2, 5, 6, 3, 4])]), Answer::Allowed(9));
+        assert_eq!(after(&[write, admit, read, (17, [0, 2, 5, 6, 3, 4])]), Answer::Refused(9));
     }
 
     #[test]

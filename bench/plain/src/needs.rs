@@ -24,9 +24,9 @@ impl Needs {
         self.levels[usize::from(object_as_thing(o))]
     }
 
-    /// Works every need out from nothing, in passes over all handles until none changes. A handle that is sought counts
-    /// as one that is held.
-    pub fn work_out(tables: &Tables, sought: Place) -> Needs {
+    /// Works every need out from nothing, in passes over all handles until none changes. What is sought counts as if it
+    /// were held.
+    pub fn work_out<const N: usize>(tables: &Tables, sought: [Place; N]) -> Needs {
         let mut needs = Needs::NONE;
         // A file reaches itself.
         for (o, entry) in tables.objects.iter().enumerate() {
@@ -42,17 +42,19 @@ impl Needs {
     /// The same without the marked handles of a subject. Its mappings may stay: a flow to it does not change its need.
     pub fn without_marked(tables: &Tables, s: usize) -> Needs {
         if tables.marks[s] == 0 {
-            return Needs::work_out(tables, Place::EMPTY);
+            return Needs::work_out(tables, []);
         }
         let mut left = tables.clone();
         left.places[s] = tables.unmarked(s);
-        Needs::work_out(&left, Place::EMPTY)
+        Needs::work_out(&left, [])
     }
 
     /// One pass over all handles; whether a need changed.
-    fn pass(&mut self, tables: &Tables, sought: Place) -> bool {
+    fn pass<const N: usize>(&mut self, tables: &Tables, sought: [Place; N]) -> bool {
         let mut changed = false;
-        self.carry(sought, &mut changed);
+        for flow in sought {
+            self.carry(flow, &mut changed);
+        }
         for (level, places) in tables.subjects.iter().zip(&tables.places) {
             if level.is_some() {
                 for &place in places {
@@ -117,21 +119,24 @@ mod tests {
     #[test]
     fn a_need_travels_round_a_ring_and_sinks_again() {
         let mut tables = ring();
-        assert_eq!(of_subjects(&Needs::work_out(&tables, Place::EMPTY)), [0; 4]);
+        assert_eq!(of_subjects(&Needs::work_out(&tables, [])), [0; 4]);
         tables.fill(1, 2, 3, Direction::Writing);
-        let needs = Needs::work_out(&tables, Place::EMPTY);
+        let needs = Needs::work_out(&tables, []);
         assert_eq!(of_subjects(&needs), [9, 9, 9, 0]);
         assert_eq!([0, 1, 2, 3].map(|o| needs.object(o)), [9; 4]);
         tables.empty(1, 2);
-        assert_eq!(of_subjects(&Needs::work_out(&tables, Place::EMPTY)), [0; 4]);
+        assert_eq!(of_subjects(&Needs::work_out(&tables, [])), [0; 4]);
     }
 
     #[test]
     fn a_sought_handle_counts_and_is_not_kept() {
         let tables = ring();
-        let needs = Needs::work_out(&tables, Place::of(2, 3, Direction::Writing));
+        let needs = Needs::work_out(&tables, [Place::of(2, 3, Direction::Writing)]);
         assert_eq!(of_subjects(&needs), [9, 9, 9, 0]);
-        assert_eq!(of_subjects(&Needs::work_out(&tables, Place::EMPTY)), [0; 4]);
+        assert_eq!(of_subjects(&Needs::work_out(&tables, [])), [0; 4]);
+        // Subject 3, which is live in no table here, and a way from it into the ring.
+        let ways = [Place::between(3, 0), Place::of(2, 3, Direction::Writing)];
+        assert_eq!(of_subjects(&Needs::work_out(&tables, ways)), [9; 4]);
     }
 
     #[test]
@@ -140,7 +145,7 @@ mod tests {
         tables.fill(1, 2, 3, Direction::Writing);
         for (level, met) in [(8, false), (9, true)] {
             tables.subjects[0] = Some(level);
-            assert_eq!(Needs::work_out(&tables, Place::EMPTY).are_met(&tables), met);
+            assert_eq!(Needs::work_out(&tables, []).are_met(&tables), met);
         }
     }
 }

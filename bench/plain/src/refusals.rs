@@ -1,6 +1,6 @@
 //! What refuses a call's numbers: each function gives what a number names, or the refusal.
 //!
-//! A call goes through them by rising refusal number, so that the smallest is given.
+//! A call goes through them by rising refusal number, so that the smallest is given; but that 16 comes right after 2.
 
 use crate::tables::{Direction, Kind, Level, Object, Place, Tables, LEVELS, NO_FREEZE};
 
@@ -21,6 +21,7 @@ pub enum Refusal {
     RecordBroken = 12,
     JournalTooLong = 14,
     Frozen = 15,
+    SameSubject = 16,
 }
 
 /// A handle that is held.
@@ -39,6 +40,15 @@ impl Tables {
         entry.map(|level| (s as usize, level)).ok_or(Refusal::NoSubject)
     }
 
+    /// Refusals 2 and 16: two subjects are live, and not the same.
+    pub fn two_subjects(&self, s: u32, t: u32) -> Result<[(usize, Level); 2], Refusal> {
+        let subjects = [self.subject(s)?, self.subject(t)?];
+        if s == t {
+            return Err(Refusal::SameSubject);
+        }
+        Ok(subjects)
+    }
+
     /// Refusal 3: the number of a new subject is in range and free.
     pub fn new_subject(&self, s: u32) -> Result<usize, Refusal> {
         match self.subjects.get(s as usize) {
@@ -53,6 +63,15 @@ impl Tables {
             Some(None) => Ok(o as usize),
             _ => Err(Refusal::NumberTaken),
         }
+    }
+
+    /// Refusal 3: the numbers of two new objects are in range and free, and not the same.
+    pub fn two_new_objects(&self, a: u32, b: u32) -> Result<[usize; 2], Refusal> {
+        let objects = [self.new_object(a)?, self.new_object(b)?];
+        if a == b {
+            return Err(Refusal::NumberTaken);
+        }
+        Ok(objects)
     }
 
     /// Refusal 4: the object is live.
@@ -76,6 +95,15 @@ impl Tables {
             Some(&Place::EMPTY) => Ok(p as usize),
             _ => Err(Refusal::PlaceUnfit),
         }
+    }
+
+    /// Refusal 7: two places are in range and empty, and not the same.
+    pub fn two_empty_places(&self, s: usize, p: u32, q: u32) -> Result<[usize; 2], Refusal> {
+        let places = [self.empty_place(s, p)?, self.empty_place(s, q)?];
+        if p == q {
+            return Err(Refusal::PlaceUnfit);
+        }
+        Ok(places)
     }
 
     /// Refusal 7: the place is in range and holds a handle.

@@ -65,6 +65,12 @@ impl Place {
         }
     }
 
+    /// The flow from one subject to another that a pipe makes which nobody else has a handle on. No place holds it: it
+    /// is only ever sought.
+    pub fn between(s: usize, t: usize) -> Place {
+        Place { from: subject_as_thing(s), to: subject_as_thing(t) }
+    }
+
     /// The handle's object and its direction; none for an empty place.
     pub fn handle(self) -> Option<(usize, Direction)> {
         let (from, to) = (usize::from(self.from), usize::from(self.to));

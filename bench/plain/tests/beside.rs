@@ -2,7 +2,7 @@
 //! same answer, the same tally, levels, marks, mappings and freeze, and the needs as the independent program works them
 //! out.
 
-use gatekeeper_independent::calls::SHAPES;
+use gatekeeper_independent::calls::{Numbers, NUMBERS, SHAPES};
 use gatekeeper_independent::cases;
 use gatekeeper_independent::generate::{self, Style, Wish, STYLES};
 use gatekeeper_independent::monitor::{Answer as AnswerBeside, Monitor as MonitorBeside};
@@ -69,7 +69,7 @@ impl Pair {
         Pair { plain: Monitor::new(when), independent: MonitorBeside::new() }
     }
 
-    fn call(&mut self, code: u32, numbers: [u32; 4]) -> Answer {
+    fn call(&mut self, code: u32, numbers: Numbers) -> Answer {
         let before = self.plain.tables().clone();
         let answer = self.plain.direct(code, numbers);
         assert_eq!(
@@ -127,7 +127,7 @@ impl Pair {
 }
 
 /// The calls of a generated journal; records that hold none are left out.
-fn calls_of(journal: &[u8]) -> Vec<(u32, [u32; 4])> {
+fn calls_of(journal: &[u8]) -> Vec<(u32, Numbers)> {
     let mut reader = Reader::new(journal, Rules::default());
     let mut calls = Vec::new();
     while let Some(Ok(span)) = reader.next_record() {
@@ -147,7 +147,7 @@ fn direct_calls_get_the_same_answers_and_needs() {
             for (code, numbers) in calls_of(&journal) {
                 pair.call(code, numbers);
                 // Code 13 for an object out of range: a refused call that seeks no handle.
-                pair.call(13, [64, 0, 0, 0]);
+                pair.call(13, [64, 0, 0, 0, 0, 0]);
                 pair.compare_needs();
             }
         }
@@ -169,16 +169,16 @@ fn any_numbers_get_the_same_answers() {
     for when in BOTH {
         let mut random = Random::new(SEED, 0);
         let mut pair = Pair::new(when);
-        let mut refused = [0; 16];
+        let mut refused = [0; 17];
         for _ in 0..CALLS {
             let code = random.between(0, largest + 1);
-            let numbers = [0; 4].map(|_: u32| drawn(&mut random));
+            let numbers = [0; NUMBERS].map(|_: u32| drawn(&mut random));
             if let Answer::Refused(number) = pair.call(code, numbers) {
                 refused[usize::from(number)] += 1;
             }
         }
         // 11 to 14 are not said of a direct call.
-        let drawn = (1..=15).filter(|&number| refused[number] > 0);
-        assert!(drawn.eq((1..=10).chain([15])), "a refusal was never drawn: {refused:?}");
+        let drawn = (1..=16).filter(|&number| refused[number] > 0);
+        assert!(drawn.eq((1..=10).chain([15, 16])), "a refusal was never drawn: {refused:?}");
     }
 }
