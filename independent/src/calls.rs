@@ -188,8 +188,8 @@ impl Call {
         }
     }
 
-    /// RULES C17: the four handles that a connect places, each with its subject and its place: s writes a, which t
-    /// reads, and t writes b, which s reads.
+    /// RULES C17: the four handles that a connect places, each with its subject and its place: s writes a,
+    /// which t reads, and t writes b, which s reads.
     pub fn ends(self) -> Vec<(u32, u32, Handle)> {
         match self {
             Call::Connect { s, t, a, b, p, q } => vec![

@@ -58,7 +58,8 @@ pub struct Monitor {
     pub(crate) left_marks: Vec<(u32, u32)>,
     /// The same of mappings.
     pub(crate) left_maps: Vec<(u32, u32)>,
-    /// The pipes that connects made, two by two. No rule looks at them: only variants in which they end otherwise.
+    /// The pipes that connects made, two by two. No rule looks at them: only variants in which they end
+    /// otherwise.
     pub(crate) channels: Vec<[u32; 2]>,
     rules: Rules,
 }
@@ -289,8 +290,9 @@ impl Monitor {
         }
     }
 
-    /// RULES C8, C104, C111: what follows a write to a file of this level. Each subject that has it mapped reads it
-    /// once, the lowest number first; the answer has the file's level, and is lowered if one of them fell.
+    /// RULES C8, C104, C111: what follows a write to a file of this level. Each subject that has it mapped
+    /// reads it once, the lowest number first; the answer has the file's level, and is lowered if one of them
+    /// fell.
     fn reread(&mut self, o: u32, level: u32) -> Answer {
         let mappers: Vec<u32> = self.tables.mappers(o).collect();
         let mut answer = Answer::Allowed(level);

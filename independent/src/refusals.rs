@@ -36,8 +36,8 @@ pub fn meaning(number: u32) -> &'static str {
 /// A row's number and whether its condition holds.
 pub type Condition = (u32, bool);
 
-/// RULES R2 to R10, R15 and R16 for a call, in the order in which they are tested: RULES R105, R117; R16 comes right
-/// after R2. `needs` are those of `needs_for`.
+/// RULES R2 to R10, R15 and R16 for a call, in the order in which they are tested: RULES R105, R117; R16 comes
+/// right after R2. `needs` are those of `needs_for`.
 pub fn conditions(tables: &Tables, call: Call, needs: &Needs) -> [Condition; 11] {
     [
         (2, subject_is_missing(tables, call)),
@@ -136,8 +136,8 @@ fn direction_is_wrong(tables: &Tables, call: Call) -> bool {
     }
 }
 
-/// The needs that a call is tested by: with the flows that an open, a map or a connect asks for (RULES R9, R119), without
-/// the handles that an exec leaves out (RULES R110).
+/// The needs that a call is tested by: with the flows that an open, a map or a connect asks for (RULES R9,
+/// R119), without the handles that an exec leaves out (RULES R110).
 pub fn needs_for(tables: &Tables, call: Call, rules: Rules, kept: &Needs) -> Needs {
     let mut sought = sought_flows(tables, call);
     rules.bend_sought(&mut sought, call);
@@ -177,9 +177,9 @@ pub fn sought_flow(tables: &Tables, call: Call) -> Option<Flow> {
 /// All the flows that a call would add: that of an open or a map, or both of a connect.
 pub fn sought_flows(tables: &Tables, call: Call) -> Vec<Flow> {
     match call {
-        // RULES C17: nobody else has a handle on a new pipe, so that data comes by it from its writer to its reader and
-        // nowhere else. The pipe has its writer's level and its reader's need: it is below its need only where its writer
-        // is.
+        // RULES C17: nobody else has a handle on a new pipe, so that data comes by it from its writer to its
+        // reader and nowhere else. The pipe has its writer's level and its reader's need: it is below its need
+        // only where its writer is.
         Call::Connect { s, t, .. } if tables.subject(s).is_some() && tables.subject(t).is_some() => {
             let (s, t) = (Thing::Subject(s), Thing::Subject(t));
             vec![Flow { from: s, to: t }, Flow { from: t, to: s }]

@@ -123,8 +123,8 @@ variants! {
     MappedAsFree "mapped-as-free" "an open may take the place of a mapping";
     MappedRetired "mapped-retired" "a file on which only mappings are may be retired";
     MappedWriteRefused "mapped-write-refused" "a write to a file that is mapped is refused with 10";
-    // Channels: what is refused. Whether the two flows of a connect are tested together or one by one cannot be told:
-    // it comes to the same, since what may reach both ends has a level for the needs of both.
+    // Channels: what is refused. Whether the two flows of a connect are tested together or one by one cannot be
+    // told: it comes to the same, since what may reach both ends has a level for the needs of both.
     ConnectUntested "connect-untested" "a connect is not tested against the need";
     ConnectForwardOnly "connect-forward-only" "a connect tests the flow from s to t only";
     ConnectBackOnly "connect-back-only" "a connect tests the flow from t to s only";
@@ -234,8 +234,9 @@ variants! {
     RefusedExecCloses "refused-exec-closes" "an exec refused with 9 still closes the marked handles";
     UnfitExecCloses "unfit-exec-closes" "an exec refused with 4 or 5 still closes the marked handles";
     RefusedExecUnmarks "refused-exec-unmarks" "an exec refused with 9 takes the marks off";
-    // That the reads after a write lower a mapper, and their order, cannot be told from empty tables: a mapper fell to
-    // the file's level when it mapped it (RULES T38). Nor can it be told whether a mapping is marked (RULES C10).
+    // That the reads after a write lower a mapper, and their order, cannot be told from empty tables: a mapper
+    // fell to the file's level when it mapped it (RULES T38). Nor can it be told whether a mapping is marked
+    // (RULES C10).
     MapKeepsLevel "map-keeps-level" "a map does not lower the subject";
     MapTakesLevel "map-takes-level" "a map raises the subject, too";
     MapPlacesNone "map-places-none" "a map places no handle";

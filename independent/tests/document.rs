@@ -532,8 +532,8 @@ fn a_connect_makes_each_pipe_at_its_writer_s_level() {
     }
 }
 
-/// RULES R9: what one end writes to asks for the level of the other and of all that is upstream of it, at every pair of
-/// levels and from both ends.
+/// RULES R9: what one end writes to asks for the level of the other and of all that is upstream of it, at every
+/// pair of levels and from both ends.
 #[test]
 fn a_connect_is_tested_by_both_flows() {
     for (high, low) in [(0, 1), (1, 0)] {
@@ -594,7 +594,8 @@ fn the_numbers_of_a_connect_are_tested_in_order() {
     assert_eq!(answer([0, 1, 5, 6, 3, 3]), Answer::Refused(7));
 }
 
-/// RULES T17 to T19: places that count as empty are empty for a connect, and no handle comes with its pipes' numbers.
+/// RULES T17 to T19: places that count as empty are empty for a connect, and no handle comes with its pipes'
+/// numbers.
 #[test]
 fn a_connect_empties_places_that_count_as_empty_and_a_refused_one_does_not() {
     let stale = |tables: &mut Tables| {

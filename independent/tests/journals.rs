@@ -203,8 +203,8 @@ fn handles_are_marked_as_the_calls_say() {
     }
 }
 
-/// RULES C10, R110, Y13: an exec goes by the need of the tables without its marked handles and its mappings, found by
-/// a search; it closes these and no others, or none if it is refused.
+/// RULES C10, R110, Y13: an exec goes by the need of the tables without its marked handles and its mappings,
+/// found by a search; it closes these and no others, or none if it is refused.
 #[test]
 fn an_exec_closes_the_marked_handles_and_mappings_of_its_caller_and_no_others() {
     for journal in mixed(150) {
@@ -383,8 +383,8 @@ fn no_mapper_is_above_its_file_and_no_write_to_a_file_lowers() {
     }
 }
 
-/// RULES C14, R119: a map of a file is refused as an open for reading is; else it leaves what that and a read leave,
-/// with a mapping in the place of the handle, and is answered as the read is.
+/// RULES C14, R119: a map of a file is refused as an open for reading is; else it leaves what that and a read
+/// leave, with a mapping in the place of the handle, and is answered as the read is.
 #[test]
 fn a_map_is_an_open_for_reading_and_a_read() {
     let mut maps = 0;
@@ -545,8 +545,9 @@ fn with_channel(before: &Tables, [s, t, a, b, p, q]: [u32; 6]) -> Tables {
     after
 }
 
-/// RULES C17, R9: a connect that nothing else refuses is allowed exactly where, with both pipes and all four handles,
-/// no live thing is below its need, as a search finds it. Asked of the two flows one by one it comes to the same.
+/// RULES C17, R9: a connect that nothing else refuses is allowed exactly where, with both pipes and all four
+/// handles, no live thing is below its need, as a search finds it. Asked of the two flows one by one it comes
+/// to the same.
 #[test]
 fn a_connect_goes_by_both_flows() {
     let mut connects = [0, 0];
@@ -577,7 +578,8 @@ fn a_connect_goes_by_both_flows() {
     assert!(connects[0] >= 200 && connects[1] >= 50, "{connects:?}");
 }
 
-/// RULES C17: a connect that is allowed makes two pipes and four handles, which are counted, and changes nothing else.
+/// RULES C17: a connect that is allowed makes two pipes and four handles, which are counted, and changes
+/// nothing else.
 #[test]
 fn a_connect_makes_two_pipes_and_four_handles() {
     for journal in mixed(150) {

@@ -110,8 +110,9 @@ impl Channel {
         placed
     }
 
-    /// RULES R9: the way out that is always left, `tables` having all four ends: a pipe in one direction. What can reach
-    /// the end with the higher need has a level for the other end's need, too, so that only one direction offends.
+    /// RULES R9: the way out that is always left, `tables` having all four ends: a pipe in one direction. What
+    /// can reach the end with the higher need has a level for the other end's need, too, so that only one
+    /// direction offends.
     pub fn one_way(self, is_free: impl Fn(&Tables) -> bool, tables: &Tables) -> String {
         let Channel { s, t, p, q, .. } = self;
         let mut forward = tables.clone();

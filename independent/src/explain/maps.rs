@@ -1,4 +1,5 @@
-//! Mappings in words: what a map reads at once, who reads a file after a write to it, and what an exec has closed.
+//! Mappings in words: what a map reads at once, who reads a file after a write to it, and what an exec has
+//! closed.
 
 use super::names::{capital, name, name_and_level};
 use crate::needs::Thing;

@@ -1,5 +1,5 @@
-//! Refusals 2 to 10, 15 and 16: the reason in plain words and a way out. Refusal 9 is in `flow`, 15 in `freeze`, what
-//! refuses a connect in `channels`.
+//! Refusals 2 to 10, 15 and 16: the reason in plain words and a way out. Refusal 9 is in `flow`, 15 in
+//! `freeze`, what refuses a connect in `channels`.
 
 use super::channels::Channel;
 use super::flow::flow_refusal;

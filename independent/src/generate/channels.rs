@@ -1,5 +1,5 @@
-//! Print stations: steps that are connected two by two, talk both ways, and give their ends up one after the other; and
-//! connects that are refused (RULES C17, R16).
+//! Print stations: steps that are connected two by two, talk both ways, and give their ends up one after the
+//! other; and connects that are refused (RULES C17, R16).
 
 use super::Draft;
 use crate::tables::LIMITS;
@@ -125,7 +125,8 @@ impl Draft {
         self.random.pick(&taken).unwrap_or(LIMITS.places)
     }
 
-    /// A connect whose flow offends, one way or the other; with numbers that fit and with others. Nothing is left of it.
+    /// A connect whose flow offends, one way or the other; with numbers that fit and with others. Nothing is
+    /// left of it.
     fn refused_channel(&mut self, channel: Channel) {
         let Channel { s, t, a, b, p, q } = channel;
         let (from, to) = (self.level_of(s), self.level_of(t));

@@ -1,5 +1,5 @@
-//! Importers: steps that map sheets. Others write to these, map them too, or have them open; the importers fork, run
-//! programs and close what they mapped (RULES C8 to C10, C14).
+//! Importers: steps that map sheets. Others write to these, map them too, or have them open; the importers
+//! fork, run programs and close what they mapped (RULES C8 to C10, C14).
 
 use super::Draft;
 use crate::tables::{Kind, LIMITS};
@@ -109,7 +109,8 @@ impl Draft {
         }
     }
 
-    /// A child has the mappings, and beside them a plain reading handle; it runs a program, and so may its parent.
+    /// A child has the mappings, and beside them a plain reading handle; it runs a program, and so may its
+    /// parent.
     fn fork_importer(&mut self, Import { s, sheet, p }: Import) {
         let q = self.free_place(s);
         if self.random.once_in(2) {
@@ -179,7 +180,8 @@ impl Draft {
         }
     }
 
-    /// What is opened for reading where a mapping was closed, by a close or by an exec, is none: an exec leaves it.
+    /// What is opened for reading where a mapping was closed, by a close or by an exec, is none: an exec leaves
+    /// it.
     fn place_used_again(&mut self, Import { s, sheet, p }: Import) {
         if self.random.once_in(2) {
             self.record(11, &[s, p]);

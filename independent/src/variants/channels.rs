@@ -1,5 +1,5 @@
-//! Variants of two-way channels: what refuses a connect, what it makes, and how its pipes end (RULES C17, C102, R3, R7,
-//! R9, R16).
+//! Variants of two-way channels: what refuses a connect, what it makes, and how its pipes end (RULES C17, C102,
+//! R3, R7, R9, R16).
 
 use super::marks::close;
 use super::Variant;
