@@ -340,15 +340,17 @@ pub extern "C" fn gatekeeper_call(
     b: u32,
     c: u32,
     d: u32,
+    e: u32,
+    f: u32,
 ) -> u32
-    ensures { λ r. ⌜ Called (now (state .entry)) (direct code a b c d) r (now (state .exit)) ⌝ }
+    ensures { λ r. ⌜ Called (now (state .entry)) (direct code a b c d e f) r (now (state .exit)) ⌝ }
 {
     if state.len() != STATE_BYTES {
         return UNSIZED;
     }
     let m = load_monitor(&state[..]);
     let tally = load_tally(&state[..]);
-    let counted = tally::counted_call(m, tally, code, a, b, c, d);
+    let counted = tally::counted_call(m, tally, code, a, b, c, d, e, f);
     let reply = counted.reply;
     let answer = reply.answer;
     let r = to_number(answer);
@@ -408,12 +410,14 @@ pub extern "C" fn gatekeeper_record(
     b: u32,
     c: u32,
     d: u32,
+    e: u32,
+    f: u32,
 ) -> u32
-    ensures answer { λ r. ⌜ r ≡ record-number (recording code (a ∷ b ∷ c ∷ d ∷ []) (now (out .entry))) ⌝ }
-    ensures buffer { λ _. ⌜ now (out .exit) ≡ recorded code (a ∷ b ∷ c ∷ d ∷ []) (now (out .entry)) ⌝ }
-    ensures room { λ r. ⌜ (longest-record ≤ length (now (out .entry)) → r ≡ roomy-number code (a ∷ b ∷ c ∷ d ∷ [])) ⌝ }
+    ensures answer { λ r. ⌜ r ≡ record-number (recording code (a ∷ b ∷ c ∷ d ∷ e ∷ f ∷ []) (now (out .entry))) ⌝ }
+    ensures buffer { λ _. ⌜ now (out .exit) ≡ recorded code (a ∷ b ∷ c ∷ d ∷ e ∷ f ∷ []) (now (out .entry)) ⌝ }
+    ensures room { λ r. ⌜ (longest-record ≤ length (now (out .entry)) → r ≡ roomy-number code (a ∷ b ∷ c ∷ d ∷ e ∷ f ∷ [])) ⌝ }
 {
-    let numbers = Numbers { a, b, c, d };
+    let numbers = Numbers { a, b, c, d, e, f };
     match journal::write_record(out, Call { code, numbers }) {
         Recorded::Length(n) => 256 + n as u32,
         Recorded::Unknown => 1,

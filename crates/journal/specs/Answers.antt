@@ -38,7 +38,7 @@ pub data Said : Type 0 where
   said : (code : ℕ) → Answer (List ℕ) → Said
 
 abbrev pub numbers-of : Numbers → List ℕ
-numbers-of ns = ns .a ∷ ns .b ∷ ns .c ∷ ns .d ∷ []
+numbers-of ns = ns .a ∷ ns .b ∷ ns .c ∷ ns .d ∷ ns .e ∷ ns .f ∷ []
 
 abbrev pub body-answer : Body → Said
 body-answer (Whole call) = said (call .code) (answers (numbers-of (call .numbers)))

@@ -15,10 +15,10 @@ use number::Number;
 use number::Written;
 
 // The longest record, in bytes: a buffer of this size is never too short.
-pub const LONGEST_RECORD: usize = 22;
+pub const LONGEST_RECORD: usize = 32;
 
 // One more than the largest code.
-const CODES: usize = 17;
+const CODES: usize = 18;
 
 // How many numbers the call of each code takes, from code 0 on; every call takes one, and 0 says that there is no such call.
 const ARITIES: [usize; CODES] = [
@@ -39,6 +39,7 @@ const ARITIES: [usize; CODES] = [
     3, // map s, o, p
     2, // mark s, p
     1, // freeze level
+    6, // connect s, u, a, b, p, q
 ];
 
 // How many numbers the call of a code takes; 0 where there is no such call.
@@ -151,6 +152,8 @@ pub struct Numbers {
     pub b: u32,
     pub c: u32,
     pub d: u32,
+    pub e: u32,
+    pub f: u32,
 }
 
 // A call, as it stands in a record and as a direct call takes it.
@@ -186,6 +189,8 @@ fn read_numbers(body: &[u8], n: usize) -> Args
                 b: 0,
                 c: 0,
                 d: 0,
+                e: 0,
+                f: 0,
             });
         }
         return Args::Bad;
@@ -197,6 +202,8 @@ fn read_numbers(body: &[u8], n: usize) -> Args
                 b: rest.a,
                 c: rest.b,
                 d: rest.c,
+                e: rest.d,
+                f: rest.e,
             }),
             Args::Bad => Args::Bad,
         },
@@ -305,8 +312,25 @@ pub fn write_record(out: &mut [u8], call: Call) -> Recorded
         return Recorded::Unknown;
     }
     let numbers = call.numbers;
-    let body = [code, numbers.a, numbers.b, numbers.c, numbers.d];
+    let body = [
+        code,
+        numbers.a,
+        numbers.b,
+        numbers.c,
+        numbers.d,
+        numbers.e,
+        numbers.f,
+    ];
     let len = numbers_len(&body[..n + 1]) as u32;
-    let all = [len, code, numbers.a, numbers.b, numbers.c, numbers.d];
+    let all = [
+        len,
+        code,
+        numbers.a,
+        numbers.b,
+        numbers.c,
+        numbers.d,
+        numbers.e,
+        numbers.f,
+    ];
     write_all(out, &all[..n + 2])
 }

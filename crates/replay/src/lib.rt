@@ -49,7 +49,7 @@ pub fn one(m: Monitor, tally: Tally, body: &[u8]) -> Replied
         Body::Whole(call) => {
             let code = call.code;
             let ns = call.numbers;
-            let c = tally::counted_call(m, tally, code, ns.a, ns.b, ns.c, ns.d);
+            let c = tally::counted_call(m, tally, code, ns.a, ns.b, ns.c, ns.d, ns.e, ns.f);
             let reply = c.reply;
             let answer = reply.answer;
             let monitor = reply.monitor;

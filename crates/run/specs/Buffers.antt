@@ -13,9 +13,10 @@ pub mod Laws
 abbrev pub lesser : ℕ → ℕ → ℕ
 lesser a b = cond (ltb a b) a b
 
--- RULES H1, C106: call i of the list is the five numbers from 5 i on
+-- RULES H1, C106: call i of the list is the seven numbers from 7 i on
 abbrev pub call-at : List ℕ → ℕ → Raw
-call-at l i = direct (getD l (i * 5) 0) (getD l (i * 5 + 1) 0) (getD l (i * 5 + 2) 0) (getD l (i * 5 + 3) 0) (getD l (i * 5 + 4) 0)
+call-at l i = direct (getD l (i * 7) 0) (getD l (i * 7 + 1) 0) (getD l (i * 7 + 2) 0) (getD l (i * 7 + 3) 0) (getD l (i * 7 + 4) 0)
+    (getD l (i * 7 + 5) 0) (getD l (i * 7 + 6) 0)
 
 -- the first n calls
 abbrev pub calls-in : List ℕ → ℕ → List Raw

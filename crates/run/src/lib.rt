@@ -27,23 +27,25 @@ fn fewer(a: usize, b: usize) -> usize
 }
 
 // Makes the calls of the list one after the other, from empty tables, as many as the list has and as there is room to answer. A call
-// is five numbers, its code first; an answer is two bytes, its letter and then its level or refusal number.
+// is seven numbers, its code first; an answer is two bytes, its letter and then its level or refusal number.
 pub fn run(calls: &[u32], out: &mut [u8]) -> Ran
-    ensures made { λ r. ⌜ r .made ≡ lesser (length (now (calls .entry)) / 5) (length (now (out .entry)) / 2) ⌝ }
+    ensures made { λ r. ⌜ r .made ≡ lesser (length (now (calls .entry)) / 7) (length (now (out .entry)) / 2) ⌝ }
     ensures written { λ r. ⌜ now (out .exit) ≡ bytes (answers empty (calls-in (now (calls .entry)) (r .made))) ++ drop (r .made * 2) (now (out .entry)) ⌝ }
     ensures demand3 { λ r. ⌜ Demand3 (calls-in (now (calls .entry)) (r .made)) (answers-in (take (r .made * 2) (now (out .exit)))) (view (r .monitor)) ⌝ }
 {
-    let n = fewer(calls.len() / 5, out.len() / 2);
+    let n = fewer(calls.len() / 7, out.len() / 2);
     let mut m = Monitor::empty();
     let mut i: usize = 0;
     while i < n {
-        let at = i * 5;
+        let at = i * 7;
         let r = m.call(
             calls[at],
             calls[at + 1],
             calls[at + 2],
             calls[at + 3],
             calls[at + 4],
+            calls[at + 5],
+            calls[at + 6],
         );
         let answer = r.answer;
         let to = i * 2;

@@ -36,7 +36,7 @@ returns-2 c =
     let long = loaded .before .before .if1 .left in
     let a = loaded .before .before .before .before .args in
     let k = counted .counted-call in
-    let call = direct (a .code) (a .a) (a .b) (a .c) (a .d) in
+    let call = direct (a .code) (a .a) (a .b) (a .c) (a .d) (a .e) (a .f) in
     let p = made (a .state .now) {c = decode call} (loaded .load-monitor .ensures) (counted .before .load-tally .ensures) (k .ensures .0) (k .ensures .1) in
     let n = test .before .before .to-number .ensures in
     called-refused {r = call} p long (record { number = n .0; back = n .1 }) (sym (test .before .letter .ensures) ∙ test .if2 .taken)
@@ -57,7 +57,7 @@ returns-3 c =
     let long = loaded .before .before .if1 .left in
     let a = loaded .before .before .before .before .args in
     let k = counted .counted-call in
-    let call = direct (a .code) (a .a) (a .b) (a .c) (a .d) in
+    let call = direct (a .code) (a .a) (a .b) (a .c) (a .d) (a .e) (a .f) in
     let p = made (a .state .now) {c = decode call} (loaded .load-monitor .ensures) (counted .before .load-tally .ensures) (k .ensures .0) (k .ensures .1) in
     let n = test .before .before .to-number .ensures in
     called-moved {r = call} p long (record { number = n .0; back = n .1 })

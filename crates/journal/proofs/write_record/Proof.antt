@@ -48,7 +48,9 @@ numbers c zero = omega arith
 numbers c (suc zero) = omega arith
 numbers c (suc (suc zero)) = omega arith
 numbers c (suc (suc (suc zero))) = omega arith
-numbers c (suc (suc (suc (suc i)))) = omega arith
+numbers c (suc (suc (suc (suc zero)))) = omega arith
+numbers c (suc (suc (suc (suc (suc zero))))) = omega arith
+numbers c (suc (suc (suc (suc (suc (suc i)))))) = omega arith
 
 arity-requires : tie.Need-arity-requires
 arity-requires c κs = search needs

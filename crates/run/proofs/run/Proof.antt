@@ -12,7 +12,7 @@ use Rattle.run.proofs.run.Statement.{statement}
 use Rattle.run.proofs.run.Tie as tie
 
 abbrev Inv-loop : tie.InvT-loop
-Inv-loop calls out₀ n m₀ i₀ out m i = (i ≤ n) × (n * 5 ≤ length calls) × (n * 2 ≤ length out₀) × (length out ≡ length out₀) × So-far calls out₀ out i (view m)
+Inv-loop calls out₀ n m₀ i₀ out m i = (i ≤ n) × (n * 7 ≤ length calls) × (n * 2 ≤ length out₀) × (length out ≡ length out₀) × So-far calls out₀ out i (view m)
 
 abbrev μ-loop : tie.MeasureT-loop
 μ-loop calls out₀ n m₀ i₀ out m i = n - i
@@ -26,8 +26,8 @@ empty-requires c κs = search needs
 loop-holds : tie.Need-loop-holds Inv-loop μ-loop
 loop-holds c =
     let a = c .before .before .before .before .args in
-    let fits : c .before .fewer .result ≡ lesser (length (a .calls .now) / 5) (length (a .out .now) / 2) = c .before .fewer .ensures in
-    (omega arith, omega (arith, lesser-left (length (a .calls .now) / 5) (length (a .out .now) / 2)), omega (arith, lesser-right (length (a .calls .now) / 5) (length (a .out .now) / 2)), refl, so-far-none (a .calls .now) (a .out .now) (view (c .empty .result)) (c .empty .ensures))
+    let fits : c .before .fewer .result ≡ lesser (length (a .calls .now) / 7) (length (a .out .now) / 2) = c .before .fewer .ensures in
+    (omega arith, omega (arith, lesser-left (length (a .calls .now) / 7) (length (a .out .now) / 2)), omega (arith, lesser-right (length (a .calls .now) / 7) (length (a .out .now) / 2)), refl, so-far-none (a .calls .now) (a .out .now) (view (c .empty .result)) (c .empty .ensures))
 
 mul-at : tie.Need-mul-at Inv-loop μ-loop
 mul-at c = search needs
@@ -74,6 +74,24 @@ mul-call-5 c = search needs
 shared-slice-read-call-5 : tie.Need-shared-slice-read-call-5 Inv-loop μ-loop
 shared-slice-read-call-5 c = search needs
 
+add-call-5 : tie.Need-add-call-5 Inv-loop μ-loop
+add-call-5 c = search needs
+
+mul-call-6 : tie.Need-mul-call-6 Inv-loop μ-loop
+mul-call-6 c = search needs
+
+shared-slice-read-call-6 : tie.Need-shared-slice-read-call-6 Inv-loop μ-loop
+shared-slice-read-call-6 c = search needs
+
+add-call-6 : tie.Need-add-call-6 Inv-loop μ-loop
+add-call-6 c = search needs
+
+mul-call-7 : tie.Need-mul-call-7 Inv-loop μ-loop
+mul-call-7 c = search needs
+
+shared-slice-read-call-7 : tie.Need-shared-slice-read-call-7 Inv-loop μ-loop
+shared-slice-read-call-7 c = search needs
+
 call-requires : tie.Need-call-requires Inv-loop μ-loop
 call-requires c κs = search needs
 
@@ -93,7 +111,7 @@ add-out : tie.Need-add-out Inv-loop μ-loop
 add-out c = search needs
 
 slice-write-out-2 : tie.Need-slice-write-out-2 Inv-loop μ-loop
-slice-write-out-2 c = let l = c .before .before .before .before .before .before .before .before .before .loop in omega (arith, length-set (l .out) (l .i * 2) (c .before .letter .result), l .inv .2, l .inv .3)
+slice-write-out-2 c = let l = c .before .before .before .before .before .before .before .before .before .before .before .loop in omega (arith, length-set (l .out) (l .i * 2) (c .before .letter .result), l .inv .2, l .inv .3)
 
 add-i : tie.Need-add-i Inv-loop μ-loop
 add-i c = search needs
@@ -103,8 +121,8 @@ loop-less c = search needs
 
 loop-again : tie.Need-loop-again Inv-loop μ-loop
 loop-again c =
-    let a = c .before .before .before .before .before .before .before .before .before .before .before .before .before .before .before .args in
-    let l = c .before .before .before .before .before .before .before .before .before .before .loop in
+    let l = c .before .before .before .before .before .before .before .before .before .before .before .before .loop in
+    let a = c .before .before .before .before .before .before .before .before .before .before .before .before .before .before .before .before .before .args in
     let k = c .before .before .before .call in (
       omega arith,
       l .inv .1,
@@ -150,6 +168,12 @@ run-spec =
     add-call-4
     mul-call-5
     shared-slice-read-call-5
+    add-call-5
+    mul-call-6
+    shared-slice-read-call-6
+    add-call-6
+    mul-call-7
+    shared-slice-read-call-7
     call-requires
     mul-to
     letter-requires
