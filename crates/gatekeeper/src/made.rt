@@ -114,12 +114,12 @@ impl Monitor {
         }
         let number = (o % OBJECT_NUMBERS) as u8;
         let held = self.handles;
-        let next = handles::with_ends(held, i, to_r, to_w, number, number);
+        let joined = handles::with_ends(held, i, to_r, to_w, number, number);
         self.objects[j] = Object {
             kind: PIPE,
             level: x.level,
         };
-        self.handles = next;
+        self.handles = joined;
         Reply {
             monitor: self,
             answer: Answer::Allowed(x.level),

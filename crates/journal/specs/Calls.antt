@@ -26,7 +26,7 @@ arities =
     ∷ 3  -- map s, o, p
     ∷ 2  -- mark s, p
     ∷ 1  -- freeze level
-    ∷ 6  -- connect s, u, a, b, p, q
+    ∷ 6  -- connect s, t, a, b, p, q
     ∷ []
 
 -- RULES C106: as many as a direct call has

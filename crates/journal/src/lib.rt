@@ -39,7 +39,7 @@ const ARITIES: [usize; CODES] = [
     3, // map s, o, p
     2, // mark s, p
     1, // freeze level
-    6, // connect s, u, a, b, p, q
+    6, // connect s, t, a, b, p, q
 ];
 
 // How many numbers the call of a code takes; 0 where there is no such call.

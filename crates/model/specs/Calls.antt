@@ -126,7 +126,7 @@ lasting (some k) = cond (ends-at-exec k) none (some k)
 unfoldable pub sheds : Tables → ℕ → List Step
 sheds t s = holds s (λ p. lasting (t .hand s p)) ∷ []
 
--- RULES C17, C112: the two pipes of a channel between s and u, then the ends of s and those of u: each reads the other's pipe at p and writes its own at q
+-- RULES C17, C112, whose t is u here: the two pipes of a channel between s and u, then the ends of s and those of u: each reads the other's pipe at p and writes its own at q
 abbrev pub channel : Tables → ℕ → ℕ → ℕ → ℕ → ℕ → ℕ → List Step
 channel t s u a b p q =
     enter (object a) (entry pipe (label-of (t .at (cell t s)))) blank
