@@ -124,7 +124,7 @@ variants! {
     MappedRetired "mapped-retired" "a file on which only mappings are may be retired";
     MappedWriteRefused "mapped-write-refused" "a write to a file that is mapped is refused with 10";
     // Channels: what is refused. Whether the two flows of a connect are tested together or one by one cannot be
-    // told: it comes to the same, since what may reach both ends has a level for the needs of both.
+    // told: a chain of flows through both pipes passes s or t twice, and is there without what lies between.
     ConnectUntested "connect-untested" "a connect is not tested against the need";
     ConnectForwardOnly "connect-forward-only" "a connect tests the flow from s to t only";
     ConnectBackOnly "connect-back-only" "a connect tests the flow from t to s only";

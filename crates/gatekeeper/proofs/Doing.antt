@@ -10,8 +10,8 @@ use native.Mathlib.Omega.{arith}
 use native.Mathlib.Decide.{decLt}
 use native.Mathlib.Nat.{le-refl}
 use borrow.Author.Tests.{lt-ltb, le-ltb, ltb-true, ltb-false}
-use lib.Dec.{T, T-not, eqb, eqb→eq, eqb-refl, ltb, ltb→lt}
-use Rattle.model.specs.Bools.{is-true, neither, not-not, cond-yes, cond-no}
+use lib.Dec.{T, T-not, eqb, eqb→eq, ltb, ltb→lt}
+use Rattle.model.specs.Bools.{is-true, neither, not-not, cond-no}
 use Rattle.model.specs.Lists.{In}
 use Rattle.model.specs.Label.{Label, leq, _⊑_, meet, label, level}
 use Rattle.model.specs.Label.Laws.{⊑-refl, level-label, le→⊑, not-least-is-below, meet-stays, meet-falls}
@@ -247,8 +247,7 @@ pipe-does t s o r w x e q = joined t (make-pipe s o r w) (object o) pipe (x .lev
 
     -- r and w are apart, so w is still empty
     still : h₁ s w ≡ none
-    still = cond-yes (eqb s s) (cond (eqb r w) (some (handle reading o)) (t .hand s w)) (t .hand s w) (eqb-refl s)
-        ∙ cond-no (eqb r w) (some (handle reading o)) (t .hand s w) (passed t (make-pipe s o r w) e (apart r w) (inr (inr (inr (inr (inl refl))))))
+    still = place-other (t .hand) s r (some (handle reading o)) w (passed t (make-pipe s o r w) e (apart r w) (inr (inr (inr (inr (inl refl))))))
         ∙ place-free t (make-pipe s o r w) e s w (inr (inr (inr (inl refl))))
 
 pub open-does : (t : Tables) (d : Dir) (s o p : ℕ) (y : Object) → refusal t (opens d s o p) ≡ none → t .at (object o) ≡ object-entry y

@@ -1,6 +1,6 @@
 -- What stands in a monitor's arrays at the numbers that a call names, and each call's stores as the rules' effect: one law a call. Assumes nothing.
 use mathlib.Core.Path.{_≡_, refl, sym, _∙_, ap, ap₂, subst, subst₂, fun-ext}
-use mathlib.Core.Bool.{Bool, true, false, not, _&&_, _||_, cond}
+use mathlib.Core.Bool.{Bool, true, false, not, _||_, cond}
 use mathlib.Core.Logic.{inl, inr}
 use mathlib.Core.Option.{Option, none, some, Option·none-ne-some, Option·some-injective}
 use mathlib.Core.List.{List}
@@ -9,7 +9,7 @@ use native.Mathlib.Omega.{arith}
 use borrow.Author.Tests.{lt-ltb, ltb-true, ltb-false}
 use lib.ListN.{getD, set, length-set, replicate, getD-replicate}
 use lib.Dec.{T, eqb, ltb, ltb→lt}
-use Rattle.model.specs.Bools.{is-false, both-of}
+use Rattle.model.specs.Bools.{is-false}
 use Rattle.model.specs.Lists.{In}
 use Rattle.model.specs.Label.{Label, leq, label}
 use Rattle.model.specs.Flow.{Thing, subject, object}
@@ -56,19 +56,35 @@ all-handles m = handles-by (view m) (with-hand empty (hands (m .handles))) refl
 abbrev then : Bool → ℕ → Option ℕ → Option ℕ
 then b n o = elim b as (λ _. Option ℕ) [ true ↦ some n | false ↦ o ]
 
+-- what comes before 9 comes before 10 and 15, too
+before-nine : (d : Test) → T (earlier (number d) 9 order) → T (earlier (number d) 10 order) × T (earlier (number d) 15 order)
+before-nine known h = (tt, tt)
+before-nine (alive s) h = (tt, tt)
+before-nine (present o) h = (tt, tt)
+before-nine (no-pipe o) h = (tt, tt)
+before-nine (leveled n) h = (tt, tt)
+before-nine (freezable n) h = (tt, tt)
+before-nine (new x) h = (tt, tt)
+before-nine (vacant s p) h = (tt, tt)
+before-nine (taken s p) h = (tt, tt)
+before-nine (apart p q) h = (tt, tt)
+before-nine (unlike a b) h = (tt, tt)
+before-nine (others s u) h = (tt, tt)
+before-nine (facing d s p) h = (tt, tt)
+before-nine (enough c) h = absurd h
+before-nine (suits s o) h = absurd h
+before-nine (idle o) h = absurd h
+before-nine (thawed d o) h = absurd h
+
 -- where no early row refuses, the tests of the early rows pass
-early-passed : (t : Tables) (c : Call) → Refuses t c 0 → (d : Test) → In d (tests c)
-    → T (earlier (number d) 9 order && (earlier (number d) 10 order && earlier (number d) 15 order)) → T (not (broken t d))
+early-passed : (t : Tables) (c : Call) → Refuses t c 0 → In-order t c 9
 early-passed t c z d i h = go (refusal t c) refl
   where
-    a : T (earlier (number d) 9 order) × T (earlier (number d) 10 order && earlier (number d) 15 order)
-    a = both-of (earlier (number d) 9 order) (earlier (number d) 10 order && earlier (number d) 15 order) h
-
     b : T (earlier (number d) 10 order) × T (earlier (number d) 15 order)
-    b = both-of (earlier (number d) 10 order) (earlier (number d) 15 order) (a .1)
+    b = before-nine d h
 
     before : (b9 b10 b15 : Bool) (n : ℕ) → then b9 9 (then b10 10 (then b15 15 none)) ≡ some n → T (earlier (number d) n order)
-    before true b10 b15 n q = subst (λ (k : ℕ). T (earlier (number d) k order)) (Option·some-injective 9 n q) (a .0)
+    before true b10 b15 n q = subst (λ (k : ℕ). T (earlier (number d) k order)) (Option·some-injective 9 n q) h
     before false true b15 n q = subst (λ (k : ℕ). T (earlier (number d) k order)) (Option·some-injective 10 n q) (b .0)
     before false false true n q = subst (λ (k : ℕ). T (earlier (number d) k order)) (Option·some-injective 15 n q) (b .1)
     before false false false n q = absurd (Option·none-ne-some n q)
@@ -76,29 +92,6 @@ early-passed t c z d i h = go (refusal t c) refl
     go : (o : Option ℕ) → refusal t c ≡ o → T (not (broken t d))
     go none q = passed t c q d i
     go (some n) q = refused-by t c n q .1 d i (before (breaks t 9 (tests c)) (breaks t 10 (tests c)) (breaks t 15 (tests c)) n (sym (z .said) ∙ q))
-
--- what comes before 9 comes before 10 and 15, too
-before-nine : (d : Test) → T (earlier (number d) 9 order) → T (earlier (number d) 9 order && (earlier (number d) 10 order && earlier (number d) 15 order))
-before-nine known h = tt
-before-nine (alive s) h = tt
-before-nine (present o) h = tt
-before-nine (no-pipe o) h = tt
-before-nine (leveled n) h = tt
-before-nine (freezable n) h = tt
-before-nine (new x) h = tt
-before-nine (vacant s p) h = tt
-before-nine (taken s p) h = tt
-before-nine (apart p q) h = tt
-before-nine (unlike a b) h = tt
-before-nine (others s u) h = tt
-before-nine (facing d s p) h = tt
-before-nine (enough c) h = absurd h
-before-nine (suits s o) h = absurd h
-before-nine (idle o) h = absurd h
-before-nine (thawed d o) h = absurd h
-
-early-order : (t : Tables) (c : Call) → Refuses t c 0 → In-order t c 9
-early-order t c z d i h = early-passed t c z d i (before-nine d h)
 
 -- the ends of pipes at two places of a subject: one reads and one writes
 abbrev joined : (ℕ → ℕ → Option Held) → ℕ → ℕ → ℕ → ℕ → ℕ → ℕ → ℕ → Option Held
@@ -228,7 +221,7 @@ module _ (m : Monitor) (g : Owned m) where
   module _ (s u a b p q : ℕ) (x z : Subject) (one next : List Handle) (w : Wf (view m)) (k : Refuses (view m) (connect s u a b p q) 0)
       (i : view m .at (subject s) ≡ subject-entry x) (j : view m .at (subject u) ≡ subject-entry z)
       (f : Joins (m .handles) (s % 32) (p % 16) (q % 16) (b % 64) (a % 64) one) (g′ : Joins one (u % 32) (p % 16) (q % 16) (a % 64) (b % 64) next) where
-    passes : (d : Test) → In d (tests (connect s u a b p q)) → T (earlier (number d) 9 order && (earlier (number d) 10 order && earlier (number d) 15 order)) → T (not (broken (view m) d))
+    passes : In-order (view m) (connect s u a b p q) 9
     passes = early-passed (view m) (connect s u a b p q) k
 
     low-row : (v : ℕ) → In (alive v) (tests (connect s u a b p q)) → v < 32
@@ -282,7 +275,7 @@ module _ (m : Monitor) (g : Owned m) where
     connect-late r h = record { nine = alone tested; ten = refl; fifteen = refl }
       where
         tested : broken (view m) (enough (connect s u a b p q)) ≡ r
-        tested = sym (h (beside m) (subst Wf (sym stepped) (connect-wf (view m) w s u a b p q (early-order (view m) (connect s u a b p q) k)))
+        tested = sym (h (beside m) (subst Wf (sym stepped) (connect-wf (view m) w s u a b p q passes))
             ∙ ap (λ (v : Tables). not (safe v)) stepped)
 
     pub connects : refusal (view m) (connect s u a b p q) ≡ none → Acts m (connect s u a b p q) (allowed (x .level)) (monitor m (m .subjects) both-pipes next)

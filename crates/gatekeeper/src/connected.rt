@@ -17,7 +17,7 @@ use tables::looks;
 use tables::refusals;
 
 impl Monitor {
-    // Call 17: two new empty pipes, a at s's level and b at u's; s and u each read the other's at place p and write their own at place q.
+    // Call 17, whose t is u here: two new empty pipes, a at s's level and b at u's; s and u each read the other's at place p and write their own at q.
     pub(crate) fn connect(mut self, s: u32, u: u32, a: u32, b: u32, p: u32, q: u32) -> Reply
         requires { ⌜ Wf (view self) ⌝ }
         ensures { λ r. ⌜ Acts self (connect s u a b p q) (told (r .answer)) (r .monitor) ⌝ }

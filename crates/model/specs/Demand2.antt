@@ -1,4 +1,4 @@
--- Demand 2, the flow rule both ways: what RULES R9, R109 and R110 say, in terms of chains of flows (RULES F4); and what a file that is frozen is (RULES R15).
+-- Demand 2, the flow rule both ways: what RULES R9, R109, R110 and R121 say, in terms of chains of flows (RULES F4); and what a file that is frozen is (RULES R15).
 -- `Demand2.Laws` proves that the refusals of the definitions are exactly these. Assumes nothing.
 use mathlib.Core.Path.{_≡_}
 use mathlib.Core.Bool.{not}

@@ -66,8 +66,9 @@ lines =
     ∷ line 17 (8 ∷ 9 ∷ 42 ∷ 43 ∷ 1 ∷ 2 ∷ []) (R 7) ∷ line 17 (8 ∷ 9 ∷ 42 ∷ 43 ∷ 3 ∷ 1 ∷ []) (R 7) ∷ line 17 (8 ∷ 9 ∷ 42 ∷ 43 ∷ 1 ∷ 3 ∷ []) (R 7)
     ∷ line 17 (8 ∷ 9 ∷ 42 ∷ 43 ∷ 0 ∷ 1 ∷ []) (R 9) ∷ line 17 (9 ∷ 8 ∷ 42 ∷ 43 ∷ 0 ∷ 1 ∷ []) (R 9) ∷ line 5 (8 ∷ 42 ∷ 0 ∷ []) (R 4) ∷ line 11 (8 ∷ 2 ∷ []) (A 6)
     ∷ line 6 (9 ∷ 40 ∷ 2 ∷ []) (A 3) ∷ line 17 (8 ∷ 9 ∷ 42 ∷ 43 ∷ 0 ∷ 1 ∷ []) (A 6) ∷ line 8 (8 ∷ 0 ∷ []) (R 8) ∷ line 7 (9 ∷ 1 ∷ []) (R 8)
-    ∷ line 8 (8 ∷ 1 ∷ []) (A 6) ∷ line 7 (9 ∷ 0 ∷ []) (A 3) ∷ line 5 (31 ∷ 42 ∷ 0 ∷ []) (R 2) ∷ line 3 (8 ∷ 43 ∷ []) (R 3) ∷ line 8 (9 ∷ 1 ∷ []) (A 3)
-    ∷ line 7 (8 ∷ 0 ∷ []) (L 3) ∷ line 8 (8 ∷ 1 ∷ []) (L 3) ∷ line 11 (8 ∷ 0 ∷ []) (A 3) ∷ line 11 (9 ∷ 1 ∷ []) (A 3) ∷ line 13 (43 ∷ []) (R 4) ∷ line 13 (42 ∷ []) (R 5)
+    ∷ line 8 (8 ∷ 1 ∷ []) (A 6) ∷ line 7 (9 ∷ 0 ∷ []) (A 3) ∷ line 3 (8 ∷ 43 ∷ []) (R 3) ∷ line 8 (9 ∷ 1 ∷ []) (A 3)
+    ∷ line 7 (8 ∷ 0 ∷ []) (L 3) ∷ line 8 (8 ∷ 1 ∷ []) (L 3) ∷ line 10 (8 ∷ 40 ∷ []) (A 3) ∷ line 10 (9 ∷ 40 ∷ []) (A 3)
+    ∷ line 7 (8 ∷ 0 ∷ []) (A 3) ∷ line 8 (8 ∷ 1 ∷ []) (A 3) ∷ line 7 (9 ∷ 0 ∷ []) (A 3) ∷ line 8 (9 ∷ 1 ∷ []) (A 3) ∷ line 11 (8 ∷ 0 ∷ []) (A 3) ∷ line 11 (9 ∷ 1 ∷ []) (A 3) ∷ line 13 (43 ∷ []) (R 4) ∷ line 13 (42 ∷ []) (R 5)
     ∷ []
 
 abbrev pub answered-so : Tables → List Line → Bool
@@ -115,13 +116,19 @@ mapping-list = call 1 (2 ∷ 2 ∷ []) ∷ call 2 (1 ∷ 2 ∷ []) ∷ call 14 (
 abbrev mapped-list : List Raw
 mapped-list = mapping-list ++ call 8 (3 ∷ 2 ∷ []) ∷ []
 
+-- admit 0 and 1, a file, a pipe, connect
+abbrev blank-list : List Raw
+blank-list = call 1 (0 ∷ 9 ∷ []) ∷ call 1 (1 ∷ 9 ∷ []) ∷ call 3 (1 ∷ 3 ∷ []) ∷ call 4 (1 ∷ 4 ∷ 0 ∷ 1 ∷ []) ∷ call 17 (0 ∷ 1 ∷ 5 ∷ 6 ∷ 2 ∷ 3 ∷ []) ∷ []
+
 pub contents-right : (book telling from-10 reading-list .content (subject 2) ≡ 41024101110) × (book telling from-10 reading-list .content (object 1) ≡ 10)
     × (book telling from-10 writing-list .content (object 1) ≡ 32410201011) × (book telling from-10 writing-list .content (subject 2) ≡ 11)
     × (book telling from-10 running-list .content (subject 3) ≡ 23024101110)
     × (book telling from-10 mapped-list .content (object 1) ≡ 2205854502211) × (book telling from-10 mapped-list .content (subject 2) ≡ 4369288703311)
     × (book telling from-10 mapped-list .content (subject 3) ≡ 216611308713311)
+    × (book telling from-10 blank-list .content (object 3) ≡ 0) × (book telling from-10 blank-list .content (object 4) ≡ 0)
+    × (book telling from-10 blank-list .content (object 5) ≡ 0) × (book telling from-10 blank-list .content (object 6) ≡ 0)
 unfolding Label label level leq meet join bot need used cell speaks things handles edges safe decode rereads sheds ended effect refusal lowers answer
-contents-right = (refl, refl, refl, refl, refl, refl, refl, refl)
+contents-right = (refl, refl, refl, refl, refl, refl, refl, refl, refl, refl, refl, refl)
 
 -- the reads that follow the write, in their order; a marked mapping is one, and a handle that is no mapping is none
 abbrev marked-list : List Raw

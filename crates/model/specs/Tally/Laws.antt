@@ -179,8 +179,7 @@ module _ (t : Tables) (v : Wf t) where
       u₁ = apply (hold s r (some (handle reading o))) u
 
       still : u₁ .hand s w ≡ none
-      still = cond-yes (eqb s s) (cond (eqb r w) (some (handle reading o)) (t .hand s w)) (t .hand s w) (eqb-refl s)
-          ∙ cond-no (eqb r w) (some (handle reading o)) (t .hand s w) (m (apart r w) (inr (inr (inr (inr (inl refl)))))) ∙ empty-place t s w hw
+      still = place-other (t .hand) s r (some (handle reading o)) w (m (apart r w) (inr (inr (inr (inr (inl refl)))))) ∙ empty-place t s w hw
 
   connect-count : (s r a b p q : ℕ) → ((e : Test) → In e (tests (connect s r a b p q)) → T (not (broken t e))) → count (applies (channel t s r a b p q) t) + 0 ≡ count t + 4
   connect-count s r a b p q m =
