@@ -31,7 +31,7 @@ extern "C" {
 
 /* Sizes, in bytes. */
 #define GATEKEEPER_STATE_BYTES 1745    /* a monitor with its tally */
-#define GATEKEEPER_RECORD_ROOM 22      /* room for every record */
+#define GATEKEEPER_RECORD_ROOM 32      /* room for every record */
 #define GATEKEEPER_JOURNAL_BYTES 65536 /* the longest journal that is run */
 #define GATEKEEPER_REPLY_ROOM 1835075  /* room for the reply to every journal */
 
@@ -59,13 +59,13 @@ extern "C" {
  * not marked. The empty monitor has 16 as its freeze and 0 everywhere else: bytes that are all 0 have no subject,
  * object or handle either, but they freeze every file.
  *
- * Bytes that version 2.0.0 kept are the same monitor as they stand: its calls made no mapping. Those of a version
- * before it have neither marks nor a freeze, which is a wrong length. With a byte 0 after the two of each handle, and a
- * byte of GATEKEEPER_NO_FREEZE after all, they are the same monitor.
+ * Bytes that version 2.0.0 or 2.1.0 kept are the same monitor as they stand. Those of a version before these have
+ * neither marks nor a freeze, which is a wrong length. With a byte 0 after the two of each handle, and a byte of
+ * GATEKEEPER_NO_FREEZE after all, they are the same monitor.
  */
 
-/* The calls, with the numbers a, b, c and d that each takes. s and c are subjects, o is an object, p, r and w are
- * places.
+/* The calls, with the numbers that each takes, in their order. s, t and c are subjects, o is an object, a and b are the
+ * pipes of a channel, p, q, r and w are places.
  *
  * A mapping is a reading handle on a file that its subject has mapped into memory. A host reports one with
  * GATEKEEPER_MAP in place of GATEKEEPER_OPEN_READ, and its end with GATEKEEPER_CLOSE. No call to read follows, so the
@@ -80,8 +80,15 @@ extern "C" {
  * A refused exec closes none. A new handle is not marked; a fork's are marked, and are mappings, as s's are; and no
  * call takes a mark off.
  *
- * A freeze is one for all subjects, in the place of the one before it; pipes, opens for reading, maps and handles
- * that are held go on as without it. */
+ * A channel joins two subjects both ways, as a local socket does. It is two new pipes with four handles, and a connect
+ * makes all of them or nothing: a from s to t, at s's level, and b from t to s, at t's. s writes a and t writes b, each
+ * at its place q; t reads a and s reads b, each at its place p. The flow rule is asked once, of both directions
+ * together, and no level falls. From then on these are pipes and handles like any other: each handle is marked, copied
+ * by a fork and closed by itself, and each pipe ends with its last handle. Where a step closes a socket that is its end
+ * of a channel, the host closes both places.
+ *
+ * A freeze is one for all subjects, in the place of the one before it; pipes, channels, opens for reading, maps and
+ * handles that are held go on as without it. */
 enum gatekeeper_code {
     GATEKEEPER_ADMIT = 1,      /* s, level: a new subject from outside, without handles */
     GATEKEEPER_REGISTER = 2,   /* o, level: a new file from outside */
@@ -98,7 +105,8 @@ enum gatekeeper_code {
     GATEKEEPER_RETIRE = 13,    /* o: the file is gone, its number is free */
     GATEKEEPER_MAP = 14,       /* s, o, p: a mapping, and a read: s falls to the file's level if that is lower */
     GATEKEEPER_MARK = 15,      /* s, p: the handle is marked: it ends when s runs a program */
-    GATEKEEPER_FREEZE = 16     /* level: files at or above it are frozen: no open for writing; with 16, none is */
+    GATEKEEPER_FREEZE = 16,    /* level: files at or above it are frozen: no open for writing; with 16, none is */
+    GATEKEEPER_CONNECT = 17    /* s, t, a, b, p, q: a channel: new pipes a to t and b to s; place p reads, q writes */
 };
 
 /* How a call came out. */
@@ -109,15 +117,16 @@ enum gatekeeper_outcome {
 };
 
 /* Why a call, a record or a journal is refused. Where several hold, the smallest number is given, but 14 goes before
- * all others, and 12 before 2 to 10. So an open that is refused with 15 is one that nothing but the freeze forbids. */
+ * all others, 12 before 2 to 10, and 16 right after 2. So an open that is refused with 15 is one that nothing but the
+ * freeze forbids. */
 enum gatekeeper_refusal {
-    GATEKEEPER_UNKNOWN_CODE = 1,      /* the code is none of 1 to 16 */
-    GATEKEEPER_NO_SUBJECT = 2,        /* the subject that asks is out of range or not live */
-    GATEKEEPER_NUMBER_TAKEN = 3,      /* the number for a new thing is out of range or in use */
+    GATEKEEPER_UNKNOWN_CODE = 1,      /* the code is none of 1 to 17 */
+    GATEKEEPER_NO_SUBJECT = 2,        /* a subject that asks, or is to be connected, is out of range or not live */
+    GATEKEEPER_NUMBER_TAKEN = 3,      /* the number for a new thing is out of range or in use; a = b */
     GATEKEEPER_NO_OBJECT = 4,         /* the object is out of range or not live */
     GATEKEEPER_IS_PIPE = 5,           /* a pipe cannot be run, retired or mapped */
     GATEKEEPER_LEVEL_TOO_HIGH = 6,    /* the level is above 15, or a freeze above 16 */
-    GATEKEEPER_PLACE_UNFIT = 7,       /* the place is above 15, taken, or empty where a handle is named; r is w */
+    GATEKEEPER_PLACE_UNFIT = 7,       /* the place is above 15, taken, or empty where a handle is named; r = w, p = q */
     GATEKEEPER_WRONG_DIRECTION = 8,   /* a read on a writing handle, or a write on a reading one */
     GATEKEEPER_FLOW = 9,              /* low data could reach a higher file */
     GATEKEEPER_STILL_OPEN = 10,       /* a handle is open on the file to be retired */
@@ -125,7 +134,8 @@ enum gatekeeper_refusal {
     GATEKEEPER_RECORD_BROKEN = 12,    /* journals only: a number is malformed, missing or left over */
     GATEKEEPER_RECORD_TOO_LONG = 13,  /* gatekeeper_record only: the record is longer than the buffer */
     GATEKEEPER_JOURNAL_TOO_LONG = 14, /* journals only: above 65,536 bytes */
-    GATEKEEPER_FROZEN = 15            /* an open for writing of a file at or above the freeze */
+    GATEKEEPER_FROZEN = 15,           /* an open for writing of a file at or above the freeze */
+    GATEKEEPER_SAME_SUBJECT = 16      /* a connect of a subject to itself */
 };
 
 /* GATEKEEPER_STATE_BYTES, for a host that sees no header. */
@@ -136,12 +146,15 @@ size_t gatekeeper_state_bytes(void);
 GATEKEEPER_MUST_USE
 bool gatekeeper_empty(uint8_t *state, size_t len);
 
-/* Makes one call on the monitor that the lent bytes are, and counts the handles it makes and removes. Numbers that the
- * code does not use are ignored. The answer is 256 times the outcome's letter, and the level or the number of the
- * refusal: see the three functions below. A refused call changes no byte. Where `len` is not GATEKEEPER_STATE_BYTES: 0,
- * which allows nothing, and no byte is touched. */
+/* Makes one call on the monitor that the lent bytes are, and counts the handles it makes and removes. `a` to `f` are
+ * the call's numbers in their order; those that the code does not use are ignored. The answer is 256 times the
+ * outcome's letter, and the level or the number of the refusal: see the three functions below. A refused call changes
+ * no byte. Where `len` is not GATEKEEPER_STATE_BYTES: 0, which allows nothing, and no byte is touched.
+ *
+ * Before version 3.0.0 a call had four numbers: a host of then adds two zeros here and in gatekeeper_record. */
 GATEKEEPER_MUST_USE
-uint32_t gatekeeper_call(uint8_t *state, size_t len, uint32_t code, uint32_t a, uint32_t b, uint32_t c, uint32_t d);
+uint32_t gatekeeper_call(uint8_t *state, size_t len, uint32_t code, uint32_t a, uint32_t b, uint32_t c, uint32_t d,
+                         uint32_t e, uint32_t f);
 
 /* The outcome in an answer of gatekeeper_call: an `enum gatekeeper_outcome`, or 0 for a wrong length. What this function
  * and the next two read off an answer that is not 0 is the rules' answer, whatever the lent bytes were. */
@@ -157,8 +170,8 @@ static inline bool gatekeeper_allows(uint32_t answer)
 
 /* The level in an answer of gatekeeper_call, or where it was refused the `enum gatekeeper_refusal`. On a monitor that
  * started empty a level is below GATEKEEPER_LEVELS, but for that of a freeze that is lifted: GATEKEEPER_NO_FREEZE.
- * After a read, an exec and a map it is s's; after an open and a write it is the object's, also where what the write
- * made fall is a subject that has the file mapped. */
+ * After a read, an exec, a map and a connect it is s's; after an open and a write it is the object's, also where what
+ * the write made fall is a subject that has the file mapped. */
 static inline uint32_t gatekeeper_value(uint32_t answer) { return answer % 256; }
 
 /* Handles made and handles gone over all calls on this monitor, modulo 2 to the 64th. On a monitor that started empty
@@ -186,7 +199,8 @@ size_t gatekeeper_replay(const uint8_t *journal, size_t len, uint8_t *out, size_
  * value. Else GATEKEEPER_UNKNOWN_CODE or GATEKEEPER_RECORD_TOO_LONG, and no byte is touched. GATEKEEPER_RECORD_ROOM
  * bytes are enough for every record. */
 GATEKEEPER_MUST_USE
-uint32_t gatekeeper_record(uint8_t *out, size_t room, uint32_t code, uint32_t a, uint32_t b, uint32_t c, uint32_t d);
+uint32_t gatekeeper_record(uint8_t *out, size_t room, uint32_t code, uint32_t a, uint32_t b, uint32_t c, uint32_t d,
+                           uint32_t e, uint32_t f);
 
 /* Reads the number at the front of some bytes, unsigned LEB128 as in a journal: its value, and 2 to the 32nd for each
  * byte that it takes. 0 where it is cut off, above 4,294,967,295, or longer than it need be. */

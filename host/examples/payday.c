@@ -10,14 +10,14 @@
 
 #include "gatekeeper.h"
 
-/* What comes from outside, and the numbers that this host gives to it and to what it makes. */
-enum { SHELL = 0, ADDER = 1, LISTER = 2, LAUNCHER = 3, IMPORTER = 4, TERMINAL = 5 }; /* subjects */
-enum { PAY_BOOK = 0, SHEET = 1, HOURS = 2, LIST = 3, VIEWER = 4 };                   /* files */
-enum { PIPE = 8 };                                                                   /* from the adder to the shell */
+/* What comes from outside, and the numbers that this host gives to it and to what it makes: subjects, files, pipes. */
+enum { SHELL = 0, ADDER = 1, LISTER = 2, LAUNCHER = 3, IMPORTER = 4, TERMINAL = 5, STATION = 6, PAYSLIPS = 7 };
+enum { PAY_BOOK = 0, SHEET = 1, HOURS = 2, LIST = 3, VIEWER = 4 };
+enum { PIPE = 8, SLIPS = 9, REPORTS = 10 }; /* from the adder to the shell; to the print station, and back */
 
 struct host {
     uint8_t monitor[GATEKEEPER_STATE_BYTES];
-    uint8_t journal[60 * GATEKEEPER_RECORD_ROOM]; /* room for 60 calls */
+    uint8_t journal[80 * GATEKEEPER_RECORD_ROOM]; /* room for 80 calls */
     size_t written;
 };
 
@@ -30,16 +30,20 @@ static const char *refusal_words(uint32_t refusal)
     }
 }
 
+/* The numbers of a call, and 0 for each that it does not use. */
+#define WITH(...) ((const uint32_t[6]){__VA_ARGS__})
+
 /* Makes a call, adds its record to the journal, and says what came of it; whether it may be done. */
-static bool ask(struct host *host, const char *what, uint32_t code, uint32_t a, uint32_t b, uint32_t c, uint32_t d)
+static bool ask(struct host *host, const char *what, uint32_t code, const uint32_t n[6])
 {
     uint8_t *end = host->journal + host->written;
     size_t room = sizeof host->journal - host->written;
-    uint32_t record = gatekeeper_record(end, room, code, a, b, c, d);
+    uint32_t record = gatekeeper_record(end, room, code, n[0], n[1], n[2], n[3], n[4], n[5]);
     if (record > 256)
         host->written += record - 256;
 
-    uint32_t answer = gatekeeper_call(host->monitor, sizeof host->monitor, code, a, b, c, d);
+    size_t len = sizeof host->monitor;
+    uint32_t answer = gatekeeper_call(host->monitor, len, code, n[0], n[1], n[2], n[3], n[4], n[5]);
     uint32_t value = gatekeeper_value(answer);
     printf("%-66s ", what);
     if (!gatekeeper_allows(answer)) {
@@ -52,9 +56,9 @@ static bool ask(struct host *host, const char *what, uint32_t code, uint32_t a, 
 }
 
 /* The same for a call without which this host cannot go on. */
-static void must(struct host *host, const char *what, uint32_t code, uint32_t a, uint32_t b, uint32_t c, uint32_t d)
+static void must(struct host *host, const char *what, uint32_t code, const uint32_t n[6])
 {
-    if (!ask(host, what, code, a, b, c, d)) {
+    if (!ask(host, what, code, n)) {
         fflush(stdout);
         fputs("payday: a call that the pay run needs was refused\n", stderr);
         exit(EXIT_FAILURE);
@@ -69,76 +73,92 @@ int main(void)
         return 1;
 
     puts("What comes from outside");
-    must(&host, "The pay book is file 0.", GATEKEEPER_REGISTER, PAY_BOOK, 9, 0, 0);
-    must(&host, "The hours sheet of shop 3, which nobody has checked, is file 1.", GATEKEEPER_REGISTER, SHEET, 2, 0, 0);
-    must(&host, "The checked hours of all other shops are file 2.", GATEKEEPER_REGISTER, HOURS, 12, 0, 0);
-    must(&host, "The shell is step 0.", GATEKEEPER_ADMIT, SHELL, 12, 0, 0);
+    must(&host, "The pay book is file 0.", GATEKEEPER_REGISTER, WITH(PAY_BOOK, 9));
+    must(&host, "The hours sheet of shop 3, which nobody has checked, is file 1.", GATEKEEPER_REGISTER, WITH(SHEET, 2));
+    must(&host, "The checked hours of all other shops are file 2.", GATEKEEPER_REGISTER, WITH(HOURS, 12));
+    must(&host, "The shell is step 0.", GATEKEEPER_ADMIT, WITH(SHELL, 12));
 
     puts("\nThe shell starts a step that adds up the hours");
-    must(&host, "The shell makes pipe 8: place 0 reads it, place 1 writes it.", GATEKEEPER_PIPE, SHELL, PIPE, 0, 1);
-    must(&host, "It forks the adder, step 1.", GATEKEEPER_FORK, SHELL, ADDER, 0, 0);
-    must(&host, "The adder closes its reading end.", GATEKEEPER_CLOSE, ADDER, 0, 0, 0);
-    must(&host, "The shell closes its writing end.", GATEKEEPER_CLOSE, SHELL, 1, 0, 0);
-    must(&host, "The shell opens the pay book for writing.", GATEKEEPER_OPEN_WRITE, SHELL, PAY_BOOK, 2, 0);
-    must(&host, "The adder opens the checked hours for reading.", GATEKEEPER_OPEN_READ, ADDER, HOURS, 2, 0);
+    must(&host, "The shell makes pipe 8: place 0 reads it, place 1 writes it.", GATEKEEPER_PIPE,
+         WITH(SHELL, PIPE, 0, 1));
+    must(&host, "It forks the adder, step 1.", GATEKEEPER_FORK, WITH(SHELL, ADDER));
+    must(&host, "The adder closes its reading end.", GATEKEEPER_CLOSE, WITH(ADDER, 0));
+    must(&host, "The shell closes its writing end.", GATEKEEPER_CLOSE, WITH(SHELL, 1));
+    must(&host, "The shell opens the pay book for writing.", GATEKEEPER_OPEN_WRITE, WITH(SHELL, PAY_BOOK, 2));
+    must(&host, "The adder opens the checked hours for reading.", GATEKEEPER_OPEN_READ, WITH(ADDER, HOURS, 2));
 
     puts("\nThe adder asks for the unchecked sheet: through pipe 8 it would reach the pay book");
-    if (!ask(&host, "The adder opens the sheet of shop 3 for reading.", GATEKEEPER_OPEN_READ, ADDER, SHEET, 3, 0)) {
+    if (!ask(&host, "The adder opens the sheet of shop 3 for reading.", GATEKEEPER_OPEN_READ, WITH(ADDER, SHEET, 3))) {
         puts("\nThe way out: a step with no way to the pay book reads it");
-        must(&host, "The shell forks the lister, step 2.", GATEKEEPER_FORK, SHELL, LISTER, 0, 0);
-        must(&host, "The lister closes its end of pipe 8.", GATEKEEPER_CLOSE, LISTER, 0, 0, 0);
-        must(&host, "The lister closes the pay book.", GATEKEEPER_CLOSE, LISTER, 2, 0, 0);
-        must(&host, "The lister opens the sheet of shop 3 for reading.", GATEKEEPER_OPEN_READ, LISTER, SHEET, 0, 0);
-        must(&host, "The lister reads it.", GATEKEEPER_READ, LISTER, 0, 0, 0);
-        must(&host, "The lister creates file 3, a list for the clerk.", GATEKEEPER_CREATE, LISTER, LIST, 0, 0);
-        must(&host, "The lister opens the list for writing.", GATEKEEPER_OPEN_WRITE, LISTER, LIST, 1, 0);
-        must(&host, "The lister writes it.", GATEKEEPER_WRITE, LISTER, 1, 0, 0);
-        if (ask(&host, "The lister opens the pay book for writing.", GATEKEEPER_OPEN_WRITE, LISTER, PAY_BOOK, 2, 0))
-            must(&host, "The lister writes it.", GATEKEEPER_WRITE, LISTER, 2, 0, 0);
-        must(&host, "The lister exits.", GATEKEEPER_EXIT, LISTER, 0, 0, 0);
+        must(&host, "The shell forks the lister, step 2.", GATEKEEPER_FORK, WITH(SHELL, LISTER));
+        must(&host, "The lister closes its end of pipe 8.", GATEKEEPER_CLOSE, WITH(LISTER, 0));
+        must(&host, "The lister closes the pay book.", GATEKEEPER_CLOSE, WITH(LISTER, 2));
+        must(&host, "The lister opens the sheet of shop 3 for reading.", GATEKEEPER_OPEN_READ, WITH(LISTER, SHEET, 0));
+        must(&host, "The lister reads it.", GATEKEEPER_READ, WITH(LISTER, 0));
+        must(&host, "The lister creates file 3, a list for the clerk.", GATEKEEPER_CREATE, WITH(LISTER, LIST));
+        must(&host, "The lister opens the list for writing.", GATEKEEPER_OPEN_WRITE, WITH(LISTER, LIST, 1));
+        must(&host, "The lister writes it.", GATEKEEPER_WRITE, WITH(LISTER, 1));
+        if (ask(&host, "The lister opens the pay book for writing.", GATEKEEPER_OPEN_WRITE, WITH(LISTER, PAY_BOOK, 2)))
+            must(&host, "The lister writes it.", GATEKEEPER_WRITE, WITH(LISTER, 2));
+        must(&host, "The lister exits.", GATEKEEPER_EXIT, WITH(LISTER));
     }
 
     puts("\nThe pay run goes on, and nobody has fallen");
-    must(&host, "The adder reads the checked hours.", GATEKEEPER_READ, ADDER, 2, 0, 0);
-    must(&host, "The adder writes the sums to pipe 8.", GATEKEEPER_WRITE, ADDER, 1, 0, 0);
-    must(&host, "The adder exits.", GATEKEEPER_EXIT, ADDER, 0, 0, 0);
-    must(&host, "The shell reads the sums.", GATEKEEPER_READ, SHELL, 0, 0, 0);
-    must(&host, "The shell writes the pay book.", GATEKEEPER_WRITE, SHELL, 2, 0, 0);
+    must(&host, "The adder reads the checked hours.", GATEKEEPER_READ, WITH(ADDER, 2));
+    must(&host, "The adder writes the sums to pipe 8.", GATEKEEPER_WRITE, WITH(ADDER, 1));
+    must(&host, "The adder exits.", GATEKEEPER_EXIT, WITH(ADDER));
+    must(&host, "The shell reads the sums.", GATEKEEPER_READ, WITH(SHELL, 0));
+    must(&host, "The shell writes the pay book.", GATEKEEPER_WRITE, WITH(SHELL, 2));
 
     puts("\nA launcher that has the pay book open runs a sheet viewer, which is not to get that handle");
-    must(&host, "The sheet viewer, a program from elsewhere, is file 4.", GATEKEEPER_REGISTER, VIEWER, 2, 0, 0);
-    must(&host, "The shell forks the launcher, step 3.", GATEKEEPER_FORK, SHELL, LAUNCHER, 0, 0);
-    if (!ask(&host, "The launcher runs the viewer.", GATEKEEPER_EXEC, LAUNCHER, VIEWER, 0, 0)) {
-        must(&host, "The launcher marks the pay book: that handle ends at exec.", GATEKEEPER_MARK, LAUNCHER, 2, 0, 0);
-        must(&host, "The launcher runs the viewer.", GATEKEEPER_EXEC, LAUNCHER, VIEWER, 0, 0);
+    must(&host, "The sheet viewer, a program from elsewhere, is file 4.", GATEKEEPER_REGISTER, WITH(VIEWER, 2));
+    must(&host, "The shell forks the launcher, step 3.", GATEKEEPER_FORK, WITH(SHELL, LAUNCHER));
+    if (!ask(&host, "The launcher runs the viewer.", GATEKEEPER_EXEC, WITH(LAUNCHER, VIEWER))) {
+        must(&host, "The launcher marks the pay book: that handle ends at exec.", GATEKEEPER_MARK, WITH(LAUNCHER, 2));
+        must(&host, "The launcher runs the viewer.", GATEKEEPER_EXEC, WITH(LAUNCHER, VIEWER));
     }
-    must(&host, "The viewer exits.", GATEKEEPER_EXIT, LAUNCHER, 0, 0, 0);
+    must(&host, "The viewer exits.", GATEKEEPER_EXIT, WITH(LAUNCHER));
 
     puts("\nA spreadsheet importer maps the unchecked sheet, and falls at once: it never makes a call to read");
-    must(&host, "The shell forks the importer, step 4.", GATEKEEPER_FORK, SHELL, IMPORTER, 0, 0);
-    must(&host, "The importer closes the pay book.", GATEKEEPER_CLOSE, IMPORTER, 2, 0, 0);
-    must(&host, "The importer maps the sheet of shop 3.", GATEKEEPER_MAP, IMPORTER, SHEET, 1, 0);
-    must(&host, "The terminal of shop 3 is step 5.", GATEKEEPER_ADMIT, TERMINAL, 2, 0, 0);
-    must(&host, "The terminal opens the sheet for writing.", GATEKEEPER_OPEN_WRITE, TERMINAL, SHEET, 0, 0);
-    must(&host, "The terminal writes late hours: the importer sees them, too.", GATEKEEPER_WRITE, TERMINAL, 0, 0, 0);
-    must(&host, "The terminal exits.", GATEKEEPER_EXIT, TERMINAL, 0, 0, 0);
-    must(&host, "The importer runs the viewer: the mapping ends.", GATEKEEPER_EXEC, IMPORTER, VIEWER, 0, 0);
-    must(&host, "The viewer exits.", GATEKEEPER_EXIT, IMPORTER, 0, 0, 0);
+    must(&host, "The shell forks the importer, step 4.", GATEKEEPER_FORK, WITH(SHELL, IMPORTER));
+    must(&host, "The importer closes the pay book.", GATEKEEPER_CLOSE, WITH(IMPORTER, 2));
+    must(&host, "The importer maps the sheet of shop 3.", GATEKEEPER_MAP, WITH(IMPORTER, SHEET, 1));
+    must(&host, "The terminal of shop 3 is step 5.", GATEKEEPER_ADMIT, WITH(TERMINAL, 2));
+    must(&host, "The terminal opens the sheet for writing.", GATEKEEPER_OPEN_WRITE, WITH(TERMINAL, SHEET, 0));
+    must(&host, "The terminal writes late hours: the importer sees them, too.", GATEKEEPER_WRITE, WITH(TERMINAL, 0));
+    must(&host, "The terminal exits.", GATEKEEPER_EXIT, WITH(TERMINAL));
+    must(&host, "The importer runs the viewer: the mapping ends.", GATEKEEPER_EXEC, WITH(IMPORTER, VIEWER));
+    must(&host, "The viewer exits.", GATEKEEPER_EXIT, WITH(IMPORTER));
+
+    puts("\nThe payslip step and the print station talk over a local socket: one pipe there and one back");
+    must(&host, "The print station is step 6.", GATEKEEPER_ADMIT, WITH(STATION, 5));
+    must(&host, "The shell forks the payslip step, step 7.", GATEKEEPER_FORK, WITH(SHELL, PAYSLIPS));
+    const uint32_t *channel = WITH(PAYSLIPS, STATION, SLIPS, REPORTS, 3, 4); /* each reads at 3 and writes at 4 */
+    if (!ask(&host, "The payslip step is connected to the station by pipes 9 and 10.", GATEKEEPER_CONNECT, channel)) {
+        must(&host, "The payslip step closes the pay book.", GATEKEEPER_CLOSE, WITH(PAYSLIPS, 2));
+        must(&host, "The payslip step is connected to the station by pipes 9 and 10.", GATEKEEPER_CONNECT, channel);
+    }
+    must(&host, "The payslip step writes a payslip.", GATEKEEPER_WRITE, WITH(PAYSLIPS, 4));
+    must(&host, "The station reads it.", GATEKEEPER_READ, WITH(STATION, 3));
+    must(&host, "The station writes that it is printed.", GATEKEEPER_WRITE, WITH(STATION, 4));
+    must(&host, "The payslip step reads that.", GATEKEEPER_READ, WITH(PAYSLIPS, 3));
+    must(&host, "The payslip step exits.", GATEKEEPER_EXIT, WITH(PAYSLIPS));
+    must(&host, "The station exits.", GATEKEEPER_EXIT, WITH(STATION));
 
     puts("\nThe books are closed until the bank file is sent; who has the pay book open goes on");
-    must(&host, "Files of level 9 and above are frozen.", GATEKEEPER_FREEZE, 9, 0, 0, 0);
+    must(&host, "Files of level 9 and above are frozen.", GATEKEEPER_FREEZE, WITH(9));
     uint32_t from = gatekeeper_frozen_from(host.monitor, sizeof host.monitor);
     if (from < GATEKEEPER_NO_FREEZE)
         printf("The duty screen shows: frozen from level %" PRIu32 " on.\n", from);
-    if (ask(&host, "The shell opens the pay book for writing again.", GATEKEEPER_OPEN_WRITE, SHELL, PAY_BOOK, 3, 0))
-        must(&host, "The shell closes it.", GATEKEEPER_CLOSE, SHELL, 3, 0, 0);
-    must(&host, "The shell writes the last page with the handle that it has.", GATEKEEPER_WRITE, SHELL, 2, 0, 0);
-    must(&host, "The bank file is sent: the freeze is lifted.", GATEKEEPER_FREEZE, GATEKEEPER_NO_FREEZE, 0, 0, 0);
-    must(&host, "The shell exits.", GATEKEEPER_EXIT, SHELL, 0, 0, 0);
+    if (ask(&host, "The shell opens the pay book for writing again.", GATEKEEPER_OPEN_WRITE, WITH(SHELL, PAY_BOOK, 3)))
+        must(&host, "The shell closes it.", GATEKEEPER_CLOSE, WITH(SHELL, 3));
+    must(&host, "The shell writes the last page with the handle that it has.", GATEKEEPER_WRITE, WITH(SHELL, 2));
+    must(&host, "The bank file is sent: the freeze is lifted.", GATEKEEPER_FREEZE, WITH(GATEKEEPER_NO_FREEZE));
+    must(&host, "The shell exits.", GATEKEEPER_EXIT, WITH(SHELL));
 
     puts("\nA clerk has looked over the sheet: it comes in again as checked");
-    must(&host, "The sheet of shop 3 is retired.", GATEKEEPER_RETIRE, SHEET, 0, 0, 0);
-    must(&host, "The checked sheet is file 1.", GATEKEEPER_REGISTER, SHEET, 12, 0, 0);
+    must(&host, "The sheet of shop 3 is retired.", GATEKEEPER_RETIRE, WITH(SHEET));
+    must(&host, "The checked sheet is file 1.", GATEKEEPER_REGISTER, WITH(SHEET, 12));
 
     uint64_t made = gatekeeper_made(host.monitor, sizeof host.monitor);
     uint64_t gone = gatekeeper_gone(host.monitor, sizeof host.monitor);

@@ -12,6 +12,8 @@ const LISTER: u32 = 2;
 const LAUNCHER: u32 = 3;
 const IMPORTER: u32 = 4;
 const TERMINAL: u32 = 5;
+const STATION: u32 = 6;
+const PAYSLIPS: u32 = 7;
 const PAY_BOOK: u32 = 0;
 const SHEET: u32 = 1;
 const HOURS: u32 = 2;
@@ -19,6 +21,9 @@ const LIST: u32 = 3;
 const VIEWER: u32 = 4;
 /// From the adder to the shell.
 const PIPE: u32 = 8;
+/// To the print station, and back.
+const SLIPS: u32 = 9;
+const REPORTS: u32 = 10;
 
 #[derive(Default)]
 struct Host {
@@ -164,6 +169,30 @@ fn main() {
         Call::Exec { subject: IMPORTER, object: VIEWER },
     );
     host.must("The viewer exits.", Call::Exit { subject: IMPORTER });
+
+    println!(
+        "\nThe payslip step and the print station talk over a local socket: one pipe there and one back"
+    );
+    host.must("The print station is step 6.", Call::Admit { subject: STATION, level: 5 });
+    host.must("The shell forks the payslip step, step 7.", Call::Fork { subject: SHELL, child: PAYSLIPS });
+    let channel = Call::Connect {
+        subject: PAYSLIPS,
+        peer: STATION,
+        to: SLIPS,
+        from: REPORTS,
+        reading: 3,
+        writing: 4,
+    };
+    if !host.ask("The payslip step is connected to the station by pipes 9 and 10.", channel) {
+        host.must("The payslip step closes the pay book.", Call::Close { subject: PAYSLIPS, place: 2 });
+        host.must("The payslip step is connected to the station by pipes 9 and 10.", channel);
+    }
+    host.must("The payslip step writes a payslip.", Call::Write { subject: PAYSLIPS, place: 4 });
+    host.must("The station reads it.", Call::Read { subject: STATION, place: 3 });
+    host.must("The station writes that it is printed.", Call::Write { subject: STATION, place: 4 });
+    host.must("The payslip step reads that.", Call::Read { subject: PAYSLIPS, place: 3 });
+    host.must("The payslip step exits.", Call::Exit { subject: PAYSLIPS });
+    host.must("The station exits.", Call::Exit { subject: STATION });
 
     println!("\nThe books are closed until the bank file is sent; who has the pay book open goes on");
     host.must("Files of level 9 and above are frozen.", Call::Freeze { level: 9 });

@@ -42,7 +42,8 @@ impl Answer {
 }
 
 /// Why a call, a record or a journal was refused. Where several hold, the smallest number is given, but 14 goes
-/// before all others, and 12 before 2 to 10. So an open that is `Frozen` is one that nothing but the freeze forbids.
+/// before all others, 12 before 2 to 10, and 16 right after 2. So an open that is `Frozen` is one that nothing but the
+/// freeze forbids.
 #[non_exhaustive]
 #[derive(Clone, Copy, Debug, PartialEq, Eq, PartialOrd, Ord, Hash)]
 pub enum Refusal {
@@ -61,11 +62,12 @@ pub enum Refusal {
     RecordTooLong = 13,
     JournalTooLong = 14,
     Frozen = 15,
+    SameSubject = 16,
 }
 
 impl Refusal {
     /// Every refusal, by number.
-    pub const ALL: [Refusal; 15] = [
+    pub const ALL: [Refusal; 16] = [
         Refusal::UnknownCode,
         Refusal::NoSubject,
         Refusal::NumberTaken,
@@ -81,9 +83,10 @@ impl Refusal {
         Refusal::RecordTooLong,
         Refusal::JournalTooLong,
         Refusal::Frozen,
+        Refusal::SameSubject,
     ];
 
-    /// The number of the refusal in the rules, 1 to 15.
+    /// The number of the refusal in the rules, 1 to 16.
     pub fn number(self) -> u32 {
         self as u32
     }
@@ -117,6 +120,7 @@ impl Refusal {
             Refusal::RecordTooLong => "the record is longer than the buffer",
             Refusal::JournalTooLong => "the journal is longer than 65,536 bytes",
             Refusal::Frozen => "the file is frozen while the books are closed",
+            Refusal::SameSubject => "a step cannot be connected to itself",
         }
     }
 }
@@ -140,7 +144,7 @@ mod tests {
             assert_eq!(Refusal::from_number(number), Some(refusal));
         }
         assert_eq!(Refusal::from_number(0), None);
-        assert_eq!(Refusal::from_number(16), None);
+        assert_eq!(Refusal::from_number(17), None);
     }
 
     #[test]

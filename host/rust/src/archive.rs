@@ -17,6 +17,8 @@ mod c {
             b: u32,
             c: u32,
             d: u32,
+            e: u32,
+            f: u32,
         ) -> u32;
         pub fn gatekeeper_made(state: *const u8, len: usize) -> u64;
         pub fn gatekeeper_gone(state: *const u8, len: usize) -> u64;
@@ -29,6 +31,8 @@ mod c {
             b: u32,
             c: u32,
             d: u32,
+            e: u32,
+            f: u32,
         ) -> u32;
         pub fn gatekeeper_number(bytes: *const u8, len: usize) -> u64;
     }
@@ -48,9 +52,9 @@ pub fn empty(state: &mut [u8]) -> bool {
 }
 
 #[inline]
-pub fn call(state: &mut [u8], code: u32, numbers: [u32; 4]) -> u32 {
-    let [a, b, c, d] = numbers;
-    unsafe { c::gatekeeper_call(state.as_mut_ptr(), state.len(), code, a, b, c, d) }
+pub fn call(state: &mut [u8], code: u32, numbers: [u32; 6]) -> u32 {
+    let [a, b, c, d, e, f] = numbers;
+    unsafe { c::gatekeeper_call(state.as_mut_ptr(), state.len(), code, a, b, c, d, e, f) }
 }
 
 pub fn made(state: &[u8]) -> u64 {
@@ -65,9 +69,9 @@ pub fn replay(journal: &[u8], out: &mut [u8]) -> usize {
     unsafe { c::gatekeeper_replay(journal.as_ptr(), journal.len(), out.as_mut_ptr(), out.len()) }
 }
 
-pub fn record(out: &mut [u8], code: u32, numbers: [u32; 4]) -> u32 {
-    let [a, b, c, d] = numbers;
-    unsafe { c::gatekeeper_record(out.as_mut_ptr(), out.len(), code, a, b, c, d) }
+pub fn record(out: &mut [u8], code: u32, numbers: [u32; 6]) -> u32 {
+    let [a, b, c, d, e, f] = numbers;
+    unsafe { c::gatekeeper_record(out.as_mut_ptr(), out.len(), code, a, b, c, d, e, f) }
 }
 
 #[inline]
@@ -86,7 +90,7 @@ mod tests {
         for len in [0, 1, 1232, STATE_BYTES - 1, STATE_BYTES + 1] {
             let mut state = vec![7; len];
             assert!(!empty(&mut state));
-            assert_eq!(call(&mut state, 1, [0, 9, 0, 0]), 0);
+            assert_eq!(call(&mut state, 1, [0, 9, 0, 0, 0, 0]), 0);
             assert_eq!((made(&state), gone(&state)), (0, 0));
             assert_eq!(state, vec![7; len]);
         }

@@ -1,4 +1,4 @@
-//! The sixteen calls.
+//! The seventeen calls.
 
 use crate::journal;
 
@@ -51,12 +51,21 @@ pub enum Call {
     /// out closes it, too. A new handle is not marked, and no call takes a mark off.
     Mark { subject: u32, place: u32 },
     /// From now on, for all subjects, no file at or above the level is opened for writing; with [`NO_FREEZE`], which
-    /// lifts the freeze, any may be. Handles that are held, pipes, opens for reading and maps go on as without it.
+    /// lifts the freeze, any may be. Handles that are held, pipes, channels, opens for reading and maps go on as
+    /// without it.
     Freeze { level: u32 },
+    /// A *channel* between two subjects, as a local socket is one: two new pipes with four handles, or nothing. The
+    /// pipe `to` goes from the subject to its peer and has the subject's level; the pipe `from` comes from the peer and
+    /// has the peer's level. Each of the two reads at its place `reading` what the other writes at its place `writing`.
+    /// The flow rule is asked once, of both directions together. No level falls; the answer has the subject's. From
+    /// then on these are pipes and handles like any other: each handle is marked, copied by a fork and closed by
+    /// itself, and each pipe ends with its last handle. Where a step closes a socket that is its end of a channel, the
+    /// host closes both places.
+    Connect { subject: u32, peer: u32, to: u32, from: u32, reading: u32, writing: u32 },
 }
 
 impl Call {
-    /// The call's code, one of 1 to 16.
+    /// The call's code, one of 1 to 17.
     pub fn code(self) -> u32 {
         match self {
             Call::Admit { .. } => 1,
@@ -75,28 +84,32 @@ impl Call {
             Call::Map { .. } => 14,
             Call::Mark { .. } => 15,
             Call::Freeze { .. } => 16,
+            Call::Connect { .. } => 17,
         }
     }
 
     /// The call's numbers in the order of the journal, then 0 for those that it does not use.
-    pub fn numbers(self) -> [u32; 4] {
+    pub fn numbers(self) -> [u32; 6] {
         match self {
-            Call::Admit { subject, level } => [subject, level, 0, 0],
-            Call::Register { object, level } => [object, level, 0, 0],
-            Call::Create { subject, object } => [subject, object, 0, 0],
-            Call::Pipe { subject, object, reads, writes } => [subject, object, reads, writes],
-            Call::OpenRead { subject, object, place } => [subject, object, place, 0],
-            Call::OpenWrite { subject, object, place } => [subject, object, place, 0],
-            Call::Read { subject, place } => [subject, place, 0, 0],
-            Call::Write { subject, place } => [subject, place, 0, 0],
-            Call::Fork { subject, child } => [subject, child, 0, 0],
-            Call::Exec { subject, object } => [subject, object, 0, 0],
-            Call::Close { subject, place } => [subject, place, 0, 0],
-            Call::Exit { subject } => [subject, 0, 0, 0],
-            Call::Retire { object } => [object, 0, 0, 0],
-            Call::Map { subject, object, place } => [subject, object, place, 0],
-            Call::Mark { subject, place } => [subject, place, 0, 0],
-            Call::Freeze { level } => [level, 0, 0, 0],
+            Call::Admit { subject, level } => [subject, level, 0, 0, 0, 0],
+            Call::Register { object, level } => [object, level, 0, 0, 0, 0],
+            Call::Create { subject, object } => [subject, object, 0, 0, 0, 0],
+            Call::Pipe { subject, object, reads, writes } => [subject, object, reads, writes, 0, 0],
+            Call::OpenRead { subject, object, place } => [subject, object, place, 0, 0, 0],
+            Call::OpenWrite { subject, object, place } => [subject, object, place, 0, 0, 0],
+            Call::Read { subject, place } => [subject, place, 0, 0, 0, 0],
+            Call::Write { subject, place } => [subject, place, 0, 0, 0, 0],
+            Call::Fork { subject, child } => [subject, child, 0, 0, 0, 0],
+            Call::Exec { subject, object } => [subject, object, 0, 0, 0, 0],
+            Call::Close { subject, place } => [subject, place, 0, 0, 0, 0],
+            Call::Exit { subject } => [subject, 0, 0, 0, 0, 0],
+            Call::Retire { object } => [object, 0, 0, 0, 0, 0],
+            Call::Map { subject, object, place } => [subject, object, place, 0, 0, 0],
+            Call::Mark { subject, place } => [subject, place, 0, 0, 0, 0],
+            Call::Freeze { level } => [level, 0, 0, 0, 0, 0],
+            Call::Connect { subject, peer, to, from, reading, writing } => {
+                [subject, peer, to, from, reading, writing]
+            }
         }
     }
 

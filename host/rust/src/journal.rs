@@ -10,7 +10,7 @@ pub const JOURNAL_BYTES: usize = 65_536;
 pub const REPLY_ROOM: usize = 1_835_075;
 
 /// Room for every record, in bytes.
-pub const RECORD_ROOM: usize = 22;
+pub const RECORD_ROOM: usize = 32;
 
 /// The reply to a journal, from an empty monitor: a line for each record with its position, code, A, L or R, and
 /// the level or refusal number; then `end`, handles made, gone and open.
@@ -38,9 +38,10 @@ pub fn replay_into(journal: &[u8], out: &mut [u8]) -> Option<usize> {
     }
 }
 
-/// Writes the record of a call over the front of a buffer, and answers with its length. What lies behind it keeps
-/// its value. A refusal, [`Refusal::UnknownCode`] or [`Refusal::RecordTooLong`], changes nothing.
-pub fn write_record(out: &mut [u8], code: u32, numbers: [u32; 4]) -> Result<usize, Refusal> {
+/// Writes the record of a call over the front of a buffer, and answers with its length. Numbers that the code does not
+/// use are not written, and what lies behind the record keeps its value. A refusal, [`Refusal::UnknownCode`] or
+/// [`Refusal::RecordTooLong`], changes nothing.
+pub fn write_record(out: &mut [u8], code: u32, numbers: [u32; 6]) -> Result<usize, Refusal> {
     match archive::record(out, code, numbers) {
         length @ 256.. => Ok((length - 256) as usize),
         number => Err(Refusal::proved(number)),
@@ -135,6 +136,24 @@ mod tests {
     }
 
     #[test]
+    fn a_journal_has_channels() {
+        let mut journal = Vec::new();
+        let connect = Call::Connect { subject: 0, peer: 1, to: 5, from: 6, reading: 0, writing: 1 };
+        Call::Admit { subject: 0, level: 9 }.write_record(&mut journal);
+        connect.write_record(&mut journal);
+        Call::Admit { subject: 1, level: 2 }.write_record(&mut journal);
+        connect.write_record(&mut journal);
+        Call::Write { subject: 1, place: 1 }.write_record(&mut journal);
+        Call::Read { subject: 0, place: 0 }.write_record(&mut journal);
+        Call::Exit { subject: 1 }.write_record(&mut journal);
+        connect.write_record(&mut journal);
+        assert_eq!(journal[4..12], [7, 17, 0, 1, 5, 6, 0, 1]);
+        let reply =
+            "1 1 A 9\n2 17 R 2\n3 1 A 2\n4 17 A 9\n5 8 A 2\n6 7 L 2\n7 12 A 2\n8 17 R 2\nend 4 2 2\n";
+        assert_eq!(replay(&journal), reply);
+    }
+
+    #[test]
     fn empty_broken_and_long_journals_have_a_reply() {
         assert_eq!(replay(&[]), "end 0 0 0\n");
         assert_eq!(replay(&[0x80, 0x00]), "1 0 R 11\nend 0 0 0\n");
@@ -146,17 +165,18 @@ mod tests {
     #[test]
     fn a_record_leaves_what_lies_behind_it() {
         let mut out = [7; 10];
-        assert_eq!(write_record(&mut out, 5, [1, 300, 2, 9]), Ok(6));
+        assert_eq!(write_record(&mut out, 5, [1, 300, 2, 9, 9, 9]), Ok(6));
         assert_eq!(out, [5, 5, 1, 0xac, 0x02, 2, 7, 7, 7, 7]);
     }
 
     #[test]
     fn a_refused_record_leaves_the_buffer() {
         let mut out = [7; RECORD_ROOM];
-        assert_eq!(write_record(&mut out, 17, [0; 4]), Err(Refusal::UnknownCode));
-        assert_eq!(write_record(&mut out[1..], 4, [u32::MAX; 4]), Err(Refusal::RecordTooLong));
+        assert_eq!(write_record(&mut out, 18, [0; 6]), Err(Refusal::UnknownCode));
+        assert_eq!(write_record(&mut out[1..], 17, [u32::MAX; 6]), Err(Refusal::RecordTooLong));
         assert_eq!(out, [7; RECORD_ROOM]);
-        assert_eq!(write_record(&mut out, 4, [u32::MAX; 4]), Ok(RECORD_ROOM));
+        assert_eq!(write_record(&mut out, 4, [u32::MAX; 6]), Ok(22));
+        assert_eq!(write_record(&mut out, 17, [u32::MAX; 6]), Ok(RECORD_ROOM));
     }
 
     #[test]

@@ -28,9 +28,9 @@ impl Monitor {
         Monitor { state }
     }
 
-    /// The monitor that these bytes are. Any bytes are one; `host/gatekeeper.h` has the layout. Bytes that version 2.0.0
-    /// kept are taken up as they are. Those of a version before it lack the third of each handle, which is 0, and the
-    /// last, which is [`NO_FREEZE`].
+    /// The monitor that these bytes are. Any bytes are one; `host/gatekeeper.h` has the layout. Bytes that version
+    /// 2.0.0 or 2.1.0 kept are taken up as they are. Those of a version before these lack the third of each handle,
+    /// which is 0, and the last, which is [`NO_FREEZE`].
     pub fn from_bytes(state: [u8; STATE_BYTES]) -> Monitor {
         Monitor { state }
     }
@@ -47,7 +47,7 @@ impl Monitor {
 
     /// Makes the call with this code, whatever it is. Numbers that the code does not use are ignored.
     #[inline]
-    pub fn direct(&mut self, code: u32, numbers: [u32; 4]) -> Answer {
+    pub fn direct(&mut self, code: u32, numbers: [u32; 6]) -> Answer {
         Answer::from_number(archive::call(&mut self.state, code, numbers))
     }
 
@@ -156,6 +156,29 @@ impl Monitor {
     pub fn freeze(&mut self, level: u32) -> Answer {
         self.call(Call::Freeze { level })
     }
+
+    /// ```
+    /// use gatekeeper::{Answer, Monitor, Refusal};
+    ///
+    /// let mut monitor = Monitor::new();
+    /// monitor.admit(0, 9).granted()?; // the payslip step, of level 9
+    /// monitor.admit(1, 5).granted()?; // the print station, of level 5
+    /// assert_eq!(monitor.connect(0, 1, 5, 6, 0, 1), Answer::Allowed(9)); // pipe 5 to the station, pipe 6 back
+    /// monitor.write(1, 1).granted()?; // the station writes at its place 1,
+    /// assert_eq!(monitor.read(0, 0), Answer::Lowered(5)); // which the payslip step reads at its place 0
+    /// # Ok::<(), Refusal>(())
+    /// ```
+    pub fn connect(
+        &mut self,
+        subject: u32,
+        peer: u32,
+        to: u32,
+        from: u32,
+        reading: u32,
+        writing: u32,
+    ) -> Answer {
+        self.call(Call::Connect { subject, peer, to, from, reading, writing })
+    }
 }
 
 impl Default for Monitor {
@@ -224,6 +247,8 @@ mod tests {
         assert_eq!(monitor.map(1, 1, 0), Answer::Lowered(2));
         assert_eq!(monitor.exec(1, 1), Answer::Allowed(2));
         assert_eq!((monitor.made(), monitor.gone(), monitor.open()), (7, 6, 1));
+        assert_eq!(monitor.connect(0, 1, 4, 5, 2, 3), Answer::Allowed(2));
+        assert_eq!((monitor.made(), monitor.gone(), monitor.open()), (11, 6, 5));
     }
 
     /// Subject 0 at level 9; file 0 at level 9, which it has open for writing at place 0; file 1 at level 2.
@@ -503,6 +528,114 @@ mod tests {
         assert_eq!(monitor.open_write(1, 1, 7), Answer::Allowed(8));
     }
 
+    /// Subjects 0 at level 9 and 1 at level 5; file 0 at level 9; subject 0 has it open for writing at place 2.
+    fn station() -> Monitor {
+        let mut monitor = Monitor::new();
+        assert_eq!(monitor.admit(0, 9), Answer::Allowed(9));
+        assert_eq!(monitor.admit(1, 5), Answer::Allowed(5));
+        assert_eq!(monitor.register(0, 9), Answer::Allowed(9));
+        assert_eq!(monitor.open_write(0, 0, 2), Answer::Allowed(9));
+        monitor
+    }
+
+    #[test]
+    fn a_channel_goes_both_ways() {
+        let mut monitor = station();
+        assert_eq!(monitor.close(0, 2), Answer::Allowed(9));
+        assert_eq!(monitor.connect(0, 1, 62, 63, 14, 15), Answer::Allowed(9));
+        assert_eq!((monitor.made(), monitor.gone(), monitor.open()), (5, 1, 4));
+
+        // Two pipes, each at the level of the one that writes it, and handles that are not marked.
+        let state = monitor.as_bytes();
+        assert_eq!(state[64 + 2 * 62..HANDLES_AT], [2, 9, 2, 5]);
+        assert_eq!(state[HANDLES_AT + 3 * 14..][..6], [1, 63, 0, 2, 62, 0]);
+        assert_eq!(state[HANDLES_AT + 3 * (16 + 14)..][..6], [1, 62, 0, 2, 63, 0]);
+
+        // What the first writes comes to the second, which is lower and stays; what the second writes lowers the first.
+        assert_eq!(monitor.write(0, 15), Answer::Allowed(9));
+        assert_eq!(monitor.read(1, 14), Answer::Allowed(5));
+        assert_eq!(monitor.write(1, 15), Answer::Allowed(5));
+        assert_eq!(monitor.read(0, 14), Answer::Lowered(5));
+        assert_eq!(monitor.write(0, 15), Answer::Lowered(5));
+        assert_eq!(monitor.read(0, 15), Answer::Refused(Refusal::WrongDirection));
+        assert_eq!(monitor.write(0, 14), Answer::Refused(Refusal::WrongDirection));
+
+        // The answer has the level of the one that asks, the lower one too; a freeze asks nothing of a channel.
+        assert_eq!(monitor.admit(2, 12), Answer::Allowed(12));
+        assert_eq!(monitor.freeze(0), Answer::Allowed(0));
+        assert_eq!(monitor.connect(1, 2, 0, 1, 0, 1), Answer::Refused(Refusal::NumberTaken));
+        assert_eq!(monitor.connect(1, 2, 1, 2, 0, 1), Answer::Allowed(5));
+        assert_eq!(monitor.read(1, 0), Answer::Allowed(5));
+        assert_eq!(monitor.read(2, 0), Answer::Lowered(5));
+    }
+
+    #[test]
+    fn a_connect_is_refused_whole_and_in_order() {
+        let mut monitor = station();
+        assert_eq!(monitor.open_read(1, 0, 3), Answer::Allowed(9));
+        let before = monitor.clone();
+        let refused = |[s, t, a, b, p, q]: [u32; 6], refusal| {
+            let mut monitor = before.clone();
+            let answer = monitor.connect(s, t, a, b, p, q);
+            assert_eq!(answer, Answer::Refused(refusal), "{:?}", [s, t, a, b, p, q]);
+            assert_eq!(monitor, before);
+        };
+        // Each with all that is refused after it.
+        refused([32, 32, 64, 64, 16, 16], Refusal::NoSubject);
+        refused([2, 2, 64, 64, 16, 16], Refusal::NoSubject);
+        refused([2, 1, 64, 64, 16, 16], Refusal::NoSubject);
+        refused([0, 2, 64, 64, 16, 16], Refusal::NoSubject);
+        refused([0, 32, 64, 64, 16, 16], Refusal::NoSubject);
+        refused([0, 0, 64, 64, 16, 16], Refusal::SameSubject);
+        refused([1, 1, 5, 6, 0, 1], Refusal::SameSubject);
+        refused([0, 1, 64, 6, 16, 16], Refusal::NumberTaken);
+        refused([0, 1, 5, 64, 16, 16], Refusal::NumberTaken);
+        refused([0, 1, 0, 6, 16, 16], Refusal::NumberTaken);
+        refused([0, 1, 5, 0, 16, 16], Refusal::NumberTaken);
+        refused([0, 1, 5, 5, 16, 16], Refusal::NumberTaken);
+        refused([0, 1, 5, 6, 16, 1], Refusal::PlaceUnfit);
+        refused([0, 1, 5, 6, 0, 16], Refusal::PlaceUnfit);
+        refused([0, 1, 5, 6, 1, 1], Refusal::PlaceUnfit);
+        // A place of the one, and a place of the other.
+        for place in [2, 3] {
+            refused([0, 1, 5, 6, place, 0], Refusal::PlaceUnfit);
+            refused([0, 1, 5, 6, 0, place], Refusal::PlaceUnfit);
+        }
+        // The station is below the file that the first subject writes, whoever asks.
+        refused([0, 1, 5, 6, 0, 1], Refusal::Flow);
+        refused([1, 0, 5, 6, 0, 1], Refusal::Flow);
+
+        assert_eq!(monitor.close(0, 2), Answer::Allowed(9));
+        assert_eq!(monitor.connect(0, 1, 5, 6, 0, 1), Answer::Allowed(9));
+        // With the channel there, it is the open that is refused.
+        assert_eq!(monitor.open_write(0, 0, 2), Answer::Refused(Refusal::Flow));
+    }
+
+    #[test]
+    fn each_pipe_of_a_channel_ends_with_its_last_handle() {
+        let mut monitor = station();
+        assert_eq!(monitor.close(0, 2), Answer::Allowed(9));
+        assert_eq!(monitor.connect(0, 1, 5, 6, 0, 1), Answer::Allowed(9));
+
+        // Pipe 5 from subject 0 to 1: first its writing end goes, then its reading one. Pipe 6 stays.
+        assert_eq!(monitor.close(0, 1), Answer::Allowed(9));
+        assert_eq!(monitor.register(5, 3), Answer::Refused(Refusal::NumberTaken));
+        assert_eq!(monitor.read(1, 0), Answer::Allowed(5));
+        assert_eq!(monitor.close(1, 0), Answer::Allowed(5));
+        assert_eq!(monitor.register(5, 3), Answer::Allowed(3));
+        assert_eq!(monitor.write(1, 1), Answer::Allowed(5));
+
+        // A fork's handle holds pipe 6, and an exec closes the one that is marked.
+        assert_eq!(monitor.fork(0, 2), Answer::Allowed(9));
+        assert_eq!(monitor.exit(0), Answer::Allowed(9));
+        assert_eq!(monitor.exit(1), Answer::Allowed(5));
+        assert_eq!(monitor.mark(2, 0), Answer::Allowed(9));
+        assert_eq!(monitor.read(2, 0), Answer::Lowered(5));
+        assert_eq!(monitor.exec(2, 0), Answer::Allowed(5));
+        assert_eq!(monitor.register(6, 3), Answer::Allowed(3));
+        assert_eq!((monitor.made(), monitor.gone(), monitor.open()), (6, 6, 0));
+    }
+
     #[test]
     fn bytes_of_before_are_taken_up_with_marks_and_a_freeze() {
         // As a version before 2.0.0 kept them: subject 1, file 2 and pipe 63, at level 9; subject 1 writes the file at
@@ -545,8 +678,9 @@ mod tests {
         assert_eq!(monitor.freeze(17), Answer::Refused(Refusal::LevelTooHigh));
         assert_eq!(monitor.mark(0, 0), Answer::Refused(Refusal::PlaceUnfit));
         assert_eq!(monitor.map(0, 0, 0), Answer::Refused(Refusal::NoObject));
-        for code in [0, 17] {
-            assert_eq!(monitor.direct(code, [0; 4]), Answer::Refused(Refusal::UnknownCode));
+        assert_eq!(monitor.connect(0, 1, 0, 1, 0, 1), Answer::Refused(Refusal::NoSubject));
+        for code in [0, 18] {
+            assert_eq!(monitor.direct(code, [0; 6]), Answer::Refused(Refusal::UnknownCode));
         }
         assert_eq!(monitor, before);
     }

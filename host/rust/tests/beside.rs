@@ -5,7 +5,7 @@
 use std::fmt;
 
 use gatekeeper::{Answer, Monitor, Refusal, STATE_BYTES};
-use gatekeeper_independent::calls::{shape_of_code, SHAPES};
+use gatekeeper_independent::calls::{filled, shape_of_code, Numbers, SHAPES};
 use gatekeeper_independent::generate::{self, Wish};
 use gatekeeper_independent::monitor::{Answer as PlainAnswer, Monitor as PlainMonitor};
 use gatekeeper_independent::random::Random;
@@ -22,11 +22,18 @@ const HANDLES_AT: usize = 192;
 const MADE_AT: usize = 1728;
 const FREEZE_AT: usize = 1744;
 
+const REGISTER: u32 = 2;
 const OPEN_READ: u32 = 5;
+const OPEN_WRITE: u32 = 6;
 const READ: u32 = 7;
 const WRITE: u32 = 8;
 const EXEC: u32 = 10;
+const CLOSE: u32 = 11;
 const MAP: u32 = 14;
+const CONNECT: u32 = 17;
+
+/// The refusals that answer a connect, in the order in which they are tested: RULES R105, R120.
+const REFUSING_CONNECTS: [usize; 5] = [2, 16, 3, 7, 9];
 
 /// How many calls each of the two large comparisons makes.
 const CALLS_OF_JOURNALS: usize = 300_000;
@@ -56,7 +63,7 @@ impl Pair {
 
     /// Makes a call in both; the error says how answer or tally differ. Tables are compared too, but for a variant,
     /// which must be found by its answers.
-    fn call(&mut self, code: u32, numbers: [u32; 4]) -> Result<Answer, String> {
+    fn call(&mut self, code: u32, numbers: Numbers) -> Result<Answer, String> {
         let before = self.proved.clone();
         let answer = self.proved.direct(code, numbers);
         let made = self.proved.made().wrapping_sub(self.made);
@@ -130,13 +137,13 @@ fn tables_of(state: &[u8; STATE_BYTES]) -> Tables {
 }
 
 /// The calls of a journal's records, those with an unknown code among them.
-fn calls_of(journal: &[u8]) -> Vec<(u32, [u32; 4])> {
+fn calls_of(journal: &[u8]) -> Vec<(u32, Numbers)> {
     let mut calls = Vec::new();
     let mut reader = Reader::new(journal, Rules::default());
     while let Some(Ok(span)) = reader.next_record() {
         match records::read_body(journal, span, Rules::default()) {
             Body::Call { code, numbers } => calls.push((code, numbers)),
-            Body::UnknownCode { code } => calls.push((code, [0; 4])),
+            Body::UnknownCode { code } => calls.push((code, filled(&[]))),
             Body::Bad { .. } => {}
         }
     }
@@ -173,38 +180,67 @@ fn drawn_state(random: &mut Random) -> [u8; STATE_BYTES] {
     state
 }
 
-/// A call whose numbers are mostly in range, and often those of live things. Many are execs and maps: few of those are
-/// allowed, and only these close handles and place mappings. Many are writes to what is mapped, where something is.
-fn drawn_call(random: &mut Random, tables: &Tables) -> (u32, [u32; 4]) {
-    let code = random.pick(&[EXEC, EXEC, MAP, WRITE, 0, 0, 0, 0]).unwrap_or(0);
+/// A call whose numbers are mostly in range, and often those of live things. Many are execs, maps and connects: few of
+/// those are allowed, and only these close handles, place mappings and make channels. Many are writes to what is
+/// mapped, where something is.
+fn drawn_call(random: &mut Random, tables: &Tables) -> (u32, Numbers) {
+    // Numbers that the code does not use are ignored, whatever they are.
+    let mut numbers = filled(&[]).map(|_| random.below(u32::MAX));
+    let code = random.pick(&[EXEC, EXEC, MAP, WRITE, CONNECT, 0, 0, 0, 0]).unwrap_or(0);
     if code == WRITE {
         if let Some((s, p)) = random.pick(&writers_of_mapped(tables)) {
-            return (WRITE, [s, p, random.below(u32::MAX), random.below(u32::MAX)]);
+            numbers[..2].copy_from_slice(&[s, p]);
+            return (WRITE, numbers);
         }
+    }
+    if code == CONNECT {
+        return (CONNECT, drawn_connect(random, tables));
     }
     let any = SHAPES.get(random.below(SHAPES.len() as u32 + 1) as usize);
     let Some(shape) = shape_of_code(code).or(any) else {
         // Any code, or one near those that calls have.
         let most = random.pick(&[20, u32::MAX]).unwrap_or(20);
-        return (random.below(most), [0; 4]);
+        return (random.below(most), filled(&[]));
     };
     let (mut subjects, mut objects): (Vec<u32>, Vec<u32>) = ((0..33).collect(), (0..65).collect());
     if random.once_in(2) {
         subjects.retain(|&s| tables.subject(s).is_some());
         objects.retain(|&o| tables.object(o).is_some());
     }
-    // Numbers that the code does not use are ignored, whatever they are.
-    let mut numbers = [0; 4].map(|_| random.below(u32::MAX));
     for (number, name) in numbers.iter_mut().zip(shape.numbers) {
         if !random.once_in(60) {
             *number = match *name {
-                "s" | "c" => random.pick(&subjects).unwrap_or(0),
-                "o" => random.pick(&objects).unwrap_or(0),
+                "s" | "c" | "t" => random.pick(&subjects).unwrap_or(0),
+                "o" | "a" | "b" => random.pick(&objects).unwrap_or(0),
                 _ => random.below(18),
             };
         }
     }
     (shape.code, numbers)
+}
+
+/// The numbers of a connect: mostly two live subjects, two numbers that no object has, and two places that are empty
+/// at both.
+fn drawn_connect(random: &mut Random, tables: &Tables) -> Numbers {
+    let [s, t] = drawn_pair(random, tables.live_subjects().collect(), 33);
+    let unused = (0..64).filter(|&o| tables.object(o).is_none());
+    let [a, b] = drawn_pair(random, unused.collect(), 65);
+    let empty = (0..16).filter(|&p| [s, t].iter().all(|&holder| tables.handle(holder, p).is_none()));
+    let [p, q] = drawn_pair(random, empty.collect(), 18);
+    [s, t, a, b, p, q]
+}
+
+/// Two of the numbers that fit, or any below `all` where these are too few; now and then one of them is any, or both
+/// are the same.
+fn drawn_pair(random: &mut Random, mut fitting: Vec<u32>, all: u32) -> [u32; 2] {
+    random.shuffle(&mut fitting);
+    let [one, other] = [0, 1].map(|at| fitting.get(at).copied().unwrap_or_else(|| random.below(all)));
+    match random.below(20) {
+        0 => [one, one],
+        1 => [random.below(all), other],
+        2 => [one, random.below(all)],
+        _ => [one, other],
+    }
 }
 
 /// The places that have an object open for writing which some subject, the same one or another, has mapped.
@@ -219,13 +255,14 @@ fn is_mapped_file(o: u32, tables: &Tables) -> bool {
     is_file && tables.mappers(o).next().is_some()
 }
 
-/// Which outcomes and refusals were seen, of all calls, of maps and of writes to files that are mapped, and how many
-/// handles execs closed; a comparison that saw few says little.
+/// Which outcomes and refusals were seen, of all calls, of maps, of writes to files that are mapped and of connects,
+/// and how many handles execs closed; a comparison that saw few says little.
 #[derive(Default)]
 struct Seen {
     all: Outcomes,
     maps: Outcomes,
     mapped_writes: Outcomes,
+    connects: Outcomes,
     ended_at_exec: u64,
     /// How many of these were mappings.
     unmapped_at_exec: u64,
@@ -235,7 +272,7 @@ struct Seen {
 struct Outcomes {
     allowed: usize,
     lowered: usize,
-    refused: [usize; 16],
+    refused: [usize; 17],
 }
 
 impl Outcomes {
@@ -250,6 +287,13 @@ impl Outcomes {
     fn refused(&self) -> usize {
         self.refused.iter().sum()
     }
+
+    /// How often each of these refusals was seen.
+    fn by_number(&self, numbers: &[usize]) -> String {
+        let counts: Vec<String> =
+            numbers.iter().map(|&number| format!("{} with {number}", self.refused[number])).collect();
+        counts.join(", ")
+    }
 }
 
 impl fmt::Display for Outcomes {
@@ -260,7 +304,7 @@ impl fmt::Display for Outcomes {
 
 impl Seen {
     /// Makes a call and counts what came of it.
-    fn call(&mut self, pair: &mut Pair, code: u32, numbers: [u32; 4]) -> Result<(), String> {
+    fn call(&mut self, pair: &mut Pair, code: u32, numbers: Numbers) -> Result<(), String> {
         let [s, p, ..] = numbers;
         let before = pair.plain.tables();
         let mappings = before.handles_of(s).filter(|(_, handle)| handle.mapped).count() as u64;
@@ -276,6 +320,9 @@ impl Seen {
         if code == WRITE && to_mapped_file {
             self.mapped_writes.count(answer);
         }
+        if code == CONNECT {
+            self.connects.count(answer);
+        }
         if code == EXEC && answer.granted().is_ok() {
             self.ended_at_exec += pair.proved.gone().wrapping_sub(gone);
             self.unmapped_at_exec += mappings;
@@ -284,10 +331,12 @@ impl Seen {
     }
 
     fn report(&self, what: &str) {
-        let Seen { all, maps, mapped_writes, ended_at_exec, unmapped_at_exec } = self;
+        let Seen { all, maps, mapped_writes, connects, ended_at_exec, unmapped_at_exec } = self;
         let calls = all.allowed + all.lowered + all.refused();
         println!("beside: {what}: {calls} calls, {all}");
         println!("beside: {what}: maps: {maps}; writes to mapped files: {mapped_writes}");
+        let by_number = connects.by_number(&REFUSING_CONNECTS);
+        println!("beside: {what}: connects: {connects}: {by_number}");
         println!(
             "beside: {what}: {ended_at_exec} handles ended at exec, {unmapped_at_exec} of them mappings"
         );
@@ -295,16 +344,24 @@ impl Seen {
         assert!(maps.allowed > 100 && maps.lowered > 100, "few maps were not refused");
         assert!(mapped_writes.allowed > 100, "few writes were to mapped files");
         assert_eq!(mapped_writes.refused(), 0, "a write with a handle that is held was refused");
+        assert!(
+            connects.allowed > 100 && connects.lowered == 0,
+            "few connects were allowed, or one lowered"
+        );
         assert!(*unmapped_at_exec > 100, "few mappings ended at exec");
         assert!(ended_at_exec - unmapped_at_exec > 100, "few handles ended at exec for their mark");
         // Those that answer a direct call.
-        for number in (1..=10).chain([15]) {
+        for number in (1..=10).chain([15, 16]) {
             let words = refusals::meaning(number as u32);
             assert!(all.refused[number] > 0, "no call was refused with {number}: {words}");
         }
         for number in [2, 4, 5, 7, 9] {
             let words = refusals::meaning(number as u32);
             assert!(maps.refused[number] > 0, "no map was refused with {number}: {words}");
+        }
+        for number in REFUSING_CONNECTS {
+            let words = refusals::meaning(number as u32);
+            assert!(connects.refused[number] > 20, "few connects were refused with {number}: {words}");
         }
     }
 }
@@ -358,7 +415,7 @@ fn opens_at_any_level_with_any_freeze_are_answered_alike() {
         state[FREEZE_AT] = freeze;
         let mut pair = Pair::of_bytes(state);
         let mut open = |object, place| {
-            let answer = pair.call(6, [0, object, place, 0]);
+            let answer = pair.call(OPEN_WRITE, filled(&[0, object, place]));
             answer.unwrap_or_else(|difference| panic!("freeze {freeze}, level {level}: {difference}"))
         };
         assert_eq!(open(1, 0), Answer::Allowed(level), "a pipe, with the freeze {freeze}");
@@ -380,15 +437,15 @@ fn execs_with_any_mark_are_answered_alike() {
         state[HANDLES_AT..][..6].copy_from_slice(&[2, 0, mark, 1, 2, 1]); // it writes file 0, and reads the pipe
         state[FREEZE_AT] = 16;
         let mut pair = Pair::of_bytes(state);
-        let mut call = |code, numbers| {
-            let answer = pair.call(code, numbers);
+        let mut call = |code, numbers: &[u32]| {
+            let answer = pair.call(code, filled(numbers));
             answer.unwrap_or_else(|difference| panic!("mark {mark}, level {level}: {difference}"))
         };
-        let done = call(EXEC, [0, 1, 0, 0]).granted().is_ok();
+        let done = call(EXEC, &[0, 1]).granted().is_ok();
         assert_eq!(done, mark == 1 || level >= 9, "mark {mark}, level {level}");
         // The pipe has ended with its last handle, which is marked.
-        assert_eq!(call(5, [0, 2, 2, 0]) == Answer::Refused(Refusal::NoObject), done);
-        closed += usize::from(call(8, [0; 4]) == Answer::Refused(Refusal::PlaceUnfit));
+        assert_eq!(call(OPEN_READ, &[0, 2, 2]) == Answer::Refused(Refusal::NoObject), done);
+        closed += usize::from(call(WRITE, &[0, 0]) == Answer::Refused(Refusal::PlaceUnfit));
     }
     // The handle on file 0, by a mark of 1 alone and whatever the program's level.
     assert_eq!(closed, 16);
@@ -406,18 +463,18 @@ fn handles_with_any_first_byte_are_answered_alike() {
             state[HANDLES_AT + 3 * 16..][..6].copy_from_slice(&[byte, 0, 0, byte, 0, 0]); // subject 1 has it twice
             state[FREEZE_AT] = 16;
             let mut pair = Pair::of_bytes(state);
-            let mut call = |code, numbers| {
-                let answer = pair.call(code, numbers);
+            let mut call = |code, numbers: &[u32]| {
+                let answer = pair.call(code, filled(numbers));
                 answer.unwrap_or_else(|difference| panic!("byte {byte}, level {level}: {difference}"))
             };
             // The write to a file lowers who has it mapped; one to a pipe is followed by nothing.
             let falls = byte == 3 && level > 9 && kind == Kind::File;
             let answer = if falls { Answer::Lowered(9) } else { Answer::Allowed(9) };
-            assert_eq!(call(WRITE, [0; 4]), answer, "byte {byte}, level {level}, {kind:?}");
+            assert_eq!(call(WRITE, &[0, 0]), answer, "byte {byte}, level {level}, {kind:?}");
             // An exec closes both mappings, a pipe's too, and no other handle.
-            let reads = call(READ, [1, 0, 0, 0]).granted().is_ok();
-            assert!(call(EXEC, [1, 1, 0, 0]).granted().is_ok());
-            let still_reads = call(READ, [1, 1, 0, 0]).granted().is_ok();
+            let reads = call(READ, &[1, 0]).granted().is_ok();
+            assert!(call(EXEC, &[1, 1]).granted().is_ok());
+            let still_reads = call(READ, &[1, 1]).granted().is_ok();
             assert_eq!((reads, still_reads), (matches!(byte, 1 | 3), byte == 1), "byte {byte}, {kind:?}");
         }
     }
@@ -429,7 +486,7 @@ fn maps_are_tested_as_opens_for_reading() {
     let mut maps = Outcomes::default();
     for draw in 0..20_000 {
         let state = drawn_state(&mut random);
-        let numbers = [random.below(33), random.below(65), random.below(18), 0];
+        let numbers = filled(&[random.below(33), random.below(65), random.below(18)]);
         let answer = |code| {
             let answer = Pair::of_bytes(state).call(code, numbers);
             answer.unwrap_or_else(|difference| panic!("draw {draw}: {difference}"))
@@ -447,6 +504,81 @@ fn maps_are_tested_as_opens_for_reading() {
     println!("beside: maps on drawn states, beside opens for reading: {maps}");
     assert!(maps.allowed > 100 && maps.lowered > 100, "few maps were not refused");
     assert!([2, 4, 5, 7, 9].into_iter().all(|number| maps.refused[number] > 100), "few maps were refused");
+}
+
+#[test]
+fn connects_at_any_levels_are_answered_alike() {
+    let four =
+        |case: usize| [case % 16, case / 16 % 16, case / 256 % 16, case / 4096].map(|level| level as u8);
+    for [one, other, book, list] in (0..16_usize.pow(4)).map(four) {
+        let mut state = [0; STATE_BYTES];
+        state[..4].copy_from_slice(&[1, one, 1, other]); // subjects 0 and 1
+        state[64..68].copy_from_slice(&[1, book, 1, list]); // files 0 and 1
+        state[HANDLES_AT..][..3].copy_from_slice(&[2, 0, 0]); // subject 0 writes file 0 at its place 0
+        state[HANDLES_AT + 3 * 16..][..3].copy_from_slice(&[2, 1, 0]); // subject 1 writes file 1, likewise
+        state[FREEZE_AT] = 16;
+        let mut pair = Pair::of_bytes(state);
+        let mut call = |code, numbers: &[u32]| {
+            let answer = pair.call(code, filled(numbers));
+            answer.unwrap_or_else(|difference| panic!("{one}, {other}, {book}, {list}: {difference}"))
+        };
+        let answer = call(CONNECT, &[0, 1, 2, 3, 1, 2]);
+        // Both reach both files.
+        if one.min(other) < book.max(list) {
+            assert_eq!(answer, Answer::Refused(Refusal::Flow), "{one}, {other}, {book}, {list}");
+            continue;
+        }
+        assert_eq!(answer, Answer::Allowed(one), "{one}, {other}, {book}, {list}");
+        // Each pipe is at the level of the one that writes it, and brings the one that reads it down to that.
+        let falls = |from, to| if to < from { Answer::Lowered(to) } else { Answer::Allowed(from) };
+        assert_eq!(call(WRITE, &[0, 2]), Answer::Allowed(one));
+        assert_eq!(call(WRITE, &[1, 2]), Answer::Allowed(other));
+        assert_eq!(call(READ, &[1, 1]), falls(other, one));
+        assert_eq!(call(READ, &[0, 1]), falls(one, other));
+    }
+}
+
+#[test]
+fn connects_on_any_state_join_both_ways() {
+    let mut random = Random::new(SEED, 4);
+    let mut connects = Outcomes::default();
+    for draw in 0..20_000 {
+        let mut pair = Pair::of_bytes(drawn_state(&mut random));
+        let numbers = drawn_connect(&mut random, pair.plain.tables());
+        let made = pair.proved.made();
+        let mut call = |code, numbers: &[u32]| {
+            let answer = pair.call(code, filled(numbers));
+            answer.unwrap_or_else(|difference| panic!("draw {draw}: {difference}"))
+        };
+        let answer = call(CONNECT, &numbers);
+        connects.count(answer);
+        if answer.granted().is_err() {
+            continue;
+        }
+        // Whatever the levels are, no read at p and no write at q is refused while the handle is held.
+        let [s, t, a, b, p, q] = numbers;
+        for (writer, reader) in [(s, t), (t, s)] {
+            assert!(call(WRITE, &[writer, q]).granted().is_ok(), "draw {draw}");
+            assert!(call(READ, &[reader, p]).granted().is_ok(), "draw {draw}");
+        }
+        // Each pipe goes with its second handle, and with it its number is free.
+        for (writer, reader, pipe) in [(s, t, a), (t, s, b)] {
+            for (holder, place) in [(writer, q), (reader, p)] {
+                assert_eq!(
+                    call(REGISTER, &[pipe, 0]),
+                    Answer::Refused(Refusal::NumberTaken),
+                    "draw {draw}"
+                );
+                assert!(call(CLOSE, &[holder, place]).granted().is_ok(), "draw {draw}");
+            }
+            assert_eq!(call(REGISTER, &[pipe, 0]), Answer::Allowed(0), "draw {draw}");
+        }
+        assert_eq!(pair.proved.made().wrapping_sub(made), 4, "draw {draw}");
+    }
+    let by_number = connects.by_number(&REFUSING_CONNECTS);
+    println!("beside: connects on drawn states, then both ways: {connects}: {by_number}");
+    assert!(connects.allowed > 1000, "few connects were allowed");
+    assert!(REFUSING_CONNECTS.into_iter().all(|number| connects.refused[number] > 100), "few were refused");
 }
 
 #[test]
@@ -480,11 +612,11 @@ fn records_are_written_alike() {
     let mut random = Random::new(SEED, 2);
     for _ in 0..100_000 {
         let shape = &SHAPES[random.below(SHAPES.len() as u32) as usize];
-        let four = [0; 4].map(|_| random.below(u32::MAX) >> random.below(32));
+        let numbers = filled(&[]).map(|_| random.below(u32::MAX) >> random.below(32));
         let mut plain = Vec::new();
-        records::write(shape.code, &four[..shape.numbers.len()], &mut plain);
+        records::write(shape.code, &numbers[..shape.numbers.len()], &mut plain);
         let mut proved = [0; gatekeeper::RECORD_ROOM];
-        let length = gatekeeper::write_record(&mut proved, shape.code, four)
+        let length = gatekeeper::write_record(&mut proved, shape.code, numbers)
             .expect("there is room for every record");
         assert_eq!(proved[..length], plain);
     }
