@@ -23,6 +23,7 @@ pub mod Scale
 pub mod Moving
 pub mod Mapped
 pub mod Kept
+pub mod Needs
 pub mod Sayable
 pub mod Codes
 

@@ -12,6 +12,7 @@ use lib.Dec.{eqb}
 use Rattle.model.specs.Label.{Label, join, bot}
 use Rattle.model.specs.Lists.{In, keep, any}
 pub mod Laws
+pub mod Changes
 
 -- RULES T1, T2: subjects and objects, by number
 pub data Thing : Type 0 where

@@ -13,6 +13,7 @@ use Rattle.model.specs.Bools.{test, not-not}
 use Rattle.model.specs.Label.{Label, label, leq, _⊑_}
 use Rattle.model.specs.Label.Laws.{⊑-refl, bot-least}
 use Rattle.model.specs.Flow.{Thing, subject, object, same}
+use Rattle.model.specs.Flow.Changes.{but, but-here}
 use Rattle.model.specs.Tables.{Kind, running, file, pipe, Dir, reading, writing, Entry, entry, Handle, handle, mapping, with-mark, Tables, empty}
 use Rattle.model.specs.Tables.{in-range, label-of, is-pipe, cell, handles, open-on, arc, flow, speaks, demand, needs, safe}
 use Rattle.model.specs.Tables.Laws.{speaks-at, speaks-hand, speaks-cell, cell-self, cell-same, cell-entry, object-entry, handles-at, open-here}
@@ -23,7 +24,7 @@ use Rattle.model.specs.Steps.Laws.{put-cases, row-cases, place-same, pla
 use Rattle.model.specs.Invariant.{Wf, Safe, Piped, Scaled, Frozen, Mapped, Kept}
 use Rattle.model.specs.Invariant.Laws.{Pot, pot-safe, needs-pot, row-below, Less, less-close, less-row, less-freeze, less-wf, less-pot, Feeds, flow-feeds}
 use Rattle.model.specs.Invariant.Laws.{empty-wf, wf-reap, wf-mix}
-use Rattle.model.specs.Invariant.Laws.{empty-pot, raise, raise-same, raise-other, pot-enter, pot-hand, pot-hold, pot-without, pot-reap, pot-mix}
+use Rattle.model.specs.Invariant.Laws.{empty-pot, but-other, pot-enter, pot-hand, pot-hold, pot-without, pot-reap, pot-mix}
 use Rattle.model.specs.Invariant.Laws.{empty-scaled, empty-frozen, scaled-without}
 use Rattle.model.specs.Calls.{Call, admit, register, create, make-pipe, opens, access, fork, exec, close, exit, retire, maps, mark, freeze, connect, unknown, Raw, decode}
 use Rattle.model.specs.Calls.{target, marking, sheds, channel, steps, effect, next, after, Test, alive, present, new, taken, apart, facing, enough, suits, broken, refusal}
@@ -299,7 +300,7 @@ module _ (t : Tables) (v : Kept t) where
     under-own = subst (λ (o : Option Entry). needs t (cell t s) ⊑ label-of o) (sym (own .1)) (v .safe .above (cell t s) (own .0) (own .1))
 
     entered-pot : (x : Thing) (k : Kind) (g : Origin) → t .at x ≡ none → demand x (some (entry k (label-of (t .at (cell t s))))) ⊑ needs t (cell t s)
-        → Pot (apply (enter x (entry k (label-of (t .at (cell t s)))) g) t) (raise (needs t) x (needs t (cell t s)))
+        → Pot (apply (enter x (entry k (label-of (t .at (cell t s)))) g) t) (but (needs t) x (needs t (cell t s)))
     entered-pot x k g n lo = pot-enter t (needs t) x (entry k (label-of (t .at (cell t s)))) g (needs t (cell t s)) (v .wf) (pot t v) n lo under-own
 
     fork-stepped : (c : ℕ) → T (not (broken t (new (subject c)))) → Stepped t (applies (steps t (fork s c)) t)
@@ -320,13 +321,13 @@ module _ (t : Tables) (v : Kept t) where
         u = apply (enter (subject c) e g) t
 
         ψ : Thing → Label
-        ψ = raise (needs t) (subject c) (needs t (cell t s))
+        ψ = but (needs t) (subject c) (needs t (cell t s))
 
         child : (x : Thing) → speaks u c ≡ some x → subject c ≡ x
         child x z = sym (cell-self u c) ∙ Option·some-injective (cell u c) x (sym (speaks-cell u c) ∙ z)
 
         same-need : needs t (cell t s) ≡ ψ (subject c)
-        same-need = sym (raise-same (needs t) (subject c) (needs t (cell t s)))
+        same-need = sym (but-here (needs t) (subject c) (needs t (cell t s)))
 
         falls-child : (k : Handle) (d : Dir) → needs t (arc d (cell t s) (object (k .to)) .dst) ⊑ needs t
             (arc d (cell t s) (object (k .to)) .src) → ψ (arc d (subject c) (object (k .to)) .dst) ⊑ ψ
@@ -365,10 +366,10 @@ module _ (t : Tables) (v : Kept t) where
         u₂ = apply (hold s w (some (handle writing o))) u₁
 
         ψ : Thing → Label
-        ψ = raise (needs t) (object o) (needs t (cell t s))
+        ψ = but (needs t) (object o) (needs t (cell t s))
 
         mine : (x : Thing) → speaks u s ≡ some x → ψ (object o) ≡ ψ x
-        mine x z = raise-same (needs t) (object o) (needs t (cell t s)) ∙ sym (raise-other t (needs t) (object o) (needs t (cell t s)) (cell t s) (n .1) own)
+        mine x z = but-here (needs t) (object o) (needs t (cell t s)) ∙ sym (but-other t (needs t) (object o) (needs t (cell t s)) (cell t s) (n .1) own)
             ∙ ap ψ (Option·some-injective (cell t s) x (sym (speaks-cell t s) ∙ sym (speaks-at t (put (t .at) (object o) (some e)) s) ∙ z))
 
         rises : (x : Thing) → speaks u s ≡ some x → ψ x ⊑ ψ (object o)

@@ -14,7 +14,8 @@ use Rattle.model.specs.Lists.{In}
 use Rattle.model.specs.Label.{Label, in-scale, _⊑_, bot}
 use Rattle.model.specs.Label.Laws.{⊑-trans, bot-least, below-in-scale}
 use Rattle.model.specs.Flow.{Thing, subject, object, same, Edge}
-use Rattle.model.specs.Flow.Laws.{same→eq, same-refl, need-self, need-flow, need-below}
+use Rattle.model.specs.Flow.Laws.{same→eq, need-self, need-flow, need-below}
+use Rattle.model.specs.Flow.Changes.{but}
 use Rattle.model.specs.Tables.{Dir, reading, writing, Entry, Handle, Tables, empty, with-at, with-hand, with-freeze, subjects, places, in-range, is-some, live, cell, handles, arc, flow, speaks, edges, demand, needs, counted, clean}
 use Rattle.model.specs.Tables.Laws.{some-of, some-is, live-of, speaks-at, speaks-hand, speaks-freeze, speaks-cell, cell-entry, object-entry, open-here, flow-edge, edge-flow}
 use Rattle.model.specs.Steps.{Origin, Access, enter, hold, holds, mix, put, row, place, fall, apply, ended, reap}
@@ -131,19 +132,12 @@ scaled-enter t x e g h v = record {
   ];
 }
 
--- a potential with one label set anew
-abbrev pub raise : (Thing → Label) → Thing → Label → Thing → Label
-raise φ x v y = cond (same x y) v (φ y)
-
-pub raise-same : (φ : Thing → Label) (x : Thing) (v : Label) → raise φ x v x ≡ v
-raise-same φ x v = cond-yes (same x x) v (φ x) (same-refl x)
-
 -- what has an entry is not the thing without one
 apart : (t : Tables) (x y : Thing) (e : Entry) → t .at x ≡ none → t .at y ≡ some e → T (not (same x y))
 apart t x y e n q = not-T (same x y) (λ s. Option·none-ne-some e (sym n ∙ ap (t .at) (same→eq x y s) ∙ q))
 
-pub raise-other : (t : Tables) (φ : Thing → Label) (x : Thing) (v : Label) (y : Thing) → t .at x ≡ none → (e : Entry) × (t .at y ≡ some e) → raise φ x v y ≡ φ y
-raise-other t φ x v y n r = cond-no (same x y) v (φ y) (apart t x y (r .0) n (r .1))
+pub but-other : (t : Tables) (φ : Thing → Label) (x : Thing) (v : Label) (y : Thing) → t .at x ≡ none → (e : Entry) × (t .at y ≡ some e) → but φ x v y ≡ φ y
+but-other t φ x v y n r = cond-no (same x y) v (φ y) (apart t x y (r .0) n (r .1))
 
 arc-falls : (φ ψ : Thing → Label) (d : Dir) (x y : Thing) → φ x ≡ ψ x → φ y ≡ ψ y → φ (arc d x y .dst) ⊑ φ (arc d x y .src) → ψ
     (arc d x y .dst) ⊑ ψ (arc d x y .src)
@@ -151,7 +145,7 @@ arc-falls φ ψ reading x y p q h = subst₂ (λ a b. a ⊑ b) p q h
 arc-falls φ ψ writing x y p q h = subst₂ (λ a b. a ⊑ b) q p h
 
 pub pot-enter : (t : Tables) (φ : Thing → Label) (x : Thing) (e : Entry) (g : Origin) (v : Label) → Wf t → Pot t φ → t .at x ≡ none
-    → demand x (some e) ⊑ v → v ⊑ e .label → Pot (apply (enter x e g) t) (raise φ x v)
+    → demand x (some e) ⊑ v → v ⊑ e .label → Pot (apply (enter x e g) t) (but φ x v)
 pot-enter t φ x e g v w i n lo hi = record { low = λ y. low′ y (same x y) (same→eq x y); cap = λ y d q. cap′ (same x y) y d q; falls = falls′ }
   where
     low′ : (y : Thing) (b : Bool) → (T b → x ≡ y) → demand y (cond b (some e) (t .at y)) ⊑ cond b v (φ y)
@@ -162,13 +156,13 @@ pot-enter t φ x e g v w i n lo hi = record { low = λ y. low′ y (same x y) (s
     cap′ true y d q = subst (λ (z : Entry). v ⊑ z .label) (Option·some-injective e d q) hi
     cap′ false y d q = i .cap y d q
 
-    kept : (y : Thing) → (d : Entry) × (t .at y ≡ some d) → φ y ≡ raise φ x v y
-    kept y r = sym (raise-other t φ x v y n r)
+    kept : (y : Thing) → (d : Entry) × (t .at y ≡ some d) → φ y ≡ but φ x v y
+    kept y r = sym (but-other t φ x v y n r)
 
-    falls′ : (s p : ℕ) (y : Thing) (k : Handle) → speaks (apply (enter x e g) t) s ≡ some y → t .hand s p ≡ some k → raise φ x v
-        (flow y k .dst) ⊑ raise φ x v (flow y k .src)
+    falls′ : (s p : ℕ) (y : Thing) (k : Handle) → speaks (apply (enter x e g) t) s ≡ some y → t .hand s p ≡ some k → but φ x v
+        (flow y k .dst) ⊑ but φ x v (flow y k .src)
     falls′ s p y k z q = let z′ = sym (speaks-at t (put (t .at) x (some e)) s) ∙ z in let f = w .ends s p k q in
-        arc-falls φ (raise φ x v) (k .dir) y (object (k .to)) (kept y (speaker-entry f z′))
+        arc-falls φ (but φ x v) (k .dir) y (object (k .to)) (kept y (speaker-entry f z′))
         (kept (object (k .to)) (object-entry t (k .to) (f .to))) (i .falls s p y k z′ q)
 
 -- ── handles change, entries stay: hold, holds ──
