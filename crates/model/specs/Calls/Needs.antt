@@ -121,8 +121,10 @@ pub wf-ranged : {t : Tables} → Wf t → Ranged t
 wf-ranged w = record { bounds = λ s p k q. let f = w .ends s p k q in (row-below f, f .place) }
 
 hold-ranged : (t : Tables) (s p : ℕ) (v : Option Handle) → s < subjects → p < places → Ranged t → Ranged (apply (hold s p v) t)
-hold-ranged t s p v ls lp w = record { bounds = λ s′ p′ k q. elim (place-cases (t .hand) s p v s′ p′ (some k) q)
-    [ inl c ↦ (subst (λ (z : ℕ). z < subjects) (c .0) ls, subst (λ (z : ℕ). z < places) (c .1) lp) | inr c ↦ w .bounds s′ p′ k c ] }
+hold-ranged t s p v ls lp w = record {
+  bounds = λ s′ p′ k q. elim (place-cases (t .hand) s p v s′ p′ (some k) q)
+      [ inl c ↦ (subst (λ (z : ℕ). z < subjects) (c .0) ls, subst (λ (z : ℕ). z < places) (c .1) lp) | inr c ↦ w .bounds s′ p′ k c ];
+}
 
 -- a handle, in range by the tables u, makes a flow
 edge-in : {u : Tables} (t : Tables) {s p : ℕ} {k : Handle} → Ranged u → u .hand s p ≡ some k → t .hand s p ≡ some k → In (flow (subject s) k) (edges t)
@@ -138,14 +140,22 @@ pub record Held (t : Tables) (e : Edge) : Type 0 where
 
 in-edge : (t : Tables) (e : Edge) → In e (edges t) → Held t e
 in-edge t e i = let r = edge-flow t e i in
-    record { s = r .s; p = r .p; k = r .k; holds = r .holds; is = ap (λ (x : Thing). flow x (r .k))
-    (Option·some-injective _ _ (sym (speaks-self t (r .s)) ∙ r .speaker)) ∙ r .is }
+    record {
+      s = r .s;
+      p = r .p;
+      k = r .k;
+      holds = r .holds;
+      is = ap (λ (x : Thing). flow x (r .k))
+          (Option·some-injective _ _ (sym (speaks-self t (r .s)) ∙ r .speaker)) ∙ r .is;
+    }
 
 -- a handle more is a flow more, wherever its place
 pub opened-adds : {t u : Tables} {s : ℕ} {k : Handle} → Ranged u → Opened t u s k → Adds (flow (subject s) k) (edges t) (edges u)
 opened-adds {t} {u} {s} {k} w o = record {
-  more = record { all = λ e i. let r = in-edge t e i in let h = o .more (r .s) (r .p) (r .k) (r .holds) in
-      subst (λ (z : Edge). In z (edges u)) (r .is) (edge-in u w h h) };
+  more = record {
+    all = λ e i. let r = in-edge t e i in let h = o .more (r .s) (r .p) (r .k) (r .holds) in
+        subst (λ (z : Edge). In z (edges u)) (r .is) (edge-in u w h h);
+  };
   new = edge-in u w (o .held) (o .held);
   only = λ d i. (let r = in-edge u d i in elim (o .only (r .s) (r .p) (r .k) (r .holds)) [
     | inl h ↦ inl (subst (λ (z : Edge). In z (edges t)) (r .is) (edge-in t w (r .holds) h))
@@ -240,7 +250,7 @@ fresh-none t z w n = record { leaves = λ e i q. never (e .src) (ends e i .0) q;
     ends e i = let r = in-edge t e i in let f = w .ends (r .s) (r .p) (r .k) (r .holds) in
         subst (λ (z : Edge). ((d : Entry) × (t .at (z .src) ≡ some d)) × ((d : Entry) × (t .at (z .dst) ≡ some d))) (r .is)
         (arc-entries t (r .k .dir) (subject (r .s)) (object (r .k .to))
-            (subst (λ (y : Thing). (d : Entry) × (t .at y ≡ some d)) (cell-self t (r .s)) (cell-entry t (r .s) (f .from))) (object-entry t (r .k .to) (f .to)))
+        (subst (λ (y : Thing). (d : Entry) × (t .at y ≡ some d)) (cell-self t (r .s)) (cell-entry t (r .s) (f .from))) (object-entry t (r .k .to) (f .to)))
 
 subject-object : (a b : ℕ) → subject a ≡ object b → ⊥
 subject-object a b q = let z : _≡_ {A = ℕ} 0 1 = cc in omega arith
@@ -254,9 +264,9 @@ unfolding effect
 pipe-needs t s o r w v ls lr lw n nr nw ne x = needs-reap (handles t) (with-at b a) x
     ∙ needs-at b a (put-demand (t .at) (object o) made (sym (ap (demand (object o)) n))) x
     ∙ need-pipe (λ y. demand y (t .at y)) (fresh-none t (object o) v n) (subject-object s o) (ap (demand (object o)) n)
-        (opened-adds (hold-ranged t s r (some (handle reading o)) ls lr (wf-ranged v)) (hold-opened t s r (handle reading o) nr))
+    (opened-adds (hold-ranged t s r (some (handle reading o)) ls lr (wf-ranged v)) (hold-opened t s r (handle reading o) nr))
     (opened-adds (hold-ranged m s w (some (handle writing o)) ls lw (hold-ranged t s r (some (handle reading o)) ls lr (wf-ranged v)))
-        (hold-opened m s w (handle writing o) still)) x
+    (hold-opened m s w (handle writing o) still)) x
   where
     m : Tables
     m = apply (hold s r (some (handle reading o))) t
@@ -280,12 +290,16 @@ pub fork-needs : (t : Tables) (s c : ℕ) → Wf t → c < subjects → t .at (s
 unfolding effect
 fork-needs t s c w lc n x = needs-reap (handles t) (with-at u (put (t .at) (subject c) child)) x
     ∙ needs-at u (put (t .at) (subject c) child) (put-demand (t .at) (subject c) child (sym (subject-demand c (t .at (subject c))))) x
-    ∙ need-copied (λ y. demand y (t .at y)) (record
-        { more = record { all = more }; fresh = fresh-none t (subject c) w n; out = λ e i q. (let r = in-edge t e i in
-        doubled (r .k .dir) (r .s) (r .k .to) e (r .is) q
-        (λ z. flow-edge u c (r .p) (subject c) (r .k) lc (wf-ranged w .bounds (r .s) (r .p) (r .k) (r .holds) .1) (speaks-self u c) (row-same (r .p)
-        ∙ ap (λ (y : ℕ). t .hand y (r .p)) (sym z) ∙ r .holds))); only = only }) (subject-demand s (t .at (subject s))
-        ∙ sym (subject-demand c (t .at (subject c)))) x
+    ∙ need-copied (λ y. demand y (t .at y)) (record {
+      more = record { all = more };
+      fresh = fresh-none t (subject c) w n;
+      out = λ e i q. (let r = in-edge t e i in
+          doubled (r .k .dir) (r .s) (r .k .to) e (r .is) q
+          (λ z. flow-edge u c (r .p) (subject c) (r .k) lc (wf-ranged w .bounds (r .s) (r .p) (r .k) (r .holds) .1) (speaks-self u c) (row-same (r .p)
+          ∙ ap (λ (y : ℕ). t .hand y (r .p)) (sym z) ∙ r .holds)));
+      only = only;
+    }) (subject-demand s (t .at (subject s))
+    ∙ sym (subject-demand c (t .at (subject c)))) x
   where
     u : Tables
     u = apply (holds c (t .hand s)) t
@@ -302,9 +316,9 @@ fork-needs t s c w lc n x = needs-reap (handles t) (with-at u (put (t .at) (subj
     more : (e : Edge) → In e (edges t) → In e (edges u)
     more e i = let r = in-edge t e i in subst (λ (z : Edge). In z (edges u)) (r .is)
         (edge-in u (wf-ranged w) (r .holds) (elim (row-cases (t .hand) c (t .hand s) (r .s) (r .p) (u .hand (r .s) (r .p)) refl) [
-      | inl q ↦ absurd (empty-row (r .p) (r .k) (ap (λ (y : ℕ). t .hand y (r .p)) (q .0) ∙ r .holds))
-      | inr q ↦ sym (q .1) ∙ r .holds
-    ]))
+          | inl q ↦ absurd (empty-row (r .p) (r .k) (ap (λ (y : ℕ). t .hand y (r .p)) (q .0) ∙ r .holds))
+          | inr q ↦ sym (q .1) ∙ r .holds
+        ]))
 
     doubled : (d : Dir) (s′ o : ℕ) (e : Edge) → arc d (subject s′) (object o) ≡ e → e .src ≡ subject s → (s′ ≡ s → In (arc d (subject c) (object o)) (edges u))
         → In (flow-to (subject c) (e .dst)) (edges u)
@@ -314,7 +328,7 @@ fork-needs t s c w lc n x = needs-reap (handles t) (with-at u (put (t .at) (subj
 
     copy : (d : Dir) (o : ℕ) (e : Edge) → In (arc d (subject s) (object o)) (edges t) → arc d (subject c) (object o) ≡ e
         → In e (edges t) ⊎ ((a : Edge) × In a (edges t) × (a .src ≡ subject s) × (flow-to (subject c) (a .dst) ≡ e)) ⊎ ((a : Edge) × In a
-            (edges t) × (a .dst ≡ subject s) × (flow-to (a .src) (subject c) ≡ e))
+        (edges t) × (a .dst ≡ subject s) × (flow-to (a .src) (subject c) ≡ e))
     copy reading o e i q = inr (inr (arc reading (subject s) (object o), i, refl, q))
     copy writing o e i q = inr (inl (arc writing (subject s) (object o), i, refl, q))
 
@@ -333,8 +347,10 @@ module _ (t : Tables) (s : ℕ) (w : Wf t) where
 
   left-sub : Sub (edges left) (edges t)
   unfolding left
-  left-sub = record { all = λ e i. let r = in-edge left e i in let h = less-row t s .hands (r .s) (r .p) (r .k) (r .holds) in
-      subst (λ (z : Edge). In z (edges t)) (r .is) (edge-in t (wf-ranged w) h h) }
+  left-sub = record {
+    all = λ e i. let r = in-edge left e i in let h = less-row t s .hands (r .s) (r .p) (r .k) (r .holds) in
+        subst (λ (z : Edge). In z (edges t)) (r .is) (edge-in t (wf-ranged w) h h);
+  }
 
   left-only : (e : Edge) → In e (edges t) → In e (edges left) ⊎ (e .src ≡ subject s) ⊎ (e .dst ≡ subject s)
   unfolding left
@@ -364,9 +380,12 @@ module _ (t : Tables) (s : ℕ) (w : Wf t) where
 
   left-fresh : Fresh (subject s) (edges left)
   unfolding left
-  left-fresh = record { leaves = λ e i q. (let r = in-edge left e i in
-      never (r .k .dir) (r .k .to) e (r .s) (r .p) (r .k) (r .is) (r .holds) (inl q)); enters = λ e i q. (let r = in-edge left e i in
-      never (r .k .dir) (r .k .to) e (r .s) (r .p) (r .k) (r .is) (r .holds) (inr q)) }
+  left-fresh = record {
+    leaves = λ e i q. (let r = in-edge left e i in
+        never (r .k .dir) (r .k .to) e (r .s) (r .p) (r .k) (r .is) (r .holds) (inl q));
+    enters = λ e i q. (let r = in-edge left e i in
+        never (r .k .dir) (r .k .to) e (r .s) (r .p) (r .k) (r .is) (r .holds) (inr q));
+  }
     where
       gone : (s′ p : ℕ) (k : Handle) → left .hand s′ p ≡ some k → subject s′ ≡ subject s → ⊥
       gone s′ p k h q = let z : s ≡ s′ = cc in
@@ -419,7 +438,7 @@ enter-needs t z e g w n x = ap (λ (es : List Edge). need f es x) (edges-at t (p
 pub leave-needs : (t : Tables) (z : Thing) → Fresh z (edges t) → (x : Thing) → (x ≡ z → ⊥) → needs (apply (leave z) t) x ≡ needs t x
 leave-needs t z v x ne = ap (λ (es : List Edge). need (λ y. demand y (put (t .at) z none y)) es x) (edges-at t (put (t .at) z none))
     ∙ need-others (λ y. demand y (put (t .at) z none y)) (edges t) (λ y. demand y (t .at y)) z (v .enters)
-        (λ y m. ap (demand y) (cond-no (same z y) none (t .at y) (not-T (same z y) (λ k. m (sym (same→eq z y k)))))) x ne
+    (λ y m. ap (demand y) (cond-no (same z y) none (t .at y) (not-T (same z y) (λ k. m (sym (same→eq z y k)))))) x ne
 
 -- a file that is open nowhere is touched by no flow ..
 fresh-idle : (t : Tables) (o : ℕ) → Wf t → T (not (open-on (handles t) o)) → Fresh (object o) (edges t)
@@ -434,7 +453,7 @@ fresh-idle t o w n = record { leaves = λ e i q. never e i (inl q); enters = λ 
     never : (e : Edge) → In e (edges t) → (e .src ≡ object o) ⊎ (e .dst ≡ object o) → ⊥
     never e i h = let r = in-edge t e i in let b = wf-ranged w .bounds (r .s) (r .p) (r .k) (r .holds) in
         T-not (open-on (handles t) o) n (subst (λ (y : ℕ). T (open-on (handles t) y)) (on (r .k .dir) (r .s) (r .k .to) e (r .is) h)
-            (open-here t (r .s) (r .p) (r .k) (b .0) (b .1) (r .holds)))
+        (open-here t (r .s) (r .p) (r .k) (b .0) (b .1) (r .holds)))
 
 -- .. so that no other need changes when it is retired
 pub retire-needs : (t : Tables) (o : ℕ) → Wf t → T (not (open-on (handles t) o)) → (x : Thing) → (x ≡ object o → ⊥) → needs (effect t (retire o)) x ≡ needs t x

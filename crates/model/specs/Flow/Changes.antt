@@ -106,13 +106,17 @@ pub record Total : Type 0 where
 
 -- levels are not
 pub levels-total : Total
-levels-total = record { ordered = λ a b. elim (test (leq a b))
-    [ inl t ↦ inl (record { tested = t }) | inr t ↦ inr (le→⊑ b a (omega (arith, not-least-is-below a b .0 t))) ] }
+levels-total = record {
+  ordered = λ a b. elim (test (leq a b))
+      [ inl t ↦ inl (record { tested = t }) | inr t ↦ inr (le→⊑ b a (omega (arith, not-least-is-below a b .0 t))) ];
+}
 
 -- where no two labels are apart, one below another is spare in it
 pub spare-below : {a b : Label} → Total → b ⊑ a → (b ≡ a → ⊥) → Spare a b
-spare-below {a} {b} t le ne = record { covered = λ c h. elim (t .ordered b c)
-    [ inl p ↦ p | inr q ↦ absurd (ne (⊑-antisym le (⊑-trans h (join-lub q ⊑-refl)))) ] }
+spare-below {a} {b} t le ne = record {
+  covered = λ c h. elim (t .ordered b c)
+      [ inl p ↦ p | inr q ↦ absurd (ne (⊑-antisym le (⊑-trans h (join-lub q ⊑-refl)))) ];
+}
 
 -- ── helpers ──
 reaches-on : {es : List Edge} {x y : Thing} (e : Edge) → In e es → Reaches es x y → e .src ≡ y → Reaches es x (e .dst)
@@ -159,9 +163,12 @@ module _ (f : Thing → Label) {es ds : List Edge} where
     -- a bound for every need, with no search
     pub add-within : (x : Thing) → need f ds x ⊑ join (need f es x) (need f es (e .dst))
     add-within = need-below ds f (λ x. join (need f es x) (need f es (e .dst))) (λ x. ⊑-trans (need-self es f x) (join-left (need f es x) (need f es (e .dst))))
-        (λ d i. elim (a .only d i) [ inl j ↦ join-mono (need-flow es f d j) ⊑-refl | inr q ↦ subst
-            (λ (z : Edge). join (need f es (z .dst)) (need f es (e .dst)) ⊑ join (need f es (z .src)) (need f es (e .dst))) q
-            (⊑-trans (join-lub ⊑-refl ⊑-refl) (join-right (need f es (e .src)) (need f es (e .dst)))) ])
+        (λ d i. elim (a .only d i) [
+          | inl j ↦ join-mono (need-flow es f d j) ⊑-refl
+          | inr q ↦ subst
+              (λ (z : Edge). join (need f es (z .dst)) (need f es (e .dst)) ⊑ join (need f es (z .src)) (need f es (e .dst))) q
+              (⊑-trans (join-lub ⊑-refl ⊑-refl) (join-right (need f es (e .src)) (need f es (e .dst))))
+        ])
 
     -- what does not reach the flow's source keeps its need
     pub add-apart : (x : Thing) → (Reaches es x (e .src) → ⊥) → need f ds x ≡ need f es x
@@ -263,9 +270,13 @@ module _ (f : Thing → Label) {es ds : List Edge} (s : Sub es ds) where
   -- every flow that goes touches z: if z leads to no file, no need changes ..
   pub remove-thing : (z : Thing) → ((e : Edge) → In e ds → In e es ⊎ (e .src ≡ z) ⊎ (e .dst ≡ z)) → need f ds z ≡ bot → (x : Thing) → need f es x ≡ need f ds x
   remove-thing z h q x = sym (need-same f s
-      (λ e i. elim (h e i) [ inl j ↦ inl j | inr (inl k) ↦ inr
-      (under (e .dst) (e .src) (subst (λ (y : Thing). need f ds (e .dst) ⊑ need f ds y) k (need-flow ds f e i))) | inr (inr k) ↦ inr
-      (under (e .dst) (e .src) (subst (λ (y : Thing). need f ds y ⊑ need f ds z) (sym k) ⊑-refl)) ]) x)
+      (λ e i. elim (h e i) [
+        | inl j ↦ inl j
+        | inr (inl k) ↦ inr
+            (under (e .dst) (e .src) (subst (λ (y : Thing). need f ds (e .dst) ⊑ need f ds y) k (need-flow ds f e i)))
+        | inr (inr k) ↦ inr
+            (under (e .dst) (e .src) (subst (λ (y : Thing). need f ds y ⊑ need f ds z) (sym k) ⊑-refl))
+      ]) x)
     where
       under : (y u : Thing) → need f ds y ⊑ need f ds z → need f es y ⊑ need f es u
       under y u le = ⊑-trans (need-more f s y) (⊑-trans (subst (λ (b : Label). need f ds y ⊑ b) q le) bot-least)
@@ -274,8 +285,12 @@ module _ (f : Thing → Label) {es ds : List Edge} (s : Sub es ds) where
   pub remove-thing-far : (z : Thing) → ((e : Edge) → In e ds → In e es ⊎ (e .src ≡ z) ⊎ (e .dst ≡ z)) → (x : Thing) → (Reaches ds x z → ⊥)
       → need f es x ≡ need f ds x
   remove-thing-far z h x n = sym (need-far f x s
-      (λ e i r. elim (h e i) [ inl j ↦ j | inr (inl k) ↦ absurd (n (subst (Reaches ds x) k (wider r))) | inr (inr k) ↦ absurd
-      (n (subst (Reaches ds x) k (reaches-on e i (wider r) refl))) ]))
+      (λ e i r. elim (h e i) [
+        | inl j ↦ j
+        | inr (inl k) ↦ absurd (n (subst (Reaches ds x) k (wider r)))
+        | inr (inr k) ↦ absurd
+            (n (subst (Reaches ds x) k (reaches-on e i (wider r) refl)))
+      ]))
     where
       wider : {y : Thing} → Reaches es x y → Reaches ds x y
       wider r = reaches-in (Reaches ds x) (λ e i p. reaches-on e (s .all e i) p refl) r (here refl)
@@ -363,7 +378,7 @@ pub need-copied : (f : Thing → Label) {x z : Thing} {es ds : List Edge} → Co
     → need f ds y ≡ but (need f es) z (need f es x) y
 need-copied f {x} {z} {es} {ds} c q = need-fresh f (c .more) v (c .fresh) (subst (λ (b : Label). b ⊑ v) q (need-self es f x))
     (need-steps f es x (need f ds z) (subst (λ (b : Label). b ⊑ need f ds z) (sym q) (need-self ds f z))
-        (λ e i k. ⊑-trans (need-more f (c .more) (e .dst)) (need-flow ds f (flow-to z (e .dst)) (c .out e i k))))
+    (λ e i k. ⊑-trans (need-more f (c .more) (e .dst)) (need-flow ds f (flow-to z (e .dst)) (c .out e i k))))
     (λ d i. elim (c .only d i) [
       | inl j ↦ inl j
       | inr (inl r) ↦ inr (subst (λ (e : Edge). φ (e .dst) ⊑ φ (e .src)) (r .3)
