@@ -59,7 +59,8 @@ full true e o q h = absurd (subst (λ z. T (is-some z)) q h)
 full false e o q h = (q, refl)
 
 -- a live subject and a live object are what their records say
-pub full-subject : (t : Tables) (s : ℕ) (x : Subject) → t .at (subject s) ≡ subject-entry x → T (live t (subject s)) → t .at (subject s) ≡ some (entry running (label (x .level)))
+pub full-subject : (t : Tables) (s : ℕ) (x : Subject) → t .at (subject s) ≡ subject-entry x → T (live t (subject s))
+    → t .at (subject s) ≡ some (entry running (label (x .level)))
 full-subject t s x q l = full (eqb (x .live) 0) _ (t .at (subject s)) q (subst T (used-is t (subject s)) (live-of t (subject s) l .1)) .0
 
 pub full-object : (t : Tables) (o : ℕ) (y : Object) → t .at (object o) ≡ object-entry y → T (live t (object o))
@@ -282,10 +283,12 @@ pub connect-does : (t : Tables) (s u a b p q : ℕ) (x z : Subject) → refusal 
     → t .at (subject u) ≡ subject-entry z
     → Does t (connect s u a b p q) (allowed (x .level))
     (with-hand (with-at t (put (put (t .at) (object a) (some (entry pipe (label (x .level))))) (object b) (some (entry pipe (label (z .level))))))
-    (place (place (place (place (t .hand) s p (some (handle reading b))) s q (some (handle writing a))) u p (some (handle reading a))) u q (some (handle writing b))))
+    (place (place (place (place (t .hand) s p (some (handle reading b))) s q (some (handle writing a))) u p (some (handle reading a))) u q
+    (some (handle writing b))))
 unfolding effect
 connect-does t s u a b p q x z e i j = plain t c (cell t s) (x .level) n e (ap (reap (handles t)) made ∙ reap-more t n (more-open t n more)) refl new-ones
-    (ap (last-label (t .at (cell t s))) (put-apart (put (t .at) (object a) ea) (object b) (cell t s) eb (own-entry .0) free-b (still-own ∙ own-entry .1) ∙ still-own)
+    (ap (last-label (t .at (cell t s))) (put-apart (put (t .at) (object a) ea) (object b) (cell t s) eb (own-entry .0) free-b (still-own ∙ own-entry .1)
+    ∙ still-own)
     ∙ ap (λ (v : Option Entry). last-label v v) (cell-is t c e s (inl refl) x i))
   where
     c : Call
@@ -473,7 +476,8 @@ falls-in : (t : Tables) (c : Call) (s : ℕ) (i : In (alive s) (tests c)) (x : S
     → shown t c ≡ level-at (cell t s) → ((v : Option Entry) → u v .at ≡ put (t .at) (cell t s) v)
     → ((d : Entry) → reap (handles t) (u (some d)) .at (cell t s) ≡ some d) → t .at z ≡ some (entry kz (label l))
     → Does t c (outcome (ltb (fallen-by x l .level) (x .level)) (fallen-by x l .level)) (reap (handles t) (u (subject-entry (fallen-by x l))))
-falls-in t c s i x z kz l e q u a g p w h = subst (λ (v : Option Entry). Does t c (outcome (ltb n (x .level)) n) (reap (handles t) (u v))) (by (ltb l (x .level)) refl)
+falls-in t c s i x z kz l e q u a g p w h = subst (λ (v : Option Entry). Does t c (outcome (ltb n (x .level)) n) (reap (handles t) (u v)))
+    (by (ltb l (x .level)) refl)
     (taken-in t c (cell t s) z running kz (x .level) l e u a g p w ranged (cell-is t c e s i x q) h n
     (ap (λ (y : Thing). sunk y running (label (x .level)) (label l)) (cell-self t s) ∙ meet-level (x .level) l ∙ ap label (level-by (ltb l (x .level)))))
   where
@@ -670,7 +674,8 @@ write-does t w s p x h y after b e q r z f n = by (eqb (y .kind) 1) refl (ltb (x
     pipe-at : eqb (y .kind) 1 ≡ false → (k : ℕ) → object-entry (record { kind = y .kind; level = k }) ≡ some (entry pipe (label k))
     pipe-at m k = thing-at t (access writing s p) e (h .object) lives-there y z k ∙ ap (λ (b : Bool). some (entry (cond b file pipe) (label k))) m
 
-    by : (k : Bool) → eqb (y .kind) 1 ≡ k → (c : Bool) → ltb (x .level) (y .level) ≡ c → Written (cond k y (cond c (record { kind = y .kind; level = x .level }) y))
+    by : (k : Bool) → eqb (y .kind) 1 ≡ k → (c : Bool) → ltb (x .level) (y .level) ≡ c
+        → Written (cond k y (cond c (record { kind = y .kind; level = x .level }) y))
     by true m c d = to-file m
     by false m true d = to-pipe m (record { kind = y .kind; level = x .level }) (pipe-at m (x .level)) (meet-level (y .level) (x .level)
         ∙ ap (λ (c : Bool). label (cond c (x .level) (y .level))) d)

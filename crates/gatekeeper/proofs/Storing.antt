@@ -169,21 +169,25 @@ module _ (m : Monitor) (g : Owned m) where
       → view m .at (subject s) ≡ subject-entry x → view m .hand s p ≡ held h → v ≡ fallen-by x (getD (m .objects) (h .object % 64) no-object .level)
       → a ≡ outcome (ltb (v .level) (x .level)) (v .level) → Acts m (access reading s p) a (monitor m (set (m .subjects) (s % 32) v) (m .objects) (m .handles))
   reads s p x v h a w e q r f k = acts m (access reading s p) a _ _ (subst₂ (λ (b : Told) (z : Subject). Does (view m) (access reading s p) b
-      (with-at (view m) (put (view m .at) (subject s) (subject-entry z)))) (sym (k ∙ ap (λ (z : Subject). outcome (ltb (z .level) (x .level)) (z .level)) f)) (sym f)
+      (with-at (view m) (put (view m .at) (subject s) (subject-entry z)))) (sym (k ∙ ap (λ (z : Subject). outcome (ltb (z .level) (x .level)) (z .level)) f))
+      (sym f)
       (read-does (view m) w s p x h (getD (m .objects) (h .object % 64) no-object) e q r (object-live (h .object)
       (live-low (view m) (access reading s p) e (h .object) (found-live (view m) w (access reading s p) s p h e (inr (inl refl)) r)))))
       (put-subject s v (row-low (view m) (access reading s p) e s (inl refl)))
 
   -- the subjects once those who have the object mapped have read it, and whether one of them has a smaller level then
-  pub writes : (s p : ℕ) (x : Subject) (h : Handle) (v : Object) (after : List Subject) (b : Bool) (a : Told) → Wf (view m) → refusal (view m) (access writing s p) ≡ none
+  pub writes : (s p : ℕ) (x : Subject) (h : Handle) (v : Object) (after : List Subject) (b : Bool) (a : Told) → Wf (view m)
+      → refusal (view m) (access writing s p) ≡ none
       → view m .at (subject s) ≡ subject-entry x → view m .hand s p ≡ held h → v ≡ sunken-by (getD (m .objects) (h .object % 64) no-object) (x .level)
       → ((rest : Tables) (os : List Object) → getD os (h .object) no-object ≡ getD (m .objects) (h .object % 64) no-object
-      → tables-of rest after os (m .handles) ≡ applies (rereads (tables-of rest (m .subjects) os (m .handles)) (object (h .object))) (tables-of rest (m .subjects) os (m .handles)))
+      → tables-of rest after os (m .handles) ≡ applies (rereads (tables-of rest (m .subjects) os (m .handles)) (object (h .object)))
+      (tables-of rest (m .subjects) os (m .handles)))
       → ((rest : Tables) (os : List Object) (hs : List Handle) → lowers (tables-of rest (m .subjects) os hs) (tables-of rest after os hs) ≡ b)
       → a ≡ outcome (ltb (v .level) (getD (m .objects) (h .object % 64) no-object .level) || b) (v .level)
       → Acts m (access writing s p) a (monitor m after (set (m .objects) (h .object % 64) v) (m .handles))
   writes s p x h v after b a w e q r f n l k = acts m (access writing s p) a _ _ (subst₂ (λ (c : Told) (z : Object). Does (view m) (access writing s p) c
-      (with-at u (put (u .at) (object (h .object)) (object-entry z)))) (sym (k ∙ ap (λ (z : Object). outcome (ltb (z .level) (y .level) || b) (z .level)) f)) (sym f)
+      (with-at u (put (u .at) (object (h .object)) (object-entry z)))) (sym (k ∙ ap (λ (z : Object). outcome (ltb (z .level) (y .level) || b) (z .level)) f))
+      (sym f)
       (write-does (view m) w s p x h y u b e q r (object-live (h .object) low) (n (beside m) (m .objects) (ap (λ (i : ℕ). getD (m .objects) i no-object) same))
       (l (beside m) (m .objects) (m .handles)))) (store-object (beside m) after (m .objects) (m .handles) (h .object) v (objects-long m g) low)
     where
@@ -208,7 +212,8 @@ module _ (m : Monitor) (g : Owned m) where
       (f (beside m) (m .subjects) (set (m .objects) (o % 64) y)
       ∙ ap (λ (u : Tables). with-hand u (joined (hands (m .handles)) (s % 32) (r % 16) (w % 16) (o % 64) (o % 64))) (put-object o y low)
       ∙ ap (λ (h : ℕ → ℕ → Option Held). with-hand (with-at (view m) (put (view m .at) (object o) (some (entry pipe (label (x .level)))))) h)
-      (joined-same (hands (m .handles)) s r w o o (row-low (view m) (make-pipe s o r w) e s (inl refl)) (place-low (view m) (make-pipe s o r w) e s r (inr (inr (inl refl))))
+      (joined-same (hands (m .handles)) s r w o o (row-low (view m) (make-pipe s o r w) e s (inl refl))
+      (place-low (view m) (make-pipe s o r w) e s r (inr (inr (inl refl))))
       (place-low (view m) (make-pipe s o r w) e s w (inr (inr (inr (inl refl))))) low low))
     where
       low : o < 64
@@ -252,8 +257,10 @@ module _ (m : Monitor) (g : Owned m) where
     unfolding tables-of
     connected = g′ (beside m) (m .subjects) both-pipes
         ∙ ap (λ (v : Tables). with-hand v (joined (v .hand) (u % 32) (p % 16) (q % 16) (a % 64) (b % 64))) (f (beside m) (m .subjects) both-pipes)
-        ∙ ap (λ (v : Tables). with-hand v (joined (joined (hands (m .handles)) (s % 32) (p % 16) (q % 16) (b % 64) (a % 64)) (u % 32) (p % 16) (q % 16) (a % 64) (b % 64)))
-        (store-object (beside m) (m .subjects) (set (m .objects) (a % 64) (pipe-of (x .level))) (m .handles) b (pipe-of (z .level)) (simp length-set (objects-long m g)) low-b
+        ∙ ap (λ (v : Tables). with-hand v (joined (joined (hands (m .handles)) (s % 32) (p % 16) (q % 16) (b % 64) (a % 64)) (u % 32) (p % 16) (q % 16)
+        (a % 64) (b % 64)))
+        (store-object (beside m) (m .subjects) (set (m .objects) (a % 64) (pipe-of (x .level))) (m .handles) b (pipe-of (z .level))
+        (simp length-set (objects-long m g)) low-b
         ∙ ap (λ (v : Tables). with-at v (put (v .at) (object b) (some (entry pipe (label (z .level)))))) (put-object a (pipe-of (x .level)) low-a))
         ∙ ap (λ (h : ℕ → ℕ → Option Held). with-hand
         (with-at (view m) (put (put (view m .at) (object a) (some (entry pipe (label (x .level))))) (object b) (some (entry pipe (label (z .level)))))) h)
@@ -264,7 +271,8 @@ module _ (m : Monitor) (g : Owned m) where
     -- which is what the rules' steps make
     stepped : tables-of (beside m) (m .subjects) both-pipes next ≡ applies (channel (view m) s u a b p q) (view m)
     stepped = connected ∙ ap₂ (λ (k l : Label). with-hand
-        (with-at (view m) (put (put (view m .at) (object a) (some (entry pipe k))) (object b) (some (entry pipe l)))) (joined (joined (view m .hand) s p q b a) u p q a b))
+        (with-at (view m) (put (put (view m .at) (object a) (some (entry pipe k))) (object b) (some (entry pipe l))))
+        (joined (joined (view m .hand) s p q b a) u p q a b))
         (sym (own-label s x (inl refl) i)) (sym (own-label u z (inr (inl refl)) j))
       where
         own-label : (v : ℕ) (y : Subject) → In (alive v) (tests (connect s u a b p q)) → view m .at (subject v) ≡ subject-entry y
@@ -398,7 +406,8 @@ module _ (m : Monitor) (g : Owned m) where
     to-o v = record { way = v; object = o % 64; mark = 0 }
 
     -- the flow test is that of the open for reading
-    pub map-late : (r : Bool) → Shorts (m .subjects) (m .objects) (set (m .handles) (s % 32 * 16 + p % 16) (to-o 1)) r → Late (view m) (maps s o p) r false false
+    pub map-late : (r : Bool) → Shorts (m .subjects) (m .objects) (set (m .handles) (s % 32 * 16 + p % 16) (to-o 1)) r
+        → Late (view m) (maps s o p) r false false
     map-late r f = record { nine = alone tested; ten = refl; fifteen = refl }
       where
         placed : view (monitor m (m .subjects) (m .objects) (set (m .handles) (s % 32 * 16 + p % 16) (to-o 1)))
