@@ -8,6 +8,7 @@ pub mod Tables
 pub mod Steps
 pub mod Invariant
 pub mod Calls
+pub mod Figures
 pub mod Promise
 pub mod Demand2
 pub mod Tally

@@ -17,7 +17,7 @@ use Rattle.model.specs.Label.{Label, _⊑_, bot}
 use Rattle.model.specs.Label.Laws.{⊑-antisym}
 use Rattle.model.specs.Flow.{Thing, subject, object, same, Edge, Reaches, need}
 use Rattle.model.specs.Flow.Laws.{same→eq, same-refl, need-flow}
-use Rattle.model.specs.Flow.Changes.{Sub, Adds, flow-to, Spare, spare-below, Total, Fresh, but, need-alone, need-agree, need-others, need-pipe, need-copied, remove-below, remove-thing, remove-thing-far, remove-thing-spare, add-quiet, need-more}
+use Rattle.model.specs.Flow.Changes.{Sub, Adds, flow-to, Spare, spare-below, Total, Fresh, but, need-alone, need-agree, need-others, need-pipe, need-copied, remove-below, remove-thing, remove-thing-far, remove-thing-spare, add-quiet, adds-same, need-more}
 use Rattle.model.specs.Tables.{Kind, running, file, pipe, Dir, reading, writing, Entry, entry, Handle, handle, mapping, with-mark, Tables, with-at, subjects, places, label-of, is-pipe, cell, handles, open-on, arc, flow, speaks, flows-of, edges, demand, needs}
 use Rattle.model.specs.Tables.Laws.{open-here, speaks-at, speaks-cell, cell-self, object-entry, cell-entry, flow-edge, edge-flow}
 use Rattle.model.specs.Steps.{Origin, Access, reads, writes, runs, enter, leave, hold, holds, mix, put, place, fall, apply, applies, ended, reap}
@@ -198,6 +198,12 @@ pub map-quiet : (t : Tables) (s o p : ℕ) → Wf t → s < subjects → p < pla
     → needs (effect t (maps s o p)) x ≡ needs t x
 map-quiet t s o p w ls lp n h x = maps-needs t s o p x ∙ add-quiet (λ y. demand y (t .at y)) (hold-adds t s p (mapping o) w ls lp n) h x
 
+-- a map's handle makes the flow of the open for reading
+pub maps-open-needs : (t : Tables) (s o p : ℕ) → Wf t → s < subjects → p < places → t .hand s p ≡ none → (x : Thing)
+    → needs (effect t (maps s o p)) x ≡ needs (apply (hold s p (some (handle reading o))) t) x
+maps-open-needs t s o p w ls lp n x = maps-needs t s o p x
+    ∙ adds-same (λ y. demand y (t .at y)) (hold-adds t s p (mapping o) w ls lp n) (hold-adds t s p (handle reading o) w ls lp n) x
+
 -- a close where the two needs differ, where no two labels are apart; the other laws of a flow that goes are used in the same way
 pub close-below : Total → (t : Tables) (s p : ℕ) (k : Handle) → Wf t → t .hand s p ≡ some k
     → (needs t (flow (subject s) k .dst) ≡ needs t (flow (subject s) k .src) → ⊥) → (x : Thing) → needs (effect t (close s p)) x ≡ needs t x
@@ -240,7 +246,7 @@ arc-entries : (t : Tables) (d : Dir) (x y : Thing) → (e : Entry) × (t .at x �
 arc-entries t reading x y a b = (b, a)
 arc-entries t writing x y a b = (a, b)
 
-fresh-none : (t : Tables) (z : Thing) → Wf t → t .at z ≡ none → Fresh z (edges t)
+pub fresh-none : (t : Tables) (z : Thing) → Wf t → t .at z ≡ none → Fresh z (edges t)
 fresh-none t z w n = record { leaves = λ e i q. never (e .src) (ends e i .0) q; enters = λ e i q. never (e .dst) (ends e i .1) q }
   where
     never : (y : Thing) → (e : Entry) × (t .at y ≡ some e) → y ≡ z → ⊥
@@ -363,20 +369,21 @@ module _ (t : Tables) (s : ℕ) (w : Wf t) where
       touches reading o q = inr (sym (ap (λ (z : Edge). z .dst) q))
       touches writing o q = inl (sym (ap (λ (z : Edge). z .src) q))
 
-  exit-left : (x : Thing) → needs (effect t (exit s)) x ≡ needs left x
+  -- the needs after an exit are those once the subject's places are empty
+  pub exit-needs : (x : Thing) → needs (effect t (exit s)) x ≡ needs (apply (holds s (λ p. none)) t) x
   unfolding effect left
-  exit-left x = needs-reap (handles t) (with-at left (put (t .at) (subject s) none)) x
+  exit-needs x = needs-reap (handles t) (with-at left (put (t .at) (subject s) none)) x
       ∙ needs-at left (put (t .at) (subject s) none) (put-demand (t .at) (subject s) none (sym (subject-demand s (t .at (subject s))))) x
 
-  -- a subject that leads to no file exits: no need changes
-  pub exit-quiet : needs t (subject s) ≡ bot → (x : Thing) → needs (effect t (exit s)) x ≡ needs t x
+  -- a subject that leads to no file leaves its places: no need changes
+  pub vacate-quiet : needs t (subject s) ≡ bot → (x : Thing) → needs (apply (holds s (λ p. none)) t) x ≡ needs t x
   unfolding left
-  exit-quiet q x = exit-left x ∙ remove-thing (λ y. demand y (t .at y)) left-sub (subject s) left-only q x
+  vacate-quiet q x = remove-thing (λ y. demand y (t .at y)) left-sub (subject s) left-only q x
 
   -- what does not reach the subject keeps its need
   pub exit-far : (x : Thing) → (Reaches (edges t) x (subject s) → ⊥) → needs (effect t (exit s)) x ≡ needs t x
   unfolding left
-  exit-far x n = exit-left x ∙ remove-thing-far (λ y. demand y (t .at y)) left-sub (subject s) left-only x n
+  exit-far x n = exit-needs x ∙ remove-thing-far (λ y. demand y (t .at y)) left-sub (subject s) left-only x n
 
   left-fresh : Fresh (subject s) (edges left)
   unfolding left
@@ -402,7 +409,7 @@ module _ (t : Tables) (s : ℕ) (w : Wf t) where
   pub exit-below : Total → ((p : ℕ) (k : Handle) → t .hand s p ≡ some k → k .dir ≡ reading → needs t (subject s) ≡ needs t (object (k .to)) → ⊥) → (x : Thing)
       → (x ≡ subject s → ⊥) → needs (effect t (exit s)) x ≡ needs t x
   unfolding left
-  exit-below l h x ne = exit-left x ∙ remove-thing-spare (λ y. demand y (t .at y)) left-sub (subject s) left-fresh left-only spare x ne
+  exit-below l h x ne = exit-needs x ∙ remove-thing-spare (λ y. demand y (t .at y)) left-sub (subject s) left-fresh left-only spare x ne
     where
       apart : (d : Dir) (s′ p : ℕ) (k : Handle) (e : Edge) → k .dir ≡ d → arc d (subject s′) (object (k .to)) ≡ e → t .hand s′ p ≡ some k → e .dst ≡ subject s
           → needs t (subject s) ≡ needs t (e .src) → ⊥

@@ -33,6 +33,13 @@ is-new t x h = let r = neither (not (in-range x)) (used t x) h in
 pub is-place : (t : Tables) (s p : ℕ) → T (not (broken t (vacant s p))) → p < places
 is-place t s p h = ltb→lt p places (not-not (ltb p places) (neither (not (ltb p places)) (is-some (t .hand s p)) h .0))
 
+pub is-vacant : (t : Tables) (s p : ℕ) → T (not (broken t (vacant s p))) → t .hand s p ≡ none
+is-vacant t s p h = go (t .hand s p) (neither (not (ltb p places)) (is-some (t .hand s p)) h .1)
+  where
+    go : (o : Option Handle) → T (not (is-some o)) → o ≡ none
+    go none u = refl
+    go (some k) u = absurd u
+
 faces→eq : (a b : Dir) → T (faces a b) → a ≡ b
 faces→eq reading reading t = refl
 faces→eq reading writing t = absurd t

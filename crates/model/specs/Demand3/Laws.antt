@@ -84,9 +84,9 @@ answers-more t [] r = refl
 answers-more t (k ∷ rs) r = ap (λ (l : List Answer). answer t (decode k) ∷ l) (answers-more (next t (decode k)) rs r)
 
 -- ── a monitor ──
-module _ {M : Type 0} (view : M → Tables) where
+module _ {M : Type 0} (view : M → Tables) (right : M → Type 0) where
   -- one more call, of a monitor whose tables are those that the list led to
-  pub meets-next : (m : M) (c : Call) (a : Answer) (n : M) (t : Tables) → view m ≡ t → Kept t → Meets view m c a n → (a ≡ answer t c) × (view n ≡ next t c)
+  pub meets-next : (m : M) (c : Call) (a : Answer) (n : M) (t : Tables) → view m ≡ t → Kept t → Meets view right m c a n → (a ≡ answer t c) × (view n ≡ next t c)
   meets-next m c a n t e v k = (k .answered ∙ ap (λ (u : Tables). answer u c) cleaned, go (refusal t c) refl)
     where
       cleaned : clean (view m) ≡ t
@@ -96,7 +96,7 @@ module _ {M : Type 0} (view : M → Tables) where
       go none q = k .moved (ap (λ (u : Tables). refusal u c) cleaned ∙ q) ∙ ap (λ (u : Tables). effect u c) cleaned
       go (some j) q = ap view (k .unchanged j (ap (λ (u : Tables). refusal u c) cleaned ∙ q)) ∙ e
 
-  runs-rules : (m : M) (rs : List Raw) (l : List Answer) (n : M) (t : Tables) → view m ≡ t → Kept t → Runs view m rs l n →
+  runs-rules : (m : M) (rs : List Raw) (l : List Answer) (n : M) (t : Tables) → view m ≡ t → Kept t → Runs view right m rs l n →
       (l ≡ answers t rs) × (view n ≡ after t rs)
   runs-rules m rs l n t e v done = (refl, e)
   runs-rules m rs l n t e v (then {n = m′} {r = r} {rs = rs′} {a = a} {l = l′} k s) = let f = meets-next m (decode r) a m′ t e v k in
@@ -104,5 +104,5 @@ module _ {M : Type 0} (view : M → Tables) where
       (ap₂ (λ x y. x ∷ y) (f .0) (g .0), g .1)
 
   -- DEMAND 3: for every list of calls from empty tables, by any monitor whose calls keep their promise
-  pub demand3 : (m : M) → view m ≡ empty → (rs : List Raw) (l : List Answer) (n : M) → Runs view m rs l n → Demand3 rs l (view n)
+  pub demand3 : (m : M) → view m ≡ empty → (rs : List Raw) (l : List Answer) (n : M) → Runs view right m rs l n → Demand3 rs l (view n)
   demand3 m e rs l n s = let r = runs-rules m rs l n empty e empty-kept s in subst₂ (λ x y. Demand3 rs x y) (sym (r .0)) (sym (r .1)) (rules-demand3 rs)

@@ -205,6 +205,13 @@ module _ (f : Thing → Label) {es ds : List Edge} where
     pub remove-twin : In e es → (x : Thing) → need f es x ≡ need f ds x
     remove-twin i x = sym (add-quiet (need-flow es f e i) x)
 
+-- the same flow, at whichever place it comes
+pub adds-same : (f : Thing → Label) {e : Edge} {es ds cs : List Edge} → Adds e es ds → Adds e es cs → (x : Thing) → need f ds x ≡ need f cs x
+adds-same f a b x = ⊑-antisym (need-more f (both a b) x) (need-more f (both b a) x)
+  where
+    both : {e : Edge} {es ds cs : List Edge} → Adds e es ds → Adds e es cs → Sub ds cs
+    both {cs = cs} a b = record { all = λ d i. elim (a .only d i) [ inl j ↦ b .more .all d j | inr q ↦ subst (λ (c : Edge). In c cs) q (b .new) ] }
+
 -- ── things that no flow leaves or enters ──
 module _ (f : Thing → Label) (es : List Edge) where
   -- a need by the demand and the needs one flow on

@@ -79,6 +79,11 @@ pub join-lub : {a b c : Label} → a ⊑ c → b ⊑ c → join a b ⊑ c
 unfolding Label leq join
 join-lub {a} {b} {c} p q = record { tested = le→leb (max a b) c (max-le (leb→le a c (p .tested)) (leb→le b c (q .tested))) }
 
+-- the least label is that of level 0
+pub label-zero : label 0 ≡ bot
+unfolding Label label bot
+label-zero = refl
+
 pub bot-least : {a : Label} → bot ⊑ a
 unfolding Label leq bot
 bot-least {a} = record { tested = le→leb 0 a zero-le }

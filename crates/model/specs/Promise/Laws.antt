@@ -1,5 +1,5 @@
--- What follows from the promise of single calls for any monitor, made up or not: nothing goes by the free part, and a list of calls goes by the
--- rules on the tables as RULES T17 and T18 read them. Assumes nothing.
+-- What follows from the promise of single calls for any monitor, made up or not: nothing goes by the free part, a list of calls goes by the
+-- rules on the tables as RULES T17 and T18 read them, and what is kept beside them stays right. Assumes nothing.
 use mathlib.Core.Path.{_≡_, refl, sym, _∙_, ap, ap₂, subst}
 use mathlib.Core.Option.{Option, none, some}
 use mathlib.Core.List.{List, _∷_}
@@ -11,10 +11,10 @@ use Rattle.model.specs.Calls.{Call, Raw, decode, refusal, effect, next, 
 use Rattle.model.specs.Calls.Dangling.{effect-wf, next-wf}
 use Rattle.model.specs.Promise.{Same-but-free, Meets, Runs, done, then}
 
-module _ {M : Type 0} (view : M → Tables) where
+module _ {M : Type 0} (view : M → Tables) (right : M → Type 0) where
   -- ── the free part ──
   -- one call on monitors that differ in the free part alone
-  free-next : (m m′ n n′ : M) (c : Call) (a a′ : Answer) → Same-but-free view m m′ → Meets view m c a n → Meets view m′ c a′ n′
+  free-next : (m m′ n n′ : M) (c : Call) (a a′ : Answer) → Same-but-free view m m′ → Meets view right m c a n → Meets view right m′ c a′ n′
       → (a ≡ a′) × Same-but-free view n n′
   free-next m m′ n n′ c a a′ e k k′ =
       (k .answered ∙ ap (λ (t : Tables). answer (clean t) c) e ∙ sym (k′ .answered), go (refusal (clean (view m)) c) refl)
@@ -26,8 +26,8 @@ module _ {M : Type 0} (view : M → Tables) where
       go none q = k .moved q ∙ ap (λ (t : Tables). effect (clean t) c) e ∙ sym (k′ .moved (other none q))
       go (some j) q = ap view (k .unchanged j q) ∙ e ∙ ap view (sym (k′ .unchanged j (other (some j) q)))
 
-  -- RULES T23: no answer and no later tables go by the free part
-  pub free-unseen : (rs : List Raw) (m m′ n n′ : M) (l l′ : List Answer) → Same-but-free view m m′ → Runs view m rs l n → Runs view m′ rs l′ n′
+  -- RULES T23, F14: no answer and no later tables go by the free part
+  pub free-unseen : (rs : List Raw) (m m′ n n′ : M) (l l′ : List Answer) → Same-but-free view m m′ → Runs view right m rs l n → Runs view right m′ rs l′ n′
       → (l ≡ l′) × Same-but-free view n n′
   free-unseen rs m m′ n n′ l l′ e done done = (refl, e)
   free-unseen rs m m′ n n′ l l′ e (then {n = x} {r = r} {rs = rest} {a = a} {l = k} p s) (then {n = x′} {a = a′} {l = k′} p′ s′) =
@@ -36,7 +36,7 @@ module _ {M : Type 0} (view : M → Tables) where
       (ap₂ (λ y z. y ∷ z) (f .0) (g .0), g .1)
 
   -- ── tables that no calls made ──
-  cleaned-next : (m n : M) (c : Call) (a : Answer) → Wf (clean (view m)) → Meets view m c a n → clean (view n) ≡ next (clean (view m)) c
+  cleaned-next : (m n : M) (c : Call) (a : Answer) → Wf (clean (view m)) → Meets view right m c a n → clean (view n) ≡ next (clean (view m)) c
   cleaned-next m n c a w k = go (refusal t c) refl
     where
       t : Tables
@@ -47,10 +47,16 @@ module _ {M : Type 0} (view : M → Tables) where
       go (some j) q = ap (λ (x : M). clean (view x)) (k .unchanged j q)
 
   -- RULES T16, over a list of calls: every value of the monitor goes by the rules
-  pub cleaned-runs : (rs : List Raw) (m n : M) (l : List Answer) → Wf (clean (view m)) → Runs view m rs l n
+  pub cleaned-runs : (rs : List Raw) (m n : M) (l : List Answer) → Wf (clean (view m)) → Runs view right m rs l n
       → (l ≡ answers (clean (view m)) rs) × (clean (view n) ≡ after (clean (view m)) rs)
   cleaned-runs rs m n l w done = (refl, refl)
   cleaned-runs rs m n l w (then {n = x} {r = r} {rs = rest} {a = a} {l = k} p s) =
       let e = cleaned-next m x (decode r) a w p in
       let g = cleaned-runs rest x n k (subst Wf (sym e) (next-wf (clean (view m)) (decode r) w)) s in
       (ap₂ (λ y z. y ∷ z) (p .answered) (g .0 ∙ ap (λ (t : Tables). answers t rest) e), g .1 ∙ ap (λ (t : Tables). after t rest) e)
+
+  -- ── what is kept beside the tables ──
+  -- RULES F12, over a list of calls
+  pub runs-right : (rs : List Raw) (m n : M) (l : List Answer) → Runs view right m rs l n → right m → right n
+  runs-right rs m n l done h = h
+  runs-right rs m n l (then {n = x} {rs = rest} {l = k} p s) h = runs-right rest x n k s (p .kept h)
