@@ -21,7 +21,7 @@ use Rattle.model.specs.Tables.{Dir, reading, writing, Entry, Tables, in-range, 
 use Rattle.model.specs.Tables.{Handle as Held}
 use Rattle.model.specs.Tables.Laws.{live-of, speaks-cell, cell-self, flow-edge, edge-flow}
 use Rattle.model.specs.Invariant.{Wf}
-use Rattle.need.specs.Least.{figure, Least}
+use Rattle.need.specs.Least.{figure, Low, Least}
 use Rattle.need.specs.Least.{node as nth}
 use Rattle.tables.specs.declared.Subject.{Subject}
 use Rattle.tables.specs.declared.Object.{Object}
@@ -70,24 +70,41 @@ tip-in-range start s j a b = go start (j .dir)
 
 -- an end of a record of subject s is that end of its flow
 edge-node : (start : Bool) (h : Handle) (k : Held) (s : ℕ) → held h ≡ some k → k .to < 64 → s < 32
-    → end-by h s start % 96 ≡ node (tip start (flow (subject s) k))
+    → end-by h s start ≡ node (tip start (flow (subject s) k))
 edge-node start h k s q l ls = go (eqb (h .way) 0) (reads-by (h .way)) q
   where
     of : Bool → Held
     of w = record { dir = cond w reading writing; to = h .object; marked = not (eqb (h .mark) 0); mapped = eqb (h .way) 3 }
 
     at : (w start : Bool) → h .object < 64
-        → cond (alike w start) (32 + h .object) s % 96 ≡ node (tip start (flow (subject s) (of w)))
-    at true true lo = omega arith
-    at true false lo = omega arith
-    at false true lo = omega arith
-    at false false lo = omega arith
+        → cond (alike w start) (32 + h .object) s ≡ node (tip start (flow (subject s) (of w)))
+    at true true lo = refl
+    at true false lo = refl
+    at false true lo = refl
+    at false false lo = refl
 
     go : (b w : Bool) → cond b none (some (of w)) ≡ some k
-        → cond b 0 (cond (ltb (h .object) 64) (cond (alike w start) (32 + h .object) s) 0) % 96 ≡ node (tip start (flow (subject s) k))
+        → cond b 0 (cond (ltb (h .object) 64) (cond (alike w start) (32 + h .object) s) 0) ≡ node (tip start (flow (subject s) k))
     go true w q = absurd (Option·none-ne-some k q)
     go false w q = let e = Option·some-injective _ k q in let lo : h .object < 64 = subst (λ (z : Held). z .to < 64) (sym e) l in
         rw (lt-ltb (h .object) 64 lo) (at w start lo ∙ ap (λ (z : Held). node (tip start (flow (subject s) z))) e)
+
+-- each end is one of the 96
+end-low : (start : Bool) (h : Handle) (s : ℕ) → s < 32 → end-by h s start < 96
+end-low start h s l = go (eqb (h .way) 0) (decLt (h .object) 64) (alike (reads-by (h .way)) start)
+  where
+    go : (b : Bool) → Dec (h .object < 64) → (w : Bool) → cond b 0 (cond (ltb (h .object) 64) (cond w (32 + h .object) s) 0) < 96
+    go true d w = omega arith
+    go false (yes o) true = rw (lt-ltb (h .object) 64 o) (omega arith)
+    go false (yes o) false = rw (lt-ltb (h .object) 64 o) (omega arith)
+    go false (no o) w = rw (le-ltb (h .object) 64 (omega arith)) (omega arith)
+
+pub ends-low : (hs : List Handle) (start : Bool) (l : List ℕ) → length l ≡ 512 → Ends hs start l → Low l
+ends-low hs start l n g = record { thing = λ i. go i (decLt i 512) }
+  where
+    go : (i : ℕ) → Dec (i < 512) → getD l i 0 < 96
+    go i (yes h) = subst (λ (z : ℕ). z < 96) (sym (g .end-is i h)) (end-low start (getD hs i no-handle) (i / 16) (omega arith))
+    go i (no h) = subst (λ (z : ℕ). z < 96) (sym (List·getD-eq-default l 0 {n = i} (omega arith))) (omega arith)
 
 -- a record that holds nothing has both ends at 0
 no-edge : (start : Bool) (h : Handle) (s : ℕ) → held h ≡ none → end-by h s start ≡ 0
@@ -129,10 +146,10 @@ module _ (rest : Tables) (ss : List Subject) (os : List Object) (hs : List Handl
 
     taken-at : (j : Held) → t .hand s q ≡ some j → nth l (s * 16 + q) ≡ node (tip start (flow (subject s) j))
     taken-at j e = let b = far s q j e in
-        ap (λ (z : ℕ). z % 96) (end-at (b .0) (b .1)) ∙ edge-node start (record-at s q) j s (hand-is s q (b .1) ∙ e) (b .2) (b .0)
+        end-at (b .0) (b .1) ∙ edge-node start (record-at s q) j s (hand-is s q (b .1) ∙ e) (b .2) (b .0)
 
     empty-at : s < 32 → q < 16 → t .hand s q ≡ none → nth l (s * 16 + q) ≡ 0
-    empty-at a b e = ap (λ (z : ℕ). z % 96) (end-at a b ∙ no-edge start (record-at s q) s (hand-is s q b ∙ e))
+    empty-at a b e = end-at a b ∙ no-edge start (record-at s q) s (hand-is s q b ∙ e)
 
   -- ── the figures are a potential of the tables ──
   low : (y : Thing) → f y ⊑ fig y

@@ -1,15 +1,14 @@
 // Needs, from whole arrays: the flow of each handle as an edge between nodes, what each thing demands, the need of each, and
-// whether some level is below one.
+// whether some level is below one. Needs that are kept are in `kept`.
 ghost use mathlib.Core.Path.{_≡_};
 ghost use mathlib.Core.Bool.{not};
 ghost use mathlib.Core.List.{List};
 ghost use Prim.Native.Nat.{_+_, _<_};
 ghost use lib.ListN.{getD};
-ghost use Rattle.model.specs.Label.{leq, label};
-ghost use Rattle.model.specs.Flow.{subject};
-ghost use Rattle.model.specs.Tables.{Tables, needs, safe};
+ghost use Rattle.model.specs.Tables.{Tables, safe};
 ghost use Rattle.model.specs.Invariant.{Wf};
 ghost use Rattle.tables.specs.declared.Subject.{Subject};
+ghost use Rattle.tables.specs.declared.Handle.{Handle};
 ghost use Rattle.tables.specs.Records.{no-subject, no-object, tables-of};
 ghost use Rattle.tables.specs.Needs.{Needed};
 ghost use Rattle.tables.specs.Working.{some-below};
@@ -26,6 +25,8 @@ use tables::SUBJECTS;
 use tables::Subject;
 use tables::THINGS;
 use tables::looks;
+
+pub mod kept;
 
 fn same(a: bool, b: bool) -> bool
     ensures { λ r. ⌜ r ≡ alike a b ⌝ }
@@ -145,28 +146,13 @@ fn objects_short(objects: [Object; OBJECTS], n: [u8; THINGS]) -> bool
     false
 }
 
-// Some live thing's level is below its need, in tables in which nothing dangles.
-pub fn is_short(
-    subjects: [Subject; SUBJECTS],
-    objects: [Object; OBJECTS],
-    handles: [Handle; HANDLES],
-) -> bool
-    ensures { λ r. ⌜ ((rest : Tables) → Wf (tables-of rest subjects objects handles) → r ≡ not (safe (tables-of rest subjects objects handles))) ⌝ }
+// Some live thing's level is below its need, of which n is the figure, in tables in which nothing dangles.
+pub fn is_short(subjects: [Subject; SUBJECTS], objects: [Object; OBJECTS], n: [u8; THINGS]) -> bool
+    ensures { λ r. ⌜ ((rest : Tables) (hs : List Handle) → Wf (tables-of rest subjects objects hs) → Needed (tables-of rest subjects objects hs) n →
+        r ≡ not (safe (tables-of rest subjects objects hs))) ⌝ }
 {
-    let n = figures(objects, handles);
     if subjects_short(subjects, n) {
         return true;
     }
     objects_short(objects, n)
-}
-
-// This level is below the need of subject s, in tables in which nothing dangles.
-pub fn is_below(objects: [Object; OBJECTS], handles: [Handle; HANDLES], s: usize, level: u8) -> bool
-    requires { ⌜ s < 32 ⌝ }
-    ensures { λ r. ⌜ ((rest : Tables) (ss : List Subject) → Wf (tables-of rest ss objects handles) →
-        r ≡ not (leq (needs (tables-of rest ss objects handles) (subject s)) (label level))) ⌝ }
-{
-    let n = figures(objects, handles);
-    let need = n[s];
-    level < need
 }

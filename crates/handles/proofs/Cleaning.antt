@@ -25,7 +25,7 @@ abbrev pub kept-at : List Subject → List Object → ℕ → Handle → Handle
 kept-at ss os j h = kept-of h (getD ss (j / 16) no-subject) (getD os (h .object % 64) no-object)
 
 -- ── one record ──
-counted-held : (h : Handle) (b c : Bool) (f : ℕ → Bool) → f (h .object) ≡ c → counted b f (held h) ≡ cond (b && c) (held h) none
+pub counted-held : (h : Handle) (b c : Bool) (f : ℕ → Bool) → f (h .object) ≡ c → counted b f (held h) ≡ cond (b && c) (held h) none
 counted-held h b c f e = go (eqb (h .way) 0)
   where
     nothing : (z : Bool) → _≡_ {A = Option Held} none (cond z none none)
@@ -37,7 +37,7 @@ counted-held h b c f e = go (eqb (h .way) 0)
     go false = rw e
 
 -- its subject is not live, its object is in range, its object is free
-kept-held : (h : Handle) (l a k : Bool) → held (cond l no-handle (cond a (cond k no-handle h) no-handle)) ≡ cond (not l && (a && not k)) (held h) none
+pub kept-held : (h : Handle) (l a k : Bool) → held (cond l no-handle (cond a (cond k no-handle h) no-handle)) ≡ cond (not l && (a && not k)) (held h) none
 kept-held h true a k = refl
 kept-held h false false k = refl
 kept-held h false true true = refl

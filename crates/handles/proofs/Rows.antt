@@ -9,7 +9,7 @@ use Prim.Native.Nat.{ℕ, _+_, _*_, _%_, _≤_, _<_}
 use native.Mathlib.Omega.{arith}
 use native.Mathlib.Decide.{ℕ-discrete, decLt}
 use borrow.Author.Tests.{eq-eqb, ne-eqb, ltb-true}
-use lib.ListN.{length, getD, set, length-set}
+use lib.ListN.{length, getD, set, length-set, replicate, getD-replicate}
 use lib.Dec.{ltb, eqb}
 use Rattle.model.specs.Tables.{reading, writing, handle, Tables, with-hand}
 use Rattle.model.specs.Tables.{Handle as Held}
@@ -19,6 +19,7 @@ use Rattle.tables.specs.declared.Object.{Object}
 use Rattle.tables.specs.declared.Handle.{Handle}
 use Rattle.model.specs.Calls.{lasting}
 use Rattle.tables.specs.Records.{joins, held, no-handle, hands, along, tables-of}
+use Rattle.tables.specs.Working.{joining}
 use Rattle.handles.specs.Working.{lasting-of}
 use Rattle.tables.specs.Records.Laws.{store-handle}
 use Rattle.tables.proofs.Maps.{Mapped, Rowed}
@@ -73,19 +74,31 @@ module _ (hs r places : List Handle) (c i : ℕ) (full : i ≡ 16) (m : Rowed no
   rowed-tables rest ss os = ap (with-hand (tables-of rest ss os hs)) (fun-ext (λ s. fun-ext (λ q. row-at s q (ltb q 16) refl (ℕ-discrete c s))))
 
 -- ── the ends of pipes ──
-pub ends-tables : (rest : Tables) (ss : List Subject) (os : List Object) (hs : List Handle) (s p q from to : ℕ) → length hs ≡ 512 → s < 32 → p < 16 → q < 16
-    → tables-of rest ss os (set (set hs (s * 16 + p) (record { way = 1; object = from; mark = 0 })) (s * 16 + q) (record { way = 2; object = to; mark = 0 }))
-    ≡ with-hand (tables-of rest ss os hs) (place (place (hands hs) s p (some (handle reading from))) s q (some (handle writing to)))
+pub ends-tables : (rest : Tables) (ss : List Subject) (os : List Object) (hs : List Handle) (s p q from to : ℕ) → length hs ≡ 512
+    → tables-of rest ss os (set (set hs (s % 32 * 16 + p % 16) (joining 1 from)) (s % 32 * 16 + q % 16) (joining 2 to))
+    ≡ with-hand (tables-of rest ss os hs) (place (place (hands hs) (s % 32) (p % 16) (some (handle reading (from % 64)))) (s % 32) (q % 16)
+    (some (handle writing (to % 64))))
 unfolding tables-of
-ends-tables rest ss os hs s p q from to l ls lp lq =
-    let i : s % 32 * 16 + p % 16 ≡ s * 16 + p = omega arith in
-    let j : s % 32 * 16 + q % 16 ≡ s * 16 + q = omega arith in
-    ap₂ (λ (a b : ℕ). tables-of rest ss os (set (set hs a reads) b writes)) (sym i) (sym j)
-    ∙ store-handle rest ss os (set hs (s % 32 * 16 + p % 16) reads) s q writes (simp length-set l) ls lq
-    ∙ ap (λ (u : Tables). with-hand u (place (u .hand) s q (some (handle writing to)))) (store-handle rest ss os hs s p reads l ls lp)
-  where
-    reads : Handle
-    reads = record { way = 1; object = from; mark = 0 }
+ends-tables rest ss os hs s p q from to l =
+    let i : s % 32 % 32 * 16 + p % 16 % 16 ≡ s % 32 * 16 + p % 16 = omega arith in
+    let j : s % 32 % 32 * 16 + q % 16 % 16 ≡ s % 32 * 16 + q % 16 = omega arith in
+    ap₂ (λ (a b : ℕ). tables-of rest ss os (set (set hs a (joining 1 from)) b (joining 2 to))) (sym i) (sym j)
+    ∙ store-handle rest ss os (set hs (s % 32 % 32 * 16 + p % 16 % 16) (joining 1 from)) (s % 32) (q % 16) (joining 2 to) (simp length-set l)
+    (omega arith) (omega arith)
+    ∙ ap (λ (u : Tables). with-hand u (place (u .hand) (s % 32) (q % 16) (some (handle writing (to % 64)))))
+    (store-handle rest ss os hs (s % 32) (p % 16) (joining 1 from) l (omega arith) (omega arith))
 
-    writes : Handle
-    writes = record { way = 2; object = to; mark = 0 }
+-- ── a row of places ──
+-- the row that is stored, place by place
+pub rowed-as : (rest : Tables) (ss : List Subject) (os : List Object) (hs after : List Handle) (s : ℕ) (places : List Handle) (f : ℕ → Option Held)
+    → ((p : ℕ) → along places p ≡ f p) → tables-of rest ss os after ≡ with-hand (tables-of rest ss os hs) (row (hands hs) s (along places))
+    → tables-of rest ss os after ≡ with-hand (tables-of rest ss os hs) (row (hands hs) s f)
+rowed-as rest ss os hs after s places f q e = e ∙ ap (λ (g : ℕ → Option Held). with-hand (tables-of rest ss os hs) (row (hands hs) s g)) (fun-ext q)
+
+-- a row of empty places
+pub no-places : (p : ℕ) → along (replicate 16 no-handle) p ≡ none
+no-places p = go (ltb p 16) refl
+  where
+    go : (b : Bool) → ltb p 16 ≡ b → _≡_ {A = Option Held} (cond b (held (getD (replicate 16 no-handle) p no-handle)) none) none
+    go true q = ap held (getD-replicate 16 p no-handle no-handle (ltb-true p 16 q))
+    go false q = refl

@@ -1,8 +1,8 @@
 // Whole arrays of handles: those that dangle, those on one object, the ends of a pipe, the row of one subject, the pipes that end. Mappings are in `mappings`.
 ghost use mathlib.Core.Path.{_≡_};
 ghost use mathlib.Core.List.{List};
-ghost use Prim.Native.Nat.{ℕ, _<_};
-ghost use mathlib.Core.Option.{some};
+ghost use Prim.Native.Nat.{ℕ, _%_, _<_};
+ghost use mathlib.Core.Option.{none, some};
 ghost use Rattle.model.specs.Tables.{Tables, reading, writing, handle, clean, empty, with-hand, open-on};
 ghost use Rattle.model.specs.Tables.{handles as all-handles};
 ghost use Rattle.model.specs.Steps.{reap, row, place};
@@ -26,13 +26,14 @@ use tables::READS;
 use tables::SUBJECTS;
 use tables::Subject;
 use tables::WRITES;
+use tables::looks;
 
 pub mod mappings;
 
 // ---- tables that no calls made ----
 
 // A handle record, or an empty one where it dangles: `object` is the one at its number modulo OBJECTS.
-fn kept(h: Handle, subject: Subject, object: Object) -> Handle
+pub fn kept(h: Handle, subject: Subject, object: Object) -> Handle
     ensures { λ r. ⌜ r ≡ kept-of h subject object ⌝ }
 {
     if subject.live == 0 {
@@ -194,38 +195,26 @@ pub fn reaped(
     r
 }
 
-// ---- the ends of pipes ----
+// ---- the ends of pipes
 
-// The handles with a reading end on object `from` at place p of subject s, and a writing end on object `to` at place q.
+// The handles with a reading end on object `from` at place p of subject s, and a writing end on object `to` at place q; each number modulo how many
+// there are.
 pub fn with_ends(
     handles: [Handle; HANDLES],
-    s: usize,
-    p: usize,
-    q: usize,
-    from: u8,
-    to: u8,
+    s: u32,
+    p: u32,
+    q: u32,
+    from: u32,
+    to: u32,
 ) -> [Handle; HANDLES]
-    requires { ⌜ (s < 32) × (p < 16) × (q < 16) ⌝ }
     ensures { λ r. ⌜ ((rest : Tables) (ss : List Subject) (os : List Object) →
         tables-of rest ss os r ≡ with-hand (tables-of rest ss os handles)
-        (place (place (hands handles) s p (some (handle reading from))) s q (some (handle writing to)))) ⌝ }
+        (place (place (hands handles) (s % 32) (p % 16) (some (handle reading (from % 64)))) (s % 32) (q % 16) (some (handle writing (to % 64))))) ⌝ }
 {
-    let mut r = handles;
-    let reader = s * PLACES + p;
-    let writer = s * PLACES + q;
-    let reads = Handle {
-        way: READS,
-        object: from,
-        mark: 0,
-    };
-    let writes = Handle {
-        way: WRITES,
-        object: to,
-        mark: 0,
-    };
-    r[reader] = reads;
-    r[writer] = writes;
-    r
+    let reads = looks::joining(READS, from);
+    let writes = looks::joining(WRITES, to);
+    let one = looks::with_handle(handles, s, p, reads);
+    looks::with_handle(one, s, q, writes)
 }
 
 // ---- the row of one subject ----
@@ -252,7 +241,7 @@ pub fn row_of(handles: [Handle; HANDLES], s: usize) -> [Handle; PLACES]
 }
 
 // The handles with those of subject s made these.
-pub fn with_row(handles: [Handle; HANDLES], s: usize, places: [Handle; PLACES]) -> [Handle; HANDLES]
+fn with_row(handles: [Handle; HANDLES], s: usize, places: [Handle; PLACES]) -> [Handle; HANDLES]
     requires { ⌜ s < 32 ⌝ }
     ensures { λ r. ⌜ ((rest : Tables) (ss : List Subject) (os : List Object) →
         tables-of rest ss os r ≡ with-hand (tables-of rest ss os handles) (row (hands handles) s (along places))) ⌝ }
@@ -303,4 +292,38 @@ pub fn lasting(places: [Handle; PLACES]) -> [Handle; PLACES]
         p += 1;
     }
     r
+}
+
+// The handles once subject c has those of s at the same places, once s has none, and once s has run a program; each number modulo how many there are.
+pub fn forked(handles: [Handle; HANDLES], s: u32, c: u32) -> [Handle; HANDLES]
+    ensures { λ r. ⌜ ((rest : Tables) (ss : List Subject) (os : List Object) →
+        tables-of rest ss os r ≡ with-hand (tables-of rest ss os handles) (row (hands handles) (c % 32) (hands handles (s % 32)))) ⌝ }
+{
+    let i = s as usize % SUBJECTS;
+    let k = c as usize % SUBJECTS;
+    let places = row_of(handles, i);
+    with_row(handles, k, places)
+}
+
+pub fn vacated(handles: [Handle; HANDLES], s: u32) -> [Handle; HANDLES]
+    ensures { λ r. ⌜ ((rest : Tables) (ss : List Subject) (os : List Object) →
+        tables-of rest ss os r ≡ with-hand (tables-of rest ss os handles) (row (hands handles) (s % 32) (λ p. none))) ⌝ }
+{
+    let i = s as usize % SUBJECTS;
+    let places = [Handle {
+        way: EMPTY,
+        object: 0,
+        mark: 0,
+    }; PLACES];
+    with_row(handles, i, places)
+}
+
+pub fn shed(handles: [Handle; HANDLES], s: u32) -> [Handle; HANDLES]
+    ensures { λ r. ⌜ ((rest : Tables) (ss : List Subject) (os : List Object) →
+        tables-of rest ss os r ≡ with-hand (tables-of rest ss os handles) (row (hands handles) (s % 32) (λ p. lasting (hands handles (s % 32) p)))) ⌝ }
+{
+    let i = s as usize % SUBJECTS;
+    let places = row_of(handles, i);
+    let left = lasting(places);
+    with_row(handles, i, left)
 }

@@ -3,7 +3,7 @@
 use mathlib.Core.Path.{_≡_}
 use mathlib.Core.Bool.{Bool, true, false, not, _&&_, _||_, cond}
 use mathlib.Core.List.{List}
-use Prim.Native.Nat.{ℕ, zero, suc}
+use Prim.Native.Nat.{ℕ, zero, suc, _%_}
 use lib.Dec.{ltb, leb, eqb}
 use Rattle.model.specs.Tables.{empty, with-hand, handles, open-on}
 use Rattle.tables.specs.declared.Subject.{Subject}
@@ -24,6 +24,10 @@ object-at o y = cond (ltb o 64) y no-object
 
 abbrev pub handle-at : ℕ → ℕ → Handle → Handle
 handle-at s p h = cond (ltb s 32) (cond (ltb p 16) h no-handle) no-handle
+
+-- a record of this way on object o, not marked
+abbrev pub joining : ℕ → ℕ → Handle
+joining way o = record { way = way; object = o % 64; mark = 0 }
 
 -- ── falling ──
 abbrev pub fallen-by : Subject → ℕ → Subject

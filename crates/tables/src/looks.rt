@@ -1,11 +1,14 @@
 // The record at any number that a call names, what its way says, and what a record becomes where something falls.
 ghost use mathlib.Core.Path.{_≡_};
-ghost use mathlib.Core.Bool.{_||_};
-ghost use Rattle.tables.specs.Records.{reads-by};
-ghost use Rattle.tables.specs.Working.{subject-at, object-at, handle-at, fallen-by, sunken-by};
+ghost use mathlib.Core.Bool.{_&&_, _||_};
+ghost use Prim.Native.Nat.{_+_, _*_, _%_};
+ghost use lib.ListN.{getD, set};
+ghost use Rattle.tables.specs.Records.{reads-by, no-subject, no-object, no-handle};
+ghost use Rattle.tables.specs.Working.{subject-at, object-at, handle-at, joining, fallen-by, sunken-by};
 use crate::EMPTY;
 use crate::FILE;
 use crate::FREE;
+use crate::HANDLES;
 use crate::Handle;
 use crate::MAPS;
 use crate::OBJECTS;
@@ -57,6 +60,90 @@ pub fn handle_at(s: u32, p: u32, h: Handle) -> Handle
         };
     }
     h
+}
+
+// The record of subject s, and of object o: one that is not in use where the number is out of range.
+pub fn subject_of(subjects: [Subject; SUBJECTS], s: u32) -> Subject
+    ensures { λ r. ⌜ r ≡ subject-at s (getD subjects (s % 32) no-subject) ⌝ }
+{
+    let i = s as usize % SUBJECTS;
+    let x = subjects[i];
+    subject_at(s, x)
+}
+
+pub fn object_of(objects: [Object; OBJECTS], o: u32) -> Object
+    ensures { λ r. ⌜ r ≡ object-at o (getD objects (o % 64) no-object) ⌝ }
+{
+    let i = o as usize % OBJECTS;
+    let y = objects[i];
+    object_at(o, y)
+}
+
+// Which handle is that at place p of subject s, each modulo how many there are.
+pub fn slot_of(s: u32, p: u32) -> usize
+    ensures { λ r. ⌜ r ≡ s % 32 * 16 + p % 16 ⌝ }
+{
+    let i = s as usize % SUBJECTS;
+    let k = p as usize % PLACES;
+    i * PLACES + k
+}
+
+// The record at place p of subject s; an empty one where either is out of range.
+pub fn handle_of(handles: [Handle; HANDLES], s: u32, p: u32) -> Handle
+    ensures { λ r. ⌜ r ≡ handle-at s p (getD handles (s % 32 * 16 + p % 16) no-handle) ⌝ }
+{
+    let at = slot_of(s, p);
+    let h = handles[at];
+    handle_at(s, p, h)
+}
+
+// A handle that is placed anew: of this way, on object o modulo how many there are.
+pub fn joining(way: u8, o: u32) -> Handle
+    ensures { λ r. ⌜ r ≡ joining way o ⌝ }
+{
+    Handle {
+        way: way,
+        object: (o % OBJECTS as u32) as u8,
+        mark: 0,
+    }
+}
+
+// The handles with h at place p of subject s, each modulo how many there are.
+pub fn with_handle(handles: [Handle; HANDLES], s: u32, p: u32, h: Handle) -> [Handle; HANDLES]
+    ensures { λ r. ⌜ r ≡ set handles (s % 32 * 16 + p % 16) h ⌝ }
+{
+    let at = slot_of(s, p);
+    let mut r = handles;
+    r[at] = h;
+    r
+}
+
+// The subjects with x at number s, and the objects with y at number o, each modulo how many there are.
+pub fn with_subject(subjects: [Subject; SUBJECTS], s: u32, x: Subject) -> [Subject; SUBJECTS]
+    ensures { λ r. ⌜ r ≡ set subjects (s % 32) x ⌝ }
+{
+    let i = s as usize % SUBJECTS;
+    let mut r = subjects;
+    r[i] = x;
+    r
+}
+
+pub fn with_object(objects: [Object; OBJECTS], o: u32, y: Object) -> [Object; OBJECTS]
+    ensures { λ r. ⌜ r ≡ set objects (o % 64) y ⌝ }
+{
+    let i = o as usize % OBJECTS;
+    let mut r = objects;
+    r[i] = y;
+    r
+}
+
+pub fn both(a: bool, b: bool) -> bool
+    ensures { λ r. ⌜ r ≡ (a && b) ⌝ }
+{
+    if a {
+        return b;
+    }
+    false
 }
 
 pub fn either(a: bool, b: bool) -> bool

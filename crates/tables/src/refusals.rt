@@ -3,7 +3,7 @@
 //
 // The records are those at the numbers that the call names, empty ones where a number is out of range (`looks`).
 ghost use mathlib.Core.Path.{_≡_};
-ghost use mathlib.Core.Bool.{_&&_, _||_};
+ghost use mathlib.Core.Bool.{_||_};
 ghost use Prim.Native.Nat.{ℕ};
 ghost use Rattle.model.specs.Flow.{subject, object};
 ghost use Rattle.model.specs.Tables.{Tables, Dir, reading, writing};
@@ -64,15 +64,6 @@ fn first(
         return 8;
     }
     0
-}
-
-fn both(a: bool, b: bool) -> bool
-    ensures { λ r. ⌜ r ≡ (a && b) ⌝ }
-{
-    if a {
-        return b;
-    }
-    false
 }
 
 // RULES R3, and RULES R7 of a place that a handle is to take.
@@ -314,8 +305,8 @@ pub fn is_frozen(freeze: u8, reads: bool, y: Object) -> bool
     let set = freeze < NO_FREEZE;
     let file = y.kind == FILE;
     let reached = freeze <= y.level;
-    let shut = both(file, reached);
-    both(set, shut)
+    let shut = looks::both(file, reached);
+    looks::both(set, shut)
 }
 
 // The number of the first of the late rows that refuses a call which no earlier row refuses, in the order of the rules; 0 where none does.

@@ -1,7 +1,7 @@
 -- `flows::figures` meets its contract. Assumes nothing.
 use borrow.Author.Needs.{needs}
 use Rattle.tables.proofs.Maps.{unmapped}
-use Rattle.flows.proofs.Nodes.{needed}
+use Rattle.flows.proofs.Nodes.{ends-low, needed}
 use Rattle.flows.proofs.figures.Statement.{statement}
 use Rattle.flows.proofs.figures.Tie as tie
 
@@ -15,7 +15,7 @@ marks-requires : tie.Need-marks-requires
 marks-requires c κs = search needs
 
 least-requires : tie.Need-least-requires
-least-requires c κs = search needs
+least-requires c κs = (ends-low _ _ _ (search needs) (c .before .before .ends .ensures), ends-low _ _ _ (search needs) (c .before .ends2 .ensures))
 
 returns : tie.Need-returns
 returns c =
