@@ -67,18 +67,26 @@ pub full-object : (t : Tables) (o : ℕ) (y : Object) → t .at (object o) ≡ o
     → t .at (object o) ≡ some (entry (cond (eqb (y .kind) 1) file pipe) (label (y .level)))
 full-object t o y q l = full (eqb (y .kind) 0) _ (t .at (object o)) q (subst T (used-is t (object o)) (live-of t (object o) l .1)) .0
 
+-- a place that is taken holds what its record says
+pub full-held : (h : Handle) (k : Held) → held h ≡ some k → held h ≡ some (joins h)
+full-held h k q = go (eqb (h .way) 0) q
+  where
+    go : (b : Bool) → cond b none (some (joins h)) ≡ some k → cond b none (some (joins h)) ≡ some (joins h)
+    go true z = absurd (Option·none-ne-some k z)
+    go false z = refl
+
 module _ (t : Tables) (c : Call) (e : refusal t c ≡ none) where
   -- ── a live subject ──
   module _ (s : ℕ) (i : In (alive s) (tests c)) where
-    lives : T (live t (subject s))
-    lives = is-alive t s (passed t c e (alive s) i)
+    pub low-row-live : T (live t (subject s))
+    low-row-live = is-alive t s (passed t c e (alive s) i)
 
     pub row-low : s < 32
-    row-low = ltb→lt s 32 (live-of t (subject s) lives .0)
+    row-low = ltb→lt s 32 (live-of t (subject s) low-row-live .0)
 
     module _ (x : Subject) (q : t .at (subject s) ≡ subject-entry x) where
       step-full : (t .at (subject s) ≡ some (entry running (label (x .level)))) × (eqb (x .live) 0 ≡ false)
-      step-full = full (eqb (x .live) 0) _ (t .at (subject s)) q (subst T (used-is t (subject s)) (live-of t (subject s) lives .1))
+      step-full = full (eqb (x .live) 0) _ (t .at (subject s)) q (subst T (used-is t (subject s)) (live-of t (subject s) low-row-live .1))
 
       pub step-is : t .at (subject s) ≡ some (entry running (label (x .level)))
       step-is = step-full .0
@@ -86,7 +94,7 @@ module _ (t : Tables) (c : Call) (e : refusal t c ≡ none) where
       pub cell-is : t .at (cell t s) ≡ some (entry running (label (x .level)))
       cell-is = ap (t .at) (cell-self t s) ∙ step-is
 
-      own : label-of (t .at (cell t s)) ≡ label (x .level)
+      pub own : label-of (t .at (cell t s)) ≡ label (x .level)
       own = ap label-of cell-is
 
       -- a subject with another level
@@ -485,7 +493,7 @@ falls-in t c s i x z kz l e q u a g p w h = subst (λ (v : Option Entry). Does t
     n = fallen-by x l .level
 
     ranged : T (in-range (cell t s))
-    ranged = subst (λ (y : Thing). T (in-range y)) (sym (cell-self t s)) (live-of t (subject s) (lives t c e s i) .0)
+    ranged = subst (λ (y : Thing). T (in-range y)) (sym (cell-self t s)) (live-of t (subject s) (low-row-live t c e s i) .0)
 
     level-by : (b : Bool) → cond b l (x .level) ≡ cond b (record { live = x .live; level = l }) x .level
     level-by true = refl

@@ -25,3 +25,6 @@ objects-long m g = search (needs, unmapped)
 
 pub handles-long : (m : Monitor) → Owned m → length (m .handles) ≡ 512
 handles-long m g = search (needs, unmapped)
+
+pub needs-long : (m : Monitor) → Owned m → length (m .needs) ≡ 96
+needs-long m g = search needs

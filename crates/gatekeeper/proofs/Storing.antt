@@ -1,47 +1,54 @@
 -- What stands in a monitor's arrays at the numbers that a call names, and each call's stores as the rules' effect: one law a call. Assumes nothing.
-use mathlib.Core.Path.{_≡_, refl, sym, _∙_, ap, ap₂, subst, subst₂, fun-ext}
+use mathlib.Core.Path.{_≡_, refl, sym, _∙_, ap, ap₂, subst, subst₂}
 use mathlib.Core.Bool.{Bool, true, false, not, _||_, cond}
 use mathlib.Core.Logic.{inl, inr}
 use mathlib.Core.Option.{Option, none, some, Option·none-ne-some, Option·some-injective}
 use mathlib.Core.List.{List}
 use Prim.Native.Nat.{ℕ, _+_, _*_, _%_, _≤_, _<_}
 use native.Mathlib.Omega.{arith}
-use borrow.Author.Tests.{lt-ltb, ltb-true, ltb-false}
-use lib.ListN.{getD, set, length-set, replicate, getD-replicate}
-use lib.Dec.{T, eqb, ltb, ltb→lt}
+use borrow.Author.Tests.{lt-ltb, ltb-false}
+use lib.ListN.{getD, set, length-set}
+use lib.Dec.{T, eqb, ltb, ltb→lt, lt→ltb}
 use Rattle.model.specs.Bools.{is-false}
 use Rattle.model.specs.Lists.{In}
-use Rattle.model.specs.Label.{Label, leq, label}
-use Rattle.model.specs.Flow.{Thing, subject, object}
+use Rattle.model.specs.Label.{Label, leq, label, bot}
+use Rattle.model.specs.Label.Laws.{label-zero}
+use Rattle.model.specs.Flow.{subject, object}
+use Rattle.model.specs.Flow.Changes.{but}
 use Rattle.model.specs.Tables.{pipe, reading, writing, entry, handle, mapping, Tables, empty, with-at, with-hand, live, label-of, cell, handles, open-on, needs, safe}
 use Rattle.model.specs.Tables.{Handle as Held}
 use Rattle.model.specs.Tables.Laws.{live-of, cell-self, handles-by}
-use Rattle.model.specs.Steps.{put, row, place, applies, reap}
+use Rattle.model.specs.Steps.{hold, holds, put, row, place, apply, applies, reap}
 use Rattle.model.specs.Invariant.{Wf}
 use Rattle.model.specs.Invariant.Laws.{less-wf, wf-hold}
-use Rattle.model.specs.Calls.{Call, admit, register, create, make-pipe, opens, access, fork, exec, close, exit, retire, maps, mark, freeze, connect, rereads, marking, lasting, sheds, channel, Test, number, known, alive, present, no-pipe, leveled, freezable, new, vacant, taken, apart, unlike, others, facing, enough, suits, idle, thawed, broken, tests, order, earlier, In-order, breaks, refusal, allowed, lowers, outcome}
+use Rattle.model.specs.Calls.{Call, admit, register, create, make-pipe, opens, access, fork, exec, close, exit, retire, maps, mark, freeze, connect, rereads, marking, lasting, sheds, channel, steps, effect, Test, number, known, alive, present, no-pipe, leveled, freezable, new, vacant, taken, apart, unlike, others, facing, enough, suits, idle, thawed, broken, tests, order, earlier, In-order, breaks, refusal, allowed, lowers, outcome}
 use Rattle.model.specs.Calls.{Answer as Told}
 use Rattle.model.specs.Calls.Refusals.{refused-by}
 use Rattle.model.specs.Calls.Passed.{is-alive, is-present, is-new, is-place, sheds-less}
 use Rattle.model.specs.Calls.Dangling.{connect-wf}
+use Rattle.model.specs.Figures.{Ready}
+use Rattle.model.specs.Figures.Laws.{access-ready, mark-ready, freeze-ready, retire-ready, admit-ready, register-ready, create-ready, pipe-ready, fork-ready, effect-ready, anew-ready, map-ready, exec-ready, exit-ready}
 use Rattle.tables.specs.declared.Subject.{Subject}
 use Rattle.tables.specs.declared.Object.{Object}
 use Rattle.tables.specs.declared.Handle.{Handle}
-use Rattle.tables.specs.Records.{subject-entry, object-entry, joins, held, no-subject, no-object, no-handle, hands, along, tables-of}
+use Rattle.tables.specs.Records.{subject-entry, object-entry, joins, held, no-subject, no-object, no-handle, hands, tables-of}
 use Rattle.tables.specs.Records.Laws.{subject-there, object-there, handle-there, store-subject, store-object, store-handle, store-close}
+use Rattle.tables.specs.Needs.{figure-of, Needed}
+use Rattle.tables.specs.Needs.Laws.{set-ready}
 use Rattle.tables.specs.Refusing.{Refuses, Late, direction}
 use Rattle.tables.proofs.Finding.{alone}
-use Rattle.tables.specs.Working.{subject-at, object-at, handle-at, fallen-by, sunken-by, Outlives}
+use Rattle.flows.proofs.Short.{below-test}
+use Rattle.tables.specs.Working.{subject-at, object-at, handle-at, joining, fallen-by, sunken-by, Outlives}
 use Rattle.gatekeeper.specs.declared.Monitor.{Monitor}
 use Rattle.gatekeeper.specs.View.{beside, view}
 use Rattle.gatekeeper.specs.Acting.{Acts, way-by}
-use Rattle.gatekeeper.proofs.Owned.{Owned, subjects-long, objects-long, handles-long}
-use Rattle.gatekeeper.proofs.Doing.{Does, passed, row-low, live-low, new-row, new-column, place-low, found, found-place, found-to, found-live, full-subject, full-object, admit-does, register-does, create-does, pipe-does, open-does, read-does, write-does, fork-does, exec-does, map-does, connect-does, close-does, exit-does, retire-does, mark-does, freeze-does}
+use Rattle.gatekeeper.proofs.Owned.{Owned, subjects-long, objects-long, handles-long, needs-long}
+use Rattle.gatekeeper.proofs.Doing.{Does, passed, row-low, live-low, new-row, new-column, place-low, found, found-place, found-to, found-live, full-subject, full-object, full-held, own, low-row-live, admit-does, register-does, create-does, pipe-does, open-does, read-does, write-does, fork-does, exec-does, map-does, connect-does, close-does, exit-does, retire-does, mark-does, freeze-does}
 use Rattle.gatekeeper.proofs.Acting.{acts}
 
--- the monitor with these arrays, and what else m has
-abbrev pub monitor : Monitor → List Subject → List Object → List Handle → Monitor
-monitor m ss os hs = record { subjects = ss; objects = os; handles = hs; freeze = m .freeze }
+-- the monitor with these arrays, and the freeze of m
+abbrev pub monitor : Monitor → List Subject → List Object → List Handle → List ℕ → Monitor
+monitor m ss os hs ns = record { subjects = ss; objects = os; handles = hs; freeze = m .freeze; needs = ns }
 
 -- a level that a call may name is a byte
 leveled-low : (t : Tables) (c : Call) (l : ℕ) → refusal t c ≡ none → In (leveled l) (tests c) → l % 256 ≡ l
@@ -111,17 +118,21 @@ joined-same h s p q from to ls lp lq lf lt =
     let e : to % 64 ≡ to = omega arith in
     rw (a, b, c, d, e)
 
--- the handles with one row of places changed; the objects that are left when pipes end; the flow test of whole arrays
-abbrev Rowed : List Handle → ℕ → List Handle → List Handle → Type 0
+-- the handles with one row of places changed; the objects that are left when pipes end; needs from whole arrays, and the flow test by them
+abbrev Rowed : List Handle → ℕ → (ℕ → Option Held) → List Handle → Type 0
 Rowed hs s places after = (rest : Tables) (ss : List Subject) (os : List Object)
-    → tables-of rest ss os after ≡ with-hand (tables-of rest ss os hs) (row (hands hs) s (along places))
+    → tables-of rest ss os after ≡ with-hand (tables-of rest ss os hs) (row (hands hs) s places)
 
 abbrev Reaps : List Object → List Handle → List Handle → List Object → Type 0
 Reaps os before after left = (rest : Tables) (ss : List Subject) (t : Tables) → handles t ≡ handles (with-hand empty (hands before))
     → tables-of rest ss left after ≡ reap (handles t) (tables-of rest ss os after)
 
-abbrev Shorts : List Subject → List Object → List Handle → Bool → Type 0
-Shorts ss os hs r = (rest : Tables) → Wf (tables-of rest ss os hs) → r ≡ not (safe (tables-of rest ss os hs))
+abbrev Works : List Object → List Handle → List ℕ → Type 0
+Works os hs ns = (rest : Tables) (ss : List Subject) → Wf (tables-of rest ss os hs) → Needed (tables-of rest ss os hs) ns
+
+abbrev Shorts : List Subject → List Object → List ℕ → Bool → Type 0
+Shorts ss os ns r = (rest : Tables) (hs : List Handle) → Wf (tables-of rest ss os hs) → Needed (tables-of rest ss os hs) ns
+    → r ≡ not (safe (tables-of rest ss os hs))
 
 module _ (m : Monitor) (g : Owned m) where
   -- ── what stands at a number ──
@@ -134,66 +145,100 @@ module _ (m : Monitor) (g : Owned m) where
   pub handle-got : (s p : ℕ) (h : Handle) → h ≡ handle-at s p (getD (m .handles) (s % 32 * 16 + p % 16) no-handle) → view m .hand s p ≡ held h
   handle-got s p h q = handle-there (beside m) (m .subjects) (m .objects) (m .handles) s p (handles-long m g) ∙ ap held (sym q)
 
-  -- the object of a live number, without a look at its range
-  pub object-live : (o : ℕ) → o < 64 → view m .at (object o) ≡ object-entry (getD (m .objects) (o % 64) no-object)
-  object-live o l = object-there (beside m) (m .subjects) (m .objects) (m .handles) o (objects-long m g)
-      ∙ ap (λ (b : Bool). object-entry (cond b (getD (m .objects) (o % 64) no-object) no-object)) (lt-ltb o 64 l)
+  -- the record of a live object is that at its number
+  object-low : (o : ℕ) → o < 64 → object-at o (getD (m .objects) (o % 64) no-object) ≡ getD (m .objects) (o % 64) no-object
+  object-low o l = ap (λ (b : Bool). cond b (getD (m .objects) (o % 64) no-object) no-object) (lt-ltb o 64 l)
 
   -- ── stores ──
-  pub put-subject : (s : ℕ) (v : Subject) → s < 32 → view (monitor m (set (m .subjects) (s % 32) v) (m .objects) (m .handles)) ≡ with-at (view m)
+  pub put-subject : (s : ℕ) (v : Subject) (ns : List ℕ) → s < 32 → view (monitor m (set (m .subjects) (s % 32) v) (m .objects) (m .handles) ns) ≡ with-at (view m)
       (put (view m .at) (subject s) (subject-entry v))
-  put-subject s v l = store-subject (beside m) (m .subjects) (m .objects) (m .handles) s v (subjects-long m g) l
+  put-subject s v ns l = store-subject (beside m) (m .subjects) (m .objects) (m .handles) s v (subjects-long m g) l
 
-  pub put-object : (o : ℕ) (v : Object) → o < 64 → view (monitor m (m .subjects) (set (m .objects) (o % 64) v) (m .handles)) ≡ with-at (view m)
+  pub put-object : (o : ℕ) (v : Object) (ns : List ℕ) → o < 64 → view (monitor m (m .subjects) (set (m .objects) (o % 64) v) (m .handles) ns) ≡ with-at (view m)
       (put (view m .at) (object o) (object-entry v))
-  put-object o v l = store-object (beside m) (m .subjects) (m .objects) (m .handles) o v (objects-long m g) l
+  put-object o v ns l = store-object (beside m) (m .subjects) (m .objects) (m .handles) o v (objects-long m g) l
+
+  -- one figure
+  kept-subject : (s v : ℕ) (a : Label) (t : Tables) → s < 32 → label v ≡ a → Ready t (but (figure-of (m .needs)) (subject s) a)
+      → Ready t (figure-of (set (m .needs) (s % 32) v))
+  kept-subject s v a t l q k = let e : s ≡ s % 32 = omega arith in
+      subst (λ (i : ℕ). Ready t (figure-of (set (m .needs) i v))) e (set-ready (m .needs) (subject s) v (needs-long m g) (lt→ltb s 32 l) t a q k)
+
+  kept-object : (o v : ℕ) (a : Label) (t : Tables) → o < 64 → label v ≡ a → Ready t (but (figure-of (m .needs)) (object o) a)
+      → Ready t (figure-of (set (m .needs) (32 + o % 64) v))
+  kept-object o v a t l q k = let e : o ≡ o % 64 = omega arith in
+      subst (λ (i : ℕ). Ready t (figure-of (set (m .needs) (32 + i) v))) e (set-ready (m .needs) (object o) v (needs-long m g) (lt→ltb o 64 l) t a q k)
+
+  -- that of a subject in range
+  own-figure : (s : ℕ) → s < 32 → label (getD (m .needs) (s % 32) 0) ≡ figure-of (m .needs) (subject s)
+  own-figure s l = let e : s % 32 ≡ s = omega arith in ap (λ (i : ℕ). label (getD (m .needs) i 0)) e
+
+  -- figures that were worked out for the tables that the steps make
+  worked : (c : Call) (ss : List Subject) (os : List Object) (hs : List Handle) (ns : List ℕ) → tables-of (beside m) ss os hs ≡ applies (steps (view m) c) (view m)
+      → Wf (tables-of (beside m) ss os hs) → Works os hs ns → Ready (effect (view m) c) (figure-of ns)
+  worked c ss os hs ns q w f = anew-ready (view m) c (figure-of ns)
+      (λ x h. f (beside m) ss w .need-is x h ∙ ap (λ (t : Tables). needs t x) q)
 
   -- ── admit, register, create ──
-  pub admits : (s l : ℕ) → refusal (view m) (admit s l) ≡ none → Acts m (admit s l) (allowed (l % 256))
-      (monitor m (set (m .subjects) (s % 32) (record { live = 1; level = l % 256 })) (m .objects) (m .handles))
-  admits s l e = rw (leveled-low (view m) (admit s l) l e (inr (inl refl))) (acts m (admit s l) (allowed l) _ _ (admit-does (view m) s l e)
-      (put-subject s (record { live = 1; level = l }) (new-row (view m) (admit s l) e s (inl refl))))
+  pub admits : (s l : ℕ) (ss : List Subject) (ns : List ℕ) → Wf (view m) → refusal (view m) (admit s l) ≡ none
+      → ss ≡ set (m .subjects) (s % 32) (record { live = 1; level = l % 256 }) → ns ≡ set (m .needs) (s % 32) 0
+      → Acts m (admit s l) (allowed (l % 256)) (monitor m ss (m .objects) (m .handles) ns)
+  admits s l ss ns w e p q = rw (p, q, leveled-low (view m) (admit s l) l e (inr (inl refl)))
+      (acts m (admit s l) (allowed l) _ _ (admit-does (view m) s l e) (put-subject s (record { live = 1; level = l }) (set (m .needs) (s % 32) 0) low)
+      (λ k. kept-subject s 0 bot _ low label-zero (admit-ready (view m) (figure-of (m .needs)) w k s l e)))
+    where
+      low : s < 32
+      low = new-row (view m) (admit s l) e s (inl refl)
 
-  pub registers : (o l : ℕ) → refusal (view m) (register o l) ≡ none → Acts m (register o l) (allowed (l % 256))
-      (monitor m (m .subjects) (set (m .objects) (o % 64) (record { kind = 1; level = l % 256 })) (m .handles))
-  registers o l e = rw (leveled-low (view m) (register o l) l e (inr (inl refl))) (acts m (register o l) (allowed l) _ _ (register-does (view m) o l e)
-      (put-object o (record { kind = 1; level = l }) (new-column (view m) (register o l) e o (inl refl))))
+  pub registers : (o l : ℕ) (os : List Object) (ns : List ℕ) → Wf (view m) → refusal (view m) (register o l) ≡ none
+      → os ≡ set (m .objects) (o % 64) (record { kind = 1; level = l % 256 }) → ns ≡ set (m .needs) (32 + o % 64) (l % 256)
+      → Acts m (register o l) (allowed (l % 256)) (monitor m (m .subjects) os (m .handles) ns)
+  registers o l os ns w e p q = rw (p, q, leveled-low (view m) (register o l) l e (inr (inl refl)))
+      (acts m (register o l) (allowed l) _ _ (register-does (view m) o l e) (put-object o (record { kind = 1; level = l }) (set (m .needs) (32 + o % 64) l) low)
+      (λ k. kept-object o l (label l) _ low refl (register-ready (view m) (figure-of (m .needs)) w k o l e)))
+    where
+      low : o < 64
+      low = new-column (view m) (register o l) e o (inl refl)
 
-  pub creates : (s o : ℕ) (x : Subject) → refusal (view m) (create s o) ≡ none → view m .at (subject s) ≡ subject-entry x
-      → Acts m (create s o) (allowed (x .level)) (monitor m (m .subjects) (set (m .objects) (o % 64) (record { kind = 1; level = x .level })) (m .handles))
-  creates s o x e q = acts m (create s o) (allowed (x .level)) _ _ (create-does (view m) s o x e q)
-      (put-object o (record { kind = 1; level = x .level }) (new-column (view m) (create s o) e o (inr (inl refl))))
+  pub creates : (s o : ℕ) (x : Subject) (os : List Object) (ns : List ℕ) → Wf (view m) → refusal (view m) (create s o) ≡ none
+      → view m .at (subject s) ≡ subject-entry x → os ≡ set (m .objects) (o % 64) (record { kind = 1; level = x .level })
+      → ns ≡ set (m .needs) (32 + o % 64) (x .level) → Acts m (create s o) (allowed (x .level)) (monitor m (m .subjects) os (m .handles) ns)
+  creates s o x os ns w e q p r = rw (p, r) (acts m (create s o) (allowed (x .level)) _ _ (create-does (view m) s o x e q)
+      (put-object o (record { kind = 1; level = x .level }) (set (m .needs) (32 + o % 64) (x .level)) low)
+      (λ k. kept-object o (x .level) _ _ low (sym (own (view m) (create s o) e s (inl refl) x q)) (create-ready (view m) (figure-of (m .needs)) w k s o e)))
+    where
+      low : o < 64
+      low = new-column (view m) (create s o) e o (inr (inl refl))
 
   -- ── read, write ──
-  pub reads : (s p : ℕ) (x v : Subject) (h : Handle) (a : Told) → Wf (view m) → refusal (view m) (access reading s p) ≡ none
-      → view m .at (subject s) ≡ subject-entry x → view m .hand s p ≡ held h → v ≡ fallen-by x (getD (m .objects) (h .object % 64) no-object .level)
-      → a ≡ outcome (ltb (v .level) (x .level)) (v .level) → Acts m (access reading s p) a (monitor m (set (m .subjects) (s % 32) v) (m .objects) (m .handles))
-  reads s p x v h a w e q r f k = acts m (access reading s p) a _ _ (subst₂ (λ (b : Told) (z : Subject). Does (view m) (access reading s p) b
+  pub reads : (s p : ℕ) (x v : Subject) (h : Handle) (y : Object) (ss : List Subject) (a : Told) → Wf (view m) → refusal (view m) (access reading s p) ≡ none
+      → view m .at (subject s) ≡ subject-entry x → view m .hand s p ≡ held h → view m .at (object (h .object)) ≡ object-entry y → v ≡ fallen-by x (y .level)
+      → ss ≡ set (m .subjects) (s % 32) v → a ≡ outcome (ltb (v .level) (x .level)) (v .level)
+      → Acts m (access reading s p) a (monitor m ss (m .objects) (m .handles) (m .needs))
+  reads s p x v h y ss a w e q r o f n k = rw n (acts m (access reading s p) a _ _ (subst₂ (λ (b : Told) (z : Subject). Does (view m) (access reading s p) b
       (with-at (view m) (put (view m .at) (subject s) (subject-entry z)))) (sym (k ∙ ap (λ (z : Subject). outcome (ltb (z .level) (x .level)) (z .level)) f))
-      (sym f)
-      (read-does (view m) w s p x h (getD (m .objects) (h .object % 64) no-object) e q r (object-live (h .object)
-      (live-low (view m) (access reading s p) e (h .object) (found-live (view m) w (access reading s p) s p h e (inr (inl refl)) r)))))
-      (put-subject s v (row-low (view m) (access reading s p) e s (inl refl)))
+      (sym f) (read-does (view m) w s p x h y e q r o))
+      (put-subject s v (m .needs) (row-low (view m) (access reading s p) e s (inl refl)))
+      (λ k. access-ready (view m) (figure-of (m .needs)) w k reading s p))
 
   -- the subjects once those who have the object mapped have read it, and whether one of them has a smaller level then
-  pub writes : (s p : ℕ) (x : Subject) (h : Handle) (v : Object) (after : List Subject) (b : Bool) (a : Told) → Wf (view m)
-      → refusal (view m) (access writing s p) ≡ none
-      → view m .at (subject s) ≡ subject-entry x → view m .hand s p ≡ held h → v ≡ sunken-by (getD (m .objects) (h .object % 64) no-object) (x .level)
-      → ((rest : Tables) (os : List Object) → getD os (h .object) no-object ≡ getD (m .objects) (h .object % 64) no-object
+  pub writes : (s p : ℕ) (x : Subject) (h : Handle) (y v : Object) (after : List Subject) (os : List Object) (b : Bool) (a : Told) → Wf (view m)
+      → refusal (view m) (access writing s p) ≡ none → view m .at (subject s) ≡ subject-entry x → view m .hand s p ≡ held h
+      → y ≡ object-at (h .object) (getD (m .objects) (h .object % 64) no-object) → v ≡ sunken-by y (x .level)
+      → ((rest : Tables) (os : List Object) → getD os (h .object) no-object ≡ y
       → tables-of rest after os (m .handles) ≡ applies (rereads (tables-of rest (m .subjects) os (m .handles)) (object (h .object)))
       (tables-of rest (m .subjects) os (m .handles)))
       → ((rest : Tables) (os : List Object) (hs : List Handle) → lowers (tables-of rest (m .subjects) os hs) (tables-of rest after os hs) ≡ b)
-      → a ≡ outcome (ltb (v .level) (getD (m .objects) (h .object % 64) no-object .level) || b) (v .level)
-      → Acts m (access writing s p) a (monitor m after (set (m .objects) (h .object % 64) v) (m .handles))
-  writes s p x h v after b a w e q r f n l k = acts m (access writing s p) a _ _ (subst₂ (λ (c : Told) (z : Object). Does (view m) (access writing s p) c
+      → os ≡ set (m .objects) (h .object % 64) v → a ≡ outcome (ltb (v .level) (y .level) || b) (v .level)
+      → Acts m (access writing s p) a (monitor m after os (m .handles) (m .needs))
+  writes s p x h y v after os b a w e q r o f n l c k = rw c (acts m (access writing s p) a _ _ (subst₂ (λ (c : Told) (z : Object). Does (view m) (access writing s p) c
       (with-at u (put (u .at) (object (h .object)) (object-entry z)))) (sym (k ∙ ap (λ (z : Object). outcome (ltb (z .level) (y .level) || b) (z .level)) f))
       (sym f)
-      (write-does (view m) w s p x h y u b e q r (object-live (h .object) low) (n (beside m) (m .objects) (ap (λ (i : ℕ). getD (m .objects) i no-object) same))
+      (write-does (view m) w s p x h y u b e q r (object-got (h .object) y o)
+      (n (beside m) (m .objects) (ap (λ (i : ℕ). getD (m .objects) i no-object) same ∙ sym (o ∙ object-low (h .object) low)))
       (l (beside m) (m .objects) (m .handles)))) (store-object (beside m) after (m .objects) (m .handles) (h .object) v (objects-long m g) low)
+      (λ k. access-ready (view m) (figure-of (m .needs)) w k writing s p))
     where
-      y : Object
-      y = getD (m .objects) (h .object % 64) no-object
-
       u : Tables
       u = tables-of (beside m) after (m .objects) (m .handles)
 
@@ -204,28 +249,36 @@ module _ (m : Monitor) (g : Owned m) where
       same = omega (arith, low)
 
   -- ── pipe ──
-  pub pipes : (s o r w : ℕ) (x : Subject) (next : List Handle) → refusal (view m) (make-pipe s o r w) ≡ none → view m .at (subject s) ≡ subject-entry x
-      → Joins (m .handles) (s % 32) (r % 16) (w % 16) (o % 64) (o % 64) next
-      → Acts m (make-pipe s o r w) (allowed (x .level)) (monitor m (m .subjects) (set (m .objects) (o % 64) (record { kind = 2; level = x .level })) next)
+  pub pipes : (s o r w : ℕ) (x : Subject) (os : List Object) (next : List Handle) (v : ℕ) (ns : List ℕ) → Wf (view m)
+      → refusal (view m) (make-pipe s o r w) ≡ none → view m .at (subject s) ≡ subject-entry x
+      → os ≡ set (m .objects) (o % 64) (record { kind = 2; level = x .level }) → Joins (m .handles) (s % 32) (r % 16) (w % 16) (o % 64) (o % 64) next
+      → v ≡ getD (m .needs) (s % 32) 0 → ns ≡ set (m .needs) (32 + o % 64) v
+      → Acts m (make-pipe s o r w) (allowed (x .level)) (monitor m (m .subjects) os next ns)
   unfolding tables-of
-  pipes s o r w x next e q f = acts m (make-pipe s o r w) (allowed (x .level)) _ _ (pipe-does (view m) s o r w x e q)
+  pipes s o r w x os next v ns wf e q p f d n = rw (p, n) (acts m (make-pipe s o r w) (allowed (x .level)) _ _ (pipe-does (view m) s o r w x e q)
       (f (beside m) (m .subjects) (set (m .objects) (o % 64) y)
-      ∙ ap (λ (u : Tables). with-hand u (joined (hands (m .handles)) (s % 32) (r % 16) (w % 16) (o % 64) (o % 64))) (put-object o y low)
+      ∙ ap (λ (u : Tables). with-hand u (joined (hands (m .handles)) (s % 32) (r % 16) (w % 16) (o % 64) (o % 64))) (put-object o y (m .needs) low)
       ∙ ap (λ (h : ℕ → ℕ → Option Held). with-hand (with-at (view m) (put (view m .at) (object o) (some (entry pipe (label (x .level)))))) h)
-      (joined-same (hands (m .handles)) s r w o o (row-low (view m) (make-pipe s o r w) e s (inl refl))
+      (joined-same (hands (m .handles)) s r w o o low-s
       (place-low (view m) (make-pipe s o r w) e s r (inr (inr (inl refl))))
       (place-low (view m) (make-pipe s o r w) e s w (inr (inr (inr (inl refl))))) low low))
+      (λ k. kept-object o v _ _ low (ap label d ∙ own-figure s low-s) (pipe-ready (view m) (figure-of (m .needs)) wf k s o r w e)))
     where
       low : o < 64
       low = new-column (view m) (make-pipe s o r w) e o (inr (inl refl))
+
+      low-s : s < 32
+      low-s = row-low (view m) (make-pipe s o r w) e s (inl refl)
 
       y : Object
       y = record { kind = 2; level = x .level }
 
   -- ── connect ──
-  module _ (s u a b p q : ℕ) (x z : Subject) (one next : List Handle) (w : Wf (view m)) (k : Refuses (view m) (connect s u a b p q) 0)
+  module _ (s u a b p q : ℕ) (x z : Subject) (os₁ os : List Object) (one next : List Handle) (ns : List ℕ) (w : Wf (view m)) (k : Refuses (view m) (connect s u a b p q) 0)
       (i : view m .at (subject s) ≡ subject-entry x) (j : view m .at (subject u) ≡ subject-entry z)
-      (f : Joins (m .handles) (s % 32) (p % 16) (q % 16) (b % 64) (a % 64) one) (g′ : Joins one (u % 32) (p % 16) (q % 16) (a % 64) (b % 64) next) where
+      (f : Joins (m .handles) (s % 32) (p % 16) (q % 16) (b % 64) (a % 64) one) (g′ : Joins one (u % 32) (p % 16) (q % 16) (a % 64) (b % 64) next)
+      (is-one : os₁ ≡ set (m .objects) (a % 64) (record { kind = 2; level = x .level }))
+      (is-both : os ≡ set os₁ (b % 64) (record { kind = 2; level = z .level })) (h : Works os next ns) where
     passes : In-order (view m) (connect s u a b p q) 9
     passes = early-passed (view m) (connect s u a b p q) k
 
@@ -250,6 +303,9 @@ module _ (m : Monitor) (g : Owned m) where
     abbrev both-pipes : List Object
     both-pipes = set (set (m .objects) (a % 64) (pipe-of (x .level))) (b % 64) (pipe-of (z .level))
 
+    os-is : os ≡ both-pipes
+    os-is = is-both ∙ ap (λ (l : List Object). set l (b % 64) (pipe-of (z .level))) is-one
+
     -- both pipes and all four handles
     connected : tables-of (beside m) (m .subjects) both-pipes next ≡ with-hand
         (with-at (view m) (put (put (view m .at) (object a) (some (entry pipe (label (x .level))))) (object b) (some (entry pipe (label (z .level))))))
@@ -261,7 +317,7 @@ module _ (m : Monitor) (g : Owned m) where
         (a % 64) (b % 64)))
         (store-object (beside m) (m .subjects) (set (m .objects) (a % 64) (pipe-of (x .level))) (m .handles) b (pipe-of (z .level))
         (simp length-set (objects-long m g)) low-b
-        ∙ ap (λ (v : Tables). with-at v (put (v .at) (object b) (some (entry pipe (label (z .level)))))) (put-object a (pipe-of (x .level)) low-a))
+        ∙ ap (λ (v : Tables). with-at v (put (v .at) (object b) (some (entry pipe (label (z .level)))))) (put-object a (pipe-of (x .level)) (m .needs) low-a))
         ∙ ap (λ (h : ℕ → ℕ → Option Held). with-hand
         (with-at (view m) (put (put (view m .at) (object a) (some (entry pipe (label (x .level))))) (object b) (some (entry pipe (label (z .level)))))) h)
         (ap (λ (h : ℕ → ℕ → Option Held). joined h (u % 32) (p % 16) (q % 16) (a % 64) (b % 64))
@@ -279,39 +335,71 @@ module _ (m : Monitor) (g : Owned m) where
             → label-of (view m .at (cell (view m) v)) ≡ label (y .level)
         own-label v y d e = ap label-of (ap (view m .at) (cell-self (view m) v) ∙ full-subject (view m) v y e (is-alive (view m) v (passes (alive v) d tt)))
 
-    pub connect-late : (r : Bool) → Shorts (m .subjects) both-pipes next r → Late (view m) (connect s u a b p q) r false false
-    connect-late r h = record { nine = alone tested; ten = refl; fifteen = refl }
+    flows-now : tables-of (beside m) (m .subjects) os next ≡ applies (channel (view m) s u a b p q) (view m)
+    flows-now = ap (λ (l : List Object). tables-of (beside m) (m .subjects) l next) os-is ∙ stepped
+
+    wf-now : Wf (tables-of (beside m) (m .subjects) os next)
+    wf-now = subst Wf (sym flows-now) (connect-wf (view m) w s u a b p q passes)
+
+    pub connect-late : (r : Bool) → Shorts (m .subjects) os ns r → Late (view m) (connect s u a b p q) r false false
+    connect-late r f = record { nine = alone tested; ten = refl; fifteen = refl }
       where
         tested : broken (view m) (enough (connect s u a b p q)) ≡ r
-        tested = sym (h (beside m) (subst Wf (sym stepped) (connect-wf (view m) w s u a b p q passes))
-            ∙ ap (λ (v : Tables). not (safe v)) stepped)
+        tested = sym (f (beside m) next wf-now (h (beside m) (m .subjects) wf-now) ∙ ap (λ (v : Tables). not (safe v)) flows-now)
 
-    pub connects : refusal (view m) (connect s u a b p q) ≡ none → Acts m (connect s u a b p q) (allowed (x .level)) (monitor m (m .subjects) both-pipes next)
-    connects e = acts m (connect s u a b p q) (allowed (x .level)) _ _ (connect-does (view m) s u a b p q x z e i j) connected
+    pub connects : refusal (view m) (connect s u a b p q) ≡ none → Acts m (connect s u a b p q) (allowed (x .level)) (monitor m (m .subjects) os next ns)
+    connects e = acts m (connect s u a b p q) (allowed (x .level)) _ _ (connect-does (view m) s u a b p q x z e i j)
+        (ap (λ (l : List Object). tables-of (beside m) (m .subjects) l next) os-is ∙ connected)
+        (λ k. worked (connect s u a b p q) (m .subjects) os next ns flows-now wf-now h)
 
   -- ── close, exit, fork ──
-  pub closes : (s p : ℕ) (x : Subject) (h : Handle) (r : Object) → Wf (view m) → refusal (view m) (close s p) ≡ none → view m .at (subject s) ≡ subject-entry x
-      → view m .hand s p ≡ held h
-      → Outlives (set (m .handles) (s % 32 * 16 + p % 16) no-handle) (getD (m .objects) (h .object % 64) no-object) (h .object) r
-      → Acts m (close s p) (allowed (x .level))
-      (monitor m (m .subjects) (set (m .objects) (h .object % 64) r) (set (m .handles) (s % 32 * 16 + p % 16) no-handle))
-  closes s p x h r w e q z d = acts m (close s p) (allowed (x .level)) _ _ (close-does (view m) s p x e q)
-      (store-close (beside m) (m .subjects) (m .objects) (m .handles) s p (h .object) (k .0) no-handle r (objects-long m g) (handles-long m g)
-      (row-low (view m) (close s p) e s (inl refl)) (found-place (view m) w (close s p) s p h e (inr (inl refl)) z)
-      (live-low (view m) (close s p) e (h .object) (found-live (view m) w (close s p) s p h e (inr (inl refl)) z)) (k .1)
-      (found-to (view m) w (close s p) s p h e (inr (inl refl)) z) d)
+  pub closes : (s p : ℕ) (x : Subject) (h : Handle) (y r : Object) (os : List Object) (hs : List Handle) (ns : List ℕ) → Wf (view m)
+      → refusal (view m) (close s p) ≡ none → view m .at (subject s) ≡ subject-entry x → view m .hand s p ≡ held h
+      → y ≡ object-at (h .object) (getD (m .objects) (h .object % 64) no-object)
+      → hs ≡ set (m .handles) (s % 32 * 16 + p % 16) no-handle → Outlives hs y (h .object) r → os ≡ set (m .objects) (h .object % 64) r
+      → ((rest : Tables) (ss : List Subject) (t : Tables) (p : ℕ) → Wf t → t .hand s p ≡ some (joins h) → tables-of rest ss (m .objects) hs ≡ apply (hold s p none) t
+      → Ready t (figure-of (m .needs)) → Ready (tables-of rest ss (m .objects) hs) (figure-of ns))
+      → Acts m (close s p) (allowed (x .level)) (monitor m (m .subjects) os hs ns)
+  closes s p x h y r os hs ns w e q z o n d v f = acts m (close s p) (allowed (x .level)) _ _ (close-does (view m) s p x e q)
+      (ap₂ (λ (a : List Object) (b : List Handle). tables-of (beside m) (m .subjects) a b) v n
+      ∙ store-close (beside m) (m .subjects) (m .objects) (m .handles) s p (h .object) (k .0) no-handle r (objects-long m g) (handles-long m g) low-s low-p low
+      (k .1) to (subst₂ (λ (l : List Handle) (a : Object). Outlives l a (h .object) r) n (o ∙ object-low (h .object) low) d))
+      (λ c. effect-ready (view m) (close s p) (figure-of ns) (subst (λ (t : Tables). Ready t (figure-of ns)) shut (f (beside m) (m .subjects) (view m) p w taken-at shut c)))
     where
       k : (k : Held) × (view m .hand s p ≡ some k)
       k = found (view m) w (close s p) s p h e (inr (inl refl)) z
 
-  pub exits : (s : ℕ) (x : Subject) (places : List Handle) (after : List Handle) (left : List Object) → refusal (view m) (exit s) ≡ none
-      → view m .at (subject s) ≡ subject-entry x → ((p : ℕ) → along places p ≡ none)
-      → Rowed (m .handles) (s % 32) places after → Reaps (m .objects) (m .handles) after left
-      → Acts m (exit s) (allowed (x .level)) (monitor m (set (m .subjects) (s % 32) no-subject) left after)
+      to : h .object ≡ k .0 .to
+      to = found-to (view m) w (close s p) s p h e (inr (inl refl)) z
+
+      low : h .object < 64
+      low = live-low (view m) (close s p) e (h .object) (found-live (view m) w (close s p) s p h e (inr (inl refl)) z)
+
+      low-s : s < 32
+      low-s = row-low (view m) (close s p) e s (inl refl)
+
+      low-p : p < 16
+      low-p = found-place (view m) w (close s p) s p h e (inr (inl refl)) z
+
+      shut : tables-of (beside m) (m .subjects) (m .objects) hs ≡ apply (hold s p none) (view m)
+      shut = ap (tables-of (beside m) (m .subjects) (m .objects)) n
+          ∙ store-handle (beside m) (m .subjects) (m .objects) (m .handles) s p no-handle (handles-long m g) low-s low-p
+
+      taken-at : view m .hand s p ≡ some (joins h)
+      taken-at = z ∙ full-held h (k .0) (sym z ∙ k .1)
+
+  pub exits : (s : ℕ) (x : Subject) (ss : List Subject) (after : List Handle) (left : List Object) (ns : List ℕ) → Wf (view m) → refusal (view m) (exit s) ≡ none
+      → view m .at (subject s) ≡ subject-entry x → ss ≡ set (m .subjects) (s % 32) no-subject
+      → Rowed (m .handles) (s % 32) (λ p. none) after → Reaps (m .objects) (m .handles) after left
+      → ((rest : Tables) (ss : List Subject) (t : Tables) → Wf t → T (live t (subject s)) → tables-of rest ss (m .objects) after ≡ apply (holds s (λ p. none)) t
+      → Ready t (figure-of (m .needs)) → Ready (tables-of rest ss (m .objects) after) (figure-of ns))
+      → Acts m (exit s) (allowed (x .level)) (monitor m ss left after ns)
   unfolding tables-of
-  exits s x places after left e q n a b = acts m (exit s) (allowed (x .level)) _ _ (exit-does (view m) s x e q)
+  exits s x ss after left ns w e q n a b f = rw n (acts m (exit s) (allowed (x .level)) _ _ (exit-does (view m) s x e q)
       (b (beside m) _ (view m) (all-handles m) ∙ ap (reap (handles (view m))) (a (beside m) _ _ ∙ ap₂ (λ (u : Tables) (f : ℕ → ℕ → Option Held). with-hand u f)
-      (put-subject s no-subject low) (ap₂ (λ (i : ℕ) (f : ℕ → Option Held). row (hands (m .handles)) i f) same (fun-ext n))))
+      (put-subject s no-subject (m .needs) low) (ap (λ (i : ℕ). row (hands (m .handles)) i (λ p. none)) same)))
+      (λ k. exit-ready (view m) s (figure-of ns) w (subst (λ (t : Tables). Ready t (figure-of ns)) vacant-now
+      (f (beside m) (m .subjects) (view m) w (low-row-live (view m) (exit s) e s (inl refl)) vacant-now k))))
     where
       low : s < 32
       low = row-low (view m) (exit s) e s (inl refl)
@@ -319,27 +407,34 @@ module _ (m : Monitor) (g : Owned m) where
       same : s % 32 ≡ s
       same = omega (arith, low)
 
-  pub forks : (s c : ℕ) (x : Subject) (places after : List Handle) → Wf (view m) → refusal (view m) (fork s c) ≡ none → view m .at (subject s) ≡ subject-entry x
-      → ((p : ℕ) → along places p ≡ hands (m .handles) (s % 32) p)
-      → Rowed (m .handles) (c % 32) places after
-      → Acts m (fork s c) (allowed (x .level)) (monitor m (set (m .subjects) (c % 32) (record { live = 1; level = x .level })) (m .objects) after)
+      vacant-now : tables-of (beside m) (m .subjects) (m .objects) after ≡ apply (holds s (λ p. none)) (view m)
+      vacant-now = a (beside m) (m .subjects) (m .objects) ∙ ap (λ (i : ℕ). with-hand (view m) (row (hands (m .handles)) i (λ p. none))) same
+
+  pub forks : (s c : ℕ) (x : Subject) (ss : List Subject) (after : List Handle) (v : ℕ) (ns : List ℕ) → Wf (view m) → refusal (view m) (fork s c) ≡ none
+      → view m .at (subject s) ≡ subject-entry x → ss ≡ set (m .subjects) (c % 32) (record { live = 1; level = x .level })
+      → Rowed (m .handles) (c % 32) (hands (m .handles) (s % 32)) after → v ≡ getD (m .needs) (s % 32) 0 → ns ≡ set (m .needs) (c % 32) v
+      → Acts m (fork s c) (allowed (x .level)) (monitor m ss (m .objects) after ns)
   unfolding tables-of
-  forks s c x places after w e q n a = acts m (fork s c) (allowed (x .level)) _ _ (fork-does (view m) s c x w e q)
-      (a (beside m) _ _ ∙ ap₂ (λ (u : Tables) (f : ℕ → ℕ → Option Held). with-hand u f) (put-subject c (record { live = 1; level = x .level }) low)
-      (ap₂ (λ (i : ℕ) (f : ℕ → Option Held). row (hands (m .handles)) i f) same (fun-ext n ∙ ap (hands (m .handles)) same-s)))
+  forks s c x ss after v ns w e q n a d r = rw (n, r) (acts m (fork s c) (allowed (x .level)) _ _ (fork-does (view m) s c x w e q)
+      (a (beside m) _ _ ∙ ap₂ (λ (u : Tables) (f : ℕ → ℕ → Option Held). with-hand u f) (put-subject c (record { live = 1; level = x .level }) (m .needs) low)
+      (ap₂ (λ (i : ℕ) (f : ℕ → Option Held). row (hands (m .handles)) i f) same (ap (hands (m .handles)) same-s)))
+      (λ k. kept-subject c v _ _ low (ap label d ∙ own-figure s low-s) (fork-ready (view m) (figure-of (m .needs)) w k s c e)))
     where
       low : c < 32
       low = new-row (view m) (fork s c) e c (inr (inl refl))
+
+      low-s : s < 32
+      low-s = row-low (view m) (fork s c) e s (inl refl)
 
       same : c % 32 ≡ c
       same = omega (arith, low)
 
       same-s : s % 32 ≡ s
-      same-s = omega (arith, row-low (view m) (fork s c) e s (inl refl))
+      same-s = omega (arith, low-s)
 
   -- ── open ──
-  module _ (b : Bool) (v s o p : ℕ) (x : Object) (y : v ≡ way-by b) (w : Wf (view m)) (z : Refuses (view m) (opens (direction b) s o p) 0)
-      (k : view m .at (object o) ≡ object-entry x) where
+  module _ (b : Bool) (s o p : ℕ) (x : Object) (next : List Handle) (ns : List ℕ) (w : Wf (view m)) (z : Refuses (view m) (opens (direction b) s o p) 0)
+      (k : view m .at (object o) ≡ object-entry x) (y : next ≡ set (m .handles) (s % 32 * 16 + p % 16) (joining (way-by b) o)) (f : Works (m .objects) next ns) where
     lives : T (live (view m) (subject s))
     lives = is-alive (view m) s (early-passed (view m) (opens (direction b) s o p) z (alive s) (inl refl) tt)
 
@@ -359,34 +454,33 @@ module _ (m : Monitor) (g : Owned m) where
     way-held true n = refl
     way-held false n = refl
 
-    abbrev next : List Handle
-    next = set (m .handles) (s % 32 * 16 + p % 16) (record { way = v; object = o % 64; mark = 0 })
-
-    placed : view (monitor m (m .subjects) (m .objects) next) ≡ with-hand (view m) (place (view m .hand) s p (some (handle (direction b) o)))
-    placed = store-handle (beside m) (m .subjects) (m .objects) (m .handles) s p (record { way = v; object = o % 64; mark = 0 }) (handles-long m g) low-s low-p
-        ∙ ap (λ (k : Option Held). with-hand (view m) (place (view m .hand) s p k))
-        (ap (λ (j : ℕ). held (record { way = j; object = o % 64; mark = 0 })) y ∙ way-held b (o % 64) ∙ ap
-        (λ (n : ℕ). some (handle (direction b) n)) same)
+    placed : tables-of (beside m) (m .subjects) (m .objects) next ≡ with-hand (view m) (place (view m .hand) s p (some (handle (direction b) o)))
+    placed = ap (tables-of (beside m) (m .subjects) (m .objects)) y
+        ∙ store-handle (beside m) (m .subjects) (m .objects) (m .handles) s p (joining (way-by b) o) (handles-long m g) low-s low-p
+        ∙ ap (λ (k : Option Held). with-hand (view m) (place (view m .hand) s p k)) (way-held b (o % 64) ∙ ap (λ (n : ℕ). some (handle (direction b) n)) same)
       where
         same : o % 64 ≡ o
         same = omega (arith, low-o)
 
-    -- the flow test of the code is the rules'
-    tested : (r : Bool) → Shorts (m .subjects) (m .objects) next r → broken (view m) (enough (opens (direction b) s o p)) ≡ r
-    tested r f = sym (f (beside m) (subst Wf (sym placed)
-        (wf-hold (view m) s p (handle (direction b) o) w (record { from = lives; to = there; place = low-p })))
-        ∙ ap (λ (u : Tables). not (safe u)) placed)
+    placed-wf : Wf (tables-of (beside m) (m .subjects) (m .objects) next)
+    placed-wf = subst Wf (sym placed) (wf-hold (view m) s p (handle (direction b) o) w (record { from = lives; to = there; place = low-p }))
 
-    pub open-late : (r q : Bool) → Shorts (m .subjects) (m .objects) next r → broken (view m) (thawed (direction b) o) ≡ q
+    -- the flow test of the code is the rules'
+    tested : (r : Bool) → Shorts (m .subjects) (m .objects) ns r → broken (view m) (enough (opens (direction b) s o p)) ≡ r
+    tested r h = sym (h (beside m) next placed-wf (f (beside m) (m .subjects) placed-wf) ∙ ap (λ (u : Tables). not (safe u)) placed)
+
+    pub open-late : (r q : Bool) → Shorts (m .subjects) (m .objects) ns r → broken (view m) (thawed (direction b) o) ≡ q
         → Late (view m) (opens (direction b) s o p) r false q
-    open-late r q f e = record { nine = alone (tested r f); ten = refl; fifteen = alone e }
+    open-late r q h e = record { nine = alone (tested r h); ten = refl; fifteen = alone e }
 
     pub opens-acts : refusal (view m) (opens (direction b) s o p) ≡ none
-        → Acts m (opens (direction b) s o p) (allowed (x .level)) (monitor m (m .subjects) (m .objects) next)
+        → Acts m (opens (direction b) s o p) (allowed (x .level)) (monitor m (m .subjects) (m .objects) next ns)
     opens-acts e = acts m (opens (direction b) s o p) (allowed (x .level)) _ _ (open-does (view m) (direction b) s o p x e k) placed
+        (λ k. worked (opens (direction b) s o p) (m .subjects) (m .objects) next ns placed placed-wf f)
 
   -- ── map ──
-  module _ (s o p : ℕ) (x : Object) (w : Wf (view m)) (z : Refuses (view m) (maps s o p) 0) (k : view m .at (object o) ≡ object-entry x) where
+  module _ (s o p : ℕ) (x : Object) (next : List Handle) (ns : List ℕ) (w : Wf (view m)) (z : Refuses (view m) (maps s o p) 0)
+      (k : view m .at (object o) ≡ object-entry x) (y : next ≡ set (m .handles) (s % 32 * 16 + p % 16) (joining 1 o)) (f : Works (m .objects) next ns) where
     map-lives : T (live (view m) (subject s))
     map-lives = is-alive (view m) s (early-passed (view m) (maps s o p) z (alive s) (inl refl) tt)
 
@@ -402,91 +496,107 @@ module _ (m : Monitor) (g : Owned m) where
     map-low-p : p < 16
     map-low-p = is-place (view m) s p (early-passed (view m) (maps s o p) z (vacant s p) (inr (inr (inr (inl refl)))) tt)
 
-    abbrev to-o : ℕ → Handle
-    to-o v = record { way = v; object = o % 64; mark = 0 }
-
     -- the flow test is that of the open for reading
-    pub map-late : (r : Bool) → Shorts (m .subjects) (m .objects) (set (m .handles) (s % 32 * 16 + p % 16) (to-o 1)) r
-        → Late (view m) (maps s o p) r false false
-    map-late r f = record { nine = alone tested; ten = refl; fifteen = refl }
+    map-placed : tables-of (beside m) (m .subjects) (m .objects) next ≡ with-hand (view m) (place (view m .hand) s p (some (handle reading o)))
+    map-placed = ap (tables-of (beside m) (m .subjects) (m .objects)) y
+        ∙ store-handle (beside m) (m .subjects) (m .objects) (m .handles) s p (joining 1 o) (handles-long m g) map-low-s map-low-p
+        ∙ ap (λ (n : ℕ). with-hand (view m) (place (view m .hand) s p (some (handle reading n)))) same-o
+
+    map-placed-wf : Wf (tables-of (beside m) (m .subjects) (m .objects) next)
+    map-placed-wf = subst Wf (sym map-placed) (wf-hold (view m) s p (handle reading o) w (record { from = map-lives; to = map-there; place = map-low-p }))
+
+    pub map-late : (r : Bool) → Shorts (m .subjects) (m .objects) ns r → Late (view m) (maps s o p) r false false
+    map-late r h = record { nine = alone tested; ten = refl; fifteen = refl }
       where
-        placed : view (monitor m (m .subjects) (m .objects) (set (m .handles) (s % 32 * 16 + p % 16) (to-o 1)))
-            ≡ with-hand (view m) (place (view m .hand) s p (some (handle reading o)))
-        placed = store-handle (beside m) (m .subjects) (m .objects) (m .handles) s p (to-o 1) (handles-long m g) map-low-s map-low-p
-            ∙ ap (λ (n : ℕ). with-hand (view m) (place (view m .hand) s p (some (handle reading n)))) same-o
-
         tested : broken (view m) (enough (opens reading s o p)) ≡ r
-        tested = sym (f (beside m) (subst Wf (sym placed)
-            (wf-hold (view m) s p (handle reading o) w (record { from = map-lives; to = map-there; place = map-low-p })))
-            ∙ ap (λ (u : Tables). not (safe u)) placed)
+        tested = sym (h (beside m) next map-placed-wf (f (beside m) (m .subjects) map-placed-wf) ∙ ap (λ (u : Tables). not (safe u)) map-placed)
 
-    pub maps-acts : (y v : Subject) (b : Told) → view m .at (subject s) ≡ subject-entry y → refusal (view m) (maps s o p) ≡ none
-        → v ≡ fallen-by y (x .level) → b ≡ outcome (ltb (v .level) (y .level)) (v .level)
-        → Acts m (maps s o p) b (monitor m (set (m .subjects) (s % 32) v) (m .objects) (set (m .handles) (s % 32 * 16 + p % 16) (to-o 3)))
-    maps-acts y v b q e f h = acts m (maps s o p) b _ _ (subst₂ (λ (c : Told) (z : Subject). Does (view m) (maps s o p) c
+    pub maps-acts : (y v : Subject) (ss : List Subject) (hs : List Handle) (b : Told) → view m .at (subject s) ≡ subject-entry y
+        → refusal (view m) (maps s o p) ≡ none → v ≡ fallen-by y (x .level) → ss ≡ set (m .subjects) (s % 32) v
+        → hs ≡ set (m .handles) (s % 32 * 16 + p % 16) (joining 3 o) → b ≡ outcome (ltb (v .level) (y .level)) (v .level)
+        → Acts m (maps s o p) b (monitor m ss (m .objects) hs ns)
+    maps-acts y v ss hs b q e d i j h = rw (i, j) (acts m (maps s o p) b _ _ (subst₂ (λ (c : Told) (z : Subject). Does (view m) (maps s o p) c
         (with-hand (with-at (view m) (put (view m .at) (subject s) (subject-entry z))) (place (view m .hand) s p (some (mapping o)))))
-        (sym (h ∙ ap (λ (z : Subject). outcome (ltb (z .level) (y .level)) (z .level)) f)) (sym f) (map-does (view m) s o p y x e q k))
-        (store-handle (beside m) (set (m .subjects) (s % 32) v) (m .objects) (m .handles) s p (to-o 3) (handles-long m g) map-low-s map-low-p
-        ∙ ap (λ (u : Tables). with-hand u (place (u .hand) s p (held (to-o 3)))) (put-subject s v map-low-s)
+        (sym (h ∙ ap (λ (z : Subject). outcome (ltb (z .level) (y .level)) (z .level)) d)) (sym d) (map-does (view m) s o p y x e q k))
+        (store-handle (beside m) (set (m .subjects) (s % 32) v) (m .objects) (m .handles) s p (joining 3 o) (handles-long m g) map-low-s map-low-p
+        ∙ ap (λ (u : Tables). with-hand u (place (u .hand) s p (held (joining 3 o)))) (put-subject s v ns map-low-s)
         ∙ ap (λ (n : ℕ). with-hand (with-at (view m) (put (view m .at) (subject s) (subject-entry v))) (place (view m .hand) s p (some (mapping n)))) same-o)
+        (λ k. map-ready (view m) s o p (figure-of ns) w e
+        (λ x h. f (beside m) (m .subjects) map-placed-wf .need-is x h ∙ ap (λ (t : Tables). needs t x) map-placed)))
 
   -- ── exec ──
-  module _ (s o : ℕ) (y : Object) (places kept after : List Handle) (w : Wf (view m)) (z : Refuses (view m) (exec s o) 0)
-      (q : view m .at (object o) ≡ object-entry y) (n : (p : ℕ) → along places p ≡ hands (m .handles) (s % 32) p)
-      (k : (p : ℕ) → along kept p ≡ lasting (along places p)) (a : Rowed (m .handles) (s % 32) kept after) where
+  module _ (s o : ℕ) (y : Object) (after : List Handle) (ns : List ℕ) (w : Wf (view m)) (z : Refuses (view m) (exec s o) 0)
+      (q : view m .at (object o) ≡ object-entry y) (a : Rowed (m .handles) (s % 32) (λ p. lasting (hands (m .handles) (s % 32) p)) after)
+      (f : Works (m .objects) after ns) where
     exec-lives : T (live (view m) (subject s))
     exec-lives = is-alive (view m) s (early-passed (view m) (exec s o) z (alive s) (inl refl) tt)
 
     exec-there : T (live (view m) (object o))
     exec-there = is-present (view m) o (early-passed (view m) (exec s o) z (present o) (inr (inl refl)) tt)
 
+    low-run : s < 32
+    low-run = ltb→lt s 32 (live-of (view m) (subject s) exec-lives .0)
+
     same-row : s % 32 ≡ s
-    same-row = omega (arith, ltb→lt s 32 (live-of (view m) (subject s) exec-lives .0))
+    same-row = omega (arith, low-run)
 
     -- the handles are those that are left once s has dropped what it drops
     shed : (ss : List Subject) → tables-of (beside m) ss (m .objects) after ≡ with-hand (tables-of (beside m) ss (m .objects) (m .handles))
         (row (hands (m .handles)) s (λ p. lasting (hands (m .handles) s p)))
-    shed ss = a (beside m) ss (m .objects) ∙ ap (with-hand (tables-of (beside m) ss (m .objects) (m .handles)))
-        (ap₂ (λ (i : ℕ) (f : ℕ → Option Held). row (hands (m .handles)) i f) same-row
-        (fun-ext (λ p. k p ∙ ap lasting (n p ∙ ap (λ (i : ℕ). hands (m .handles) i p) same-row))))
+    shed ss = a (beside m) ss (m .objects) ∙ ap (λ (i : ℕ). with-hand (tables-of (beside m) ss (m .objects) (m .handles))
+        (row (hands (m .handles)) i (λ p. lasting (hands (m .handles) i p)))) same-row
 
-    pub exec-late : (r : Bool) → ((rest : Tables) (ss : List Subject) → Wf (tables-of rest ss (m .objects) after) → r ≡ not
-        (leq (needs (tables-of rest ss (m .objects) after) (subject (s % 32))) (label (y .level)))) → Late (view m) (exec s o) r false false
+    sheds-now : tables-of (beside m) (m .subjects) (m .objects) after ≡ applies (sheds (view m) s) (view m)
     unfolding sheds tables-of
-    exec-late r f = record { nine = alone unfit; ten = refl; fifteen = refl }
+    sheds-now = shed (m .subjects)
+
+    shed-wf : Wf (tables-of (beside m) (m .subjects) (m .objects) after)
+    shed-wf = subst Wf (sym sheds-now) (less-wf (sheds-less (view m) s) w)
+
+    needed-now : Needed (tables-of (beside m) (m .subjects) (m .objects) after) ns
+    needed-now = f (beside m) (m .subjects) shed-wf
+
+    pub exec-late : (v : ℕ) → v ≡ getD ns (s % 32) 0 → Late (view m) (exec s o) (ltb (y .level) v) false false
+    exec-late v e = record { nine = alone unfit; ten = refl; fifteen = refl }
       where
         u : Tables
         u = applies (sheds (view m) s) (view m)
 
-        own : label-of (view m .at (object o)) ≡ label (y .level)
-        own = ap label-of (full-object (view m) o y q exec-there)
+        own-need : label v ≡ needs u (cell (view m) s)
+        own-need = ap label e ∙ ap (λ (i : ℕ). label (getD ns i 0)) same-row ∙ needed-now .need-is (subject s) (lt→ltb s 32 low-run)
+            ∙ ap₂ needs sheds-now (sym (cell-self (view m) s))
 
-        unfit : broken (view m) (suits s o) ≡ r
-        unfit = sym (f (beside m) (m .subjects) (subst Wf (sym (shed (m .subjects))) (less-wf (sheds-less (view m) s) w))
-            ∙ ap (λ (v : Tables). not (leq (needs v (subject (s % 32))) (label (y .level)))) (shed (m .subjects))
-            ∙ ap₂ (λ (x : Thing) (b : Label). not (leq (needs u x) b)) (ap subject same-row ∙ sym (cell-self (view m) s)) (sym own))
+        own-level : label-of (view m .at (object o)) ≡ label (y .level)
+        own-level = ap label-of (full-object (view m) o y q exec-there)
 
-    pub execs : (x v : Subject) (left : List Object) (b : Told) → view m .at (subject s) ≡ subject-entry x → refusal (view m) (exec s o) ≡ none
-        → v ≡ fallen-by x (y .level) → b ≡ outcome (ltb (v .level) (x .level)) (v .level) → Reaps (m .objects) (m .handles) after left
-        → Acts m (exec s o) b (monitor m (set (m .subjects) (s % 32) v) left after)
+        unfit : broken (view m) (suits s o) ≡ ltb (y .level) v
+        unfit = sym (below-test v (y .level) ∙ ap₂ (λ (a b : Label). not (leq a b)) own-need (sym own-level))
+
+    pub execs : (x v : Subject) (ss : List Subject) (left : List Object) (b : Told) → view m .at (subject s) ≡ subject-entry x
+        → refusal (view m) (exec s o) ≡ none → v ≡ fallen-by x (y .level) → ss ≡ set (m .subjects) (s % 32) v
+        → b ≡ outcome (ltb (v .level) (x .level)) (v .level) → Reaps (m .objects) (m .handles) after left
+        → Acts m (exec s o) b (monitor m ss left after ns)
     unfolding tables-of
-    execs x v left b r e f h d = acts m (exec s o) b _ _ (subst₂ (λ (c : Told) (z : Subject). Does (view m) (exec s o) c (reap (handles (view m))
+    execs x v ss left b r e d n h c = rw n (acts m (exec s o) b _ _ (subst₂ (λ (c : Told) (z : Subject). Does (view m) (exec s o) c (reap (handles (view m))
         (with-hand (with-at (view m) (put (view m .at) (subject s) (subject-entry z))) dropped)))
-        (sym (h ∙ ap (λ (z : Subject). outcome (ltb (z .level) (x .level)) (z .level)) f)) (sym f) (exec-does (view m) s o x y e r q))
-        (d (beside m) _ (view m) (all-handles m) ∙ ap (reap (handles (view m))) (shed (set (m .subjects) (s % 32) v)
-        ∙ ap (λ (u : Tables). with-hand u dropped) (put-subject s v (row-low (view m) (exec s o) e s (inl refl)))))
+        (sym (h ∙ ap (λ (z : Subject). outcome (ltb (z .level) (x .level)) (z .level)) d)) (sym d) (exec-does (view m) s o x y e r q))
+        (c (beside m) _ (view m) (all-handles m) ∙ ap (reap (handles (view m))) (shed (set (m .subjects) (s % 32) v)
+        ∙ ap (λ (u : Tables). with-hand u dropped) (put-subject s v ns low-run)))
+        (λ k. exec-ready (view m) s o (figure-of ns) (λ x h. needed-now .need-is x h ∙ ap (λ (t : Tables). needs t x) sheds-now)))
       where
         dropped : ℕ → ℕ → Option Held
         dropped = row (hands (m .handles)) s (λ p. lasting (hands (m .handles) s p))
 
   -- ── mark ──
-  pub marks : (s p : ℕ) (x : Subject) (h : Handle) → Wf (view m) → refusal (view m) (mark s p) ≡ none → view m .at (subject s) ≡ subject-entry x
-      → view m .hand s p ≡ held h → Acts m (mark s p) (allowed (x .level))
-      (monitor m (m .subjects) (m .objects) (set (m .handles) (s % 32 * 16 + p % 16) (record { way = h .way; object = h .object; mark = 1 })))
-  marks s p x h w e q r = acts m (mark s p) (allowed (x .level)) _ _ (mark-does (view m) s p x e q)
+  pub marks : (s p : ℕ) (x : Subject) (h : Handle) (hs : List Handle) → Wf (view m) → refusal (view m) (mark s p) ≡ none
+      → view m .at (subject s) ≡ subject-entry x → view m .hand s p ≡ held h
+      → hs ≡ set (m .handles) (s % 32 * 16 + p % 16) (record { way = h .way; object = h .object; mark = 1 })
+      → Acts m (mark s p) (allowed (x .level)) (monitor m (m .subjects) (m .objects) hs (m .needs))
+  marks s p x h hs w e q r n = rw n (acts m (mark s p) (allowed (x .level)) _ _ (mark-does (view m) s p x e q)
       (store-handle (beside m) (m .subjects) (m .objects) (m .handles) s p (record { way = h .way; object = h .object; mark = 1 }) (handles-long m g)
       (row-low (view m) (mark s p) e s (inl refl)) (found-place (view m) w (mark s p) s p h e (inr (inl refl)) r)
       ∙ ap (λ (v : Option Held). with-hand (view m) (place (view m .hand) s p v)) (go (eqb (h .way) 0) ∙ ap marking (sym r)))
+      (λ k. mark-ready (view m) (figure-of (m .needs)) w k s p))
     where
       go : (b : Bool) → cond b none (some (joins (record { way = h .way; object = h .object; mark = 1 }))) ≡ marking (cond b none (some (joins h)))
       go true = refl
@@ -506,23 +616,16 @@ module _ (m : Monitor) (g : Owned m) where
         busy : broken (view m) (idle o) ≡ r
         busy = ap (λ (l : List Held). open-on l o) (all-handles m) ∙ ap (open-on (handles (with-hand empty (hands (m .handles))))) (sym same) ∙ sym f
 
-    pub retires : (y : Object) → view m .at (object o) ≡ object-entry y → refusal (view m) (retire o) ≡ none
-        → Acts m (retire o) (allowed (y .level)) (monitor m (m .subjects) (set (m .objects) (o % 64) no-object) (m .handles))
-    retires y q e = acts m (retire o) (allowed (y .level)) _ _ (retire-does (view m) o y e q) (put-object o no-object low-here)
+    pub retires : (y : Object) (os : List Object) → Wf (view m) → view m .at (object o) ≡ object-entry y → refusal (view m) (retire o) ≡ none
+        → os ≡ set (m .objects) (o % 64) no-object → Acts m (retire o) (allowed (y .level)) (monitor m (m .subjects) os (m .handles) (m .needs))
+    retires y os w q e n = rw n (acts m (retire o) (allowed (y .level)) _ _ (retire-does (view m) o y e q) (put-object o no-object (m .needs) low-here)
+        (λ k. retire-ready (view m) (figure-of (m .needs)) w k o e))
 
   -- ── freeze ──
-  pub freezes : (n : ℕ) → refusal (view m) (freeze n) ≡ none → Acts m (freeze n) (allowed (n % 256))
-      (record { subjects = m .subjects; objects = m .objects; handles = m .handles; freeze = n % 256 })
+  pub freezes : (n : ℕ) → Wf (view m) → refusal (view m) (freeze n) ≡ none → Acts m (freeze n) (allowed (n % 256))
+      (record { subjects = m .subjects; objects = m .objects; handles = m .handles; freeze = n % 256; needs = m .needs })
   unfolding tables-of
-  freezes n e = rw low (acts m (freeze n) (allowed n) _ _ (freeze-does (view m) n e) refl)
+  freezes n w e = rw low (acts m (freeze n) (allowed n) _ _ (freeze-does (view m) n e) refl (λ k. freeze-ready (view m) (figure-of (m .needs)) w k n))
     where
       low : n % 256 ≡ n
       low = let h : n ≤ 16 = ltb-false 16 n (is-false (ltb 16 n) (passed (view m) (freeze n) e (freezable n) (inl refl))) in omega arith
-
--- a row of empty places
-pub no-places : (p : ℕ) → along (replicate 16 no-handle) p ≡ none
-no-places p = go (ltb p 16) refl
-  where
-    go : (b : Bool) → ltb p 16 ≡ b → _≡_ {A = Option Held} (cond b (held (getD (replicate 16 no-handle) p no-handle)) none) none
-    go true q = ap held (getD-replicate 16 p no-handle no-handle (ltb-true p 16 q))
-    go false q = refl

@@ -5,6 +5,8 @@ use mathlib.Core.Option.{none, some}
 use Prim.Native.Nat.{ℕ}
 use Rattle.model.specs.Calls.{Call, refusal, effect, answer}
 use Rattle.model.specs.Calls.{Answer as Told}
+use Rattle.model.specs.Figures.{Ready}
+use Rattle.tables.specs.Needs.{figure-of}
 use Rattle.gatekeeper.specs.declared.Monitor.{Monitor}
 use Rattle.gatekeeper.specs.declared.Reply.{Reply}
 use Rattle.answers.specs.declared.Answer.the-variants.{Refused}
@@ -16,6 +18,7 @@ pub record Acts (m : Monitor) (c : Call) (a : Told) (n : Monitor) : Type 0 where
   pub answered : a ≡ answer (view m) c
   pub unchanged : (k : ℕ) → refusal (view m) c ≡ some k → n ≡ m
   pub moved : refusal (view m) c ≡ none → view n ≡ effect (view m) c
+  pub kept : Ready (view m) (figure-of (m .needs)) → Ready (view n) (figure-of (n .needs))
 
 -- a refusal: its number, and the monitor as it came
 abbrev pub back : Monitor → ℕ → Reply

@@ -1,9 +1,15 @@
--- The monitor seen as the tables of the rules. States RULES T13, T33 and C106. Assumes nothing.
+-- The monitor seen as the tables of the rules, and the needs that it keeps beside them. States RULES T13, T33, F10, F11, F15, F16 and C106. Assumes nothing.
+use mathlib.Core.Path.{_≡_}
+use mathlib.Core.Bool.{cond}
 use mathlib.Core.List.{[], _∷_}
 use Prim.Native.Nat.{ℕ}
-use Rattle.model.specs.Tables.{Tables, empty, with-freeze}
+use lib.ListN.{getD}
+use Rattle.model.specs.Flow.{Thing}
+use Rattle.model.specs.Tables.{Tables, empty, with-freeze, live, clean}
 use Rattle.model.specs.Calls.{Raw}
+use Rattle.model.specs.Figures.{Ready}
 use Rattle.tables.specs.Records.{tables-of}
+use Rattle.tables.specs.Needs.{node, figure-of}
 use Rattle.gatekeeper.specs.declared.Monitor.{Monitor}
 
 -- ── the monitor ──
@@ -14,6 +20,20 @@ beside m = with-freeze empty (m .freeze)
 -- RULES T13, T33: the three arrays and the freeze, each byte as it is
 abbrev pub view : Monitor → Tables
 view m = tables-of (beside m) (m .subjects) (m .objects) (m .handles)
+
+-- ── kept needs ──
+-- RULES F11: a monitor is right if the kept need of each live thing is its need, worked out on the tables as RULES T17 and T18 read them
+abbrev pub Right : Monitor → Type 0
+Right m = Ready (clean (view m)) (figure-of (m .needs))
+
+-- RULES F16: the kept need of a live thing, 0 for any other
+abbrev pub kept-need : Monitor → Thing → ℕ
+kept-need m x = cond (live (view m) x) (getD (m .needs) (node x) 0) 0
+
+-- RULES F15: n is m with its kept needs put right
+pub record Righted (m n : Monitor) : Type 0 where
+  pub same : n ≡ record { subjects = m .subjects; objects = m .objects; handles = m .handles; freeze = m .freeze; needs = n .needs }
+  pub right : Right n
 
 -- ── direct calls ──
 -- RULES C106: a code and six numbers

@@ -5,7 +5,7 @@ ghost use Rattle.model.specs.Invariant.{Wf};
 ghost use Rattle.model.specs.Calls.{decode};
 ghost use Rattle.model.specs.Promise.{Meets};
 ghost use Rattle.answers.specs.Telling.{told};
-ghost use Rattle.gatekeeper.specs.View.{view, direct};
+ghost use Rattle.gatekeeper.specs.View.{view, Right, direct};
 ghost use Rattle.gatekeeper.specs.Acting.{Acts};
 use crate::Monitor;
 use crate::Reply;
@@ -13,7 +13,8 @@ use crate::Reply;
 impl Monitor {
     // No dangling handle remains.
     fn cleaned(mut self) -> Monitor
-        ensures { λ r. ⌜ view r ≡ clean (view self) ⌝ }
+        ensures tables { λ r. ⌜ view r ≡ clean (view self) ⌝ }
+        ensures needs { λ r. ⌜ r .needs ≡ self .needs ⌝ }
     {
         let subjects = self.subjects;
         let objects = self.objects;
@@ -51,9 +52,9 @@ impl Monitor {
     }
 
     // A code and six numbers; those that the code does not use are ignored. A refused call hands the same struct back, free part included;
-    // any other hands back the rules' next tables, and its free part is any (model, `Promise`).
+    // any other hands back the rules' next tables, and its free part is any (model, `Promise`). Of a right monitor either is right.
     pub fn call(self, code: u32, a: u32, b: u32, c: u32, d: u32, e: u32, f: u32) -> Reply
-        ensures { λ r. ⌜ Meets view self (decode (direct code a b c d e f)) (told (r .answer)) (r .monitor) ⌝ }
+        ensures { λ r. ⌜ Meets view Right self (decode (direct code a b c d e f)) (told (r .answer)) (r .monitor) ⌝ }
     {
         let t = self.cleaned();
         let r = t.dispatch(code, a, b, c, d, e, f);

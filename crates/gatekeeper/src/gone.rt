@@ -7,14 +7,12 @@ ghost use Rattle.gatekeeper.specs.Acting.{Acts};
 use crate::Monitor;
 use crate::Reply;
 use answers::Answer;
+use flows::kept;
 use tables::EMPTY;
 use tables::FREE;
 use tables::Handle;
 use tables::OBJECT_NUMBERS;
-use tables::OBJECTS;
 use tables::Object;
-use tables::PLACES;
-use tables::SUBJECTS;
 use tables::Subject;
 use tables::looks;
 use tables::refusals;
@@ -25,26 +23,30 @@ impl Monitor {
         requires { ⌜ Wf (view self) ⌝ }
         ensures { λ r. ⌜ Acts self (close s p) (told (r .answer)) (r .monitor) ⌝ }
     {
-        let i = s as usize % SUBJECTS;
-        let at = i * PLACES + p as usize % PLACES;
-        let step = self.subjects[i];
-        let there = self.handles[at];
-        let x = looks::subject_at(s, step);
-        let h = looks::handle_at(s, p, there);
+        let subjects = self.subjects;
+        let objects = self.objects;
+        let held = self.handles;
+        let x = looks::subject_of(subjects, s);
+        let h = looks::handle_of(held, s, p);
         let n = refusals::of_held(x, h);
         if n != 0 {
             return self.refuse(n);
         }
-        self.handles[at] = Handle {
+        let gone = Handle {
             way: EMPTY,
             object: 0,
             mark: 0,
         };
-        let handles = self.handles;
-        let j = h.object as usize % OBJECTS;
-        let y = self.objects[j];
+        let handles = looks::with_handle(held, s, p, gone);
+        let number = h.object as u32;
+        let y = looks::object_of(objects, number);
         let left = handles::outlived(handles, y, h.object);
-        self.objects[j] = left;
+        let rest = looks::with_object(objects, number, left);
+        let had = self.needs;
+        let needs = kept::closed(had, objects, handles, s, h);
+        self.objects = rest;
+        self.handles = handles;
+        self.needs = needs;
         Reply {
             monitor: self,
             answer: Answer::Allowed(x.level),
@@ -56,25 +58,24 @@ impl Monitor {
         requires { ⌜ Wf (view self) ⌝ }
         ensures { λ r. ⌜ Acts self (exit s) (told (r .answer)) (r .monitor) ⌝ }
     {
-        let i = s as usize % SUBJECTS;
-        let step = self.subjects[i];
-        let x = looks::subject_at(s, step);
+        let subjects = self.subjects;
+        let x = looks::subject_of(subjects, s);
         let n = refusals::of_exit(x);
         if n != 0 {
             return self.refuse(n);
         }
-        let row = [Handle {
-            way: EMPTY,
-            object: 0,
-            mark: 0,
-        }; PLACES];
         let objects = self.objects;
         let before = self.handles;
-        let after = handles::with_row(before, i, row);
+        let after = handles::vacated(before, s);
         let left = handles::reaped(objects, before, after);
-        self.subjects[i] = Subject { live: 0, level: 0 };
+        let had = self.needs;
+        let needs = kept::vacated(had, objects, after, s);
+        let gone = Subject { live: 0, level: 0 };
+        let rest = looks::with_subject(subjects, s, gone);
+        self.subjects = rest;
         self.objects = left;
         self.handles = after;
+        self.needs = needs;
         Reply {
             monitor: self,
             answer: Answer::Allowed(x.level),
@@ -86,9 +87,8 @@ impl Monitor {
         requires { ⌜ Wf (view self) ⌝ }
         ensures { λ r. ⌜ Acts self (retire o) (told (r .answer)) (r .monitor) ⌝ }
     {
-        let j = o as usize % OBJECTS;
-        let there = self.objects[j];
-        let y = looks::object_at(o, there);
+        let objects = self.objects;
+        let y = looks::object_of(objects, o);
         let n = refusals::of_retire(y);
         if n != 0 {
             return self.refuse(n);
@@ -100,10 +100,12 @@ impl Monitor {
         if late != 0 {
             return self.refuse(late);
         }
-        self.objects[j] = Object {
+        let gone = Object {
             kind: FREE,
             level: 0,
         };
+        let rest = looks::with_object(objects, o, gone);
+        self.objects = rest;
         Reply {
             monitor: self,
             answer: Answer::Allowed(y.level),

@@ -1,10 +1,11 @@
 // The gatekeeper: one struct that holds the tables, and the calls as methods that take it and hand the next one back.
 //
 // Every promise goes through `view`, which reads the arrays as the tables of the rules (crate `model`). Each call is written once, in
-// `made`, `moved`, `gone` and `frozen`, for tables in which nothing dangles; `direct` has the direct call, for every monitor value.
+// `made`, `moved`, `gone`, `frozen` and `connected`, for tables in which nothing dangles; `direct` has the direct call, for every monitor value; `kept`
+// the needs that are kept beside the tables.
 ghost use mathlib.Core.Path.{_≡_};
 ghost use Rattle.model.specs.Tables.{empty};
-ghost use Rattle.gatekeeper.specs.View.{view};
+ghost use Rattle.gatekeeper.specs.View.{view, Right};
 ghost use Rattle.gatekeeper.specs.Acting.{back, settled, way-by};
 use answers::Answer;
 use tables::EMPTY;
@@ -17,22 +18,26 @@ use tables::Object;
 use tables::READS;
 use tables::SUBJECTS;
 use tables::Subject;
+use tables::THINGS;
 use tables::WRITES;
 
 mod connected;
 mod direct;
 mod frozen;
 mod gone;
+mod kept;
 mod made;
 mod moved;
 
-// The tables. Place p of subject s is handle 16 s + p. A freeze of NO_FREEZE and above says that no file is frozen.
+// The tables, and beside them the kept needs, of the subjects and then of the objects. Place p of subject s is handle 16 s + p. A freeze of NO_FREEZE
+// and above says that no file is frozen.
 #[repr(C)]
 pub struct Monitor {
     pub subjects: [Subject; SUBJECTS],
     pub objects: [Object; OBJECTS],
     pub handles: [Handle; HANDLES],
     pub freeze: u8,
+    pub needs: [u8; THINGS],
 }
 
 pub struct Reply {
@@ -51,10 +56,11 @@ fn way_of(reads: bool) -> u8
 }
 
 impl Monitor {
-    // The empty tables. The free part (model, `Promise`: the level beside a number that is not in use, the object and mark beside an empty place) is
+    // The empty tables, whose needs are right. The free part (model, `Promise`: the level beside a number that is not in use, the object and mark beside an empty place) is
     // any; this code has zeros there.
     pub fn empty() -> Monitor
-        ensures { λ r. ⌜ view r ≡ empty ⌝ }
+        ensures tables { λ r. ⌜ view r ≡ empty ⌝ }
+        ensures needs { λ r. ⌜ Right r ⌝ }
     {
         let subjects = [Subject { live: 0, level: 0 }; SUBJECTS];
         let objects = [Object {
@@ -71,6 +77,7 @@ impl Monitor {
             objects: objects,
             handles: handles,
             freeze: NO_FREEZE,
+            needs: [0; THINGS],
         }
     }
 

@@ -7,14 +7,10 @@ ghost use Rattle.gatekeeper.specs.View.{view};
 ghost use Rattle.gatekeeper.specs.Acting.{Acts};
 use crate::Monitor;
 use crate::Reply;
+use flows::kept;
 use handles::mappings;
-use tables::Handle;
 use tables::MAPS;
-use tables::OBJECT_NUMBERS;
-use tables::OBJECTS;
-use tables::PLACES;
 use tables::READS;
-use tables::SUBJECTS;
 use tables::looks;
 use tables::refusals;
 
@@ -24,20 +20,20 @@ impl Monitor {
         requires { ⌜ Wf (view self) ⌝ }
         ensures { λ r. ⌜ Acts self (access reading s p) (told (r .answer)) (r .monitor) ⌝ }
     {
-        let i = s as usize % SUBJECTS;
-        let at = i * PLACES + p as usize % PLACES;
-        let step = self.subjects[i];
-        let there = self.handles[at];
-        let x = looks::subject_at(s, step);
-        let h = looks::handle_at(s, p, there);
+        let before = self.subjects;
+        let held = self.handles;
+        let x = looks::subject_of(before, s);
+        let h = looks::handle_of(held, s, p);
         let n = refusals::of_read(x, h);
         if n != 0 {
             return self.refuse(n);
         }
-        let j = h.object as usize % OBJECTS;
-        let y = self.objects[j];
+        let number = h.object as u32;
+        let objects = self.objects;
+        let y = looks::object_of(objects, number);
         let put = looks::fallen(x, y.level);
-        self.subjects[i] = put;
+        let after = looks::with_subject(before, s, put);
+        self.subjects = after;
         let sank = put.level < x.level;
         Reply {
             monitor: self,
@@ -50,27 +46,25 @@ impl Monitor {
         requires { ⌜ Wf (view self) ⌝ }
         ensures { λ r. ⌜ Acts self (access writing s p) (told (r .answer)) (r .monitor) ⌝ }
     {
-        let i = s as usize % SUBJECTS;
-        let at = i * PLACES + p as usize % PLACES;
-        let step = self.subjects[i];
-        let there = self.handles[at];
-        let x = looks::subject_at(s, step);
-        let h = looks::handle_at(s, p, there);
+        let before = self.subjects;
+        let held = self.handles;
+        let x = looks::subject_of(before, s);
+        let h = looks::handle_of(held, s, p);
         let n = refusals::of_write(x, h);
         if n != 0 {
             return self.refuse(n);
         }
-        let j = h.object as usize % OBJECTS;
-        let y = self.objects[j];
+        let number = h.object as u32;
+        let objects = self.objects;
+        let y = looks::object_of(objects, number);
         let put = looks::sunken(y, x.level);
-        let before = self.subjects;
-        let handles = self.handles;
-        let after = mappings::reread(before, handles, y, h.object);
+        let readers = mappings::reread(before, held, y, h.object);
         let sank = put.level < y.level;
-        let lower = mappings::is_lower(before, after);
+        let lower = mappings::is_lower(before, readers);
         let either = looks::either(sank, lower);
-        self.subjects = after;
-        self.objects[j] = put;
+        let rest = looks::with_object(objects, number, put);
+        self.subjects = readers;
+        self.objects = rest;
         Reply {
             monitor: self,
             answer: answers::not_refused(either, put.level),
@@ -83,31 +77,29 @@ impl Monitor {
         requires { ⌜ Wf (view self) ⌝ }
         ensures { λ r. ⌜ Acts self (exec s o) (told (r .answer)) (r .monitor) ⌝ }
     {
-        let i = s as usize % SUBJECTS;
-        let j = o as usize % OBJECTS;
-        let step = self.subjects[i];
-        let there = self.objects[j];
-        let x = looks::subject_at(s, step);
-        let y = looks::object_at(o, there);
+        let subjects = self.subjects;
+        let objects = self.objects;
+        let x = looks::subject_of(subjects, s);
+        let y = looks::object_of(objects, o);
         let n = refusals::of_exec(x, y);
         if n != 0 {
             return self.refuse(n);
         }
-        let objects = self.objects;
         let before = self.handles;
-        let row = handles::row_of(before, i);
-        let kept = handles::lasting(row);
-        let after = handles::with_row(before, i, kept);
-        let short = flows::is_below(objects, after, i, y.level);
+        let after = handles::shed(before, s);
+        let needs = flows::figures(objects, after);
+        let short = y.level < kept::of_subject(needs, s);
         let late = refusals::last(short, false, false);
         if late != 0 {
             return self.refuse(late);
         }
         let put = looks::fallen(x, y.level);
+        let ran = looks::with_subject(subjects, s, put);
         let left = handles::reaped(objects, before, after);
-        self.subjects[i] = put;
+        self.subjects = ran;
         self.objects = left;
         self.handles = after;
+        self.needs = needs;
         let sank = put.level < x.level;
         Reply {
             monitor: self,
@@ -120,41 +112,31 @@ impl Monitor {
         requires { ⌜ Wf (view self) ⌝ }
         ensures { λ r. ⌜ Acts self (maps s o p) (told (r .answer)) (r .monitor) ⌝ }
     {
-        let i = s as usize % SUBJECTS;
-        let j = o as usize % OBJECTS;
-        let at = i * PLACES + p as usize % PLACES;
-        let step = self.subjects[i];
-        let thing = self.objects[j];
-        let there = self.handles[at];
-        let x = looks::subject_at(s, step);
-        let y = looks::object_at(o, thing);
-        let h = looks::handle_at(s, p, there);
+        let subjects = self.subjects;
+        let objects = self.objects;
+        let held = self.handles;
+        let x = looks::subject_of(subjects, s);
+        let y = looks::object_of(objects, o);
+        let h = looks::handle_of(held, s, p);
         let n = refusals::of_map(p, x, y, h);
         if n != 0 {
             return self.refuse(n);
         }
-        let number = (o % OBJECT_NUMBERS) as u8;
-        let subjects = self.subjects;
-        let objects = self.objects;
-        let mut next = self.handles;
-        next[at] = Handle {
-            way: READS,
-            object: number,
-            mark: 0,
-        };
-        let short = flows::is_short(subjects, objects, next);
+        let opened = looks::joining(READS, o);
+        let next = looks::with_handle(held, s, p, opened);
+        let needs = flows::figures(objects, next);
+        let short = flows::is_short(subjects, objects, needs);
         let late = refusals::last(short, false, false);
         if late != 0 {
             return self.refuse(late);
         }
         let put = looks::fallen(x, y.level);
-        let mapping = Handle {
-            way: MAPS,
-            object: number,
-            mark: 0,
-        };
-        self.subjects[i] = put;
-        self.handles[at] = mapping;
+        let after = looks::with_subject(subjects, s, put);
+        let mapping = looks::joining(MAPS, o);
+        let all = looks::with_handle(held, s, p, mapping);
+        self.subjects = after;
+        self.handles = all;
+        self.needs = needs;
         let sank = put.level < x.level;
         Reply {
             monitor: self,

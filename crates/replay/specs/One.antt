@@ -8,10 +8,10 @@ use Rattle.model.specs.Tally.{Tally, tallied}
 use Rattle.journal.specs.Answers.{Said, said}
 use Rattle.journal.specs.Answers.{answers as reads, refused as bad}
 use Rattle.gatekeeper.specs.declared.Monitor.{Monitor}
-use Rattle.gatekeeper.specs.View.{view}
+use Rattle.gatekeeper.specs.View.{view, Right}
 use Rattle.replay.specs.Replay.{raw}
 
 -- the record says s; on monitor m with tally y it is replied with a code and an answer, and leaves monitor n and tally z
 abbrev pub One : Monitor → Tally → Said → ℕ → Answer → Monitor → Tally → Type 0
-One m y (said code (reads ns)) c a n z = (c ≡ code) × Meets view m (decode (raw code ns)) a n × (z ≡ tallied (clean (view m)) (decode (raw code ns)) y)
+One m y (said code (reads ns)) c a n z = (c ≡ code) × Meets view Right m (decode (raw code ns)) a n × (z ≡ tallied (clean (view m)) (decode (raw code ns)) y)
 One m y (said code (bad k)) c a n z = (c ≡ code) × (a ≡ refused k) × (n ≡ m) × (z ≡ y)

@@ -9,7 +9,7 @@ ghost use Rattle.number.specs.Put.{put, fitted};
 ghost use Rattle.number.specs.Answers.{writing};
 ghost use Rattle.journal.specs.Journal.{body-in};
 ghost use Rattle.answers.specs.Telling.{told};
-ghost use Rattle.gatekeeper.specs.View.{view};
+ghost use Rattle.gatekeeper.specs.View.{view, Right};
 ghost use Rattle.tally.specs.Counting.{counts-of};
 ghost use Rattle.replay.specs.One.{One};
 ghost use Rattle.replay.specs.Replay.{reply, largest-journal, Begun};
@@ -99,6 +99,7 @@ fn records(journal: &[u8], out: &mut [u8]) -> Ran
     requires { ⌜ length (now journal) ≤ largest-journal ⌝ }
     ensures text { λ r. ⌜ Ends (whole (now (journal .entry))) (now (out .entry)) (now (out .exit)) (writing (r .written)) ⌝ }
     ensures end { λ r. ⌜ ((k : ℕ) → writing (r .written) ≡ some k → Ended (now (journal .entry)) (view (r .monitor)) (counts-of (r .tally))) ⌝ }
+    ensures right { λ r. ⌜ Right (r .monitor) ⌝ }
 {
     let mut m = Monitor::empty();
     let mut tally = Tally { made: 0, gone: 0 };
@@ -191,6 +192,7 @@ pub fn run(journal: &[u8], out: &mut [u8]) -> Ran
     ensures begun { λ _. ⌜ Begun (reply (now (journal .entry))) (now (out .entry)) (now (out .exit)) ⌝ }
     ensures room { λ _. do ⌜ ((← ⟦REPLY_ROOM⟧ .entry) ≤ length (now (out .entry)) → length (reply (now (journal .entry))) ≤ length (now (out .entry))) ⌝ }
     ensures end { λ r. ⌜ ((k : ℕ) → writing (r .written) ≡ some k → Ended (now (journal .entry)) (view (r .monitor)) (counts-of (r .tally))) ⌝ }
+    ensures right { λ r. ⌜ Right (r .monitor) ⌝ }
 {
     if LARGEST_JOURNAL < journal.len() {
         let written = too_long(out);

@@ -7,7 +7,7 @@ ghost use lib.ListN.{length, take, drop};
 ghost use Rattle.model.specs.Tables.{empty};
 ghost use Rattle.model.specs.Calls.{answers};
 ghost use Rattle.model.specs.Demand3.{Demand3};
-ghost use Rattle.gatekeeper.specs.View.{view};
+ghost use Rattle.gatekeeper.specs.View.{view, Right};
 ghost use Rattle.run.specs.Buffers.{lesser, calls-in, bytes, answers-in};
 use gatekeeper::Monitor;
 
@@ -32,6 +32,7 @@ pub fn run(calls: &[u32], out: &mut [u8]) -> Ran
     ensures made { λ r. ⌜ r .made ≡ lesser (length (now (calls .entry)) / 7) (length (now (out .entry)) / 2) ⌝ }
     ensures written { λ r. ⌜ now (out .exit) ≡ bytes (answers empty (calls-in (now (calls .entry)) (r .made))) ++ drop (r .made * 2) (now (out .entry)) ⌝ }
     ensures demand3 { λ r. ⌜ Demand3 (calls-in (now (calls .entry)) (r .made)) (answers-in (take (r .made * 2) (now (out .exit)))) (view (r .monitor)) ⌝ }
+    ensures right { λ r. ⌜ Right (r .monitor) ⌝ }
 {
     let n = fewer(calls.len() / 7, out.len() / 2);
     let mut m = Monitor::empty();

@@ -11,7 +11,7 @@ use Rattle.model.specs.Tally.{Tally as Counts}
 use Rattle.gatekeeper.specs.declared.Monitor.{Monitor}
 use Rattle.gatekeeper.specs.declared.Reply.{Reply}
 use Rattle.answers.specs.Telling.{told}
-use Rattle.gatekeeper.specs.View.{view, direct}
+use Rattle.gatekeeper.specs.View.{view, Right, direct}
 use Rattle.tally.specs.declared.Tally.{Tally}
 
 abbrev pub counts-of : Tally → Counts
@@ -21,7 +21,7 @@ counts-of x = record { made = x .made; gone = x .gone }
 abbrev pub Counting : Monitor → Tally → (code a b c d e f : ℕ) → Reply → Tally → Type 0
 Counting m y code a b c d e f reply after =
     let k = decode (direct code a b c d e f) in
-    Meets view m k (told (reply .answer)) (reply .monitor) × (counts-of after ≡ tallied (clean (view m)) k (counts-of y))
+    Meets view Right m k (told (reply .answer)) (reply .monitor) × (counts-of after ≡ tallied (clean (view m)) k (counts-of y))
 
 -- ── by the code: inner functions alone cite these ──
 abbrev pub made-by : ℕ → ℕ → ℕ

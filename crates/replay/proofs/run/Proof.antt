@@ -27,7 +27,7 @@ returns c =
     let k = c3 .too-long in
     let long = c5 .if1 .taken in
     let e = subst (λ x. Ends x (a .out .now) (k .last .0) (writing (k .result))) (reply-long (a .journal .now) long) (k .ensures) in
-    (e .0, (e .1 .0, (e .1 .1 .0, (e .1 .1 .1, λ n z. none-ended (a .journal .now) long (view (c .empty .result)) (c .empty .ensures)))))
+    (e .0, (e .1 .0, (e .1 .1 .0, (e .1 .1 .1, ((λ n z. none-ended (a .journal .now) long (view (c .empty .result)) (c .empty .ensures .0)), c .empty .ensures .1)))))
 
 records-requires : tie.Need-records-requires
 records-requires c κs = search needs

@@ -6,7 +6,7 @@ use Rattle.model.specs.Tables.{clean}
 use Rattle.tables.specs.Records.Laws.{cleaned-wf}
 use Rattle.gatekeeper.specs.View.{beside, view}
 use Rattle.gatekeeper.proofs.Owned.{subjects-long, objects-long}
-use Rattle.gatekeeper.proofs.Storing.{no-places}
+use Rattle.handles.proofs.Rows.{no-places}
 use Rattle.tally.proofs.Counting.{none-held, row-is}
 use Rattle.tally.proofs.row_by.Statement.{statement}
 use Rattle.tally.proofs.row_by.Tie as tie

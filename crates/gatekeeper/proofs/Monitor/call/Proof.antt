@@ -1,9 +1,10 @@
 -- `gatekeeper::Monitor::call` meets its contract. Assumes nothing.
+use mathlib.Core.Path.{sym, subst}
+use Rattle.model.specs.Invariant.{Wf}
 use Rattle.model.specs.Calls.{decode}
-use Rattle.gatekeeper.specs.View.{beside, direct}
+use Rattle.gatekeeper.specs.View.{direct}
 use Rattle.gatekeeper.proofs.Acting.{settles}
-use Rattle.gatekeeper.proofs.Owned.{subjects-long, objects-long}
-use Rattle.tables.specs.Records.Laws.{cleaned-wf}
+use Rattle.gatekeeper.proofs.Keeping.{read-wf}
 use borrow.Author.Needs.{needs}
 use Rattle.gatekeeper.proofs.Monitor.call.Statement.{statement}
 use Rattle.gatekeeper.proofs.Monitor.call.Tie as tie
@@ -12,20 +13,19 @@ cleaned-requires : tie.Need-cleaned-requires
 cleaned-requires c κs = search needs
 
 dispatch-requires : tie.Need-dispatch-requires
-dispatch-requires c κs =
-    cleaned-wf (beside (c .before .args .self)) (c .before .args .self .subjects) (c .before .args .self .objects) (c .before .args .self .handles) _
-    (subjects-long (c .before .args .self) (c .before .good .0))
-    (objects-long (c .before .args .self) (c .before .good .0)) (c .cleaned .ensures)
+dispatch-requires c κs = subst Wf (sym (c .cleaned .ensures .0)) (read-wf (c .before .args .self) (c .before .good .0))
 
 settle-requires : tie.Need-settle-requires
 settle-requires c κs = search needs
 
 returns : tie.Need-returns
 returns c =
-    let a = c .before .before .before .args in
-    settles (a .self) (c .before .before .cleaned .result) (decode (direct (a .code) (a .a) (a .b) (a .c) (a .d) (a .e) (a .f)))
-    (c .before .dispatch .result) (c .settle .result) (c .before .before .cleaned .ensures) (c .before .dispatch .ensures)
-    (c .settle .ensures)
+    let c2 = c .before .before in
+    let a = c2 .before .args in
+    let k = c2 .cleaned .ensures in
+    settles (a .self) (c2 .cleaned .result) (decode (direct (a .code) (a .a) (a .b) (a .c) (a .d) (a .e) (a .f)))
+    (c .before .dispatch .result) (c .settle .result) (k .0) (k .1) (subst Wf (sym (k .0)) (read-wf (a .self) (c2 .before .good .0)))
+    (c .before .dispatch .ensures) (c .settle .ensures)
 
 pub call-spec : {M : Type 1} → statement M
 call-spec =

@@ -7,23 +7,11 @@ use borrow.Author.Needs.{needs}
 use Rattle.gatekeeper.proofs.Monitor.create.Statement.{statement}
 use Rattle.gatekeeper.proofs.Monitor.create.Tie as tie
 
-mul-step : tie.Need-mul-step
-mul-step c = search needs
+subject-of-requires : tie.Need-subject-of-requires
+subject-of-requires c κs = search needs
 
-element-copy-out-step : tie.Need-element-copy-out-step
-element-copy-out-step c = search needs
-
-mul-there : tie.Need-mul-there
-mul-there c = search needs
-
-element-copy-out-there : tie.Need-element-copy-out-there
-element-copy-out-there c = search needs
-
-subject-at-requires : tie.Need-subject-at-requires
-subject-at-requires c κs = search needs
-
-object-at-requires : tie.Need-object-at-requires
-object-at-requires c κs = search needs
+object-of-requires : tie.Need-object-of-requires
+object-of-requires c κs = search needs
 
 of-create-requires : tie.Need-of-create-requires
 of-create-requires c κs = search needs
@@ -33,49 +21,50 @@ refuse-requires c κs = search needs
 
 returns : tie.Need-returns
 returns c =
-    let c2 = c .before .before in
+    let c1 = c .before in
+    let c2 = c1 .before in
     let c3 = c2 .before in
     let c4 = c3 .before in
     let c7 = c4 .before .before .before in
     let a = c7 .args in
     let g = c7 .good .0 in
     let w = c7 .pre in
-    stops (a .t1) (create (a .s) (a .o)) (c2 .of-create .result) (c .refuse .result)
-    (c2 .of-create .ensures (view (a .t1)) (a .s) w (subject-got (a .t1) g (a .s) (c4 .subject-at .result) (c4 .subject-at .ensures))
-    (object-got (a .t1) g (a .o) (c3 .object-at .result) (c3 .object-at .ensures))) (c .before .if1 .taken) (c .refuse .ensures)
+    stops (a .self) (create (a .s) (a .o)) (c2 .of-create .result) (c .refuse .result)
+    (c2 .of-create .ensures (view (a .self)) (a .s) w (subject-got (a .self) g (a .s) (c4 .subject-of .result) (c4 .subject-of .ensures))
+    (object-got (a .self) g (a .o) (c3 .object-of .result) (c3 .object-of .ensures))) (c1 .if1 .taken) (c .refuse .ensures)
 
-mul-t12 : tie.Need-mul-t12
-mul-t12 c = search needs
+with-object-requires : tie.Need-with-object-requires
+with-object-requires c κs = search needs
 
-element-set-from-self : tie.Need-element-set-from-self
-element-set-from-self c = search needs
+with-object-requires-2 : tie.Need-with-object-requires-2
+with-object-requires-2 c κs = search needs
 
 returns-2 : tie.Need-returns-2
 returns-2 c =
     let c2 = c .before .before in
     let c3 = c2 .before in
-    let c6 = c3 .before .before .before in
-    let a = c6 .args in
-    let g = c6 .good .0 in
-    let w = c6 .pre in
-    let z = goes (c .before .of-create .ensures (view (a .t1)) (a .s) w
-    (subject-got (a .t1) g (a .s) (c3 .subject-at .result) (c3 .subject-at .ensures))
-    (object-got (a .t1) g (a .o) (c2 .object-at .result) (c2 .object-at .ensures))) (c .if1 .left) in
-    creates (a .t1) g (a .s) (a .o) (c3 .subject-at .result) z (subject-got (a .t1) g (a .s) (c3 .subject-at .result) (c3 .subject-at .ensures))
+    let c4 = c3 .before in
+    let c5 = c4 .before in
+    let c6 = c5 .before in
+    let c9 = c6 .before .before .before in
+    let a = c9 .args in
+    let g = c9 .good .0 in
+    let w = c9 .pre in
+    let x = subject-got (a .self) g (a .s) (c6 .subject-of .result) (c6 .subject-of .ensures) in
+    let z = goes (c4 .of-create .ensures (view (a .self)) (a .s) w x
+    (object-got (a .self) g (a .o) (c5 .object-of .result) (c5 .object-of .ensures))) (c3 .if1 .left) in
+    creates (a .self) g (a .s) (a .o) (c6 .subject-of .result) (c2 .with-object .result) (c .with-object2 .result) w z x (c2 .with-object .ensures)
+    (c .with-object2 .ensures)
 
 pub create-spec : {M : Type 1} → statement M
 create-spec =
     tie.close
     (tie.spec
-    mul-step
-    element-copy-out-step
-    mul-there
-    element-copy-out-there
-    subject-at-requires
-    object-at-requires
+    subject-of-requires
+    object-of-requires
     of-create-requires
     refuse-requires
     returns
-    mul-t12
-    element-set-from-self
+    with-object-requires
+    with-object-requires-2
     returns-2)

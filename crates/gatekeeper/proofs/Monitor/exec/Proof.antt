@@ -1,6 +1,5 @@
 -- `gatekeeper::Monitor::exec` meets its contract. Assumes nothing.
 use Rattle.model.specs.Calls.{exec}
-use Rattle.answers.specs.Telling.{told}
 use Rattle.gatekeeper.specs.View.{view}
 use Rattle.gatekeeper.proofs.Acting.{stops, ends, waits, frees}
 use Rattle.gatekeeper.proofs.Storing.{subject-got, object-got, exec-late, execs}
@@ -8,23 +7,11 @@ use borrow.Author.Needs.{needs}
 use Rattle.gatekeeper.proofs.Monitor.exec.Statement.{statement}
 use Rattle.gatekeeper.proofs.Monitor.exec.Tie as tie
 
-mul-step : tie.Need-mul-step
-mul-step c = search needs
+subject-of-requires : tie.Need-subject-of-requires
+subject-of-requires c κs = search needs
 
-element-copy-out-step : tie.Need-element-copy-out-step
-element-copy-out-step c = search needs
-
-mul-there : tie.Need-mul-there
-mul-there c = search needs
-
-element-copy-out-there : tie.Need-element-copy-out-there
-element-copy-out-there c = search needs
-
-subject-at-requires : tie.Need-subject-at-requires
-subject-at-requires c κs = search needs
-
-object-at-requires : tie.Need-object-at-requires
-object-at-requires c κs = search needs
+object-of-requires : tie.Need-object-of-requires
+object-of-requires c κs = search needs
 
 of-exec-requires : tie.Need-of-exec-requires
 of-exec-requires c κs = search needs
@@ -34,28 +21,26 @@ refuse-requires c κs = search needs
 
 returns : tie.Need-returns
 returns c =
-    let c2 = c .before .before in
+    let c1 = c .before in
+    let c2 = c1 .before in
     let c3 = c2 .before in
     let c4 = c3 .before in
     let c7 = c4 .before .before .before in
     let a = c7 .args in
     let g = c7 .good .0 in
     let w = c7 .pre in
-    stops (a .t1) (exec (a .s) (a .o)) (c2 .of-exec .result) (c .refuse .result)
-    (c2 .of-exec .ensures (view (a .t1)) (a .s) (a .o) w (subject-got (a .t1) g (a .s) (c4 .subject-at .result) (c4 .subject-at .ensures))
-    (object-got (a .t1) g (a .o) (c3 .object-at .result) (c3 .object-at .ensures))) (c .before .if1 .taken) (c .refuse .ensures)
+    stops (a .self) (exec (a .s) (a .o)) (c2 .of-exec .result) (c .refuse .result)
+    (c2 .of-exec .ensures (view (a .self)) (a .s) (a .o) w (subject-got (a .self) g (a .s) (c4 .subject-of .result) (c4 .subject-of .ensures))
+    (object-got (a .self) g (a .o) (c3 .object-of .result) (c3 .object-of .ensures))) (c1 .if1 .taken) (c .refuse .ensures)
 
-row-of-requires : tie.Need-row-of-requires
-row-of-requires c κs = search needs
+shed-requires : tie.Need-shed-requires
+shed-requires c κs = search needs
 
-lasting-requires : tie.Need-lasting-requires
-lasting-requires c κs = search needs
+figures-requires : tie.Need-figures-requires
+figures-requires c κs = search needs
 
-with-row-requires : tie.Need-with-row-requires
-with-row-requires c κs = search needs
-
-is-below-requires : tie.Need-is-below-requires
-is-below-requires c κs = search needs
+of-subject-requires : tie.Need-of-subject-requires
+of-subject-requires c κs = search needs
 
 last-requires : tie.Need-last-requires
 last-requires c κs = search needs
@@ -65,39 +50,35 @@ refuse-requires-2 c κs = search needs
 
 returns-2 : tie.Need-returns-2
 returns-2 c =
-    let c2 = c .before .before in
-    let c3 = c2 .before in
-    let c4 = c3 .before in
+    let c1 = c .before in
+    let c2 = c1 .before in
+    let c4 = c2 .before .before in
     let c5 = c4 .before in
     let c6 = c5 .before in
-    let c9 = c6 .before .before .before in
+    let c8 = c6 .before .before in
+    let c9 = c8 .before in
     let c10 = c9 .before in
     let c11 = c10 .before in
-    let c12 = c11 .before in
-    let c15 = c12 .before .before .before in
-    let a = c15 .args in
-    let g = c15 .good .0 in
-    let w = c15 .pre in
-    let x = subject-got (a .t1) g (a .s) (c12 .subject-at .result) (c12 .subject-at .ensures) in
-    let y = object-got (a .t1) g (a .o) (c11 .object-at .result) (c11 .object-at .ensures) in
-    let z = waits (c10 .of-exec .ensures (view (a .t1)) (a .s) (a .o) w x y) (c9 .if1 .left) in
-    let e = c2 .last .ensures (view (a .t1)) (exec (a .s) (a .o)) z
-    (exec-late (a .t1) g (a .s) (a .o) (c11 .object-at .result) (c6 .row-of .result) (c5 .lasting .result) (c4 .with-row .result)
-    w z y (c6 .row-of .ensures) (c5 .lasting .ensures) (c4 .with-row .ensures) (c3 .is-below .result)
-    (c3 .is-below .ensures)) in
-    ends (a .t1) (exec (a .s) (a .o)) (c2 .last .result) (c .refuse2 .result) e (c .before .if2 .taken) (c .refuse2 .ensures)
+    let c14 = c11 .before .before .before in
+    let a = c14 .args in
+    let g = c14 .good .0 in
+    let w = c14 .pre in
+    let x = subject-got (a .self) g (a .s) (c11 .subject-of .result) (c11 .subject-of .ensures) in
+    let y = object-got (a .self) g (a .o) (c10 .object-of .result) (c10 .object-of .ensures) in
+    let z = waits (c9 .of-exec .ensures (view (a .self)) (a .s) (a .o) w x y) (c8 .if1 .left) in
+    let e = c2 .last .ensures (view (a .self)) (exec (a .s) (a .o)) z
+    (exec-late (a .self) g (a .s) (a .o) (c10 .object-of .result) (c6 .shed .result) (c5 .figures .result) w z y (c6 .shed .ensures)
+    (c5 .figures .ensures) (c4 .of-subject .result) (c4 .of-subject .ensures)) in
+    ends (a .self) (exec (a .s) (a .o)) (c2 .last .result) (c .refuse2 .result) e (c1 .if2 .taken) (c .refuse2 .ensures)
 
 fallen-requires : tie.Need-fallen-requires
 fallen-requires c κs = search needs
 
+with-subject-requires : tie.Need-with-subject-requires
+with-subject-requires c κs = search needs
+
 reaped-requires : tie.Need-reaped-requires
 reaped-requires c κs = search needs
-
-mul-put : tie.Need-mul-put
-mul-put c = search needs
-
-element-set-from-put : tie.Need-element-set-from-put
-element-set-from-put c = search needs
 
 not-refused-requires : tie.Need-not-refused-requires
 not-refused-requires c κs = search needs
@@ -109,10 +90,10 @@ returns-3 c =
     let c5 = c4 .before in
     let c6 = c5 .before in
     let c7 = c6 .before in
-    let c8 = c7 .before in
-    let c9 = c8 .before in
+    let c9 = c7 .before .before in
     let c10 = c9 .before in
-    let c13 = c10 .before .before .before in
+    let c11 = c10 .before in
+    let c13 = c11 .before .before in
     let c14 = c13 .before in
     let c15 = c14 .before in
     let c16 = c15 .before in
@@ -120,41 +101,33 @@ returns-3 c =
     let a = c19 .args in
     let g = c19 .good .0 in
     let w = c19 .pre in
-    let x = subject-got (a .t1) g (a .s) (c16 .subject-at .result) (c16 .subject-at .ensures) in
-    let y = object-got (a .t1) g (a .o) (c15 .object-at .result) (c15 .object-at .ensures) in
-    let z = waits (c14 .of-exec .ensures (view (a .t1)) (a .s) (a .o) w x y) (c13 .if1 .left) in
-    let e = c6 .last .ensures (view (a .t1)) (exec (a .s) (a .o)) z
-    (exec-late (a .t1) g (a .s) (a .o) (c15 .object-at .result) (c10 .row-of .result) (c9 .lasting .result) (c8 .with-row .result)
-    w z y (c10 .row-of .ensures) (c9 .lasting .ensures) (c8 .with-row .ensures) (c7 .is-below .result)
-    (c7 .is-below .ensures)) in
-    execs (a .t1) g (a .s) (a .o) (c15 .object-at .result) (c10 .row-of .result) (c9 .lasting .result) (c8 .with-row .result)
-    w z y (c10 .row-of .ensures) (c9 .lasting .ensures) (c8 .with-row .ensures) (c16 .subject-at .result)
-    (c4 .fallen .result) (c3 .reaped .result) (told (c .not-refused .result)) x (frees e (c5 .if2 .left)) (c4 .fallen .ensures) (c .not-refused .ensures)
-    (c3 .reaped .ensures)
+    let x = subject-got (a .self) g (a .s) (c16 .subject-of .result) (c16 .subject-of .ensures) in
+    let y = object-got (a .self) g (a .o) (c15 .object-of .result) (c15 .object-of .ensures) in
+    let z = waits (c14 .of-exec .ensures (view (a .self)) (a .s) (a .o) w x y) (c13 .if1 .left) in
+    let e = c7 .last .ensures (view (a .self)) (exec (a .s) (a .o)) z
+    (exec-late (a .self) g (a .s) (a .o) (c15 .object-of .result) (c11 .shed .result) (c10 .figures .result) w z y (c11 .shed .ensures)
+    (c10 .figures .ensures) (c9 .of-subject .result) (c9 .of-subject .ensures)) in
+    execs (a .self) g (a .s) (a .o) (c15 .object-of .result) (c11 .shed .result) (c10 .figures .result) w z y (c11 .shed .ensures) (c10 .figures .ensures)
+    (c16 .subject-of .result) (c5 .fallen .result) (c4 .with-subject .result) (c3 .reaped .result) _ x (frees e (c6 .if2 .left)) (c5 .fallen .ensures)
+    (c4 .with-subject .ensures) (c .not-refused .ensures) (c3 .reaped .ensures)
 
 pub exec-spec : {M : Type 1} → statement M
 exec-spec =
     tie.close
     (tie.spec
-    mul-step
-    element-copy-out-step
-    mul-there
-    element-copy-out-there
-    subject-at-requires
-    object-at-requires
+    subject-of-requires
+    object-of-requires
     of-exec-requires
     refuse-requires
     returns
-    row-of-requires
-    lasting-requires
-    with-row-requires
-    is-below-requires
+    shed-requires
+    figures-requires
+    of-subject-requires
     last-requires
     refuse-requires-2
     returns-2
     fallen-requires
+    with-subject-requires
     reaped-requires
-    mul-put
-    element-set-from-put
     not-refused-requires
     returns-3)

@@ -29,7 +29,7 @@ returns-2 c =
     let c1 = c .before in
     let c2 = c1 .before in
     let a = c2 .args in
-    freezes (a .self) (c2 .good .0) (a .level) (goes (c1 .of-freeze .ensures (view (a .self)) (c2 .pre)) (c .if1 .left))
+    freezes (a .self) (c2 .good .0) (a .level) (c2 .pre) (goes (c1 .of-freeze .ensures (view (a .self)) (c2 .pre)) (c .if1 .left))
 
 pub freeze-spec : {M : Type 1} → statement M
 freeze-spec = tie.close (tie.spec of-freeze-requires refuse-requires returns cast-l returns-2)

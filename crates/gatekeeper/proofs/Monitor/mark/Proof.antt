@@ -7,29 +7,11 @@ use borrow.Author.Needs.{needs}
 use Rattle.gatekeeper.proofs.Monitor.mark.Statement.{statement}
 use Rattle.gatekeeper.proofs.Monitor.mark.Tie as tie
 
-mul-at : tie.Need-mul-at
-mul-at c = search needs
+subject-of-requires : tie.Need-subject-of-requires
+subject-of-requires c κs = search needs
 
-add-at : tie.Need-add-at
-add-at c = search needs
-
-mul-step : tie.Need-mul-step
-mul-step c = search needs
-
-element-copy-out-step : tie.Need-element-copy-out-step
-element-copy-out-step c = search needs
-
-mul-there : tie.Need-mul-there
-mul-there c = search needs
-
-element-copy-out-there : tie.Need-element-copy-out-there
-element-copy-out-there c = search needs
-
-subject-at-requires : tie.Need-subject-at-requires
-subject-at-requires c κs = search needs
-
-handle-at-requires : tie.Need-handle-at-requires
-handle-at-requires c κs = search needs
+handle-of-requires : tie.Need-handle-of-requires
+handle-of-requires c κs = search needs
 
 of-held-requires : tie.Need-of-held-requires
 of-held-requires c κs = search needs
@@ -39,52 +21,44 @@ refuse-requires c κs = search needs
 
 returns : tie.Need-returns
 returns c =
-    let c2 = c .before .before in
+    let c1 = c .before in
+    let c2 = c1 .before in
     let c3 = c2 .before in
     let c4 = c3 .before in
     let c7 = c4 .before .before .before in
     let a = c7 .args in
     let g = c7 .good .0 in
     let w = c7 .pre in
-    stops (a .t1) (mark (a .s) (a .p)) (c2 .of-held .result) (c .refuse .result)
-    (c2 .of-held .ensures (view (a .t1)) (a .s) (a .p) w (subject-got (a .t1) g (a .s) (c4 .subject-at .result) (c4 .subject-at .ensures))
-    (handle-got (a .t1) g (a .s) (a .p) (c3 .handle-at .result) (c3 .handle-at .ensures)) .1) (c .before .if1 .taken) (c .refuse .ensures)
+    stops (a .self) (mark (a .s) (a .p)) (c2 .of-held .result) (c .refuse .result)
+    (c2 .of-held .ensures (view (a .self)) (a .s) (a .p) w (subject-got (a .self) g (a .s) (c4 .subject-of .result) (c4 .subject-of .ensures))
+    (handle-got (a .self) g (a .s) (a .p) (c3 .handle-of .result) (c3 .handle-of .ensures)) .1) (c1 .if1 .taken) (c .refuse .ensures)
 
-mul-t13 : tie.Need-mul-t13
-mul-t13 c = search needs
-
-element-set-from-self : tie.Need-element-set-from-self
-element-set-from-self c = search needs
+with-handle-requires : tie.Need-with-handle-requires
+with-handle-requires c κs = search needs
 
 returns-2 : tie.Need-returns-2
 returns-2 c =
     let c1 = c .before in
     let c2 = c1 .before in
     let c3 = c2 .before in
-    let c6 = c3 .before .before .before in
-    let a = c6 .args in
-    let g = c6 .good .0 in
-    let w = c6 .pre in
-    let x = subject-got (a .t1) g (a .s) (c3 .subject-at .result) (c3 .subject-at .ensures) in
-    let h = handle-got (a .t1) g (a .s) (a .p) (c2 .handle-at .result) (c2 .handle-at .ensures) in
-    let z = goes (c1 .of-held .ensures (view (a .t1)) (a .s) (a .p) w x h .1) (c .if1 .left) in
-    marks (a .t1) g (a .s) (a .p) (c3 .subject-at .result) (c2 .handle-at .result) w z x h
+    let c4 = c3 .before in
+    let c7 = c4 .before .before .before in
+    let a = c7 .args in
+    let g = c7 .good .0 in
+    let w = c7 .pre in
+    let x = subject-got (a .self) g (a .s) (c4 .subject-of .result) (c4 .subject-of .ensures) in
+    let h = handle-got (a .self) g (a .s) (a .p) (c3 .handle-of .result) (c3 .handle-of .ensures) in
+    let z = goes (c2 .of-held .ensures (view (a .self)) (a .s) (a .p) w x h .1) (c1 .if1 .left) in
+    marks (a .self) g (a .s) (a .p) (c4 .subject-of .result) (c3 .handle-of .result) (c .with-handle .result) w z x h (c .with-handle .ensures)
 
 pub mark-spec : {M : Type 1} → statement M
 mark-spec =
     tie.close
     (tie.spec
-    mul-at
-    add-at
-    mul-step
-    element-copy-out-step
-    mul-there
-    element-copy-out-there
-    subject-at-requires
-    handle-at-requires
+    subject-of-requires
+    handle-of-requires
     of-held-requires
     refuse-requires
     returns
-    mul-t13
-    element-set-from-self
+    with-handle-requires
     returns-2)

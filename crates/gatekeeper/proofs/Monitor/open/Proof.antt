@@ -1,6 +1,9 @@
 -- `gatekeeper::Monitor::open` meets its contract. Assumes nothing.
-use mathlib.Core.Path.{refl}
+use mathlib.Core.Path.{refl, _∙_, ap}
 use Rattle.model.specs.Calls.{opens}
+use Prim.Native.Nat.{ℕ, _+_, _*_, _%_}
+use lib.ListN.{set}
+use Rattle.tables.specs.Working.{joining}
 use Rattle.tables.specs.Records.{tables-of}
 use Rattle.tables.specs.Refusing.{direction}
 use Rattle.gatekeeper.specs.View.{view}
@@ -10,38 +13,14 @@ use borrow.Author.Needs.{needs}
 use Rattle.gatekeeper.proofs.Monitor.open.Statement.{statement}
 use Rattle.gatekeeper.proofs.Monitor.open.Tie as tie
 
-mul-at : tie.Need-mul-at
-mul-at c = search needs
+subject-of-requires : tie.Need-subject-of-requires
+subject-of-requires c κs = search needs
 
-add-at : tie.Need-add-at
-add-at c = search needs
+object-of-requires : tie.Need-object-of-requires
+object-of-requires c κs = search needs
 
-mul-step : tie.Need-mul-step
-mul-step c = search needs
-
-element-copy-out-step : tie.Need-element-copy-out-step
-element-copy-out-step c = search needs
-
-mul-thing : tie.Need-mul-thing
-mul-thing c = search needs
-
-element-copy-out-thing : tie.Need-element-copy-out-thing
-element-copy-out-thing c = search needs
-
-mul-there : tie.Need-mul-there
-mul-there c = search needs
-
-element-copy-out-there : tie.Need-element-copy-out-there
-element-copy-out-there c = search needs
-
-subject-at-requires : tie.Need-subject-at-requires
-subject-at-requires c κs = search needs
-
-object-at-requires : tie.Need-object-at-requires
-object-at-requires c κs = search needs
-
-handle-at-requires : tie.Need-handle-at-requires
-handle-at-requires c κs = search needs
+handle-of-requires : tie.Need-handle-of-requires
+handle-of-requires c κs = search needs
 
 of-open-requires : tie.Need-of-open-requires
 of-open-requires c κs = search needs
@@ -51,7 +30,8 @@ refuse-requires c κs = search needs
 
 returns : tie.Need-returns
 returns c =
-    let c2 = c .before .before in
+    let c1 = c .before in
+    let c2 = c1 .before in
     let c3 = c2 .before in
     let c4 = c3 .before in
     let c5 = c4 .before in
@@ -59,23 +39,23 @@ returns c =
     let a = c9 .args in
     let g = c9 .good .0 in
     let w = c9 .pre in
-    stops (a .t1) (opens (direction (a .reads)) (a .s) (a .o) (a .p)) (c2 .of-open .result) (c .refuse .result)
-    (c2 .of-open .ensures (view (a .t1)) (direction (a .reads)) (a .s) (a .o) w
-    (subject-got (a .t1) g (a .s) (c5 .subject-at .result) (c5 .subject-at .ensures))
-    (object-got (a .t1) g (a .o) (c4 .object-at .result) (c4 .object-at .ensures))
-    (handle-got (a .t1) g (a .s) (a .p) (c3 .handle-at .result) (c3 .handle-at .ensures))) (c .before .if1 .taken) (c .refuse .ensures)
+    stops (a .self) (opens (direction (a .reads)) (a .s) (a .o) (a .p)) (c2 .of-open .result) (c .refuse .result)
+    (c2 .of-open .ensures (view (a .self)) (direction (a .reads)) (a .s) (a .o) w
+    (subject-got (a .self) g (a .s) (c5 .subject-of .result) (c5 .subject-of .ensures))
+    (object-got (a .self) g (a .o) (c4 .object-of .result) (c4 .object-of .ensures))
+    (handle-got (a .self) g (a .s) (a .p) (c3 .handle-of .result) (c3 .handle-of .ensures))) (c1 .if1 .taken) (c .refuse .ensures)
 
 way-of-requires : tie.Need-way-of-requires
 way-of-requires c κs = search needs
 
-cast-number : tie.Need-cast-number
-cast-number c = search needs
+joining-requires : tie.Need-joining-requires
+joining-requires c κs = search needs
 
-mul-next : tie.Need-mul-next
-mul-next c = search needs
+with-handle-requires : tie.Need-with-handle-requires
+with-handle-requires c κs = search needs
 
-array-set-from-next : tie.Need-array-set-from-next
-array-set-from-next c = search needs
+figures-requires : tie.Need-figures-requires
+figures-requires c κs = search needs
 
 is-short-requires : tie.Need-is-short-requires
 is-short-requires c κs = search needs
@@ -92,10 +72,14 @@ refuse-requires-2 c κs = search needs
 returns-2 : tie.Need-returns-2
 unfolding tables-of
 returns-2 c =
-    let c2 = c .before .before in
+    let c1 = c .before in
+    let c2 = c1 .before in
     let c3 = c2 .before in
     let c4 = c3 .before in
-    let c8 = c4 .before .before .before .before in
+    let c5 = c4 .before in
+    let c6 = c5 .before in
+    let c7 = c6 .before in
+    let c8 = c7 .before in
     let c9 = c8 .before in
     let c10 = c9 .before in
     let c11 = c10 .before in
@@ -105,15 +89,17 @@ returns-2 c =
     let a = c17 .args in
     let g = c17 .good .0 in
     let w = c17 .pre in
-    let y = object-got (a .t1) g (a .o) (c12 .object-at .result) (c12 .object-at .ensures) in
-    let z = waits (c10 .of-open .ensures (view (a .t1)) (direction (a .reads)) (a .s) (a .o) w
-    (subject-got (a .t1) g (a .s) (c13 .subject-at .result) (c13 .subject-at .ensures)) y
-    (handle-got (a .t1) g (a .s) (a .p) (c11 .handle-at .result) (c11 .handle-at .ensures))) (c9 .if1 .left) in
-    let e = c2 .last .ensures (view (a .t1)) (opens (direction (a .reads)) (a .s) (a .o) (a .p)) z
-    (open-late (a .t1) g (a .reads) (c8 .way-of .result) (a .s) (a .o) (a .p) (c12 .object-at .result) (c8 .way-of .ensures) w z y
-    (c4 .is-short .result) (c3 .is-frozen .result) (c4 .is-short .ensures)
-    (c3 .is-frozen .ensures (view (a .t1)) (a .o) refl y)) in
-    ends (a .t1) (opens (direction (a .reads)) (a .s) (a .o) (a .p)) (c2 .last .result) (c .refuse2 .result) e (c .before .if2 .taken) (c .refuse2 .ensures)
+    let put = c6 .with-handle .ensures
+    ∙ ap (set (a .self .handles) (a .s % 32 * 16 + a .p % 16)) (c7 .joining .ensures ∙ ap (λ (i : ℕ). joining i (a .o)) (c8 .way-of .ensures)) in
+    let y = object-got (a .self) g (a .o) (c12 .object-of .result) (c12 .object-of .ensures) in
+    let z = waits (c10 .of-open .ensures (view (a .self)) (direction (a .reads)) (a .s) (a .o) w
+    (subject-got (a .self) g (a .s) (c13 .subject-of .result) (c13 .subject-of .ensures)) y
+    (handle-got (a .self) g (a .s) (a .p) (c11 .handle-of .result) (c11 .handle-of .ensures))) (c9 .if1 .left) in
+    let e = c2 .last .ensures (view (a .self)) (opens (direction (a .reads)) (a .s) (a .o) (a .p)) z
+    (open-late (a .self) g (a .reads) (a .s) (a .o) (a .p) (c12 .object-of .result) (c6 .with-handle .result) (c5 .figures .result) w z y put
+    (c5 .figures .ensures) (c4 .is-short .result) (c3 .is-frozen .result) (c4 .is-short .ensures)
+    (c3 .is-frozen .ensures (view (a .self)) (a .o) refl y)) in
+    ends (a .self) (opens (direction (a .reads)) (a .s) (a .o) (a .p)) (c2 .last .result) (c .refuse2 .result) e (c1 .if2 .taken) (c .refuse2 .ensures)
 
 returns-3 : tie.Need-returns-3
 unfolding tables-of
@@ -121,7 +107,10 @@ returns-3 c =
     let c1 = c .before in
     let c2 = c1 .before in
     let c3 = c2 .before in
-    let c7 = c3 .before .before .before .before in
+    let c4 = c3 .before in
+    let c5 = c4 .before in
+    let c6 = c5 .before in
+    let c7 = c6 .before in
     let c8 = c7 .before in
     let c9 = c8 .before in
     let c10 = c9 .before in
@@ -131,39 +120,33 @@ returns-3 c =
     let a = c16 .args in
     let g = c16 .good .0 in
     let w = c16 .pre in
-    let y = object-got (a .t1) g (a .o) (c11 .object-at .result) (c11 .object-at .ensures) in
-    let z = waits (c9 .of-open .ensures (view (a .t1)) (direction (a .reads)) (a .s) (a .o) w
-    (subject-got (a .t1) g (a .s) (c12 .subject-at .result) (c12 .subject-at .ensures)) y
-    (handle-got (a .t1) g (a .s) (a .p) (c10 .handle-at .result) (c10 .handle-at .ensures))) (c8 .if1 .left) in
-    let e = c1 .last .ensures (view (a .t1)) (opens (direction (a .reads)) (a .s) (a .o) (a .p)) z
-    (open-late (a .t1) g (a .reads) (c7 .way-of .result) (a .s) (a .o) (a .p) (c11 .object-at .result) (c7 .way-of .ensures) w z y
-    (c3 .is-short .result) (c2 .is-frozen .result) (c3 .is-short .ensures)
-    (c2 .is-frozen .ensures (view (a .t1)) (a .o) refl y)) in
-    opens-acts (a .t1) g (a .reads) (c7 .way-of .result) (a .s) (a .o) (a .p) (c11 .object-at .result) (c7 .way-of .ensures) w z y
+    let put = c5 .with-handle .ensures
+    ∙ ap (set (a .self .handles) (a .s % 32 * 16 + a .p % 16)) (c6 .joining .ensures ∙ ap (λ (i : ℕ). joining i (a .o)) (c7 .way-of .ensures)) in
+    let y = object-got (a .self) g (a .o) (c11 .object-of .result) (c11 .object-of .ensures) in
+    let z = waits (c9 .of-open .ensures (view (a .self)) (direction (a .reads)) (a .s) (a .o) w
+    (subject-got (a .self) g (a .s) (c12 .subject-of .result) (c12 .subject-of .ensures)) y
+    (handle-got (a .self) g (a .s) (a .p) (c10 .handle-of .result) (c10 .handle-of .ensures))) (c8 .if1 .left) in
+    let e = c1 .last .ensures (view (a .self)) (opens (direction (a .reads)) (a .s) (a .o) (a .p)) z
+    (open-late (a .self) g (a .reads) (a .s) (a .o) (a .p) (c11 .object-of .result) (c5 .with-handle .result) (c4 .figures .result) w z y put
+    (c4 .figures .ensures) (c3 .is-short .result) (c2 .is-frozen .result) (c3 .is-short .ensures)
+    (c2 .is-frozen .ensures (view (a .self)) (a .o) refl y)) in
+    opens-acts (a .self) g (a .reads) (a .s) (a .o) (a .p) (c11 .object-of .result) (c5 .with-handle .result) (c4 .figures .result) w z y put (c4 .figures .ensures)
     (frees e (c .if2 .left))
 
 pub open-spec : {M : Type 1} → statement M
 open-spec =
     tie.close
     (tie.spec
-    mul-at
-    add-at
-    mul-step
-    element-copy-out-step
-    mul-thing
-    element-copy-out-thing
-    mul-there
-    element-copy-out-there
-    subject-at-requires
-    object-at-requires
-    handle-at-requires
+    subject-of-requires
+    object-of-requires
+    handle-of-requires
     of-open-requires
     refuse-requires
     returns
     way-of-requires
-    cast-number
-    mul-next
-    array-set-from-next
+    joining-requires
+    with-handle-requires
+    figures-requires
     is-short-requires
     is-frozen-requires
     last-requires

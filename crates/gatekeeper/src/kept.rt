@@ -1,0 +1,52 @@
+// The needs that are kept beside the tables: what is told of them, and how those of any monitor value are put right.
+ghost use mathlib.Core.Path.{_≡_};
+ghost use Rattle.model.specs.Label.{label};
+ghost use Rattle.model.specs.Flow.{subject, object};
+ghost use Rattle.model.specs.Tables.{clean, needs};
+ghost use Rattle.gatekeeper.specs.View.{view, Right, kept-need, Righted};
+use crate::Monitor;
+use flows::kept;
+use tables::FREE;
+use tables::looks;
+
+impl Monitor {
+    // The kept need of subject s, and of object o; 0 where it is not live. On a right monitor it is the need, and so that of whatever is not live.
+    pub fn need_of_subject(self, s: u32) -> u8
+        ensures kept { λ r. ⌜ r ≡ kept-need self (subject s) ⌝ }
+        ensures right { λ r. ⌜ (Right self → label r ≡ needs (clean (view self)) (subject s)) ⌝ }
+    {
+        let subjects = self.subjects;
+        let x = looks::subject_of(subjects, s);
+        if x.live == 0 {
+            return 0;
+        }
+        let n = self.needs;
+        kept::of_subject(n, s)
+    }
+
+    pub fn need_of_object(self, o: u32) -> u8
+        ensures kept { λ r. ⌜ r ≡ kept-need self (object o) ⌝ }
+        ensures right { λ r. ⌜ (Right self → label r ≡ needs (clean (view self)) (object o)) ⌝ }
+    {
+        let objects = self.objects;
+        let y = looks::object_of(objects, o);
+        if y.kind == FREE {
+            return 0;
+        }
+        let n = self.needs;
+        kept::of_object(n, o)
+    }
+
+    // This monitor with its needs worked out anew, whatever they were. All else stays as it is, the free part too.
+    pub fn righted(mut self) -> Monitor
+        ensures { λ r. ⌜ Righted self r ⌝ }
+    {
+        let subjects = self.subjects;
+        let objects = self.objects;
+        let handles = self.handles;
+        let counted = handles::cleaned(subjects, objects, handles);
+        let needs = flows::figures(objects, counted);
+        self.needs = needs;
+        self
+    }
+}
