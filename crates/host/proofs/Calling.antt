@@ -1,5 +1,5 @@
 -- What a call leaves in the state's bytes, and what it is answered. Assumes nothing.
-use mathlib.Core.Path.{_≡_, refl, sym, ap, ap₂, _∙_, subst}
+use mathlib.Core.Path.{_≡_, refl, sym, ap, ap₂, _∙_, subst, subst₂}
 use mathlib.Core.Option.{some, Option·none-ne-some}
 use mathlib.Core.List.{List}
 use Prim.Native.Nat.{ℕ}
@@ -9,12 +9,14 @@ use lib.ListN.{length}
 use Rattle.model.specs.Tables.{Tables, clean}
 use Rattle.model.specs.Calls.{Call, Raw, decode, refusal, Answer, allowed, lowered, refused, answer}
 use Rattle.model.specs.Calls.Refusals.{answered-refused}
+use Rattle.model.specs.Figures.{Ready}
 use Rattle.model.specs.Promise.{Meets}
 use Rattle.model.specs.Tally.{tallied}
 use Rattle.gatekeeper.specs.declared.Monitor.{Monitor}
 use Rattle.tally.specs.declared.Tally.{Tally}
 use Rattle.answers.specs.Telling.{letter-of}
-use Rattle.gatekeeper.specs.View.{view}
+use Rattle.tables.specs.Needs.{figure-of}
+use Rattle.gatekeeper.specs.View.{view, Right}
 use Rattle.tally.specs.Counting.{counts-of}
 use Rattle.host.specs.State.{state-bytes, Sized, monitor-of, tally-of, Stands, state-view, Stored}
 use Rattle.host.specs.Numbers.{answer-number, answer-in, call-number}
@@ -30,11 +32,11 @@ r-refused (refused k) h = (k, refl)
 pub record Made (s : List ℕ) (c : Call) (m : Monitor) (y : Tally) (a : Answer) (n : Monitor) (z : Tally) : Type 0 where
   pub from-monitor : m ≡ monitor-of s
   pub from-tally : y ≡ tally-of s
-  pub meets : Meets view m c a n
+  pub meets : Meets view Right m c a n
   pub counts : counts-of z ≡ tallied (clean (view m)) c (counts-of y)
 
 pub made : (s : List ℕ) {c : Call} {m : Monitor} {y : Tally} {a : Answer} {n : Monitor} {z : Tally} → m ≡ monitor-of s → y ≡ tally-of s
-    → Meets view m c a n → counts-of z ≡ tallied (clean (view m)) c (counts-of y) → Made s c m y a n z
+    → Meets view Right m c a n → counts-of z ≡ tallied (clean (view m)) c (counts-of y) → Made s c m y a n z
 made s em ey p q = record { from-monitor = em; from-tally = ey; meets = p; counts = q }
 
 module _ {s : List ℕ} {c : Call} {m : Monitor} {y : Tally} {a : Answer} {n : Monitor} {z : Tally} (p : Made s c m y a n z) where
@@ -48,6 +50,9 @@ module _ {s : List ℕ} {c : Call} {m : Monitor} {y : Tally} {a : Answer} {n : M
   unfolding call-number
   call-answered n h e = rw (eq-eqb (length s) state-bytes h) (e ∙ ap answer-number answered)
 
+  meets-here : Meets view Right (monitor-of s) c a n
+  meets-here = subst (λ (x : Monitor). Meets view Right x c a n) (p .from-monitor) (p .meets)
+
   -- a refused call leaves every byte
   call-refused : Sized s → letter-of a ≡ 82 → Stored s c s
   unfolding tallied
@@ -56,7 +61,7 @@ module _ {s : List ℕ} {c : Call} {m : Monitor} {y : Tally} {a : Answer} {n : M
       let q : refusal t c ≡ some k = answered-refused t c k .0 (sym answered ∙ r) in
       record {
         size = size;
-        meets = record { answered = refl; unchanged = λ j w. refl; moved = λ w. absurd (Option·none-ne-some k (sym w ∙ q)) };
+        meets = record { answered = refl; unchanged = λ j w. refl; moved = λ w. absurd (Option·none-ne-some k (sym w ∙ q)); kept = λ r. r };
         counts = rw (q, tallied);
         exact = λ w. absurd (Option·none-ne-some k (sym w ∙ q));
       }
@@ -68,7 +73,8 @@ module _ {s : List ℕ} {c : Call} {m : Monitor} {y : Tally} {a : Answer} {n : M
     meets = record {
       answered = refl;
       unchanged = λ j w. absurd (h (ap letter-of (answered ∙ answered-refused t c j .1 w)));
-      moved = λ w. k .tables ∙ subst (λ (x : Monitor). Meets view x c a n) (p .from-monitor) (p .meets) .moved w;
+      moved = λ w. k .tables ∙ meets-here .moved w;
+      kept = λ r. subst₂ (λ (u : Tables) (ns : List ℕ). Ready (clean u) (figure-of ns)) (sym (k .tables)) (sym (k .needs)) (meets-here .kept r);
     };
     counts = ap counts-of (k .tally)
         ∙ p .counts

@@ -5,3 +5,4 @@ pub mod Loading
 pub mod Storing
 pub mod Calling
 pub mod Answering
+pub mod Seeing

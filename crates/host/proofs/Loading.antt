@@ -18,7 +18,7 @@ abbrev pub bytes-at : ℕ → ℕ → List ℕ → List ℕ
 bytes-at zero at s = []
 bytes-at (suc w) at s = getD s at 0 ∷ bytes-at w (at + 1) s
 
-bytes-taken : (w at : ℕ) (s : List ℕ) → at + w ≤ length s → take w (drop at s) ≡ bytes-at w at s
+pub bytes-taken : (w at : ℕ) (s : List ℕ) → at + w ≤ length s → take w (drop at s) ≡ bytes-at w at s
 bytes-taken zero at s h = refl
 bytes-taken (suc w) at s h = ap (take (suc w)) (drop-cons s at 0 (omega arith) ∙ ap (λ (k : ℕ). getD s at 0 ∷ drop k s) (sym (add-one at)))
     ∙ ap (λ (t : List ℕ). getD s at 0 ∷ t) (bytes-taken w (at + 1) s (omega arith))

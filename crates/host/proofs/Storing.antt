@@ -10,8 +10,8 @@ use lib.ListN.{length, take, drop, getD, set, replicate, length-append, length-r
 use lib.Seq.{length-take-le, take-suc, take-all, drop-cons, sets, sets-eq}
 use Rattle.gatekeeper.specs.declared.Monitor.{Monitor}
 use Rattle.tally.specs.declared.Tally.{Tally}
-use Rattle.host.specs.State.{state-bytes, objects-at, handles-at, made-at, gone-at, freeze-at}
-use Rattle.host.specs.State.{flat, digits, subject-bytes, object-bytes, handle-bytes, bytes-of}
+use Rattle.host.specs.State.{state-bytes, objects-at, handles-at, made-at, gone-at, freeze-at, needs-at}
+use Rattle.host.specs.State.{flat, digits, subject-bytes, object-bytes, handle-bytes, need-bytes, bytes-of}
 use Rattle.host.specs.State.Laws.{length-flat, flat-append, length-digits, Long, subjects-count, objects-count, handles-count, bytes-length}
 use Rattle.host.specs.Over.{over}
 use Rattle.host.specs.Over.Laws.{over-none, over-length, over-next, over-all}
@@ -83,12 +83,12 @@ module _ {A : Type 0} {g : A → List ℕ} {w b n : ℕ} {l : List A} {o s : Lis
 
 -- ── all of a state ──
 module _ (m : Monitor) (y : Tally) (long : Long m) (o : List ℕ) (size : length o ≡ state-bytes) where
-  pub laid-whole : (s₁ s₂ s₃ s₄ s₅ s₆ : List ℕ) → s₁ ≡ over 0 (subject-bytes (m .subjects)) o → s₂ ≡ over objects-at (object-bytes (m .objects)) s₁
+  pub laid-whole : (s₁ s₂ s₃ s₄ s₅ s₆ s₇ : List ℕ) → s₁ ≡ over 0 (subject-bytes (m .subjects)) o → s₂ ≡ over objects-at (object-bytes (m .objects)) s₁
       → s₃ ≡ over handles-at (handle-bytes (m .handles)) s₂
       → s₄ ≡ over made-at (digits 8 (y .made)) s₃ → s₅ ≡ over gone-at (digits 8 (y .gone)) s₄
-      → s₆ ≡ set s₅ freeze-at (m .freeze) → s₆ ≡ bytes-of m y
+      → s₆ ≡ set s₅ freeze-at (m .freeze) → s₇ ≡ over needs-at (need-bytes (m .needs)) s₆ → s₇ ≡ bytes-of m y
   unfolding bytes-of
-  laid-whole s₁ s₂ s₃ s₄ s₅ s₆ e₁ e₂ e₃ e₄ e₅ e₆ =
+  laid-whole s₁ s₂ s₃ s₄ s₅ s₆ s₇ e₁ e₂ e₃ e₄ e₅ e₆ e₇ =
       let a = subject-bytes (m .subjects) in
       let b = object-bytes (m .objects) in
       let c = handle-bytes (m .handles) in
@@ -105,10 +105,12 @@ module _ (m : Monitor) (y : Tally) (long : Long m) (o : List ℕ) (size : length
       let q₄ : s₄ ≡ over 0 (a ++ b ++ c ++ d) o = e₄ ∙ over-next 0 made-at (a ++ b ++ c) d o s₃ (omega arith) (omega arith) q₃ in
       let q₅ : s₅ ≡ over 0 (a ++ b ++ c ++ d ++ e) o = e₅ ∙ over-next 0 gone-at (a ++ b ++ c ++ d) e o s₄ (omega arith) (omega arith) q₄ in
       let room : freeze-at + 1 ≤ length s₅ = omega (arith, ap length q₅, over-length 0 (a ++ b ++ c ++ d ++ e) o (omega arith)) in
-      e₆
-      ∙ stores-over s₅ freeze-at f room
-      ∙ over-next 0 freeze-at (a ++ b ++ c ++ d ++ e) f o s₅ (omega arith) (omega arith) q₅
-      ∙ over-all (a ++ b ++ c ++ d ++ e ++ f) o (bytes-length m y long ∙ sym size)
+      let q₆ : s₆ ≡ over 0 (a ++ b ++ c ++ d ++ e ++ f) o = e₆ ∙ stores-over s₅ freeze-at f room
+      ∙ over-next 0 freeze-at (a ++ b ++ c ++ d ++ e) f o s₅ (omega arith) (omega arith) q₅ in
+      let lf : length (a ++ b ++ c ++ d ++ e ++ f) ≡ needs-at = omega (arith, length-append (a ++ b ++ c ++ d ++ e) f) in
+      e₇
+      ∙ over-next 0 needs-at (a ++ b ++ c ++ d ++ e ++ f) (need-bytes (m .needs)) o s₆ (omega arith) (omega arith) q₆
+      ∙ over-all (a ++ b ++ c ++ d ++ e ++ f ++ need-bytes (m .needs)) o (bytes-length m y long ∙ sym size)
 
 -- ── bytes one by one ──
 abbrev pub byte : ℕ → List ℕ

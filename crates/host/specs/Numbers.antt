@@ -1,13 +1,15 @@
 -- Answers as one number, since an exported function cannot hand back an enum: of a call, of the record writer and of the number reader.
--- States RULES H11 to H14, by RULES G9.
+-- States RULES H11 to H14 and H17 to H19, by RULES G9.
 --
 -- For a wrong length of the lent bytes the rules have no answer: it is 0, which is no answer's number. The laws are in Numbers/Laws. Assumes nothing.
 use mathlib.Core.Bool.{cond}
+use mathlib.Core.Option.{Option, none, some}
 use mathlib.Core.List.{List}
 use Prim.Native.Nat.{ℕ, _+_, _*_, _/_, _%_}
-use lib.Dec.{eqb}
+use lib.Dec.{eqb, ltb}
 use lib.ListN.{length}
-use Rattle.model.specs.Tables.{clean}
+use Rattle.model.specs.Label.{level}
+use Rattle.model.specs.Tables.{Kind, running, file, pipe, Dir, reading, writing, Entry, Handle, no-freeze, clean}
 use Rattle.model.specs.Calls.{Call, Answer, allowed, lowered, answer}
 use Rattle.model.specs.Calls.{refused as no}
 use Rattle.number.specs.Leb.{Reading, good, malformed}
@@ -58,3 +60,27 @@ roomy-number code ns = cond (known code) (256 + length (record-of code ns)) 1
 abbrev pub reading-number : Reading → ℕ
 reading-number (good value used) = value + 4294967296 * used
 reading-number malformed = 0
+
+-- ── what a host sees ──
+-- RULES H17: 0 where there is none; else 256 times the kind, 1 for a subject and for a file, 2 for a pipe, and the level
+abbrev pub kind-number : Kind → ℕ
+kind-number running = 1
+kind-number file = 1
+kind-number pipe = 2
+
+abbrev pub seen-entry : Option Entry → ℕ
+seen-entry none = 0
+seen-entry (some e) = 256 * kind-number (e .kind) + level (e .label)
+
+-- RULES H18: 0 for an empty place; else 65,536 where it is marked, 256 times the way, 1 for reading, 2 for writing and 3 for a mapping, and the object
+abbrev pub dir-number : Dir → ℕ
+dir-number reading = 1
+dir-number writing = 2
+
+abbrev pub seen-handle : Option Handle → ℕ
+seen-handle none = 0
+seen-handle (some k) = 65536 * cond (k .marked) 1 0 + 256 * cond (k .mapped) 3 (dir-number (k .dir)) + k .to
+
+-- RULES H19: the freeze, 16 for every one that freezes nothing
+abbrev pub seen-freeze : ℕ → ℕ
+seen-freeze n = cond (ltb n no-freeze) n no-freeze

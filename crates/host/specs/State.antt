@@ -1,8 +1,8 @@
--- A monitor and its tally as the bytes that a host lends. States RULES H4 to H10 and H15. Every value of the monitor goes by the rules (RULES T16),
+-- A monitor and its tally as the bytes that a host lends. States RULES H4 to H10, H15 and H16. Every value of the monitor goes by the rules (RULES T16),
 -- so that every byte string of the length is one.
 --
 -- The layout: the subjects and the objects, two bytes each, then the handles, three bytes each, in the order of the struct; then made and gone, eight bytes each,
--- lowest first; then the freeze, one byte. In order: where the parts stand; records of bytes; one record of each kind; numbers; from bytes, and to
+-- lowest first; then the freeze, one byte; then the kept needs, one byte each, of the subjects and of the objects. In order: where the parts stand; records of bytes; one record of each kind; numbers; from bytes, and to
 -- bytes; the empty state, and what a call leaves. The laws are in State/Laws. Assumes nothing.
 use mathlib.Core.Path.{_≡_}
 use mathlib.Core.Bool.{cond}
@@ -20,13 +20,13 @@ use Rattle.tables.specs.declared.Object.{Object}
 use Rattle.tables.specs.declared.Handle.{Handle}
 use Rattle.gatekeeper.specs.declared.Monitor.{Monitor}
 use Rattle.tally.specs.declared.Tally.{Tally}
-use Rattle.gatekeeper.specs.View.{view}
+use Rattle.gatekeeper.specs.View.{view, Right}
 use Rattle.tally.specs.Counting.{counts-of}
 pub mod Laws
 
 -- RULES H4
 abbrev pub state-bytes : ℕ
-state-bytes = 2 * subjects + 2 * objects + 3 * (subjects * places) + 2 * 8 + 1
+state-bytes = 2 * subjects + 2 * objects + 3 * (subjects * places) + 2 * 8 + 1 + (subjects + objects)
 
 -- RULES H10: bytes that are a state
 abbrev pub Sized : List ℕ → Type 0
@@ -43,6 +43,9 @@ object-width = 2
 abbrev pub handle-width : ℕ
 handle-width = 3
 
+abbrev pub need-width : ℕ
+need-width = 1
+
 -- and at which index each part starts; the subjects start at 0
 abbrev pub objects-at : ℕ
 objects-at = subject-width * subjects
@@ -58,6 +61,9 @@ gone-at = made-at + 8
 
 abbrev pub freeze-at : ℕ
 freeze-at = gone-at + 8
+
+abbrev pub needs-at : ℕ
+needs-at = freeze-at + 1
 
 -- ── records of bytes ──
 -- n records of w bytes each, from the front of s; f reads one from its bytes
@@ -112,6 +118,13 @@ handle-of b = record { way = sort-of ways (getD b 0 0); object = getD b 1 0; mar
 abbrev pub handle-record : Handle → List ℕ
 handle-record x = sort-byte ways (x .way) ∷ x .object ∷ live-byte (x .mark) ∷ []
 
+-- RULES H16: one byte
+abbrev pub need-of : List ℕ → ℕ
+need-of b = getD b 0 0
+
+abbrev pub need-record : ℕ → List ℕ
+need-record n = n ∷ []
+
 -- ── numbers, lowest byte first ──
 unfoldable pub whole : List ℕ → ℕ
 whole [] = 0
@@ -141,9 +154,12 @@ gone-of s = whole (take 8 (drop gone-at s))
 unfoldable pub freeze-of : List ℕ → ℕ
 freeze-of s = getD s freeze-at 0
 
--- RULES H5, H9
+unfoldable pub needs-of : List ℕ → List ℕ
+needs-of s = records need-of need-width (subjects + objects) (drop needs-at s)
+
+-- RULES H5, H9, H16
 abbrev pub monitor-of : List ℕ → Monitor
-monitor-of s = record { subjects = subjects-of s; objects = objects-of s; handles = handles-of s; freeze = freeze-of s }
+monitor-of s = record { subjects = subjects-of s; objects = objects-of s; handles = handles-of s; freeze = freeze-of s; needs = needs-of s }
 
 abbrev pub tally-of : List ℕ → Tally
 tally-of s = record { made = made-of s; gone = gone-of s }
@@ -158,17 +174,21 @@ object-bytes l = flat object-record l
 unfoldable pub handle-bytes : List Handle → List ℕ
 handle-bytes l = flat handle-record l
 
--- RULES H5, H9
+unfoldable pub need-bytes : List ℕ → List ℕ
+need-bytes l = flat need-record l
+
+-- RULES H5, H9, H16
 unfoldable pub bytes-of : Monitor → Tally → List ℕ
 bytes-of m y = subject-bytes (m .subjects) ++ object-bytes (m .objects) ++ handle-bytes (m .handles) ++ digits 8 (y .made) ++ digits 8 (y .gone) ++
-    (m .freeze ∷ [])
+    (m .freeze ∷ []) ++ need-bytes (m .needs)
 
--- the bytes s are those of a monitor and a tally, and stand for them: for the monitor's tables, and for the tally
+-- the bytes s are those of a monitor and a tally, and stand for them: for the monitor's tables and kept needs, and for the tally
 pub record Stands (s : List ℕ) (m : Monitor) (y : Tally) : Type 0 where
   pub size : Sized s
   pub bytes : s ≡ bytes-of m y
   pub again : s ≡ bytes-of (monitor-of s) (tally-of s)
   pub tables : view (monitor-of s) ≡ view m
+  pub needs : needs-of s ≡ m .needs
   pub tally : tally-of s ≡ y
 
 -- ── the empty state, and a call ──
@@ -176,21 +196,34 @@ pub record Stands (s : List ℕ) (m : Monitor) (y : Tally) : Type 0 where
 abbrev pub state-view : List ℕ → Tables
 state-view s = view (monitor-of s)
 
+-- RULES F11: the kept needs that stand in the bytes are right
+abbrev pub state-right : List ℕ → Type 0
+state-right s = Right (monitor-of s)
+
 -- as what it is stored: the freeze says that there is none, and all else is 0
 unfoldable pub blank-bytes : List ℕ
-blank-bytes = replicate freeze-at 0 ++ (no-freeze ∷ [])
+blank-bytes = replicate freeze-at 0 ++ (no-freeze ∷ replicate (subjects + objects) 0)
 
--- RULES T12, Y8: empty tables, and counts of 0
+-- RULES T12, F12, Y8: empty tables, kept needs that are right, and counts of 0
 pub record Blank (s : List ℕ) : Type 0 where
   pub size : Sized s
   pub tables : state-view s ≡ empty
+  pub right : state-right s
   pub counts : counts-of (tally-of s) ≡ zeroed
 
--- RULES T16, T23, R102, R103: call c on the bytes s leaves the bytes s′. They meet the rules as a monitor does, so that a refused call
+-- RULES T16, T23, F12, R102, R103: call c on the bytes s leaves the bytes s′. They meet the rules as a monitor does, so that a refused call
 -- leaves every byte; the tally in them is the history's; and what an allowed or lowered call leaves is the bytes of a monitor and a tally.
 -- Which level stands beside a number that is not in use, and which object and mark beside an empty place, is the free part of `Promise`.
 pub record Stored (s : List ℕ) (c : Call) (s′ : List ℕ) : Type 0 where
   pub size : Sized s′
-  pub meets : Meets state-view s c (answer (clean (state-view s)) c) s′
+  pub meets : Meets state-view state-right s c (answer (clean (state-view s)) c) s′
   pub counts : counts-of (tally-of s′) ≡ tallied (clean (state-view s)) c (counts-of (tally-of s))
   pub exact : refusal (clean (state-view s)) c ≡ none → s′ ≡ bytes-of (monitor-of s′) (tally-of s′)
+
+-- RULES F15, H21: the bytes s with their kept needs put right are s′: the bytes before those are as they were
+pub record Put-right (s s′ : List ℕ) : Type 0 where
+  pub size : Sized s′
+  pub others : take needs-at s′ ≡ take needs-at s
+  pub tables : state-view s′ ≡ state-view s
+  pub tally : tally-of s′ ≡ tally-of s
+  pub right : state-right s′

@@ -14,9 +14,9 @@ ghost use Rattle.journal.specs.Record.{longest-record, recording, recorded};
 ghost use Rattle.replay.specs.Replay.{reply, reply-room, Begun};
 ghost use Rattle.answers.specs.Telling.{told};
 ghost use Rattle.gatekeeper.specs.View.{direct};
-ghost use Rattle.host.specs.State.{state-bytes, objects-at, handles-at, Sized, live-of, sort-of, live-byte, sort-byte, whole, digits};
-ghost use Rattle.host.specs.State.{subjects-of, objects-of, handles-of, made-of, gone-of, monitor-of, tally-of};
-ghost use Rattle.host.specs.State.{subject-bytes, object-bytes, handle-bytes, blank-bytes, Stands, Blank};
+ghost use Rattle.host.specs.State.{state-bytes, objects-at, handles-at, needs-at, Sized, live-of, sort-of, live-byte, sort-byte, whole, digits};
+ghost use Rattle.host.specs.State.{subjects-of, objects-of, handles-of, needs-of, made-of, gone-of, monitor-of, tally-of};
+ghost use Rattle.host.specs.State.{subject-bytes, object-bytes, handle-bytes, need-bytes, blank-bytes, Stands, Blank};
 ghost use Rattle.host.specs.Over.{over};
 ghost use Rattle.host.specs.Numbers.{sized, answer-number, answer-in, record-number, roomy-number, reading-number};
 ghost use Rattle.host.specs.Demand3.{Called};
@@ -34,10 +34,13 @@ use tables::OBJECTS;
 use tables::Object;
 use tables::SUBJECTS;
 use tables::Subject;
+use tables::THINGS;
 use tally::Tally;
 
+mod seen;
+
 // Where the parts of a state stand: the subjects at 0, two bytes each; the objects likewise; the handles, three bytes each; the two counts, eight bytes each; the freeze,
-// one byte.
+// one byte; the kept needs, one byte each.
 const SUBJECTS_AT: usize = 0;
 
 const OBJECTS_AT: usize = 2 * SUBJECTS;
@@ -50,8 +53,10 @@ const GONE_AT: usize = MADE_AT + 8;
 
 const FREEZE_AT: usize = GONE_AT + 8;
 
+const NEEDS_AT: usize = FREEZE_AT + 1;
+
 // How many bytes a monitor and its tally take.
-const STATE_BYTES: usize = FREEZE_AT + 1;
+const STATE_BYTES: usize = NEEDS_AT + THINGS;
 
 // The answer to a call on bytes of another length, which is no answer of a call.
 const UNSIZED: u32 = 0;
@@ -166,6 +171,20 @@ fn load_handles(state: &[u8]) -> [Handle; HANDLES]
     r
 }
 
+fn load_needs(state: &[u8]) -> [u8; THINGS]
+    requires { ⌜ Sized (now state) ⌝ }
+    ensures { λ r. ⌜ r ≡ needs-of (now (state .entry)) ⌝ }
+{
+    let mut r = [0u8; THINGS];
+    let mut i: usize = 0;
+    while i < THINGS {
+        let at = NEEDS_AT + i;
+        r[i] = state[at];
+        i += 1;
+    }
+    r
+}
+
 fn load_monitor(state: &[u8]) -> Monitor
     requires { ⌜ Sized (now state) ⌝ }
     ensures { λ r. ⌜ r ≡ monitor-of (now (state .entry)) ⌝ }
@@ -174,11 +193,13 @@ fn load_monitor(state: &[u8]) -> Monitor
     let objects = load_objects(state);
     let handles = load_handles(state);
     let freeze = state[FREEZE_AT];
+    let needs = load_needs(state);
     Monitor {
         subjects: subjects,
         objects: objects,
         handles: handles,
         freeze: freeze,
+        needs: needs,
     }
 }
 
@@ -275,6 +296,19 @@ fn store_number(state: &mut [u8], at: usize, number: u64)
     }
 }
 
+fn store_needs(state: &mut [u8], needs: [u8; THINGS])
+    requires { ⌜ Sized (now state) ⌝ }
+    ensures bytes { λ _. ⌜ now (state .exit) ≡ over needs-at (need-bytes needs) (now (state .entry)) ⌝ }
+    ensures all { λ _. ⌜ length needs ≡ 96 ⌝ }
+{
+    let mut i: usize = 0;
+    while i < THINGS {
+        let place = NEEDS_AT + i;
+        state[place] = needs[i];
+        i += 1;
+    }
+}
+
 fn store(state: &mut [u8], monitor: Monitor, tally: Tally)
     requires { ⌜ Sized (now state) ⌝ }
     ensures { λ _. ⌜ Stands (now (state .exit)) monitor tally ⌝ }
@@ -282,12 +316,14 @@ fn store(state: &mut [u8], monitor: Monitor, tally: Tally)
     let subjects = monitor.subjects;
     let objects = monitor.objects;
     let handles = monitor.handles;
+    let needs = monitor.needs;
     store_subjects(state, subjects);
     store_objects(state, objects);
     store_handles(state, handles);
     store_number(state, MADE_AT, tally.made);
     store_number(state, GONE_AT, tally.gone);
     state[FREEZE_AT] = monitor.freeze;
+    store_needs(state, needs);
 }
 
 // ---- answers as numbers

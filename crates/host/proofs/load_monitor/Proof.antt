@@ -16,10 +16,13 @@ load-handles-requires c κs = search needs
 shared-slice-read-freeze : tie.Need-shared-slice-read-freeze
 shared-slice-read-freeze c = search needs
 
+load-needs-requires : tie.Need-load-needs-requires
+load-needs-requires c κs = search needs
+
 returns : tie.Need-returns
 unfolding freeze-of
 returns c =
-    let handles = c .before in
+    let handles = c .before .before in
     let objects = handles .before in
     let subjects = objects .before in
     λ i. record {
@@ -27,8 +30,10 @@ returns c =
       objects = objects .load-objects .ensures i;
       handles = handles .load-handles .ensures i;
       freeze = freeze-of (subjects .before .before .args .state .now);
+      needs = c .load-needs .ensures i;
     }
 
 pub load-monitor-spec : {M : Type 1} → statement M
 load-monitor-spec =
-    tie.close (tie.spec load-subjects-requires load-objects-requires load-handles-requires shared-slice-read-freeze returns)
+    tie.close
+    (tie.spec load-subjects-requires load-objects-requires load-handles-requires shared-slice-read-freeze load-needs-requires returns)

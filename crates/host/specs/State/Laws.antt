@@ -1,9 +1,9 @@
 -- Laws of the state's bytes. In order: records of bytes; numbers; the bytes of a monitor and a tally are read back; the empty state. Assumes
 -- nothing.
-use mathlib.Core.Path.{_≡_, refl, sym, ap, ap₂, _∙_, fun-ext}
+use mathlib.Core.Path.{_≡_, refl, sym, ap, ap₂, _∙_, subst, fun-ext}
 use mathlib.Core.Bool.{Bool, true, false, cond}
 use mathlib.Core.Option.{Option, none}
-use mathlib.Core.List.{List, [], _∷_, _++_, map, append-assoc}
+use mathlib.Core.List.{List, [], _∷_, _++_, map, append-assoc, append-nil}
 use Prim.Native.Nat.{ℕ, zero, suc, _+_, _*_, _/_, _^_, _<_}
 use native.Mathlib.Omega.{arith}
 use native.Mathlib.Nat.{mul-zero, mul-suc}
@@ -12,7 +12,11 @@ use lib.Dec.{ltb, eqb}
 use lib.ListN.{length, take, drop, getD, set, replicate, length-append, length-replicate, List·getD-map}
 use lib.Seq.{take-at, drop-at, drop-drop, getD-drop, set-at}
 use Rattle.model.specs.Flow.{Thing, subject, object}
-use Rattle.model.specs.Tables.{Entry, no-freeze, empty, with-at, with-hand, with-freeze, subjects, objects, places}
+use Rattle.model.specs.Tables.{Entry, Tables, no-freeze, empty, clean, with-at, with-hand, with-freeze, subjects, objects, places}
+use Rattle.model.specs.Invariant.Laws.{clean-same, empty-wf}
+use Rattle.model.specs.Figures.{Ready}
+use Rattle.model.specs.Figures.Laws.{empty-ready}
+use Rattle.tables.specs.Needs.{figure-of}
 use Rattle.model.specs.Tally.{zeroed}
 use Rattle.model.specs.Tables.{Handle as Held}
 use Rattle.tables.specs.declared.Subject.{Subject}
@@ -24,11 +28,11 @@ use Rattle.tables.specs.Records.{subject-entry, object-entry, held, no-subject,
 use Rattle.tables.specs.Records.Laws.{empty-tables}
 use Rattle.gatekeeper.specs.View.{beside, view}
 use Rattle.tally.specs.Counting.{counts-of}
-use Rattle.host.specs.State.{state-bytes, subject-width, object-width, handle-width, objects-at, handles-at, made-at, gone-at, freeze-at}
+use Rattle.host.specs.State.{state-bytes, subject-width, object-width, handle-width, objects-at, handles-at, made-at, gone-at, freeze-at, needs-at, need-width}
 use Rattle.host.specs.State.{records, flat, live-of, sort-of, kinds, ways, live-byte, sort-byte, subject-of, subject-record, object-of, object-record}
-use Rattle.host.specs.State.{handle-of, handle-record, whole, digits}
-use Rattle.host.specs.State.{subjects-of, objects-of, handles-of, made-of, gone-of, freeze-of, monitor-of, tally-of}
-use Rattle.host.specs.State.{subject-bytes, object-bytes, handle-bytes, bytes-of, blank-bytes, state-view, Blank}
+use Rattle.host.specs.State.{handle-of, handle-record, need-of, need-record, whole, digits}
+use Rattle.host.specs.State.{subjects-of, objects-of, handles-of, made-of, gone-of, freeze-of, needs-of, monitor-of, tally-of}
+use Rattle.host.specs.State.{subject-bytes, object-bytes, handle-bytes, need-bytes, bytes-of, blank-bytes, state-view, state-right, Blank}
 
 -- ── records of bytes ──
 module _ {A : Type 0} (f : List ℕ → A) (w : ℕ) where
@@ -91,6 +95,7 @@ pub record Long (m : Monitor) : Type 0 where
   pub subjects : length (m .subjects) ≡ 32
   pub objects : length (m .objects) ≡ 64
   pub handles : length (m .handles) ≡ 512
+  pub needs : length (m .needs) ≡ 96
 
 -- both counts are 64 bits wide
 pub record Fits (y : Tally) : Type 0 where
@@ -155,6 +160,7 @@ plain m = record {
   objects = map plain-object (m .objects);
   handles = map plain-handle (m .handles);
   freeze = m .freeze;
+  needs = m .needs;
 }
 
 plain-view : (m : Monitor) → view (plain m) ≡ view m
@@ -173,7 +179,12 @@ plain-bytes m y = λ i. flat-map subject-record plain-subject (λ x. ap (λ (n :
     ++ flat-map object-record plain-object (λ x. ap (λ (n : ℕ). n ∷ drop 1 (object-record x)) (sort-same kinds (x .kind) (omega arith))) (m .objects) i
     ++ flat-map handle-record plain-handle (λ x. ap₂ (λ (n k : ℕ). n ∷ x .object ∷ k ∷ []) (sort-same ways (x .way) (omega arith)) (live-same (x .mark)))
     (m .handles) i
-    ++ digits 8 (y .made) ++ digits 8 (y .gone) ++ (m .freeze ∷ [])
+    ++ digits 8 (y .made) ++ digits 8 (y .gone) ++ (m .freeze ∷ []) ++ need-bytes (m .needs)
+
+-- a byte is stored as it is
+pub as-they-are : (l : List ℕ) → map (λ n. need-of (need-record n)) l ≡ l
+as-they-are [] = refl
+as-they-are (n ∷ l) = ap (λ (t : List ℕ). n ∷ t) (as-they-are l)
 
 -- p stands at index n, and t after it
 module _ (n m : ℕ) (s p t : List ℕ) (e : drop n s ≡ p ++ t) (h : length p ≡ m) where
@@ -188,7 +199,7 @@ module _ (m : Monitor) (y : Tally) (long : Long m) where
   s = bytes-of m y
 
   abbrev last : List ℕ
-  last = m .freeze ∷ []
+  last = m .freeze ∷ need-bytes (m .needs)
 
   abbrev after-made : List ℕ
   after-made = digits 8 (y .gone) ++ last
@@ -211,6 +222,10 @@ module _ (m : Monitor) (y : Tally) (long : Long m) where
   unfolding handle-bytes
   handles-count = omega (arith, length-flat handle-record handle-width (λ x. refl) (m .handles), long .handles)
 
+  pub needs-count : length (need-bytes (m .needs)) ≡ need-width * (subjects + objects)
+  unfolding need-bytes
+  needs-count = omega (arith, length-flat need-record need-width (λ x. refl) (m .needs), long .needs)
+
   from-0 : drop 0 s ≡ subject-bytes (m .subjects) ++ (object-bytes (m .objects) ++ after-objects)
   unfolding bytes-of
   from-0 = simp append-assoc
@@ -230,6 +245,9 @@ module _ (m : Monitor) (y : Tally) (long : Long m) where
   from-freeze : drop freeze-at s ≡ last
   from-freeze = behind gone-at 8 s (digits 8 (y .gone)) last from-gone (length-digits 8 (y .gone))
 
+  from-needs : drop needs-at s ≡ need-bytes (m .needs)
+  from-needs = behind freeze-at 1 s (m .freeze ∷ []) (need-bytes (m .needs)) from-freeze refl
+
   -- the bytes of a monitor and a tally have the length of a state
   pub bytes-length : length (bytes-of m y) ≡ state-bytes
   bytes-length = omega (
@@ -243,6 +261,7 @@ module _ (m : Monitor) (y : Tally) (long : Long m) where
     subjects-count,
     objects-count,
     handles-count,
+    needs-count,
     length-digits 8 (y .made),
     length-digits 8 (y .gone),
   )
@@ -266,8 +285,14 @@ module _ (m : Monitor) (y : Tally) (long : Long m) where
   unfolding freeze-of
   freeze-back = sym (getD-drop freeze-at s 0 0) ∙ ap (λ (l : List ℕ). getD l 0 0) from-freeze
 
+  -- and the kept needs, as they are
+  pub needs-back : needs-of (bytes-of m y) ≡ m .needs
+  unfolding needs-of need-bytes
+  needs-back = ap₂ (records need-of need-width) (sym (long .needs)) (from-needs ∙ sym (append-nil (need-bytes (m .needs))))
+      ∙ records-flat need-record need-width (λ x. refl) need-of (m .needs) [] ∙ as-they-are (m .needs)
+
   monitor-back : monitor-of (bytes-of m y) ≡ plain m
-  monitor-back = λ i. record { subjects = subjects-back i; objects = objects-back i; handles = handles-back i; freeze = freeze-back i }
+  monitor-back = λ i. record { subjects = subjects-back i; objects = objects-back i; handles = handles-back i; freeze = freeze-back i; needs = needs-back i }
 
   -- a monitor's bytes stand for its tables
   pub view-back : view (monitor-of (bytes-of m y)) ≡ view m
@@ -295,7 +320,8 @@ module _ (m : Monitor) (y : Tally) (long : Long m) where
 -- zeros, and the freeze set last
 pub zeros-set : (s : List ℕ) → s ≡ replicate state-bytes 0 → set s freeze-at no-freeze ≡ blank-bytes
 unfolding blank-bytes
-zeros-set s z = ap (λ (l : List ℕ). set l freeze-at no-freeze) z ∙ set-at (replicate freeze-at 0) 0 [] no-freeze freeze-at (length-replicate {A = ℕ} freeze-at 0)
+zeros-set s z = ap (λ (l : List ℕ). set l freeze-at no-freeze) z
+    ∙ set-at (replicate freeze-at 0) 0 (replicate (subjects + objects) 0) no-freeze freeze-at (length-replicate {A = ℕ} freeze-at 0)
 
 module _ (s : List ℕ) (z : s ≡ blank-bytes) where
   no-subjects : subjects-of s ≡ replicate 32 no-subject
@@ -318,6 +344,10 @@ module _ (s : List ℕ) (z : s ≡ blank-bytes) where
   blank-view : state-view s ≡ empty
   blank-view = (λ i. tables-of (with-freeze empty (unfrozen i)) (no-subjects i) (no-objects i) (no-handles i)) ∙ empty-tables
 
+  -- nothing is live, so every kept need is right
+  blank-right : state-right s
+  blank-right = subst (λ (t : Tables). Ready t (figure-of (needs-of s))) (sym (ap clean blank-view ∙ clean-same empty empty-wf)) (empty-ready (figure-of (needs-of s)))
+
   -- no handle was made, none is gone
   blank-tally : counts-of (tally-of s) ≡ zeroed
   unfolding made-of gone-of whole blank-bytes
@@ -325,7 +355,8 @@ module _ (s : List ℕ) (z : s ≡ blank-bytes) where
 
   blank-length : length s ≡ state-bytes
   unfolding blank-bytes
-  blank-length = ap length z ∙ length-append (replicate freeze-at 0) (no-freeze ∷ []) ∙ ap (λ (k : ℕ). k + 1) (length-replicate {A = ℕ} freeze-at 0)
+  blank-length = ap length z ∙ length-append (replicate freeze-at 0) (no-freeze ∷ replicate (subjects + objects) 0)
+      ∙ ap (λ (k : ℕ). k + (1 + (subjects + objects))) (length-replicate {A = ℕ} freeze-at 0)
 
   pub bytes-blank : Blank s
-  bytes-blank = record { size = blank-length; tables = blank-view; counts = blank-tally }
+  bytes-blank = record { size = blank-length; tables = blank-view; right = blank-right; counts = blank-tally }

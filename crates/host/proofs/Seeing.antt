@@ -1,0 +1,295 @@
+-- What a host sees of the lent bytes: the record at a number, the entry or handle that it stands for as a number, and the bytes once their kept needs are
+-- put right. Assumes nothing.
+use mathlib.Core.Path.{_≡_, refl, sym, ap, ap₂, _∙_, subst, subst₂}
+use mathlib.Core.Bool.{Bool, true, false, not, _&&_, _||_, cond}
+use mathlib.Core.Option.{Option, none, some}
+use mathlib.Core.List.{List, _∷_, _++_}
+use Prim.Native.Nat.{ℕ, zero, suc, _+_, _*_, _%_, _≤_, _<_}
+use native.Mathlib.Omega.{arith}
+use native.Mathlib.Nat.{mul-suc, mul-le-mul-left}
+use borrow.Author.Tests.{eq-eqb, ne-eqb}
+use lib.Dec.{eqb, ltb}
+use lib.ListN.{length, take, drop, getD, length-take}
+use lib.Seq.{take-at, drop-at, drop-drop, getD-take, ext-getD}
+use Rattle.model.specs.Label.{label, level}
+use Rattle.model.specs.Label.Laws.{level-label}
+use Rattle.model.specs.Flow.{Thing, subject, object}
+use Rattle.model.specs.Tables.{running, file, pipe, reading, writing, Entry, entry, Tables, places, live, counted, clean}
+use Rattle.model.specs.Tables.{Handle as Held}
+use Rattle.model.specs.Invariant.{Wf}
+use Rattle.model.specs.Figures.{Ready}
+use Rattle.tables.specs.declared.Subject.{Subject}
+use Rattle.tables.specs.declared.Object.{Object}
+use Rattle.tables.specs.declared.Handle.{Handle}
+use Rattle.tables.specs.Records.{subject-entry, object-entry, held, no-subject, no-object, no-handle}
+use Rattle.tables.specs.Records.Laws.{subject-there, object-there, handle-there, cleaned-wf}
+use Rattle.tables.specs.Needs.{figure-of}
+use Rattle.tables.specs.Working.{subject-at, object-at, handle-at}
+use Rattle.handles.specs.Working.{kept-of}
+use Rattle.handles.proofs.Cleaning.{counted-held, kept-held}
+use Rattle.gatekeeper.specs.declared.Monitor.{Monitor}
+use Rattle.gatekeeper.specs.View.{beside, view, Righted}
+use Rattle.gatekeeper.proofs.Keeping.{dead, alive}
+use Rattle.host.specs.State.{state-bytes, Sized, subject-width, object-width, handle-width, need-width, objects-at, handles-at, made-at, gone-at, freeze-at, needs-at}
+use Rattle.host.specs.State.{records, flat, live-of, sort-of, kinds, ways, live-byte, subject-of, object-of, handle-of, need-of, need-record, whole}
+use Rattle.host.specs.State.{subjects-of, objects-of, handles-of, made-of, gone-of, freeze-of, needs-of, monitor-of, tally-of, need-bytes, state-view, Put-right}
+use Rattle.host.specs.State.Laws.{length-records, getD-records, length-flat, records-flat, as-they-are}
+use Rattle.host.specs.Numbers.{sized, seen-entry, seen-handle}
+use Rattle.host.specs.Working.{way-number}
+use Rattle.host.specs.Over.{over}
+use Rattle.host.specs.Over.Laws.{over-length}
+use Rattle.host.proofs.Loading.{bytes-at, bytes-taken}
+
+-- ── the length ──
+pub sized-is : (s : List ℕ) (a b : ℕ) → Sized s → a ≡ b → a ≡ sized s b 0
+sized-is s a b h q = q ∙ sym (ap (λ (t : Bool). cond t b 0) (eq-eqb (length s) state-bytes h))
+
+pub unsized-is : (s : List ℕ) (b : ℕ) → (Sized s → ⊥) → 0 ≡ sized s b 0
+unsized-is s b h = sym (ap (λ (t : Bool). cond t b 0) (ne-eqb (length s) state-bytes h))
+
+-- ── the record at a number, from its bytes ──
+fits : (w b n j : ℕ) (s : List ℕ) → j < n → b + w * n ≤ length s → b + w * j + w ≤ length s
+fits w b n j s h l = omega (arith, mul-suc w j, mul-le-mul-left {m = suc j} {n = n} w (omega arith))
+
+record-in : {A : Type 0} (f : List ℕ → A) (d : A) (w b n j : ℕ) (s : List ℕ) → j < n → b + w * n ≤ length s
+    → getD (records f w n (drop b s)) j d ≡ f (bytes-at w (b + w * j) s)
+record-in f d w b n j s h l = getD-records f w n (drop b s) j d h ∙ ap (λ (t : List ℕ). f (take w t)) (drop-drop (w * j) b s)
+    ∙ ap f (bytes-taken w (b + w * j) s (fits w b n j s h l))
+
+module _ (st : List ℕ) (size : Sized st) where
+  pub subject-read : (s l : ℕ) → l ≡ live-of (getD st (0 + 2 * (s % 32)) 0)
+      → subject-at s (record { live = l; level = getD st (0 + 2 * (s % 32) + 1) 0 }) ≡ subject-at s (getD (subjects-of st) (s % 32) no-subject)
+  unfolding subjects-of
+  subject-read s l q = ap (subject-at s) (ap (λ (v : ℕ). record { live = v; level = getD st (0 + 2 * (s % 32) + 1) 0 }) q
+      ∙ sym (record-in subject-of no-subject subject-width 0 32 (s % 32) st (omega arith) (omega arith)))
+
+  pub object-read : (o k : ℕ) → k ≡ sort-of kinds (getD st (64 + 2 * (o % 64)) 0)
+      → object-at o (record { kind = k; level = getD st (64 + 2 * (o % 64) + 1) 0 }) ≡ object-at o (getD (objects-of st) (o % 64) no-object)
+  unfolding objects-of
+  object-read o k q = ap (object-at o) (ap (λ (v : ℕ). record { kind = v; level = getD st (64 + 2 * (o % 64) + 1) 0 }) q
+      ∙ sym (record-in object-of no-object object-width objects-at 64 (o % 64) st (omega arith) (omega arith)))
+
+  pub handle-read : (s p i w m : ℕ) → i ≡ s % 32 * 16 + p % 16 → w ≡ sort-of ways (getD st (192 + 3 * i) 0) → m ≡ live-of (getD st (192 + 3 * i + 1 + 1) 0)
+      → handle-at s p (record { way = w; object = getD st (192 + 3 * i + 1) 0; mark = m })
+      ≡ handle-at s p (getD (handles-of st) (s % 32 * 16 + p % 16) no-handle)
+  unfolding handles-of
+  handle-read s p i w m e q r = ap (handle-at s p) (ap₂ (λ (v k : ℕ). record { way = v; object = getD st (192 + 3 * i + 1) 0; mark = k }) q r
+      ∙ sym (record-in handle-of no-handle handle-width handles-at 512 i st (omega arith) (omega arith))
+      ∙ ap (λ (j : ℕ). getD (records handle-of handle-width 512 (drop handles-at st)) j no-handle) e)
+
+  pub need-read : (i : ℕ) → i < 96 → getD st (1745 + i) 0 ≡ getD (needs-of st) i 0
+  unfolding needs-of
+  need-read i h = let e : 1745 + i ≡ needs-at + need-width * i = omega arith in
+      ap (λ (k : ℕ). getD st k 0) e ∙ sym (record-in need-of 0 need-width needs-at 96 i st h (omega arith))
+
+  -- ── the tables at a number ──
+  long-subjects : length (subjects-of st) ≡ 32
+  unfolding subjects-of
+  long-subjects = length-records subject-of subject-width 32 st
+
+  long-objects : length (objects-of st) ≡ 64
+  unfolding objects-of
+  long-objects = length-records object-of object-width 64 (drop objects-at st)
+
+  long-handles : length (handles-of st) ≡ 512
+  unfolding handles-of
+  long-handles = length-records handle-of handle-width 512 (drop handles-at st)
+
+  abbrev its : Monitor
+  its = monitor-of st
+
+  pub state-wf : Wf (clean (state-view st))
+  state-wf = cleaned-wf (beside its) (its .subjects) (its .objects) (its .handles) (clean (view its)) long-subjects long-objects refl
+
+  pub subject-seen : (s : ℕ) (x : Subject) → x ≡ subject-at s (getD (subjects-of st) (s % 32) no-subject) → state-view st .at (subject s) ≡ subject-entry x
+  subject-seen s x q = subject-there (beside its) (its .subjects) (its .objects) (its .handles) s long-subjects ∙ ap subject-entry (sym q)
+
+  pub object-seen : (o : ℕ) (y : Object) → y ≡ object-at o (getD (objects-of st) (o % 64) no-object) → state-view st .at (object o) ≡ object-entry y
+  object-seen o y q = object-there (beside its) (its .subjects) (its .objects) (its .handles) o long-objects ∙ ap object-entry (sym q)
+
+  handle-seen : (s p : ℕ) (h : Handle) → h ≡ handle-at s p (getD (handles-of st) (s % 32 * 16 + p % 16) no-handle) → state-view st .hand s p ≡ held h
+  handle-seen s p h q = handle-there (beside its) (its .subjects) (its .objects) (its .handles) s p long-handles ∙ ap held (sym q)
+
+  -- whether it is live, by its record
+  lives : (x : Thing) (free : Bool) (e : Entry) → state-view st .at x ≡ cond free none (some e) → live (state-view st) x ≡ not free
+  lives x true e q = dead its state-wf x q
+  lives x false e q = alive its state-wf x e q
+
+  -- the handle at a place, of a live subject and on a live object
+  pub handle-counted : (s p : ℕ) (x : Subject) (h : Handle) (y : Object) → x ≡ subject-at s (getD (subjects-of st) (s % 32) no-subject)
+      → h ≡ handle-at s p (getD (handles-of st) (s % 32 * 16 + p % 16) no-handle)
+      → y ≡ object-at (h .object) (getD (objects-of st) (h .object % 64) no-object) → clean (state-view st) .hand s p ≡ held (kept-of h x y)
+  unfolding clean
+  handle-counted s p x h y qx qh qy = ap (counted (ltb p places && live (state-view st) (subject s)) (λ o. live (state-view st) (object o))) (handle-seen s p h qh)
+      ∙ counted-held h (ltb p places && live (state-view st) (subject s)) (not (eqb (y .kind) 0)) (λ o. live (state-view st) (object o))
+      (lives (object (h .object)) (eqb (y .kind) 0) (entry (cond (eqb (y .kind) 1) file pipe) (label (y .level))) (object-seen (h .object) y qy))
+      ∙ ap (λ (b : Bool). cond (ltb p places && b && not (eqb (y .kind) 0)) (held h) none)
+      (lives (subject s) (eqb (x .live) 0) (entry running (label (x .level))) (subject-seen s x qx))
+      ∙ by-place (ltb p 16) (ltb (h .object) 64) (eqb (x .live) 0) refl refl
+      ∙ sym (kept-held h (eqb (x .live) 0) (ltb (h .object) 64) (eqb (y .kind) 0))
+    where
+      -- a place beyond the last holds nothing
+      beyond : ltb p 16 ≡ false → held h ≡ none
+      beyond e = ap held qh ∙ go (ltb s 32)
+        where
+          go : (a : Bool) → held (cond a (cond (ltb p 16) (getD (handles-of st) (s % 32 * 16 + p % 16) no-handle) no-handle) no-handle) ≡ none
+          go true = ap (λ (b : Bool). held (cond b (getD (handles-of st) (s % 32 * 16 + p % 16) no-handle) no-handle)) e
+          go false = refl
+
+      -- an object beyond the last is free
+      outside : ltb (h .object) 64 ≡ false → eqb (y .kind) 0 ≡ true
+      outside e = ap (λ (z : Object). eqb (z .kind) 0) (qy ∙ ap (λ (b : Bool). cond b (getD (objects-of st) (h .object % 64) no-object) no-object) e)
+
+      either : (b : Bool) → _≡_ {A = Option Held} (cond b none none) none
+      either true = refl
+      either false = refl
+
+      by-object : (b a l : Bool) → ltb (h .object) 64 ≡ a → cond (true && not l && not (eqb (y .kind) 0)) (held h) none
+          ≡ cond (not l && (a && not (eqb (y .kind) 0))) (held h) none
+      by-object b true true e = refl
+      by-object b true false e = refl
+      by-object b false true e = refl
+      by-object b false false e = ap (λ (k : Bool). cond (not k) (held h) none) (outside e)
+
+      by-place : (b a l : Bool) → ltb p 16 ≡ b → ltb (h .object) 64 ≡ a → cond (b && not l && not (eqb (y .kind) 0)) (held h) none
+          ≡ cond (not l && (a && not (eqb (y .kind) 0))) (held h) none
+      by-place true a l e f = by-object true a l f
+      by-place false a l e f = sym (ap (λ (o : Option Held). cond (not l && (a && not (eqb (y .kind) 0))) o none) (beyond e)
+          ∙ either (not l && (a && not (eqb (y .kind) 0))))
+
+-- ── as numbers ──
+pub seen-subject : (x : Subject) → seen-entry (subject-entry x) ≡ cond (eqb (x .live) 0) 0 (256 + x .level)
+seen-subject x = go (eqb (x .live) 0)
+  where
+    go : (b : Bool) → seen-entry (cond b none (some (entry running (label (x .level))))) ≡ cond b 0 (256 + x .level)
+    go true = refl
+    go false = ap (λ (n : ℕ). 256 + n) (level-label (x .level))
+
+pub seen-object : (y : Object) → seen-entry (object-entry y) ≡ cond (eqb (y .kind) 0) 0 (cond (eqb (y .kind) 1) (256 + y .level) (512 + y .level))
+seen-object y = go (eqb (y .kind) 0) (eqb (y .kind) 1)
+  where
+    go : (b c : Bool) → seen-entry (cond b none (some (entry (cond c file pipe) (label (y .level))))) ≡ cond b 0 (cond c (256 + y .level) (512 + y .level))
+    go true c = refl
+    go false true = ap (λ (n : ℕ). 256 + n) (level-label (y .level))
+    go false false = ap (λ (n : ℕ). 512 + n) (level-label (y .level))
+
+-- a way is a small number
+pub way-small : (w n : ℕ) → n ≡ way-number w → n ≤ 3
+way-small w n q = subst (λ (k : ℕ). k ≤ 3) (sym q) (go (eqb w 3) (eqb w 1))
+  where
+    go : (a b : Bool) → cond a 3 (cond b 1 2) ≤ 3
+    go true b = omega arith
+    go false true = omega arith
+    go false false = omega arith
+
+pub seen-held : (k : Handle) → seen-handle (held k) ≡ cond (eqb (k .way) 0) 0 (65536 * live-byte (k .mark) + 256 * way-number (k .way) + k .object)
+seen-held k = go (eqb (k .way) 0) (eqb (k .mark) 0) (eqb (k .way) 3) (eqb (k .way) 1)
+  where
+    go : (z u v w : Bool)
+        → seen-handle (cond z none (some (record { dir = cond (w || v) reading writing; to = k .object; marked = not u; mapped = v })))
+        ≡ cond z 0 (65536 * cond u 0 1 + 256 * cond v 3 (cond w 1 2) + k .object)
+    go true u v w = refl
+    go false true true w = refl
+    go false true false true = refl
+    go false true false false = refl
+    go false false true w = refl
+    go false false false true = refl
+    go false false false false = refl
+
+-- ── kept needs put right ──
+-- what stands before index k goes by the bytes before it
+bytes-front : (w at k : ℕ) (s : List ℕ) → at + w ≤ k → bytes-at w at (take k s) ≡ bytes-at w at s
+bytes-front zero at k s h = refl
+bytes-front (suc w) at k s h = ap₂ (λ (a : ℕ) (l : List ℕ). a ∷ l) (getD-take k s at 0 (omega arith)) (bytes-front w (at + 1) k s (omega arith))
+
+module _ (k : ℕ) (s : List ℕ) (inside : k ≤ length s) where
+  taken-long : length (take k s) ≡ k
+  taken-long = omega (arith, length-take k s)
+
+  records-front : {A : Type 0} (f : List ℕ → A) (d : A) (w b n : ℕ) → b + w * n ≤ k → records f w n (drop b (take k s)) ≡ records f w n (drop b s)
+  records-front f d w b n h = ext-getD d (records f w n (drop b (take k s))) (records f w n (drop b s))
+      (length-records f w n (drop b (take k s)) ∙ sym (length-records f w n (drop b s)))
+      (λ j l. at j (omega (arith, length-records f w n (drop b (take k s)))))
+    where
+      at : (j : ℕ) → j < n → getD (records f w n (drop b (take k s))) j d ≡ getD (records f w n (drop b s)) j d
+      at j l = record-in f d w b n j (take k s) l (omega (arith, taken-long))
+          ∙ ap f (bytes-front w (b + w * j) k s (omega (arith, fits w b n j (take k s) l (omega (arith, taken-long)), taken-long)))
+          ∙ sym (record-in f d w b n j s l (omega arith))
+
+  number-front : (at : ℕ) → at + 8 ≤ k → whole (take 8 (drop at (take k s))) ≡ whole (take 8 (drop at s))
+  number-front at h = ap whole (bytes-taken 8 at (take k s) (omega (arith, taken-long)) ∙ bytes-front 8 at k s h
+      ∙ sym (bytes-taken 8 at s (omega arith)))
+
+module _ (s s′ : List ℕ) (h : Sized s) (h′ : Sized s′) (e : take needs-at s′ ≡ take needs-at s) where
+  same-records : {A : Type 0} (f : List ℕ → A) (d : A) (w b n : ℕ) → b + w * n ≤ needs-at → records f w n (drop b s′) ≡ records f w n (drop b s)
+  same-records f d w b n l = sym (records-front needs-at s′ (omega arith) f d w b n l) ∙ ap (λ (t : List ℕ). records f w n (drop b t)) e
+      ∙ records-front needs-at s (omega arith) f d w b n l
+
+  same-subjects : subjects-of s′ ≡ subjects-of s
+  unfolding subjects-of
+  same-subjects = same-records subject-of no-subject subject-width 0 32 (omega arith)
+
+  same-objects : objects-of s′ ≡ objects-of s
+  unfolding objects-of
+  same-objects = same-records object-of no-object object-width objects-at 64 (omega arith)
+
+  same-handles : handles-of s′ ≡ handles-of s
+  unfolding handles-of
+  same-handles = same-records handle-of no-handle handle-width handles-at 512 (omega arith)
+
+  same-freeze : freeze-of s′ ≡ freeze-of s
+  unfolding freeze-of
+  same-freeze = sym (getD-take needs-at s′ freeze-at 0 (omega arith)) ∙ ap (λ (t : List ℕ). getD t freeze-at 0) e ∙ getD-take needs-at s freeze-at 0 (omega arith)
+
+  same-view : state-view s′ ≡ state-view s
+  same-view = λ i. view (record { subjects = same-subjects i; objects = same-objects i; handles = same-handles i; freeze = same-freeze i; needs = needs-of s })
+
+  same-tally : tally-of s′ ≡ tally-of s
+  unfolding made-of gone-of
+  same-tally = ap₂ (λ (a b : ℕ). record { made = a; gone = b }) (number made-at (omega arith)) (number gone-at (omega arith))
+    where
+      number : (at : ℕ) → at + 8 ≤ needs-at → whole (take 8 (drop at s′)) ≡ whole (take 8 (drop at s))
+      number at l = sym (number-front needs-at s′ (omega arith) at l) ∙ ap (λ (t : List ℕ). whole (take 8 (drop at t))) e ∙ number-front needs-at s (omega arith) at l
+
+module _ (s ns : List ℕ) (h : Sized s) (long : length ns ≡ 96) where
+  count : length (need-bytes ns) ≡ 96
+  unfolding need-bytes
+  count = omega (arith, length-flat need-record need-width (λ x. refl) ns)
+
+  kept-size : Sized (over needs-at (need-bytes ns) s)
+  kept-size = over-length needs-at (need-bytes ns) s (omega (arith, count)) ∙ h
+
+  kept-front : take needs-at (over needs-at (need-bytes ns) s) ≡ take needs-at s
+  unfolding over
+  kept-front = take-at (take needs-at s) _ needs-at (omega (arith, length-take needs-at s))
+
+  kept-needs : needs-of (over needs-at (need-bytes ns) s) ≡ ns
+  unfolding needs-of over need-bytes
+  kept-needs = ap (records need-of need-width 96) (drop-at (take needs-at s) (flat need-record ns ++ drop (needs-at + length (flat need-record ns)) s) needs-at
+      (omega (arith, length-take needs-at s)))
+      ∙ ap (λ (n : ℕ). records need-of need-width n (flat need-record ns ++ drop (needs-at + length (flat need-record ns)) s)) (sym long)
+      ∙ records-flat need-record need-width (λ x. refl) need-of ns _ ∙ as-they-are ns
+
+-- the monitor m was loaded from the bytes s, n is m put right, and its kept needs are stored
+pub put-right : (s s′ : List ℕ) (m n : Monitor) → Sized s → m ≡ monitor-of s → Righted m n → length (n .needs) ≡ 96
+    → s′ ≡ over needs-at (need-bytes (n .needs)) s → Put-right s s′
+put-right s s′ m n h q r l e = subst (Put-right s) (sym e) (record {
+  size = kept-size s (n .needs) h l;
+  others = front;
+  tables = tables-same;
+  tally = same-tally s t h (kept-size s (n .needs) h l) front;
+  right = subst₂ (λ (u : Tables) (ns : List ℕ). Ready (clean u) (figure-of ns)) (ap view (r .same) ∙ ap view same ∙ sym tables-same) (sym (kept-needs s (n .needs) h l)) (r .right);
+})
+  where
+    t : List ℕ
+    t = over needs-at (need-bytes (n .needs)) s
+
+    front : take needs-at t ≡ take needs-at s
+    front = kept-front s (n .needs) h l
+
+    tables-same : state-view t ≡ state-view s
+    tables-same = same-view s t h (kept-size s (n .needs) h l) front
+
+    same : _≡_ {A = Monitor} (record { subjects = m .subjects; objects = m .objects; handles = m .handles; freeze = m .freeze; needs = n .needs })
+        (record { subjects = subjects-of s; objects = objects-of s; handles = handles-of s; freeze = freeze-of s; needs = n .needs })
+    same = ap (λ (x : Monitor). record { subjects = x .subjects; objects = x .objects; handles = x .handles; freeze = x .freeze; needs = n .needs }) q

@@ -1,0 +1,75 @@
+-- `host::seen::gatekeeper_object` meets its contract. Assumes nothing.
+use mathlib.Core.Path.{sym, _∙_, ap}
+use mathlib.Core.Bool.{Bool, cond}
+use Prim.Native.Nat.{_+_}
+use lib.Dec.{eqb}
+use borrow.Author.Tests.{eq-eqb, ne-eqb}
+use Rattle.host.specs.Numbers.{seen-entry}
+use Rattle.host.proofs.Seeing.{sized-is, unsized-is, object-seen, seen-object}
+use borrow.Author.Needs.{needs}
+use Rattle.host.proofs.seen.gatekeeper_object.Statement.{statement}
+use Rattle.host.proofs.seen.gatekeeper_object.Tie as tie
+
+returns : tie.Need-returns
+returns c =
+    unsized-is (c .before .before .args .state .now) _ (c .if1 .taken)
+
+object-in-requires : tie.Need-object-in-requires
+object-in-requires c κs = search needs
+
+returns-2 : tie.Need-returns-2
+returns-2 c =
+    let c2 = c .before .before in
+    let c3 = c2 .before in
+    let a = c3 .before .before .args in
+    let y = c2 .object-in .result in
+    sized-is (a .state .now) 0 _ (c3 .if1 .left) (sym (ap seen-entry (object-seen (a .state .now) (c3 .if1 .left) (a .o) y (c2 .object-in .ensures)) ∙ seen-object y
+    ∙ ap (λ (b : Bool). cond b 0 (cond (eqb (y .kind) 1) (256 + y .level) (512 + y .level))) (eq-eqb (y .kind) 0 (c .if2 .taken))))
+
+cast-result : tie.Need-cast-result
+cast-result c = search needs
+
+add-result : tie.Need-add-result
+add-result c = search needs
+
+returns-3 : tie.Need-returns-3
+returns-3 c =
+    let c3 = c .before .before .before in
+    let c5 = c3 .before .before in
+    let c6 = c5 .before in
+    let a = c6 .before .before .args in
+    let y = c5 .object-in .result in
+    sized-is (a .state .now) _ _ (c6 .if1 .left) (sym (ap seen-entry (object-seen (a .state .now) (c6 .if1 .left) (a .o) y (c5 .object-in .ensures)) ∙ seen-object y
+    ∙ ap (λ (b : Bool). cond b 0 (cond (eqb (y .kind) 1) (256 + y .level) (512 + y .level))) (ne-eqb (y .kind) 0 (c3 .if2 .left))
+    ∙ ap (λ (b : Bool). cond b (256 + y .level) (512 + y .level)) (eq-eqb (y .kind) 1 (c .before .if3 .taken))))
+
+cast-result-2 : tie.Need-cast-result-2
+cast-result-2 c = search needs
+
+add-result-2 : tie.Need-add-result-2
+add-result-2 c = search needs
+
+returns-4 : tie.Need-returns-4
+returns-4 c =
+    let c3 = c .before .before .before in
+    let c5 = c3 .before .before in
+    let c6 = c5 .before in
+    let a = c6 .before .before .args in
+    let y = c5 .object-in .result in
+    sized-is (a .state .now) _ _ (c6 .if1 .left) (sym (ap seen-entry (object-seen (a .state .now) (c6 .if1 .left) (a .o) y (c5 .object-in .ensures)) ∙ seen-object y
+    ∙ ap (λ (b : Bool). cond b 0 (cond (eqb (y .kind) 1) (256 + y .level) (512 + y .level))) (ne-eqb (y .kind) 0 (c3 .if2 .left))
+    ∙ ap (λ (b : Bool). cond b (256 + y .level) (512 + y .level)) (ne-eqb (y .kind) 1 (c .before .if3 .left))))
+
+pub gatekeeper-object-spec : {M : Type 1} → statement M
+gatekeeper-object-spec =
+    tie.close
+    (tie.spec
+    returns
+    object-in-requires
+    returns-2
+    cast-result
+    add-result
+    returns-3
+    cast-result-2
+    add-result-2
+    returns-4)

@@ -1,0 +1,65 @@
+-- `host::seen::gatekeeper_object_need` meets its contract. Assumes nothing.
+use mathlib.Core.Path.{_∙_}
+use Prim.Native.Nat.{_+_, _%_}
+use native.Mathlib.Omega.{arith}
+use Rattle.gatekeeper.proofs.Keeping.{Told, object-dead, object-told}
+use Rattle.host.specs.State.{monitor-of}
+use Rattle.host.proofs.Seeing.{sized-is, unsized-is, need-read, state-wf, object-seen}
+use borrow.Author.Needs.{needs}
+use Rattle.host.proofs.seen.gatekeeper_object_need.Statement.{statement}
+use Rattle.host.proofs.seen.gatekeeper_object_need.Tie as tie
+
+returns : tie.Need-returns
+returns c =
+    (unsized-is (c .before .before .args .state .now) _ (c .if1 .taken), λ h. absurd (c .if1 .taken h))
+
+object-in-requires : tie.Need-object-in-requires
+object-in-requires c κs = search needs
+
+returns-2 : tie.Need-returns-2
+unfolding Told
+returns-2 c =
+    let c2 = c .before .before in
+    let c3 = c2 .before in
+    let a = c3 .before .before .args in
+    let l = c3 .if1 .left in
+    let t = object-dead (monitor-of (a .state .now)) (state-wf (a .state .now) l) (a .o) (c2 .object-in .result)
+    (object-seen (a .state .now) l (a .o) (c2 .object-in .result) (c2 .object-in .ensures)) (c .if2 .taken) in
+    (sized-is (a .state .now) 0 _ l (t .0), λ h r. t .1 r)
+
+add-i : tie.Need-add-i
+add-i c = search needs
+
+add-at : tie.Need-add-at
+add-at c = search needs
+
+shared-slice-read-number-of : tie.Need-shared-slice-read-number-of
+shared-slice-read-number-of c = search needs
+
+number-of-requires : tie.Need-number-of-requires
+number-of-requires c κs = search needs
+
+returns-3 : tie.Need-returns-3
+unfolding Told
+returns-3 c =
+    let c4 = c .before .before .before .before in
+    let c5 = c4 .before in
+    let a = c5 .before .before .args in
+    let l = c5 .if1 .left in
+    let t = object-told (monitor-of (a .state .now)) (state-wf (a .state .now) l) (a .o) (c4 .object-in .result)
+    (object-seen (a .state .now) l (a .o) (c4 .object-in .result) (c4 .object-in .ensures)) (c .number-of .result) (c .before .before .if2 .left)
+    (c .number-of .ensures ∙ need-read (a .state .now) l (32 + a .o % 64) (omega arith)) in
+    (sized-is (a .state .now) _ _ l (t .0), λ h r. t .1 r)
+
+pub gatekeeper-object-need-spec : {M : Type 1} → statement M
+gatekeeper-object-need-spec =
+    tie.close
+    (tie.spec
+    returns
+    object-in-requires
+    returns-2
+    add-i
+    add-at
+    shared-slice-read-number-of
+    number-of-requires
+    returns-3)
