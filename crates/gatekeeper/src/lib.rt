@@ -56,8 +56,8 @@ fn way_of(reads: bool) -> u8
 }
 
 impl Monitor {
-    // The empty tables, whose needs are right. The free part (model, `Promise`: the level beside a number that is not in use, the object and mark beside an empty place) is
-    // any; this code has zeros there.
+    // The empty tables, whose needs are right. The free part (model, `Promise`: the level and the kept need beside a number that is not in use, the object and
+    // mark beside an empty place) is any; this code has zeros there.
     pub fn empty() -> Monitor
         ensures tables { λ r. ⌜ view r ≡ empty ⌝ }
         ensures needs { λ r. ⌜ Right r ⌝ }

@@ -1,9 +1,10 @@
--- A monitor and its tally as the bytes that a host lends. States RULES H4 to H10, H15 and H16. Every value of the monitor goes by the rules (RULES T16),
--- so that every byte string of the length is one.
+-- A monitor and its tally as the bytes that a host lends. States RULES H4 to H10, H15, H16 and H21, and F11, F12 and F15 of the bytes. Every value of the
+-- monitor goes by the rules (RULES T16), so that every byte string of the length is one.
 --
--- The layout: the subjects and the objects, two bytes each, then the handles, three bytes each, in the order of the struct; then made and gone, eight bytes each,
--- lowest first; then the freeze, one byte; then the kept needs, one byte each, of the subjects and of the objects. In order: where the parts stand; records of bytes; one record of each kind; numbers; from bytes, and to
--- bytes; the empty state, and what a call leaves. The laws are in State/Laws. Assumes nothing.
+-- The layout: the subjects and the objects, two bytes each, then the handles, three bytes each, in the order of the struct; then made and gone, eight bytes
+-- each, lowest first; then the freeze, one byte; then the kept needs, one byte each, of the subjects and of the objects. In order: where the parts stand;
+-- records of bytes; one record of each kind; numbers; from bytes, and to bytes; the empty state, and what a call leaves. The laws are in State/Laws. Assumes
+-- nothing.
 use mathlib.Core.Path.{_≡_}
 use mathlib.Core.Bool.{cond}
 use mathlib.Core.Option.{none}
@@ -213,7 +214,7 @@ pub record Blank (s : List ℕ) : Type 0 where
 
 -- RULES T16, T23, F12, R102, R103: call c on the bytes s leaves the bytes s′. They meet the rules as a monitor does, so that a refused call
 -- leaves every byte; the tally in them is the history's; and what an allowed or lowered call leaves is the bytes of a monitor and a tally.
--- Which level stands beside a number that is not in use, and which object and mark beside an empty place, is the free part of `Promise`.
+-- Which level and kept need stand beside a number that is not in use, and which object and mark beside an empty place, is the free part of `Promise`.
 pub record Stored (s : List ℕ) (c : Call) (s′ : List ℕ) : Type 0 where
   pub size : Sized s′
   pub meets : Meets state-view state-right s c (answer (clean (state-view s)) c) s′

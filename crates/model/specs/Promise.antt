@@ -1,10 +1,10 @@
 -- What one call of a monitor promises towards the rules, whichever value the monitor has. States RULES T15, T16, T19, T23, F12 to F14 and R102.
 --
 -- A monitor is a value of any type with a view of it as tables. What of it the view does not read is its *free part*: of the struct of arrays,
--- the level beside a number that is not in use and the object and mark beside an empty place, for the tables have none there; and which of the bytes that
--- mean the same (RULES T29 to T31, T36) a record has. What an allowed call
--- leaves in the free part is not promised, nor what the empty monitor has there. Needs that a monitor keeps beside its tables are free likewise where they
--- are not right, and only there. No answer and no later tables go by any of it (`free-unseen` in
+-- the level and the kept need beside a number that is not in use and the object and mark beside an empty place, for the tables have none there; and which of
+-- the bytes that mean the same (RULES T29 to T31, T36) a record has. What an allowed call
+-- leaves in the free part is not promised, nor what the empty monitor has there. The kept needs of live things are free likewise in a monitor that is not
+-- right, and only there (RULES F13). No answer and no later tables go by any of it (`free-unseen` in
 -- Promise/Laws), and a refused call leaves it as it was. Assumes nothing.
 use mathlib.Core.Path.{_≡_}
 use mathlib.Core.Option.{none, some}
