@@ -29,6 +29,12 @@ extern "C" {
 #define GATEKEEPER_MUST_USE
 #endif
 
+/* The version of this header, and of the archive that belongs to it. */
+#define GATEKEEPER_VERSION "3.0.0"
+
+/* How much stack a call of any function here takes at most, in bytes: measured (tools/hosts), not proved. */
+#define GATEKEEPER_STACK_BYTES 40960
+
 /* Sizes, in bytes. */
 #define GATEKEEPER_STATE_BYTES 1745    /* a monitor with its tally */
 #define GATEKEEPER_RECORD_ROOM 32      /* room for every record */
@@ -137,6 +143,31 @@ enum gatekeeper_refusal {
     GATEKEEPER_FROZEN = 15,           /* an open for writing of a file at or above the freeze */
     GATEKEEPER_SAME_SUBJECT = 16      /* a connect of a subject to itself */
 };
+
+/* What a refusal says, in plain words, for a log or a message: a text that stays. For any other number, 0 among them,
+ * which is what gatekeeper_value gives for a wrong length: "no refusal". */
+static inline const char *gatekeeper_refusal_text(uint32_t refusal)
+{
+    switch (refusal) {
+    case GATEKEEPER_UNKNOWN_CODE: return "no call has this code";
+    case GATEKEEPER_NO_SUBJECT: return "the step that asks is not there";
+    case GATEKEEPER_NUMBER_TAKEN: return "the number for the new thing cannot be used";
+    case GATEKEEPER_NO_OBJECT: return "the file or pipe is not there";
+    case GATEKEEPER_IS_PIPE: return "a pipe cannot be run, retired or mapped";
+    case GATEKEEPER_LEVEL_TOO_HIGH: return "the level is above 15, or a freeze above 16";
+    case GATEKEEPER_PLACE_UNFIT: return "the place does not fit";
+    case GATEKEEPER_WRONG_DIRECTION: return "the handle is for the other direction";
+    case GATEKEEPER_FLOW: return "low data could reach a higher file";
+    case GATEKEEPER_STILL_OPEN: return "a handle is still open on the file";
+    case GATEKEEPER_JOURNAL_BROKEN: return "the journal breaks off here";
+    case GATEKEEPER_RECORD_BROKEN: return "the record is not well formed";
+    case GATEKEEPER_RECORD_TOO_LONG: return "the record is longer than the buffer";
+    case GATEKEEPER_JOURNAL_TOO_LONG: return "the journal is longer than 65,536 bytes";
+    case GATEKEEPER_FROZEN: return "the file is frozen while the books are closed";
+    case GATEKEEPER_SAME_SUBJECT: return "a step cannot be connected to itself";
+    default: return "no refusal";
+    }
+}
 
 /* GATEKEEPER_STATE_BYTES, for a host that sees no header. */
 size_t gatekeeper_state_bytes(void);

@@ -81,10 +81,9 @@ impl Assembler {
 
     /// `admit 0 9`.
     fn call(&mut self, shape: &Shape, words: &[Word], behind: usize) -> Result<(), Fault> {
-        let parts: Vec<&str> = shape.numbers.iter().map(|&(name, _)| name).collect();
-        let usage = format!("{} {}", shape.word, parts.join(" "));
+        let usage = format!("{} {}", shape.word, shape.numbers.join(" "));
         let mut numbers = Vec::new();
-        for (index, &(name, role)) in shape.numbers.iter().enumerate() {
+        for (index, (name, role)) in shape.parts().enumerate() {
             let Some(&word) = words.get(index) else {
                 return Err(fault(
                     behind,

@@ -14,47 +14,55 @@ pub enum Role {
     Level,
 }
 
-/// A call's code, its word, and its numbers in their order: how each is called, and what it is.
+/// A call's code, its word, and the names of its numbers in their order.
 #[derive(Debug)]
 pub struct Shape {
     pub code: u32,
     pub word: &'static str,
-    pub numbers: &'static [(&'static str, Role)],
+    pub numbers: &'static [&'static str],
 }
 
-const fn shape(code: u32, word: &'static str, numbers: &'static [(&'static str, Role)]) -> Shape {
+impl Shape {
+    /// The names of the numbers, each with what it stands for.
+    pub fn parts(&self) -> impl Iterator<Item = (&'static str, Role)> + '_ {
+        self.numbers.iter().map(|&name| (name, self.role(name)))
+    }
+
+    fn role(&self, name: &str) -> Role {
+        match (name, self.word) {
+            ("s" | "t" | "c", _) => Role::Step,
+            ("a" | "b", _) | ("o", "pipe") => Role::Pipe,
+            ("o", "register" | "create") => Role::File,
+            ("o", _) => Role::Object,
+            ("level", _) => Role::Level,
+            _ => Role::Place,
+        }
+    }
+}
+
+const fn shape(code: u32, word: &'static str, numbers: &'static [&'static str]) -> Shape {
     Shape { code, word, numbers }
 }
 
-const S: (&str, Role) = ("s", Role::Step);
-const O: (&str, Role) = ("o", Role::Object);
-const FILE: (&str, Role) = ("o", Role::File);
-const P: (&str, Role) = ("p", Role::Place);
-const LEVEL: (&str, Role) = ("level", Role::Level);
-
 /// RULES C1 to C17, in the order of their codes.
 pub const SHAPES: [Shape; 17] = [
-    shape(1, "admit", &[S, LEVEL]),
-    shape(2, "register", &[FILE, LEVEL]),
-    shape(3, "create", &[S, FILE]),
-    shape(4, "pipe", &[S, ("o", Role::Pipe), ("r", Role::Place), ("w", Role::Place)]),
-    shape(5, "open-read", &[S, O, P]),
-    shape(6, "open-write", &[S, O, P]),
-    shape(7, "read", &[S, P]),
-    shape(8, "write", &[S, P]),
-    shape(9, "fork", &[S, ("c", Role::Step)]),
-    shape(10, "exec", &[S, O]),
-    shape(11, "close", &[S, P]),
-    shape(12, "exit", &[S]),
-    shape(13, "retire", &[O]),
-    shape(14, "map", &[S, O, P]),
-    shape(15, "mark", &[S, P]),
-    shape(16, "freeze", &[LEVEL]),
-    shape(
-        17,
-        "connect",
-        &[S, ("t", Role::Step), ("a", Role::Pipe), ("b", Role::Pipe), P, ("q", Role::Place)],
-    ),
+    shape(1, "admit", &["s", "level"]),
+    shape(2, "register", &["o", "level"]),
+    shape(3, "create", &["s", "o"]),
+    shape(4, "pipe", &["s", "o", "r", "w"]),
+    shape(5, "open-read", &["s", "o", "p"]),
+    shape(6, "open-write", &["s", "o", "p"]),
+    shape(7, "read", &["s", "p"]),
+    shape(8, "write", &["s", "p"]),
+    shape(9, "fork", &["s", "c"]),
+    shape(10, "exec", &["s", "o"]),
+    shape(11, "close", &["s", "p"]),
+    shape(12, "exit", &["s"]),
+    shape(13, "retire", &["o"]),
+    shape(14, "map", &["s", "o", "p"]),
+    shape(15, "mark", &["s", "p"]),
+    shape(16, "freeze", &["level"]),
+    shape(17, "connect", &["s", "t", "a", "b", "p", "q"]),
 ];
 
 /// The shape of the call with this code; none for a code that no call has (RULES R1).
@@ -104,7 +112,7 @@ pub fn assembly_of(call: Call) -> String {
 /// The same call with another number in the place of the one that is called so.
 pub fn with_number(call: Call, name: &str, number: u32) -> Call {
     let place = shape_of_code(call.code())
-        .and_then(|shape| shape.numbers.iter().position(|&(called, _)| called == name));
+        .and_then(|shape| shape.numbers.iter().position(|&called| called == name));
     let mut numbers = call.numbers();
     if let Some(place) = place {
         numbers[place] = number;
@@ -115,7 +123,7 @@ pub fn with_number(call: Call, name: &str, number: u32) -> Call {
 /// The number of a call that is called so.
 pub fn number_of(call: Call, name: &str) -> Option<u32> {
     let shape = shape_of_code(call.code())?;
-    let place = shape.numbers.iter().position(|&(called, _)| called == name)?;
+    let place = shape.numbers.iter().position(|&called| called == name)?;
     Some(call.numbers()[place])
 }
 

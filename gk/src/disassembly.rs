@@ -71,7 +71,7 @@ pub fn call_words(call: Call, names: &Names, at: u64) -> String {
         return String::new();
     };
     let mut words = shape.word.to_string();
-    for (&(_, role), number) in shape.numbers.iter().zip(call.numbers()) {
+    for ((_, role), number) in shape.parts().zip(call.numbers()) {
         let name = match role {
             Role::Step => names.get(Kind::Step, number, at),
             Role::Object => names.object(number, at).map(|(_, name)| name),

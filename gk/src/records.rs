@@ -199,7 +199,7 @@ pub fn body_words(body: Body) -> String {
     let shape = shape_of_code(code);
     let word = shape.map_or("the call", |shape| shape.word);
     let name = |index: usize| {
-        shape.and_then(|shape| shape.numbers.get(index)).map_or("behind the code", |&(name, _)| name)
+        shape.and_then(|shape| shape.numbers.get(index)).map_or("behind the code", |name| name)
     };
     match fault {
         BodyFault::Empty => "the body is empty, there is no code".to_string(),

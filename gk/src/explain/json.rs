@@ -81,7 +81,7 @@ fn call_fields(call: Call, names: &Names, at: u64, object: &mut Object) {
     object.string("call", shape.word);
     object.string("words", &assembly_of(call));
     let (mut numbers, mut named) = (Object::default(), Object::default());
-    for (&(key, role), number) in shape.numbers.iter().zip(call.numbers()) {
+    for ((key, role), number) in shape.parts().zip(call.numbers()) {
         numbers.number(key, number.into());
         let name = match role {
             Role::Step => names.get(Kind::Step, number, at),

@@ -96,7 +96,7 @@ fn refused(step: &Step, before: Scene) -> (Option<u32>, String) {
     match step.content {
         Content::Call(call) => {
             let asker = shape_of_code(call.code())
-                .filter(|shape| shape.numbers.first().is_some_and(|&(_, role)| role == Role::Step))
+                .filter(|shape| shape.parts().next().is_some_and(|(_, role)| role == Role::Step))
                 .filter(|_| !matches!(call, Call::Admit { .. }))
                 .map(|_| call.numbers()[0]);
             (asker, format!("Record {}: {} ({refusal}).", step.position, asked(call, before, false)))
@@ -113,8 +113,8 @@ fn follow(step: &Step, after: Scene, stays: &mut Vec<Stay>) {
     if step.refusal().is_some() {
         return;
     }
-    let roles = shape_of_code(call.code()).map_or(&[][..], |shape| shape.numbers);
-    let named = roles.iter().zip(call.numbers()).filter(|((_, role), _)| *role == Role::Step);
+    let parts = shape_of_code(call.code()).into_iter().flat_map(|shape| shape.parts());
+    let named = parts.zip(call.numbers()).filter(|((_, role), _)| *role == Role::Step);
     // A write to a mapped file can lower who has it mapped; else only the steps that the call names are concerned.
     let concerned: Vec<u32> = match call {
         Call::Write { .. } => (0..STEPS).collect(),
