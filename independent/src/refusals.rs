@@ -10,6 +10,29 @@ use crate::needs::{Flow, Needs, Thing};
 use crate::tables::{Direction, Kind, Tables, NO_FREEZE};
 use crate::variants::Rules;
 
+/// What each number says, in a few plain words.
+pub fn meaning(number: u32) -> &'static str {
+    match number {
+        1 => "no call has this code",
+        2 => "the step that asks is not there",
+        3 => "the number for the new thing cannot be used",
+        4 => "the file or pipe is not there",
+        5 => "a pipe cannot be run, retired or mapped",
+        6 => "the level is above 15, or a freeze above 16",
+        7 => "the place does not fit",
+        8 => "the handle is for the other direction",
+        9 => "low data could reach a higher file",
+        10 => "a handle is still open on the file",
+        11 => "the journal breaks off here",
+        12 => "the record is not well formed",
+        13 => "the record is longer than the buffer",
+        14 => "the journal is longer than 65,536 bytes",
+        15 => "the file is frozen while the books are closed",
+        16 => "a step cannot be connected to itself",
+        _ => "not a refusal of this document",
+    }
+}
+
 /// A row's number and whether its condition holds.
 pub type Condition = (u32, bool);
 
