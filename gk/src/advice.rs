@@ -79,6 +79,9 @@ pub fn counsel(call: Call, refusal: Refusal, scene: Scene, closing: Option<Closi
             ));
         }
     }
+    if counsel.ways.is_empty() && counsel.notes.is_empty() {
+        counsel.note("No other number that was tried in its place is allowed either.".to_string());
+    }
     counsel
 }
 

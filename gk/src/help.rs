@@ -91,11 +91,11 @@ Names: `name step 17 merge`, and from the next line on merge stands for step 17.
   -o FILE       write the journal to this file, and the names beside it: run.journal, run.names
   --names FILE  write the names to this file
 
-Examples: a step of level 9 reads a sheet of level 2; and with names
+Examples: a step of level 9 reads a sheet of level 2; the pay run of March, with names
   printf 'admit 0 9\\nregister 1 2\\nopen-read 0 1 0\\nread 0 0\\n' | tools/gk assemble -o sheet.journal
   tools/gk explain sheet.journal
-  tools/gk assemble gk/examples/shop3.txt -o shop3.journal
-  tools/gk explain shop3.journal
+  tools/gk assemble gk/examples/march.txt -o march.journal
+  tools/gk explain march.journal
 ";
 
 pub const DISASSEMBLE: &str = "\
@@ -144,6 +144,6 @@ that starts with #, or a kind, a number, the first record and the name, with one
   step 1 204 sheet reader
 
 Example:
-  tools/gk assemble gk/examples/shop3.txt -o shop3.journal
-  tools/gk explain --refused shop3.journal
+  tools/gk assemble gk/examples/march.txt -o march.journal
+  tools/gk explain --refused march.journal
 ";

@@ -175,11 +175,10 @@ pub fn way_word(way: Way) -> &'static str {
     }
 }
 
-/// A text with a capital at its front, but that a name stays as it is.
+/// A text as the front of a sentence: with a capital, but that a name stays as it is, an article at its front apart.
 pub fn capital(text: &str) -> String {
-    let is_own_word =
-        ["step ", "file ", "pipe ", "file or pipe "].iter().any(|word| text.starts_with(word));
-    if is_own_word {
+    let words = ["step ", "file ", "pipe ", "file or pipe ", "the ", "a ", "an "];
+    if words.iter().any(|word| text.starts_with(word)) {
         sentence(text)
     } else {
         text.to_string()
