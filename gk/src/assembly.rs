@@ -136,27 +136,28 @@ impl Assembler {
                 &format!("expected {what}, found \"{}\", the name of a {}", shown(word.text), kind.word()),
                 &format!("Type: {usage}"),
             )),
-            None => Err(self.unknown_name(word, name, what, usage)),
+            None => Err(self.unknown_name(word, name, wanted, what, usage)),
         }
     }
 
-    fn unknown_name(&self, word: Word, name: &str, what: &str, usage: &str) -> Fault {
-        let known: Vec<&str> = self.known.entries().map(|entry| entry.name.as_str()).collect();
-        let kind = if what == "a step" { "step" } else { "file" };
+    fn unknown_name(&self, word: Word, name: &str, wanted: &[Kind], what: &str, usage: &str) -> Fault {
+        let is_fit =
+            |name: &str| self.known.find(name, u64::MAX).is_some_and(|(kind, _)| wanted.contains(&kind));
+        let mut known: Vec<&str> = self.known.entries().map(|entry| entry.name.as_str()).collect();
+        known.retain(|name| is_fit(name));
+        let kind = wanted.first().map_or("step", |kind| kind.word());
         let advice = match meant(word.text, &known).as_slice() {
             [] => format!(
-                "Type: {usage}, each a number from 0 to 4294967295, or a name that a line above declares, as: name {kind} 1 NAME"
+                "Type: {usage}, each a number from 0 to 4294967295, or a name that a line above declares, \
+                 as: name {kind} 1 NAME"
             ),
             meant => format!("Did you mean: {}", meant.join(" or ")),
         };
-        fault(
-            word.column,
-            &format!(
-                "expected the number {name} in decimal, or the name of {what}, found \"{}\"",
-                shown(word.text)
-            ),
-            &advice,
-        )
+        let expected = format!(
+            "expected the number {name} in decimal, or the name of {what}, found \"{}\"",
+            shown(word.text)
+        );
+        fault(word.column, &expected, &advice)
     }
 
     /// `name step 17 merge`.

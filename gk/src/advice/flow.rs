@@ -18,8 +18,8 @@ pub fn counsel(call: Call, scene: Scene) -> Counsel {
         Some(closes) => {
             let words = handle_words(&closes.handles, scene);
             let ended = ended_words(&closes.handles, scene);
-            let again = format!("{}{}", again(call), once_open(&closes.calls));
-            counsel.way(format!("close {words}; {again} after that.{ended}"), closes.calls.clone());
+            let (again, when) = (again(call), once_open(&closes.calls));
+            counsel.way(format!("close {words}; {again} after that{when}.{ended}"), closes.calls.clone());
         }
         None => counsel.note(no_closing(call, scene)),
     }

@@ -150,7 +150,7 @@ fn flow_reason(call: Call, chain: &[(Link, String)]) -> String {
         (Call::OpenWrite { .. }, _) if low.thing == step => {
             format!("its level is {}, and {high_name} takes nothing from below {}", low.level, high.level)
         }
-        (Call::OpenWrite { .. }, _) => format!("{low_name} could get there through it"),
+        (Call::OpenWrite { .. }, _) => format!("what {low_name} has could get there through it"),
         (Call::Connect { .. }, _) => format!("what {low_name} has could then reach {high_name}"),
         (_, [.., (last, _)]) if last.thing == step => format!("it writes {high_name}"),
         _ => format!("what it passes on could reach {high_name}"),
