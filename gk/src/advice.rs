@@ -1,5 +1,5 @@
-//! Ways out of a refusal. Each has been tried: its calls were made one after the other on a copy of the monitor, and none
-//! of them was refused. What is said to be refused all the same has been tried, too.
+//! Ways out of a refusal. Each has been tried: its calls were made one after the other on a copy of the monitor, and
+//! none of them was refused. What is said to be refused all the same has been tried, too.
 
 mod closing;
 mod cut;
@@ -73,8 +73,8 @@ pub fn counsel(call: Call, refusal: Refusal, scene: Scene, closing: Option<Closi
     if let (Call::OpenWrite { object, .. }, Some(closing)) = (call, closing) {
         if refusal != Refusal::Frozen && is_frozen(scene.monitor, object) {
             counsel.note(format!(
-                "Also: the books are {}, so that the open is refused with 15 when nothing else is in the way, until they \
-                 are open again (freeze {NO_FREEZE}).",
+                "Also: the books are {}, so that the open is refused with 15 when nothing else is in the way, until \
+                 they are open again (freeze {NO_FREEZE}).",
                 closing.words()
             ));
         }

@@ -1,7 +1,7 @@
 //! The chain behind a refusal 9: how something low could reach a higher file if the call were let through.
 //!
-//! [`behind`] is the only function that works one out, from the handles as the monitor gives them. It is not proved: what
-//! is proved is that the call is refused exactly where there is such a chain (RULES R9).
+//! [`behind`] is the only function that works one out, from the handles as the monitor gives them. It is not proved:
+//! what is proved is that the call is refused exactly where there is such a chain (RULES R9).
 
 use gatekeeper::{Call, Monitor};
 

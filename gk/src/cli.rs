@@ -13,6 +13,7 @@ use crate::text::{meant, shown};
 use files::write_output;
 
 /// Why the program ends with a status other than 0.
+#[derive(Debug, PartialEq, Eq)]
 pub enum Failure {
     /// Who reads the output has stopped: status 141, as of a program that the broken pipe ends, and no word.
     Unread,
@@ -24,22 +25,22 @@ pub enum Failure {
     Status(u8),
 }
 
-type Done = Result<(), Failure>;
+/// How a command ends.
+pub type Done = Result<(), Failure>;
 
 /// How a command is run and what its help is.
-enum Work {
+pub enum Work {
     /// With its arguments; the help stands in `help`.
     Here(fn(Vec<OsString>) -> Done, &'static str),
-    /// By a library of its own, which has its own help: `--help` is handed to it.
-    #[allow(dead_code)] // the table has none of these yet
+    /// By a library of its own, which gives back an exit status and has its own help: `--help` is handed to it.
     There(fn(&[String]) -> i32),
 }
 
 /// A command: its word, what it does in a few words, and how it is run.
-struct Command {
-    word: &'static str,
-    what: &'static str,
-    work: Work,
+pub struct Command {
+    pub word: &'static str,
+    pub what: &'static str,
+    pub work: Work,
 }
 
 const fn command(word: &'static str, what: &'static str, work: Work) -> Command {
@@ -47,7 +48,7 @@ const fn command(word: &'static str, what: &'static str, work: Work) -> Command 
 }
 
 /// Every command, in the order of the help. One that a library of its own has is one line here.
-const COMMANDS: &[Command] = &[
+pub const COMMANDS: &[Command] = &[
     command("run", "the replies to a journal", Work::Here(commands::run, help::RUN)),
     command("explain", "the replies in plain words", Work::Here(commands::explain, help::EXPLAIN)),
     command("assemble", "from words to a journal", Work::Here(commands::assemble, help::ASSEMBLE)),
@@ -83,27 +84,25 @@ fn dispatch(arguments: Vec<OsString>) -> Done {
         "help" | "--help" | "-h" => return help_command(&rest),
         _ => {}
     }
-    let command = named(&word)?;
-    let before_dashes = rest.iter().take_while(|argument| *argument != "--");
-    match &command.work {
-        Work::Here(_, text)
-            if before_dashes.clone().any(|argument| argument == "--help" || argument == "-h") =>
-        {
+    start(&named(&word)?.work, rest)
+}
+
+/// Runs a command with its arguments.
+fn start(work: &Work, arguments: Vec<OsString>) -> Done {
+    let before_dashes = arguments.iter().take_while(|argument| *argument != "--");
+    match work {
+        Work::Here(_, text) if before_dashes.clone().any(|word| word == "--help" || word == "-h") => {
             write_output(text.as_bytes())
         }
-        Work::Here(work, _) => work(rest),
-        Work::There(work) => ended(work(&lossy(&rest))),
-    }
-}
-
-fn lossy(arguments: &[OsString]) -> Vec<String> {
-    arguments.iter().map(|argument| argument.to_string_lossy().into_owned()).collect()
-}
-
-fn ended(status: i32) -> Done {
-    match status {
-        0 => Ok(()),
-        status => Err(Failure::Status(u8::try_from(status).unwrap_or(1))),
+        Work::Here(work, _) => work(arguments),
+        Work::There(work) => {
+            let words: Vec<String> =
+                arguments.iter().map(|argument| argument.to_string_lossy().into_owned()).collect();
+            match work(&words) {
+                0 => Ok(()),
+                status => Err(Failure::Status(u8::try_from(status).unwrap_or(1))),
+            }
+        }
     }
 }
 
@@ -138,10 +137,8 @@ fn help_command(rest: &[OsString]) -> Done {
     if topic == "help" {
         return write_output(whole_help().as_bytes());
     }
-    match named(&topic).map_err(|_| unknown("help on", &topic))?.work {
-        Work::Here(_, text) => write_output(text.as_bytes()),
-        Work::There(work) => ended(work(&["--help".to_string()])),
-    }
+    let command = named(&topic).map_err(|_| unknown("help on", &topic))?;
+    start(&command.work, vec!["--help".into()])
 }
 
 /// The help of the whole program, with a line for each command.
@@ -163,4 +160,21 @@ pub fn helps() -> Vec<(&'static str, &'static str)> {
 /// A word on standard error. Where it cannot be written, the exit status still tells.
 fn remark(text: &str) {
     let _ = writeln!(io::stderr(), "gk: {text}");
+}
+
+#[cfg(test)]
+mod tests {
+    use super::*;
+
+    #[test]
+    fn a_library_of_its_own_gets_the_words_and_gives_the_status() {
+        let work = Work::There(|words| match words {
+            [one] if one == "--help" => 0,
+            [one, other] if one == "a" && other == "b" => 7,
+            _ => -1,
+        });
+        assert_eq!(start(&work, vec!["--help".into()]), Ok(()));
+        assert_eq!(start(&work, vec!["a".into(), "b".into()]), Err(Failure::Status(7)));
+        assert_eq!(start(&work, Vec::new()), Err(Failure::Status(1)));
+    }
 }

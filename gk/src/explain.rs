@@ -1,5 +1,5 @@
-//! A journal's replies in plain words, for a payroll clerk: who asked what, what was answered, what did not happen where
-//! it was refused, and what can be done about it.
+//! A journal's replies in plain words, for a payroll clerk: who asked what, what was answered, what did not happen
+//! where it was refused, and what can be done about it.
 
 mod asked;
 pub mod json;
@@ -15,6 +15,7 @@ use crate::chain::Link;
 use crate::names::Names;
 use crate::run::{agrees, Content, Run, Step};
 use crate::text::{paragraph, wrapped};
+use refused::{refused, Refused};
 use scene::{Lives, Scene};
 
 /// What is said of a record.
@@ -22,6 +23,8 @@ pub struct Told {
     pub step: Step,
     /// Who asked what; where it was refused, that it did not happen, and why.
     pub title: String,
+    /// The names that the call's numbers have, by what the numbers are called.
+    pub names: Vec<(&'static str, String)>,
     /// Sentences about what happened, or what did not.
     pub facts: Vec<String>,
     /// The chain behind a 9, with what each thing is called.
@@ -93,16 +96,14 @@ pub fn tell(
 
 fn told(step: Step, names: &Names, lives: &Lives, closing: Option<Closing>) -> Told {
     let before = Scene { monitor: &step.before, record: step.position, names, lives };
+    let names = match step.content {
+        Content::Call(call) => asked::names_in(call, before),
+        _ => Vec::new(),
+    };
     match (step.content, step.refusal()) {
         (Content::Call(call), Some(refusal)) => {
-            let refused = refused::refused(call, refusal, before, closing);
-            Told {
-                title: refused.title,
-                facts: refused.facts,
-                chain: refused.chain,
-                counsel: refused.counsel,
-                step,
-            }
+            let Refused { title, facts, chain, counsel } = refused(call, refusal, before, closing);
+            Told { title, names, facts, chain, counsel, step }
         }
         (Content::Call(call), None) => {
             let title = format!("{}.", asked::asked(call, before, true));
@@ -112,11 +113,11 @@ fn told(step: Step, names: &Names, lives: &Lives, closing: Option<Closing>) -> T
                 Some(first) => *first = format!("{letter} {first}"),
                 None => facts.push(letter.to_string()),
             }
-            Told { title, facts, chain: Vec::new(), counsel: Counsel::default(), step }
+            Told { title, names, facts, chain: Vec::new(), counsel: Counsel::default(), step }
         }
         (content, _) => {
             let (title, facts) = refused::no_call(content);
-            Told { title, facts, chain: Vec::new(), counsel: Counsel::default(), step }
+            Told { title, names, facts, chain: Vec::new(), counsel: Counsel::default(), step }
         }
     }
 }
@@ -165,8 +166,8 @@ pub fn explain(journal: &[u8], names: &Names, which: Which) -> Result<String, Di
     if has_ways {
         text.push_str(&paragraph(
             "",
-            "The answers are the proved gatekeeper's. What to do is advice of gk and not proved; every advice was tried on a \
-             copy of the tables as they were before its record, and was allowed there.",
+            "The answers are the proved gatekeeper's. What to do is advice of gk and not proved; every advice was \
+             tried on a copy of the tables as they were before its record, and was allowed there.",
         ));
     }
     Ok(text)

@@ -1,8 +1,8 @@
 //! The pay-run gatekeeper's command for people: journals in words, and their replies in plain words.
 //!
 //! Every answer is the proved gatekeeper's: each record's call is made on `gatekeeper::Monitor`, which calls the proved
-//! archive, and levels, kinds, handles, needs and the freeze are asked of it. What is worked out here, and not proved,
-//! is the wording, the chain behind a refusal 9 ([`chain`]) and the search for a way out ([`advice`]); each way out has been
+//! archive, and levels, kinds, handles and the freeze are asked of it. What is worked out here, and not proved, is the
+//! wording, the chain behind a refusal 9 ([`chain`]) and the search for a way out ([`advice`]); each way out has been
 //! tried on a copy of the monitor before it is given.
 //!
 //! | module | has |

@@ -14,8 +14,8 @@ pub fn shown(text: &str) -> String {
 
 /// A character, or for one that a terminal could obey or hide its number.
 fn visible(character: char) -> String {
-    let is_hidden = matches!(character, '\u{200b}'..='\u{200f}' | '\u{2028}'..='\u{202e}' | '\u{2066}'..='\u{2069}' | '\u{feff}');
-    if character.is_control() || is_hidden {
+    let hidden = [0x200b..=0x200f, 0x2028..=0x202e, 0x2066..=0x2069, 0xfeff..=0xfeff];
+    if character.is_control() || hidden.iter().any(|range| range.contains(&u32::from(character))) {
         character.escape_default().to_string()
     } else {
         character.to_string()

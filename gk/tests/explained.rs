@@ -13,12 +13,13 @@ fn a_refusal_says_what_did_not_happen() {
     sees(
         &text,
         &[
-            "6. Step 0 may not open file 1 for reading at place 1: it writes file 0. Refused (9): low data could reach a \
-             higher file. Nothing is opened. File 1 has level 2, and file 0 takes nothing from below level 9. The chain, \
-             found by gk and not proved: file 1 (level 2) → step 0 (level 9) → file 0 (level 9) What to do: close place 0 \
-             (writing file 0) of step 0; open it after that. Or: let another step open it: step 1 may. Or: let step 0 fork \
-             a step, number 2 is free, which closes place 0 and opens it. Or: when a clerk has looked file 1 over, retire \
-             it, register it at level 9 or above, and open it then. End of the run",
+            "6. Step 0 may not open file 1 for reading at place 1: it writes file 0. Refused (9): low data could \
+             reach a higher file. Nothing is opened. File 1 has level 2, and file 0 takes nothing from below level \
+             9. The chain, found by gk and not proved: file 1 (level 2) → step 0 (level 9) → file 0 (level 9) What \
+             to do: close place 0 (writing file 0) of step 0; open it after that. Or: let another step open it: \
+             step 1 may. Or: let step 0 fork a step, number 2 is free, which closes place 0 and opens it. Or: when \
+             a clerk has looked file 1 over, retire it, register it at level 9 or above, and open it then. End of \
+             the run",
             "The answers are the proved gatekeeper's. What to do is advice of gk and not proved;",
         ],
     );
@@ -115,8 +116,8 @@ fn every_way_is_closed_at_once() {
         &text,
         &[
             "close place 0 (writing file 0) and place 2 (writing pipe 5) of step 0; run it after that.",
-            "if the program does not need them, mark place 0 (writing file 0) and place 2 (writing pipe 5) of step 0: the \
-             exec closes them.",
+            "if the program does not need them, mark place 0 (writing file 0) and place 2 (writing pipe 5) of step \
+             0: the exec closes them.",
             "let step 0 fork a step, number 2 is free, which closes places 0, 2 and runs it.",
         ],
     );
@@ -132,19 +133,20 @@ fn every_way_is_closed_at_once() {
 
 #[test]
 fn closed_books_are_explained() {
-    let text = explained(&format!("{BOOKS}register 2 4\nfreeze 9\nopen-write 0 0 0\nopen-write 0 2 0\nfreeze 5\nfreeze 16\nfreeze 16\n"));
+    let freezes = "freeze 9\nopen-write 0 0 0\nopen-write 0 2 0\nfreeze 5\nfreeze 16\nfreeze 16\n";
+    let text = explained(&format!("{BOOKS}register 2 4\n{freezes}"));
     sees(
         &text,
         &[
             "6. The freeze is set to 9. Allowed. Books closed from level 9 up: no such file can be opened for writing. \
              Handles that are open go on writing; freeze 16 opens the books again. 7.",
-            "7. Step 0 may not open file 0 for writing at place 0: the books are closed from level 9 up since record 6, and it \
-             has level 9. Refused (15): the file is frozen while the books are closed. Nothing is opened. What to do: wait \
-             until the books are open again (freeze 16) and open it then. Or: open a file that is not frozen: file 1 or file \
-             2. Nobody has file 0 open for writing. 8.",
+            "7. Step 0 may not open file 0 for writing at place 0: the books are closed from level 9 up since \
+             record 6, and it has level 9. Refused (15): the file is frozen while the books are closed. Nothing is \
+             opened. What to do: wait until the books are open again (freeze 16) and open it then. Or: open a file \
+             that is not frozen: file 1 or file 2. Nobody has file 0 open for writing. 8.",
             "Before, they were closed from level 9 up since record 6. 10.",
-            "10. The freeze is lifted. Allowed. Books open again: no open is refused with 15. They were closed from level 5 up \
-             since record 9. 11.",
+            "10. The freeze is lifted. Allowed. Books open again: no open is refused with 15. They were closed from \
+             level 5 up since record 9. 11.",
             "Books open, as they were: there was no freeze. End",
         ],
     );
@@ -163,8 +165,8 @@ fn a_9_while_the_books_are_closed_says_so() {
         &[
             "What to do: close place 0 (reading file 1) of step 0; open it after that once the books are open again \
              (freeze 16).",
-            "Also: the books are closed from level 9 up since record 5, so that the open is refused with 15 when nothing else \
-             is in the way",
+            "Also: the books are closed from level 9 up since record 5, so that the open is refused with 15 when \
+             nothing else is in the way",
         ],
     );
     let text = explained(&format!("{BOOKS}open-write 0 0 0\nfreeze 9\nopen-read 0 1 1\n"));
@@ -183,12 +185,12 @@ fn marks_and_what_exec_closes_are_explained() {
         &[
             "6. Step 0 marks place 0, its writing handle on file 0 (level 9). Allowed. The next exec of step 0 that is \
              allowed closes it; until then it is used as before. 7.",
-            "7. Step 0 marks place 0, its marked writing handle on file 0 (level 9). Allowed. It was marked before: nothing \
-             changes. 8.",
-            "10. Step 0 forks step 2. Allowed. Step 2 starts at level 9 with copies of the 3 handles of step 0, 2 of them \
-             marked. 11.",
-            "12. Step 0 runs file 1. Lowered. Step 0 falls from level 9 to level 2. Its marked handles are closed: place 0 \
-             (writing file 0), place 1 (reading pipe 5), place 2 (writing pipe 5). 13.",
+            "7. Step 0 marks place 0, its marked writing handle on file 0 (level 9). Allowed. It was marked before: \
+             nothing changes. 8.",
+            "10. Step 0 forks step 2. Allowed. Step 2 starts at level 9 with copies of the 3 handles of step 0, 2 \
+             of them marked. 11.",
+            "12. Step 0 runs file 1. Lowered. Step 0 falls from level 9 to level 2. Its marked handles are closed: \
+             place 0 (writing file 0), place 1 (reading pipe 5), place 2 (writing pipe 5). 13.",
             "Its marked handles are closed: place 0 (writing file 0), place 1 (reading pipe 5). End",
         ],
     );
@@ -204,9 +206,9 @@ fn mappings_are_explained() {
     sees(
         &text,
         &[
-            "5. Step 0 maps file 1 at place 0. Lowered. File 1 (level 2) is read at that moment: step 0 falls from level 9 \
-             to level 2. From now on step 0 reads it after each write to it, until place 0 is closed; its next exec that is \
-             allowed closes it, too. 6.",
+            "5. Step 0 maps file 1 at place 0. Lowered. File 1 (level 2) is read at that moment: step 0 falls from \
+             level 9 to level 2. From now on step 0 reads it after each write to it, until place 0 is closed; its \
+             next exec that is allowed closes it, too. 6.",
             "with a copy of the handle of step 0, a mapping. 7.",
             "Then step 0, step 1 and step 2, which have it mapped, read it, each once and in this order. 10.",
             "10. Step 0 reads at place 0, its mapping of file 1 (level 2). Allowed. Step 0 stays at level 2. 11.",
@@ -219,15 +221,15 @@ fn mappings_are_explained() {
     sees(
         &text,
         &[
-            "Step 0 may not map pipe 5 at place 3: it is a pipe. Refused (5): a pipe cannot be run, retired or mapped. Nothing \
-             is mapped, and nothing is read. What to do: open pipe 5 for reading in place of that, and read it. Or: name a \
-             file: file 0 or file 1.",
-            "8. Step 0 may not write at place 4, its mapping of file 1 (level 2): that handle is for reading. Refused (8): the \
-             handle is for the other direction. Nothing is written. What to do: open it for writing at an empty place, for \
-             example 0, and use that place.",
-            "File 1 is not retired: step 0 has it open. Refused (10): a handle is still open on the file. Nothing is retired. \
-             What to do: close place 4 (mapping file 1) of step 0; retire it after that. Or: let step 0 exit; retire it \
-             after that.",
+            "Step 0 may not map pipe 5 at place 3: it is a pipe. Refused (5): a pipe cannot be run, retired or \
+             mapped. Nothing is mapped, and nothing is read. What to do: open pipe 5 for reading in place of that, \
+             and read it. Or: name a file: file 0 or file 1.",
+            "8. Step 0 may not write at place 4, its mapping of file 1 (level 2): that handle is for reading. \
+             Refused (8): the handle is for the other direction. Nothing is written. What to do: open it for \
+             writing at an empty place, for example 0, and use that place.",
+            "File 1 is not retired: step 0 has it open. Refused (10): a handle is still open on the file. Nothing \
+             is retired. What to do: close place 4 (mapping file 1) of step 0; retire it after that. Or: let step 0 \
+             exit; retire it after that.",
         ],
     );
 }
@@ -238,8 +240,8 @@ fn channels_are_explained() {
     sees(
         &text,
         &[
-            "Allowed. Both pipes are empty. One way: step 0 writes pipe 5 (level 9) at place 4, and step 1 reads it at place \
-             3. Back: step 1 writes pipe 6 (level 8) at place 4, and step 0 reads it at place 3. 6.",
+            "Allowed. Both pipes are empty. One way: step 0 writes pipe 5 (level 9) at place 4, and step 1 reads it \
+             at place 3. Back: step 1 writes pipe 6 (level 8) at place 4, and step 0 reads it at place 3. 6.",
             "Place 3 is empty. That was the last handle on pipe 5, which ends. End",
         ],
     );
@@ -247,11 +249,11 @@ fn channels_are_explained() {
     sees(
         &text,
         &[
-            "writing at place 4: what pipe 6 has could then reach file 0. Refused (9): low data could reach a higher file. \
-             Neither pipe is made.",
-            "pipe 6 (level 8) → step 0 (level 9) → file 0 (level 9) What to do: close place 0 (writing file 0) of step 0; \
-             connect them after that. Or: if data need only go from step 0 to step 1, let step 0 make pipe 5 and step 1 open \
-             it for reading. End",
+            "writing at place 4: what pipe 6 has could then reach file 0. Refused (9): low data could reach a \
+             higher file. Neither pipe is made.",
+            "pipe 6 (level 8) → step 0 (level 9) → file 0 (level 9) What to do: close place 0 (writing file 0) of \
+             step 0; connect them after that. Or: if data need only go from step 0 to step 1, let step 0 make pipe \
+             5 and step 1 open it for reading. End",
         ],
     );
     let full: String = (0..15).map(|p| format!("open-read 0 0 {p}\n")).collect();
@@ -276,10 +278,9 @@ fn only_refusals_are_told_where_that_is_asked() {
 
 #[test]
 fn a_summary_has_each_steps_levels_handles_and_refusals() {
-    let journal = gk(
-        &["assemble"],
-        format!("{BOOKS}open-write 0 0 0\nopen-read 0 1 1\nclose 0 0\nmap 0 1 1\nexit 0\nadmit 0 3\nread 7 0\nfreeze 17\nbytes 00\n").as_bytes(),
-    );
+    let calls = "open-write 0 0 0\nopen-read 0 1 1\nclose 0 0\nmap 0 1 1\nexit 0\nadmit 0 3\n";
+    let text = format!("{BOOKS}{calls}read 7 0\nfreeze 17\nbytes 00\n");
+    let journal = gk(&["assemble"], text.as_bytes());
     let output = gk(&["explain", "--summary"], &journal.stdout);
     assert_eq!((output.status.code(), err(&output)), (Some(0), String::new()));
     assert_eq!(
@@ -317,32 +318,29 @@ fn a_record_in_json_has_what_docs_json_says() {
     assert_eq!(gk(&["assemble", "-o", &journal], text.as_bytes()).status.code(), Some(0));
     let lines = out(&gk(&["explain", "--json", &journal], b""));
     let lines: Vec<&str> = lines.lines().collect();
-    assert_eq!(
-        lines[4],
-        "{\"record\":5,\"code\":6,\"outcome\":\"allowed\",\"level\":9,\"call\":\"open-write\",\"words\":\"open-write 0 0 0\",\
-         \"numbers\":{\"s\":0,\"o\":0,\"p\":0},\"names\":{\"s\":\"merge 2\"},\"said\":[\"merge 2 (step 0) opens file 0 for \
-         writing at place 0.\",\"Allowed. File 0 has level 9, merge 2 level 9.\"]}"
+    let expected = concat!(
+        r#"{"record":5,"code":6,"outcome":"allowed","level":9,"call":"open-write","words":"open-write 0 0 0","#,
+        r#""numbers":{"s":0,"o":0,"p":0},"names":{"s":"merge 2"},"said":["merge 2 (step 0) opens file 0 for "#,
+        r#"writing at place 0.","Allowed. File 0 has level 9, merge 2 level 9."]}"#
     );
-    sees(
-        lines[5],
-        &[
-            "{\"record\":6,\"code\":5,\"outcome\":\"refused\",\"refusal\":9,\"meaning\":\"low data could reach a higher file\",",
-            "\"chain\":{\"proved\":false,\"links\":[{\"kind\":\"file\",\"number\":1,\"level\":2,\"called\":\"file 1\"},",
-            "\"advice\":[{\"text\":\"close place 0 (writing file 0) of merge 2; open it after that.\",\"calls\":[\"close 0 0\",\
-             \"open-read 0 1 1\"]},",
-            "\"notes\":[]}",
-        ],
+    assert_eq!(lines[4], expected);
+    let refused =
+        r#"{"record":6,"code":5,"outcome":"refused","refusal":9,"meaning":"low data could reach a "#;
+    let chain =
+        r#""chain":{"proved":false,"links":[{"kind":"file","number":1,"level":2,"called":"file 1"},"#;
+    let advice = concat!(
+        r#""advice":[{"text":"close place 0 (writing file 0) of merge 2; open it after that.","#,
+        r#""calls":["close 0 0","open-read 0 1 1"]},"#
     );
-    assert_eq!(
-        lines[6],
-        "{\"record\":7,\"code\":0,\"outcome\":\"refused\",\"refusal\":12,\"meaning\":\"the record is not well formed\",\"said\":[\"A \
-         record that is no call.\",\"Refused (12): the record is not well formed. The body is empty, there is no code.\",\"What to \
-         do: look at the program that wrote the journal; the next record is read.\"],\"advice\":[],\"notes\":[]}"
+    sees(lines[5], &[refused, chain, advice, r#""notes":[]}"#]);
+    let expected = concat!(
+        r#"{"record":7,"code":0,"outcome":"refused","refusal":12,"meaning":"the record is not well formed","#,
+        r#""said":["A record that is no call.","Refused (12): the record is not well formed. The body is empty, "#,
+        r#"there is no code.","What to do: look at the program that wrote the journal; the next record is read."],"#,
+        r#""advice":[],"notes":[]}"#
     );
-    assert_eq!(
-        lines[7],
-        "{\"end\":{\"allowed\":5,\"lowered\":0,\"refused\":2,\"made\":1,\"gone\":0,\"open\":1}}"
-    );
+    assert_eq!(lines[6], expected);
+    assert_eq!(lines[7], r#"{"end":{"allowed":5,"lowered":0,"refused":2,"made":1,"gone":0,"open":1}}"#);
     // The page says of each key what it is.
     let page = std::fs::read_to_string(format!("{}/docs/JSON.md", common::ROOT)).unwrap();
     for line in lines {

@@ -174,8 +174,8 @@ fn every_journal_comes_back_with_names() {
 
 #[test]
 fn a_name_holds_from_the_next_record_on() {
-    let text = "name step 1 first\nadmit first 9\nbytes 03 01 02 09\nname step 1 second\nname file 0 first\nregister first 2\n\
-                exit second\nname pipe 5 last";
+    let text = "name step 1 first\nadmit first 9\nbytes 03 01 02 09\nname step 1 second\nname file 0 \
+                first\nregister first 2\nexit second\nname pipe 5 last";
     let assembled = assemble(text.as_bytes()).unwrap();
     assert_eq!(
         assembled.names.text(),
@@ -194,7 +194,8 @@ fn a_name_holds_from_the_next_record_on() {
 fn the_names_are_kept_beside_the_journal() {
     let folder = Folder::new("names");
     let journal = folder.path("run.journal");
-    let text = b"name step 17 merge\nname file 1 \"the sheet\"\nadmit merge 9\nregister \"the sheet\" 2\nopen-read merge \"the sheet\" 0\n";
+    let text = b"name step 17 merge\nname file 1 \"the sheet\"\nadmit merge 9\nregister \"the sheet\" 2\n\
+                 open-read merge \"the sheet\" 0\n";
     let output = gk(&["assemble", "-o", &journal], text);
     assert_eq!((output.status.code(), err(&output)), (Some(0), String::new()));
     assert_eq!(folder.files(), ["run.journal", "run.names"]);
@@ -202,7 +203,8 @@ fn the_names_are_kept_beside_the_journal() {
     assert_eq!(names, "names 1\nstep 17 1 merge\nfile 1 1 the sheet\n");
     assert_eq!(out(&gk(&["disassemble", &journal], b"")), String::from_utf8_lossy(text));
     let told = out(&gk(&["explain", &journal], b""));
-    sees(&told, &["3. merge (step 17) opens the sheet (file 1) for reading at place 0.\n  Allowed. The sheet has level 2;"]);
+    let third = "3. merge (step 17) opens the sheet (file 1) for reading at place 0.\n  Allowed. The sheet has level 2;";
+    sees(&told, &[third]);
     // From standard input there is nothing beside it; --names says where.
     let bytes = fs::read(&journal).unwrap();
     assert!(!out(&gk(&["explain"], &bytes)).contains("merge"));
@@ -233,8 +235,8 @@ fn the_names_are_kept_beside_the_journal() {
 #[test]
 fn a_name_is_not_taken_for_that_of_the_next_thing() {
     let folder = Folder::new("again");
-    let text = b"name step 1 intake\nname file 2 sheet\nadmit 1 9\nregister 2 9\nretire 2\nexit 1\nread 1 0\nadmit 1 4\n\
-                 exit 1\nname step 1 reader\nadmit 1 5\nname pipe 2 line\npipe 1 2 0 1\n";
+    let text = b"name step 1 intake\nname file 2 sheet\nadmit 1 9\nregister 2 9\nretire 2\nexit 1\nread 1 0\nadmit \
+                 1 4\nexit 1\nname step 1 reader\nadmit 1 5\nname pipe 2 line\npipe 1 2 0 1\n";
     let journal = folder.path("run.journal");
     assert_eq!(gk(&["assemble", "-o", &journal], text).status.code(), Some(0));
     let told = out(&gk(&["explain", &journal], b""));

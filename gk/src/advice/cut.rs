@@ -1,4 +1,4 @@
-//! Which handles to close so that the flow rule no longer refuses a call: a least cut, found by a flow of greatest size.
+//! Which handles to close so that the flow rule no longer refuses a call: a least cut, found by a greatest flow.
 //!
 //! A call that is refused with 9 joins two sides: data that could come to it, and files that it could go on to. It is
 //! let through once there is a level that nothing on the first side is below and no file on the second side is above.

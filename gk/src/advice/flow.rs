@@ -241,8 +241,8 @@ fn one_way(call: Call, scene: Scene, counsel: &mut Counsel) {
             let (writer, reader) = (scene.thing(Thing::Step(writer)), scene.thing(Thing::Step(reader)));
             counsel.way(
                 format!(
-                    "if data need only go from {writer} to {reader}, let {writer} make pipe {pipe} and {reader} open it for \
-                     reading."
+                    "if data need only go from {writer} to {reader}, let {writer} make pipe {pipe} and {reader} \
+                     open it for reading."
                 ),
                 calls,
             );

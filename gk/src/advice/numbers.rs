@@ -227,7 +227,10 @@ pub fn missing_object(call: Call, scene: Scene) -> Counsel {
             Some((level, calls)) => {
                 let when = once_open(&calls);
                 counsel.way(
-                    format!("register file {object} first, for example at level {level}; then the call is allowed{when}."),
+                    format!(
+                        "register file {object} first, for example at level {level}; then the call is allowed\
+                         {when}."
+                    ),
                     calls,
                 );
             }

@@ -104,7 +104,10 @@ fn full(call: Call, step: u32, scene: Scene) -> Counsel {
             let places: Vec<u32> = fit.iter().map(|held| held.place).collect();
             let when = once_open(&calls);
             counsel.way(
-                format!("all {PLACES} places of {name} are taken: close one and use it{when}. These will do: {}.", spaced(&places)),
+                format!(
+                    "all {PLACES} places of {name} are taken: close one and use it{when}. These will do: {}.",
+                    spaced(&places)
+                ),
                 calls,
             );
         }

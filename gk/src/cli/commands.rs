@@ -42,10 +42,14 @@ fn read_names(arguments: &Arguments) -> Result<Names, Failure> {
         };
     }
     let beside = arguments.file()?.map(|file| names::beside(Path::new(file)));
-    match beside.filter(|path| path.is_file()) {
-        Some(path) => Names::load(&path).map_err(|fault| bad(&path, fault)),
-        None => Ok(Names::new()),
-    }
+    let Some(path) = beside.filter(|path| path.is_file()) else {
+        return Ok(Names::new());
+    };
+    // It may only happen to be called so: what is said without names is true as well.
+    Ok(Names::load(&path).unwrap_or_else(|fault| {
+        remark(&format!("the names in {} are not taken: {fault}", shown(&path.to_string_lossy())));
+        Names::new()
+    }))
 }
 
 pub fn run(arguments: Vec<OsString>) -> Done {

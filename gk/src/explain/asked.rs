@@ -3,6 +3,7 @@
 use gatekeeper::{Call, NO_FREEZE};
 
 use super::scene::{capital, Scene};
+use crate::calls::{shape_of_code, Role};
 use crate::names::Kind;
 use crate::things::Thing;
 
@@ -62,7 +63,8 @@ pub fn asked(call: Call, scene: Scene, happens: bool) -> String {
         Call::Freeze { level: NO_FREEZE } => format!("The freeze {is} lifted"),
         Call::Freeze { level } => format!("The freeze {is} set to {level}"),
         Call::Connect { subject, peer, to, from, reading, writing } => format!(
-            "{} {is} connected to {} by {} and back by {}, both reading at place {reading} and writing at place {writing}",
+            "{} {is} connected to {} by {} and back by {}, both reading at place {reading} and writing at place \
+             {writing}",
             capital(&scene.whole(Thing::Step(subject))),
             scene.whole(Thing::Step(peer)),
             new(Kind::Pipe, to),
@@ -70,6 +72,24 @@ pub fn asked(call: Call, scene: Scene, happens: bool) -> String {
         ),
         _ => format!("A call of code {}", call.code()),
     }
+}
+
+/// The names that the numbers of a call have, by what the numbers are called.
+pub fn names_in(call: Call, scene: Scene) -> Vec<(&'static str, String)> {
+    let makes_step = matches!(call, Call::Admit { .. });
+    let parts = shape_of_code(call.code()).into_iter().flat_map(|shape| shape.parts());
+    let name = |part: &str, role: Role, number: u32| match role {
+        Role::Step if makes_step || part == "c" => scene.new_name(Kind::Step, number),
+        Role::Step => scene.name(Thing::Step(number)),
+        Role::File => scene.new_name(Kind::File, number),
+        Role::Pipe => scene.new_name(Kind::Pipe, number),
+        Role::Object => scene.name(Thing::Object(number)),
+        Role::Place | Role::Level => None,
+    };
+    parts
+        .zip(call.numbers())
+        .filter_map(|((part, role), number)| name(part, role, number).map(|name| (part, name.to_string())))
+        .collect()
 }
 
 /// What a refused call has not done.

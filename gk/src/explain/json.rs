@@ -4,7 +4,7 @@ use gatekeeper::{Answer, Call, Kind as ObjectKind, Monitor};
 
 use super::{tell, Differs, Told, Which};
 use crate::advice::Advice;
-use crate::calls::{assembly_of, shape_of_code, Role};
+use crate::calls::{assembly_of, shape_of_code};
 use crate::chain::Link;
 use crate::names::{Kind, Names};
 use crate::run::Content;
@@ -14,7 +14,7 @@ use crate::things::Thing;
 pub fn json(journal: &[u8], names: &Names, which: Which) -> Result<String, Differs> {
     let mut text = String::new();
     let end = tell(journal, names, which, |told| {
-        text.push_str(&record(&told, names).line());
+        text.push_str(&record(&told).line());
     })?;
     let mut counts = Object::default();
     for (key, count) in [
@@ -33,7 +33,7 @@ pub fn json(journal: &[u8], names: &Names, which: Which) -> Result<String, Diffe
     Ok(text)
 }
 
-fn record(told: &Told, names: &Names) -> Object {
+fn record(told: &Told) -> Object {
     let step = &told.step;
     let mut object = Object::default();
     object.number("record", step.position);
@@ -51,7 +51,7 @@ fn record(told: &Told, names: &Names) -> Object {
         }
     }
     if let Content::Call(call) = step.content {
-        call_fields(call, names, step.position, &mut object);
+        call_fields(call, &told.names, &mut object);
     }
     let said: Vec<String> =
         std::iter::once(&told.title).chain(&told.facts).map(|text| string(text)).collect();
@@ -74,28 +74,22 @@ fn record(told: &Told, names: &Names) -> Object {
 }
 
 /// The call's word, its numbers, and the names that they have.
-fn call_fields(call: Call, names: &Names, at: u64, object: &mut Object) {
+fn call_fields(call: Call, names: &[(&'static str, String)], object: &mut Object) {
     let Some(shape) = shape_of_code(call.code()) else {
         return;
     };
     object.string("call", shape.word);
     object.string("words", &assembly_of(call));
-    let (mut numbers, mut named) = (Object::default(), Object::default());
-    for ((key, role), number) in shape.parts().zip(call.numbers()) {
+    let mut numbers = Object::default();
+    for (key, number) in shape.numbers.iter().zip(call.numbers()) {
         numbers.number(key, number.into());
-        let name = match role {
-            Role::Step => names.get(Kind::Step, number, at),
-            Role::Object => names.object(number, at).map(|(_, name)| name),
-            Role::File => names.get(Kind::File, number, at),
-            Role::Pipe => names.get(Kind::Pipe, number, at),
-            Role::Place | Role::Level => None,
-        };
-        if let Some(name) = name {
-            named.string(key, name.as_str());
-        }
     }
     object.raw("numbers", numbers.text());
-    if !named.fields.is_empty() {
+    if !names.is_empty() {
+        let mut named = Object::default();
+        for (key, name) in names {
+            named.string(key, name);
+        }
         object.raw("names", named.text());
     }
 }

@@ -196,8 +196,8 @@ fn map(subject: u32, object: u32, place: u32, before: Scene, after: &Monitor) ->
         )
     } else {
         format!(
-            "From now on {who} reads it after each write to it, until place {place} is closed; its next exec that is allowed \
-             closes it, too."
+            "From now on {who} reads it after each write to it, until place {place} is closed; its next exec that \
+             is allowed closes it, too."
         )
     };
     vec![format!("{file} is read at that moment: {who} {change}."), later]

@@ -102,21 +102,24 @@ impl<'a> Scene<'a> {
         }
     }
 
-    /// What a thing that a call is to make will be called: a name that was given before the last thing of that number
-    /// went is not its.
+    /// What a thing that a call is to make will be called.
     pub fn new_thing(&self, kind: Kind, number: u32) -> String {
+        match self.new_name(kind, number) {
+            Some(name) => format!("{name} ({} {number})", kind.word()),
+            None => format!("{} {number}", kind.word()),
+        }
+    }
+
+    /// The name of a thing that a call is to make: one that was given before the last thing of that number went is not
+    /// its.
+    pub fn new_name(&self, kind: Kind, number: u32) -> Option<&'a str> {
         let thing = match kind {
             Kind::Step => Thing::Step(number),
             Kind::File | Kind::Pipe => Thing::Object(number),
         };
-        let word = kind.word();
-        let entry = self.names.entry(kind, number, self.record);
-        match entry
-            .filter(|entry| level(self.monitor, thing).is_none() && entry.from > self.lives.of(thing).went)
-        {
-            Some(entry) => format!("{} ({word} {number})", entry.name),
-            None => format!("{word} {number}"),
-        }
+        let entry = self.names.entry(kind, number, self.record)?;
+        let is_its = level(self.monitor, thing).is_none() && entry.from > self.lives.of(thing).went;
+        is_its.then_some(entry.name.as_str())
     }
 
     /// Kind and number of a thing.
