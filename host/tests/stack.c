@@ -1,6 +1,6 @@
 /*
- * How much stack the functions of the archive take: each is called on a thread whose stack has been painted, and what is
- * no longer painted afterwards has been used. Prints the most that each took, and fails where one took more than
+ * How much stack the functions of the archive take: each is called on a thread whose stack has been painted, and what
+ * is no longer painted afterwards has been used. Prints the most that each took, and fails where one took more than
  * GATEKEEPER_STACK_BYTES. tools/hosts builds and runs it.
  *
  * The calls are those of many drawn lists, from an empty monitor and from drawn bytes, and journals of the greatest

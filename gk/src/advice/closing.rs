@@ -17,6 +17,7 @@ pub struct Closes {
 /// Handles whose closing lets a call that was refused with 9 through, none of them needless; none where no set of
 /// closes does. `whose` says which handles may be closed.
 pub fn enough(call: Call, monitor: &Monitor, whose: Whose) -> Option<Closes> {
+    let caller = call.numbers()[0];
     let calls_for = |set: &[Held]| aim_after(monitor, &close_calls(set), call);
     let may_close = |held: &Held| match whose {
         Whose::Only(step) => held.step == step,
@@ -37,7 +38,8 @@ pub fn enough(call: Call, monitor: &Monitor, whose: Whose) -> Option<Closes> {
             let set: Vec<Held> = cut::closes(call, monitor, whose, &kept)
                 .filter(|set| calls_for(set).is_some())
                 .unwrap_or_else(all);
-            let is_better = found.as_ref().is_none_or(|known| set.len() < known.len());
+            let total = |set: &[Held]| set.iter().map(|held| cut::cost(held, caller)).sum::<u32>();
+            let is_better = found.as_ref().is_none_or(|known| total(&set) < total(known));
             if is_better && calls_for(&set).is_some() {
                 found = Some(set);
             }
@@ -45,7 +47,7 @@ pub fn enough(call: Call, monitor: &Monitor, whose: Whose) -> Option<Closes> {
     }
     let mut set = found?;
     // Handles of others are left alone where they can be.
-    set.sort_by_key(|held| (is_of_caller(call, held), held.step, held.place));
+    set.sort_by_key(|held| (held.step == caller, held.step, held.place));
     let mut index = 0;
     while index < set.len() {
         let mut fewer = set.clone();
@@ -56,13 +58,9 @@ pub fn enough(call: Call, monitor: &Monitor, whose: Whose) -> Option<Closes> {
             index += 1;
         }
     }
-    set.sort_by_key(|held| (!is_of_caller(call, held), held.step, held.place));
+    set.sort_by_key(|held| (held.step != caller, held.step, held.place));
     let calls = calls_for(&set)?;
     Some(Closes { handles: set, calls })
-}
-
-fn is_of_caller(call: Call, held: &Held) -> bool {
-    call.numbers()[0] == held.step
 }
 
 /// Handles by step: "place 1 (writing pipe 37) and place 4 (writing file 0) of step 17, and place 3 of step 18".

@@ -19,6 +19,15 @@ pub enum Whose {
 
 /// What a handle of another step costs, when one of the caller costs 1: more than all that a step can hold.
 const OTHERS: u32 = 32;
+/// What the closing of a handle costs where a step asks.
+pub fn cost(held: &Held, caller: u32) -> u32 {
+    if held.step == caller {
+        1
+    } else {
+        OTHERS
+    }
+}
+
 /// What cannot be closed costs more than all handles together.
 const NEVER: u32 = 1 << 20;
 
@@ -67,13 +76,12 @@ pub fn closes(call: Call, monitor: &Monitor, whose: Whose, kept: &[Held]) -> Opt
             !(sides.is_exec && held.step == sides.caller && (held.handle.marked || held.is_mapping()))
         })
         .collect();
-    let cost = |held: &Held| match whose {
+    let cost_of = |held: &Held| match whose {
         _ if kept.contains(held) => NEVER,
         Whose::Only(step) if held.step != step => NEVER,
-        _ if held.step == sides.caller => 1,
-        _ => OTHERS,
+        _ => cost(held, sides.caller),
     };
-    let edges: Vec<(Held, u32)> = counted.iter().map(|held| (*held, cost(held))).collect();
+    let edges: Vec<(Held, u32)> = counted.iter().map(|held| (*held, cost_of(held))).collect();
     let levels = |thing: &Thing| level(monitor, *thing).map(u32::from);
     let mut best: Option<(u32, Vec<Held>)> = None;
     for between in 0..=HIGHEST {

@@ -144,6 +144,10 @@ fn follow_step(number: u32, step: &Step, after: Scene, stays: &mut Vec<Stay>) {
     let Some(stay) = present(stays, number) else {
         return;
     };
+    // A name that it was given since.
+    if after.name(Thing::Step(number)).is_some() {
+        stay.called = after.whole(Thing::Step(number));
+    }
     if let Some(level) = level.filter(|&level| stay.levels.last().is_none_or(|&(_, last)| last != level)) {
         stay.levels.push((position, level));
     }
