@@ -4,7 +4,7 @@ use std::cmp::Ordering;
 use std::collections::{BTreeMap, BTreeSet};
 
 use gatekeeper_independent::calls::Call;
-use gatekeeper_independent::generate::{journal, Wish, STYLES};
+use gatekeeper_independent::generate::{journal, Wish};
 use gatekeeper_independent::monitor::Answer;
 use gatekeeper_independent::needs::{level, live_things, Flow, Needs, Thing};
 use gatekeeper_independent::records::Body;

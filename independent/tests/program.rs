@@ -201,7 +201,6 @@ fn a_reader_that_stops_ends_the_program_without_a_word() {
 }
 
 #[test]
-#[test]
 fn cases_are_printed_for_other_programs() {
     for case in cases::all() {
         let journal = second(&["cases", "--journal", &case.name], b"").stdout;
