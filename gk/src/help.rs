@@ -58,7 +58,7 @@ shows a chain that data could have taken from a low thing to a higher file, whic
   --refused     only the records that were refused, and the end
   --summary     for each step its levels over time, what it held, and what it was refused
   --json        an object a line: one for each record, and a last one for the end (docs/JSON.md)
-  --names FILE  the names of steps, files and pipes; else FILE.names beside the journal, if it is there
+  --names FILE  the names of steps, files and pipes; else run.names beside run.journal, if it is there
   -o FILE       write to this file
 
 Examples: the pay run of March; its refusals; who held what; the refusals for another program
@@ -107,7 +107,7 @@ Every byte is accounted for: what it writes, assembled again, gives the same byt
 is malformed stands as `bytes` or `call`, with a comment that says why. Of a journal above 65,536 bytes the
 first 65,537 are read.
 
-  --names FILE  the names of steps, files and pipes; else FILE.names beside the journal, if it is there
+  --names FILE  the names of steps, files and pipes; else run.names beside run.journal, if it is there
   -o FILE       write to this file
 
 Example:

@@ -14,12 +14,12 @@ fn a_refusal_says_what_did_not_happen() {
         &text,
         &[
             "6. Step 0 may not open file 1 for reading at place 1: it writes file 0. Refused (9): low data could \
-             reach a higher file. Nothing is opened. File 1 has level 2, and file 0 takes nothing from below level \
-             9. The chain, found by gk and not proved: file 1 (level 2) → step 0 (level 9) → file 0 (level 9) What \
-             to do: close place 0 (writing file 0) of step 0; open it after that. Or: let another step open it: \
-             step 1 may. Or: let step 0 fork a step, number 2 is free, which closes place 0 and opens it. Or: when \
-             a clerk has looked file 1 over, retire it, register it at level 9 or above, and open it then. End of \
-             the run",
+             reach a higher file. Nothing is opened. File 1 has level 2, and file 0 takes nothing from below level 9. \
+             With the handles that there are, step 0 has to stay at level 9 or above. The chain, found by gk and not \
+             proved: file 1 (level 2) → step 0 (level 9) → file 0 (level 9) What to do: close place 0 (writing file \
+             0) of step 0; open it after that. Or: let another step open it: step 1 may. Or: let step 0 fork a step, \
+             number 2 is free, which closes place 0 and opens it. Or: when a clerk has looked file 1 over, retire it, \
+             register it at level 9 or above, and open it then. End of the run",
             "The answers are the proved gatekeeper's. What to do is advice of gk and not proved;",
         ],
     );
@@ -290,21 +290,22 @@ Step 0, from record 3 to record 9.
   Level: 9 from record 3 on, 2 from record 8 on.
   Held place 0, writing file 0, from record 5 to record 7.
   Held place 1, mapping file 1, from record 8 to record 9.
-  Refused: Record 6: Step 0 may not open file 1 for reading at place 1 (9, low data could reach a
+  Refused at record 6: Step 0 may not open file 1 for reading at place 1 (9, low data could reach a
     higher file).
 Step 0, from record 10 to the end.
   Level: 3 from record 10 on.
   Held nothing.
-  Refused nothing.
+  Never refused.
 Step 1, from record 4 to the end.
   Level: 8 from record 4 on.
   Held nothing.
-  Refused nothing.
-Refused, and asked by no step that was there:
-  Record 11: Step 7 may not read at place 0, where it has nothing (2, the step that asks is not
-    there).
-  Record 12: The freeze is not set to 17 (6, the level is above 15, or a freeze above 16).
-  Record 13: no call (12, the record is not well formed).
+  Never refused.
+Asked by no step that was there.
+  Refused at record 11: Step 7 may not read at place 0, where it has nothing (2, the step that asks
+    is not there).
+  Refused at record 12: The freeze is not set to 17 (6, the level is above 15, or a freeze above
+    16).
+  Refused at record 13: no call (12, the record is not well formed).
 3 steps. 9 records allowed or lowered, 4 refused. Handles: 2 made, 2 gone, 0 still open.
 "
     );

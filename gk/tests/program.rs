@@ -268,6 +268,21 @@ fn input_without_end_is_not_read_to_its_end() {
 }
 
 #[test]
+fn a_text_in_the_place_of_a_journal_is_answered_with_a_word() {
+    let texts: [&[u8]; 2] = [b"admit 0 9\n", b"\xef\xbb\xbfadmit"];
+    let journals: [&[u8]; 2] = [b"\x03\x01\x00\x09", b""];
+    for command in ["run", "explain", "disassemble"] {
+        for (bytes, is_said) in
+            texts.map(|text| (text, true)).into_iter().chain(journals.map(|bytes| (bytes, false)))
+        {
+            let output = gk(&[command], bytes);
+            assert_eq!(output.status.code(), Some(0), "{command}");
+            assert_eq!(err(&output).contains("looks like a text"), is_said, "{command}: {}", err(&output));
+        }
+    }
+}
+
+#[test]
 fn behind_two_dashes_stands_a_file() {
     for command in COMMANDS {
         let output = gk(&[command, "-x"], b"");

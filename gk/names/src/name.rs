@@ -175,6 +175,7 @@ mod tests {
         assert!(Name::new(&"é".repeat(60)).is_ok());
         assert_eq!(Name::new(&"é".repeat(61)), Err(Unfit::TooLong));
         assert!(Name::new("profile 3").is_ok());
+        assert!(Unfit::TooLong.words().contains(&LONGEST.to_string()));
     }
 
     #[test]

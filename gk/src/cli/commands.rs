@@ -12,6 +12,7 @@ use crate::assembly::{self, lines, Assembled};
 use crate::disassembly;
 use crate::explain::{self, json, summary, Differs, Which};
 use crate::names::{self, Names};
+use crate::records::{Body, Record, Records};
 use crate::text::{excerpt, shown};
 
 /// The longest text that is assembled, in bytes: comments take room, but input without end is no text.
@@ -23,7 +24,22 @@ fn read_journal(command: &str, file: Option<&OsStr>) -> Result<Vec<u8>, Failure>
     if journal.len() > JOURNAL_BYTES && command != "run" {
         remark(&format!("{command}: the journal is longer than 65536 bytes; the first 65537 were read"));
     }
+    if looks_like_text(&journal) {
+        remark(&format!(
+            "{command}: this looks like a text and not like a journal. From words to a journal: gk assemble TEXT -o \
+             JOURNAL"
+        ));
+    }
     Ok(journal)
+}
+
+/// Whether the first bytes are letters, which as lengths and codes make no call.
+fn looks_like_text(journal: &[u8]) -> bool {
+    let text = journal.strip_prefix(b"\xef\xbb\xbf").unwrap_or(journal);
+    let is_letter = |byte: &u8| byte.is_ascii_graphic() || byte.is_ascii_whitespace();
+    let has_no_call =
+        || !matches!(Records::new(journal).next(), Some(Ok(Record { body: Body::Call(_), .. })));
+    !text.is_empty() && text.iter().take(16).all(is_letter) && has_no_call()
 }
 
 /// The names behind `--names`, or of the file beside the journal, or none.

@@ -7,6 +7,7 @@ use super::scene::{listed, sentence, way_word, Scene};
 use crate::advice::{counsel, Closing, Counsel};
 use crate::calls::number_of;
 use crate::chain::{behind, Link};
+use crate::names::Kind;
 use crate::records::{body_words, length_words};
 use crate::run::Content;
 use crate::things::{handles_on, Thing, HIGHEST, OBJECTS, PLACES, STEPS};
@@ -36,14 +37,29 @@ pub fn refused(call: Call, refusal: Refusal, scene: Scene, closing: Option<Closi
             low.level,
             high.level
         ));
+        facts.extend(floor(call, scene));
     }
     Refused { title, facts, chain, counsel: counsel(call, refusal, scene, closing) }
+}
+
+/// RULES F5: how far the step that asks to read may fall, as the monitor has it.
+fn floor(call: Call, scene: Scene) -> Option<String> {
+    let (Call::OpenRead { subject, .. } | Call::Map { subject, .. }) = call else {
+        return None;
+    };
+    let need = scene.monitor.need_of_subject(subject)?;
+    Some(format!(
+        "With the handles that there are, {} has to stay at level {need} or above.",
+        scene.step(subject)
+    ))
 }
 
 /// What a thing of a chain is called; the pipes of a connect are not there yet.
 fn link_name(link: Link, call: Call, scene: Scene) -> String {
     match (link.thing, call) {
-        (Thing::Object(o), Call::Connect { to, from, .. }) if o == to || o == from => format!("pipe {o}"),
+        (Thing::Object(o), Call::Connect { to, from, .. }) if o == to || o == from => {
+            scene.new_name(Kind::Pipe, o).map_or_else(|| format!("pipe {o}"), str::to_string)
+        }
         _ => scene.thing(link.thing),
     }
 }

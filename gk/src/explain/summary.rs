@@ -67,8 +67,8 @@ pub fn summary(journal: &[u8], names: &Names) -> Result<String, Differs> {
     stays.sort_by_key(|stay| (stay.number, stay.from));
     let mut text: String = stays.iter().map(paragraphs).collect();
     if !elsewhere.is_empty() {
-        text.push_str("Refused, and asked by no step that was there:\n");
-        text.extend(elsewhere.iter().map(|words| paragraph("  ", words)));
+        text.push_str("Asked by no step that was there.\n");
+        text.extend(elsewhere.iter().map(|words| paragraph("  Refused at ", words)));
     }
     let monitor = run.monitor();
     text.push_str(&format!(
@@ -99,9 +99,9 @@ fn refused(step: &Step, before: Scene) -> (Option<u32>, String) {
                 .filter(|shape| shape.parts().next().is_some_and(|(_, role)| role == Role::Step))
                 .filter(|_| !matches!(call, Call::Admit { .. }))
                 .map(|_| call.numbers()[0]);
-            (asker, format!("Record {}: {} ({refusal}).", step.position, asked(call, before, false)))
+            (asker, format!("record {}: {} ({refusal}).", step.position, asked(call, before, false)))
         }
-        _ => (None, format!("Record {}: no call ({refusal}).", step.position)),
+        _ => (None, format!("record {}: no call ({refusal}).", step.position)),
     }
 }
 
@@ -208,8 +208,8 @@ fn paragraphs(stay: &Stay) -> String {
         ));
     }
     if stay.refused.is_empty() {
-        text.push_str("  Refused nothing.\n");
+        text.push_str("  Never refused.\n");
     }
-    text.extend(stay.refused.iter().map(|words| paragraph("  Refused: ", words)));
+    text.extend(stay.refused.iter().map(|words| paragraph("  Refused at ", words)));
     text
 }
