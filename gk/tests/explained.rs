@@ -265,6 +265,35 @@ fn channels_are_explained() {
 }
 
 #[test]
+fn a_number_is_made_free_where_none_is() {
+    let files: String = (0..64).map(|o| format!("register {o} 15\n")).collect();
+    let text = explained(&format!("{files}admit 0 0\ncreate 0 64\n"));
+    sees(
+        &text,
+        &["all 64 numbers are in use: retire file 0, which nobody has open, and use its number, 0."],
+    );
+    // Every file is open somewhere.
+    let steps: String = (0..4).map(|s| format!("admit {s} 0\n")).collect();
+    let opens: String = (0..64).map(|o| format!("open-read {} {o} {}\n", o / 16, o % 16)).collect();
+    let text = explained(&format!("{files}{steps}{opens}create 0 3\n"));
+    sees(
+        &text,
+        &[
+            "create file 3: file 3 is there already.",
+            "all 64 numbers are in use: close place 0 (reading file 0) of step 0 and retire file 0, and use its number, 0.",
+        ],
+    );
+    let text = explained(&format!("{files}{steps}connect 0 1 64 65 0 1\n"));
+    sees(
+        &text,
+        &["retire file 0, which nobody has open, and retire file 1, which nobody has open; then use the numbers 0 and 1."],
+    );
+    let admits: String = (0..32).map(|s| format!("admit {s} 9\n")).collect();
+    let text = explained(&format!("{admits}fork 5 32\n"));
+    sees(&text, &["all 32 numbers are in use: let a step exit and use its number, for example step 0, step 1 or step 2."]);
+}
+
+#[test]
 fn only_refusals_are_told_where_that_is_asked() {
     let journal =
         gk(&["assemble"], format!("{BOOKS}open-write 0 0 0\nopen-read 0 1 1\nexit 0\n").as_bytes()).stdout;

@@ -142,6 +142,7 @@ fn standard_input_is_read_for_a_dash_or_no_file() {
         }
     }
     assert_eq!(gk(&["assemble", "-"], b"admit 0 9").stdout, [3, 1, 0, 9]);
+    assert_eq!(gk(&["assemble", "-", "-o", "-"], b"admit 0 9").stdout, [3, 1, 0, 9]);
 }
 
 #[test]

@@ -59,7 +59,8 @@ pub fn missing_step(call: Call, scene: Scene) -> Counsel {
             None => {
                 let after = tried(monitor, &admits(HIGHEST)).ok();
                 if let Some(refusal) = after.and_then(|after| refusal_of(&after, call)) {
-                    counsel.note(format!("Once {words} is there, it would be {}.", refused_words(refusal)));
+                    let refused = refused_words(refusal);
+                    counsel.note(format!("With {words} there, at level {HIGHEST}, it would be {refused}."));
                 }
             }
         }
@@ -131,7 +132,7 @@ fn no_free_step(call: Call, name: &str, scene: Scene, counsel: &mut Counsel) {
     }
 }
 
-/// What makes the number of a file or pipe free: the file is retired, or the pipe's handles are closed.
+/// What makes the number of a file or pipe free: its handles are closed, and a file is retired.
 fn freeing(object: u32, scene: Scene) -> Option<(Vec<Call>, String)> {
     let monitor = scene.monitor;
     let name = scene.object(object);
@@ -141,8 +142,13 @@ fn freeing(object: u32, scene: Scene) -> Option<(Vec<Call>, String)> {
         let is_gone = tried(monitor, &calls).ok()?.object(object).is_none();
         is_gone.then(|| (calls, format!("close {}, with which {name} ends", handle_words(&held, scene))))
     } else {
-        let calls = vec![Call::Retire { object }];
-        tried(monitor, &calls).is_ok().then(|| (calls, format!("retire {name}, which nobody has open")))
+        let mut calls = close_calls(&held);
+        calls.push(Call::Retire { object });
+        let words = match held.is_empty() {
+            true => format!("retire {name}, which nobody has open"),
+            false => format!("close {} and retire {name}", handle_words(&held, scene)),
+        };
+        tried(monitor, &calls).is_ok().then_some((calls, words))
     }
 }
 
@@ -163,7 +169,7 @@ fn no_free_object(call: Call, name: &str, scene: Scene, counsel: &mut Counsel) {
             );
         }
         None => counsel
-            .note(format!("All {OBJECTS} numbers are in use, and no single one can be made free for it.")),
+            .note(format!("All {OBJECTS} numbers are in use, and to free one of them is not enough.")),
     }
 }
 
@@ -238,7 +244,7 @@ pub fn missing_object(call: Call, scene: Scene) -> Counsel {
                 let after = tried(monitor, &[register(HIGHEST)]).ok();
                 if let Some(refusal) = after.and_then(|after| refusal_of(&after, call)) {
                     counsel.note(format!(
-                        "Once there is a file {object}, it would be {}.",
+                        "With a file {object} there, at level {HIGHEST}, it would be {}.",
                         refused_words(refusal)
                     ));
                 }

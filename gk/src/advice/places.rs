@@ -211,7 +211,8 @@ pub fn wrong_direction(call: Call, scene: Scene) -> Counsel {
     }
     let Some(empty) = empty_places(monitor, subject).next() else {
         counsel.note(format!(
-            "{name} has no handle for {word} on {}, and no empty place.",
+            "{} has no handle for {word} on {}, and no empty place.",
+            capital(&name),
             scene.object(object)
         ));
         return counsel;

@@ -73,6 +73,11 @@ impl Arguments {
         given.map(|(_, value)| value.as_os_str())
     }
 
+    /// The file behind `-o`; none for standard output.
+    pub fn out(&self) -> Option<&OsStr> {
+        self.value("-o").filter(|path| *path != "-")
+    }
+
     /// The one file; none for standard input.
     pub fn file(&self) -> Result<Option<&OsStr>, Failure> {
         match self.files.as_slice() {

@@ -71,7 +71,7 @@ fn read_names(arguments: &Arguments) -> Result<Names, Failure> {
 pub fn run(arguments: Vec<OsString>) -> Done {
     let arguments = Arguments::sort("run", arguments, &["-o"], &[])?;
     let journal = read_journal("run", arguments.file()?)?;
-    write_to(arguments.value("-o"), gatekeeper::replay(&journal).as_bytes())
+    write_to(arguments.out(), gatekeeper::replay(&journal).as_bytes())
 }
 
 pub fn explain(arguments: Vec<OsString>) -> Done {
@@ -97,14 +97,14 @@ pub fn explain(arguments: Vec<OsString>) -> Done {
                 .to_string(),
         )
     };
-    write_to(arguments.value("-o"), text.map_err(differs)?.as_bytes())
+    write_to(arguments.out(), text.map_err(differs)?.as_bytes())
 }
 
 pub fn disassemble(arguments: Vec<OsString>) -> Done {
     let arguments = Arguments::sort("disassemble", arguments, &["-o", "--names"], &[])?;
     let names = read_names(&arguments)?;
     let journal = read_journal("disassemble", arguments.file()?)?;
-    write_to(arguments.value("-o"), disassembly::disassemble(&journal, &names).as_bytes())
+    write_to(arguments.out(), disassembly::disassemble(&journal, &names).as_bytes())
 }
 
 pub fn assemble(arguments: Vec<OsString>) -> Done {
@@ -129,7 +129,7 @@ pub fn assemble(arguments: Vec<OsString>) -> Done {
 /// The journal to its place, and the names to theirs.
 fn write_assembled(arguments: &Arguments, assembled: &Assembled) -> Done {
     let Assembled { journal, names } = assembled;
-    let out = arguments.value("-o").map(Path::new);
+    let out = arguments.out().map(Path::new);
     let named: Option<PathBuf> = match (arguments.value("--names"), out) {
         (Some(path), _) => Some(PathBuf::from(path)),
         // A device has nothing beside it.

@@ -34,6 +34,9 @@ impl Default for Lives {
 impl Lives {
     /// Takes note of what a record has ended and made.
     pub fn follow(&mut self, step: &Step) {
+        if step.refusal().is_some() {
+            return;
+        }
         let note = |life: &mut Life, was: bool, is: bool| match (was, is) {
             (true, false) => life.went = step.position,
             (false, true) => life.before = life.went,
