@@ -6,6 +6,7 @@ mod common;
 use common::journals;
 use gatekeeper::{Answer, Call, Monitor, Refusal};
 use gk::advice::Advice;
+use gk::calls::with_number;
 use gk::explain::{tell, Told, Which};
 use gk::names::Names;
 use gk::records::{Body, Records};
@@ -84,6 +85,52 @@ fn every_advice_holds() {
     {
         assert!(tried[number] >= least, "only {} advices for refusal {number}", tried[number]);
     }
+}
+
+/// The number behind these words of a note.
+fn behind(note: &str, words: &str) -> Option<u32> {
+    let (_, rest) = note.split_once(words)?;
+    rest.split(|character: char| !character.is_ascii_digit()).next()?.parse().ok()
+}
+
+/// What is said to be refused in another way, at another place or with another number, is refused so.
+#[test]
+fn what_a_note_says_to_be_refused_is_refused() {
+    let mut tried = [0; 4];
+    for case in cases() {
+        for note in &case.told.counsel.notes {
+            let at = format!("{}, record {}: {note}", case.journal, case.told.step.position);
+            let Some(number) = behind(note, "it would be refused with ") else {
+                continue;
+            };
+            let refused = Answer::Refused(Refusal::from_number(number).unwrap());
+            let mut copy = case.monitor.clone();
+            let other = |name: &str, words: &str| {
+                behind(note, words).map(|other| with_number(case.call, name, other))
+            };
+            let (kind, call) = if note.starts_with("At an empty place") {
+                (0, other("p", "for example ").unwrap())
+            } else if note.starts_with("With a free number") {
+                let name = if matches!(case.call, Call::Fork { .. }) { "c" } else { "o" };
+                (1, other(name, "for example ").unwrap())
+            } else if note.starts_with("With step ") {
+                let subject = behind(note, "With step ").unwrap();
+                copy.admit(subject, 15).granted().unwrap();
+                (2, case.call)
+            } else if note.starts_with("With a file ") {
+                copy.register(behind(note, "With a file ").unwrap(), 15).granted().unwrap();
+                (3, case.call)
+            } else {
+                continue;
+            };
+            if note.contains(" and step ") {
+                continue;
+            }
+            assert_eq!(copy.call(call), refused, "{at}");
+            tried[kind] += 1;
+        }
+    }
+    assert!(tried.iter().all(|&count| count > 0), "{tried:?}");
 }
 
 #[test]

@@ -169,6 +169,13 @@ fn every_journal_comes_back_with_names() {
         let again = assemble(text.as_bytes()).unwrap();
         assert_eq!(again.journal, journal, "{name}");
         assert_eq!(again.names, names, "{name}");
+        let told = gk::explain::explain(&journal, &names, gk::explain::Which::All).unwrap();
+        assert!(told.chars().all(|letter| letter == '\n' || !letter.is_control()), "{name}");
+        // Names change no answer and no record.
+        let plain = gk::explain::explain(&journal, &Names::new(), gk::explain::Which::All).unwrap();
+        for letter in ["  Allowed. ", "  Lowered. ", "  Refused ("] {
+            assert_eq!(told.matches(letter).count(), plain.matches(letter).count(), "{name}");
+        }
     }
 }
 

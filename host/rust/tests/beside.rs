@@ -374,7 +374,7 @@ fn the_calls_of_generated_journals_are_answered_alike() {
         let mut pair = Pair::empty(Rules::default());
         for (code, numbers) in calls_of(&generate::journal(SEED, index, Wish::default())) {
             seen.call(&mut pair, code, numbers).unwrap_or_else(|difference| {
-                panic!("journal {index} of seed {SEED} (gk generate), call {calls}: {difference}")
+                panic!("journal {index} of seed {SEED} (tools/second generate), call {calls}: {difference}")
             });
             calls += 1;
         }
