@@ -183,6 +183,9 @@ fn write_number(mut number: u32, bytes: &mut Vec<u8>) {
 pub fn length_words(fault: LengthFault) -> String {
     match fault {
         LengthFault::Malformed(malformed) => format!("the length {}", malformed.words()),
+        LengthFault::PastEnd { length, left: 1 } => {
+            format!("the length is {length}, and only 1 byte is left")
+        }
         LengthFault::PastEnd { length, left } => {
             format!("the length is {length}, and only {left} bytes are left")
         }

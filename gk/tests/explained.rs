@@ -92,6 +92,14 @@ fn a_refusal_says_what_did_not_happen() {
     }
 }
 
+#[test]
+fn handles_for_the_same_are_named_together() {
+    let text = explained(&format!(
+        "{BOOKS}open-write 0 0 0\nopen-write 0 0 3\nopen-write 0 0 4\nopen-read 0 1 1\n"
+    ));
+    sees(&text, &["What to do: close places 0, 3, 4 (writing file 0) of step 0; open it after that."]);
+}
+
 /// The advice of the first release said to close one end of the pipe, with which the pipe ends.
 #[test]
 fn a_pipe_that_is_to_be_opened_is_not_closed_away() {

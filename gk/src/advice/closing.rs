@@ -28,7 +28,9 @@ pub fn enough(call: Call, monitor: &Monitor, whose: Whose) -> Option<Closes> {
         // A pipe ends with its last handle, and a call on it is refused then: one handle on it has to stay.
         let kept: Vec<Vec<Held>> = match call {
             Call::OpenRead { object, .. } | Call::OpenWrite { object, .. } if is_pipe(monitor, object) => {
-                handles_on(monitor, object).map(|held| vec![held]).collect()
+                let mut each: Vec<Held> = handles_on(monitor, object).collect();
+                each.dedup_by_key(|held| held.flow());
+                each.into_iter().map(|held| vec![held]).collect()
             }
             _ => vec![Vec::new()],
         };
@@ -46,16 +48,14 @@ pub fn enough(call: Call, monitor: &Monitor, whose: Whose) -> Option<Closes> {
         }
     }
     let mut set = found?;
-    // Handles of others are left alone where they can be.
-    set.sort_by_key(|held| (held.step == caller, held.step, held.place));
-    let mut index = 0;
-    while index < set.len() {
-        let mut fewer = set.clone();
-        fewer.remove(index);
+    // What proves needless is left out, others' handles first: all that let the same flow through, or none of them.
+    set.sort_by_key(|held| (held.step == caller, held.step, held.flow(), held.place));
+    let mut flows: Vec<(Thing, Thing)> = set.iter().map(|held| held.flow()).collect();
+    flows.dedup();
+    for flow in flows {
+        let fewer: Vec<Held> = set.iter().copied().filter(|held| held.flow() != flow).collect();
         if calls_for(&fewer).is_some() {
             set = fewer;
-        } else {
-            index += 1;
         }
     }
     set.sort_by_key(|held| (held.step != caller, held.step, held.place));
@@ -63,22 +63,32 @@ pub fn enough(call: Call, monitor: &Monitor, whose: Whose) -> Option<Closes> {
     Some(Closes { handles: set, calls })
 }
 
-/// Handles by step: "place 1 (writing pipe 37) and place 4 (writing file 0) of step 17, and place 3 of step 18".
+/// Handles by step, and of each step by what they are for: "place 1 (writing pipe 37) and places 2, 4 (writing file 0) of
+/// step 17, and place 3 (reading pipe 37) of step 18".
 pub fn handle_words(handles: &[Held], scene: Scene) -> String {
-    let mut groups: Vec<(u32, Vec<String>)> = Vec::new();
-    for held in handles {
-        let place =
-            format!("place {} ({} {})", held.place, way_word(held.handle.way), scene.object(held.object()));
-        match groups.last_mut() {
-            Some((step, places)) if *step == held.step => places.push(place),
-            _ => groups.push((held.step, vec![place])),
+    let mut steps: Vec<u32> = handles.iter().map(|held| held.step).collect();
+    steps.dedup();
+    let of_step = |step: u32| {
+        let mut groups: Vec<(Held, Vec<String>)> = Vec::new();
+        for held in handles.iter().filter(|held| held.step == step) {
+            let is_like =
+                |other: &Held| other.object() == held.object() && other.handle.way == held.handle.way;
+            match groups.iter_mut().find(|(first, _)| is_like(first)) {
+                Some((_, places)) => places.push(held.place.to_string()),
+                None => groups.push((*held, vec![held.place.to_string()])),
+            }
         }
-    }
-    let words: Vec<String> = groups
-        .into_iter()
-        .map(|(step, places)| format!("{} of {}", listed(&places, "and"), scene.step(step)))
-        .collect();
-    words.join(", and ")
+        let words: Vec<String> = groups
+            .into_iter()
+            .map(|(held, places)| {
+                let word = if places.len() == 1 { "place" } else { "places" };
+                let way = way_word(held.handle.way);
+                format!("{word} {} ({way} {})", places.join(", "), scene.object(held.object()))
+            })
+            .collect();
+        format!("{} of {}", listed(&words, "and"), scene.step(step))
+    };
+    steps.into_iter().map(of_step).collect::<Vec<String>>().join(", and ")
 }
 
 /// The pipes that end where these handles are closed.

@@ -8,7 +8,7 @@
 
 use gatekeeper::{Call, Monitor};
 
-use crate::things::{handles, is_file, level, objects, steps, Held, Thing, HIGHEST};
+use crate::things::{handles, is_file, level, objects, steps, Held, Thing};
 
 /// Whose handles may be closed.
 #[derive(Clone, Copy, Debug, PartialEq, Eq)]
@@ -82,26 +82,33 @@ pub fn closes(call: Call, monitor: &Monitor, whose: Whose, kept: &[Held]) -> Opt
         _ => cost(held, sides.caller),
     };
     let edges: Vec<(Held, u32)> = counted.iter().map(|held| (*held, cost_of(held))).collect();
-    let levels = |thing: &Thing| level(monitor, *thing).map(u32::from);
+    let things: Vec<(Thing, u8)> = steps(monitor)
+        .map(Thing::Step)
+        .chain(objects(monitor).map(Thing::Object))
+        .filter_map(|thing| level(monitor, thing).map(|level| (thing, level)))
+        .collect();
+    let of = |thing: Thing| things.iter().find(|(other, _)| *other == thing).map_or(0, |&(_, level)| level);
+    let is_level_of_file = |thing: Thing| matches!(thing, Thing::Object(o) if is_file(monitor, o));
+    // Between two levels that occur, none is worth more than the lower one of them.
+    let mut levels: Vec<u8> = things.iter().map(|&(_, level)| level).collect();
+    levels.sort_unstable();
+    levels.dedup();
     let mut best: Option<(u32, Vec<Held>)> = None;
-    for between in 0..=HIGHEST {
-        let is_low = |thing: &Thing| levels(thing).is_some_and(|level| level < between);
-        let is_high = |thing: &Thing| match *thing {
-            Thing::Object(o) => is_file(monitor, o) && levels(thing).is_some_and(|level| level > between),
-            Thing::Step(_) => false,
-        };
-        if sides.entries.iter().any(is_low) || sides.exits.iter().any(is_high) {
+    for between in levels {
+        let is_high = |thing: Thing, level: u8| is_level_of_file(thing) && level > between;
+        if sides.entries.iter().any(|&thing| of(thing) < between)
+            || sides.exits.iter().any(|&thing| is_high(thing, of(thing)))
+        {
             continue;
         }
-        let all: Vec<Thing> =
-            steps(monitor).map(Thing::Step).chain(objects(monitor).map(Thing::Object)).collect();
-        let low: Vec<Thing> = all.iter().copied().filter(|thing| is_low(thing)).collect();
-        let high: Vec<Thing> = all.iter().copied().filter(|thing| is_high(thing)).collect();
+        let those = |is_one: &dyn Fn(Thing, u8) -> bool| -> Vec<Thing> {
+            things.iter().filter(|&&(thing, level)| is_one(thing, level)).map(|&(thing, _)| thing).collect()
+        };
         let coming = match sides.is_exec {
             true => Some((0, Vec::new())),
-            false => least_cut(&edges, &low, &sides.entries),
+            false => least_cut(&edges, &those(&|_, level| level < between), &sides.entries),
         };
-        let going = least_cut(&edges, &sides.exits, &high);
+        let going = least_cut(&edges, &sides.exits, &those(&is_high));
         let (Some((one, mut cut)), Some((other, more))) = (coming, going) else {
             continue;
         };
@@ -113,67 +120,90 @@ pub fn closes(call: Call, monitor: &Monitor, whose: Whose, kept: &[Held]) -> Opt
     best.map(|(_, cut)| cut)
 }
 
+/// A flow network: edges with what room is left on them, each beside its own way back, and the edges out of each node.
+struct Network {
+    ends: Vec<(usize, u32)>,
+    out: Vec<Vec<usize>>,
+}
+
+impl Network {
+    fn new() -> Network {
+        Network { ends: Vec::new(), out: vec![Vec::new(); NODES] }
+    }
+
+    fn join(&mut self, from: usize, to: usize, room: u32) {
+        let known = self.out[from].iter().copied().find(|&edge| edge % 2 == 0 && self.ends[edge].0 == to);
+        match known {
+            Some(edge) => self.ends[edge].1 += room,
+            None => {
+                self.out[from].push(self.ends.len());
+                self.ends.push((to, room));
+                self.out[to].push(self.ends.len());
+                self.ends.push((from, 0));
+            }
+        }
+    }
+
+    /// What can still be reached from the source, breadth first: each node with the edge that leads to it.
+    fn reached(&self) -> [Option<usize>; NODES] {
+        let mut by = [None; NODES];
+        let mut queue = vec![SOURCE];
+        let mut next = 0;
+        while next < queue.len() && by[SINK].is_none() {
+            for &edge in &self.out[queue[next]] {
+                let (to, room) = self.ends[edge];
+                if room > 0 && by[to].is_none() && to != SOURCE {
+                    by[to] = Some(edge);
+                    queue.push(to);
+                }
+            }
+            next += 1;
+        }
+        by
+    }
+}
+
 /// The cheapest handles without which no flow leads from the one set to the other, and what they cost; none where
 /// handles that cannot be closed join them.
 fn least_cut(edges: &[(Held, u32)], from: &[Thing], to: &[Thing]) -> Option<(u32, Vec<Held>)> {
     if from.is_empty() || to.is_empty() {
         return Some((0, Vec::new()));
     }
-    let mut room = vec![[0u32; NODES]; NODES];
+    let mut network = Network::new();
     for &(held, cost) in edges {
         let (one, other) = held.flow();
-        room[one.index()][other.index()] += cost;
+        network.join(one.index(), other.index(), cost);
     }
     for thing in from {
-        room[SOURCE][thing.index()] = NEVER;
+        network.join(SOURCE, thing.index(), NEVER);
     }
     for thing in to {
-        room[thing.index()][SINK] = NEVER;
+        network.join(thing.index(), SINK, NEVER);
     }
     let mut total = 0;
     loop {
-        let before = reached(&room);
-        if before[SINK].is_none() {
+        let by = network.reached();
+        if by[SINK].is_none() {
             let is_cut = |held: &Held| {
                 let (one, other) = held.flow();
-                before[one.index()].is_some() && before[other.index()].is_none()
+                by[one.index()].is_some() && by[other.index()].is_none()
             };
-            let cut = edges.iter().map(|(held, _)| *held).filter(|held| is_cut(held)).collect();
-            return Some((total, cut));
+            return Some((total, edges.iter().map(|(held, _)| *held).filter(is_cut).collect()));
         }
         let mut way = Vec::new();
         let mut at = SINK;
-        while let Some(last) = before[at].filter(|_| at != SOURCE) {
-            way.push((last, at));
-            at = last;
+        while let Some(edge) = by[at] {
+            way.push(edge);
+            at = network.ends[edge ^ 1].0;
         }
-        let most = way.iter().map(|&(one, other)| room[one][other]).min().unwrap_or(0);
-        for (one, other) in way {
-            room[one][other] -= most;
-            room[other][one] += most;
+        let most = way.iter().map(|&edge| network.ends[edge].1).min().unwrap_or(0);
+        for edge in way {
+            network.ends[edge].1 -= most;
+            network.ends[edge ^ 1].1 += most;
         }
         total += most;
         if total >= NEVER {
             return None;
         }
     }
-}
-
-/// What can still be reached from the source, each node with the one before it; the source with itself.
-fn reached(room: &[[u32; NODES]]) -> [Option<usize>; NODES] {
-    let mut before = [None; NODES];
-    before[SOURCE] = Some(SOURCE);
-    let mut queue = vec![SOURCE];
-    let mut next = 0;
-    while next < queue.len() {
-        let node = queue[next];
-        for (to, &left) in room[node].iter().enumerate() {
-            if left > 0 && before[to].is_none() {
-                before[to] = Some(node);
-                queue.push(to);
-            }
-        }
-        next += 1;
-    }
-    before
 }
