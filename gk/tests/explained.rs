@@ -100,7 +100,7 @@ fn handles_for_the_same_are_named_together() {
     sees(&text, &["What to do: close places 0, 3, 4 (writing file 0) of step 0; open it after that."]);
 }
 
-/// The advice of the first release said to close one end of the pipe, with which the pipe ends.
+/// A pipe ends with its last handle: closing that one to open the pipe afterwards would be refused with 4.
 #[test]
 fn a_pipe_that_is_to_be_opened_is_not_closed_away() {
     // Step 1 holds the only handle on pipe 5, for writing; step 0 has the pay book open and asks to read the pipe.
