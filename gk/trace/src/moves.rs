@@ -1,0 +1,231 @@
+//! Paths that come and go: unlink, rename, link, truncate, and the folders that steps are in.
+
+use gatekeeper::{Call, Way};
+
+use crate::call::{fd, has_flag, noted_path, string, Sys};
+use crate::levels::Level;
+use crate::open::path_args;
+use crate::paths::{joined, Key};
+use crate::report::{Left, Note};
+use crate::world::{Done, World};
+
+impl World<'_> {
+    /// unlink and unlinkat: the file is retired, at once or when its last handle goes.
+    pub fn unlinks(&mut self, step: u32, call: &Sys) -> Done {
+        if call.name == "unlinkat" && has_flag(call.arg(2), "AT_REMOVEDIR") {
+            self.left(Left::Attributes);
+            return Ok(());
+        }
+        let (folder, path) = path_args(call);
+        let key = self.named_itself(step, folder, path)?;
+        self.paths.unlink(&key);
+        self.files.remove_key(&key);
+        self.reap()
+    }
+
+    /// The key of a path argument; where it is a link that the run made, the link itself.
+    fn named_itself(&mut self, step: u32, folder: &str, path: &str) -> Done<Key> {
+        self.named(step, folder, path)?;
+        let base = match fd(folder) {
+            Some(fd) => {
+                let known = self.step(step)?.table.get(&fd.number).and_then(|own| own.path.clone());
+                noted_path(fd.note).or(known).unwrap_or_default()
+            }
+            None => self.step(step)?.folder.clone(),
+        };
+        Ok(self.paths.key(&joined(&base, &string(path).unwrap_or_default())))
+    }
+
+    /// rename, renameat and renameat2.
+    pub fn renames(&mut self, step: u32, call: &Sys) -> Done {
+        let (from, to) = match call.name {
+            "rename" => (("AT_FDCWD", call.arg(0)), ("AT_FDCWD", call.arg(1))),
+            _ => ((call.arg(0), call.arg(1)), (call.arg(2), call.arg(3))),
+        };
+        let from = self.named_itself(step, from.0, from.1)?;
+        let to = self.named_itself(step, to.0, to.1)?;
+        if from == to {
+            return Ok(());
+        }
+        if has_flag(call.arg(4), "RENAME_EXCHANGE") {
+            // Each of the two has what the other had; both paths keep their files, and the levels stay.
+            self.copies(step, &from, &to, Note::Moved)?;
+            self.copies(step, &to, &from, Note::Moved)?;
+            return Ok(());
+        }
+        for key in self.files.below(&from) {
+            let target = [&to, &key[from.len()..]].concat();
+            self.rename_file(step, &key, &target)?;
+        }
+        self.rename_file(step, &from, &to)?;
+        if self.paths.moved(&from, &to).is_err() {
+            return self.stop("the run renames more than 10,000 files: trace a part of it".to_string());
+        }
+        Ok(())
+    }
+
+    fn rename_file(&mut self, step: u32, from: &[u8], to: &[u8]) -> Done {
+        if !self.copies(step, from, to, Note::Moved)? {
+            return Ok(());
+        }
+        let same = self.files.find(from).filter(|_| !self.is_between_levels(from, to));
+        let Some(old) = self.files.find(from) else {
+            self.files.remove_key(to);
+            return self.reap();
+        };
+        if same.is_some() {
+            self.files.remove_key(from);
+            self.files.add_key(old, to.to_vec());
+            return self.reap();
+        }
+        // The copy is made. What was open on the file is open on the copy: there it shows.
+        let target = self.files.find(to);
+        self.files.remove_key(from);
+        if let Some(target) = target {
+            self.follow(old, target)?;
+        }
+        self.reap()
+    }
+
+    /// Whether a file has one level under its path and another under a new one.
+    fn is_between_levels(&self, from: &[u8], to: &[u8]) -> bool {
+        let before = self.files.find(from).map(|id| Level::At(self.files.file(id).level));
+        let before = before.unwrap_or(self.level_of(from).level);
+        let after = self.level_of(to).level;
+        matches!((before, after), (Level::At(before), Level::At(after)) if before != after)
+    }
+
+    /// Where a file comes under a path of another level, that is a copy: the step reads the one and writes the other,
+    /// and the gatekeeper says whether it may. Whether nothing was refused.
+    fn copies(&mut self, step: u32, from: &[u8], to: &[u8], note: Note) -> Done<bool> {
+        if !self.is_between_levels(from, to) {
+            return Ok(true);
+        }
+        self.note(note);
+        let level = self.level_of(from).level;
+        let source = self.file_at(step, from, level, false)?;
+        let object = self.object_of(source)?;
+        let Some(reads) = self.open(step, object, Way::Reads)? else { return Ok(false) };
+        // While the step holds the source, its number is not given away.
+        self.step_mut(step)?.maps.push(crate::world::Mapping { reads, writes: None, ranges: Vec::new() });
+        let level = self.level_of(to).level;
+        if note == Note::Moved {
+            // What was under the path is gone.
+            self.files.remove_key(to);
+            self.reap()?;
+        }
+        let target = self.file_at(step, to, level, false)?;
+        self.files.file_mut(target).is_written = true;
+        let object = self.object_of(target)?;
+        let writes = self.open(step, object, Way::Writes)?;
+        if let Some(writes) = writes {
+            self.read(step, reads)?;
+            self.write(step, writes)?;
+            self.make(Call::Close { subject: step, place: writes.place })?;
+        }
+        self.step_mut(step)?.maps.retain(|mapping| mapping.reads != reads);
+        self.close(step, reads)?;
+        Ok(writes.is_some())
+    }
+
+    /// Moves every handle on one file to another, as far as it is granted.
+    fn follow(&mut self, old: usize, new: usize) -> Done {
+        let (old, new) = (self.object_of(old)?, self.object_of(new)?);
+        for step in 0..self.steps.len() as u32 {
+            let Ok(own) = self.step(step) else { continue };
+            let is_on_old = |end: Option<crate::world::End>| end.is_some_and(|end| end.object == old);
+            let fds: Vec<i32> = own
+                .table
+                .iter()
+                .filter(|(_, d)| is_on_old(d.reads) || is_on_old(d.writes))
+                .map(|(&fd, _)| fd)
+                .collect();
+            for fd in fds {
+                let Some(mut moved) = self.step(step)?.table.get(&fd).cloned() else { continue };
+                let (reads, writes) = (moved.reads.map(|_| new), moved.writes.map(|_| new));
+                let Some(ends) = self.open_both(step, reads, writes)? else { continue };
+                let is_marked = std::mem::replace(&mut moved.ends_at_exec, false);
+                (moved.reads, moved.writes) = ends;
+                self.put(step, fd, moved)?;
+                if is_marked {
+                    self.end_at_exec(step, fd)?;
+                }
+            }
+        }
+        Ok(())
+    }
+
+    /// link and linkat: one file under two paths.
+    pub fn links(&mut self, step: u32, call: &Sys) -> Done {
+        let (from, to) = match call.name {
+            "link" => (("AT_FDCWD", call.arg(0)), ("AT_FDCWD", call.arg(1))),
+            _ => ((call.arg(0), call.arg(1)), (call.arg(2), call.arg(3))),
+        };
+        let from = self.named(step, from.0, from.1)?;
+        let to = self.named(step, to.0, to.1)?;
+        if self.is_between_levels(&from, &to) {
+            return self.copies(step, &from, &to, Note::Linked).map(drop);
+        }
+        let level = self.level_of(&from).level;
+        if let (Level::At(_), None) = (level, self.files.find(&from)) {
+            self.file_at(step, &from, level, false)?;
+        }
+        match self.files.find(&from) {
+            Some(id) => self.files.add_key(id, to),
+            None => self.left(Left::ByLevels),
+        }
+        Ok(())
+    }
+
+    /// symlink and symlinkat.
+    pub fn symlinks(&mut self, step: u32, call: &Sys) -> Done {
+        let (folder, link) = match call.name {
+            "symlink" => ("AT_FDCWD", call.arg(1)),
+            _ => (call.arg(1), call.arg(2)),
+        };
+        let key = self.named_itself(step, folder, link)?;
+        let Some(target) = string(call.arg(0)) else {
+            return self.stop("the target of the link is not in the trace".to_string());
+        };
+        match self.paths.link(key, &target) {
+            Ok(()) => Ok(()),
+            Err(_) => self.stop("the run makes more than 10,000 links: trace a part of it".to_string()),
+        }
+    }
+
+    /// truncate: the file is opened, written and closed.
+    pub fn truncates(&mut self, step: u32, call: &Sys) -> Done {
+        let key = self.named(step, "AT_FDCWD", call.arg(0))?;
+        let opened = self.open_key(step, key, "O_WRONLY")?;
+        if let Some(end) = opened.writes {
+            self.write(step, end)?;
+            self.close(step, end)?;
+        }
+        Ok(())
+    }
+
+    /// chdir, fchdir and getcwd.
+    pub fn folders(&mut self, step: u32, call: &Sys) -> Done {
+        match call.name {
+            "getcwd" => match string(call.arg(0)).filter(|folder| folder.starts_with(b"/")) {
+                Some(folder) => self.is_in(step, &folder),
+                None => Ok(()),
+            },
+            "chdir" => {
+                let key = self.named(step, "AT_FDCWD", call.arg(0))?;
+                self.step_mut(step)?.folder = key;
+                Ok(())
+            }
+            _ => {
+                let found = fd(call.arg(0));
+                let noted = found.and_then(|fd| noted_path(fd.note)).map(|path| self.paths.key(&path));
+                let known = found.and_then(|fd| self.step(step).ok()?.table.get(&fd.number)?.path.clone());
+                let Some(key) = noted.or(known) else {
+                    return self.stop("the folder is not in the trace: trace with strace -y".to_string());
+                };
+                self.step_mut(step)?.folder = key;
+                Ok(())
+            }
+        }
+    }
+}

@@ -1,0 +1,365 @@
+//! A trace from its first line to its last.
+
+use std::collections::VecDeque;
+use std::io::{self, BufRead, Read};
+
+use crate::call::{self, Outcome, Sys};
+use crate::kinds::{gives_descriptor, kind_of};
+use crate::levels::Levels;
+use crate::line::{self, Event};
+use crate::open::new_fd;
+use crate::report::{Left, Note, Report};
+use crate::steps::FORKS;
+use crate::world::{Child, Descriptor, Done, Move, Options, Pending, Stop, World};
+
+/// The longest line that is read, in bytes.
+pub const LONGEST_LINE: usize = 1 << 20;
+
+/// Lines that are read ahead, at most, to learn which process made another.
+const MOST_AHEAD: usize = 20_000;
+
+/// What a trace has come to.
+pub struct Written {
+    pub journal: Vec<u8>,
+    pub names: String,
+    pub report: Report,
+}
+
+/// Why there is no journal.
+#[derive(Debug)]
+pub enum Failure {
+    Unread(io::Error),
+    Stopped(Stop),
+}
+
+impl From<Stop> for Failure {
+    fn from(stop: Stop) -> Failure {
+        Failure::Stopped(stop)
+    }
+}
+
+/// Writes the journal of a trace, which is read up to its end or to a line.
+pub fn journal_of(
+    trace: impl BufRead,
+    levels: &Levels,
+    options: Options,
+    until: Option<u64>,
+) -> Result<Written, Failure> {
+    let world = World::new(levels, options);
+    let mut reader = Reader { world, trace, ahead: VecDeque::new(), read: 0, until };
+    while let Some((number, text)) = reader.next()? {
+        reader.world.line = number;
+        reader.world.report.lines = number;
+        reader.take(&text)?;
+    }
+    let Reader { mut world, .. } = reader;
+    if world.report.lines == 0 {
+        let message = "there is no whole line in the trace".to_string();
+        return Err(Stop { line: 1, message }.into());
+    }
+    world.settle()?;
+    let begun = world.tasks.values().filter(|task| task.pending.is_some()).count();
+    for _ in 0..begun {
+        world.note(Note::Unresumed);
+    }
+    world.report.has_no_start = world.paths.start().is_none() && world.levels.has_absolute();
+    let mut names = std::mem::take(&mut world.journal.names);
+    world.files.name_pipes(&mut names);
+    Ok(Written { journal: world.journal.bytes().to_vec(), names: names.text(), report: world.report })
+}
+
+struct Reader<'a, T> {
+    world: World<'a>,
+    trace: T,
+    ahead: VecDeque<(u64, String)>,
+    /// Lines that were read so far.
+    read: u64,
+    until: Option<u64>,
+}
+
+impl<T: BufRead> Reader<'_, T> {
+    /// The next line and its number.
+    fn next(&mut self) -> Result<Option<(u64, String)>, Failure> {
+        match self.ahead.pop_front() {
+            Some(line) => Ok(Some(line)),
+            None => self.read_line(),
+        }
+    }
+
+    fn read_line(&mut self) -> Result<Option<(u64, String)>, Failure> {
+        if self.until == Some(self.read) {
+            self.world.report.stopped_at = self.until;
+            return Ok(None);
+        }
+        let mut bytes = Vec::new();
+        let most = LONGEST_LINE as u64 + 1;
+        (&mut self.trace).take(most).read_until(b'\n', &mut bytes).map_err(Failure::Unread)?;
+        if bytes.is_empty() {
+            return Ok(None);
+        }
+        self.read += 1;
+        if bytes.last() == Some(&b'\n') {
+            bytes.pop();
+            return Ok(Some((self.read, String::from_utf8_lossy(&bytes).into_owned())));
+        }
+        if bytes.len() > LONGEST_LINE {
+            let message = "the line is longer than 1,048,576 bytes".to_string();
+            return Err(Stop { line: self.read, message }.into());
+        }
+        // strace ends each line with a line feed: this one is cut off.
+        self.world.report.is_cut = true;
+        Ok(None)
+    }
+
+    fn take(&mut self, text: &str) -> Result<(), Failure> {
+        let line = line::read(text).map_err(|fault| self.wrong(fault, 0))?;
+        let process = line.process;
+        let is_rest = matches!(line.event, Event::Ended | Event::Resumed { .. });
+        if self.world.gone.contains(&process) && is_rest {
+            if line.event == Event::Ended {
+                self.world.gone.remove(&process);
+            }
+            return Ok(());
+        }
+        let is_quiet = matches!(line.event, Event::Nothing | Event::Superseded);
+        if !self.world.tasks.contains_key(&process) && !is_quiet {
+            self.meet(process, line.event == Event::Ended)?;
+        }
+        match line.event {
+            Event::Nothing => {}
+            // The thread that runs the program has its number from now on.
+            Event::Superseded => {}
+            Event::Ended => self.world.ends(process)?,
+            Event::Call { name, text: rest } => {
+                self.world.abandon(process)?;
+                let call =
+                    call::read(name, rest).map_err(|fault| self.wrong(fault, text.len() - rest.len()))?;
+                self.world.complete(process, &call, None)?;
+            }
+            Event::Begun { name, text, goes_on_as } => {
+                self.world.abandon(process)?;
+                self.world.begin(process, name, text, goes_on_as)?;
+            }
+            Event::Resumed { name, text: rest } => {
+                let pending = self.world.tasks.get_mut(&process).and_then(|task| task.pending.take());
+                let Some(pending) = pending.filter(|pending| pending.name == name) else {
+                    return Ok(self
+                        .world
+                        .stop(format!("{name} is resumed here, and the trace has no start of it"))?);
+                };
+                let whole = format!("{}{rest}", pending.text);
+                let call = call::read(name, &whole).map_err(|fault| {
+                    let column = fault.column.saturating_sub(pending.text.len()).max(1);
+                    self.wrong(line::Fault { column, ..fault }, text.len() - rest.len())
+                })?;
+                self.world.complete(process, &call, Some(&pending))?;
+            }
+        }
+        Ok(())
+    }
+
+    fn wrong(&self, fault: line::Fault, offset: usize) -> Failure {
+        let message = format!("column {}: expected {}", offset + fault.column, fault.expected);
+        Failure::Stopped(Stop { line: self.world.line, message })
+    }
+
+    /// A process is new here: it is the child of a fork that has begun, or comes from outside.
+    fn meet(&mut self, process: u32, is_end: bool) -> Result<(), Failure> {
+        self.world.gone.remove(&process);
+        let makers = self.world.makers();
+        let orphans = self.world.orphans.len();
+        match (makers.as_slice(), orphans) {
+            ([], 0) if is_end => Ok(()),
+            ([], 0) => Ok(self.world.admit(process)?),
+            ([], 1) => {
+                let child = self.world.orphans.remove(0);
+                Ok(self.world.bind(process, 0, child)?)
+            }
+            ([maker], 0) => Ok(self.world.meet_child(process, *maker)?),
+            _ => match self.maker_of(process)? {
+                Some(maker) if makers.contains(&maker) => Ok(self.world.meet_child(process, maker)?),
+                _ => Ok(self.world.stop(format!(
+                    "process {process} is new here, and the trace does not tell which of several processes made it"
+                ))?),
+            },
+        }
+    }
+
+    /// Reads ahead for the fork that gives back this process.
+    fn maker_of(&mut self, process: u32) -> Result<Option<u32>, Failure> {
+        let made = |text: &str| {
+            let line = line::read(text).ok()?;
+            let Event::Resumed { name, text } = line.event else { return None };
+            let (_, result) = text.rsplit_once("= ")?;
+            let digits = result.split([' ', '<']).next()?;
+            (FORKS.contains(&name) && digits.parse() == Ok(process)).then_some(line.process)
+        };
+        if let Some(maker) = self.ahead.iter().find_map(|(_, text)| made(text)) {
+            return Ok(Some(maker));
+        }
+        while self.ahead.len() < MOST_AHEAD {
+            let Some(line) = self.read_line()? else { return Ok(None) };
+            let found = made(&line.1);
+            self.ahead.push_back(line);
+            if found.is_some() {
+                return Ok(found);
+            }
+        }
+        Ok(None)
+    }
+}
+
+impl World<'_> {
+    /// The processes that have begun a fork whose child has not shown up.
+    fn makers(&self) -> Vec<u32> {
+        let waits = |pending: &Pending| pending.child.is_some_and(|child| !child.is_bound);
+        let makers = self.tasks.iter().filter(|(_, task)| task.pending.as_ref().is_some_and(waits));
+        makers.map(|(&process, _)| process).collect()
+    }
+
+    /// The child of a fork shows up before the fork's second line.
+    fn meet_child(&mut self, process: u32, maker: u32) -> Done {
+        let pending = self.tasks.get_mut(&maker).and_then(|task| task.pending.as_mut());
+        let Some(child) = pending.and_then(|pending| pending.child.as_mut()) else { return Ok(()) };
+        child.is_bound = true;
+        let child = *child;
+        self.bind(process, maker, child)
+    }
+
+    /// A call that had begun does not come to its end: what it may have done counts as done.
+    fn abandon(&mut self, process: u32) -> Done {
+        let Some(pending) = self.tasks.get_mut(&process).and_then(|task| task.pending.take()) else {
+            return Ok(());
+        };
+        self.note(Note::Unresumed);
+        if let Some(child) = pending.child.filter(|child| !child.is_bound) {
+            self.orphans.push(child);
+        }
+        let Some(step) = self.tasks.get(&process).map(|task| task.step) else { return Ok(()) };
+        for next in pending.moves {
+            match next {
+                Move::Read(end) if self.journal.handle(step, end.place).is_some() => {
+                    self.read(step, end)?
+                }
+                Move::Write(end) if self.journal.handle(step, end.place).is_some() => {
+                    self.write(step, end)?
+                }
+                _ => {}
+            }
+        }
+        Ok(())
+    }
+
+    /// The first line of a call.
+    fn begin(&mut self, process: u32, name: &str, text: &str, goes_on_as: Option<u32>) -> Done {
+        let Some(step) = self.tasks.get(&process).map(|task| task.step) else { return Ok(()) };
+        match name {
+            "exit_group" | "exit" => return self.exits(process),
+            _ => {}
+        }
+        let (args, _) = call::arguments(text);
+        let moves = self.moves_of(step, name, &args);
+        let birth = if name == "close" { self.birth_of(step, &args) } else { None };
+        let child = if FORKS.contains(&name) { Some(self.forks(process, step, name, text)?) } else { None };
+        let pending = Pending { name: name.to_string(), text: text.to_string(), moves, child, birth };
+        if let Some(leader) = goes_on_as.filter(|&leader| leader != process) {
+            // The thread that runs a program takes its process's number.
+            if let Some(task) = self.tasks.remove(&process) {
+                self.tasks.insert(leader, task);
+            }
+        }
+        if let Some(task) = self.tasks.get_mut(&goes_on_as.unwrap_or(process)) {
+            task.pending = Some(pending);
+        }
+        Ok(())
+    }
+
+    /// A whole call.
+    fn complete(&mut self, process: u32, call: &Sys, pending: Option<&Pending>) -> Done {
+        let Some(step) = self.tasks.get(&process).map(|task| task.step) else { return Ok(()) };
+        let child = pending.and_then(|pending| pending.child);
+        match (call.name, call.outcome) {
+            ("exit_group" | "exit", _) => self.exits(process),
+            // The kernel closes a descriptor whatever else fails.
+            ("close", Outcome::Failed(error)) if error != "EBADF" => {
+                self.closes(step, call.arg(0), pending.and_then(|pending| pending.birth))
+            }
+            (_, Outcome::Failed(_)) => {
+                self.left(Left::Failed);
+                match child {
+                    Some(child) => self.unforks(child, step),
+                    None => Ok(()),
+                }
+            }
+            (name, Outcome::Done(value, _)) if FORKS.contains(&name) => {
+                self.forked(process, step, call, value, child)
+            }
+            (_, Outcome::Unsaid) => {
+                self.settle()?;
+                if !self.moves_data(step, call)? {
+                    self.note(Note::Unresumed);
+                }
+                Ok(())
+            }
+            (_, Outcome::Done(value, _)) => {
+                self.settle()?;
+                self.done(process, step, call, value, pending)
+            }
+        }
+    }
+
+    /// A fork that has come out well.
+    fn forked(&mut self, process: u32, step: u32, call: &Sys, value: i64, child: Option<Child>) -> Done {
+        let Some(number) = u32::try_from(value).ok().filter(|&number| number > 0) else { return Ok(()) };
+        let child = match child {
+            Some(child) if child.is_bound => return Ok(()),
+            Some(child) => child,
+            None => self.forks(process, step, call.name, &format!("{})", call.args.join(", ")))?,
+        };
+        self.bind(number, process, child)
+    }
+
+    /// A call that has come out well, with this number.
+    fn done(&mut self, process: u32, step: u32, call: &Sys, value: i64, pending: Option<&Pending>) -> Done {
+        let made = new_fd(call.outcome);
+        match (call.name, made) {
+            ("open" | "openat" | "openat2" | "creat", Some((number, text))) => {
+                self.opens(step, call, number, text)
+            }
+            ("memfd_create", Some((number, _))) => self.memory_file(step, call, number),
+            ("pipe" | "pipe2", _) => self.pipes(step, call),
+            ("socketpair", _) => self.socket_pair(step, call),
+            ("dup" | "dup2", Some((to, _))) => self.duplicates(step, call.arg(0), to, false),
+            ("dup3", Some((to, _))) => {
+                self.duplicates(step, call.arg(0), to, call::has_flag(call.arg(2), "O_CLOEXEC"))
+            }
+            ("fcntl" | "fcntl64", _) => self.fcntl(step, call, value),
+            ("close", _) => self.closes(step, call.arg(0), pending.and_then(|pending| pending.birth)),
+            ("close_range", _) => self.closes_range(step, call),
+            ("ioctl", _) => self.controls(step, call),
+            ("execve" | "execveat", _) => self.execs(process, call),
+            ("mmap" | "mmap2", _) => self.maps(step, call, value as u64),
+            ("munmap", _) => self.unmaps(step, call),
+            ("mremap", _) => self.remaps(step, call),
+            ("unlink" | "unlinkat", _) => self.unlinks(step, call),
+            ("rename" | "renameat" | "renameat2", _) => self.renames(step, call),
+            ("link" | "linkat", _) => self.links(step, call),
+            ("symlink" | "symlinkat", _) => self.symlinks(step, call),
+            ("truncate" | "truncate64", _) => self.truncates(step, call),
+            ("chdir" | "fchdir" | "getcwd", _) => self.folders(step, call),
+            (name, _) => {
+                if self.moves_data(step, call)? {
+                    return Ok(());
+                }
+                if let (Some(kind), Some((number, _))) = (gives_descriptor(name), made) {
+                    self.put(step, number, Descriptor::left(kind, None))?;
+                }
+                match kind_of(name) {
+                    Some(kind) => self.left(kind),
+                    None => self.report.strange(name, self.line),
+                }
+                Ok(())
+            }
+        }
+    }
+}
