@@ -58,8 +58,30 @@ impl World<'_> {
         match (self.end_for(step, fd, way)?, way) {
             (None, _) => Ok(()),
             (Some(end), Way::Writes) => self.write(step, end),
-            (Some(end), _) => self.read(step, end),
+            (Some(end), _) => {
+                self.show_writers(end.object)?;
+                self.read(step, end)
+            }
         }
+    }
+
+    /// Who has begun to write to a pipe that is read now has written to it.
+    fn show_writers(&mut self, object: u32) -> Done {
+        let begun = self.tasks.values().filter_map(|task| Some((task.step, task.pending.as_ref()?)));
+        let writes: Vec<(u32, End)> = begun
+            .flat_map(|(step, pending)| pending.moves.iter().map(move |next| (step, *next)))
+            .filter_map(|(step, next)| match next {
+                Move::Write(end) if end.object == object => Some((step, end)),
+                _ => None,
+            })
+            .collect();
+        for (step, end) in writes {
+            let is_first = !self.step(step)?.used[end.place as usize];
+            if is_first && self.is_there(step, end, false) {
+                self.write(step, end)?;
+            }
+        }
+        Ok(())
     }
 
     /// The handle behind a descriptor. What the run was started with is opened when strace -y says what it is.
@@ -206,11 +228,15 @@ impl World<'_> {
         };
         let step_level = self.journal.step_level(step);
         let object_level = self.journal.object_level(end.object);
-        let is_there = self.journal.handle(step, end.place).is_some_and(|handle| {
-            u32::from(handle.object) == end.object && (handle.way == Way::Writes) != is_read
-        });
         let lowers = if is_read { object_level < step_level } else { step_level < object_level };
-        is_there && lowers && (is_read || self.journal.is_pipe(end.object))
+        lowers && self.is_there(step, end, is_read) && (is_read || self.journal.is_pipe(end.object))
+    }
+
+    /// Whether a handle is still there.
+    pub fn is_there(&self, step: u32, end: End, is_read: bool) -> bool {
+        self.journal.handle(step, end.place).is_some_and(|handle| {
+            u32::from(handle.object) == end.object && (handle.way == Way::Writes) != is_read
+        })
     }
 
     /// ioctl: a copy of one file to another, or a mark; other ones carry no contents of files.

@@ -284,7 +284,7 @@ impl World<'_> {
         if let Some(free) = slots.iter().position(|slot| *slot == Slot::Free) {
             return Ok(free as u32);
         }
-        let held: Vec<bool> = (0..OBJECTS).map(|object| self.is_held(object)).collect();
+        let held: Vec<bool> = (0..OBJECTS).map(|object| self.journal.is_held(object)).collect();
         let idle = self.files.slots.iter().enumerate().filter_map(|(object, slot)| match slot {
             Slot::File(id) if !held[object] => Some((self.files.files[*id].asked, object as u32)),
             _ => None,

@@ -4,6 +4,7 @@ use gatekeeper::{Answer, Call, Handle, Kind, Monitor, Refusal, JOURNAL_BYTES};
 
 use crate::names::Names;
 use crate::report::Report;
+use crate::world::{PLACES, STEPS};
 
 pub struct Journal {
     monitor: Monitor,
@@ -70,6 +71,12 @@ impl Journal {
 
     pub fn is_pipe(&self, object: u32) -> bool {
         self.monitor.object(object).is_some_and(|object| object.kind == Kind::Pipe)
+    }
+
+    /// Whether any handle is on an object.
+    pub fn is_held(&self, object: u32) -> bool {
+        let is_on = |handle: Handle| u32::from(handle.object) == object;
+        (0..STEPS).any(|step| (0..PLACES).any(|place| self.handle(step, place).is_some_and(is_on)))
     }
 
     pub fn handle(&self, step: u32, place: u32) -> Option<Handle> {

@@ -105,6 +105,9 @@ impl World<'_> {
     /// A process shows up, by its own first line or in the answer to the fork, and is bound to its step.
     pub fn bind(&mut self, process: u32, parent: u32, child: Child) -> Done {
         let group = self.tasks.get(&parent).filter(|_| child.is_thread).map_or(process, |task| task.group);
+        if process == parent {
+            return self.stop(format!("process {process} cannot have made itself"));
+        }
         if self.tasks.contains_key(&process) {
             // Its end was not seen, and the number is used again.
             self.ends(process)?;

@@ -268,17 +268,12 @@ impl<'a> World<'a> {
         for object in 0..OBJECTS {
             if !self.journal.is_live(object) {
                 self.files.free(object);
-            } else if self.files.is_nameless(object) && !self.is_held(object) {
+            } else if self.files.is_nameless(object) && !self.journal.is_held(object) {
                 self.make(Call::Retire { object })?;
                 self.files.free(object);
             }
         }
         Ok(())
-    }
-
-    /// Whether a handle is on an object.
-    pub fn is_held(&self, object: u32) -> bool {
-        self.steps.iter().flatten().any(|step| step.ends().any(|end| end.object == object))
     }
 
     /// A new descriptor at a number; one that is there goes.
