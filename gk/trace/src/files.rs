@@ -181,15 +181,29 @@ impl Files {
 
 impl World<'_> {
     /// The level of a path. What was moved there has at most the level of where it came from.
-    pub fn level_of(&self, key: &[u8]) -> Found {
-        let of = |key: &[u8]| self.levels.of(key, self.paths.absolute(key).as_deref());
-        let mut found = of(key);
+    pub fn level_of(&self, key: &[u8]) -> Done<Found> {
+        let mut found = self.listed(key)?;
         for origin in self.paths.origins(key) {
-            if let (Level::At(level), Level::At(before)) = (found.level, of(&origin).level) {
+            if let (Level::At(level), Level::At(before)) = (found.level, self.listed(&origin)?.level) {
                 found.level = Level::At(level.min(before));
             }
         }
-        found
+        Ok(found)
+    }
+
+    /// What the levels file says of a path.
+    fn listed(&self, key: &[u8]) -> Done<Found> {
+        if let Some(absolute) = self.paths.start().and_then(|_| self.paths.absolute(key)) {
+            return Ok(self.levels.of(key, &absolute));
+        }
+        match self.levels.of_somewhere(key) {
+            Ok(found) => Ok(found),
+            Err(line) => self.stop(format!(
+                "whether line {line} of the levels file is about \"{}\" depends on the folder that the run was started \
+                 in, and the trace does not say it. Give it with --folder",
+                shown(key)
+            )),
+        }
     }
 
     /// The file at a path, which has no number yet where it is new here. `is_made` says that the run makes it.

@@ -47,9 +47,25 @@ impl Glob {
 
     /// Whether the whole path is of this pattern.
     pub fn matches(&self, path: &[u8]) -> bool {
-        // Which pieces may come next, after each byte.
         let mut open = vec![false; self.0.len() + 1];
         open[0] = true;
+        self.matches_from(open, path)
+    }
+
+    /// Whether a path in some folder, which is not known, may be of this pattern.
+    pub fn may_match_below(&self, path: &[u8]) -> bool {
+        let ends_folder =
+            |piece: &Piece| matches!(piece, Piece::Byte(b'/') | Piece::Anything | Piece::Folders);
+        let mut open = vec![false; self.0.len() + 1];
+        for (index, _) in self.0.iter().enumerate().filter(|(_, piece)| ends_folder(piece)) {
+            open[index + 1] = true;
+            open[index] |= !matches!(self.0[index], Piece::Byte(_));
+        }
+        self.matches_from(open, path)
+    }
+
+    /// Whether a path is of what is left of the pattern: which pieces may come next, after each byte.
+    fn matches_from(&self, mut open: Vec<bool>, path: &[u8]) -> bool {
         self.skip(&mut open, true);
         let mut next = open.clone();
         for &byte in path {
@@ -175,6 +191,25 @@ mod tests {
             ("a*b*c*d", "aXbXcX", false),
         ] {
             assert_eq!(matches(pattern, path), is_match, "{pattern} {path}");
+        }
+    }
+
+    #[test]
+    fn a_path_below_some_folder_may_fit() {
+        for (pattern, path, may) in [
+            ("/run/low", "low", true),
+            ("/run/low", "run/low", true),
+            ("/run/low", "high", false),
+            ("/run/x/low", "x/low", true),
+            ("/usr/**", "any/thing", true),
+            ("/**/low", "low", true),
+            ("/run/*", "a/b", false),
+        ] {
+            assert_eq!(
+                Glob::new(pattern.as_bytes()).unwrap().may_match_below(path.as_bytes()),
+                may,
+                "{pattern} {path}"
+            );
         }
     }
 

@@ -32,9 +32,16 @@ pub struct Found {
 
 #[derive(Debug)]
 pub struct Levels {
-    rules: Vec<(Glob, Level)>,
+    rules: Vec<Rule>,
     other: Level,
     standard: [Option<u32>; 3],
+}
+
+#[derive(Debug)]
+struct Rule {
+    glob: Glob,
+    level: Level,
+    line: usize,
 }
 
 /// Where a levels file is wrong, line and column from 1.
@@ -94,7 +101,7 @@ impl Levels {
                     let glob = Glob::new(&pattern.text).map_err(|(offset, expected)| {
                         wrong(pattern.column + offset, format!("expected {expected}"))
                     })?;
-                    levels.rules.push((glob, value));
+                    levels.rules.push(Rule { glob, level: value, line: index + 1 });
                 }
             }
         }
@@ -106,10 +113,31 @@ impl Levels {
     }
 
     /// The level of a file: its path relative to the starting folder, if it is there, and its absolute one.
-    pub fn of(&self, key: &[u8], absolute: Option<&[u8]>) -> Found {
-        let fits = |glob: &Glob| glob.matches(key) || absolute.is_some_and(|path| glob.matches(path));
-        match self.rules.iter().find(|(glob, _)| fits(glob)) {
-            Some((_, level)) => Found { level: *level, is_named: true },
+    pub fn of(&self, key: &[u8], absolute: &[u8]) -> Found {
+        self.found(self.rules.iter().find(|rule| rule.glob.matches(key) || rule.glob.matches(absolute)))
+    }
+
+    /// The level of a file while the starting folder is not known. Where that could make another line fit, says which.
+    pub fn of_somewhere(&self, key: &[u8]) -> Result<Found, usize> {
+        for rule in &self.rules {
+            if rule.glob.matches(key) {
+                return Ok(self.found(Some(rule)));
+            }
+            let is_doubtful = match (key.starts_with(b"/"), rule.glob.is_absolute()) {
+                (true, false) => ends(key).any(|end| rule.glob.matches(end)),
+                (false, true) => rule.glob.may_match_below(key),
+                _ => false,
+            };
+            if is_doubtful {
+                return Err(rule.line);
+            }
+        }
+        Ok(self.found(None))
+    }
+
+    fn found(&self, rule: Option<&Rule>) -> Found {
+        match rule {
+            Some(rule) => Found { level: rule.level, is_named: true },
             None => Found { level: self.other, is_named: false },
         }
     }
@@ -118,11 +146,11 @@ impl Levels {
     pub fn standard(&self, which: usize) -> Option<u32> {
         self.standard.get(which).copied().flatten()
     }
+}
 
-    /// Whether a pattern names files by their absolute paths.
-    pub fn has_absolute(&self) -> bool {
-        self.rules.iter().any(|(glob, _)| glob.is_absolute())
-    }
+/// What a path is below each of its folders.
+fn ends(path: &[u8]) -> impl Iterator<Item = &[u8]> {
+    (0..path.len()).filter(|&at| path[at] == b'/').map(|at| &path[at + 1..])
 }
 
 /// A word of a line, and the column that it starts at.
@@ -192,7 +220,7 @@ mod tests {
 
     fn level(levels: &str, path: &str) -> Found {
         let levels = Levels::read(levels.as_bytes()).unwrap();
-        levels.of(path.as_bytes(), Some(format!("/run/{path}").as_bytes()))
+        levels.of(path.as_bytes(), format!("/run/{path}").as_bytes())
     }
 
     #[test]
@@ -211,6 +239,18 @@ mod tests {
         ] {
             assert_eq!(level(text, path), Found { level: at, is_named }, "{path}");
         }
+    }
+
+    #[test]
+    fn without_the_folder_a_doubtful_line_is_named() {
+        let levels = Levels::read(b"low 2\n/usr/** 9\n*.csv 3\nelse 15\n").unwrap();
+        let of = |path: &str| levels.of_somewhere(path.as_bytes()).map(|found| found.level);
+        assert_eq!(of("low"), Ok(Level::At(2)));
+        assert_eq!(of("/run/low"), Err(1));
+        assert_eq!(of("a.csv"), Err(2));
+        assert_eq!(of("/usr/a.csv"), Ok(Level::At(9)));
+        assert_eq!(of("/run/a.csv"), Err(3));
+        assert_eq!(of("/run/a"), Ok(Level::At(15)));
     }
 
     #[test]

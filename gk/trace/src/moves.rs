@@ -68,12 +68,12 @@ impl World<'_> {
         if !self.copies(step, from, to, Note::Moved)? {
             return Ok(());
         }
-        let same = self.files.find(from).filter(|_| !self.is_between_levels(from, to));
+        let is_same = !self.is_between_levels(from, to)?;
         let Some(old) = self.files.find(from) else {
             self.files.remove_key(to);
             return self.reap();
         };
-        if same.is_some() {
+        if is_same {
             self.files.remove_key(from);
             self.files.add_key(old, to.to_vec());
             return self.reap();
@@ -88,27 +88,29 @@ impl World<'_> {
     }
 
     /// Whether a file has one level under its path and another under a new one.
-    fn is_between_levels(&self, from: &[u8], to: &[u8]) -> bool {
-        let before = self.files.find(from).map(|id| Level::At(self.files.file(id).level));
-        let before = before.unwrap_or(self.level_of(from).level);
-        let after = self.level_of(to).level;
-        matches!((before, after), (Level::At(before), Level::At(after)) if before != after)
+    fn is_between_levels(&self, from: &[u8], to: &[u8]) -> Done<bool> {
+        let before = match self.files.find(from) {
+            Some(id) => Level::At(self.files.file(id).level),
+            None => self.level_of(from)?.level,
+        };
+        let after = self.level_of(to)?.level;
+        Ok(matches!((before, after), (Level::At(before), Level::At(after)) if before != after))
     }
 
     /// Where a file comes under a path of another level, that is a copy: the step reads the one and writes the other,
     /// and the gatekeeper says whether it may. Whether nothing was refused.
     fn copies(&mut self, step: u32, from: &[u8], to: &[u8], note: Note) -> Done<bool> {
-        if !self.is_between_levels(from, to) {
+        if !self.is_between_levels(from, to)? {
             return Ok(true);
         }
         self.note(note);
-        let level = self.level_of(from).level;
+        let level = self.level_of(from)?.level;
         let source = self.file_at(step, from, level, false)?;
         let object = self.object_of(source)?;
         let Some(reads) = self.open(step, object, Way::Reads)? else { return Ok(false) };
         // While the step holds the source, its number is not given away.
         self.step_mut(step)?.maps.push(crate::world::Mapping { reads, writes: None, ranges: Vec::new() });
-        let level = self.level_of(to).level;
+        let level = self.level_of(to)?.level;
         if note == Note::Moved {
             // What was under the path is gone.
             self.files.remove_key(to);
@@ -163,10 +165,10 @@ impl World<'_> {
         };
         let from = self.named(step, from.0, from.1)?;
         let to = self.named(step, to.0, to.1)?;
-        if self.is_between_levels(&from, &to) {
+        if self.is_between_levels(&from, &to)? {
             return self.copies(step, &from, &to, Note::Linked).map(drop);
         }
-        let level = self.level_of(&from).level;
+        let level = self.level_of(&from)?.level;
         if let (Level::At(_), None) = (level, self.files.find(&from)) {
             self.file_at(step, &from, level, false)?;
         }

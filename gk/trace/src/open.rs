@@ -129,7 +129,7 @@ impl World<'_> {
     /// Opens a path.
     pub fn open_key(&mut self, step: u32, key: Key, flags: &str) -> Done<Descriptor> {
         let (reads, writes) = ways(flags);
-        let found = self.level_of(&key);
+        let found = self.level_of(&key)?;
         if has_flag(flags, "O_TMPFILE") {
             return self.open_nameless(step, writes, reads);
         }

@@ -108,7 +108,6 @@ pub struct Report {
     pub lines: u64,
     pub is_cut: bool,
     pub stopped_at: Option<u64>,
-    pub has_no_start: bool,
     made: BTreeMap<u32, u64>,
     answers: [u64; 3],
     left: BTreeMap<Left, Count>,
@@ -167,9 +166,6 @@ impl Report {
         }
         if self.is_cut {
             text.push_str("  the last line of the trace is cut off and was left out\n");
-        }
-        if self.has_no_start {
-            text.push_str("  the starting folder is not in the trace: patterns that start with / were tried on absolute paths alone; --folder gives it\n");
         }
         let mut section = |title: &str, rows: Vec<(&'static str, Count)>| {
             if !rows.is_empty() {

@@ -18,6 +18,9 @@ pub const LONGEST_LINE: usize = 1 << 20;
 /// Lines that are read ahead, at most, to learn which process made another.
 const MOST_AHEAD: usize = 20_000;
 
+/// Lines that are read ahead, at most, to learn in which folder the run was started.
+const MOST_TO_START: usize = 2_000;
+
 /// What a trace has come to.
 pub struct Written {
     pub journal: Vec<u8>,
@@ -47,6 +50,7 @@ pub fn journal_of(
 ) -> Result<Written, Failure> {
     let world = World::new(levels, options);
     let mut reader = Reader { world, trace, ahead: VecDeque::new(), read: 0, until };
+    reader.look_for_start()?;
     while let Some((number, text)) = reader.next()? {
         reader.world.line = number;
         reader.world.report.lines = number;
@@ -62,7 +66,6 @@ pub fn journal_of(
     for _ in 0..begun {
         world.note(Note::Unresumed);
     }
-    world.report.has_no_start = world.paths.start().is_none() && world.levels.has_absolute();
     let mut names = std::mem::take(&mut world.journal.names);
     world.files.name_pipes(&mut names);
     Ok(Written { journal: world.journal.bytes().to_vec(), names: names.text(), report: world.report })
@@ -109,6 +112,44 @@ impl<T: BufRead> Reader<'_, T> {
         // strace ends each line with a line feed: this one is cut off.
         self.world.report.is_cut = true;
         Ok(None)
+    }
+
+    /// Reads ahead for the folder that the run was started in: the first process is there until it goes elsewhere.
+    fn look_for_start(&mut self) -> Result<(), Failure> {
+        if self.world.paths.start().is_some() {
+            return Ok(());
+        }
+        let mut first = None;
+        while self.ahead.len() < MOST_TO_START {
+            let Some(line) = self.read_line()? else { break };
+            let text = line.1.clone();
+            self.ahead.push_back(line);
+            let Ok(line) = line::read(&text) else { break };
+            if *first.get_or_insert(line.process) != line.process {
+                continue;
+            }
+            let folder = match line.event {
+                Event::Call { name: "chdir" | "fchdir", .. }
+                | Event::Begun { name: "chdir" | "fchdir", .. } => break,
+                Event::Call { name: "getcwd", text } => {
+                    call::arguments(text).0.first().copied().and_then(call::string)
+                }
+                Event::Call { text, .. } => {
+                    let note = call::arguments(text)
+                        .0
+                        .first()
+                        .copied()
+                        .and_then(|arg| arg.strip_prefix("AT_FDCWD<"));
+                    call::noted_path(note.and_then(|note| note.strip_suffix('>')))
+                }
+                _ => None,
+            };
+            if let Some(folder) = folder.filter(|folder| folder.starts_with(b"/")) {
+                self.world.paths.set_start(&folder);
+                break;
+            }
+        }
+        Ok(())
     }
 
     fn take(&mut self, text: &str) -> Result<(), Failure> {

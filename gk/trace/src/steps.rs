@@ -188,7 +188,7 @@ impl World<'_> {
             }
         }
         let key = self.program_of(step, call)?;
-        let found = self.level_of(&key);
+        let found = self.level_of(&key)?;
         let is_granted = match found.level {
             Level::Out => {
                 self.note(Note::Hidden);
