@@ -2,11 +2,10 @@
 
 use std::fs::File;
 use std::io::{self, BufRead, BufReader, Read, Write};
-use std::path::Path;
-
-use gatekeeper::Monitor;
+use std::path::{Path, PathBuf};
 
 use crate::levels::{Levels, LONGEST_FILE, TOP};
+use crate::output::write_whole;
 use crate::run::{journal_of, Failure as RunFailure};
 use crate::text::shown;
 use crate::world::Options;
@@ -26,7 +25,8 @@ TRACE is what strace -f -o TRACE has written, with or without -y; - or nothing i
 becomes a step, each file and pipe gets a number, and the calls are written in their order. -y has strace write
 real paths, and -s 2 no more of what is read and written than two characters; less than 2 is not enough.
 
-A report goes to standard error: which calls were written and what was left out, with the first line of each kind.
+A report goes to standard error: which calls were written, which of them the gatekeeper refuses, and what was left
+out, with the first line of each kind.
 
   --levels FILE   which level each file has; needed
   -o FILE         write the journal there; the names go to the same path with .names in the place of its ending
@@ -102,14 +102,17 @@ fn command(arguments: &[String]) -> Result<(), Failure> {
             journal(BufReader::with_capacity(1 << 16, file), &shown(name.as_bytes()), &levels, &arguments)?
         }
     };
+    let mut files: Vec<(&Path, &[u8])> = Vec::new();
     let beside = arguments.journal.as_ref().map(|path| Path::new(path).with_extension("names"));
-    let beside = beside.map(|path| path.to_string_lossy().into_owned());
-    match &arguments.journal {
-        Some(path) => write_file(path, &written.journal)?,
-        None => write_output(&written.journal)?,
-    }
-    if let Some(path) = arguments.names.as_ref().or(beside.as_ref()) {
-        write_file(path, written.names.as_bytes())?;
+    let names = arguments.names.as_ref().map(PathBuf::from).or(beside);
+    // Who reads the journal from standard output finds the names there.
+    files.extend(names.iter().map(|path| (path.as_path(), written.names.as_bytes())));
+    files.extend(arguments.journal.iter().map(|path| (Path::new(path), &written.journal[..])));
+    write_whole(&files).map_err(|(path, error)| {
+        Failure::Failed(format!("cannot write {}: {error}", shown(path.to_string_lossy().as_bytes())))
+    })?;
+    if arguments.journal.is_none() {
+        write_output(&written.journal)?;
     }
     if !arguments.is_quiet {
         let _ = io::stderr().write_all(written.report.text(written.journal.len()).as_bytes());
@@ -159,6 +162,12 @@ fn sorted(arguments: &[String]) -> Result<Arguments, Failure> {
         )));
     }
     sorted.trace = files.pop();
+    let is_names = |path: &String| Path::new(path).extension().is_some_and(|ending| ending == "names");
+    if sorted.journal.is_some() && sorted.journal == sorted.names
+        || sorted.names.is_none() && sorted.journal.as_ref().is_some_and(is_names)
+    {
+        return Err(Failure::Usage("the journal and the names need two files".to_string()));
+    }
     Ok(sorted)
 }
 
@@ -207,20 +216,10 @@ fn journal(
     })
 }
 
-fn write_file(path: &str, bytes: &[u8]) -> Result<(), Failure> {
-    std::fs::write(path, bytes)
-        .map_err(|error| Failure::Failed(format!("cannot write {}: {error}", shown(path.as_bytes()))))
-}
-
 fn write_output(bytes: &[u8]) -> Result<(), Failure> {
     let mut output = io::stdout().lock();
     output.write_all(bytes).and_then(|()| output.flush()).map_err(|error| match error.kind() {
         io::ErrorKind::BrokenPipe => Failure::Unread,
         _ => Failure::Failed(format!("cannot write standard output: {error}")),
     })
-}
-
-/// Says whether the gatekeeper is linked; a monitor can be made.
-pub fn is_linked() -> bool {
-    Monitor::new().open() == 0
 }

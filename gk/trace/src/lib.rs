@@ -16,7 +16,7 @@
 //! | [`open`], [`data`], [`table`], [`maps`], [`moves`], [`steps`], [`paths`] | what each call comes to |
 //! | [`kinds`], [`report`] | what is left out, and the report |
 //! | [`names`] | the names file |
-//! | [`cli`] | the command `gk trace` |
+//! | [`cli`], [`output`] | the command `gk trace` |
 
 pub mod call;
 pub mod cli;
@@ -31,6 +31,7 @@ pub mod maps;
 pub mod moves;
 pub mod names;
 pub mod open;
+pub mod output;
 pub mod paths;
 pub mod report;
 pub mod run;

@@ -4,7 +4,7 @@ use std::collections::BTreeMap;
 
 use gatekeeper::{Answer, Call};
 
-use crate::text::counted;
+use crate::text::{counted, shown};
 
 /// Why something of the trace is not in the journal.
 #[derive(Clone, Copy, Debug, PartialEq, Eq, PartialOrd, Ord)]
@@ -113,7 +113,20 @@ pub struct Report {
     left: BTreeMap<Left, Count>,
     notes: BTreeMap<Note, Count>,
     strange: BTreeMap<String, Count>,
+    refused: Vec<Refused>,
 }
+
+/// Calls of one kind by one program that are refused.
+struct Refused {
+    program: String,
+    code: u32,
+    count: u64,
+    /// The first of them: the file or pipe, and the line of the trace.
+    first: Vec<(String, u64)>,
+}
+
+/// Refusals of a kind that are named.
+const MOST_REFUSED: usize = 3;
 
 fn count<K: Ord>(counts: &mut BTreeMap<K, Count>, key: K, line: u64) {
     counts.entry(key).or_insert(Count { count: 0, first: line }).count += 1;
@@ -128,6 +141,20 @@ impl Report {
             Answer::Refused(_) => 2,
         };
         self.answers[index] += 1;
+    }
+
+    /// A call on this file or pipe, by a step that runs this program, is refused.
+    pub fn refused(&mut self, program: &str, code: u32, what: String, line: u64) {
+        let is_same = |kind: &Refused| kind.program == program && kind.code == code;
+        let index = self.refused.iter().position(is_same).unwrap_or_else(|| {
+            self.refused.push(Refused { program: program.to_string(), code, count: 0, first: Vec::new() });
+            self.refused.len() - 1
+        });
+        let kind = &mut self.refused[index];
+        kind.count += 1;
+        if kind.first.len() < MOST_REFUSED {
+            kind.first.push((what, line));
+        }
     }
 
     pub fn left(&mut self, why: Left, line: u64) {
@@ -161,6 +188,18 @@ impl Report {
             text.push_str(&format!("  written: {}\n", kinds.join(", ")));
         }
         text.push_str(&format!("  answers: {allowed} allowed, {lowered} lowered, {refused} refused\n"));
+        for Refused { program, code, count, first } in &self.refused {
+            let named: Vec<String> =
+                first.iter().map(|(what, line)| format!("{what} (line {line})")).collect();
+            let more = count - first.len() as u64;
+            let more = if more > 0 { format!(" and {} more", counted(more)) } else { String::new() };
+            let (program, kind) = (shown(program.as_bytes()), kind(*code));
+            text.push_str(&format!(
+                "  {:>9}  refused: {program}, {kind} of {}{more}\n",
+                counted(*count),
+                named.join(", ")
+            ));
+        }
         if let Some(line) = self.stopped_at {
             text.push_str(&format!("  read up to line {line}, as --until says\n"));
         }

@@ -177,7 +177,15 @@ impl<'a> World<'a> {
     /// Writes a call; whether it is granted.
     pub fn make(&mut self, call: Call) -> Done<bool> {
         match self.journal.make(call, &mut self.report) {
-            Ok(is_granted) => Ok(is_granted),
+            Ok(true) => Ok(true),
+            Ok(false) => {
+                // Calls that can be refused have the step and the object as their first numbers.
+                let [step, object, ..] = call.numbers();
+                let program = self.step(step)?.program.clone();
+                let what = self.files.called(object);
+                self.report.refused(&program, call.code(), what, self.line);
+                Ok(false)
+            }
             Err(Trouble::Full) => {
                 let records = self.journal.next() - 1;
                 self.stop(format!(

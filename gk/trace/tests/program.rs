@@ -104,6 +104,11 @@ fn bad_usage_is_two() {
         (&["a", "b", "--levels", "pay.levels"][..], "expected one trace, found \"b\" as well"),
         (&["--start", "16"][..], "--start needs a number, 0 to 15, not \"16\""),
         (&["--until", "+1"][..], "--until needs a number, not \"+1\""),
+        (&["--levels", "pay.levels", "-o", "a.names"][..], "the journal and the names need two files"),
+        (
+            &["--levels", "pay.levels", "-o", "a", "--names", "a"][..],
+            "the journal and the names need two files",
+        ),
         (&["--folder", "here"][..], "--folder needs an absolute path, not \"here\""),
     ] {
         let output = run(arguments, b"");
