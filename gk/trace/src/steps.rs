@@ -20,8 +20,7 @@ impl World<'_> {
         }
         let step = self.free_step(&format!("process {process}"))?;
         self.make(Call::Admit { subject: step, level: self.options.start })?;
-        let from = self.journal.next() - 1;
-        self.journal.names.give_new(Kind::Step, step, from, "start of the run");
+        let admitted = self.journal.next() - 1;
         let memory = self.tick();
         self.steps[step as usize] = Some(Step {
             table: Default::default(),
@@ -29,6 +28,7 @@ impl World<'_> {
             folder: START.to_vec(),
             memory,
             program: "start of the run".to_string(),
+            unnamed_from: Some(admitted),
             used: [false; PLACES as usize],
         });
         self.tasks.insert(process, Task { step, group: process, pending: None });
@@ -93,6 +93,7 @@ impl World<'_> {
         let memory = self.tick();
         let mut copy = self.step(step)?.clone();
         copy.used = [false; PLACES as usize];
+        copy.unnamed_from = None;
         if !shares_memory {
             copy.memory = memory;
         }
@@ -203,7 +204,9 @@ impl World<'_> {
         self.shed(step, is_granted)?;
         let memory = self.tick();
         let program = String::from_utf8_lossy(last_name(&key)).into_owned();
-        let from = self.journal.next();
+        // The first program gives its name to the step from its start on.
+        let next = self.journal.next();
+        let from = self.step_mut(step)?.unnamed_from.take().unwrap_or(next);
         self.journal.names.give_new(Kind::Step, step, from, &program);
         let own = self.step_mut(step)?;
         (own.memory, own.program) = (memory, program);

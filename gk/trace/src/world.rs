@@ -80,6 +80,8 @@ pub struct Step {
     /// Steps with the same number here share their memory.
     pub memory: u64,
     pub program: String,
+    /// The record that admitted it, as long as it has run no program to be named by.
+    pub unnamed_from: Option<u64>,
     /// For each place, whether what is there has been read or written.
     pub used: [bool; PLACES as usize],
 }
