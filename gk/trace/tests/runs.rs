@@ -142,6 +142,21 @@ fn nothing_of_the_machine_is_in_a_recorded_trace() {
     }
 }
 
+#[test]
+fn the_page_shows_the_recorded_run() {
+    let page = fs::read_to_string(folder().join("../../../../docs/TRACE.md")).unwrap();
+    let text = |name: &str| String::from_utf8(read(name)).unwrap();
+    let report = text("pay.report");
+    let (front, _) = report.split_once("; first at line").unwrap();
+    let script = text("pay.sh");
+    let (_, script) = script.split_once('\n').unwrap();
+    for part in [front, script, &text("pay.levels")] {
+        assert!(page.contains(part), "docs/TRACE.md has another one:\n{part}");
+    }
+    let option = "strace -f -y -s 2 -o pay.trace sh pay.sh\n";
+    assert!(page.contains(option) && gk_trace::cli::HELP.contains(option));
+}
+
 /// A trace that is recorded here and now, where strace is installed.
 #[test]
 fn a_run_that_is_traced_anew_is_refused_its_sheets() {
