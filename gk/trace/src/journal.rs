@@ -6,6 +6,7 @@ use crate::names::Names;
 use crate::report::Report;
 use crate::world::{PLACES, STEPS};
 
+#[derive(Default)]
 pub struct Journal {
     monitor: Monitor,
     bytes: Vec<u8>,
@@ -22,10 +23,6 @@ pub enum Trouble {
 }
 
 impl Journal {
-    pub fn new() -> Journal {
-        Journal { monitor: Monitor::new(), bytes: Vec::new(), records: 0, names: Names::default() }
-    }
-
     /// Writes a call. Whether it is granted: it is not where the gatekeeper refuses it for the flow (9).
     pub fn make(&mut self, call: Call, report: &mut Report) -> Result<bool, Trouble> {
         let end = self.bytes.len();

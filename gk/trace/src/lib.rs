@@ -11,7 +11,7 @@
 //! |---|---|
 //! | [`line`], [`call`], [`text`] | lines and calls as strace writes them |
 //! | [`levels`], [`glob`] | the levels file and its patterns |
-//! | [`run`] | a trace from its first line to its last |
+//! | [`run`], [`dispatch`] | a trace from its first line to its last, and each call of it |
 //! | [`world`], [`files`], [`journal`] | steps, files and pipes with their numbers; the journal |
 //! | [`open`], [`data`], [`table`], [`maps`], [`moves`], [`steps`], [`paths`] | what each call comes to |
 //! | [`kinds`], [`report`] | what is left out, and the report |
@@ -21,6 +21,7 @@
 pub mod call;
 pub mod cli;
 pub mod data;
+pub mod dispatch;
 pub mod files;
 pub mod glob;
 pub mod journal;

@@ -231,8 +231,8 @@ impl World<'_> {
         self.named(step, call.arg(0), call.arg(1))
     }
 
-    /// What an exec closes is gone. Where the gatekeeper did not close it, as it refused the exec, it is closed here: in
-    /// the run it was.
+    /// What an exec closes is gone. Where the gatekeeper did not close it, as it refused the exec, it is closed
+    /// here: in the run, it was.
     fn shed(&mut self, step: u32, is_closed: bool) -> Done {
         let own = self.step_mut(step)?;
         let gone: Vec<i32> = own.table.iter().filter(|(_, d)| d.ends_at_exec).map(|(&fd, _)| fd).collect();

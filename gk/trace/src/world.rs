@@ -145,7 +145,7 @@ impl<'a> World<'a> {
         World {
             levels,
             options,
-            journal: Journal::new(),
+            journal: Journal::default(),
             report: Report::default(),
             steps: (0..STEPS).map(|_| None).collect(),
             tasks: BTreeMap::new(),

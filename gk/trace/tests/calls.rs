@@ -95,7 +95,8 @@ fn duplicates_are_opens_of_the_same() {
 
 #[test]
 fn marks_come_and_go() {
-    let lines = "1 pipe2([3, 4], O_CLOEXEC) = 0\n1 fcntl(3, F_SETFD, 0) = 0\n1 execve(\"/bin/sh\", [], 0x1) = 0\n1 close(3) = 0";
+    let lines = "1 pipe2([3, 4], O_CLOEXEC) = 0\n1 fcntl(3, F_SETFD, 0) = 0\n\
+                 1 execve(\"/bin/sh\", [], 0x1) = 0\n1 close(3) = 0";
     assert_eq!(
         calls(lines),
         [
@@ -115,8 +116,10 @@ fn marks_come_and_go() {
 
 #[test]
 fn a_refused_exec_closes_what_the_run_closed() {
-    let lines = "1 openat(AT_FDCWD, \"high\", O_WRONLY) = 3\n1 openat(AT_FDCWD, \"mid\", O_WRONLY|O_CLOEXEC) = 4\n\
-                 1 execve(\"low.sh\", [], 0x1) = 0\n1 close(4) = -1 EBADF (Bad file descriptor)\n1 write(3, \"\", 1) = 1";
+    let lines =
+        "1 openat(AT_FDCWD, \"high\", O_WRONLY) = 3\n1 openat(AT_FDCWD, \"mid\", O_WRONLY|O_CLOEXEC) = 4\n\
+                 1 execve(\"low.sh\", [], 0x1) = 0\n1 close(4) = -1 EBADF (Bad file descriptor)\n\
+                 1 write(3, \"\", 1) = 1";
     let all = calls(lines);
     assert_eq!(all[5..], ["register 3 2", "exec 0 3", "close 0 1", "write 0 0"], "{all:?}");
     assert_eq!(refusals(lines), ["exec 0 3"]);
@@ -124,7 +127,8 @@ fn a_refused_exec_closes_what_the_run_closed() {
 
 #[test]
 fn nothing_is_done_with_what_is_refused() {
-    let lines = "1 openat(AT_FDCWD, \"high\", O_WRONLY) = 3\n1 openat(AT_FDCWD, \"low\", O_RDWR) = 4\n1 dup2(4, 0) = 0\n\
+    let lines = "1 openat(AT_FDCWD, \"high\", O_WRONLY) = 3\n1 openat(AT_FDCWD, \"low\", O_RDWR) = 4\n\
+                 1 dup2(4, 0) = 0\n\
                  1 read(0, \"\", 1) = 1\n1 close(4) = 0";
     assert_eq!(calls(lines)[2..], ["register 2 2", "open-read 0 2 1"]);
     assert!(
@@ -158,7 +162,8 @@ fn children_may_speak_before_the_fork_is_seen() {
 #[test]
 fn a_fork_that_fails_has_made_nobody() {
     let lines = "1 clone(child_stack=NULL, flags=SIGCHLD) = -1 EAGAIN (Resource)\n\
-                 1 clone(child_stack=NULL, flags=SIGCHLD <unfinished ...>\n1 <... clone resumed>) = -1 EAGAIN (Resource)";
+                 1 clone(child_stack=NULL, flags=SIGCHLD <unfinished ...>\n\
+                 1 <... clone resumed>) = -1 EAGAIN (Resource)";
     assert_eq!(calls(lines), ["fork 0 1", "exit 1"]);
     assert!(report(lines).contains("2  calls that failed; first at line 2\n"));
 }
@@ -167,14 +172,18 @@ fn a_fork_that_fails_has_made_nobody() {
 fn what_two_lines_leave_open_is_taken_early() {
     // Step 1 has read something low, and begins to write it. Step 0 reads it before the second line of that write, lets
     // go of the pipe and opens a higher file: refused, as what it has is low.
-    let lines = "1 pipe([3, 4]) = 0\n1 fork() = 2\n1 close(4) = 0\n2 close(3) = 0\n2 openat(AT_FDCWD, \"low\", O_RDONLY) = 3\n\
-                 2 read(3, \"\", 1) = 1\n2 write(4, \"\", 1 <unfinished ...>\n1 read(3, \"\", 1) = 1\n1 close(3) = 0\n\
+    let lines = "1 pipe([3, 4]) = 0\n1 fork() = 2\n1 close(4) = 0\n2 close(3) = 0\n\
+                 2 openat(AT_FDCWD, \"low\", O_RDONLY) = 3\n\
+                 2 read(3, \"\", 1) = 1\n2 write(4, \"\", 1 <unfinished ...>\n1 read(3, \"\", 1) = 1\n\
+                 1 close(3) = 0\n\
                  1 openat(AT_FDCWD, \"mid\", O_WRONLY) = 3\n2 <... write resumed>) = 1";
     assert_eq!(refusals(lines), ["open-write 0 3 0"]);
     // The same with a read that has begun, by a thread, and a write of the other thread.
-    let lines = "1 clone3({flags=CLONE_VM|CLONE_FILES|CLONE_THREAD}, 88) = 5\n1 openat(AT_FDCWD, \"low\", O_RDONLY) = 3\n\
+    let lines = "1 clone3({flags=CLONE_VM|CLONE_FILES|CLONE_THREAD}, 88) = 5\n\
+                 1 openat(AT_FDCWD, \"low\", O_RDONLY) = 3\n\
                  1 pipe([6, 7]) = 0\n1 fork() = 2\n2 close(3) = 0\n2 close(7) = 0\n5 read(3,  <unfinished ...>\n\
-                 1 write(7, \"\", 1) = 1\n2 read(6, \"\", 1) = 1\n2 close(6) = 0\n2 openat(AT_FDCWD, \"mid\", O_WRONLY) = 3\n\
+                 1 write(7, \"\", 1) = 1\n2 read(6, \"\", 1) = 1\n2 close(6) = 0\n\
+                 2 openat(AT_FDCWD, \"mid\", O_WRONLY) = 3\n\
                  5 <... read resumed>\"\", 1) = 1";
     assert_eq!(refusals(lines), ["open-write 1 3 0"]);
 }
@@ -213,11 +222,15 @@ fn threads_are_one_step() {
     );
     assert_eq!(calls(&lines), ["register 1 2", "open-read 0 1 0", "read 0 0", "exit 0"]);
     // A thread that runs a program goes on as its process.
-    let lines = format!("{clone}\n5 execve(\"/bin/sh\", [], 0x1 <pid changed to 1 ...>\n1 +++ superseded by execve in pid 5 +++\n\
-                         1 <... execve resumed>) = 0\n1 pipe([3, 4]) = 0");
+    let lines = format!(
+        "{clone}\n5 execve(\"/bin/sh\", [], 0x1 <pid changed to 1 ...>\n\
+                 1 +++ superseded by execve in pid 5 +++\n\
+                         1 <... execve resumed>) = 0\n1 pipe([3, 4]) = 0"
+    );
     assert_eq!(calls(&lines), ["exec 0 0", "pipe 0 1 0 1"]);
     // A process that shares the descriptors has its own after an exec.
-    let lines = "1 pipe([3, 4]) = 0\n1 clone(child_stack=0x1, flags=CLONE_FILES|SIGCHLD) = 6\n6 execve(\"/bin/sh\", [], 0x1) = 0\n\
+    let lines = "1 pipe([3, 4]) = 0\n1 clone(child_stack=0x1, flags=CLONE_FILES|SIGCHLD) = 6\n\
+                 6 execve(\"/bin/sh\", [], 0x1) = 0\n\
                  6 close(3) = 0\n1 +++ exited with 0 +++";
     assert_eq!(calls(lines), ["pipe 0 1 0 1", "fork 0 1", "exec 1 0", "close 1 0", "exit 0"]);
 }
@@ -225,11 +238,14 @@ fn threads_are_one_step() {
 #[test]
 fn data_moves_by_many_calls() {
     let lines = "1 openat(AT_FDCWD, \"low\", O_RDONLY) = 3\n1 openat(AT_FDCWD, \"low2\", O_WRONLY) = 4\n\
-                 1 copy_file_range(3, NULL, 4, NULL, 1, 0) = 1\n1 sendfile(4, 3, NULL, 1) = 1\n1 pread64(3, \"\", 1, 0) = 0";
+                 1 copy_file_range(3, NULL, 4, NULL, 1, 0) = 1\n1 sendfile(4, 3, NULL, 1) = 1\n\
+                 1 pread64(3, \"\", 1, 0) = 0";
     assert_eq!(calls(lines)[2..], ["register 2 2", "open-write 0 2 1", "read 0 0", "write 0 1"]);
     assert!(report(lines).contains("3  reads and writes that come again"), "{}", report(lines));
-    let lines = "1 pipe([3, 4]) = 0\n1 socketpair(AF_UNIX, SOCK_STREAM|SOCK_CLOEXEC, 0, [5, 6]) = 0\n1 splice(3, NULL, 6, NULL, 1, 0) = 1\n\
-                 1 recvfrom(5, \"\", 1, 0, NULL, NULL) = 1\n1 vmsplice(4, [], 1, 0) = 1\n1 tee(3, 4, 1, 0) = 1\n1 writev(5, [], 1) = 1";
+    let lines = "1 pipe([3, 4]) = 0\n1 socketpair(AF_UNIX, SOCK_STREAM|SOCK_CLOEXEC, 0, [5, 6]) = 0\n\
+                 1 splice(3, NULL, 6, NULL, 1, 0) = 1\n\
+                 1 recvfrom(5, \"\", 1, 0, NULL, NULL) = 1\n1 vmsplice(4, [], 1, 0) = 1\n\
+                 1 tee(3, 4, 1, 0) = 1\n1 writev(5, [], 1) = 1";
     assert_eq!(
         calls(lines),
         [
@@ -247,15 +263,18 @@ fn data_moves_by_many_calls() {
             "write 0 3"
         ]
     );
-    let clone = "1 openat(AT_FDCWD, \"low\", O_RDONLY) = 3\n1 openat(AT_FDCWD, \"low2\", O_WRONLY) = 4\n1 ioctl(4, BTRFS_IOC_CLONE or FICLONE, 3) = 0";
+    let clone = "1 openat(AT_FDCWD, \"low\", O_RDONLY) = 3\n1 openat(AT_FDCWD, \"low2\", O_WRONLY) = 4\n\
+                 1 ioctl(4, BTRFS_IOC_CLONE or FICLONE, 3) = 0";
     assert_eq!(calls(clone)[4..], ["read 0 0", "write 0 1"]);
 }
 
 #[test]
 fn mappings_are_maps() {
     let lines = "1 openat(AT_FDCWD, \"low\", O_RDWR) = 3\n1 mmap(NULL, 4096, PROT_READ, MAP_PRIVATE, 3, 0) = 0x1000\n\
-                 1 mmap(NULL, 4096, PROT_READ, MAP_SHARED, 3, 0) = 0x3000\n1 close(3) = 0\n1 munmap(0x1000, 4096) = 0\n\
-                 1 mremap(0x3000, 4096, 8192, MREMAP_MAYMOVE) = 0x9000\n1 munmap(0x9000, 4096) = 0\n1 munmap(0x9000, 8192) = 0";
+                 1 mmap(NULL, 4096, PROT_READ, MAP_SHARED, 3, 0) = 0x3000\n1 close(3) = 0\n\
+                 1 munmap(0x1000, 4096) = 0\n\
+                 1 mremap(0x3000, 4096, 8192, MREMAP_MAYMOVE) = 0x9000\n1 munmap(0x9000, 4096) = 0\n\
+                 1 munmap(0x9000, 8192) = 0";
     assert_eq!(
         calls(lines)[3..],
         [
@@ -269,7 +288,8 @@ fn mappings_are_maps() {
             "close 0 3"
         ]
     );
-    let lines = "1 mmap(NULL, 4096, PROT_READ|PROT_WRITE, MAP_SHARED|MAP_ANONYMOUS, -1, 0) = 0x1000\n1 shmget(1, 2, 3) = 4";
+    let lines = "1 mmap(NULL, 4096, PROT_READ|PROT_WRITE, MAP_SHARED|MAP_ANONYMOUS, -1, 0) = 0x1000\n\
+                 1 shmget(1, 2, 3) = 4";
     assert_eq!(calls(lines), [""; 0]);
     assert!(report(lines)
         .contains("2  shared memory without a file: NOT SEEN by the gatekeeper; first at line 2\n"));

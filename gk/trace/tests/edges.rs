@@ -121,8 +121,11 @@ fn links_that_the_run_makes_are_followed() {
 
 #[test]
 fn folders_are_followed() {
-    let lines = "1 openat(AT_FDCWD, \"in.d\", O_RDONLY|O_DIRECTORY) = 3\n1 openat(3, \"a\", O_RDONLY) = 4\n1 fchdir(3) = 0\n\
-                 1 openat(AT_FDCWD, \"a\", O_RDONLY) = 5\n1 chdir(\"..\") = 0\n1 openat(AT_FDCWD, \"in.d/./a\", O_RDONLY) = 6\n1 truncate(\"in.d/a\", 0) = 0";
+    let lines =
+        "1 openat(AT_FDCWD, \"in.d\", O_RDONLY|O_DIRECTORY) = 3\n1 openat(3, \"a\", O_RDONLY) = 4\n\
+                 1 fchdir(3) = 0\n\
+                 1 openat(AT_FDCWD, \"a\", O_RDONLY) = 5\n1 chdir(\"..\") = 0\n\
+                 1 openat(AT_FDCWD, \"in.d/./a\", O_RDONLY) = 6\n1 truncate(\"in.d/a\", 0) = 0";
     assert_eq!(
         calls(lines),
         [
@@ -177,7 +180,8 @@ fn real_paths_are_taken_from_the_notes() {
         "1 openat(AT_FDCWD</run>, \"now\", O_RDONLY) = 3</run/low>\n1 read(3</run/low>, \"\", 1) = 1";
     assert_eq!(calls(lines), ["register 1 2", "open-read 0 1 0", "read 0 0"]);
     // What the run was started with.
-    let lines = "1 getcwd(\"/run\", 9) = 5\n1 write(1</run/high>, \"\", 1) = 1\n1 read(0</dev/pts/0>, \"\", 1) = 1\n1 write(2<pipe:[7]>, \"\", 1) = 1";
+    let lines = "1 getcwd(\"/run\", 9) = 5\n1 write(1</run/high>, \"\", 1) = 1\n\
+                 1 read(0</dev/pts/0>, \"\", 1) = 1\n1 write(2<pipe:[7]>, \"\", 1) = 1";
     assert_eq!(calls(lines), ["register 1 12", "open-write 0 1 0", "write 0 0"]);
 }
 
@@ -195,7 +199,8 @@ fn standard_input_and_output_may_have_levels() {
 
 #[test]
 fn a_path_of_an_own_descriptor_is_the_same_pipe() {
-    let lines = "1 pipe([63, 64]) = 0\n1 openat(AT_FDCWD, \"/dev/fd/63\", O_RDONLY) = 3\n1 openat(AT_FDCWD, \"/proc/self/fd/64\", O_WRONLY) = 4";
+    let lines = "1 pipe([63, 64]) = 0\n1 openat(AT_FDCWD, \"/dev/fd/63\", O_RDONLY) = 3\n\
+                 1 openat(AT_FDCWD, \"/proc/self/fd/64\", O_WRONLY) = 4";
     assert_eq!(calls(lines), ["pipe 0 1 0 1", "open-read 0 1 2", "open-write 0 1 3"]);
 }
 
@@ -204,7 +209,8 @@ fn numbers_are_used_again() {
     // Five hundred files one after the other, and as many steps.
     let one = |n: u32| {
         let (process, path) = (2 + n, format!("low{n}"));
-        format!("1 fork() = {process}\n{process} openat(AT_FDCWD, \"{path}\", O_RDONLY) = 3\n{process} read(3, \"\", 1) = 1\n{process} exit_group(0) = ?\n{process} +++ exited with 0 +++")
+        format!("1 fork() = {process}\n{process} openat(AT_FDCWD, \"{path}\", O_RDONLY) = 3\n\
+                 {process} read(3, \"\", 1) = 1\n{process} exit_group(0) = ?\n{process} +++ exited with 0 +++")
     };
     let lines: Vec<String> = (0..500).map(one).collect();
     let written = told(&format!("{START}\n{}", lines.join("\n")), LEVELS);
@@ -305,10 +311,14 @@ fn what_is_malformed_is_said_where() {
 
 #[test]
 fn what_has_no_counterpart_is_counted() {
-    let lines = "1 socket(AF_INET, SOCK_STREAM, 0) = 3\n1 connect(3, {sa_family=AF_INET}, 16) = 0\n1 sendto(3, \"\", 1, 0, NULL, 0) = 1\n\
-                 1 eventfd2(0, 0) = 4\n1 write(4, \"\", 8) = 8\n1 process_vm_readv(9, [], 1, [], 1, 0) = 1\n1 io_uring_setup(8, {}) = 5\n\
-                 1 msgsnd(1, {}, 1, 0) = 0\n1 frobnicate(1) = 0\n1 chroot(\"/x\") = 0\n1 read(77, \"\", 1) = 1\n1 kill(1, SIGTERM) = 0\n\
-                 1 brk(NULL) = 0x1\n1 stat(\"a\", {}) = 0\n1 sendmsg(3, {msg_control=[{cmsg_type=SCM_RIGHTS, cmsg_data=[4]}]}, 0) = 1";
+    let lines = "1 socket(AF_INET, SOCK_STREAM, 0) = 3\n1 connect(3, {sa_family=AF_INET}, 16) = 0\n\
+                 1 sendto(3, \"\", 1, 0, NULL, 0) = 1\n\
+                 1 eventfd2(0, 0) = 4\n1 write(4, \"\", 8) = 8\n1 process_vm_readv(9, [], 1, [], 1, 0) = 1\n\
+                 1 io_uring_setup(8, {}) = 5\n\
+                 1 msgsnd(1, {}, 1, 0) = 0\n1 frobnicate(1) = 0\n1 chroot(\"/x\") = 0\n\
+                 1 read(77, \"\", 1) = 1\n1 kill(1, SIGTERM) = 0\n\
+                 1 brk(NULL) = 0x1\n1 stat(\"a\", {}) = 0\n\
+                 1 sendmsg(3, {msg_control=[{cmsg_type=SCM_RIGHTS, cmsg_data=[4]}]}, 0) = 1";
     let text = told(&format!("{START}\n{lines}"), LEVELS).report.text(0);
     for row in [
         "4  calls on sockets: NOT SEEN by the gatekeeper; first at line 2",

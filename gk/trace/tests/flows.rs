@@ -262,7 +262,9 @@ impl Kernel {
                     16 + self.lines.len()
                 );
                 self.lines.push(line);
-                self.processes.get_mut(&process).map(|process| process.maps.push((object, is_written)));
+                if let Some(process) = self.processes.get_mut(&process) {
+                    process.maps.push((object, is_written));
+                }
                 self.spread();
             }
             (20, ..) if depth == 0 && random.below(4) == 0 => {

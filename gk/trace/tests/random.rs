@@ -26,7 +26,8 @@ impl Random {
     }
 }
 
-const LEVELS: &str = "sheets/*.csv 2\npaybook.csv 9\nbank.csv 12\nf1 3\nf2 7\nf[3-5] 15\nt* step\n<stdin> 4\nd/out out\nelse 15\n";
+const LEVELS: &str = "sheets/*.csv 2\npaybook.csv 9\nbank.csv 12\nf1 3\nf2 7\nf[3-5] 15\nt* step\n\
+                      <stdin> 4\nd/out out\nelse 15\n";
 
 /// How a trace came out: whether a journal was written.
 fn tried(trace: &[u8], options: Options, what: &str) -> bool {
