@@ -184,7 +184,9 @@ impl World<'_> {
     pub fn level_of(&self, key: &[u8]) -> Done<Found> {
         let mut found = self.listed(key)?;
         for origin in self.paths.origins(key) {
-            if let (Level::At(level), Level::At(before)) = (found.level, self.listed(&origin)?.level) {
+            if let (Level::At(level), Level::At(before)) =
+                (found.level, self.listed(&origin)?.level.of_unmade())
+            {
                 found.level = Level::At(level.min(before));
             }
         }
@@ -223,7 +225,6 @@ impl World<'_> {
         match level {
             Level::Step if is_made => self.create(step, Some(key.to_vec())),
             Level::At(level) => Ok(self.files.add(Some(key.to_vec()), level)),
-            // What nobody has given a level is the lowest.
             Level::Step | Level::Out => Ok(self.files.add(Some(key.to_vec()), 0)),
         }
     }

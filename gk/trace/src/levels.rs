@@ -23,6 +23,16 @@ pub enum Level {
     Out,
 }
 
+impl Level {
+    /// The level of a file that the run has not made: what nobody has given a level is the lowest.
+    pub fn of_unmade(self) -> Level {
+        match self {
+            Level::Step => Level::At(0),
+            other => other,
+        }
+    }
+}
+
 /// A file's level, and whether a pattern names the file or only `else` does.
 #[derive(Clone, Copy, Debug, PartialEq, Eq)]
 pub struct Found {

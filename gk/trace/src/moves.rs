@@ -7,7 +7,8 @@ use crate::levels::Level;
 use crate::open::path_args;
 use crate::paths::{joined, Key};
 use crate::report::{Left, Note};
-use crate::world::{Done, World};
+use crate::text::shown;
+use crate::world::{Descriptor, Done, Mapping, World};
 
 impl World<'_> {
     /// unlink and unlinkat: the file is retired, at once or when its last handle goes.
@@ -91,25 +92,32 @@ impl World<'_> {
     fn is_between_levels(&self, from: &[u8], to: &[u8]) -> Done<bool> {
         let before = match self.files.find(from) {
             Some(id) => Level::At(self.files.file(id).level),
-            None => self.level_of(from)?.level,
+            None => self.level_of(from)?.level.of_unmade(),
         };
-        let after = self.level_of(to)?.level;
-        Ok(matches!((before, after), (Level::At(before), Level::At(after)) if before != after))
+        Ok(is_other(before, self.level_of(to)?.level))
     }
 
-    /// Where a file comes under a path of another level, that is a copy: the step reads the one and writes the other,
-    /// and the gatekeeper says whether it may. Whether nothing was refused.
+    /// Where a file comes under a path of another level, that is a copy: see [`World::copies_to`]. Whether nothing was
+    /// refused.
     fn copies(&mut self, step: u32, from: &[u8], to: &[u8], note: Note) -> Done<bool> {
+        let (before, after) = (self.level_of(from)?.level, self.level_of(to)?.level);
+        if (before == Level::Out) != (after == Level::Out) {
+            self.left(Left::ByLevels);
+        }
         if !self.is_between_levels(from, to)? {
             return Ok(true);
         }
+        let source = self.file_at(step, from, before, false)?;
+        self.copies_to(step, source, to, note)
+    }
+
+    /// The step reads a file and writes it to a path, and the gatekeeper says whether it may.
+    fn copies_to(&mut self, step: u32, source: usize, to: &[u8], note: Note) -> Done<bool> {
         self.note(note);
-        let level = self.level_of(from)?.level;
-        let source = self.file_at(step, from, level, false)?;
         let object = self.object_of(source)?;
         let Some(reads) = self.open(step, object, Way::Reads)? else { return Ok(false) };
-        // While the step holds the source, its number is not given away.
-        self.step_mut(step)?.maps.push(crate::world::Mapping { reads, writes: None, ranges: Vec::new() });
+        // In the step's tables, so that the place and the file's number are not given away.
+        self.step_mut(step)?.maps.push(Mapping { reads, writes: None, ranges: Vec::new() });
         let level = self.level_of(to)?.level;
         if note == Note::Moved {
             // What was under the path is gone.
@@ -163,10 +171,14 @@ impl World<'_> {
             "link" => (("AT_FDCWD", call.arg(0)), ("AT_FDCWD", call.arg(1))),
             _ => ((call.arg(0), call.arg(1)), (call.arg(2), call.arg(3))),
         };
-        let from = self.named(step, from.0, from.1)?;
         let to = self.named(step, to.0, to.1)?;
+        if let Some(own) = self.linked_descriptor(step, from)? {
+            return self.links_own(step, own, to);
+        }
+        let from = self.named(step, from.0, from.1)?;
         if self.is_between_levels(&from, &to)? {
-            return self.copies(step, &from, &to, Note::Linked).map(drop);
+            let is_granted = self.copies(step, &from, &to, Note::Linked)?;
+            return if is_granted { self.stop_at_link(&to) } else { Ok(()) };
         }
         let level = self.level_of(&from)?.level;
         if let (Level::At(_), None) = (level, self.files.find(&from)) {
@@ -177,6 +189,47 @@ impl World<'_> {
             None => self.left(Left::ByLevels),
         }
         Ok(())
+    }
+
+    /// The descriptor that a link gives a path to: by AT_EMPTY_PATH, or by its own path in /proc.
+    fn linked_descriptor(&mut self, step: u32, (folder, path): (&str, &str)) -> Done<Option<Descriptor>> {
+        if string(path).is_some_and(|path| path.is_empty()) {
+            let own = fd(folder).and_then(|fd| self.step(step).ok()?.table.get(&fd.number).cloned());
+            return Ok(own);
+        }
+        let key = self.named(step, folder, path)?;
+        self.own_descriptor(step, &key)
+    }
+
+    /// A file that is open comes under a path, as one that was made without a name.
+    fn links_own(&mut self, step: u32, own: Descriptor, to: Key) -> Done {
+        let object = own.reads.or(own.writes).map(|end| end.object);
+        let Some(source) = object.and_then(|object| self.files.at(object)) else {
+            self.left(own.left);
+            return Ok(());
+        };
+        let before = Level::At(self.files.file(source).level);
+        if !is_other(before, self.level_of(&to)?.level) {
+            self.files.add_key(source, to);
+            return Ok(());
+        }
+        let has_name = object.is_some_and(|object| !self.files.is_nameless(object));
+        if !self.copies_to(step, source, &to, Note::Linked)? {
+            return Ok(());
+        }
+        match self.files.find(&to) {
+            Some(target) if !has_name => self.follow(source, target)?,
+            _ => return self.stop_at_link(&to),
+        }
+        self.reap()
+    }
+
+    /// What is written under the one path shows under the other: a file cannot have both levels.
+    fn stop_at_link(&self, to: &[u8]) -> Done {
+        self.stop(format!(
+            "\"{}\" is made another path of a file that has another level. Give both paths one level in the levels file",
+            shown(to)
+        ))
     }
 
     /// symlink and symlinkat.
@@ -230,4 +283,9 @@ impl World<'_> {
             }
         }
     }
+}
+
+/// Whether both are levels, and not the same.
+fn is_other(before: Level, after: Level) -> bool {
+    matches!((before, after), (Level::At(before), Level::At(after)) if before != after)
 }

@@ -96,7 +96,7 @@ impl World<'_> {
     }
 
     /// The descriptor that a path as /dev/fd/63 or /dev/stdin stands for.
-    fn own_descriptor(&self, step: u32, key: &[u8]) -> Done<Option<Descriptor>> {
+    pub fn own_descriptor(&self, step: u32, key: &[u8]) -> Done<Option<Descriptor>> {
         let fronts: [&[u8]; 3] = [b"/dev/fd/", b"/proc/self/fd/", b"/proc/thread-self/fd/"];
         let number = match key {
             b"/dev/stdin" => Some(0),

@@ -151,6 +151,8 @@ impl World<'_> {
 
     /// A process or thread has ended. The step ends with the last one of it.
     pub fn ends(&mut self, process: u32) -> Done {
+        // Who is killed in the middle of a write may have written.
+        self.settle()?;
         let Some(task) = self.tasks.remove(&process) else { return Ok(()) };
         let child = task.pending.and_then(|pending| pending.child);
         if let Some(child) = child.filter(|child| !child.is_bound && child.step != task.step) {

@@ -120,6 +120,49 @@ fn links_that_the_run_makes_are_followed() {
 }
 
 #[test]
+fn a_file_without_a_name_may_get_one() {
+    let made = "1 openat(AT_FDCWD, \".\", O_RDWR|O_TMPFILE, 0600) = 3";
+    let named = format!(
+        "{made}\n1 linkat(AT_FDCWD, \"/proc/self/fd/3\", AT_FDCWD, \"high\", AT_SYMLINK_FOLLOW) = 0"
+    );
+    // It was made at level 15: a copy goes down to 12, and what was open on it is open on the copy.
+    let copied = [
+        "open-read 0 1 2",
+        "register 2 12",
+        "open-write 0 2 3",
+        "read 0 2",
+        "write 0 3",
+        "close 0 3",
+        "close 0 2",
+        "open-read 0 2 2",
+        "open-write 0 2 3",
+        "close 0 0",
+        "close 0 1",
+        "retire 1",
+    ];
+    assert_eq!(calls(&named)[3..], copied);
+    let empty = format!("{made}\n1 linkat(3, \"\", AT_FDCWD, \"any\", AT_EMPTY_PATH) = 0\n1 close(3) = 0");
+    assert_eq!(calls(&empty)[3..], ["close 0 0", "close 0 1"]);
+    // What the run did not make has no level that anybody vouches for.
+    assert_eq!(refusals("1 rename(\"own\", \"high\") = 0", LEVELS), ["open-write 0 2 1"]);
+}
+
+#[test]
+fn a_file_cannot_have_two_levels() {
+    let (line, message) = stop(&format!("{START}\n1 link(\"high\", \"low\") = 0"), LEVELS);
+    assert!(line == 2 && message.contains("\"low\" is made another path"), "{line}: {message}");
+}
+
+#[test]
+fn who_is_killed_in_a_write_may_have_written() {
+    let lines = "1 pipe([3, 4]) = 0\n1 fork() = 2\n1 close(4) = 0\n2 close(3) = 0\n\
+                 2 openat(AT_FDCWD, \"low\", O_RDONLY) = 3\n2 read(3, \"\", 1) = 1\n\
+                 2 write(4, \"\", 1 <unfinished ...>\n2 +++ killed by SIGKILL +++\n1 read(3, \"\", 1) = 1\n1 close(3) = 0\n\
+                 1 openat(AT_FDCWD, \"mid\", O_WRONLY) = 3";
+    assert_eq!(refusals(lines, LEVELS), ["open-write 0 1 0"]);
+}
+
+#[test]
 fn folders_are_followed() {
     let lines =
         "1 openat(AT_FDCWD, \"in.d\", O_RDONLY|O_DIRECTORY) = 3\n1 openat(3, \"a\", O_RDONLY) = 4\n\
