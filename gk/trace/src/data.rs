@@ -88,7 +88,7 @@ impl World<'_> {
     pub fn end_for(&mut self, step: u32, fd: Fd, way: Way) -> Done<Option<End>> {
         let unknown = || Descriptor::left(Left::Unknown, None);
         let own = self.step_mut(step)?.table.entry(fd.number).or_insert_with(unknown).clone();
-        let end = if way == Way::Writes { own.writes } else { own.reads };
+        let end = own.end(way);
         if end.is_some() {
             return Ok(end);
         }

@@ -8,7 +8,7 @@ use crate::open::path_args;
 use crate::paths::{joined, Key};
 use crate::report::{Left, Note};
 use crate::text::shown;
-use crate::world::{Descriptor, Done, Mapping, World};
+use crate::world::{Descriptor, Done, Mapping, World, STEPS};
 
 impl World<'_> {
     /// unlink and unlinkat: the file is retired, at once or when its last handle goes.
@@ -138,31 +138,35 @@ impl World<'_> {
         Ok(writes.is_some())
     }
 
-    /// Moves every handle on one file to another, as far as it is granted.
+    /// Moves every handle on one file to another, as far as it is granted: first those that write, so that what the one
+    /// file demands is in nobody's way.
     fn follow(&mut self, old: usize, new: usize) -> Done {
         let (old, new) = (self.object_of(old)?, self.object_of(new)?);
-        for step in 0..self.steps.len() as u32 {
-            let Ok(own) = self.step(step) else { continue };
-            let is_on_old = |end: Option<crate::world::End>| end.is_some_and(|end| end.object == old);
-            let fds: Vec<i32> = own
-                .table
-                .iter()
-                .filter(|(_, d)| is_on_old(d.reads) || is_on_old(d.writes))
-                .map(|(&fd, _)| fd)
-                .collect();
-            for fd in fds {
-                let Some(mut moved) = self.step(step)?.table.get(&fd).cloned() else { continue };
-                let (reads, writes) = (moved.reads.map(|_| new), moved.writes.map(|_| new));
-                let Some(ends) = self.open_both(step, reads, writes)? else { continue };
-                let is_marked = std::mem::replace(&mut moved.ends_at_exec, false);
-                (moved.reads, moved.writes) = ends;
-                self.put(step, fd, moved)?;
-                if is_marked {
-                    self.end_at_exec(step, fd)?;
+        for way in [Way::Writes, Way::Reads] {
+            for step in 0..STEPS {
+                let Ok(own) = self.step(step) else { continue };
+                let is_on_old = |own: &Descriptor| own.end(way).is_some_and(|end| end.object == old);
+                let fds: Vec<i32> =
+                    own.table.iter().filter(|(_, own)| is_on_old(own)).map(|(&fd, _)| fd).collect();
+                for fd in fds {
+                    self.follow_one(step, fd, new, way)?;
                 }
             }
         }
         Ok(())
+    }
+
+    fn follow_one(&mut self, step: u32, fd: i32, new: u32, way: Way) -> Done {
+        let Some(end) = self.open(step, new, way)? else { return Ok(()) };
+        let Some(own) = self.step_mut(step)?.table.get_mut(&fd) else { return Ok(()) };
+        let old = if way == Way::Writes { own.writes.replace(end) } else { own.reads.replace(end) };
+        if own.ends_at_exec {
+            self.make(Call::Mark { subject: step, place: end.place })?;
+        }
+        match old {
+            Some(old) => self.close(step, old),
+            None => Ok(()),
+        }
     }
 
     /// link and linkat: one file under two paths.
@@ -227,7 +231,7 @@ impl World<'_> {
     /// What is written under the one path shows under the other: a file cannot have both levels.
     fn stop_at_link(&self, to: &[u8]) -> Done {
         self.stop(format!(
-            "\"{}\" is made another path of a file that has another level. Give both paths one level in the levels file",
+            "\"{}\" is made another path of a file that has another level. Give both one level in the levels file",
             shown(to)
         ))
     }

@@ -323,6 +323,14 @@ impl Descriptor {
         Descriptor { reads, writes, left: Left::Unknown, path, ends_at_exec: false, birth: 0 }
     }
 
+    pub fn end(&self, way: Way) -> Option<End> {
+        if way == Way::Writes {
+            self.writes
+        } else {
+            self.reads
+        }
+    }
+
     pub fn is_held(&self) -> bool {
         self.reads.is_some() || self.writes.is_some()
     }
