@@ -7,7 +7,7 @@ use gatekeeper::{Call, Way};
 
 use crate::call::{fd, field, noted_path, Fd, Sys};
 use crate::report::{Left, Note};
-use crate::world::{Descriptor, Done, End, Move, World};
+use crate::world::{Descriptor, Done, End, Move, Step, World};
 
 /// Which argument of a call is read from, and which is written to.
 type Args = (Option<usize>, Option<usize>);
@@ -156,8 +156,7 @@ impl World<'_> {
     /// Who shares the step's memory has read what it has read.
     pub fn peers_read(&mut self, step: u32, object: u32) -> Done {
         let memory = self.step(step)?.memory;
-        let is_peer = |(number, other): &(u32, &Option<_>)| {
-            let other: &Option<crate::world::Step> = other;
+        let is_peer = |(number, other): &(u32, &Option<Step>)| {
             *number != step && other.as_ref().is_some_and(|other| other.memory == memory)
         };
         let peers: Vec<u32> = (0..).zip(&self.steps).filter(is_peer).map(|(number, _)| number).collect();
@@ -210,7 +209,7 @@ impl World<'_> {
             if moves.is_empty() {
                 return Ok(());
             }
-            for (step, next) in moves.into_iter() {
+            for (step, next) in moves {
                 match next {
                     _ if !self.lowers(step, next) => {}
                     Move::Read(end) => self.read(step, end)?,

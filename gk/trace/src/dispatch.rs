@@ -36,12 +36,8 @@ impl World<'_> {
         let Some(step) = self.tasks.get(&process).map(|task| task.step) else { return Ok(()) };
         for next in pending.moves {
             match next {
-                Move::Read(end) if self.journal.handle(step, end.place).is_some() => {
-                    self.read(step, end)?
-                }
-                Move::Write(end) if self.journal.handle(step, end.place).is_some() => {
-                    self.write(step, end)?
-                }
+                Move::Read(end) if self.is_there(step, end, true) => self.read(step, end)?,
+                Move::Write(end) if self.is_there(step, end, false) => self.write(step, end)?,
                 _ => {}
             }
         }

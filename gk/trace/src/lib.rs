@@ -9,39 +9,40 @@
 //!
 //! | module | has |
 //! |---|---|
-//! | [`line`], [`call`], [`text`] | lines and calls as strace writes them |
-//! | [`levels`], [`glob`] | the levels file and its patterns |
-//! | [`run`], [`dispatch`] | a trace from its first line to its last, and each call of it |
-//! | [`world`], [`files`], [`journal`] | steps, files and pipes with their numbers; the journal |
-//! | [`open`], [`data`], [`table`], [`maps`], [`moves`], [`steps`], [`paths`] | what each call comes to |
-//! | [`kinds`], [`report`] | what is left out, and the report |
-//! | [`names`] | the names file |
-//! | [`cli`], [`output`] | the command `gk trace` |
+//! | `line`, `call`, `text` | lines and calls as strace writes them |
+//! | `levels`, `glob` | the levels file and its patterns |
+//! | `run`, `dispatch` | a trace from its first line to its last, and each call of it |
+//! | `world`, `files`, `journal` | steps, files and pipes with their numbers; the journal |
+//! | `open`, `data`, `table`, `maps`, `moves`, `steps`, `paths` | what each call comes to |
+//! | `kinds`, `report` | what is left out, and the report |
+//! | `names` | the names file |
+//! | [`cli`], `output` | the command `gk trace` |
 
-pub mod call;
+mod call;
 pub mod cli;
-pub mod data;
-pub mod dispatch;
-pub mod files;
-pub mod glob;
-pub mod journal;
-pub mod kinds;
-pub mod levels;
-pub mod line;
-pub mod maps;
-pub mod moves;
-pub mod names;
-pub mod open;
-pub mod output;
-pub mod paths;
-pub mod report;
-pub mod run;
-pub mod steps;
-pub mod table;
-pub mod text;
-pub mod world;
+mod data;
+mod dispatch;
+mod files;
+mod glob;
+mod journal;
+mod kinds;
+mod levels;
+mod line;
+mod maps;
+mod moves;
+mod names;
+mod open;
+mod output;
+mod paths;
+mod report;
+mod run;
+mod steps;
+mod table;
+mod text;
+mod world;
 
 pub use cli::main;
-pub use levels::Levels;
+pub use levels::{Fault, Levels};
+pub use report::Report;
 pub use run::{journal_of, Failure, Written};
-pub use world::Options;
+pub use world::{Options, Stop};

@@ -1,6 +1,6 @@
 //! Files that are mapped into memory.
 
-use gatekeeper::Way;
+use gatekeeper::{Call, Way};
 
 use crate::call::{fd, has_flag, whole_number, Outcome, Sys};
 use crate::report::{Left, Note};
@@ -51,7 +51,7 @@ impl World<'_> {
         if let Some(end) = writes {
             self.write(step, end)?;
             // An exec ends a mapping, and so it must end this handle.
-            self.make(gatekeeper::Call::Mark { subject: step, place: end.place })?;
+            self.make(Call::Mark { subject: step, place: end.place })?;
         }
         let own = self.step_mut(step)?.maps.iter_mut().find(|mapping| mapping.reads.object == object);
         if let Some(mapping) = own {

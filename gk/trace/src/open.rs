@@ -4,13 +4,14 @@ use gatekeeper::{Call, Way};
 
 use crate::call::{fd, field, has_flag, noted_path, pair, string, Outcome, Sys};
 use crate::levels::{Level, TOP};
-use crate::paths::Key;
+use crate::paths::{Key, START};
 use crate::report::{Left, Note};
+use crate::text::shown;
 use crate::world::{Descriptor, Done, End, World};
 
 impl World<'_> {
     /// open, openat, openat2 and creat that have come out well.
-    pub fn opens(&mut self, step: u32, call: &Sys, number: i32, shown: &str) -> Done {
+    pub fn opens(&mut self, step: u32, call: &Sys, number: i32, result: &str) -> Done {
         let (folder, path, flags) = match call.name {
             "open" => ("AT_FDCWD", call.arg(0), call.arg(1)),
             "creat" => ("AT_FDCWD", call.arg(0), "O_WRONLY|O_CREAT|O_TRUNC"),
@@ -25,7 +26,7 @@ impl World<'_> {
             Some(own) => self.open_again(step, &own, flags)?,
             None => {
                 // The path that strace -y writes is the real one.
-                let real = noted_path(fd(shown).and_then(|fd| fd.note)).map(|path| self.paths.key(&path));
+                let real = noted_path(fd(result).and_then(|fd| fd.note)).map(|path| self.paths.key(&path));
                 self.open_key(step, real.unwrap_or(named), flags)?
             }
         };
@@ -74,10 +75,10 @@ impl World<'_> {
 
     /// Says that a step is in this folder.
     pub fn is_in(&mut self, step: u32, folder: &[u8]) -> Done {
-        if self.paths.start().is_none() && self.step(step)?.folder == crate::paths::START {
+        if self.paths.start().is_none() && self.step(step)?.folder == START {
             self.paths.set_start(folder);
             if let Err(key) = self.files.rekey(&self.paths) {
-                let key = crate::text::shown(&key);
+                let key = shown(&key);
                 return self.stop(format!(
                     "\"{key}\" has come under two paths before the trace says which folder the run was started in. \
                      Give it with --folder"
@@ -307,7 +308,7 @@ fn special(key: &[u8]) -> Option<Left> {
     }
 }
 
-/// The path of a call that has one in its first arguments, whatever its kind; for calls that change a file by path.
+/// The folder and the path that a call names first.
 pub fn path_args<'a>(call: &Sys<'a>) -> (&'a str, &'a str) {
     match call.name {
         name if name.ends_with("at") => (call.arg(0), call.arg(1)),

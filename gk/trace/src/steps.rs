@@ -7,6 +7,7 @@ use crate::levels::Level;
 use crate::names::Kind;
 use crate::paths::{last_name, Key, START};
 use crate::report::{Left, Note};
+use crate::text::shown;
 use crate::world::{Child, Descriptor, Done, Step, Task, World, PLACES};
 
 /// The names that strace has for calls which make a process or thread.
@@ -86,8 +87,7 @@ impl World<'_> {
 
     /// A step with the same handles.
     fn copy_step(&mut self, process: u32, step: u32, shares_memory: bool) -> Done<u32> {
-        let program = self.step(step)?.program.clone();
-        let program = crate::text::shown(program.as_bytes());
+        let program = shown(self.step(step)?.program.as_bytes());
         let child = self.free_step(&format!("the process that process {process} ({program}) starts"))?;
         self.make(Call::Fork { subject: step, child })?;
         let memory = self.tick();
@@ -126,7 +126,7 @@ impl World<'_> {
                 .table
                 .iter()
                 .filter(|(fd, _)| !own.contains_key(fd))
-                .map(|(&fd, d)| (fd, d.clone()))
+                .map(|(&fd, descriptor)| (fd, descriptor.clone()))
                 .collect();
             for (fd, mut descriptor) in more {
                 let (reads, writes) =
@@ -168,6 +168,7 @@ impl World<'_> {
     fn leave(&mut self, step: u32) -> Done {
         self.make(Call::Exit { subject: step })?;
         self.steps[step as usize] = None;
+        self.orphans.retain(|child| child.step != step);
         self.reap()
     }
 
