@@ -191,14 +191,14 @@ impl World<'_> {
                 task.step = child;
             }
         }
-        let key = self.program_of(step, call)?;
-        let found = self.level_of(&key)?;
-        let is_granted = match found.level {
-            Level::Out => {
+        let (key, object) = self.program_of(step, call)?;
+        let is_granted = match (object, self.level_of(&key)?.level) {
+            (Some(object), _) => self.make(Call::Exec { subject: step, object })?,
+            (None, Level::Out) => {
                 self.note(Note::Hidden);
                 false
             }
-            level => {
+            (None, level) => {
                 let id = self.file_at(step, &key, level, false)?;
                 let object = self.object_of(id)?;
                 self.make(Call::Exec { subject: step, object })?
@@ -216,22 +216,33 @@ impl World<'_> {
         Ok(())
     }
 
-    /// The file of the program.
-    fn program_of(&mut self, step: u32, call: &Sys) -> Done<Key> {
-        if call.name != "execveat" {
-            return self.named(step, "AT_FDCWD", call.arg(0));
+    /// The path of the program's file. One that is run by a descriptor and has no path has its number.
+    fn program_of(&mut self, step: u32, call: &Sys) -> Done<(Key, Option<u32>)> {
+        let (folder, path) = match call.name {
+            "execveat" => (call.arg(0), call.arg(1)),
+            _ => ("AT_FDCWD", call.arg(0)),
+        };
+        let own = if string(path).is_some_and(|path| path.is_empty()) {
+            let found = fd(folder);
+            if let Some(path) = found.and_then(|fd| noted_path(fd.note)) {
+                return Ok((self.paths.key(&path), None));
+            }
+            found.and_then(|fd| self.step(step).ok()?.table.get(&fd.number).cloned())
+        } else {
+            let key = self.named(step, folder, path)?;
+            match self.own_descriptor(step, &key)? {
+                None => return Ok((key, None)),
+                own => own,
+            }
+        };
+        let object = own.as_ref().and_then(|own| own.reads.or(own.writes)).map(|end| end.object);
+        match (own.and_then(|own| own.path), object.filter(|&object| !self.journal.is_pipe(object))) {
+            (Some(key), _) => Ok((key, None)),
+            (None, Some(object)) => Ok((b"a program without a name".to_vec(), Some(object))),
+            (None, None) => {
+                self.stop("the file of the program is not in the trace: trace with strace -y".to_string())
+            }
         }
-        if string(call.arg(1)).is_some_and(|path| path.is_empty()) {
-            let found = fd(call.arg(0));
-            let noted = found.and_then(|fd| noted_path(fd.note)).map(|path| self.paths.key(&path));
-            let known = found.and_then(|fd| self.step(step).ok()?.table.get(&fd.number)?.path.clone());
-            return match noted.or(known) {
-                Some(key) => Ok(key),
-                None => self
-                    .stop("the file of the program is not in the trace: trace with strace -y".to_string()),
-            };
-        }
-        self.named(step, call.arg(0), call.arg(1))
     }
 
     /// What an exec closes is gone. Where the gatekeeper did not close it, as it refused the exec, it is closed

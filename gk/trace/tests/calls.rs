@@ -126,6 +126,24 @@ fn a_refused_exec_closes_what_the_run_closed() {
 }
 
 #[test]
+fn programs_may_be_run_by_a_descriptor() {
+    let open = "1 openat(AT_FDCWD, \"low.sh\", O_RDONLY) = 5";
+    for exec in ["execve(\"/proc/self/fd/5\", [], 0x1)", "execveat(5, \"\", [], 0x1, AT_EMPTY_PATH)"] {
+        assert_eq!(
+            calls(&format!("{open}\n1 {exec} = 0")),
+            ["register 1 2", "open-read 0 1 0", "exec 0 1"]
+        );
+    }
+    let noted = "1 execveat(5</run/low.sh>, \"\", [], 0x1, AT_EMPTY_PATH) = 0";
+    assert_eq!(calls(&format!("1 getcwd(\"/run\", 9) = 5\n{noted}")), ["register 1 2", "exec 0 1"]);
+    let made = "1 memfd_create(\"x\", 0) = 5\n1 execveat(5, \"\", [], 0x1, AT_EMPTY_PATH) = 0";
+    assert_eq!(calls(made), ["create 0 1", "open-read 0 1 0", "open-write 0 1 1", "exec 0 1"]);
+    let (line, message) =
+        stop(&format!("{START}\n1 execveat(5, \"\", [], 0x1, AT_EMPTY_PATH) = 0"), LEVELS);
+    assert!(line == 2 && message.contains("the file of the program is not in the trace"), "{message}");
+}
+
+#[test]
 fn nothing_is_done_with_what_is_refused() {
     let lines = "1 openat(AT_FDCWD, \"high\", O_WRONLY) = 3\n1 openat(AT_FDCWD, \"low\", O_RDWR) = 4\n\
                  1 dup2(4, 0) = 0\n\
