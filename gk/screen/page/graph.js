@@ -7,7 +7,10 @@ const LINE = 58;
 const LEFT = 70;
 /** Where the level of a row stands; no name goes there. */
 const LABELS = 52;
-const MOST_LINES = 16;
+/** Up to so many spots, a thing has its own for the whole run; above, rows are laid out anew for each record. */
+const MOST_SPOTS = 120;
+/** Above so many flows, those of the things that the record is about stand out. */
+const MOST_FLOWS = 90;
 const MOST_LETTERS = 22;
 const SVG = "http://www.w3.org/2000/svg";
 
@@ -53,7 +56,6 @@ class Layout {
       }
       top += height + 4;
     }
-    this.lines = this.bands.reduce((sum, band) => sum + Math.round((band.height - 4) / LINE), 0);
     this.height = top;
   }
 
@@ -120,12 +122,10 @@ for (const name of ["bands", "edges", "things", "flags"]) {
 }
 
 /** The layout for a record: the same for all of them, or where too many things were ever there, its own. */
-function layoutFor(position, things) {
+function layoutFor(things) {
   const width = Math.max(320, graph.clientWidth || 860);
-  if (fixed === null || fixed.width !== width) {
-    fixed = new Layout(width, EVER);
-  }
-  if (fixed.lines <= MOST_LINES) {
+  if (EVER.reduce((sum, things) => sum + things.size, 0) <= MOST_SPOTS) {
+    fixed = fixed?.width === width ? fixed : new Layout(width, EVER);
     return fixed;
   }
   const lists = Array.from({ length: 16 }, () => []);
@@ -150,7 +150,7 @@ function draw(position, state, before, said) {
       ghosts.push([thing, before.level[thing], before.kind[thing]]);
     }
   }
-  const layout = layoutFor(position, placed.concat(ghosts));
+  const layout = layoutFor(placed.concat(ghosts));
   graph.setAttribute("height", layout.height);
   graph.setAttribute("viewBox", `0 0 ${layout.width} ${layout.height}`);
   graph.classList.toggle("dim", said.chain.length > 0 || said.letter === "L");
@@ -197,10 +197,20 @@ function groupOf(key, thing, kind) {
     group.append(drawn("text", { y: 4 }, String(thing < STEPS ? thing : thing - STEPS)));
     group.append(drawn("text", { y: 25, class: "need" }), drawn("text", { y: -18, class: "name" }));
     group.dataset.shape = shape;
+    group.addEventListener("pointerenter", () => pick(thing));
+    group.addEventListener("pointerleave", () => pick(-1));
     shown.set(key, group);
     layers.things.append(group);
   }
   return group;
+}
+
+/** Makes the handles on a thing stand out, while the pointer is on it. */
+function pick(thing) {
+  for (const edge of layers.edges.children) {
+    const isPicked = edge.dataset.from === String(thing) || edge.dataset.to === String(thing);
+    edge.classList.toggle("picked", isPicked);
+  }
 }
 
 function drawThings(layout, placed, ghosts, state, said, chain, position) {
@@ -280,7 +290,10 @@ function drawEdges(layout, state, before, said, chain) {
     }
     const shape = (thing) => shapeOf(thing, state.kind[thing] || 2);
     const { path, flag } = bent(one, other, shape(from), shape(to), 0.16);
-    layers.edges.append(drawn("path", { d: path, class: `edge ${classes}`, "marker-end": `url(#${tip})` }));
+    const near = said.about.includes(from) || said.about.includes(to) ? "near" : "";
+    const edge = drawn("path", { d: path, class: `edge ${classes} ${near}`, "marker-end": `url(#${tip})` });
+    [edge.dataset.from, edge.dataset.to] = [from, to];
+    layers.edges.append(edge);
     return flag;
   };
 
@@ -291,6 +304,7 @@ function drawEdges(layout, state, before, said, chain) {
     const flow = flows.get(key) ?? { maps: true, marked: true };
     flows.set(key, { maps: flow.maps && way === MAPS, marked: flow.marked && marked });
   });
+  graph.classList.toggle("many", flows.size > MOST_FLOWS);
   const last = [];
   for (const [key, flow] of flows) {
     const [from, to] = [Math.floor(key / THINGS), key % THINGS];

@@ -226,15 +226,18 @@ document.addEventListener("keydown", (event) => {
   }
 });
 
-/** Refusals and falls along the slider, a mark for each pixel that has one. */
+/** Refusals and falls along the slider: at each pixel a mark, as high as the share of its records that have one. */
 function drawStrip() {
   const strip = byId("strip");
   const width = Math.max(100, strip.clientWidth || 800);
   const at = (position) => Math.round(8 + ((width - 16) * position) / Math.max(1, LAST));
+  const perPixel = Math.max(1, LAST / (width - 16));
   strip.replaceChildren(drawn("path", { d: `M8 13.5H${width - 8}`, class: "strip-rule" }));
-  for (const [list, top, name] of [[LOWERED, 5, "strip-lowered"], [REFUSED, 0, "strip-refused"]]) {
-    const path = [...new Set(list.map(at))].map((x) => `M${x} ${top}V13`).join("");
-    strip.append(drawn("path", { d: path, class: name }));
+  for (const [list, name] of [[LOWERED, "strip-lowered"], [REFUSED, "strip-refused"]]) {
+    const counts = new Map();
+    list.forEach((position) => counts.set(at(position), (counts.get(at(position)) ?? 0) + 1));
+    const mark = ([x, count]) => `M${x} ${Math.round(10 - 10 * Math.min(1, count / perPixel))}V13`;
+    strip.append(drawn("path", { d: [...counts].map(mark).join(""), class: name }));
   }
 }
 

@@ -129,12 +129,11 @@ fn wish(args: &[String]) -> Result<Wish, Failure> {
                 continue;
             }
             _ => {
-                let advice = meant(name, &OPTIONS)
-                    .map_or(String::new(), |option| format!("; did you mean {option}?"));
-                let dot = if advice.is_empty() { "" } else { " " };
-                return usage(
-                    format!("there is no option '{}'{advice}{dot}", shown(arg)).trim_end().to_string(),
-                );
+                let advice = match meant(name, &OPTIONS) {
+                    Some(option) => format!(". Did you mean {option}"),
+                    None => String::new(),
+                };
+                return usage(format!("there is no option '{}'{advice}", shown(arg)));
             }
         }
         if given.is_some() {
@@ -181,6 +180,9 @@ fn perform(wish: &Wish) -> Result<(), Failure> {
     if let Some(at) = wish.at.filter(|&at| at > records) {
         return Err(Failure::Usage(format!("there is no record {at}: the journal has {records}")));
     }
+    if looks_like_text(&journal) {
+        remark("this looks like a text and not like a journal. From words to a journal: gk assemble TEXT > JOURNAL");
+    }
     if wish.is_page {
         return write(page(&journal, &title, &names, wish.at).as_bytes());
     }
@@ -215,6 +217,12 @@ fn checked(journal: &[u8]) -> Result<u64, Failure> {
         "the archive's replay and its calls differ at record {}: nothing is shown",
         same + 1
     )))
+}
+
+/// Whether letters stand where a journal's first lengths and codes would.
+fn looks_like_text(journal: &[u8]) -> bool {
+    let is_letter = |byte: &u8| byte.is_ascii_graphic() || byte.is_ascii_whitespace();
+    !journal.is_empty() && journal.iter().take(16).all(is_letter)
 }
 
 /// The names of the file that is asked for, or of the one beside the journal.

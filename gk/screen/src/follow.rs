@@ -30,7 +30,11 @@ pub fn follow(path: &str, mut screen: Screen, is_coloured: bool) -> Result<(), F
         let mut lines = String::new();
         let mut is_over = more == More::End;
         let now = loop {
-            match run.next_growing(&journal) {
+            let next = match run.next_growing(&journal) {
+                Next::Unfinished if more == More::End => run.break_off(),
+                next => next,
+            };
+            match next {
                 Next::Turn(turn) => {
                     lines.push_str(&screen.take(&turn));
                     if matches!(turn.body, Body::Broken { .. }) {
@@ -38,7 +42,6 @@ pub fn follow(path: &str, mut screen: Screen, is_coloured: bool) -> Result<(), F
                         break Some("The journal is broken here: nothing behind it is read.");
                     }
                 }
-                Next::Unfinished if more == More::End => break Some("The journal ends within a record."),
                 Next::Unfinished => break Some("The next record is not whole yet."),
                 Next::End if more == More::Cut => {
                     is_over = true;

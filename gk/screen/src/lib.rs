@@ -25,6 +25,8 @@ mod state;
 mod terminal;
 mod text;
 mod told;
+#[cfg(test)]
+mod trials;
 mod words;
 
 /// Runs the duty screen with the arguments behind its name, and says its exit status.

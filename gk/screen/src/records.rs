@@ -97,7 +97,7 @@ impl Run {
                 self.turn(call)
             }
             Cut::Unfinished => Next::Unfinished,
-            Cut::Broken => self.stop(Body::Broken { offset: self.offset }, Refusal::JournalBroken),
+            Cut::Broken => self.break_off(),
         }
     }
 
@@ -109,13 +109,18 @@ impl Run {
             self.next_growing(journal)
         };
         let next = match next {
-            Next::Unfinished => self.stop(Body::Broken { offset: self.offset }, Refusal::JournalBroken),
+            Next::Unfinished => self.break_off(),
             next => next,
         };
         match next {
             Next::Turn(turn) => Some(turn),
             Next::End | Next::Unfinished => None,
         }
+    }
+
+    /// The record that is not whole and never will be.
+    pub fn break_off(&mut self) -> Next {
+        self.stop(Body::Broken { offset: self.offset }, Refusal::JournalBroken)
     }
 
     fn turn(&mut self, call: Result<(u32, [u32; 6]), (u32, Refusal)>) -> Next {

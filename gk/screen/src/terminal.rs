@@ -250,6 +250,9 @@ impl Screen {
             let indent = width(&start);
             lines.extend(wrapped(&start, &held, indent).into_iter().map(|line| Line(Look::Plain, line)));
         }
+        if rows.is_empty() {
+            lines.push(Line(Look::Plain, "no step runs".to_string()));
+        }
         lines
     }
 
@@ -290,6 +293,9 @@ impl Screen {
                 lines
             };
             lines.extend(text.into_iter().map(|line| Line(Look::Plain, line)));
+        }
+        if rows.is_empty() {
+            lines.push(Line(Look::Plain, "no file and no pipe".to_string()));
         }
         lines
     }
