@@ -5,7 +5,10 @@ const MOST_LINKS = 9;
 const MOST_REFUSALS = 200;
 const LAST = RECORDS.length;
 const byId = (id) => document.getElementById(id);
+/** The address follows once no key has been pressed for so many milliseconds: browsers stop a page that changes it often. */
+const SETTLED = 300;
 let current = -1;
+let settling = 0;
 
 /** An element of the page with a text. */
 function made(tag, inner, classes) {
@@ -46,9 +49,8 @@ function show(position) {
   draw(to, state, before, said);
   showSteps(to, state, before);
   showObjects(to, state, before);
-  if (location.hash !== `#${to}`) {
-    history.replaceState(null, "", `#${to}`);
-  }
+  clearTimeout(settling);
+  settling = setTimeout(() => history.replaceState(null, "", `#${current}`), SETTLED);
 }
 
 function showWhere(to, said) {
