@@ -2,7 +2,9 @@
 // The graph: rows by level, the highest on top; in a row the things in the order of the run, a long row in lines that
 // turn at their ends, so that a chain of pipes stays a chain.
 
-const SLOT = 44;
+/** The least and the most room for a thing in a line. */
+const SLOT = 42;
+const MOST_SLOT = 60;
 const LINE = 58;
 const LEFT = 70;
 /** Where the level of a row stands; no name goes there. */
@@ -33,15 +35,20 @@ function drawn(tag, attributes, inner) {
 class Layout {
   constructor(width, lists) {
     this.width = width;
-    this.perLine = Math.max(4, Math.floor((width - LEFT - 6) / SLOT));
+    this.room = width - LEFT - 6;
+    this.perLine = Math.max(4, Math.floor(this.room / SLOT));
     this.spots = new Map();
     this.bands = [];
     this.column = new Map();
     this.taken = [];
     let top = 4;
     const sorted = lists.map((list) => [...list].sort((one, other) => RANK[one] - RANK[other]));
-    const isLong = (list) => list.length > this.perLine;
+    const perLine = this.perLine;
+    const isLong = (list) => list.length > perLine;
     const long = sorted.map((list) => (isLong(list) ? this.turning(list) : []));
+    const most = Math.max(1, ...long.flat().map(([, column]) => column + 1));
+    this.pitch = Math.max(SLOT, Math.min(MOST_SLOT, this.room / most));
+    this.perLine = Math.max(perLine, Math.floor(this.room / this.pitch));
     const spots = sorted.map((list, level) => (isLong(list) ? long[level] : this.single(list)));
     for (let level = 15; level >= 0; level -= 1) {
       if (sorted[level].length === 0) {
@@ -51,7 +58,7 @@ class Layout {
       const height = lines * LINE + 4;
       this.bands.push({ level, top, height, isWide: !isLong(sorted[level]) });
       for (const [thing, column, line] of spots[level]) {
-        const spot = { x: LEFT + SLOT * (column + 0.5), y: top + LINE * line + 33, isWide: !isLong(sorted[level]) };
+        const spot = { x: LEFT + this.pitch * (column + 0.5), y: top + LINE * line + 31, isWide: !isLong(sorted[level]) };
         this.spots.set(level * THINGS + thing, spot);
       }
       top += height + 4;
@@ -95,7 +102,7 @@ class Layout {
 
   /** A column, or one near it where something of another row stands right above: so that no arrow runs through it. */
   beside(column) {
-    const free = [0, -2, 2, -4, 4].map((off) => column + off).find((at) => at >= 0 && !this.taken.includes(at));
+    const free = [0, 2, -2, 4, -4].map((off) => column + off).find((at) => at >= 0 && !this.taken.includes(at));
     return column === undefined ? undefined : free ?? column;
   }
 
@@ -195,7 +202,7 @@ function groupOf(key, thing, kind) {
     const [tag, attributes] = SHAPES[shape];
     group.append(drawn("title", {}), drawn(tag, { ...attributes, class: `shape ${shape}` }));
     group.append(drawn("text", { y: 4 }, String(thing < STEPS ? thing : thing - STEPS)));
-    group.append(drawn("text", { y: 25, class: "need" }), drawn("text", { y: -18, class: "name" }));
+    group.append(drawn("text", { y: 25, class: "need" }), drawn("text", { y: shape === "step" ? -18 : 26, class: "name" }));
     group.dataset.shape = shape;
     group.addEventListener("pointerenter", () => pick(thing));
     group.addEventListener("pointerleave", () => pick(-1));
@@ -258,7 +265,7 @@ function drawThings(layout, placed, ghosts, state, said, chain, position) {
 function bent(from, to, fromShape, toShape, share) {
   const [dx, dy] = [to.x - from.x, to.y - from.y];
   const length = Math.hypot(dx, dy) || 1;
-  const bend = length < 1.4 * SLOT ? 0 : Math.min(34, length * 0.14);
+  const bend = length < 1.1 * MOST_SLOT ? 0 : Math.min(34, length * 0.14);
   const middle = { x: from.x + dx / 2 + (dy / length) * bend, y: from.y + dy / 2 - (dx / length) * bend };
   const start = trimmed(from, middle, fromShape);
   const end = trimmed(to, middle, toShape);

@@ -3,10 +3,13 @@
 //! The first line is `names 1`. Each other line is empty, a comment (its first character is `#`), or a kind (`step`,
 //! `file` or `pipe`), a number, the record from which on the name holds, and the name, with one space between two of
 //! them. A number has the name that was given to it last; files and pipes share their numbers. A name is one thing's:
-//! given to another, it is no longer the first one's from that record on.
+//! given to another, it is no longer the first one's from that record on. And it goes with its thing: where a number is
+//! used again, a name from before is not the new thing's.
 
 use std::collections::BTreeMap;
 use std::path::{Path, PathBuf};
+
+use crate::state::{State, Thing};
 
 /// The longest names file that is read, in bytes.
 pub const LONGEST_FILE: usize = 1 << 22;
@@ -24,6 +27,8 @@ const KINDS: [&str; 3] = ["step", "file", "pipe"];
 pub struct Names {
     /// For each kind and number the names that it has, each with the record from which on; none where it has lost one.
     of: BTreeMap<(&'static str, u32), Vec<(u64, Option<String>)>>,
+    /// The record at which the last thing of a number went.
+    went: BTreeMap<Thing, u64>,
 }
 
 /// The names file of a journal: the same path with `.names` in the place of its ending.
@@ -45,6 +50,38 @@ impl Names {
         self.of.iter().flat_map(|(&(kind, n), given)| {
             given.iter().map(move |(from, name)| (kind, n, *from, name.as_deref()))
         })
+    }
+
+    /// Takes note of who goes with a record and who comes: a number that is used again has no name of before.
+    pub fn follow(&mut self, record: u64, before: &State, after: &State) {
+        if self.of.is_empty() {
+            return;
+        }
+        let things: Vec<Thing> = (0..96).map(Thing::from_index).collect();
+        for thing in things {
+            match (before.level(thing).is_some(), after.level(thing).is_some()) {
+                (true, false) => drop(self.went.insert(thing, record)),
+                (false, true) => {
+                    if let Some(went) = self.went.get(&thing).copied() {
+                        self.renew(thing, went, record);
+                    }
+                }
+                _ => {}
+            }
+        }
+    }
+
+    fn renew(&mut self, thing: Thing, went: u64, record: u64) {
+        let (kinds, number): (&[&str], u32) = match thing {
+            Thing::Step(s) => (&KINDS[..1], s),
+            Thing::Object(o) => (&KINDS[1..], o),
+        };
+        for (_, given) in self.of.iter_mut().filter(|((kind, n), _)| *n == number && kinds.contains(kind)) {
+            let behind = given.partition_point(|(from, _)| *from <= record);
+            if behind > 0 && given[behind - 1].0 <= went {
+                given.insert(behind, (record, None));
+            }
+        }
     }
 
     /// The names that the bytes of a file have; or the line, from 1, and what was expected there.
@@ -173,6 +210,25 @@ mod tests {
         assert_eq!(names.name("step", 3, 60), None);
         assert_eq!(names.name("step", 17, 40), Some("merge"));
         assert_eq!(names.name("step", 17, 50), Some("other"));
+    }
+
+    #[test]
+    fn a_name_goes_with_its_thing() {
+        let mut names =
+            Names::read(b"names 1\nstep 1 1 hours\nstep 2 1 merge\nstep 2 9 reader\n").expect("names");
+        let mut monitor = gatekeeper::Monitor::new();
+        let mut follow = |record, call: fn(&mut gatekeeper::Monitor, u32) -> gatekeeper::Answer| {
+            let before = State::of(&monitor);
+            for s in [1, 2] {
+                call(&mut monitor, s).granted().expect("it is allowed");
+            }
+            names.follow(record, &before, &State::of(&monitor));
+        };
+        follow(3, |monitor, s| monitor.admit(s, 9));
+        follow(8, |monitor, s| monitor.exit(s));
+        follow(9, |monitor, s| monitor.admit(s, 9));
+        assert_eq!((names.name("step", 1, 8), names.name("step", 1, 9)), (Some("hours"), None));
+        assert_eq!((names.name("step", 2, 8), names.name("step", 2, 9)), (Some("merge"), Some("reader")));
     }
 
     #[test]

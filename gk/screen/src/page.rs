@@ -77,6 +77,7 @@ fn quoted(text: &str) -> String {
 
 /// The run as numbers.
 fn data(journal: &[u8], names: &Names, at: Option<u64>) -> String {
+    let mut names = names.clone();
     let mut words = Words::default();
     let mut joins = Joins::new();
     let mut records = String::new();
@@ -91,6 +92,7 @@ fn data(journal: &[u8], names: &Names, at: Option<u64>) -> String {
             state = State::of(&turn.after);
             since = turn.position;
         }
+        names.follow(turn.position, &before, &state);
         let told = memory.tell(&turn, &before, &state);
         told.sought.iter().for_each(|&(from, to)| joins.refuse(from, to));
         if !records.is_empty() {

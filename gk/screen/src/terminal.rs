@@ -70,6 +70,7 @@ impl Screen {
         if turn.before != turn.after {
             self.state = State::of(&turn.after);
         }
+        self.names.follow(turn.position, &before, &self.state);
         let told = self.memory.tell(turn, &before, &self.state);
         self.position = turn.position;
         self.last = Some(self.record(turn, &told));

@@ -227,7 +227,7 @@ fn march_is_walked_by_keyboard() {
     let said = browser.value(SAID);
     let chain = [
         "hours sheet of shop 3 (file 1)level 2",
-        "enter the pay into the pay book (step 17)✗ refusedlevel 12",
+        "book entry (step 17)✗ refusedlevel 12",
         "pay book (file 0)level 9",
     ];
     assert_eq!(said.get("chain").texts(), chain);
