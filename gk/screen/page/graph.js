@@ -43,12 +43,16 @@ class Layout {
     this.taken = [];
     let top = 4;
     const sorted = lists.map((list) => [...list].sort((one, other) => RANK[one] - RANK[other]));
-    const perLine = this.perLine;
-    const isLong = (list) => list.length > perLine;
+    const isLong = (list) => list.length > this.perLine;
+    const lengths = sorted.filter(isLong).map((list) => this.lineLength(list));
+    if (lengths.length > 0) {
+      this.perLine = Math.max(...lengths, Math.floor(this.room / MOST_SLOT));
+    } else {
+      const most = Math.max(...sorted.map((list) => list.length));
+      this.perLine = Math.max(most, Math.min(this.perLine, Math.floor(this.room / MOST_SLOT)), 1);
+    }
+    this.pitch = this.room / this.perLine;
     const long = sorted.map((list) => (isLong(list) ? this.turning(list) : []));
-    const most = Math.max(1, ...long.flat().map(([, column]) => column + 1));
-    this.pitch = Math.max(SLOT, Math.min(MOST_SLOT, this.room / most));
-    this.perLine = Math.max(perLine, Math.floor(this.room / this.pitch));
     const spots = sorted.map((list, level) => (isLong(list) ? long[level] : this.single(list)));
     for (let level = 15; level >= 0; level -= 1) {
       if (sorted[level].length === 0) {
@@ -66,10 +70,14 @@ class Layout {
     this.height = top;
   }
 
+  /** How many things are in each line of a long row. */
+  lineLength(list) {
+    return Math.ceil(list.length / Math.ceil(list.length / this.perLine));
+  }
+
   /** Several lines, each turning where the one before ends. */
   turning(list) {
-    const lines = Math.ceil(list.length / this.perLine);
-    const length = Math.ceil(list.length / lines);
+    const length = this.lineLength(list);
     return list.map((thing, at) => {
       const line = Math.floor(at / length);
       const along = at % length;
