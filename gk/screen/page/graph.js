@@ -62,8 +62,8 @@ class Layout {
       const height = lines * LINE + 4;
       this.bands.push({ level, top, height, isWide: !isLong(sorted[level]) });
       for (const [thing, column, line] of spots[level]) {
-        const spot = { x: LEFT + this.pitch * (column + 0.5), y: top + LINE * line + 31, isWide: !isLong(sorted[level]) };
-        this.spots.set(level * THINGS + thing, spot);
+        const [x, y] = [LEFT + this.pitch * (column + 0.5), top + LINE * line + 31];
+        this.spots.set(level * THINGS + thing, { x, y, isWide: !isLong(sorted[level]) });
       }
       top += height + 4;
     }
@@ -125,10 +125,10 @@ const shown = new Map();
 let fixed = null;
 
 graph.append(drawn("defs", {}));
-for (const [id, name] of [["tip", "tip"], ["tip-about", "tip-about"], ["tip-refused", "tip-refused"], ["tip-fall", "tip-fall"]]) {
+for (const id of ["tip", "tip-about", "tip-refused", "tip-fall"]) {
   const marker = drawn("marker", { id, viewBox: "0 0 8 8", refX: 7, refY: 4, markerWidth: 8, markerHeight: 8,
     markerUnits: "userSpaceOnUse", orient: "auto" });
-  marker.append(drawn("path", { d: "M0 0.5L8 4L0 7.5z", class: name }));
+  marker.append(drawn("path", { d: "M0 0.5L8 4L0 7.5z", class: id }));
   graph.firstChild.append(marker);
 }
 for (const name of ["bands", "edges", "things", "flags"]) {
@@ -210,7 +210,8 @@ function groupOf(key, thing, kind) {
     const [tag, attributes] = SHAPES[shape];
     group.append(drawn("title", {}), drawn(tag, { ...attributes, class: `shape ${shape}` }));
     group.append(drawn("text", { y: 4 }, String(thing < STEPS ? thing : thing - STEPS)));
-    group.append(drawn("text", { y: 25, class: "need" }), drawn("text", { y: shape === "step" ? -18 : 26, class: "name" }));
+    const nameAt = shape === "step" ? -18 : 26;
+    group.append(drawn("text", { y: 25, class: "need" }), drawn("text", { y: nameAt, class: "name" }));
     group.dataset.shape = shape;
     group.addEventListener("pointerenter", () => pick(thing));
     group.addEventListener("pointerleave", () => pick(-1));
@@ -244,11 +245,14 @@ function drawThings(layout, placed, ghosts, state, said, chain, position) {
     const plain = `${shapeOf(thing, kind)} ${isStep ? thing : thing - STEPS}`;
     const own = nameOf(plain, position);
     const isGhost = classes.includes("ghost");
-    title.textContent = `${own ? `${own} (${plain})` : plain}, level ${level}` + (isStep && !isGhost ? `, may fall to ${state.need[thing]}` : "");
-    need.textContent = isStep && !isGhost ? `≥${state.need[thing]}` : "";
+    const hasNeed = isStep && !isGhost;
+    const floor = hasNeed ? `, may fall to ${state.need[thing]}` : "";
+    title.textContent = `${own ? `${own} (${plain})` : plain}, level ${level}${floor}`;
+    need.textContent = hasNeed ? `≥${state.need[thing]}` : "";
     const isEnd = thing === said.chain[0]?.[0] || thing === said.chain.at(-1)?.[0];
     const isNamed = !isGhost && (spot.isWide || classes.includes("about") || isEnd);
-    const label = own.length > MOST_LETTERS ? `${own.slice(0, MOST_LETTERS - 1)}…` : own || (spot.isWide ? plain : "");
+    const short = own.length > MOST_LETTERS ? `${own.slice(0, MOST_LETTERS - 1)}…` : own;
+    const label = short || (spot.isWide ? plain : "");
     name.textContent = isNamed ? label : "";
     const half = label.length * 3.1;
     const pushed = Math.max(0, LABELS + half - spot.x) - Math.max(0, spot.x + half + 4 - layout.width);
@@ -269,7 +273,7 @@ function drawThings(layout, placed, ghosts, state, said, chain, position) {
   }
 }
 
-/** A path from one spot to another that ends at the edge of both shapes, bent to the left of its way; and a point on it. */
+/** A path from one spot to another, from edge to edge of their shapes, bent to the left of its way; a point on it. */
 function bent(from, to, fromShape, toShape, share) {
   const [dx, dy] = [to.x - from.x, to.y - from.y];
   const length = Math.hypot(dx, dy) || 1;
@@ -278,7 +282,8 @@ function bent(from, to, fromShape, toShape, share) {
   const start = trimmed(from, middle, fromShape);
   const end = trimmed(to, middle, toShape);
   const round = (number) => Math.round(number * 10) / 10;
-  const along = (name) => (1 - share) ** 2 * start[name] + 2 * share * (1 - share) * middle[name] + share ** 2 * end[name];
+  const rest = 1 - share;
+  const along = (name) => rest ** 2 * start[name] + 2 * share * rest * middle[name] + share ** 2 * end[name];
   const flag = { x: round(along("x")), y: round(along("y")) };
   return {
     path: `M${round(start.x)} ${round(start.y)}Q${round(middle.x)} ${round(middle.y)} ${round(end.x)} ${round(end.y)}`,
@@ -357,5 +362,6 @@ function drawFall(layout, thing, from, to, shape) {
   }
   const { path, flag } = bent(one, other, shape, shape, 0.86);
   layers.edges.append(drawn("path", { d: path, class: "edge fall", "marker-end": "url(#tip-fall)" }));
-  layers.flags.append(drawn("text", { x: flag.x + 8, y: flag.y + 4, class: "flag fall" }, `↓ fell from ${from} to ${to}`));
+  const place = { x: flag.x + 8, y: flag.y + 4, class: "flag fall" };
+  layers.flags.append(drawn("text", place, `↓ fell from ${from} to ${to}`));
 }

@@ -84,7 +84,8 @@ function unpacked(text, at) {
 /** A record by its position, with the fields of its list named. */
 function record(position) {
   const [letter, value, code, changes, asked, why, ways, changed, about, chain, sought] = RECORDS[position - 1];
-  return { position, letter, value, code, changes, asked, why, ways, changed, about, chain: pairs(chain), sought: pairs(sought) };
+  const said = { asked, why, ways, changed, about, chain: pairs(chain), sought: pairs(sought) };
+  return { position, letter, value, code, changes, ...said };
 }
 
 function pairs(list) {
@@ -187,8 +188,8 @@ function ranges(list) {
       parts.push([number, number]);
     }
   }
-  const word = ([first, last]) => (last - first > 1 ? `${first} to ${last}` : last > first ? `${first}, ${last}` : `${first}`);
-  return parts.map(word).join(", ");
+  const word = ([first, last]) => `${first}${last - first > 1 ? " to " : ", "}${last}`;
+  return parts.map((part) => (part[0] === part[1] ? String(part[0]) : word(part))).join(", ");
 }
 
 /** What a thing is called without its name. */

@@ -5,7 +5,7 @@ const MOST_LINKS = 9;
 const MOST_REFUSALS = 200;
 const LAST = RECORDS.length;
 const byId = (id) => document.getElementById(id);
-/** The address follows once no key has been pressed for so many milliseconds: browsers stop a page that changes it often. */
+/** The address follows after so many milliseconds without a key: browsers stop a page that changes it too often. */
 const SETTLED = 300;
 let current = -1;
 let settling = 0;
@@ -55,7 +55,8 @@ function show(position) {
 
 function showWhere(to, said) {
   byId("slider").value = to;
-  byId("slider").setAttribute("aria-valuetext", to > 0 ? `record ${to} of ${LAST}, ${answerWords(said)}` : "before the first record");
+  const where = to > 0 ? `record ${to} of ${LAST}, ${answerWords(said)}` : "before the first record";
+  byId("slider").setAttribute("aria-valuetext", where);
   byId("number").value = to;
   byId("first").disabled = byId("back").disabled = to === 0;
   byId("next").disabled = byId("last").disabled = to === LAST;
@@ -74,7 +75,8 @@ function showSaid(to, said, state) {
   const isStart = to === 0;
   byId("position").textContent = isStart ? "Before the first record" : `Record ${to} of ${LAST}`;
   byId("line").textContent = isStart ? "" : replyLine(said);
-  byId("asked").textContent = isStart ? (LAST === 0 ? "The journal is empty: nothing is asked" : "Nothing is there yet") : text(said.asked, to);
+  const start = LAST === 0 ? "The journal is empty: nothing is asked" : "Nothing is there yet";
+  byId("asked").textContent = isStart ? start : text(said.asked, to);
   byId("answer").textContent = isStart ? "Empty tables, books open" : answerWords(said);
   byId("answer").className = said.letter || "none";
   showChain(to, said, state);
@@ -84,7 +86,8 @@ function showSaid(to, said, state) {
   const nothing = said.letter === "R" ? "Nothing: a refused call changes nothing." : "No level, no handle and no need.";
   items(byId("changed"), said.changed.length > 0 ? said.changed.map((phrase) => text(phrase, to)) : [nothing]);
   byId("changed-part").hidden = isStart;
-  byId("live").textContent = isStart ? "Before the first record" : `Record ${to}. ${byId("asked").textContent}. ${byId("answer").textContent}`;
+  const aloud = ["position", "asked", "answer"].map((id) => byId(id).textContent);
+  byId("live").textContent = `${aloud.join(". ")}.`;
 }
 
 /** The chain of a refusal 9, from the low thing to the high file; the middle of a long one is left out. */
@@ -114,7 +117,7 @@ function showBooks(state) {
   const isClosed = state.freeze < NO_FREEZE;
   byId("books").textContent = isClosed
     ? `Books closed from level ${state.freeze} up: no such file is opened for writing`
-    : "Books open. The better something was looked over, the higher it stands. Data may go down or across, never up.";
+    : "Books open. The better looked over, the higher. Data may go down or across, never up.";
   byId("books").className = isClosed ? "closed" : "";
 }
 
@@ -149,7 +152,8 @@ function showSteps(to, state, before) {
   for (let thing = 0; thing < STEPS; thing += 1) {
     if (state.kind[thing] !== 0) {
       const name = capital(called(thing, state, to));
-      const cells = [fellFrom(thing, state, before), String(state.need[thing]), (held.get(thing) ?? ["nothing"]).join("; ")];
+      const holds = (held.get(thing) ?? ["nothing"]).join("; ");
+      const cells = [fellFrom(thing, state, before), String(state.need[thing]), holds];
       row(body, name, cells, hasChanged(thing, state, before));
     }
   }
@@ -169,7 +173,8 @@ function showObjects(to, state, before) {
   const list = (side, thing) => [...(side.get(thing) ?? ["–"])].join(", ");
   for (let thing = STEPS; thing < THINGS; thing += 1) {
     if (state.kind[thing] !== 0) {
-      row(body, capital(called(thing, state, to)), [fellFrom(thing, state, before), list(writers, thing), list(readers, thing)], hasChanged(thing, state, before));
+      const cells = [fellFrom(thing, state, before), list(writers, thing), list(readers, thing)];
+      row(body, capital(called(thing, state, to)), cells, hasChanged(thing, state, before));
     }
   }
   if (body.rows.length === 0) {
@@ -266,7 +271,8 @@ function fromHash() {
 byId("slider").max = byId("number").max = LAST;
 byId("of").textContent = `of ${LAST}`;
 byId("summary").textContent =
-  `${LAST} records: ${LAST - LOWERED.length - REFUSED.length} allowed, ${LOWERED.length} lowered, ${REFUSED.length} refused. ` +
+  `${LAST} records: ${LAST - LOWERED.length - REFUSED.length} allowed, ${LOWERED.length} lowered, ` +
+  `${REFUSED.length} refused. ` +
   `Handles: ${DATA.end[0]} made, ${DATA.end[1]} gone, ${DATA.end[2]} open at the end.`;
 listRefusals();
 drawStrip();

@@ -1,5 +1,5 @@
-//! Refusal 9: what stands in the way, and the ways out. Each way that names a handle or a step is tried on a copy of the
-//! monitor, by the archive's own calls, before it is named.
+//! Refusal 9: what stands in the way, and the ways out. Each way that names a handle or a step is tried on a copy of
+//! the monitor, by the archive's own calls, before it is named.
 
 use gatekeeper::{Answer, Kind, Monitor, Refusal, Way};
 
@@ -53,7 +53,8 @@ impl Asked<'_> {
         (vec![why, over], ways)
     }
 
-    /// Handles whose closing, or marking, lets the call through: those of the step that asks first, then from the file down.
+    /// Handles whose closing, or marking, lets the call through: those of the step that asks first, then from the
+    /// file down.
     fn closes(&self, chain: Option<&Chain>) -> Vec<Phrase> {
         let s = self.numbers[0];
         let links = chain.map_or(&[][..], |chain| &chain.links);

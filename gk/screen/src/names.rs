@@ -185,7 +185,8 @@ mod tests {
 
     #[test]
     fn a_number_has_the_name_that_was_given_last() {
-        let text = "names 1\r\n# by hand\n\nstep 1 204 sheet reader\nstep 1 1 hours\nfile 5 1 pay book\npipe 5 9 to the bank\n";
+        let text = "names 1\r\n# by hand\n\nstep 1 204 sheet reader\nstep 1 1 hours\nfile 5 1 pay book\n\
+                    pipe 5 9 to the bank\n";
         let names = Names::read(text.as_bytes()).expect("names");
         for (kind, n, at, expected) in [
             ("step", 1, 203, Some("hours")),

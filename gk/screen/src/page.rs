@@ -114,7 +114,8 @@ fn data(journal: &[u8], names: &Names, at: Option<u64>) -> String {
         })
         .collect();
     format!(
-        "{{\"at\":{},\"end\":[{},{},{}],\"order\":[{order}],\"nearest\":[{nearest}],\"refusals\":[{refusals}],\n\"names\":[{}],\n\
+        "{{\"at\":{},\"end\":[{},{},{}],\"order\":[{order}],\"nearest\":[{nearest}],\n\
+         \"refusals\":[{refusals}],\n\"names\":[{}],\n\
          \"words\":[{}],\n\"records\":[\n{records}\n]}}",
         at.map_or(-1, |at| at as i64),
         end.made(),
@@ -187,7 +188,7 @@ fn index(thing: Thing) -> Option<String> {
 /// What stands where a thing's number would, for the freeze.
 const FREEZE: u32 = STEPS + OBJECTS;
 
-/// What is different after a record, three letters a piece: first things and the freeze, then handles, with a dot between.
+/// What is different after a record, three letters a piece: first things and the freeze, then a dot, then handles.
 fn changes(before: &State, after: &State) -> String {
     let mut text = String::new();
     if before == after {
@@ -240,5 +241,100 @@ fn packed(number: u32, text: &mut String) {
     const LETTERS: &[u8; 64] = b"ABCDEFGHIJKLMNOPQRSTUVWXYZabcdefghijklmnopqrstuvwxyz0123456789-_";
     for shift in [12, 6, 0] {
         text.push(char::from(LETTERS[(number >> shift) as usize % 64]));
+    }
+}
+
+#[cfg(test)]
+mod tests {
+    use super::*;
+
+    /// The colours of the page by name, by day or by night.
+    fn colours(is_dark: bool) -> HashMap<&'static str, [f64; 3]> {
+        let (day, night) = STYLE
+            .split_once("@media screen and (prefers-color-scheme: dark)")
+            .expect("two sets of colours");
+        let lines = if is_dark { night } else { day }
+            .lines()
+            .take_while(|line| *line != "}" && !line.starts_with('*'));
+        let pairs =
+            lines.filter_map(|line| line.trim().strip_prefix("--")?.strip_suffix(';')?.split_once(": #"));
+        let part = |hex: &str, at: usize| {
+            let value = f64::from(u8::from_str_radix(&hex[at..at + 2], 16).expect("a colour")) / 255.0;
+            if value <= 0.04045 {
+                value / 12.92
+            } else {
+                ((value + 0.055) / 1.055).powf(2.4)
+            }
+        };
+        pairs.map(|(name, hex)| (name, [part(hex, 0), part(hex, 2), part(hex, 4)])).collect()
+    }
+
+    #[test]
+    fn every_text_stands_out_from_what_it_is_on() {
+        for is_dark in [false, true] {
+            let colours = colours(is_dark);
+            assert_eq!(colours.len(), 20);
+            let light = |name: &str| {
+                let [red, green, blue] = colours[name];
+                0.2126 * red + 0.7152 * green + 0.0722 * blue
+            };
+            let contrast = |one: &str, other: &str| {
+                let (one, other) = (light(one), light(other));
+                (one.max(other) + 0.05) / (one.min(other) + 0.05)
+            };
+            let texts = [
+                ("ink", "paper ground band step-fill file-fill pipe-fill lowered-fill"),
+                ("soft", "paper ground band"),
+                ("refused", "paper ground band refused-fill"),
+                ("lowered", "paper band lowered-fill"),
+                ("allowed", "allowed-fill"),
+            ];
+            let lines = [
+                ("step", "paper band"),
+                ("file", "paper band"),
+                ("pipe", "paper band"),
+                ("edge", "paper band"),
+                ("focus", "paper ground"),
+            ];
+            for (least, pairs) in [(4.5, &texts[..]), (3.0, &lines[..])] {
+                for (name, grounds) in pairs {
+                    for ground in grounds.split(' ') {
+                        let found = contrast(name, ground);
+                        assert!(found >= least, "{name} on {ground}, dark {is_dark}: {found:.2}");
+                    }
+                }
+            }
+        }
+    }
+
+    #[test]
+    fn a_text_cannot_leave_its_place() {
+        assert_eq!(escaped("<a href=\"x\">&'\u{1b}"), "&lt;a href=&quot;x&quot;&gt;&amp;&#39;\u{fffd}");
+        assert_eq!(
+            quoted("</script>&\"\\'\u{2028}é\u{1f4b6}"),
+            "\"\\u003c/script\\u003e\\u0026\\u0022\\u005c\\u0027\\u2028\\u00e9\\ud83d\\udcb6\""
+        );
+    }
+
+    #[test]
+    fn changes_are_packed_in_threes() -> Result<(), Refusal> {
+        let mut monitor = gatekeeper::Monitor::new();
+        let empty = State::of(&monitor);
+        monitor.admit(31, 9).granted()?;
+        monitor.register(63, 9).granted()?;
+        monitor.open_write(31, 63, 15).granted()?;
+        monitor.freeze(9).granted()?;
+        let full = State::of(&monitor);
+        // Kind, level and need are 256 + 16 * 9 + 9; the handle is 512 * 511 + 128 * 2 + 63.
+        let things = [three(31, 409), three(95, 409), three(FREEZE, 9)].concat();
+        assert_eq!(changes(&empty, &full), format!("{things}._8_"));
+        assert_eq!(changes(&full, &full), "");
+        Ok(())
+    }
+
+    fn three(thing: u32, stands: u32) -> String {
+        let mut text = String::new();
+        packed(768 * thing + stands, &mut text);
+        text
     }
 }

@@ -214,6 +214,9 @@ impl Asked<'_> {
         let fits = |p: &u32| steps.iter().all(|&s| state.handle(s, *p).is_none() == wants_empty);
         let fitting: Vec<u32> = (0..PLACES).filter(fits).collect();
         let way = match (wants_empty, fitting.is_empty()) {
+            (true, false) if places.len() == 2 => {
+                phrase!["Take two of the empty places: ", Piece::List(fitting), "."]
+            }
             (true, false) => phrase!["Take an empty place: ", Piece::List(fitting), "."],
             (true, true) => phrase!["Close a handle first: no place is empty."],
             (false, false) => phrase!["Name a place that holds a handle: ", Piece::List(fitting), "."],

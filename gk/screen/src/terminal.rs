@@ -200,7 +200,8 @@ impl Screen {
             None => "books open".to_string(),
         };
         let open = self.state.made.wrapping_sub(self.state.gone);
-        let right = format!("{books}, {open} handles open");
+        let handles = if open == 1 { "handle" } else { "handles" };
+        let right = format!("{books}, {open} {handles} open");
         let of = of.map_or(String::new(), |of| format!(" of {of}"));
         let left = match self.position {
             0 => "before the first record".to_string(),

@@ -1,5 +1,5 @@
-//! The page in a real browser: every record by keyboard, and what it shows beside the program's reply, the screen in the
-//! terminal, and the independent program's tables. Run by tools/screen-browser, which names a browser in SCREEN_BROWSER.
+//! The page in a real browser: every record by keyboard, and what it shows beside the program's reply, the screen in
+//! the terminal, and the independent program's tables. Run by tools/screen-browser, which names the browser.
 
 mod devtools;
 
@@ -24,7 +24,8 @@ const NAMES: &str = concat!(env!("CARGO_MANIFEST_DIR"), "/examples/march.names")
 const SAID: &str = "(() => {
   const text = (id) => document.getElementById(id).textContent;
   const list = (id) => [...document.querySelectorAll(`#${id} li`)].map((item) => item.textContent);
-  const table = (id) => [...document.querySelectorAll(`#${id} tbody tr`)].map((row) => [...row.cells].map((cell) => cell.textContent));
+  const cells = (row) => [...row.cells].map((cell) => cell.textContent);
+  const table = (id) => [...document.querySelectorAll(`#${id} tbody tr`)].map(cells);
   const isShown = (id) => !document.getElementById(id).hidden;
   return {
     line: text('line'), asked: text('asked'), answer: text('answer'), books: text('books'), live: text('live'),
@@ -311,8 +312,9 @@ fn it_fits_a_telephone_and_prints_on_paper() {
         let wide =
             browser.value("document.documentElement.scrollWidth - document.documentElement.clientWidth");
         let which = browser.value(
-            "[...document.querySelectorAll('body *')].filter((e) => e.getBoundingClientRect().right > \
-             document.documentElement.clientWidth + 1).map((e) => e.tagName + '#' + e.id + '.' + e.className).join(' ')",
+            "[...document.querySelectorAll('body *')]
+               .filter((each) => each.getBoundingClientRect().right > document.documentElement.clientWidth + 1)
+               .map((each) => `${each.tagName}#${each.id}`).join(' ')",
         );
         assert_eq!(wide, Json::Number(0.0), "at {width} pixels these are wider than the window: {which:?}");
     }
