@@ -136,9 +136,18 @@ for (const name of ["bands", "edges", "things", "flags"]) {
   graph.append(layers[name]);
 }
 
+/** The room for the graph, which is asked for once and whenever it changes: each time would cost a layout of the page. */
+let width = 0;
+
+/** Measures the room, and says whether it has changed. */
+function measured() {
+  const before = width;
+  width = Math.max(240, graph.clientWidth || 860);
+  return width !== before;
+}
+
 /** The layout for a record: the same for all of them, or where too many things were ever there, its own. */
 function layoutFor(things) {
-  const width = Math.max(320, graph.clientWidth || 860);
   if (EVER.reduce((sum, things) => sum + things.size, 0) <= MOST_SPOTS) {
     fixed = fixed?.width === width ? fixed : new Layout(width, EVER);
     return fixed;

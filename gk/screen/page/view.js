@@ -277,10 +277,13 @@ byId("summary").textContent =
 listRefusals();
 drawStrip();
 window.addEventListener("hashchange", fromHash);
-window.addEventListener("resize", () => {
-  drawStrip();
-  const position = current;
-  current = -1;
-  show(position);
-});
+new ResizeObserver(() => {
+  if (measured()) {
+    drawStrip();
+    const position = current;
+    current = -1;
+    show(position);
+  }
+}).observe(byId("picture"));
+measured();
 fromHash();

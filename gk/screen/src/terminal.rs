@@ -207,7 +207,7 @@ impl Screen {
             0 => "before the first record".to_string(),
             position => format!("record {position}{of}"),
         };
-        let title = fitted(&self.title, COLUMNS - 4 - width(&left) - width(&right));
+        let title = fitted(&self.title, (COLUMNS - 4).saturating_sub(width(&left) + width(&right)));
         Line(
             Look::Strong,
             format!(

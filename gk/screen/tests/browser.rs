@@ -296,6 +296,13 @@ fn bad_journals_have_a_page_that_says_so() {
         assert!(title.text().starts_with("</title><script>alert(1)</script>"), "{title:?}");
         assert_eq!(browser.value("document.scripts.length"), Json::Number(2.0));
     }
+    let folder = std::env::temp_dir().join(format!("gk-screen-names-{}", std::process::id()));
+    fs::write(&folder, "names 1\nstep 0 1 r&d's 100% é 日本 b-script/b\n").expect("a names file");
+    let paged = Paged::new("named", vec![3, 1, 0, 9], &["--names", &folder.to_string_lossy()]);
+    fs::remove_file(&folder).expect("it is there");
+    browser.open(&paged.page, "");
+    let asked = "R&d's 100% é 日本 b-script/b (step 0) is admitted from outside at level 9";
+    assert_eq!(browser.value(SAID).get("asked").text(), asked);
 }
 
 #[test]

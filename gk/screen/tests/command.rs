@@ -89,6 +89,7 @@ fn march_is_shown_after_a_record() {
         assert!(text.contains(words), "{words} is not in:\n{text}");
     }
     let text = shown(&["--at", "205", "--names", NAMES, MARCH], b"");
+    let text = text.split_whitespace().collect::<Vec<_>>().join(" ");
     assert!(
         text.contains("Sheet reader (step 1) falls from level 12 to level 2. Nothing else falls."),
         "{text}"
