@@ -29,6 +29,8 @@ mod told;
 mod trials;
 mod words;
 
+pub use told::sentences;
+
 /// Runs the duty screen with the arguments behind its name, and says its exit status.
 pub fn main(args: &[String]) -> i32 {
     cli::run(args)

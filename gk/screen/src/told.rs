@@ -5,8 +5,9 @@ use std::collections::HashMap;
 use gatekeeper::{Answer, Refusal};
 
 use crate::chain::{chain, sought, Chain};
+use crate::names::Names;
 use crate::phrase::{object, phrase, Phrase, Piece};
-use crate::records::{Body, Turn};
+use crate::records::{Body, Run, Turn};
 use crate::refused::{reasons, Closing, Reasons};
 use crate::state::{State, Thing};
 use crate::words;
@@ -23,6 +24,23 @@ pub struct Told {
     pub sought: Vec<(Thing, Thing)>,
     /// The things that the record is about.
     pub about: Vec<Thing>,
+}
+
+/// All sentences about each record of a journal, by their part: what is asked, why, the ways out, what changed. With
+/// these the page's words can be compared; the names are the bytes of a names file, or none.
+pub fn sentences(journal: &[u8], names: &[u8]) -> Vec<[Vec<String>; 4]> {
+    let mut names = Names::read(names).unwrap_or_default();
+    let (mut run, mut memory, mut state) = (Run::new(), Memory::default(), State::empty());
+    let mut all = Vec::new();
+    while let Some(turn) = run.next(journal) {
+        let after = State::of(&turn.after);
+        names.follow(turn.position, &state, &after);
+        let Told { asked, why, ways, changed, .. } = memory.tell(&turn, &state, &after);
+        let said = |part: Vec<Phrase>| part.iter().map(|each| each.text(&names, turn.position)).collect();
+        all.push([said(vec![asked]), said(why), said(ways), said(changed)]);
+        state = after;
+    }
+    all
 }
 
 /// What a later record looks back on.

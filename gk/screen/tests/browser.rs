@@ -29,7 +29,7 @@ const SAID: &str = "(() => {
   const isShown = (id) => !document.getElementById(id).hidden;
   return {
     line: text('line'), asked: text('asked'), answer: text('answer'), books: text('books'), live: text('live'),
-    ways: isShown('ways-part') ? list('ways') : [], chain: isShown('chain-part') ? list('chain') : [],
+    why: list('why'), ways: isShown('ways-part') ? list('ways') : [], changed: list('changed'), chain: isShown('chain-part') ? list('chain') : [],
     steps: table('steps'), objects: table('objects'), slider: document.getElementById('slider').value,
     things: document.querySelectorAll('#graph .thing:not(.ghost)').length,
     chained: document.querySelectorAll('#graph .edge.chain, #graph .edge.sought').length,
@@ -55,6 +55,8 @@ struct Paged {
     page: PathBuf,
     /// The lines of the terminal, one for each record.
     lines: Vec<String>,
+    /// All sentences about each record, as the terminal would write them.
+    sentences: Vec<[Vec<String>; 4]>,
 }
 
 impl Paged {
@@ -74,7 +76,10 @@ impl Paged {
             .expect("the program starts");
         let lines = String::from_utf8(follow.stdout).expect("UTF-8");
         let lines = lines.lines().filter(|line| !line.starts_with('!')).map(str::to_string).collect();
-        Paged { folder, journal, page, lines }
+        let names = more.iter().position(|&word| word == "--names").map(|at| fs::read(more[at + 1]));
+        let names = names.map_or(Vec::new(), |names| names.expect("a names file"));
+        let sentences = gk_screen::sentences(&journal, &names);
+        Paged { folder, journal, page, lines, sentences }
     }
 }
 
@@ -156,6 +161,10 @@ fn tables_agree(said: &Json, tables: &Tables) {
     assert_eq!(is_closed, tables.frozen_from().is_some());
 }
 
+fn texts(list: &[String]) -> Vec<&str> {
+    list.iter().map(String::as_str).collect()
+}
+
 fn rows<'a>(said: &'a Json, table: &str) -> Vec<Vec<&'a str>> {
     let rows: Vec<Vec<&str>> = said.get(table).list().iter().map(Json::texts).collect();
     rows.into_iter().filter(|row| !row[0].starts_with("No ")).collect()
@@ -178,12 +187,19 @@ fn walk(browser: &mut Browser, paged: &Paged) {
     let replies: Vec<&str> = replies.lines().collect();
     assert_eq!(replies.len(), paged.lines.len());
     assert_eq!(browser.value(SAID).get("line").text(), "");
-    for (reply, line) in replies.iter().zip(&paged.lines) {
+    for ((reply, line), sentences) in replies.iter().zip(&paged.lines).zip(&paged.sentences) {
         browser.press("ArrowRight", 39, false);
         run.next_step().expect("a record");
         let said = browser.value(SAID);
         assert_eq!(said.get("line").text(), *reply);
         assert_eq!(&as_line(&said), line);
+        let [asked, why, ways, changed] = sentences;
+        assert_eq!([said.get("asked").text()], asked[..]);
+        assert_eq!((said.get("why").texts(), said.get("ways").texts()), (texts(why), texts(ways)));
+        // Where nothing has changed, the page says so.
+        if !changed.is_empty() {
+            assert_eq!(said.get("changed").texts(), texts(changed));
+        }
         assert_eq!(said.get("slider").text(), reply.split(' ').next().unwrap_or(""));
         assert!(said.get("live").text().contains(said.get("asked").text()), "{said:?}");
         tables_agree(&said, run.monitor().tables());
@@ -244,7 +260,7 @@ fn march_is_walked_by_keyboard() {
 fn generated_journals_are_walked_by_keyboard() {
     let mut browser = browser();
     for (name, style, calls) in
-        [("calls", Style::Calls, 700), ("rings", Style::Rings, 500), ("garbled", Style::Garbled, 150)]
+        [("calls", Style::Calls, 500), ("rings", Style::Rings, 300), ("garbled", Style::Garbled, 150)]
     {
         let journal = journal(7, 3, Wish { style, calls: Some(calls), bytes: None });
         walk(&mut browser, &Paged::new(name, journal, &[]));
