@@ -66,11 +66,11 @@ impl Asked<'_> {
         for carriers in &carried {
             let Carriers { step, places, .. } = carriers;
             let place = if places.len() == 1 { "place " } else { "places " };
-            let mark = |monitor: &mut Monitor, p| monitor.mark(*step, p);
-            if self.code == 10
-                && *step == s
-                && self.passes(|monitor| places.iter().all(|&p| mark(monitor, p).granted().is_ok()))
-            {
+            let is_own_exec = self.code == 10 && *step == s;
+            let each = |monitor: &mut Monitor, call: fn(&mut Monitor, u32, u32) -> Answer| {
+                places.iter().all(|&p| call(monitor, *step, p).granted().is_ok())
+            };
+            if is_own_exec && self.passes(|monitor| each(monitor, Monitor::mark)) {
                 ways.push(phrase![
                     "Mark ",
                     place,
@@ -80,8 +80,7 @@ impl Asked<'_> {
                     ", if the program does not need it: the exec closes it."
                 ]);
             }
-            let shut = |monitor: &mut Monitor, p| monitor.close(*step, p);
-            if self.passes(|monitor| places.iter().all(|&p| shut(monitor, p).granted().is_ok())) {
+            if self.passes(|monitor| each(monitor, Monitor::close)) {
                 let what = carriers.what.clone();
                 ways.push(
                     phrase![
@@ -170,16 +169,10 @@ impl Asked<'_> {
                 high.level,
                 " or above write it, one that takes in nothing lower."
             ],
-            (Some(fit), _) => phrase![
-                "Let another step read it, one with no way up: ",
-                Piece::Step(fit),
-                " may. It alone will fall."
-            ],
-            (None, _) => phrase![
-                "Let another step read it, one with no way to ",
-                named(high),
-                ". It alone will fall."
-            ],
+            (Some(fit), _) => {
+                phrase!["Let another step read it, one with no way up: ", Piece::Step(fit), " may."]
+            }
+            (None, _) => phrase!["Let another step read it, one with no way to ", named(high), "."],
         }]
     }
 

@@ -18,11 +18,7 @@ pub struct Closing {
 }
 
 /// Why, and the ways out.
-#[derive(Default)]
-pub struct Reasons {
-    pub why: Vec<Phrase>,
-    pub ways: Vec<Phrase>,
-}
+pub type Both = (Vec<Phrase>, Vec<Phrase>);
 
 /// The reasons for a refusal of a record, where `before` is the state that it met.
 pub fn reasons(
@@ -31,8 +27,8 @@ pub fn reasons(
     before: &State,
     chain: Option<&Chain>,
     closing: Option<Closing>,
-) -> Reasons {
-    let (why, ways) = match turn.body {
+) -> Both {
+    match turn.body {
         Body::Call { code, numbers } => {
             let asked = Asked { code, numbers, before, monitor: &turn.before };
             let (mut why, ways) = asked.reasons(refusal, chain, closing);
@@ -71,12 +67,8 @@ pub fn reasons(
             vec![phrase!["Nothing of it is run."]],
             vec![phrase!["Split it; each journal starts from empty tables."]],
         ),
-    };
-    Reasons { why, ways }
+    }
 }
-
-/// Why, and the ways out.
-pub type Both = (Vec<Phrase>, Vec<Phrase>);
 
 /// A call that was refused, and what it met.
 pub struct Asked<'a> {
@@ -134,9 +126,10 @@ impl Asked<'_> {
         if s < STEPS {
             ways.push(phrase!["Admit or fork ", Piece::Step(s), " first."]);
         }
-        if !running.is_empty() {
-            ways.push(phrase!["Name a running step: ", Piece::List(running), "."]);
-        }
+        ways.push(match running.is_empty() {
+            true => phrase!["Admit a step first: none runs."],
+            false => phrase!["Name a running step: ", Piece::List(running), "."],
+        });
         let why = match s {
             0..STEPS => phrase![Piece::Step(s), " was not admitted or forked, or it has exited."],
             _ => phrase!["Steps have numbers 0 to 31, and ", s, " is none of them."],
@@ -213,14 +206,13 @@ impl Asked<'_> {
         };
         let fits = |p: &u32| steps.iter().all(|&s| state.handle(s, *p).is_none() == wants_empty);
         let fitting: Vec<u32> = (0..PLACES).filter(fits).collect();
-        let way = match (wants_empty, fitting.is_empty()) {
-            (true, false) if places.len() == 2 => {
-                phrase!["Take two of the empty places: ", Piece::List(fitting), "."]
-            }
-            (true, false) => phrase!["Take an empty place: ", Piece::List(fitting), "."],
-            (true, true) => phrase!["Close a handle first: no place is empty."],
-            (false, false) => phrase!["Name a place that holds a handle: ", Piece::List(fitting), "."],
-            (false, true) => phrase!["Open something first: ", Piece::Step(s), " holds no handle."],
+        let way = match (wants_empty, fitting.len() >= places.len(), places.len()) {
+            (true, true, 1) => phrase!["Take an empty place: ", Piece::List(fitting), "."],
+            (true, true, _) => phrase!["Take two of the empty places: ", Piece::List(fitting), "."],
+            (true, false, 1) => phrase!["Close a handle first: no place is empty."],
+            (true, false, _) => phrase!["Close handles first: two empty places are needed."],
+            (false, true, _) => phrase!["Name a place that holds a handle: ", Piece::List(fitting), "."],
+            (false, false, _) => phrase!["Open something first: ", Piece::Step(s), " holds no handle."],
         };
         (vec![why], vec![way])
     }

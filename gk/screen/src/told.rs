@@ -8,7 +8,7 @@ use crate::chain::{chain, sought, Chain};
 use crate::names::Names;
 use crate::phrase::{object, phrase, Phrase, Piece};
 use crate::records::{Body, Run, Turn};
-use crate::refused::{reasons, Closing, Reasons};
+use crate::refused::{reasons, Closing};
 use crate::state::{State, Thing};
 use crate::words;
 
@@ -65,8 +65,7 @@ impl Memory {
                 told.chain = chain(code, numbers, before);
                 told.sought = sought(code, numbers);
             }
-            let Reasons { why, ways } = reasons(turn, refusal, before, told.chain.as_ref(), self.closing);
-            (told.why, told.ways) = (why, ways);
+            (told.why, told.ways) = reasons(turn, refusal, before, told.chain.as_ref(), self.closing);
         } else {
             told.why = self.why_it_may(turn, before);
         }
@@ -92,9 +91,9 @@ impl Memory {
         }
         let mut why = vec![match step.need {
             0 => phrase![
-                "It may: no open handle leads from ",
+                "It may: no way leads from ",
                 Piece::Step(s),
-                " on to a file, so it may fall as low as it likes."
+                " to a file above level 0, so it may fall as low as it likes."
             ],
             need if need <= low.level => phrase![
                 "It may: the highest file that ",
@@ -121,7 +120,7 @@ impl Memory {
                     object(o, before),
                     " at record ",
                     record,
-                    ": from there a way leads up. From ",
+                    ": from there a way led up. From ",
                     Piece::Step(s),
                     " none does."
                 ]);
@@ -134,19 +133,14 @@ impl Memory {
         let Body::Call { code, numbers: [a, b, ..] } = turn.body else {
             return;
         };
+        // A number that is free may be another thing's later.
+        self.refused.retain(|&o, _| after.object(o).is_some());
         match (code, turn.answer) {
             (16, Answer::Allowed(_)) => {
                 self.closing = after.frozen_from.map(|level| Closing { level, record: turn.position });
             }
             (5 | 14, Answer::Refused(Refusal::Flow)) => {
                 self.refused.insert(b, (turn.position, a));
-            }
-            // The number is another file's from now on.
-            (2 | 3 | 4 | 17, Answer::Allowed(_)) => {
-                self.refused.retain(|&o, _| after.object(o).is_some());
-            }
-            (13, Answer::Allowed(_)) => {
-                self.refused.remove(&a);
             }
             _ => {}
         }
@@ -168,5 +162,122 @@ fn about(body: Body, state: &State) -> Vec<Thing> {
         9 => vec![step(a), step(b)],
         17 => vec![step(a), step(b), object(c), object(d)],
         _ => Vec::new(),
+    }
+}
+
+#[cfg(test)]
+mod tests {
+    use super::*;
+    use gatekeeper::Call;
+
+    /// What is said of the last of these calls: why, and the ways out.
+    #[track_caller]
+    fn said(calls: &[Call]) -> (Vec<String>, Vec<String>) {
+        let mut journal = Vec::new();
+        calls.iter().for_each(|call| call.write_record(&mut journal));
+        let [_, why, ways, _] = sentences(&journal, b"").pop().expect("a record");
+        (why, ways)
+    }
+
+    const STEP: Call = Call::Admit { subject: 0, level: 9 };
+    const BOOK: Call = Call::Register { object: 0, level: 9 };
+    const SHEET: Call = Call::Register { object: 1, level: 2 };
+    const WRITES: Call = Call::OpenWrite { subject: 0, object: 0, place: 0 };
+    const READS: Call = Call::OpenRead { subject: 0, object: 1, place: 1 };
+
+    #[test]
+    fn a_nine_has_its_reason_and_ways_that_were_tried() {
+        let (why, ways) = said(&[STEP, BOOK, SHEET, WRITES, READS]);
+        assert_eq!(why[0], "File 1 has level 2, and file 0 takes nothing from below level 9.");
+        assert_eq!(ways[0], "Close place 0 of step 0, which writes file 0; then ask again.");
+        assert_eq!(ways[1], "Let another step read it, one with no way to file 0.");
+        let (_, ways) = said(&[STEP, Call::Admit { subject: 7, level: 9 }, BOOK, SHEET, WRITES, READS]);
+        assert_eq!(ways[1], "Let another step read it, one with no way up: step 7 may.");
+
+        // Two ways up: one closed handle is not enough, both are.
+        let other = Call::Register { object: 2, level: 9 };
+        let both = Call::OpenWrite { subject: 0, object: 2, place: 5 };
+        let (_, ways) = said(&[STEP, BOOK, SHEET, other, WRITES, both, READS]);
+        assert_eq!(ways[0], "Close places 0, 5 of step 0, all that it writes; then ask again.");
+
+        let (_, ways) = said(&[STEP, BOOK, SHEET, WRITES, Call::Exec { subject: 0, object: 1 }]);
+        let mark = "Mark place 0 of step 0, if the program does not need it: the exec closes it.";
+        assert_eq!(ways[0], mark);
+    }
+
+    #[test]
+    fn a_connect_has_a_direction_that_is_free() {
+        let low = Call::Admit { subject: 1, level: 5 };
+        let connect = Call::Connect { subject: 0, peer: 1, to: 5, from: 6, reading: 2, writing: 3 };
+        let (why, ways) = said(&[STEP, low, BOOK, WRITES, connect]);
+        assert!(why[0].ends_with(" has level 5, and file 0 takes nothing from below level 9."), "{why:?}");
+        let one = "If data need only go from step 0 to step 1: let step 0 make a pipe, and step 1 open it for reading.";
+        assert_eq!(ways.last().map(String::as_str), Some(one));
+    }
+
+    #[test]
+    fn the_other_way_is_told_of_the_same_thing_alone() {
+        let other = Call::Admit { subject: 1, level: 9 };
+        let may = Call::OpenRead { subject: 1, object: 1, place: 0 };
+        let (why, _) = said(&[STEP, other, BOOK, SHEET, WRITES, READS, may]);
+        assert_eq!(
+            why[0],
+            "It may: no way leads from step 1 to a file above level 0, so it may fall as low as it likes."
+        );
+        assert_eq!(
+            why[1],
+            "Step 0 was refused file 1 at record 6: from there a way led up. From step 1 none does."
+        );
+        // A file that has the number later is another one.
+        let (why, _) =
+            said(&[STEP, other, BOOK, SHEET, WRITES, READS, Call::Retire { object: 1 }, SHEET, may]);
+        assert_eq!(why.len(), 1);
+    }
+
+    #[test]
+    fn the_books_are_told_of() {
+        let freeze = Call::Freeze { level: 9 };
+        let again = Call::OpenWrite { subject: 0, object: 0, place: 4 };
+        let (why, ways) = said(&[STEP, BOOK, WRITES, freeze, again]);
+        assert_eq!(why, ["The books are closed from level 9 up since record 4, and file 0 has level 9."]);
+        let held = "Use a handle that is open, which goes on writing: step 0 at place 0.";
+        let wait = "Wait until the books are open again, and open it then.";
+        assert_eq!(ways, [wait, held, "Write to a file below level 9."]);
+        // A 9 comes before the freeze, which is told as well.
+        let low = Call::Admit { subject: 1, level: 2 };
+        let (why, _) =
+            said(&[STEP, BOOK, freeze, low, Call::OpenWrite { subject: 1, object: 0, place: 0 }]);
+        assert_eq!(why[2], "Also, the books are closed from level 9 up since record 3.");
+    }
+
+    #[test]
+    fn other_refusals_have_a_way_out() {
+        let pipe = |reads, writes| Call::Pipe { subject: 0, object: 3, reads, writes };
+        for (calls, way) in [
+            (vec![Call::Exit { subject: 40 }], "Admit a step first: none runs."),
+            (vec![STEP, Call::Exit { subject: 3 }], "Admit or fork step 3 first."),
+            (vec![STEP, STEP], "Take a free number: 1 to 31."),
+            (vec![STEP, READS], "Register, create or make it first, or name another."),
+            (
+                vec![STEP, pipe(0, 1), Call::Retire { object: 3 }],
+                "Name a file. A pipe is opened and read, and ends by itself with its last handle.",
+            ),
+            (vec![Call::Freeze { level: 17 }], "Give 0 to 15, or 16 to open the books."),
+            (vec![STEP, pipe(4, 4)], "Take two of the empty places: 0 to 15."),
+            (
+                vec![STEP, Call::Close { subject: 0, place: 1 }],
+                "Open something first: step 0 holds no handle.",
+            ),
+            (
+                vec![STEP, pipe(0, 1), Call::Read { subject: 0, place: 1 }],
+                "Use a handle of step 0 that reads: at place 0.",
+            ),
+            (
+                vec![STEP, BOOK, WRITES, Call::Retire { object: 0 }],
+                "Close these handles, or let the steps exit; then retire it.",
+            ),
+        ] {
+            assert_eq!(said(&calls).1[0], way, "{calls:?}");
+        }
     }
 }

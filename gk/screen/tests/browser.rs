@@ -250,7 +250,10 @@ fn march_is_walked_by_keyboard() {
     assert_eq!(said.get("chain").texts(), chain);
     browser.open(&paged.page, "#205");
     let why = browser.value("document.getElementById('why').textContent");
-    assert!(why.text().contains("no open handle leads from sheet reader (step 1) on to a file"), "{why:?}");
+    assert!(
+        why.text().contains("no way leads from sheet reader (step 1) to a file above level 0"),
+        "{why:?}"
+    );
     let fell = browser.value("document.querySelectorAll('#graph .edge.fall').length");
     assert_eq!(fell, Json::Number(1.0));
 }

@@ -94,7 +94,7 @@ fn march_is_shown_after_a_record() {
         text.contains("Sheet reader (step 1) falls from level 12 to level 2. Nothing else falls."),
         "{text}"
     );
-    assert!(text.contains("at record 198: from there a way leads up."), "{text}");
+    assert!(text.contains("at record 198: from there a way led up."), "{text}");
 }
 
 #[test]
