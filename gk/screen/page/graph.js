@@ -318,7 +318,7 @@ function drawEdges(layout, state, before, said, chain) {
       return undefined;
     }
     const shape = (thing) => shapeOf(thing, state.kind[thing] || 2);
-    const { path, flag } = bent(one, other, shape(from), shape(to), 0.16);
+    const { path, flag } = bent(one, other, shape(from), shape(to), from < STEPS ? 0.5 : 0.16);
     const near = said.about.includes(from) || said.about.includes(to) ? "near" : "";
     const edge = drawn("path", { d: path, class: `edge ${classes} ${near}`, "marker-end": `url(#${tip})` });
     [edge.dataset.from, edge.dataset.to] = [from, to];
@@ -352,7 +352,8 @@ function drawEdges(layout, state, before, said, chain) {
   for (const [from, to] of said.sought) {
     const flag = arrow(from, to, "sought", "tip-refused");
     if (flag !== undefined && !isSaid) {
-      layers.flags.append(drawn("text", { x: flag.x - 8, y: flag.y + 4, class: "flag" }, "✗ refused"));
+      const off = from < STEPS ? { x: flag.x - 6, y: flag.y - 7 } : { x: flag.x - 8, y: flag.y + 4 };
+      layers.flags.append(drawn("text", { ...off, class: "flag" }, "✗ refused"));
       isSaid = true;
     }
   }

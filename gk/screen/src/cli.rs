@@ -32,7 +32,7 @@ is asked of the proved gatekeeper; only the chain behind a refusal 9 is looked f
   --color WHEN   always, never, or auto: on a terminal, unless NO_COLOR is set
   --help         this text
 
-A journal above 65,536 bytes is refused (14) and read no further; --follow goes on, and says so.
+A journal that is too long is refused (14) and read no further; --follow goes on, and says so.
 Exit status: 0 shown, a broken journal up to where it holds; 1 a read or write failed; 2 bad usage.
 A reader of the output that stops early ends it without a word, with 141.
 ";

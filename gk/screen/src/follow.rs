@@ -50,7 +50,7 @@ pub fn follow(path: &str, mut screen: Screen, is_coloured: bool) -> Result<(), F
                     );
                 }
                 Next::End if journal.len() > JOURNAL_BYTES => {
-                    break Some("The journal has passed 65,536 bytes: read as a whole it is refused (14).")
+                    break Some("The journal has grown too long: read as a whole it is refused (14).")
                 }
                 Next::End => break None,
             }

@@ -13,7 +13,7 @@ pub enum Body {
     None { code: u32 },
     /// No record: the journal is broken from this byte on.
     Broken { offset: usize },
-    /// No record: the journal is longer than 65,536 bytes.
+    /// No record: the journal is too long.
     TooLong,
 }
 

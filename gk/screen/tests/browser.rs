@@ -273,7 +273,11 @@ fn generated_journals_are_walked_by_keyboard() {
 #[test]
 #[ignore = "needs a browser: tools/screen-browser"]
 fn a_full_journal_stays_usable() {
-    let journal = journal(7, 1, Wish { style: Style::Full, calls: Some(20_000), bytes: Some(65_536) });
+    let journal = journal(
+        7,
+        1,
+        Wish { style: Style::Full, calls: Some(20_000), bytes: Some(gatekeeper::JOURNAL_BYTES) },
+    );
     let paged = Paged::new("full", journal, &[]);
     let mut browser = browser();
     let began = Instant::now();
@@ -306,7 +310,7 @@ fn bad_journals_have_a_page_that_says_so() {
     for (name, journal, words) in [
         ("empty", vec![], "The journal is empty"),
         ("broken", vec![0x80, 0x00], "Byte 0 of the journal should start a record"),
-        ("long", vec![0; 65_537], "The journal is longer than 65,536 bytes"),
+        ("long", vec![0; gatekeeper::JOURNAL_BYTES + 1], "The journal is asked for as a whole"),
     ] {
         let paged = Paged::new(name, journal, &["--title", "</title><script>alert(1)</script>"]);
         browser.open(&paged.page, "");

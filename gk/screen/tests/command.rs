@@ -256,7 +256,7 @@ fn a_journal_is_followed_while_it_is_written() {
 fn following_says_when_a_journal_grows_too_long() {
     let journal = vec![0; 70_000];
     let text = shown(&["--follow", "-"], &journal);
-    assert!(text.contains("! The journal has passed 65,536 bytes"), "{}", &text[text.len() - 300..]);
+    assert!(text.contains("! The journal has grown too long"), "{}", &text[text.len() - 300..]);
     assert!(text.contains("\n70000 0 R 12"));
     let text = shown(&["--follow", "-"], &[3, 1, 0]);
     assert!(text.contains("1 0 R 11  Byte 0 of the journal should start a record."), "{text}");
