@@ -156,11 +156,27 @@ fn entry(line: &str) -> Result<Entry, &'static str> {
         && name.chars().nth(LONGEST_NAME).is_none()
         && name.chars().all(is_fit)
         && name.chars().any(char::is_alphabetic)
-        && name.trim() == name;
+        && name.trim() == name
+        && !name.contains("  ")
+        && !name.contains(". ")
+        && !name.ends_with('.')
+        && !is_numbered(name);
     if !is_fit {
-        return Err("a name behind the record: 1 to 60 letters, digits, spaces and - _ . / + ' & @ %");
+        return Err("a name behind the record: 1 to 60 letters, digits, single spaces and - _ . / + ' & @ %, with a letter");
     }
     Ok(Entry { kind, number, from, name: name.to_string() })
+}
+
+/// Whether a word that comes before a number in our sentences stands there before one: such a name could be mistaken.
+fn is_numbered(name: &str) -> bool {
+    let words: Vec<&str> = name.split(' ').collect();
+    words.windows(2).any(|pair| {
+        let before = pair[0].rsplit(|character: char| !character.is_alphanumeric()).next().unwrap_or("");
+        let before = before.to_lowercase();
+        let word = before.strip_suffix('s').unwrap_or(&before);
+        pair[1].starts_with(char::is_numeric)
+            && ["step", "file", "pipe", "place", "level", "record"].contains(&word)
+    })
 }
 
 /// A number in decimal digits and nothing else.
@@ -244,6 +260,9 @@ mod tests {
             (b"names 1\n\nstep 1 1  a\n", 3),
             (b"names 1\nstep 1 1 <script>alert(1)</script>\n", 2),
             (b"names 1\nstep 1 1 a\x1b[2J\n", 2),
+            (b"names 1\nstep 1 1 the Steps 3 and 4\n", 2),
+            (b"names 1\nstep 1 1 a. Allowed\n", 2),
+            (b"names 1\nstep 1 1 17\n", 2),
             (b"names 1\nstep 1 1 \xff", 2),
         ] {
             assert_eq!(Names::read(text).map(|_| 0).map_err(|(at, _)| at), Err(line), "{text:?}");

@@ -18,7 +18,7 @@ pub fn asked(body: Body, state: &State) -> Phrase {
         Body::Broken { offset } => {
             return phrase!["Byte ", offset, " of the journal should start a record"]
         }
-        Body::TooLong => return phrase!["The journal is asked for as a whole"],
+        Body::TooLong => return phrase!["The journal is read as a whole"],
     };
     let [a, b, c, d, e, f] = numbers;
     let step = Piece::Step;

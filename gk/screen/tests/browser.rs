@@ -310,7 +310,7 @@ fn bad_journals_have_a_page_that_says_so() {
     for (name, journal, words) in [
         ("empty", vec![], "The journal is empty"),
         ("broken", vec![0x80, 0x00], "Byte 0 of the journal should start a record"),
-        ("long", vec![0; gatekeeper::JOURNAL_BYTES + 1], "The journal is asked for as a whole"),
+        ("long", vec![0; gatekeeper::JOURNAL_BYTES + 1], "The journal is read as a whole"),
     ] {
         let paged = Paged::new(name, journal, &["--title", "</title><script>alert(1)</script>"]);
         browser.open(&paged.page, "");
