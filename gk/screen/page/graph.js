@@ -136,7 +136,7 @@ for (const name of ["bands", "edges", "things", "flags"]) {
   graph.append(layers[name]);
 }
 
-/** The room for the graph, which is asked for once and whenever it changes: each time would cost a layout of the page. */
+/** The room for the graph, asked for once and when it changes: to ask each time would cost a layout of the page. */
 let width = 0;
 
 /** Measures the room, and says whether it has changed. */

@@ -20,6 +20,9 @@ const LONGEST_NAME: usize = 60;
 /// Signs that a name may have beside letters and digits.
 const SIGNS: &str = " -_./+'&@%";
 
+const EXPECTED_NAME: &str =
+    "a name behind the record: 1 to 60 letters, digits, single spaces and - _ . / + ' & @ %, with a letter";
+
 const KINDS: [&str; 3] = ["step", "file", "pipe"];
 
 /// The names of a journal.
@@ -162,7 +165,7 @@ fn entry(line: &str) -> Result<Entry, &'static str> {
         && !name.ends_with('.')
         && !is_numbered(name);
     if !is_fit {
-        return Err("a name behind the record: 1 to 60 letters, digits, single spaces and - _ . / + ' & @ %, with a letter");
+        return Err(EXPECTED_NAME);
     }
     Ok(Entry { kind, number, from, name: name.to_string() })
 }

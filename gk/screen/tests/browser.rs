@@ -29,7 +29,8 @@ const SAID: &str = "(() => {
   const isShown = (id) => !document.getElementById(id).hidden;
   return {
     line: text('line'), asked: text('asked'), answer: text('answer'), books: text('books'), live: text('live'),
-    why: list('why'), ways: isShown('ways-part') ? list('ways') : [], changed: list('changed'), chain: isShown('chain-part') ? list('chain') : [],
+    why: list('why'), ways: isShown('ways-part') ? list('ways') : [], changed: list('changed'),
+    chain: isShown('chain-part') ? list('chain') : [],
     steps: table('steps'), objects: table('objects'), slider: document.getElementById('slider').value,
     things: document.querySelectorAll('#graph .thing:not(.ghost)').length,
     chained: document.querySelectorAll('#graph .edge.chain, #graph .edge.sought').length,
