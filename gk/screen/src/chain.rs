@@ -39,7 +39,8 @@ pub fn sought(code: u32, numbers: [u32; 6]) -> Vec<(Thing, Thing)> {
 }
 
 /// The shortest chain that a call refused with 9 would have closed, the one from the lowest thing where several are as
-/// short. The state is that before the call.
+/// short. It starts at a thing that is there: a pipe that a connect would make is as low as the step that writes it.
+/// The state is that before the call.
 pub fn chain(code: u32, numbers: [u32; 6], state: &State) -> Option<Chain> {
     let [s, o, a, b, ..] = numbers;
     let mut things: Vec<Option<Link>> =
@@ -65,7 +66,10 @@ pub fn chain(code: u32, numbers: [u32; 6], state: &State) -> Option<Chain> {
             things[thing.index()] = Some(Link { thing, kind: Some(Kind::Pipe), level });
         }
     }
-    let starts = (0..THINGS).filter(|&start| code != 10 || start == Thing::Object(o).index());
+    let starts = (0..THINGS).filter(|&start| match code {
+        10 => start == Thing::Object(o).index(),
+        _ => state.level(Thing::from_index(start)).is_some(),
+    });
     let found = starts.filter_map(|start| way_up(start, &things, &next));
     found.min_by_key(|chain| (chain.links.len(), chain.links[0].level))
 }
@@ -141,8 +145,7 @@ mod tests {
         monitor.admit(1, 5).granted()?;
         assert_eq!(found(&mut monitor, 6, [1, 0, 0, 0, 0, 0]), [(Step(1), 5), (Object(0), 9)]);
         let channel = found(&mut monitor, 17, [0, 1, 5, 6, 1, 2]);
-        // The pipe that the lower step would write has its level, and so is as low as the step.
-        assert_eq!(channel, [(Object(6), 5), (Step(0), 9), (Object(0), 9)]);
+        assert_eq!(channel, [(Step(1), 5), (Object(6), 5), (Step(0), 9), (Object(0), 9)]);
         Ok(())
     }
 
