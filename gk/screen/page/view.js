@@ -58,10 +58,16 @@ function showWhere(to, said) {
   const where = to > 0 ? `record ${to} of ${LAST}, ${answerWords(said)}` : "before the first record";
   byId("slider").setAttribute("aria-valuetext", where);
   byId("number").value = to;
-  byId("first").disabled = byId("back").disabled = to === 0;
-  byId("next").disabled = byId("last").disabled = to === LAST;
-  byId("refused-next").disabled = refusalFrom(to, 1) === undefined;
-  byId("refused-back").disabled = refusalFrom(to, -1) === undefined;
+  // A button that leads nowhere stays where it is, so that who has come to it by keyboard is not thrown back.
+  const leadsNowhere = {
+    first: to === 0,
+    back: to === 0,
+    next: to === LAST,
+    last: to === LAST,
+    "refused-next": refusalFrom(to, 1) === undefined,
+    "refused-back": refusalFrom(to, -1) === undefined,
+  };
+  Object.entries(leadsNowhere).forEach(([id, isSo]) => byId(id).setAttribute("aria-disabled", String(isSo)));
   for (const link of document.querySelectorAll("#refusals a")) {
     if (link.hash === `#${to}`) {
       link.setAttribute("aria-current", "true");
@@ -105,11 +111,18 @@ function showChain(to, said, state) {
     row.append(made("span", `level ${level}`, `level ${ends}`));
     return row;
   });
-  if (rows.length > MOST_LINKS) {
-    const left = rows.length - MOST_LINKS + 1;
-    rows.splice(5, left, made("li", `${left} more, step by pipe by step`, "more"));
+  const isNear = (at) => rows.slice(Math.max(0, at - 1), at + 2).some((each) => each.className === "sought");
+  const isKept = (at) => rows.length <= MOST_LINKS || at < 3 || at >= rows.length - 3 || isNear(at);
+  const kept = [];
+  for (let at = 0, left = 0; at < rows.length; at += 1) {
+    left = isKept(at) ? 0 : left + 1;
+    if (left === 0) {
+      kept.push(rows[at]);
+    } else if (isKept(at + 1)) {
+      kept.push(made("li", `${left} more, step by pipe by step`, "more"));
+    }
   }
-  byId("chain").replaceChildren(...rows);
+  byId("chain").replaceChildren(...kept);
   byId("chain-part").hidden = links.length === 0;
 }
 

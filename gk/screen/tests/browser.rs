@@ -249,6 +249,12 @@ fn march_is_walked_by_keyboard() {
         "pay book (file 0)level 9",
     ];
     assert_eq!(said.get("chain").texts(), chain);
+    browser.open(&paged.page, "#198");
+    let chain = browser.value(SAID).get("chain").texts().join(" | ");
+    assert!(
+        chain.contains("step 17)✗ refused") && chain.contains("| 25 more, step by pipe by step |"),
+        "{chain}"
+    );
     browser.open(&paged.page, "#205");
     let why = browser.value("document.getElementById('why').textContent");
     assert!(
