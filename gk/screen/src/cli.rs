@@ -15,26 +15,33 @@ use crate::terminal::Screen;
 use crate::text::{meant, shown};
 
 const HELP: &str = "\
-usage: gk screen [--at N] [--names FILE] JOURNAL          the state after the last record, or after record N
-       gk screen --follow [--names FILE] JOURNAL          a journal that is still being written
-       gk screen --page [--at N] [--names FILE] JOURNAL   a page for a browser, on standard output
+usage: gk screen [--at N] JOURNAL          the state after the last record, or N
+       gk screen --follow JOURNAL          a journal that is still being written
+       gk screen --page [--at N] JOURNAL   a page for a browser, on standard output
 
-The duty screen: which steps run, at which level, the lowest level that each may fall to while no handle
-goes, and what it holds; the files and pipes; the freeze; the last refusals, the way out first. All of it
-is asked of the proved gatekeeper; only the chain behind a refusal 9 is looked for, and said to be.
+The duty screen: which steps run, at which level, the lowest level that each may
+fall to while no handle goes, and what it holds; the files and pipes; the
+freeze; the last refusals, the way out first. All of it is asked of the proved
+gatekeeper; only the chain behind a refusal 9 is looked for, and said to be.
 
   JOURNAL        a journal; '-' reads standard input
-  --at N         the state after record N; 0 is before the first. On a page: where it opens
-  --follow       shows each new record, until it is interrupted; into a pipe, a line for each
-  --page         writes one file that needs no network: gk screen --page run.journal > run.html
-  --names FILE   names for steps, files and pipes; else those of run.names beside run.journal, if it is there
+  --at N         the state after record N; 0 is before the first. On a page:
+                 where it opens, in place of the first refusal
+  --follow       shows each new record, until it is interrupted; into a pipe,
+                 a line for each
+  --page         one file, without a network: gk screen --page RUN > run.html
+  --names FILE   names for steps, files and pipes; else those of run.names
+                 beside run.journal, if it is there
   --title TEXT   what stands over it, in place of the journal's name
   --color WHEN   always, never, or auto: on a terminal, unless NO_COLOR is set
   --help         this text
 
-A journal that is too long is refused (14) and read no further; --follow goes on, and says so.
-Exit status: 0 shown, a broken journal up to where it holds; 1 a read or write failed; 2 bad usage.
-A reader of the output that stops early ends it without a word, with 141.
+A journal that is too long is refused (14) and read no further; --follow goes
+on, and says so.
+
+Exit status: 0 shown, a broken journal up to where it holds; 1 a read or write
+failed; 2 bad usage. A reader of the output that stops early ends it without a
+word, with 141.
 ";
 
 /// Why it ends with a status other than 0.

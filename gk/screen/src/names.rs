@@ -25,11 +25,14 @@ const EXPECTED_NAME: &str =
 
 const KINDS: [&str; 3] = ["step", "file", "pipe"];
 
+/// Names of one number after the other, each with the record from which on it holds.
+type Given = Vec<(u64, Option<String>)>;
+
 /// The names of a journal.
 #[derive(Clone, Debug, Default)]
 pub struct Names {
-    /// For each kind and number the names that it has, each with the record from which on; none where it has lost one.
-    of: BTreeMap<(&'static str, u32), Vec<(u64, Option<String>)>>,
+    /// For each kind and number the names that it has; none from where on it has lost one.
+    of: BTreeMap<(&'static str, u32), Given>,
     /// The record at which the last thing of a number went.
     went: BTreeMap<Thing, u64>,
 }

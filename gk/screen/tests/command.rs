@@ -184,7 +184,8 @@ fn bad_usage_is_said() {
     fails(&["no such journal\u{7}"], 1, "cannot read 'no such journal\\u{7}'");
     fails(&["/"], 1, "it is a folder");
     fails(&["--names", "none", MARCH], 1, "cannot read 'none'");
-    assert!(shown(&["--help"], b"").contains("Exit status: 0 shown"));
+    let help = shown(&["--help"], b"");
+    assert!(help.contains("Exit status: 0 shown") && help.lines().all(|line| line.len() <= 80), "{help}");
 }
 
 #[test]
