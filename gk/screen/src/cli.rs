@@ -17,7 +17,7 @@ use crate::text::{meant, shown};
 const HELP: &str = "\
 usage: gk screen [--at N] JOURNAL          the state after the last record, or N
        gk screen --follow JOURNAL          a journal that is still being written
-       gk screen --page [--at N] JOURNAL   a page for a browser, on standard output
+       gk screen --page [--at N] JOURNAL   a page, on standard output
 
 The duty screen: which steps run, at which level, the lowest level that each may
 fall to while no handle goes, and what it holds; the files and pipes; the
