@@ -211,7 +211,7 @@ uint64_t gatekeeper_gone(const uint8_t *state, size_t len);
  *
  *   of a subject   256, and its level: see gatekeeper_level_of
  *   of an object   256 times its kind, and its level: see gatekeeper_kind_of and gatekeeper_level_of
- *   of a handle    256 times its way, and its object, and 65536 where it is marked: see gatekeeper_way_of,
+ *   of a handle    256 times its way, and its object, and 256 times 256 where it is marked: see gatekeeper_way_of,
  *                  gatekeeper_object_of and gatekeeper_is_marked
  */
 GATEKEEPER_MUST_USE
@@ -235,7 +235,7 @@ static inline uint32_t gatekeeper_way_of(uint32_t handle) { return handle / 256 
 static inline uint32_t gatekeeper_object_of(uint32_t handle) { return handle % 256; }
 
 /* Whether the handle in an answer of gatekeeper_handle is marked: it ends when its subject runs a program. */
-static inline bool gatekeeper_is_marked(uint32_t handle) { return handle >= 65536; }
+static inline bool gatekeeper_is_marked(uint32_t handle) { return handle >= 256 * 256; }
 
 /* The kept need of a subject and of an object. It is ready: nothing is worked out here. On a monitor that started empty
  * it is at most the level, and a subject or a pipe falls no lower while no handle goes; a file's is its level. 0 where

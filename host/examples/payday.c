@@ -65,6 +65,16 @@ static void must(struct host *host, const char *what, uint32_t code, const uint3
     }
 }
 
+/* The duty screen's line for a step: its level, and the lowest one that it may fall to while no handle goes. */
+static void show(const struct host *host, uint32_t step)
+{
+    uint32_t seen = gatekeeper_subject(host->monitor, sizeof host->monitor, step);
+    uint32_t need = gatekeeper_subject_need(host->monitor, sizeof host->monitor, step);
+    if (seen != 0)
+        printf("The duty screen shows: step %" PRIu32 " is at level %" PRIu32 " and may fall to %" PRIu32 ".\n", step,
+               gatekeeper_level_of(seen), need);
+}
+
 int main(void)
 {
     static struct host host;
@@ -86,6 +96,7 @@ int main(void)
     must(&host, "The shell closes its writing end.", GATEKEEPER_CLOSE, WITH(SHELL, 1));
     must(&host, "The shell opens the pay book for writing.", GATEKEEPER_OPEN_WRITE, WITH(SHELL, PAY_BOOK, 2));
     must(&host, "The adder opens the checked hours for reading.", GATEKEEPER_OPEN_READ, WITH(ADDER, HOURS, 2));
+    show(&host, ADDER);
 
     puts("\nThe adder asks for the unchecked sheet: through pipe 8 it would reach the pay book");
     if (!ask(&host, "The adder opens the sheet of shop 3 for reading.", GATEKEEPER_OPEN_READ, WITH(ADDER, SHEET, 3))) {
@@ -93,6 +104,7 @@ int main(void)
         must(&host, "The shell forks the lister, step 2.", GATEKEEPER_FORK, WITH(SHELL, LISTER));
         must(&host, "The lister closes its end of pipe 8.", GATEKEEPER_CLOSE, WITH(LISTER, 0));
         must(&host, "The lister closes the pay book.", GATEKEEPER_CLOSE, WITH(LISTER, 2));
+        show(&host, LISTER);
         must(&host, "The lister opens the sheet of shop 3 for reading.", GATEKEEPER_OPEN_READ, WITH(LISTER, SHEET, 0));
         must(&host, "The lister reads it.", GATEKEEPER_READ, WITH(LISTER, 0));
         must(&host, "The lister creates file 3, a list for the clerk.", GATEKEEPER_CREATE, WITH(LISTER, LIST));

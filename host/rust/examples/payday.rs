@@ -55,6 +55,14 @@ impl Host {
             std::process::exit(1);
         }
     }
+
+    /// The duty screen's line for a step: its level, and the lowest one that it may fall to while no handle goes.
+    fn show(&self, step: u32) {
+        let seen = self.monitor.subject(step).zip(self.monitor.need_of_subject(step));
+        if let Some((level, need)) = seen {
+            println!("The duty screen shows: step {step} is at level {level} and may fall to {need}.");
+        }
+    }
 }
 
 fn main() {
@@ -88,6 +96,7 @@ fn main() {
         "The adder opens the checked hours for reading.",
         Call::OpenRead { subject: ADDER, object: HOURS, place: 2 },
     );
+    host.show(ADDER);
 
     println!("\nThe adder asks for the unchecked sheet: through pipe 8 it would reach the pay book");
     if !host.ask(
@@ -98,6 +107,7 @@ fn main() {
         host.must("The shell forks the lister, step 2.", Call::Fork { subject: SHELL, child: LISTER });
         host.must("The lister closes its end of pipe 8.", Call::Close { subject: LISTER, place: 0 });
         host.must("The lister closes the pay book.", Call::Close { subject: LISTER, place: 2 });
+        host.show(LISTER);
         host.must(
             "The lister opens the sheet of shop 3 for reading.",
             Call::OpenRead { subject: LISTER, object: SHEET, place: 0 },

@@ -119,6 +119,9 @@ mod tests {
     use super::*;
     use crate::STATE_BYTES;
 
+    /// What a handle's number has more where it is marked.
+    const MARKED: u32 = 256 * 256;
+
     #[test]
     fn bytes_of_another_length_are_not_touched() {
         // 1,232 bytes are those of a version before 2.0.0, and 1,745 those of 2.0.0 to 3.0.0. In bytes that are all 1
@@ -142,7 +145,7 @@ mod tests {
         // Every subject and every file is live, and every handle reads file 1 and is marked; every kept need is 1.
         let mut state = [1; STATE_BYTES];
         assert_eq!((subject(&state, 31), object(&state, 63)), (256 + 1, 256 + 1));
-        assert_eq!(handle(&state, 31, 15), 65536 + 256 + 1);
+        assert_eq!(handle(&state, 31, 15), MARKED + 256 + 1);
         assert_eq!((subject_need(&state, 31), object_need(&state, 63)), (1, 1));
         assert_eq!(frozen_from(&state), 1);
 
@@ -184,16 +187,16 @@ mod tests {
             assert_eq!(object(&state, 0), if kind > 0 { 256 * kind + 1 } else { 0 }, "{byte}");
             assert_eq!(object_need(&state, 0), u32::from(kind > 0), "{byte}");
             let way = known(3);
-            assert_eq!(handle(&state, 1, 0), if way > 0 { 65536 + 256 * way + 1 } else { 0 }, "{byte}");
+            assert_eq!(handle(&state, 1, 0), if way > 0 { MARKED + 256 * way + 1 } else { 0 }, "{byte}");
             // A handle on what is not live dangles, and so does one of a subject that is not.
             let there = (1..64).contains(&byte);
             assert_eq!(
                 handle(&state, 1, 1),
-                if there { 65536 + 256 + u32::from(byte) } else { 0 },
+                if there { MARKED + 256 + u32::from(byte) } else { 0 },
                 "{byte}"
             );
             assert_eq!(handle(&state, 0, 0) > 0, byte == 1, "{byte}");
-            assert_eq!(handle(&state, 1, 2), if byte == 1 { 65536 } else { 0 } + 256 + 1, "{byte}");
+            assert_eq!(handle(&state, 1, 2), 256 + 1 + if byte == 1 { MARKED } else { 0 }, "{byte}");
         }
     }
 }

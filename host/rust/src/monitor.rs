@@ -35,8 +35,8 @@ impl Monitor {
         Monitor { state }
     }
 
-    /// The monitor that a host kept as bytes: those of this version as they are, or the 1,745 of version 2.0.0, 2.1.0 or
-    /// 3.0.0, put right. None for bytes of any other length.
+    /// The monitor that a host kept as bytes: those of this version as they are, or the 1,745 of version 2.0.0, 2.1.0
+    /// or 3.0.0, put right. None for bytes of any other length.
     ///
     /// Those of a version before these lack the third byte of each handle, which is 0, and the last, which is
     /// [`NO_FREEZE`](crate::NO_FREEZE); with them they are bytes of version 2.0.0.
@@ -744,7 +744,7 @@ mod tests {
         let kept = monitor.as_bytes();
         assert_eq!(Monitor::from_kept(kept).as_ref(), Some(&monitor));
 
-        // Those of before are the same monitor, and right. With 96 bytes of any value they are, once they are put right.
+        // Those of before are the same monitor, and right; and so they are with 96 bytes of any value, put right.
         let again = Monitor::from_kept(&kept[..NEEDS_AT]).expect("bytes of before");
         assert_eq!(tables(&again), tables(&monitor));
         for filled in [0, 7, 255] {
