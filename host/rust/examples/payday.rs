@@ -3,7 +3,7 @@
 //!
 //! In `host/rust`: `cargo run --offline --example payday`
 
-use gatekeeper::{Answer, Call, Monitor, NO_FREEZE};
+use gatekeeper::{Answer, Call, Handle, Kind, Monitor, Way, NO_FREEZE, PLACES};
 
 // What comes from outside, and the numbers that this host gives to it and to what it makes.
 const SHELL: u32 = 0;
@@ -56,11 +56,29 @@ impl Host {
         }
     }
 
-    /// The duty screen's line for a step: its level, and the lowest one that it may fall to while no handle goes.
+    /// What the duty screen shows of a step: its level, the lowest one that it may fall to while no handle goes, and
+    /// its handles.
     fn show(&self, step: u32) {
-        let seen = self.monitor.subject(step).zip(self.monitor.need_of_subject(step));
-        if let Some((level, need)) = seen {
-            println!("The duty screen shows: step {step} is at level {level} and may fall to {need}.");
+        let monitor = &self.monitor;
+        let Some((level, need)) = monitor.subject(step).zip(monitor.need_of_subject(step)) else {
+            return;
+        };
+        println!("The duty screen shows: step {step} is at level {level} and may fall to {need}.");
+        for place in 0..PLACES {
+            let Some(Handle { way, object, marked }) = monitor.handle(step, place) else {
+                continue;
+            };
+            let way = match way {
+                Way::Reads => "reads",
+                Way::Writes => "writes",
+                Way::Maps => "maps",
+            };
+            let is_pipe = monitor.object(object.into()).is_some_and(|object| object.kind == Kind::Pipe);
+            let kind = if is_pipe { "pipe" } else { "file" };
+            println!(
+                "  Its place {place} {way} {kind} {object}{}.",
+                if marked { ", until exec" } else { "" }
+            );
         }
     }
 }
@@ -151,6 +169,7 @@ fn main() {
             "The launcher marks the pay book: that handle ends at exec.",
             Call::Mark { subject: LAUNCHER, place: 2 },
         );
+        host.show(LAUNCHER);
         host.must("The launcher runs the viewer.", Call::Exec { subject: LAUNCHER, object: VIEWER });
     }
     host.must("The viewer exits.", Call::Exit { subject: LAUNCHER });
@@ -164,6 +183,7 @@ fn main() {
         "The importer maps the sheet of shop 3.",
         Call::Map { subject: IMPORTER, object: SHEET, place: 1 },
     );
+    host.show(IMPORTER);
     host.must("The terminal of shop 3 is step 5.", Call::Admit { subject: TERMINAL, level: 2 });
     host.must(
         "The terminal opens the sheet for writing.",

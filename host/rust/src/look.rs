@@ -4,6 +4,11 @@
 use crate::archive;
 use crate::monitor::Monitor;
 
+/// How many there are of each; numbers start at 0. Files and pipes share theirs, and places are those of one subject.
+pub const SUBJECTS: u32 = 32;
+pub const OBJECTS: u32 = 64;
+pub const PLACES: u32 = 16;
+
 /// What an object is.
 #[derive(Clone, Copy, Debug, PartialEq, Eq)]
 pub enum Kind {
@@ -232,6 +237,18 @@ mod tests {
         assert_eq!(monitor.close(0, 3), Answer::Allowed(12));
         assert_eq!(needs_of_subjects(&monitor, [0, 1]), [Some(0), Some(2)]);
         assert_eq!(needs_of_objects(&monitor, [0, 1, 5]), [Some(7), Some(2), Some(0)]);
+
+        // An end of a pipe is a way, too: one who reads it gives it a need, and one who writes it takes that over.
+        let mut monitor = chain();
+        assert_eq!(monitor.admit(2, 10), Answer::Allowed(10));
+        assert_eq!(monitor.close(0, 0), Answer::Allowed(12));
+        assert_eq!(needs_of_subjects(&monitor, [0, 1, 2]), [Some(7), Some(0), Some(0)]);
+        assert_eq!(needs_of_objects(&monitor, [5]), [Some(0)]);
+        assert_eq!(monitor.open_read(0, 5, 0), Answer::Allowed(12));
+        assert_eq!(needs_of_subjects(&monitor, [0, 1, 2]), [Some(7), Some(7), Some(0)]);
+        assert_eq!(needs_of_objects(&monitor, [5]), [Some(7)]);
+        assert_eq!(monitor.open_write(2, 5, 0), Answer::Allowed(12));
+        assert_eq!(needs_of_subjects(&monitor, [0, 1, 2]), [Some(7); 3]);
     }
 
     #[test]
