@@ -71,8 +71,8 @@ extern "C" {
  *
  * Bytes that version 2.0.0, 2.1.0 or 3.0.0 kept have no kept needs: there are 1745 of them, which is a wrong length.
  * With 96 bytes of any value after them, and after one gatekeeper_put_right, they are the same monitor, and right.
- * Those of a version before these have neither marks nor a freeze either: a byte 0 goes after the two of each handle,
- * and a byte of GATEKEEPER_NO_FREEZE after all, and then they are treated like the others.
+ * Those of a version before these have neither marks nor a freeze either. With a byte 0 after the two of each handle,
+ * and a byte of GATEKEEPER_NO_FREEZE after all, they are bytes of version 2.0.0.
  */
 
 /* The calls, with the numbers that each takes, in their order. s, t and c are subjects, o is an object, a and b are the
@@ -214,11 +214,8 @@ uint64_t gatekeeper_gone(const uint8_t *state, size_t len);
  *   of a handle    256 times its way, and its object, and 256 times 256 where it is marked: see gatekeeper_way_of,
  *                  gatekeeper_object_of and gatekeeper_is_marked
  */
-GATEKEEPER_MUST_USE
 uint32_t gatekeeper_subject(const uint8_t *state, size_t len, uint32_t s);
-GATEKEEPER_MUST_USE
 uint32_t gatekeeper_object(const uint8_t *state, size_t len, uint32_t o);
-GATEKEEPER_MUST_USE
 uint32_t gatekeeper_handle(const uint8_t *state, size_t len, uint32_t s, uint32_t p);
 
 /* The level in an answer of gatekeeper_subject or gatekeeper_object that is not 0. On a monitor that started empty it
@@ -241,9 +238,7 @@ static inline bool gatekeeper_is_marked(uint32_t handle) { return handle >= 256 
  * it is at most the level, and a subject or a pipe falls no lower while no handle goes; a file's is its level. 0 where
  * the number is out of range or not live, and where `len` is not GATEKEEPER_STATE_BYTES. Since 0 is a need, too, a host
  * asks gatekeeper_subject or gatekeeper_object first whether there is one. */
-GATEKEEPER_MUST_USE
 uint32_t gatekeeper_subject_need(const uint8_t *state, size_t len, uint32_t s);
-GATEKEEPER_MUST_USE
 uint32_t gatekeeper_object_need(const uint8_t *state, size_t len, uint32_t o);
 
 /* Works the kept needs out anew, so that the monitor is right, and returns true; all other bytes stay as they are. A
