@@ -14,7 +14,7 @@ const STATE_BYTES_BEFORE: usize = 1745;
 
 /// A monitor with its tally of handles and its kept needs. It is a plain value: a clone is a monitor of its own.
 ///
-/// Two are equal if their bytes are.
+/// Two are equal if their bytes are, the kept needs of numbers that are not in use among them.
 #[derive(Clone, PartialEq, Eq)]
 pub struct Monitor {
     state: [u8; STATE_BYTES],
@@ -30,7 +30,7 @@ impl Monitor {
 
     /// The monitor that these bytes are. Any bytes are one; `host/gatekeeper.h` has the layout. On bytes that did not
     /// come from [`Monitor::as_bytes`] of this version, [`Monitor::put_right`] is to be called once: calls are answered
-    /// by the rules without it, but needs may be shown wrong. [`Monitor::from_kept`] does that by itself.
+    /// by the rules without it, but needs may be shown wrong. [`Monitor::from_kept`] does so with those of before.
     pub fn from_bytes(state: [u8; STATE_BYTES]) -> Monitor {
         Monitor { state }
     }
@@ -39,7 +39,7 @@ impl Monitor {
     /// or 3.0.0, put right. None for bytes of any other length.
     ///
     /// Those of a version before these lack the third byte of each handle, which is 0, and the last, which is
-    /// [`NO_FREEZE`](crate::NO_FREEZE); with them they are bytes of version 2.0.0.
+    /// [`NO_FREEZE`]; with them they are bytes of version 2.0.0.
     ///
     /// ```
     /// use gatekeeper::{Monitor, Refusal};
