@@ -30,7 +30,7 @@ extern "C" {
 #endif
 
 /* The version of this header, and of the archive that belongs to it. */
-#define GATEKEEPER_VERSION "3.0.0"
+#define GATEKEEPER_VERSION "4.0.0"
 
 /* How much stack a call of any function here takes at most, in bytes: measured (tools/hosts), not proved. */
 #define GATEKEEPER_STACK_BYTES 40960

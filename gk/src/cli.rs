@@ -53,6 +53,8 @@ pub const COMMANDS: &[Command] = &[
     command("explain", "the replies in plain words", Work::Here(commands::explain, help::EXPLAIN)),
     command("assemble", "from words to a journal", Work::Here(commands::assemble, help::ASSEMBLE)),
     command("disassemble", "from a journal to words", Work::Here(commands::disassemble, help::DISASSEMBLE)),
+    command("trace", "the trace of a real run as a journal", Work::There(gk_trace::main)),
+    command("screen", "the run to look at: a screen, or a page", Work::There(gk_screen::main)),
 ];
 
 /// Runs the program with these arguments; `is_open` says whether it was started with its standard output open.
