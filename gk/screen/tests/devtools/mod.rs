@@ -12,7 +12,7 @@ use std::time::Duration;
 use json::{quoted, Json};
 
 /// After so long without an end the browser is stopped, and the test fails.
-const PATIENCE: Duration = Duration::from_secs(300);
+const PATIENCE: Duration = Duration::from_secs(1200);
 
 pub struct Browser {
     child: Arc<Mutex<Child>>,
