@@ -1,6 +1,7 @@
 //! A journal's replies in plain words, for a payroll clerk: who asked what, what was answered, what did not happen
 //! where it was refused, and what can be done about it.
 
+mod alike;
 mod asked;
 pub mod json;
 mod outcome;
@@ -15,6 +16,8 @@ use crate::chain::Link;
 use crate::names::Names;
 use crate::run::{agrees, Content, Run, Step};
 use crate::text::{paragraph, wrapped};
+use crate::things::Thing;
+use alike::Alike;
 use refused::{refused, Refused};
 use scene::{Lives, Scene};
 
@@ -61,6 +64,19 @@ pub fn tell(
     which: Which,
     mut each: impl FnMut(Told),
 ) -> Result<End, Differs> {
+    look(journal, names, which, |moment| each(moment.told()))
+}
+
+/// A record in its run, of which something may be said.
+struct Moment<'a> {
+    step: &'a Step,
+    names: &'a Names,
+    lives: &'a Lives,
+    closing: Option<Closing>,
+}
+
+/// Goes through a journal record by record, as [`tell`] does.
+fn look(journal: &[u8], names: &Names, which: Which, mut each: impl FnMut(Moment)) -> Result<End, Differs> {
     let mut end = End::default();
     let mut lines = String::new();
     let mut lives = Lives::default();
@@ -75,7 +91,7 @@ pub fn tell(
             Answer::Refused(_) => end.refused += 1,
         }
         if which == Which::All || step.refusal().is_some() {
-            each(told(step.clone(), names, &lives, closing));
+            each(Moment { step: &step, names, lives: &lives, closing });
         }
         lives.follow(&step);
         if let (Content::Call(Call::Freeze { .. }), None) = (step.content, step.refusal()) {
@@ -94,30 +110,49 @@ pub fn tell(
     }
 }
 
-fn told(step: Step, names: &Names, lives: &Lives, closing: Option<Closing>) -> Told {
-    let before = Scene { monitor: &step.before, record: step.position, names, lives };
-    let names = match step.content {
-        Content::Call(call) => asked::names_in(call, before),
-        _ => Vec::new(),
-    };
-    match (step.content, step.refusal()) {
-        (Content::Call(call), Some(refusal)) => {
-            let Refused { title, facts, chain, counsel } = refused(call, refusal, before, closing);
-            Told { title, names, facts, chain, counsel, step }
-        }
-        (Content::Call(call), None) => {
-            let title = format!("{}.", asked::asked(call, before, true));
-            let mut facts = outcome::outcome(call, before, &step.after, closing);
-            let letter = if matches!(step.answer, Answer::Lowered(_)) { "Lowered." } else { "Allowed." };
-            match facts.first_mut() {
-                Some(first) => *first = format!("{letter} {first}"),
-                None => facts.push(letter.to_string()),
+impl<'a> Moment<'a> {
+    /// The tables before the record.
+    fn before(&self) -> Scene<'a> {
+        let Moment { step, names, lives, .. } = *self;
+        Scene { monitor: &step.before, record: step.position, names, lives, unnamed: None }
+    }
+
+    /// What is said of the record.
+    fn told(&self) -> Told {
+        self.told_in(self.before())
+    }
+
+    /// The same with a file or pipe that is not named, in words that may hold of other records, too.
+    fn told_without(&self, thing: Thing) -> Told {
+        self.told_in(Scene { unnamed: Some(thing), ..self.before() })
+    }
+
+    fn told_in(&self, before: Scene) -> Told {
+        let step = self.step.clone();
+        let names = match step.content {
+            Content::Call(call) => asked::names_in(call, before),
+            _ => Vec::new(),
+        };
+        match (step.content, step.refusal()) {
+            (Content::Call(call), Some(refusal)) => {
+                let Refused { title, facts, chain, counsel } = refused(call, refusal, before, self.closing);
+                Told { title, names, facts, chain, counsel, step }
             }
-            Told { title, names, facts, chain: Vec::new(), counsel: Counsel::default(), step }
-        }
-        (content, _) => {
-            let (title, facts) = refused::no_call(content);
-            Told { title, names, facts, chain: Vec::new(), counsel: Counsel::default(), step }
+            (Content::Call(call), None) => {
+                let title = format!("{}.", asked::asked(call, before, true));
+                let mut facts = outcome::outcome(call, before, &step.after, self.closing);
+                let letter =
+                    if matches!(step.answer, Answer::Lowered(_)) { "Lowered." } else { "Allowed." };
+                match facts.first_mut() {
+                    Some(first) => *first = format!("{letter} {first}"),
+                    None => facts.push(letter.to_string()),
+                }
+                Told { title, names, facts, chain: Vec::new(), counsel: Counsel::default(), step }
+            }
+            (content, _) => {
+                let (title, facts) = refused::no_call(content);
+                Told { title, names, facts, chain: Vec::new(), counsel: Counsel::default(), step }
+            }
         }
     }
 }
@@ -125,10 +160,16 @@ fn told(step: Step, names: &Names, lives: &Lives, closing: Option<Closing>) -> T
 impl Told {
     /// The record in sentences, on lines.
     pub fn text(&self) -> String {
-        let mut text = match self.step.content {
+        let title = match self.step.content {
             Content::TooLong => paragraph("", &self.title),
             _ => paragraph(&format!("{}. ", self.step.position), &self.title),
         };
+        title + &self.below()
+    }
+
+    /// What stands below the title.
+    fn below(&self) -> String {
+        let mut text = String::new();
         for fact in &self.facts {
             text.push_str(&paragraph("  ", fact));
         }
@@ -151,14 +192,20 @@ impl Told {
     }
 }
 
-/// The whole journal in sentences.
+/// The whole journal in sentences; where only refusals are told, those that are alike in one paragraph.
 pub fn explain(journal: &[u8], names: &Names, which: Which) -> Result<String, Differs> {
     let mut text = String::new();
     let mut has_ways = false;
-    let end = tell(journal, names, which, |told| {
-        has_ways |= !told.counsel.ways.is_empty();
-        text.push_str(&told.text());
+    let mut alike = Alike::default();
+    let end = look(journal, names, which, |moment| match which {
+        Which::All => {
+            let told = moment.told();
+            has_ways |= !told.counsel.ways.is_empty();
+            text.push_str(&told.text());
+        }
+        Which::Refused => has_ways |= alike.take(&moment),
     })?;
+    text.push_str(&alike.text());
     text.push_str(&format!(
         "End of the run: {} allowed, {} lowered, {} refused.\nHandles: {} made, {} gone, {} still open.\n",
         end.allowed, end.lowered, end.refused, end.made, end.gone, end.open

@@ -55,7 +55,7 @@ Every answer is the proved gatekeeper's. What to do is not proved, but tried: th
 were made on a copy of the tables as they were before the record, and were allowed there. For refusal 9 it
 shows a chain that data could have taken from a low thing to a higher file, which is not proved either.
 
-  --refused     only the records that were refused, and the end
+  --refused     only the records that were refused, those that are alike in one paragraph, and the end
   --summary     for each step its levels over time, what it held, and what it was refused
   --json        an object a line: one for each record, and a last one for the end (docs/JSON.md)
   --names FILE  the names of steps, files and pipes; else run.names beside run.journal, if it is there

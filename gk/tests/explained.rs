@@ -2,7 +2,7 @@
 
 mod common;
 
-use common::{err, explained, gk, out, sees};
+use common::{err, explained, gk, journals, out, sees, Folder};
 
 /// The pay book, an hours sheet, a step of level 9 and one of level 8.
 const BOOKS: &str = "register 0 9\nregister 1 2\nadmit 0 9\nadmit 1 8\n";
@@ -311,6 +311,71 @@ fn only_refusals_are_told_where_that_is_asked() {
         "{text}"
     );
     assert!(!text.contains("7. ") && !text.contains("1. File"), "{text}");
+}
+
+/// The paragraphs of a text, each on one line.
+fn paragraphs(text: &str) -> Vec<String> {
+    let mut found: Vec<String> = Vec::new();
+    for line in text.lines() {
+        match found.last_mut().filter(|_| line.starts_with(' ')) {
+            Some(last) => *last = format!("{last} {}", line.trim_start()),
+            None => found.push(line.to_string()),
+        }
+    }
+    found
+}
+
+#[test]
+fn refusals_that_are_alike_are_told_once() {
+    let names = "name step 0 merge\nname file 1 \"sheet one\"\nname file 2 \"sheet two\"\n";
+    let opens = "open-read 0 1 1\nopen-read 0 2 2\nopen-read 0 1 1\nmap 0 2 1\nopen-read 0 3 1\nread 7 0\nread 7 0\n";
+    let text = format!("{names}{BOOKS}register 2 2\nregister 3 3\nopen-write 0 0 0\n{opens}");
+    let folder = Folder::new("alike");
+    let journal = folder.path("run.journal");
+    assert!(gk(&["assemble", "-o", &journal], text.as_bytes()).status.success());
+    let told = paragraphs(&out(&gk(&["explain", "--refused", &journal], b"")));
+    assert_eq!(told.len(), 7, "{told:#?}");
+    let first = "Records 8, 9 and 10: merge (step 0) may not open the file for reading: it writes file 0. The file is at \
+                 record 8 sheet one (file 1), at record 9 sheet two (file 2), at record 10 sheet one (file 1). Refused \
+                 (9): low data could reach a higher file. Nothing is opened. The file has level 2, and file 0 takes \
+                 nothing from below level 9.";
+    assert!(told[0].starts_with(first), "{}", told[0]);
+    assert!(told[0].contains("the file (level 2) → merge (level 9) → file 0 (level 9)"), "{}", told[0]);
+    assert!(
+        told[1].starts_with("11. merge (step 0) may not map sheet two (file 2) at place 1"),
+        "{}",
+        told[1]
+    );
+    assert!(
+        told[2].starts_with("12. merge (step 0) may not open file 3 for reading at place 1"),
+        "{}",
+        told[2]
+    );
+    assert!(told[3].starts_with("Records 13 and 14: Step 7 may not read at place 0"), "{}", told[3]);
+}
+
+/// Told together or alone, each refusal stands at its number, and no other record does.
+#[test]
+fn every_refusal_is_found_by_its_number() {
+    for (name, journal) in journals() {
+        let told = out(&gk(&["explain", "--refused"], &journal));
+        let mut found: Vec<u64> = Vec::new();
+        for text in paragraphs(&told).iter().take_while(|text| !text.starts_with("End of the run")) {
+            let numbers = match text.strip_prefix("Records ") {
+                Some(rest) => rest.split_once(": ").unwrap().0.replace(" and ", ", "),
+                None if text.starts_with("The journal is refused (14)") => "1".to_string(),
+                None => text.split_once(". ").unwrap().0.to_string(),
+            };
+            found.extend(numbers.split(", ").map(|number| number.parse::<u64>().unwrap()));
+        }
+        found.sort_unstable();
+        let json = out(&gk(&["explain", "--refused", "--json"], &journal));
+        let expected: Vec<u64> = json
+            .lines()
+            .filter_map(|line| line.strip_prefix("{\"record\":")?.split(',').next()?.parse().ok())
+            .collect();
+        assert_eq!(found, expected, "{name}");
+    }
 }
 
 #[test]

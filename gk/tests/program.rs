@@ -295,6 +295,26 @@ fn behind_two_dashes_stands_a_file() {
     }
 }
 
+/// In a pipe the names file is not there yet when the second program starts.
+#[test]
+fn a_trace_is_explained_from_a_pipe_with_its_names() {
+    let folder = Folder::new("traced");
+    let program = env!("CARGO_BIN_EXE_gk");
+    let runs = format!("{ROOT}/gk/trace/tests/runs");
+    for (command, most) in [("explain --refused", 40), ("disassemble", 300)] {
+        let names = folder.path(&format!("{}.names", command.len()));
+        let trace =
+            format!("trace '{runs}/pay.trace' --quiet --levels '{runs}/pay.levels' --names '{names}'");
+        let line =
+            format!("set -o pipefail; '{program}' {trace} | '{program}' {command} --names '{names}' -");
+        let output = Command::new("bash").args(["-c", &line]).stdin(Stdio::null()).output().unwrap();
+        assert_eq!(output.status.code(), Some(0), "{}", err(&output));
+        assert!(out(&output).contains("paybook.csv"), "{}", out(&output));
+        // Thirty refusals that are alike are a page and no more.
+        assert!(out(&output).lines().count() <= most, "{}", out(&output));
+    }
+}
+
 #[test]
 fn every_stored_journal_is_answered_as_the_proved_run_of_it() {
     for (name, journal) in journals() {

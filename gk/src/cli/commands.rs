@@ -80,8 +80,9 @@ pub fn explain(arguments: Vec<OsString>) -> Done {
     if arguments.has("--summary") && (arguments.has("--refused") || arguments.has("--json")) {
         return Err(arguments.wrong("--summary stands alone, without --refused and --json"));
     }
-    let names = read_names(&arguments)?;
+    // The journal first: in a pipe, who writes it may write the names as well, and has done so when it is whole.
     let journal = read_journal("explain", arguments.file()?)?;
+    let names = read_names(&arguments)?;
     let which = if arguments.has("--refused") { Which::Refused } else { Which::All };
     let text = if arguments.has("--summary") {
         summary::summary(&journal, &names)
@@ -102,8 +103,9 @@ pub fn explain(arguments: Vec<OsString>) -> Done {
 
 pub fn disassemble(arguments: Vec<OsString>) -> Done {
     let arguments = Arguments::sort("disassemble", arguments, &["-o", "--names"], &[])?;
-    let names = read_names(&arguments)?;
+    // The journal first: in a pipe, who writes it may write the names as well, and has done so when it is whole.
     let journal = read_journal("disassemble", arguments.file()?)?;
+    let names = read_names(&arguments)?;
     write_to(arguments.out(), disassembly::disassemble(&journal, &names).as_bytes())
 }
 

@@ -19,6 +19,11 @@ pub fn asked(call: Call, scene: Scene, happens: bool) -> String {
     };
     let is = if happens { "is" } else { "is not" };
     let object = |o: u32| scene.whole(Thing::Object(o));
+    // What is said of several records at once leaves out the places, which differ.
+    let at = |place: u32| match scene.unnamed {
+        Some(_) => String::new(),
+        None => format!(" at place {place}"),
+    };
     let new = |kind: Kind, number: u32| scene.new_thing(kind, number);
     match call {
         Call::Admit { subject, level } => {
@@ -36,10 +41,10 @@ pub fn asked(call: Call, scene: Scene, happens: bool) -> String {
             by(subject, "makes", "make", &rest)
         }
         Call::OpenRead { subject, object: o, place } => {
-            by(subject, "opens", "open", &format!(" {} for reading at place {place}", object(o)))
+            by(subject, "opens", "open", &format!(" {} for reading{}", object(o), at(place)))
         }
         Call::OpenWrite { subject, object: o, place } => {
-            by(subject, "opens", "open", &format!(" {} for writing at place {place}", object(o)))
+            by(subject, "opens", "open", &format!(" {} for writing{}", object(o), at(place)))
         }
         Call::Read { subject, place } => {
             by(subject, "reads", "read", &format!(" at place {place}, {}", scene.at_place(subject, place)))
@@ -55,7 +60,7 @@ pub fn asked(call: Call, scene: Scene, happens: bool) -> String {
         Call::Exit { subject } => by(subject, "exits", "exit", ""),
         Call::Retire { object: o } => format!("{} {is} retired", capital(&object(o))),
         Call::Map { subject, object: o, place } => {
-            by(subject, "maps", "map", &format!(" {} at place {place}", object(o)))
+            by(subject, "maps", "map", &format!(" {}{}", object(o), at(place)))
         }
         Call::Mark { subject, place } => {
             by(subject, "marks", "mark", &format!(" place {place}, {}", scene.at_place(subject, place)))

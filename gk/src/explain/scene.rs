@@ -68,6 +68,8 @@ pub struct Scene<'a> {
     pub record: u64,
     pub names: &'a Names,
     pub lives: &'a Lives,
+    /// A file or pipe that is called "the file" or "the pipe" here, in words that are for several records at once.
+    pub unnamed: Option<Thing>,
 }
 
 impl<'a> Scene<'a> {
@@ -84,6 +86,7 @@ impl<'a> Scene<'a> {
     /// Its name with kind and number behind it, or these alone.
     pub fn whole(&self, thing: Thing) -> String {
         match self.name(thing) {
+            Some(name) if self.unnamed == Some(thing) => name.to_string(),
             Some(name) => format!("{name} ({})", self.number(thing)),
             None => self.number(thing),
         }
@@ -125,6 +128,17 @@ impl<'a> Scene<'a> {
         is_its.then_some(entry.name.as_str())
     }
 
+    /// What a file or pipe is called that is not to be named; none where it is not there.
+    pub fn name_of_kind(&self, thing: Thing) -> Option<&'static str> {
+        match thing {
+            Thing::Step(_) => None,
+            Thing::Object(o) => self.monitor.object(o).map(|object| match object.kind {
+                ObjectKind::File => "the file",
+                ObjectKind::Pipe => "the pipe",
+            }),
+        }
+    }
+
     /// Kind and number of a thing.
     pub fn number(&self, thing: Thing) -> String {
         match thing {
@@ -139,6 +153,9 @@ impl<'a> Scene<'a> {
 
     /// The name of a thing.
     pub fn name(&self, thing: Thing) -> Option<&'a str> {
+        if self.unnamed == Some(thing) {
+            return self.name_of_kind(thing);
+        }
         let entry: Option<&Entry> = match thing {
             Thing::Step(s) => self.names.entry(Kind::Step, s, self.record),
             Thing::Object(o) => match self.monitor.object(o).map(|object| object.kind) {

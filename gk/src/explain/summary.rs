@@ -43,7 +43,8 @@ pub fn summary(journal: &[u8], names: &Names) -> Result<String, Differs> {
     for step in &mut run {
         lines.push_str(&step.line());
         lines.push('\n');
-        let before = Scene { monitor: &step.before, record: step.position, names, lives: &lives };
+        let before =
+            Scene { monitor: &step.before, record: step.position, names, lives: &lives, unnamed: None };
         match step.refusal() {
             None => end.allowed += 1,
             Some(_) => {
@@ -56,7 +57,8 @@ pub fn summary(journal: &[u8], names: &Names) -> Result<String, Differs> {
             }
         }
         lives.follow(&step);
-        let after = Scene { monitor: &step.after, record: step.position, names, lives: &lives };
+        let after =
+            Scene { monitor: &step.after, record: step.position, names, lives: &lives, unnamed: None };
         follow(&step, after, &mut stays);
     }
     lines.push_str(&run.end_line());
