@@ -5,9 +5,10 @@ use std::io::{self, IsTerminal, Read, Write};
 use std::path::Path;
 
 use gatekeeper::{replay, JOURNAL_BYTES};
+use gk_names::Fault;
 
 use crate::follow::follow;
-use crate::names::{beside, Names, LONGEST_FILE};
+use crate::names::Names;
 use crate::page::page;
 use crate::records::Run;
 use crate::state::State;
@@ -234,7 +235,7 @@ fn looks_like_text(journal: &[u8]) -> bool {
 
 /// The names of the file that is asked for, or of the one beside the journal.
 fn names(wish: &Wish, path: &str) -> Result<Names, Failure> {
-    let beside = beside(Path::new(path));
+    let beside = gk_names::beside(Path::new(path));
     let (file, is_asked) = match &wish.names {
         Some(file) => (file.clone(), true),
         None if path != "-" && beside.is_file() && beside != Path::new(path) => {
@@ -242,10 +243,11 @@ fn names(wish: &Wish, path: &str) -> Result<Names, Failure> {
         }
         None => return Ok(Names::default()),
     };
-    let wrong = |(line, expected): (usize, &str)| {
-        Failure::Failed(format!("{}: line {line}: expected {expected}", shown(&file)))
+    let wrong = |fault: Fault| match fault {
+        Fault::Unread(error) => Failure::Failed(format!("cannot read '{}': {error}", shown(&file))),
+        fault => Failure::Failed(format!("{}: {fault}", shown(&file))),
     };
-    let read = read(&file, LONGEST_FILE as u64 + 1).and_then(|bytes| Names::read(&bytes).map_err(wrong));
+    let read = gk_names::Names::load(Path::new(&file)).map(|names| Names::given(&names)).map_err(wrong);
     match read {
         Err(Failure::Failed(message)) if !is_asked => {
             remark(&format!("shown without names: {message}"));

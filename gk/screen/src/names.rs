@@ -1,27 +1,12 @@
-//! Names for the steps, files and pipes of a journal, from a names file.
+//! Names for the steps, files and pipes of a journal, from a names file as `gk_names` reads it.
 //!
-//! The first line is `names 1`. Each other line is empty, a comment (its first character is `#`), or a kind (`step`,
-//! `file` or `pipe`), a number, the record from which on the name holds, and the name, with one space between two of
-//! them. A number has the name that was given to it last; files and pipes share their numbers. A name is one thing's:
-//! given to another, it is no longer the first one's from that record on. And it goes with its thing: where a number is
-//! used again, a name from before is not the new thing's.
+//! A number has the name that was given to it last; files and pipes share their numbers. A name is one thing's: given to
+//! another, it is no longer the first one's from that record on. And it goes with its thing: where a number is used
+//! again, a name from before is not the new thing's.
 
 use std::collections::BTreeMap;
-use std::path::{Path, PathBuf};
 
 use crate::state::{State, Thing};
-
-/// The longest names file that is read, in bytes.
-pub const LONGEST_FILE: usize = 1 << 22;
-
-/// The most characters of a name.
-const LONGEST_NAME: usize = 60;
-
-/// Signs that a name may have beside letters and digits.
-const SIGNS: &str = " -_./+'&@%";
-
-const EXPECTED_NAME: &str =
-    "a name behind the record: 1 to 60 letters, digits, single spaces and - _ . / + ' & @ %, with a letter";
 
 const KINDS: [&str; 3] = ["step", "file", "pipe"];
 
@@ -35,11 +20,6 @@ pub struct Names {
     of: BTreeMap<(&'static str, u32), Given>,
     /// The record at which the last thing of a number went.
     went: BTreeMap<Thing, u64>,
-}
-
-/// The names file of a journal: the same path with `.names` in the place of its ending.
-pub fn beside(journal: &Path) -> PathBuf {
-    journal.with_extension("names")
 }
 
 impl Names {
@@ -90,43 +70,23 @@ impl Names {
         }
     }
 
-    /// The names that the bytes of a file have; or the line, from 1, and what was expected there.
-    pub fn read(bytes: &[u8]) -> Result<Names, (usize, &'static str)> {
-        if bytes.len() > LONGEST_FILE {
-            return Err((1, "at most 4,194,304 bytes"));
-        }
-        let bytes = bytes.strip_prefix(b"\xef\xbb\xbf").unwrap_or(bytes);
-        let mut entries = Vec::new();
-        for (index, line) in bytes.split(|&byte| byte == b'\n').enumerate() {
-            let wrong = |expected| (index + 1, expected);
-            let line = std::str::from_utf8(line).map_err(|_| wrong("text in UTF-8"))?;
-            let line = line.strip_suffix('\r').unwrap_or(line);
-            match index {
-                0 if line == "names 1" => {}
-                0 => return Err(wrong("\"names 1\", the first line of every names file")),
-                _ if line.is_empty() || line.starts_with('#') => {}
-                _ => entries.push(entry(line).map_err(wrong)?),
-            }
-        }
-        entries.sort_by_key(|entry| entry.from);
-        Ok(Names::given(entries))
-    }
-
-    /// The names that entries give, which rise by record.
-    fn given(entries: Vec<Entry>) -> Names {
+    /// The names that the entries of a names file give.
+    pub fn given(file: &gk_names::Names) -> Names {
         let mut names = Names::default();
-        let mut holders: BTreeMap<String, (&'static str, u32)> = BTreeMap::new();
-        for Entry { kind, number, from, name } in entries {
+        let mut holders: BTreeMap<&str, (&'static str, u32)> = BTreeMap::new();
+        for entry in file.entries() {
+            let (kind, number, from, name) =
+                (entry.kind.word(), entry.number, entry.from, entry.name.as_str());
             if kind != "step" {
                 let other = if kind == "file" { "pipe" } else { "file" };
                 names.set(other, number, from, None);
             }
-            if let Some(&(kind, number)) = holders.get(&name) {
-                if names.name(kind, number, from) == Some(&name) {
+            if let Some(&(kind, number)) = holders.get(name) {
+                if names.name(kind, number, from) == Some(name) {
                     names.set(kind, number, from, None);
                 }
             }
-            names.set(kind, number, from, Some(name.clone()));
+            names.set(kind, number, from, Some(name.to_string()));
             holders.insert(name, (kind, number));
         }
         names
@@ -142,74 +102,19 @@ impl Names {
     }
 }
 
-struct Entry {
-    kind: &'static str,
-    number: u32,
-    from: u64,
-    name: String,
-}
-
-fn entry(line: &str) -> Result<Entry, &'static str> {
-    let mut parts = line.splitn(4, ' ');
-    let mut part = || parts.next().unwrap_or("");
-    let word = part();
-    let kind = KINDS.into_iter().find(|kind| *kind == word).ok_or("step, file or pipe")?;
-    let number = digits(part()).ok_or("a number behind the kind, at most 4294967295")?;
-    let from =
-        digits(part()).filter(|&from| from > 0).ok_or("the first record behind the number, from 1 on")?;
-    let name = part();
-    let is_fit = !name.is_empty()
-        && name.chars().nth(LONGEST_NAME).is_none()
-        && name.chars().all(is_fit)
-        && name.chars().any(char::is_alphabetic)
-        && name.trim() == name
-        && !name.contains("  ")
-        && !name.contains(". ")
-        && !name.ends_with('.')
-        && !is_numbered(name);
-    if !is_fit {
-        return Err(EXPECTED_NAME);
-    }
-    Ok(Entry { kind, number, from, name: name.to_string() })
-}
-
-/// Whether a word that comes before a number in our sentences stands there before one: such a name could be mistaken.
-fn is_numbered(name: &str) -> bool {
-    let words: Vec<&str> = name.split(' ').collect();
-    words.windows(2).any(|pair| {
-        let before = pair[0].rsplit(|character: char| !character.is_alphanumeric()).next().unwrap_or("");
-        let before = before.to_lowercase();
-        let word = before.strip_suffix('s').unwrap_or(&before);
-        pair[1].starts_with(char::is_numeric)
-            && ["step", "file", "pipe", "place", "level", "record"].contains(&word)
-    })
-}
-
-/// A number in decimal digits and nothing else.
-fn digits<T: std::str::FromStr>(text: &str) -> Option<T> {
-    text.parse().ok().filter(|_| text.bytes().all(|byte| byte.is_ascii_digit()))
-}
-
-/// Letters and digits of scripts that are written from left to right, and a few signs.
-fn is_fit(character: char) -> bool {
-    let right_to_left =
-        [0x590..=0x8ff, 0xfb1d..=0xfdff, 0xfe70..=0xfeff, 0x10800..=0x10fff, 0x1e800..=0x1efff];
-    SIGNS.contains(character)
-        || character.is_ascii_alphanumeric()
-        || !character.is_ascii()
-            && character.is_alphanumeric()
-            && !right_to_left.iter().any(|range| range.contains(&u32::from(character)))
-}
-
 #[cfg(test)]
 mod tests {
     use super::*;
+
+    fn read(text: &str) -> Names {
+        Names::given(&gk_names::Names::read(text.as_bytes()).expect("names"))
+    }
 
     #[test]
     fn a_number_has_the_name_that_was_given_last() {
         let text = "names 1\r\n# by hand\n\nstep 1 204 sheet reader\nstep 1 1 hours\nfile 5 1 pay book\n\
                     pipe 5 9 to the bank\n";
-        let names = Names::read(text.as_bytes()).expect("names");
+        let names = read(text);
         for (kind, n, at, expected) in [
             ("step", 1, 203, Some("hours")),
             ("step", 1, 204, Some("sheet reader")),
@@ -226,8 +131,7 @@ mod tests {
 
     #[test]
     fn a_name_is_one_things_at_a_time() {
-        let names =
-            Names::read(b"names 1\nstep 3 1 merge\nstep 17 40 merge\nstep 17 50 other").expect("names");
+        let names = read("names 1\nstep 3 1 merge\nstep 17 40 merge\nstep 17 50 other");
         assert_eq!(names.name("step", 3, 39), Some("merge"));
         assert_eq!(names.name("step", 3, 40), None);
         assert_eq!(names.name("step", 3, 60), None);
@@ -237,8 +141,7 @@ mod tests {
 
     #[test]
     fn a_name_goes_with_its_thing() {
-        let mut names =
-            Names::read(b"names 1\nstep 1 1 hours\nstep 2 1 merge\nstep 2 9 reader\n").expect("names");
+        let mut names = read("names 1\nstep 1 1 hours\nstep 2 1 merge\nstep 2 9 reader\n");
         let mut monitor = gatekeeper::Monitor::new();
         let mut follow = |record, call: fn(&mut gatekeeper::Monitor, u32) -> gatekeeper::Answer| {
             let before = State::of(&monitor);
@@ -254,25 +157,12 @@ mod tests {
         assert_eq!((names.name("step", 2, 8), names.name("step", 2, 9)), (Some("merge"), Some("reader")));
     }
 
+    /// What could be taken for more than a name is none.
     #[test]
-    fn a_wrong_line_is_named() {
-        for (text, line) in [
-            (&b""[..], 1),
-            (b"names 2\n", 1),
-            (b"names 1\nsubject 1 1 a\n", 2),
-            (b"names 1\nstep +1 1 a\n", 2),
-            (b"names 1\nstep 4294967296 1 a\n", 2),
-            (b"names 1\nstep 1 0 a\n", 2),
-            (b"names 1\n\nstep 1 1  a\n", 3),
-            (b"names 1\nstep 1 1 <script>alert(1)</script>\n", 2),
-            (b"names 1\nstep 1 1 a\x1b[2J\n", 2),
-            (b"names 1\nstep 1 1 the Steps 3 and 4\n", 2),
-            (b"names 1\nstep 1 1 a. Allowed\n", 2),
-            (b"names 1\nstep 1 1 17\n", 2),
-            (b"names 1\nstep 1 1 \xff", 2),
-        ] {
-            assert_eq!(Names::read(text).map(|_| 0).map_err(|(at, _)| at), Err(line), "{text:?}");
+    fn a_name_is_text_and_nothing_else() {
+        for name in ["<script>alert(1)</script>", "a\u{1b}[2J", "the Steps 3 and 4", "a. Allowed", "17"] {
+            let text = format!("names 1\nstep 1 1 {name}\n");
+            assert!(gk_names::Names::read(text.as_bytes()).is_err(), "{name}");
         }
-        assert!(Names::read(&vec![b'#'; LONGEST_FILE + 1]).is_err());
     }
 }

@@ -29,7 +29,8 @@ pub struct Told {
 /// All sentences about each record of a journal, by their part: what is asked, why, the ways out, what changed. With
 /// these the page's words can be compared; the names are the bytes of a names file, or none.
 pub fn sentences(journal: &[u8], names: &[u8]) -> Vec<[Vec<String>; 4]> {
-    let mut names = Names::read(names).unwrap_or_default();
+    let mut names =
+        gk_names::Names::read(names).map_or_else(|_| Names::default(), |file| Names::given(&file));
     let (mut run, mut memory, mut state) = (Run::new(), Memory::default(), State::empty());
     let mut all = Vec::new();
     while let Some(turn) = run.next(journal) {

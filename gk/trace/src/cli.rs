@@ -34,7 +34,7 @@ out, with the first line of each kind.
   --folder PATH   the folder that the run was started in, where the trace does not say it; absolute
   --start LEVEL   the level of the first step (15)
   --until LINE    read the trace up to this line
-  --all-files     keep files of level 15 that are only read; by law top-read-harmless they change no answer
+  --all-files     keep files of level 15 that are only read (laws top-open-harmless and top-read-harmless)
   --repeats       keep reads and writes that come again and lower nobody
   --quiet         no report
 
@@ -103,7 +103,7 @@ fn command(arguments: &[String]) -> Result<(), Failure> {
         }
     };
     let mut files: Vec<(&Path, &[u8])> = Vec::new();
-    let beside = arguments.journal.as_ref().map(|path| Path::new(path).with_extension("names"));
+    let beside = arguments.journal.as_ref().map(|path| gk_names::beside(Path::new(path)));
     let names = arguments.names.as_ref().map(PathBuf::from).or(beside);
     // Who reads the journal from standard output finds the names there.
     files.extend(names.iter().map(|path| (path.as_path(), written.names.as_bytes())));
