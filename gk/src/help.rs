@@ -16,7 +16,8 @@ A first try:
   tools/gk explain --refused crates/payrun/stdin
 
 FILE is read from standard input if it is - or not given. With -o FILE the output goes to a file, which is
-written whole or not at all; -o - is standard output. gk --version has the version of the gatekeeper that gives the answers.
+written whole or not at all; -o - is standard output. gk --version has the version of the gatekeeper that
+gives the answers.
 Exit status: 0 if all went well, whatever the replies; 1 for a bad text, a failed read or write, or a
 standard output that is closed; 2 for a bad command line; 141, without a word, where the reader of the
 output has stopped. In the repository's folder gk is tools/gk, which builds it first.

@@ -335,8 +335,8 @@ fn refusals_that_are_alike_are_told_once() {
     assert!(gk(&["assemble", "-o", &journal], text.as_bytes()).status.success());
     let told = paragraphs(&out(&gk(&["explain", "--refused", &journal], b"")));
     assert_eq!(told.len(), 7, "{told:#?}");
-    let first = "Records 8, 9 and 10: merge (step 0) may not open the file for reading: it writes file 0. The file is at \
-                 record 8 sheet one (file 1), at record 9 sheet two (file 2), at record 10 sheet one (file 1). Refused \
+    let first = "Records 8, 9 and 10: merge (step 0) may not open the file for reading: it writes file 0. The file is \
+                 at record 8 sheet one (file 1), at record 9 sheet two (file 2), at record 10 sheet one (file 1). Refused \
                  (9): low data could reach a higher file. Nothing is opened. The file has level 2, and file 0 takes \
                  nothing from below level 9.";
     assert!(told[0].starts_with(first), "{}", told[0]);

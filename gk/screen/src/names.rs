@@ -1,7 +1,7 @@
 //! Names for the steps, files and pipes of a journal, from a names file as `gk_names` reads it.
 //!
-//! A number has the name that was given to it last; files and pipes share their numbers. A name is one thing's: given to
-//! another, it is no longer the first one's from that record on. And it goes with its thing: where a number is used
+//! A number has the name that was given to it last; files and pipes share their numbers. A name is one thing's: given
+//! to another, it is no longer the first one's from that record on. And it goes with its thing: where a number is used
 //! again, a name from before is not the new thing's.
 
 use std::collections::BTreeMap;

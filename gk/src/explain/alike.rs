@@ -1,8 +1,8 @@
 //! Refusals that are alike, told once: those of one step and one kind of call, with the same reason, the same chain and
 //! the same ways out, but that each names another file or pipe.
 //!
-//! The words of each record are made with "the file" in the place of its file; what comes out equal is alike. So what is
-//! said of all of them is what would be said of each, and each advice was tried at each of the records.
+//! The words of each record are made with "the file" in the place of its file; what comes out equal is alike. So what
+//! is said of all of them is what would be said of each, and each advice was tried at each of the records.
 
 use std::collections::BTreeMap;
 
