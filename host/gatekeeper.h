@@ -29,8 +29,14 @@ extern "C" {
 #define GATEKEEPER_MUST_USE
 #endif
 
+/* The version of this header, and of the archive that belongs to it. */
+#define GATEKEEPER_VERSION "4.0.0"
+
+/* How much stack a call of any function here takes at most, in bytes: measured (tools/hosts), not proved. */
+#define GATEKEEPER_STACK_BYTES 40960
+
 /* Sizes, in bytes. */
-#define GATEKEEPER_STATE_BYTES 1745    /* a monitor with its tally */
+#define GATEKEEPER_STATE_BYTES 1841    /* a monitor with its tally and its kept needs */
 #define GATEKEEPER_RECORD_ROOM 32      /* room for every record */
 #define GATEKEEPER_JOURNAL_BYTES 65536 /* the longest journal that is run */
 #define GATEKEEPER_REPLY_ROOM 1835075  /* room for the reply to every journal */
@@ -45,7 +51,8 @@ extern "C" {
 #define GATEKEEPER_NO_FREEZE 16
 
 /*
- * The bytes of a monitor, for a host that looks at them: subjects, objects, handles, then the tally and the freeze.
+ * The bytes of a monitor, for a host that keeps them: subjects, objects, handles, the tally, the freeze, and the kept
+ * needs. What stands in them is looked at with the functions below, from gatekeeper_subject on.
  *
  *   at 0, 32 times     1 where the subject is live, and its level
  *   at 64, 64 times    1 for a file, 2 for a pipe, and its level
@@ -54,14 +61,24 @@ extern "C" {
  *   at 1728            handles made, eight bytes, the lowest first
  *   at 1736            handles gone, likewise
  *   at 1744            the freeze, one byte: the level from which on files are frozen; 16 and above: none is
+ *   at 1745, 96 times  a kept need, one byte: of the 32 subjects, then of the 64 objects
  *
  * Any other first byte says that there is no such subject, object or handle; any other third byte, that the handle is
- * not marked. The empty monitor has 16 as its freeze and 0 everywhere else: bytes that are all 0 have no subject,
- * object or handle either, but they freeze every file.
+ * not marked. A handle dangles where its subject or its object is not live: it counts as an empty place. Which kept
+ * needs stand at numbers that are not in use is left open. The empty monitor has 16 as its freeze and 0 everywhere
+ * else: bytes that are all 0 have no subject, object or handle either, but they freeze every file.
  *
- * Bytes that version 2.0.0 or 2.1.0 kept are the same monitor as they stand. Those of a version before these have
- * neither marks nor a freeze, which is a wrong length. With a byte 0 after the two of each handle, and a byte of
- * GATEKEEPER_NO_FREEZE after all, they are the same monitor.
+ * The need of a subject or an object is the highest level of all files that it reaches through the handles that there
+ * are now, or 0 where it reaches none; a file reaches itself. On a monitor that started empty it is the lowest level
+ * that a subject or a pipe may fall to while no handle goes. A monitor is right if the kept need of each live subject
+ * and object is its need. The empty monitor is right, and a call on a right monitor, refused or not, leaves a right
+ * one. No answer goes by a kept need: a call on a monitor that is not right is answered by the rules all the same, and
+ * only what is kept may then be wrong.
+ *
+ * Bytes that version 2.0.0, 2.1.0 or 3.0.0 kept have no kept needs: there are 1745 of them, which is a wrong length.
+ * With 96 bytes of any value after them, and after one gatekeeper_put_right, they are the same monitor, and right.
+ * Those of a version before these have neither marks nor a freeze either. With a byte 0 after the two of each handle,
+ * and a byte of GATEKEEPER_NO_FREEZE after all, they are bytes of version 2.0.0.
  */
 
 /* The calls, with the numbers that each takes, in their order. s, t and c are subjects, o is an object, a and b are the
@@ -138,6 +155,44 @@ enum gatekeeper_refusal {
     GATEKEEPER_SAME_SUBJECT = 16      /* a connect of a subject to itself */
 };
 
+/* What a refusal says, in plain words, for a log or a message: a text that stays. For any other number, 0 among them,
+ * which is what gatekeeper_value gives for a wrong length: "no refusal". */
+static inline const char *gatekeeper_refusal_text(uint32_t refusal)
+{
+    switch (refusal) {
+    case GATEKEEPER_UNKNOWN_CODE: return "no call has this code";
+    case GATEKEEPER_NO_SUBJECT: return "the step that asks is not there";
+    case GATEKEEPER_NUMBER_TAKEN: return "the number for the new thing cannot be used";
+    case GATEKEEPER_NO_OBJECT: return "the file or pipe is not there";
+    case GATEKEEPER_IS_PIPE: return "a pipe cannot be run, retired or mapped";
+    case GATEKEEPER_LEVEL_TOO_HIGH: return "the level is above 15, or a freeze above 16";
+    case GATEKEEPER_PLACE_UNFIT: return "the place does not fit";
+    case GATEKEEPER_WRONG_DIRECTION: return "the handle is for the other direction";
+    case GATEKEEPER_FLOW: return "low data could reach a higher file";
+    case GATEKEEPER_STILL_OPEN: return "a handle is still open on the file";
+    case GATEKEEPER_JOURNAL_BROKEN: return "the journal breaks off here";
+    case GATEKEEPER_RECORD_BROKEN: return "the record is not well formed";
+    case GATEKEEPER_RECORD_TOO_LONG: return "the record is longer than the buffer";
+    case GATEKEEPER_JOURNAL_TOO_LONG: return "the journal is longer than 65,536 bytes";
+    case GATEKEEPER_FROZEN: return "the file is frozen while the books are closed";
+    case GATEKEEPER_SAME_SUBJECT: return "a step cannot be connected to itself";
+    default: return "no refusal";
+    }
+}
+
+/* What an object is. */
+enum gatekeeper_kind {
+    GATEKEEPER_KIND_FILE = 1,
+    GATEKEEPER_KIND_PIPE = 2
+};
+
+/* What a handle is for. */
+enum gatekeeper_way {
+    GATEKEEPER_WAY_READS = 1,
+    GATEKEEPER_WAY_WRITES = 2,
+    GATEKEEPER_WAY_MAPS = 3 /* a mapping, which reads */
+};
+
 /* GATEKEEPER_STATE_BYTES, for a host that sees no header. */
 size_t gatekeeper_state_bytes(void);
 
@@ -156,12 +211,13 @@ GATEKEEPER_MUST_USE
 uint32_t gatekeeper_call(uint8_t *state, size_t len, uint32_t code, uint32_t a, uint32_t b, uint32_t c, uint32_t d,
                          uint32_t e, uint32_t f);
 
-/* The outcome in an answer of gatekeeper_call: an `enum gatekeeper_outcome`, or 0 for a wrong length. What this function
- * and the next two read off an answer that is not 0 is the rules' answer, whatever the lent bytes were. */
+/* The outcome in an answer of gatekeeper_call: an `enum gatekeeper_outcome`, or 0 for a wrong length. What this
+ * function and the next two read off an answer that is not 0 is the rules' answer, whatever the lent bytes were. */
 static inline uint32_t gatekeeper_letter(uint32_t answer) { return answer / 256; }
 
-/* Whether the host may carry the call out: true for an allowed and for a lowered call, and for nothing else. A host asks
- * this, and does not go on where it is false: a test for GATEKEEPER_REFUSED alone would let a wrong length pass. */
+/* Whether the host may carry the call out: true for an allowed and for a lowered call, and for nothing else. A host
+ * asks this, and does not go on where it is false: a test for GATEKEEPER_REFUSED alone would let a wrong length
+ * pass. */
 GATEKEEPER_MUST_USE
 static inline bool gatekeeper_allows(uint32_t answer)
 {
@@ -180,13 +236,51 @@ static inline uint32_t gatekeeper_value(uint32_t answer) { return answer % 256; 
 uint64_t gatekeeper_made(const uint8_t *state, size_t len);
 uint64_t gatekeeper_gone(const uint8_t *state, size_t len);
 
+/* What the tables hold, for a host that shows it: a subject, an object, and the handle at place p of subject s. Any
+ * number may be given. 0 where it is out of range or not live, where the place is empty or its handle dangles, and
+ * where `len` is not GATEKEEPER_STATE_BYTES. Else
+ *
+ *   of a subject   256, and its level: see gatekeeper_level_of
+ *   of an object   256 times its kind, and its level: see gatekeeper_kind_of and gatekeeper_level_of
+ *   of a handle    256 times its way, and its object, and 256 times 256 where it is marked: see gatekeeper_way_of,
+ *                  gatekeeper_object_of and gatekeeper_is_marked
+ */
+uint32_t gatekeeper_subject(const uint8_t *state, size_t len, uint32_t s);
+uint32_t gatekeeper_object(const uint8_t *state, size_t len, uint32_t o);
+uint32_t gatekeeper_handle(const uint8_t *state, size_t len, uint32_t s, uint32_t p);
+
+/* The level in an answer of gatekeeper_subject or gatekeeper_object that is not 0. On a monitor that started empty it
+ * is below GATEKEEPER_LEVELS. */
+static inline uint32_t gatekeeper_level_of(uint32_t thing) { return thing % 256; }
+
+/* The kind in an answer of gatekeeper_object: an `enum gatekeeper_kind`, or 0 where there is no object. */
+static inline uint32_t gatekeeper_kind_of(uint32_t object) { return object / 256; }
+
+/* The way in an answer of gatekeeper_handle: an `enum gatekeeper_way`, or 0 where there is no handle. */
+static inline uint32_t gatekeeper_way_of(uint32_t handle) { return handle / 256 % 256; }
+
+/* The object in an answer of gatekeeper_handle that is not 0. It is live. */
+static inline uint32_t gatekeeper_object_of(uint32_t handle) { return handle % 256; }
+
+/* Whether the handle in an answer of gatekeeper_handle is marked: it ends when its subject runs a program. */
+static inline bool gatekeeper_is_marked(uint32_t handle) { return handle >= 256 * 256; }
+
+/* The kept need of a subject and of an object. It is ready: nothing is worked out here. On a monitor that started empty
+ * it is at most the level, and a subject or a pipe falls no lower while no handle goes; a file's is its level. 0 where
+ * the number is out of range or not live, and where `len` is not GATEKEEPER_STATE_BYTES. Since 0 is a need, too, a host
+ * asks gatekeeper_subject or gatekeeper_object first whether there is one. */
+uint32_t gatekeeper_subject_need(const uint8_t *state, size_t len, uint32_t s);
+uint32_t gatekeeper_object_need(const uint8_t *state, size_t len, uint32_t o);
+
+/* Works the kept needs out anew, so that the monitor is right, and returns true; all other bytes stay as they are. A
+ * host does this once with bytes that did not come from this version's functions, before it shows a need of theirs.
+ * Where `len` is not GATEKEEPER_STATE_BYTES: false, and no byte is touched. */
+GATEKEEPER_MUST_USE
+bool gatekeeper_put_right(uint8_t *state, size_t len);
+
 /* The level from which on files are frozen, for a host that shows it, or GATEKEEPER_NO_FREEZE where none is. 0, as if
  * every file were, where `len` is not GATEKEEPER_STATE_BYTES. */
-static inline uint32_t gatekeeper_frozen_from(const uint8_t *state, size_t len)
-{
-    uint32_t freeze = len == GATEKEEPER_STATE_BYTES ? state[1744] : 0;
-    return freeze < GATEKEEPER_NO_FREEZE ? freeze : GATEKEEPER_NO_FREEZE;
-}
+uint32_t gatekeeper_frozen_from(const uint8_t *state, size_t len);
 
 /* Runs a journal from an empty monitor and writes the reply over the front of `out`: a line for each record with its
  * position, code, A, L or R, and the level or refusal number; then `end`, handles made, gone and open. Returns how many

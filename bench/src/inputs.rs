@@ -217,7 +217,7 @@ pub fn plain_figure(answer: PlainAnswer) -> u64 {
     }
 }
 
-/// A journal as `gk generate --seed 1 --calls 20000 --bytes 65000` makes it.
+/// A journal as `tools/second generate --seed 1 --calls 20000 --bytes 65000` makes it.
 fn generated() -> Vec<u8> {
     let wish = Wish { style: Style::Mixed, calls: Some(20_000), bytes: Some(GENERATED_BYTES) };
     generate::journal(SEED, 0, wish)

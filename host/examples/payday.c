@@ -65,6 +65,38 @@ static void must(struct host *host, const char *what, uint32_t code, const uint3
     }
 }
 
+static const char *way_words(uint32_t way)
+{
+    switch (way) {
+    case GATEKEEPER_WAY_READS: return "reads";
+    case GATEKEEPER_WAY_WRITES: return "writes";
+    default: return "maps";
+    }
+}
+
+/* What the duty screen shows of a step: its level, the lowest one that it may fall to while no handle goes, and its
+ * handles. */
+static void show(const struct host *host, uint32_t step)
+{
+    const uint8_t *monitor = host->monitor;
+    size_t len = sizeof host->monitor;
+    uint32_t seen = gatekeeper_subject(monitor, len, step);
+    if (seen == 0)
+        return;
+    uint32_t need = gatekeeper_subject_need(monitor, len, step);
+    printf("The duty screen shows: step %" PRIu32 " is at level %" PRIu32 " and may fall to %" PRIu32 ".\n", step,
+           gatekeeper_level_of(seen), need);
+    for (uint32_t place = 0; place < GATEKEEPER_PLACES; place++) {
+        uint32_t handle = gatekeeper_handle(monitor, len, step, place);
+        if (handle == 0)
+            continue;
+        uint32_t object = gatekeeper_object_of(handle);
+        bool is_pipe = gatekeeper_kind_of(gatekeeper_object(monitor, len, object)) == GATEKEEPER_KIND_PIPE;
+        printf("  Its place %" PRIu32 " %s %s %" PRIu32 "%s.\n", place, way_words(gatekeeper_way_of(handle)),
+               is_pipe ? "pipe" : "file", object, gatekeeper_is_marked(handle) ? ", until exec" : "");
+    }
+}
+
 int main(void)
 {
     static struct host host;
@@ -86,6 +118,7 @@ int main(void)
     must(&host, "The shell closes its writing end.", GATEKEEPER_CLOSE, WITH(SHELL, 1));
     must(&host, "The shell opens the pay book for writing.", GATEKEEPER_OPEN_WRITE, WITH(SHELL, PAY_BOOK, 2));
     must(&host, "The adder opens the checked hours for reading.", GATEKEEPER_OPEN_READ, WITH(ADDER, HOURS, 2));
+    show(&host, ADDER);
 
     puts("\nThe adder asks for the unchecked sheet: through pipe 8 it would reach the pay book");
     if (!ask(&host, "The adder opens the sheet of shop 3 for reading.", GATEKEEPER_OPEN_READ, WITH(ADDER, SHEET, 3))) {
@@ -93,6 +126,7 @@ int main(void)
         must(&host, "The shell forks the lister, step 2.", GATEKEEPER_FORK, WITH(SHELL, LISTER));
         must(&host, "The lister closes its end of pipe 8.", GATEKEEPER_CLOSE, WITH(LISTER, 0));
         must(&host, "The lister closes the pay book.", GATEKEEPER_CLOSE, WITH(LISTER, 2));
+        show(&host, LISTER);
         must(&host, "The lister opens the sheet of shop 3 for reading.", GATEKEEPER_OPEN_READ, WITH(LISTER, SHEET, 0));
         must(&host, "The lister reads it.", GATEKEEPER_READ, WITH(LISTER, 0));
         must(&host, "The lister creates file 3, a list for the clerk.", GATEKEEPER_CREATE, WITH(LISTER, LIST));
@@ -115,6 +149,7 @@ int main(void)
     must(&host, "The shell forks the launcher, step 3.", GATEKEEPER_FORK, WITH(SHELL, LAUNCHER));
     if (!ask(&host, "The launcher runs the viewer.", GATEKEEPER_EXEC, WITH(LAUNCHER, VIEWER))) {
         must(&host, "The launcher marks the pay book: that handle ends at exec.", GATEKEEPER_MARK, WITH(LAUNCHER, 2));
+        show(&host, LAUNCHER);
         must(&host, "The launcher runs the viewer.", GATEKEEPER_EXEC, WITH(LAUNCHER, VIEWER));
     }
     must(&host, "The viewer exits.", GATEKEEPER_EXIT, WITH(LAUNCHER));
@@ -123,6 +158,7 @@ int main(void)
     must(&host, "The shell forks the importer, step 4.", GATEKEEPER_FORK, WITH(SHELL, IMPORTER));
     must(&host, "The importer closes the pay book.", GATEKEEPER_CLOSE, WITH(IMPORTER, 2));
     must(&host, "The importer maps the sheet of shop 3.", GATEKEEPER_MAP, WITH(IMPORTER, SHEET, 1));
+    show(&host, IMPORTER);
     must(&host, "The terminal of shop 3 is step 5.", GATEKEEPER_ADMIT, WITH(TERMINAL, 2));
     must(&host, "The terminal opens the sheet for writing.", GATEKEEPER_OPEN_WRITE, WITH(TERMINAL, SHEET, 0));
     must(&host, "The terminal writes late hours: the importer sees them, too.", GATEKEEPER_WRITE, WITH(TERMINAL, 0));

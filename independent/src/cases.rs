@@ -3,7 +3,7 @@
 //!
 //! The replies stand here as the rules settle them; they are not worked out by this program.
 
-use crate::assembly::assemble;
+use crate::words;
 
 /// DWARF 5, section 7.6, the examples of unsigned LEB128.
 pub const DWARF_NUMBERS: &[(u32, &[u8])] = &[
@@ -654,7 +654,7 @@ fn lines(replies: &str) -> String {
     replies.split(';').map(|line| format!("{}\n", line.trim())).collect()
 }
 
-/// The calls above are assembly text with `;` for line ends.
+/// The calls above are words with `;` for line ends.
 fn journal_of(calls: &str) -> Vec<u8> {
-    assemble(calls.replace(';', "\n").as_bytes()).unwrap_or_default()
+    words::journal_of(&calls.replace(';', "\n")).unwrap_or_else(|| panic!("a case is no journal: {calls}"))
 }

@@ -7,23 +7,18 @@ use std::path::Path;
 use std::process::ExitCode;
 use std::time::{Duration, SystemTime, UNIX_EPOCH};
 
-use crate::assembly::{assemble, lines, Fault};
 use crate::bite;
 use crate::cases::{self, Case};
 use crate::compare::{self, Program};
-use crate::disassembly::disassemble;
-use crate::explain::explain;
 use crate::generate::{self, Style, Wish, STYLES};
 use crate::help;
 use crate::replies::{replies_by, LONGEST_JOURNAL};
-use crate::text::{excerpt, indented, meant, shown};
+use crate::text::{indented, meant, shown};
 use crate::variants::{Rules, ALL};
+use crate::words::words_of;
 
 /// Lines of a case that are printed in full.
 const CASE_LINES: usize = 20;
-
-/// The longest text that is assembled, in bytes: comments take room, but input without end is no text.
-const LONGEST_TEXT: usize = 1 << 24;
 
 /// Why the program ends with a status other than 0.
 enum Failure {
@@ -44,8 +39,8 @@ pub fn main(arguments: Vec<OsString>) -> ExitCode {
         Err(failure) => {
             let (message, status) = match failure {
                 Failure::Unread => return ExitCode::from(141),
-                Failure::Usage(message) => (format!("gk: {message}"), 2),
-                Failure::Failed(message) => (format!("gk: {message}"), 1),
+                Failure::Usage(message) => (format!("second: {message}"), 2),
+                Failure::Failed(message) => (format!("second: {message}"), 1),
             };
             // Where standard error cannot be written to, the status still tells.
             let _ = writeln!(io::stderr(), "{message}");
@@ -57,7 +52,7 @@ pub fn main(arguments: Vec<OsString>) -> ExitCode {
 fn dispatch(arguments: Vec<OsString>) -> Done {
     let mut arguments = arguments.into_iter();
     let Some(command) = arguments.next() else {
-        let message = "expected a command. Type: gk --help".to_string();
+        let message = "expected a command. Type: second --help".to_string();
         return Err(Failure::Usage(message));
     };
     let rest: Vec<OsString> = arguments.collect();
@@ -76,9 +71,6 @@ fn dispatch(arguments: Vec<OsString>) -> Done {
     }
     match command.as_str() {
         "run" => run(rest),
-        "explain" => through(rest, "explain", explain),
-        "assemble" => assemble_command(rest),
-        "disassemble" => through(rest, "disassemble", disassemble),
         "cases" => cases_command(rest),
         "generate" => generate_command(rest),
         "compare" => compare_command(rest),
@@ -154,7 +146,7 @@ impl Arguments {
 
     fn wrong(&self, message: &str) -> Failure {
         let command = self.command;
-        Failure::Usage(format!("{command}: {message}. Type: gk {command} --help"))
+        Failure::Usage(format!("{command}: {message}. Type: second {command} --help"))
     }
 
     /// The value given last for an option.
@@ -230,24 +222,9 @@ fn write_output(bytes: &[u8]) -> Done {
     })
 }
 
-/// A word on standard error beside the output. Where it cannot be written, the output still stands.
-fn remark(text: &str) {
-    let _ = writeln!(io::stderr(), "gk: {text}");
-}
-
 /// A journal; one byte past the limit is enough to know that it is above it.
 fn read_journal(file: Option<&OsStr>) -> Result<Vec<u8>, Failure> {
     read_input(file, LONGEST_JOURNAL as u64 + 1)
-}
-
-/// A command without options that turns a journal into a text.
-fn through(arguments: Vec<OsString>, command: &'static str, work: impl Fn(&[u8]) -> String) -> Done {
-    let arguments = Arguments::sort(command, arguments, &[], &[])?;
-    let journal = read_journal(arguments.file()?)?;
-    if journal.len() > LONGEST_JOURNAL {
-        remark(&format!("{command}: the journal is longer than 65536 bytes; the first 65537 were read"));
-    }
-    write_output(work(&journal).as_bytes())
 }
 
 // Commands.
@@ -258,44 +235,14 @@ fn run(arguments: Vec<OsString>) -> Done {
         None => Rules::default(),
         Some(name) => {
             let name = name.to_string_lossy();
-            let unknown =
-                || Failure::Usage(format!("there is no variant \"{}\". Type: gk variants", shown(&name)));
+            let unknown = || {
+                Failure::Usage(format!("there is no variant \"{}\". Type: second variants", shown(&name)))
+            };
             Rules::named(&name).ok_or_else(unknown)?
         }
     };
     let journal = read_journal(arguments.file()?)?;
     write_output(replies_by(&journal, rules).as_bytes())
-}
-
-fn assemble_command(arguments: Vec<OsString>) -> Done {
-    let arguments = Arguments::sort("assemble", arguments, &[], &[])?;
-    let file = arguments.file()?;
-    let text = read_input(file, LONGEST_TEXT as u64 + 1)?;
-    let name = match file {
-        Some(path) if path != "-" => shown(&path.to_string_lossy()),
-        _ => "standard input".to_string(),
-    };
-    if text.len() > LONGEST_TEXT {
-        return Err(Failure::Failed(format!("{name}: the text is longer than {LONGEST_TEXT} bytes")));
-    }
-    let journal = assemble(&text).map_err(|fault| Failure::Failed(fault_text(&name, &text, &fault)))?;
-    if journal.len() > LONGEST_JOURNAL {
-        remark(&format!(
-            "assemble: the journal has {} bytes. Above 65536 it is refused (14), and nothing of it is run: split it",
-            journal.len()
-        ));
-    }
-    write_output(&journal)
-}
-
-/// A fault with its line, and a mark under the column.
-fn fault_text(name: &str, text: &[u8], fault: &Fault) -> String {
-    let line = lines(text).nth(fault.line - 1).unwrap_or(&[]);
-    let (part, blanks) = excerpt(&String::from_utf8_lossy(line), fault.column);
-    format!(
-        "{name}:{}:{}: {}\n    {part}\n    {blanks}^\n{}",
-        fault.line, fault.column, fault.expected, fault.advice
-    )
 }
 
 fn cases_command(arguments: Vec<OsString>) -> Done {
@@ -307,7 +254,8 @@ fn cases_command(arguments: Vec<OsString>) -> Done {
         Some(name) => match cases::named(name) {
             Some(case) => vec![case],
             None => {
-                let message = format!("there is no case \"{}\"; gk cases --hex lists them", shown(name));
+                let message =
+                    format!("there is no case \"{}\"; second cases --hex lists them", shown(name));
                 return Err(arguments.wrong(&message));
             }
         },
@@ -345,7 +293,7 @@ fn case_text(case: &Case) -> String {
         "{}: {}\n{}  replies\n{}\n",
         case.name,
         case.what,
-        indented(&disassemble(&case.journal), CASE_LINES),
+        indented(&words_of(&case.journal), CASE_LINES),
         indented(&case.replies, CASE_LINES)
     )
 }

@@ -10,11 +10,11 @@ use std::thread;
 use std::time::{Duration, Instant};
 
 use crate::cases;
-use crate::disassembly::disassemble;
 use crate::generate::{journal, Wish};
 use crate::replies::replies;
 use crate::shrink::shrink;
 use crate::text::indented;
+use crate::words::words_of;
 
 /// Runs of the other program that a search for a shorter journal may take.
 const SHRINKING_RUNS: usize = 2000;
@@ -219,7 +219,7 @@ pub fn report(program: &Program, journal: &[u8]) -> Result<String, String> {
         "The journal, {} bytes:\n{}Replies of this program:\n{}Replies of the other program{note}:\n{}\
          The first line that differs is line {}.\n",
         journal.len(),
-        indented(&disassemble(journal), MOST_LINES),
+        indented(&words_of(journal), MOST_LINES),
         indented(&right, MOST_LINES),
         indented(&theirs, MOST_LINES),
         line + 1

@@ -17,22 +17,19 @@
 //! | [`replies`] | P: the program's reply lines |
 //! | [`cases`] | K: worked cases, and DWARF's examples of numbers |
 //!
-//! Tools around it: [`assembly`] and [`disassembly`] (journals as text), [`explain`] (replies in plain
-//! words), [`generate`] (journals by seed), [`variants`] and [`bite`] (wrong programs that the generated
-//! journals must tell apart), [`compare`] and [`shrink`] (another program beside this one).
+//! Tools around it: [`generate`] (journals by seed), [`variants`] and [`bite`] (wrong programs that the generated
+//! journals must tell apart), [`compare`] and [`shrink`] (another program beside this one), [`words`] (journals as
+//! text, for the cases and for what is shown of a difference).
 
 #[doc = include_str!("../README.md")]
 #[cfg(doctest)]
 struct Readme;
 
-pub mod assembly;
 pub mod bite;
 pub mod calls;
 pub mod cases;
 pub mod cli;
 pub mod compare;
-pub mod disassembly;
-pub mod explain;
 pub mod generate;
 pub mod help;
 pub mod monitor;
@@ -46,3 +43,4 @@ pub mod shrink;
 pub mod tables;
 pub mod text;
 pub mod variants;
+pub mod words;

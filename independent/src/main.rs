@@ -1,4 +1,4 @@
-//! The program `gk`. Everything it does is in the library; see `cli`.
+//! The program `second`. Everything it does is in the library; see `cli`.
 
 use std::process::ExitCode;
 

@@ -13,17 +13,6 @@ pub enum Malformed {
     Padded,
 }
 
-impl Malformed {
-    /// The fault in words, to follow "the length" or "the number".
-    pub fn words(self) -> &'static str {
-        match self {
-            Malformed::CutOff => "is cut off",
-            Malformed::TooLarge => "is above 4294967295",
-            Malformed::Padded => "is longer than it need be",
-        }
-    }
-}
-
 /// Reads the number at the start of the bytes: its value, and how many bytes it takes.
 pub fn read(bytes: &[u8], rules: Rules) -> Result<(u32, usize), Malformed> {
     // RULES J2: the high bit is 0 in the last byte alone.

@@ -22,32 +22,6 @@ fn visible(character: char) -> String {
     }
 }
 
-/// The part of a line around a column, counted from 1, as it may stand in a message; and the blanks that put a
-/// mark under the column. Tabs stay tabs.
-pub fn excerpt(line: &str, column: usize) -> (String, String) {
-    let line = line.trim_end();
-    let first = (column - 1).saturating_sub(MOST_SHOWN);
-    let (mut part, mut blanks) = (String::new(), String::new());
-    if first > 0 {
-        part.push('…');
-        blanks.push(' ');
-    }
-    for (index, character) in line.chars().enumerate().skip(first).take(2 * MOST_SHOWN) {
-        let piece = if character == '\t' { "\t".to_string() } else { visible(character) };
-        if index + 1 < column {
-            blanks.extend(piece.chars().map(|character| if character == '\t' { '\t' } else { ' ' }));
-        }
-        part.push_str(&piece);
-    }
-    let length = line.chars().count();
-    if length > first + 2 * MOST_SHOWN {
-        part.push('…');
-    }
-    // A column behind the line's last character.
-    blanks.push_str(&" ".repeat((column - 1).saturating_sub(length.max(first))));
-    (part, blanks)
-}
-
 /// The words that someone who typed this one may have meant: the same but for the letters' size, those that start
 /// with it, or else the nearest, up to two letters off.
 pub fn meant(word: &str, known: &[&'static str]) -> Vec<&'static str> {
@@ -99,33 +73,9 @@ pub fn indented(text: &str, most: usize) -> String {
     shown
 }
 
-/// Words on lines of at most 100 characters where that is possible, the first line with its own start.
-pub fn wrapped(words: impl Iterator<Item = String>, first: &str, later: &str) -> String {
-    let mut text = String::new();
-    let mut line = String::new();
-    for word in words {
-        let start = if text.is_empty() { first } else { later };
-        if line.is_empty() {
-            line = format!("{start}{word}");
-        } else if line.chars().count() + 1 + word.chars().count() <= 100 {
-            line = format!("{line} {word}");
-        } else {
-            text.push_str(&format!("{line}\n"));
-            line = format!("{later}{word}");
-        }
-    }
-    text.push_str(&format!("{line}\n"));
-    text
-}
-
-/// A text on such lines, the later ones indented.
-pub fn paragraph(start: &str, text: &str) -> String {
-    wrapped(text.split(' ').map(str::to_string), start, "    ")
-}
-
 #[cfg(test)]
 mod tests {
-    use super::{excerpt, indented, meant, shown, wrapped};
+    use super::{indented, meant, shown};
 
     #[test]
     fn a_foreign_text_has_no_control_characters_and_an_end() {
@@ -136,29 +86,12 @@ mod tests {
     }
 
     #[test]
-    fn the_mark_stands_under_its_column() {
-        assert_eq!(excerpt("\tadmit x\r", 8), ("\tadmit x".to_string(), "\t      ".to_string()));
-        assert_eq!(excerpt("a\u{7}x", 3), ("a\\u{7}x".to_string(), " ".repeat(6)));
-        assert_eq!(excerpt("admit ", 6), ("admit".to_string(), " ".repeat(5)));
-        let (part, blanks) = excerpt(&format!("{}x{}", "a".repeat(1000), "b".repeat(1000)), 1001);
-        assert_eq!(part, format!("…{}x{}…", "a".repeat(60), "b".repeat(59)));
-        assert_eq!(blanks.len(), 61);
-    }
-
-    #[test]
     fn a_word_that_was_meant_is_found() {
         let known = ["admit", "open-read", "open-write", "read"];
         assert_eq!(meant("ADMIT", &known), ["admit"]);
         assert_eq!(meant("open", &known), ["open-read", "open-write"]);
         assert_eq!(meant("opne-read", &known), ["open-read"]);
         assert!(meant("payroll", &known).is_empty() && meant(&"a".repeat(1 << 20), &known).is_empty());
-    }
-
-    #[test]
-    fn words_are_wrapped() {
-        let words = ["a".repeat(60), "b".repeat(39), "c".to_string()];
-        let text = wrapped(words.into_iter(), "", "  ");
-        assert_eq!(text, format!("{} {}\n  c\n", "a".repeat(60), "b".repeat(39)));
     }
 
     #[test]

@@ -3,7 +3,7 @@
 //!
 //! In `host/rust`: `cargo run --offline --example payday`
 
-use gatekeeper::{Answer, Call, Monitor, NO_FREEZE};
+use gatekeeper::{Answer, Call, Handle, Kind, Monitor, Way, NO_FREEZE, PLACES};
 
 // What comes from outside, and the numbers that this host gives to it and to what it makes.
 const SHELL: u32 = 0;
@@ -55,6 +55,32 @@ impl Host {
             std::process::exit(1);
         }
     }
+
+    /// What the duty screen shows of a step: its level, the lowest one that it may fall to while no handle goes, and
+    /// its handles.
+    fn show(&self, step: u32) {
+        let monitor = &self.monitor;
+        let Some((level, need)) = monitor.subject(step).zip(monitor.need_of_subject(step)) else {
+            return;
+        };
+        println!("The duty screen shows: step {step} is at level {level} and may fall to {need}.");
+        for place in 0..PLACES {
+            let Some(Handle { way, object, marked }) = monitor.handle(step, place) else {
+                continue;
+            };
+            let way = match way {
+                Way::Reads => "reads",
+                Way::Writes => "writes",
+                Way::Maps => "maps",
+            };
+            let is_pipe = monitor.object(object.into()).is_some_and(|object| object.kind == Kind::Pipe);
+            let kind = if is_pipe { "pipe" } else { "file" };
+            println!(
+                "  Its place {place} {way} {kind} {object}{}.",
+                if marked { ", until exec" } else { "" }
+            );
+        }
+    }
 }
 
 fn main() {
@@ -88,6 +114,7 @@ fn main() {
         "The adder opens the checked hours for reading.",
         Call::OpenRead { subject: ADDER, object: HOURS, place: 2 },
     );
+    host.show(ADDER);
 
     println!("\nThe adder asks for the unchecked sheet: through pipe 8 it would reach the pay book");
     if !host.ask(
@@ -98,6 +125,7 @@ fn main() {
         host.must("The shell forks the lister, step 2.", Call::Fork { subject: SHELL, child: LISTER });
         host.must("The lister closes its end of pipe 8.", Call::Close { subject: LISTER, place: 0 });
         host.must("The lister closes the pay book.", Call::Close { subject: LISTER, place: 2 });
+        host.show(LISTER);
         host.must(
             "The lister opens the sheet of shop 3 for reading.",
             Call::OpenRead { subject: LISTER, object: SHEET, place: 0 },
@@ -141,6 +169,7 @@ fn main() {
             "The launcher marks the pay book: that handle ends at exec.",
             Call::Mark { subject: LAUNCHER, place: 2 },
         );
+        host.show(LAUNCHER);
         host.must("The launcher runs the viewer.", Call::Exec { subject: LAUNCHER, object: VIEWER });
     }
     host.must("The viewer exits.", Call::Exit { subject: LAUNCHER });
@@ -154,6 +183,7 @@ fn main() {
         "The importer maps the sheet of shop 3.",
         Call::Map { subject: IMPORTER, object: SHEET, place: 1 },
     );
+    host.show(IMPORTER);
     host.must("The terminal of shop 3 is step 5.", Call::Admit { subject: TERMINAL, level: 2 });
     host.must(
         "The terminal opens the sheet for writing.",

@@ -22,6 +22,13 @@ mod c {
         ) -> u32;
         pub fn gatekeeper_made(state: *const u8, len: usize) -> u64;
         pub fn gatekeeper_gone(state: *const u8, len: usize) -> u64;
+        pub fn gatekeeper_subject(state: *const u8, len: usize, s: u32) -> u32;
+        pub fn gatekeeper_object(state: *const u8, len: usize, o: u32) -> u32;
+        pub fn gatekeeper_handle(state: *const u8, len: usize, s: u32, p: u32) -> u32;
+        pub fn gatekeeper_subject_need(state: *const u8, len: usize, s: u32) -> u32;
+        pub fn gatekeeper_object_need(state: *const u8, len: usize, o: u32) -> u32;
+        pub fn gatekeeper_put_right(state: *mut u8, len: usize) -> bool;
+        pub fn gatekeeper_frozen_from(state: *const u8, len: usize) -> u32;
         pub fn gatekeeper_replay(journal: *const u8, len: usize, out: *mut u8, room: usize) -> usize;
         pub fn gatekeeper_record(
             out: *mut u8,
@@ -65,6 +72,34 @@ pub fn gone(state: &[u8]) -> u64 {
     unsafe { c::gatekeeper_gone(state.as_ptr(), state.len()) }
 }
 
+pub fn subject(state: &[u8], s: u32) -> u32 {
+    unsafe { c::gatekeeper_subject(state.as_ptr(), state.len(), s) }
+}
+
+pub fn object(state: &[u8], o: u32) -> u32 {
+    unsafe { c::gatekeeper_object(state.as_ptr(), state.len(), o) }
+}
+
+pub fn handle(state: &[u8], s: u32, p: u32) -> u32 {
+    unsafe { c::gatekeeper_handle(state.as_ptr(), state.len(), s, p) }
+}
+
+pub fn subject_need(state: &[u8], s: u32) -> u32 {
+    unsafe { c::gatekeeper_subject_need(state.as_ptr(), state.len(), s) }
+}
+
+pub fn object_need(state: &[u8], o: u32) -> u32 {
+    unsafe { c::gatekeeper_object_need(state.as_ptr(), state.len(), o) }
+}
+
+pub fn put_right(state: &mut [u8]) -> bool {
+    unsafe { c::gatekeeper_put_right(state.as_mut_ptr(), state.len()) }
+}
+
+pub fn frozen_from(state: &[u8]) -> u32 {
+    unsafe { c::gatekeeper_frozen_from(state.as_ptr(), state.len()) }
+}
+
 pub fn replay(journal: &[u8], out: &mut [u8]) -> usize {
     unsafe { c::gatekeeper_replay(journal.as_ptr(), journal.len(), out.as_mut_ptr(), out.len()) }
 }
@@ -84,15 +119,84 @@ mod tests {
     use super::*;
     use crate::STATE_BYTES;
 
+    /// What a handle's number has more where it is marked.
+    const MARKED: u32 = 256 * 256;
+
     #[test]
     fn bytes_of_another_length_are_not_touched() {
-        // 1,232 bytes are those of a version before 2.0.0.
-        for len in [0, 1, 1232, STATE_BYTES - 1, STATE_BYTES + 1] {
-            let mut state = vec![7; len];
-            assert!(!empty(&mut state));
-            assert_eq!(call(&mut state, 1, [0, 9, 0, 0, 0, 0]), 0);
-            assert_eq!((made(&state), gone(&state)), (0, 0));
-            assert_eq!(state, vec![7; len]);
+        // 1,232 bytes are those of a version before 2.0.0, and 1,745 those of 2.0.0 to 3.0.0. In bytes that are all 1
+        // everything is live, in bytes that are all 2 every object.
+        for len in [0, 1, 1232, 1745, STATE_BYTES - 1, STATE_BYTES + 1, 2 * STATE_BYTES] {
+            for byte in [1, 2, 7] {
+                let mut state = vec![byte; len];
+                assert!(!empty(&mut state));
+                assert!(!put_right(&mut state));
+                assert_eq!(call(&mut state, 1, [0, 9, 0, 0, 0, 0]), 0);
+                assert_eq!((made(&state), gone(&state), frozen_from(&state)), (0, 0, 0));
+                assert_eq!((subject(&state, 0), object(&state, 1), handle(&state, 0, 0)), (0, 0, 0));
+                assert_eq!((subject_need(&state, 0), object_need(&state, 1)), (0, 0));
+                assert_eq!(state, vec![byte; len]);
+            }
+        }
+    }
+
+    #[test]
+    fn what_is_there_is_a_number() {
+        // Every subject and every file is live, and every handle reads file 1 and is marked; every kept need is 1.
+        let mut state = [1; STATE_BYTES];
+        assert_eq!((subject(&state, 31), object(&state, 63)), (256 + 1, 256 + 1));
+        assert_eq!(handle(&state, 31, 15), MARKED + 256 + 1);
+        assert_eq!((subject_need(&state, 31), object_need(&state, 63)), (1, 1));
+        assert_eq!(frozen_from(&state), 1);
+
+        // No file is written, so that no subject needs anything.
+        assert!(put_right(&mut state));
+        assert_eq!((subject_need(&state, 31), object_need(&state, 63)), (0, 1));
+
+        // Out of range there is nothing, whatever the bits of the number.
+        for far in [64, 65, 256, 1 << 16, 1 << 31, u32::MAX - 31, u32::MAX] {
+            assert_eq!((subject(&state, far), object(&state, far)), (0, 0), "{far}");
+            assert_eq!((subject_need(&state, far), object_need(&state, far)), (0, 0), "{far}");
+            assert_eq!((handle(&state, far, 0), handle(&state, 0, far)), (0, 0), "{far}");
+        }
+        assert_eq!((subject(&state, 32), subject_need(&state, 32)), (0, 0));
+        assert_eq!((handle(&state, 32, 0), handle(&state, 0, 16)), (0, 0));
+
+        // A level is any byte.
+        for level in 0..=255 {
+            state[1] = level;
+            state[65] = level;
+            assert_eq!(subject(&state, 0), 256 + u32::from(level));
+            assert_eq!(object(&state, 0), 256 + u32::from(level));
+        }
+    }
+
+    #[test]
+    fn what_first_bytes_say() {
+        for byte in 0..=255 {
+            let mut state = [1; STATE_BYTES];
+            state[0] = byte; // of subject 0
+            state[64] = byte; // of object 0
+            state[192 + 3 * 16] = byte; // of place 0 of subject 1
+            state[192 + 3 * 17 + 1] = byte; // the object of place 1
+            state[192 + 3 * 18 + 2] = byte; // the mark of place 2
+            let known = |kinds| if (1..=kinds).contains(&byte) { u32::from(byte) } else { 0 };
+            assert_eq!(subject(&state, 0), if byte == 1 { 256 + 1 } else { 0 }, "{byte}");
+            assert_eq!(subject_need(&state, 0), known(1), "{byte}");
+            let kind = known(2);
+            assert_eq!(object(&state, 0), if kind > 0 { 256 * kind + 1 } else { 0 }, "{byte}");
+            assert_eq!(object_need(&state, 0), u32::from(kind > 0), "{byte}");
+            let way = known(3);
+            assert_eq!(handle(&state, 1, 0), if way > 0 { MARKED + 256 * way + 1 } else { 0 }, "{byte}");
+            // A handle on what is not live dangles, and so does one of a subject that is not.
+            let there = (1..64).contains(&byte);
+            assert_eq!(
+                handle(&state, 1, 1),
+                if there { MARKED + 256 + u32::from(byte) } else { 0 },
+                "{byte}"
+            );
+            assert_eq!(handle(&state, 0, 0) > 0, byte == 1, "{byte}");
+            assert_eq!(handle(&state, 1, 2), 256 + 1 + if byte == 1 { MARKED } else { 0 }, "{byte}");
         }
     }
 }

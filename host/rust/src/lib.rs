@@ -27,10 +27,15 @@ mod answer;
 mod archive;
 mod call;
 mod journal;
+mod look;
 mod monitor;
 
 pub use answer::{Answer, Refusal};
 pub use call::{Call, NO_FREEZE};
 pub use journal::{read_number, replay, replay_into, write_record};
 pub use journal::{JOURNAL_BYTES, RECORD_ROOM, REPLY_ROOM};
+pub use look::{Handle, Kind, Object, Way, OBJECTS, PLACES, SUBJECTS};
 pub use monitor::{Monitor, STATE_BYTES};
+
+/// The version of this crate and of the archive that belongs to it, as `GATEKEEPER_VERSION` in C.
+pub const VERSION: &str = env!("CARGO_PKG_VERSION");

@@ -6,15 +6,15 @@ use crate::answer::Answer;
 use crate::archive;
 use crate::call::{Call, NO_FREEZE};
 
-/// How many bytes a monitor and its tally take.
-pub const STATE_BYTES: usize = 1745;
+/// How many bytes a monitor, its tally and its kept needs take.
+pub const STATE_BYTES: usize = 1841;
 
-/// Where the freeze stands in them.
-const FREEZE_AT: usize = 1744;
+/// How many a monitor took in versions 2.0.0 to 3.0.0: those before the kept needs.
+const STATE_BYTES_BEFORE: usize = 1745;
 
-/// A monitor with its tally of handles. It is a plain value: a clone is a monitor of its own.
+/// A monitor with its tally of handles and its kept needs. It is a plain value: a clone is a monitor of its own.
 ///
-/// Two are equal if their bytes are.
+/// Two are equal if their bytes are, the kept needs of numbers that are not in use among them.
 #[derive(Clone, PartialEq, Eq)]
 pub struct Monitor {
     state: [u8; STATE_BYTES],
@@ -28,16 +28,73 @@ impl Monitor {
         Monitor { state }
     }
 
-    /// The monitor that these bytes are. Any bytes are one; `host/gatekeeper.h` has the layout. Bytes that version
-    /// 2.0.0 or 2.1.0 kept are taken up as they are. Those of a version before these lack the third of each handle,
-    /// which is 0, and the last, which is [`NO_FREEZE`].
+    /// The monitor that these bytes are. Any bytes are one; `host/gatekeeper.h` has the layout. On bytes that did not
+    /// come from [`Monitor::as_bytes`] of this version, [`Monitor::put_right`] is to be called once: calls are answered
+    /// by the rules without it, but needs may be shown wrong. [`Monitor::from_kept`] does so with those of before.
     pub fn from_bytes(state: [u8; STATE_BYTES]) -> Monitor {
         Monitor { state }
+    }
+
+    /// The monitor that a host kept as bytes: those of this version as they are, or the 1,745 of version 2.0.0, 2.1.0
+    /// or 3.0.0, put right. None for bytes of any other length.
+    ///
+    /// Those of a version before these lack the third byte of each handle, which is 0, and the last, which is
+    /// [`NO_FREEZE`]; with them they are bytes of version 2.0.0.
+    ///
+    /// ```
+    /// use gatekeeper::{Monitor, Refusal};
+    ///
+    /// let mut monitor = Monitor::new();
+    /// monitor.admit(0, 9).granted()?; // a step of level 9
+    /// monitor.register(0, 7).granted()?; // a book of level 7
+    /// monitor.open_write(0, 0, 0).granted()?;
+    ///
+    /// let kept = monitor.as_bytes().to_vec();
+    /// assert_eq!(Monitor::from_kept(&kept), Some(monitor));
+    ///
+    /// let before = &kept[..1745]; // as version 3.0.0 kept it
+    /// assert_eq!(Monitor::from_kept(before).and_then(|monitor| monitor.need_of_subject(0)), Some(7));
+    /// # Ok::<(), Refusal>(())
+    /// ```
+    pub fn from_kept(kept: &[u8]) -> Option<Monitor> {
+        if let Ok(state) = kept.try_into() {
+            return Some(Monitor::from_bytes(state));
+        }
+        let before: &[u8; STATE_BYTES_BEFORE] = kept.try_into().ok()?;
+        let mut state = [0; STATE_BYTES];
+        state[..STATE_BYTES_BEFORE].copy_from_slice(before);
+        let mut monitor = Monitor::from_bytes(state);
+        monitor.put_right();
+        Some(monitor)
     }
 
     /// The monitor's bytes, to be kept by the host.
     pub fn as_bytes(&self) -> &[u8; STATE_BYTES] {
         &self.state
+    }
+
+    /// Works the kept needs out anew; all else stays as it is. Then the monitor is *right*: the kept need of each live
+    /// subject and object is its need by the rules. [`Monitor::new`] is right, and a call on a right monitor, refused
+    /// or not, leaves a right one. So this is for bytes that came from elsewhere ([`Monitor::from_bytes`]), once.
+    ///
+    /// ```
+    /// use gatekeeper::{Monitor, Refusal};
+    ///
+    /// let mut monitor = Monitor::new();
+    /// monitor.admit(0, 9).granted()?; // a step of level 9
+    /// monitor.register(0, 7).granted()?; // a book of level 7
+    /// monitor.open_write(0, 0, 0).granted()?;
+    ///
+    /// let mut bytes = *monitor.as_bytes();
+    /// bytes[1745] = 3; // the kept need of step 0, which no call made so
+    /// let mut monitor = Monitor::from_bytes(bytes);
+    /// assert_eq!(monitor.need_of_subject(0), Some(3));
+    /// monitor.put_right();
+    /// assert_eq!(monitor.need_of_subject(0), Some(7));
+    /// # Ok::<(), Refusal>(())
+    /// ```
+    pub fn put_right(&mut self) {
+        assert!(archive::put_right(&mut self.state), "{}", archive::OTHER_VERSION);
     }
 
     /// Makes a call.
@@ -78,7 +135,8 @@ impl Monitor {
     /// assert_eq!(monitor.frozen_from(), None);
     /// ```
     pub fn frozen_from(&self) -> Option<u8> {
-        Some(self.state[FREEZE_AT]).filter(|&level| u32::from(level) < NO_FREEZE)
+        let level = archive::frozen_from(&self.state);
+        (level < NO_FREEZE).then_some(level as u8)
     }
 }
 
@@ -202,8 +260,15 @@ mod tests {
     use super::*;
     use crate::Refusal;
 
-    /// Where the handles stand in a monitor's bytes.
+    /// Where the handles, the freeze and the kept needs stand in a monitor's bytes.
     const HANDLES_AT: usize = 192;
+    const FREEZE_AT: usize = 1744;
+    const NEEDS_AT: usize = 1745;
+
+    /// The bytes of the tables, the tally and the freeze: all but the kept needs.
+    fn tables(monitor: &Monitor) -> &[u8] {
+        &monitor.as_bytes()[..NEEDS_AT]
+    }
 
     #[test]
     fn the_archive_agrees_on_the_size() {
@@ -411,14 +476,14 @@ mod tests {
         // They fell when they mapped it, so that the write changes nothing.
         let before = monitor.clone();
         assert_eq!(monitor.write(0, 0), Answer::Allowed(2));
-        assert_eq!(monitor, before);
+        assert_eq!(tables(&monitor), tables(&before));
 
         // In bytes that no calls made one of them is higher. It falls, and the answer has the file's level.
         let mut state = *monitor.as_bytes();
         state[2 * 2 + 1] = 12;
         let mut monitor = Monitor::from_bytes(state);
         assert_eq!(monitor.write(0, 0), Answer::Lowered(2));
-        assert_eq!(monitor, before);
+        assert_eq!(tables(&monitor), tables(&before));
         assert_eq!(monitor.write(0, 0), Answer::Allowed(2));
 
         // The writer is one of them where it has the file mapped.
@@ -428,7 +493,7 @@ mod tests {
         state[1] = 12;
         let mut monitor = Monitor::from_bytes(state);
         assert_eq!(monitor.write(0, 0), Answer::Lowered(2));
-        assert_eq!(monitor, before);
+        assert_eq!(tables(&monitor), tables(&before));
     }
 
     #[test]
@@ -657,16 +722,51 @@ mod tests {
         }
         state.extend(counts);
         state.push(NO_FREEZE as u8);
-        let mut monitor = Monitor::from_bytes(state.try_into().expect("the bytes of a monitor"));
+        let mut monitor = Monitor::from_kept(&state).expect("the bytes of a monitor of version 2.0.0");
 
         assert_eq!((monitor.made(), monitor.gone(), monitor.open()), (5, 2, 3));
         assert_eq!(monitor.frozen_from(), None);
+        assert_eq!((monitor.need_of_subject(1), monitor.need_of_object(63)), (Some(9), Some(9)));
         assert_eq!(monitor.write(1, 0), Answer::Allowed(9));
         assert_eq!(monitor.exec(1, 2), Answer::Allowed(9));
         assert_eq!(monitor.read(1, 1), Answer::Allowed(9));
         assert_eq!(monitor.write(1, 15), Answer::Allowed(9));
         assert_eq!(monitor.exit(1), Answer::Allowed(9));
         assert_eq!((monitor.made(), monitor.gone(), monitor.open()), (5, 5, 0));
+    }
+
+    #[test]
+    fn kept_bytes_are_taken_up_by_their_length() {
+        let mut monitor = station();
+        assert_eq!(monitor.pipe(0, 63, 0, 1), Answer::Allowed(9));
+        assert_eq!(monitor.mark(0, 2), Answer::Allowed(9));
+        assert_eq!(monitor.freeze(12), Answer::Allowed(12));
+        let kept = monitor.as_bytes();
+        assert_eq!(Monitor::from_kept(kept).as_ref(), Some(&monitor));
+
+        // Those of before are the same monitor, and right; and so they are with 96 bytes of any value, put right.
+        let again = Monitor::from_kept(&kept[..NEEDS_AT]).expect("bytes of before");
+        assert_eq!(tables(&again), tables(&monitor));
+        for filled in [0, 7, 255] {
+            let mut bytes = [filled; STATE_BYTES];
+            bytes[..NEEDS_AT].copy_from_slice(tables(&monitor));
+            let mut by_hand = Monitor::from_bytes(bytes);
+            by_hand.put_right();
+            for monitor in [&again, &by_hand] {
+                assert_eq!((monitor.need_of_subject(0), monitor.need_of_subject(1)), (Some(9), Some(0)));
+                assert_eq!((monitor.need_of_object(0), monitor.need_of_object(63)), (Some(9), Some(9)));
+                assert_eq!(tables(monitor), &kept[..NEEDS_AT]);
+            }
+        }
+
+        // Bytes of this version are taken as they are, right or not.
+        let wrong = [7; STATE_BYTES];
+        assert_eq!(Monitor::from_kept(&wrong), Some(Monitor::from_bytes(wrong)));
+
+        let long = [1; STATE_BYTES + 1];
+        for len in [0, 1, 1232, NEEDS_AT - 1, NEEDS_AT + 1, STATE_BYTES - 1, STATE_BYTES + 1] {
+            assert_eq!(Monitor::from_kept(&long[..len]), None, "{len} bytes");
+        }
     }
 
     #[test]
@@ -683,6 +783,16 @@ mod tests {
             assert_eq!(monitor.direct(code, [0; 6]), Answer::Refused(Refusal::UnknownCode));
         }
         assert_eq!(monitor, before);
+
+        // Nor where the kept needs are wrong: what is refused puts nothing right.
+        let mut state = *launcher().as_bytes();
+        state[NEEDS_AT..].fill(0xa5);
+        let mut monitor = Monitor::from_bytes(state);
+        assert_eq!(monitor.open_read(0, 1, 1), Answer::Refused(Refusal::Flow));
+        assert_eq!(monitor.exec(0, 1), Answer::Refused(Refusal::Flow));
+        assert_eq!(monitor.close(0, 1), Answer::Refused(Refusal::PlaceUnfit));
+        assert_eq!(monitor.exit(1), Answer::Refused(Refusal::NoSubject));
+        assert_eq!(monitor.as_bytes(), &state);
     }
 
     #[test]

@@ -1,13 +1,17 @@
 //! The archive beside the independent program: every call is made in both, and answers, tally and tables are
-//! compared after each. The calls come from generated journals, which start with empty tables, and are drawn for
-//! states that no calls made. The same comparison has to tell every wrong variant of the independent program apart.
+//! compared after each; and so is all that the archive shows: subjects, objects, handles, the freeze, and the kept
+//! needs beside needs that are worked out from nothing. The calls come from generated journals, which start with empty
+//! tables, and are drawn for states that no calls made. The same comparison has to tell every wrong variant of the
+//! independent program apart.
 
+use std::cmp::Ordering;
 use std::fmt;
 
-use gatekeeper::{Answer, Monitor, Refusal, STATE_BYTES};
+use gatekeeper::{Answer, Monitor, Refusal, Way, STATE_BYTES};
 use gatekeeper_independent::calls::{filled, shape_of_code, Numbers, SHAPES};
 use gatekeeper_independent::generate::{self, Wish};
 use gatekeeper_independent::monitor::{Answer as PlainAnswer, Monitor as PlainMonitor};
+use gatekeeper_independent::needs::{self, Needs, Thing};
 use gatekeeper_independent::random::Random;
 use gatekeeper_independent::records::{self, Body, Reader};
 use gatekeeper_independent::replies::{replies, replies_by};
@@ -17,10 +21,11 @@ use gatekeeper_independent::{numbers, refusals};
 
 const SEED: u64 = 1;
 
-/// Where the handles, the tally and the freeze stand in a monitor's bytes.
+/// Where the handles, the tally, the freeze and the kept needs stand in a monitor's bytes.
 const HANDLES_AT: usize = 192;
 const MADE_AT: usize = 1728;
 const FREEZE_AT: usize = 1744;
+const NEEDS_AT: usize = 1745;
 
 const REGISTER: u32 = 2;
 const OPEN_READ: u32 = 5;
@@ -29,6 +34,7 @@ const READ: u32 = 7;
 const WRITE: u32 = 8;
 const EXEC: u32 = 10;
 const CLOSE: u32 = 11;
+const EXIT: u32 = 12;
 const MAP: u32 = 14;
 const CONNECT: u32 = 17;
 
@@ -38,6 +44,7 @@ const REFUSING_CONNECTS: [usize; 5] = [2, 16, 3, 7, 9];
 /// How many calls each of the two large comparisons makes.
 const CALLS_OF_JOURNALS: usize = 300_000;
 const CALLS_ON_ANY_STATE: usize = 100_000;
+const CALLS_ON_EACH_STATE: usize = 20;
 
 /// A monitor of the archive and one of the independent program, in the same state.
 struct Pair {
@@ -47,18 +54,26 @@ struct Pair {
     /// The proved monitor's counts where the plain one's are 0.
     made: u64,
     gone: u64,
+    /// The needs as the independent program works them out, where the proved monitor is right: then it keeps the same.
+    needs: Option<Needs>,
 }
 
 impl Pair {
     fn empty(rules: Rules) -> Pair {
-        Pair { proved: Monitor::new(), plain: PlainMonitor::by(rules), rules, made: 0, gone: 0 }
+        let plain = PlainMonitor::by(rules);
+        let needs = Some(Needs::of_tables(plain.tables()));
+        Pair { proved: Monitor::new(), plain, rules, made: 0, gone: 0, needs }
     }
 
+    /// Whatever the kept needs are, the monitor does not count as right.
     fn of_bytes(state: [u8; STATE_BYTES]) -> Pair {
         let rules = Rules::default();
         let proved = Monitor::from_bytes(state);
         let (made, gone) = (proved.made(), proved.gone());
-        Pair { plain: PlainMonitor::of_tables(tables_of(&state), rules), proved, rules, made, gone }
+        let plain = PlainMonitor::of_tables(tables_of(&state), rules);
+        let mut pair = Pair { plain, proved, rules, made, gone, needs: None };
+        pair.look().unwrap_or_else(|difference| panic!("before any call: {difference}"));
+        pair
     }
 
     /// Makes a call in both; the error says how answer or tally differ. Tables are compared too, but for a variant,
@@ -89,6 +104,87 @@ impl Pair {
         }
         Ok(answer)
     }
+
+    /// Compares what the archive shows of the tables, and of the needs where the monitor is right; the error says how
+    /// it differs. A number of each that is out of range is asked for, too.
+    fn look(&mut self) -> Result<(), String> {
+        let (proved, tables) = (&self.proved, self.plain.tables());
+        alike("the freeze", proved.frozen_from().map(u32::from), tables.frozen_from())?;
+        for s in 0..=LIMITS.subjects {
+            alike(("subject", s), proved.subject(s).map(subject_of), tables.subject(s))?;
+            for p in 0..=LIMITS.places {
+                alike(("the handle", s, p), proved.handle(s, p).map(handle_of), tables.handle(s, p))?;
+            }
+        }
+        for o in 0..=LIMITS.objects {
+            alike(("object", o), proved.object(o).map(object_of), tables.object(o))?;
+        }
+
+        if self.needs.is_none() {
+            return Ok(());
+        }
+        let needs = Needs::of_tables(tables);
+        for s in 0..=LIMITS.subjects {
+            let need = tables.subject(s).map(|_| needs.of(Thing::Subject(s)));
+            alike(("the need of subject", s), proved.need_of_subject(s).map(u32::from), need)?;
+        }
+        for o in 0..=LIMITS.objects {
+            let need = tables.object(o).map(|_| needs.of(Thing::Object(o)));
+            alike(("the need of object", o), proved.need_of_object(o).map(u32::from), need)?;
+        }
+        self.needs = Some(needs);
+        Ok(())
+    }
+
+    /// Puts the proved monitor right, and compares all that it shows. Says whether some kept need was wrong before.
+    fn put_right(&mut self) -> Result<bool, String> {
+        let before = self.proved.clone();
+        self.proved.put_right();
+        let all_but_needs = |monitor: &Monitor| monitor.as_bytes()[..NEEDS_AT].to_vec();
+        alike("what is not a need", all_but_needs(&self.proved), all_but_needs(&before))?;
+
+        self.needs = Some(Needs::of_tables(self.plain.tables()));
+        self.look()?;
+        let moved = |thing| kept_need(&before, thing) != kept_need(&self.proved, thing);
+        Ok(needs::live_things(self.plain.tables()).any(moved))
+    }
+}
+
+/// The error says what differs.
+fn alike<T: fmt::Debug + PartialEq>(what: impl fmt::Debug, proved: T, plain: T) -> Result<(), String> {
+    if proved == plain {
+        return Ok(());
+    }
+    Err(format!("{what:?}: the archive shows {proved:?}, the independent program has {plain:?}"))
+}
+
+fn kept_need(monitor: &Monitor, thing: Thing) -> Option<u8> {
+    match thing {
+        Thing::Subject(s) => monitor.need_of_subject(s),
+        Thing::Object(o) => monitor.need_of_object(o),
+    }
+}
+
+fn subject_of(level: u8) -> Subject {
+    Subject { level: level.into() }
+}
+
+fn object_of(object: gatekeeper::Object) -> Object {
+    let kind = match object.kind {
+        gatekeeper::Kind::File => Kind::File,
+        gatekeeper::Kind::Pipe => Kind::Pipe,
+    };
+    Object { kind, level: object.level.into() }
+}
+
+fn handle_of(handle: gatekeeper::Handle) -> Handle {
+    let object = handle.object.into();
+    let unmarked = match handle.way {
+        Way::Reads => Handle::new(object, Direction::Reading),
+        Way::Writes => Handle::new(object, Direction::Writing),
+        Way::Maps => Handle::mapping(object),
+    };
+    Handle { marked: handle.marked, ..unmarked }
 }
 
 fn wrapped(answer: PlainAnswer) -> Answer {
@@ -153,7 +249,7 @@ fn calls_of(journal: &[u8]) -> Vec<(u32, Numbers)> {
 /// A state of any bytes. In most of them many records mean something: how many handles, how many of these are
 /// marked, and how far levels lie apart, differs from state to state. As many handles are mappings as read and as
 /// write. The freeze is any byte, and often one of the levels; so is the third byte of a handle, and often a mark or
-/// none.
+/// none. The kept needs are any levels.
 fn drawn_state(random: &mut Random) -> [u8; STATE_BYTES] {
     let mut state = [0; STATE_BYTES];
     for byte in &mut state {
@@ -173,6 +269,9 @@ fn drawn_state(random: &mut Random) -> [u8; STATE_BYTES] {
     for record in rest[..MADE_AT - HANDLES_AT].chunks_exact_mut(3) {
         let bytes = [random.below(handles), random.below(68), random.below(marks)];
         record.copy_from_slice(&bytes.map(|byte| byte as u8));
+    }
+    for need in &mut rest[NEEDS_AT - HANDLES_AT..] {
+        *need = random.below(levels) as u8;
     }
     if random.once_in(2) {
         state[FREEZE_AT] = random.below(levels.min(16)) as u8;
@@ -256,7 +355,7 @@ fn is_mapped_file(o: u32, tables: &Tables) -> bool {
 }
 
 /// Which outcomes and refusals were seen, of all calls, of maps, of writes to files that are mapped and of connects,
-/// and how many handles execs closed; a comparison that saw few says little.
+/// how many handles execs closed, and how often needs moved; a comparison that saw few says little.
 #[derive(Default)]
 struct Seen {
     all: Outcomes,
@@ -266,6 +365,34 @@ struct Seen {
     ended_at_exec: u64,
     /// How many of these were mappings.
     unmapped_at_exec: u64,
+    /// The calls at which the need of something rose that was live before and after it, and those at which one sank.
+    rising: Moves,
+    sinking: Moves,
+    /// The monitors that no calls made, when they were put right, and those of which some kept need was wrong then.
+    put_right: usize,
+    wrong_before: usize,
+}
+
+/// How many calls of each code moved a need.
+#[derive(Default)]
+struct Moves([usize; 18]);
+
+impl Moves {
+    /// Whether there are calls of each of these codes, `least` or more, and none of any other code.
+    fn are_at(&self, codes: &[u32], least: usize) -> bool {
+        (0..)
+            .zip(self.0)
+            .all(|(code, calls)| if codes.contains(&code) { calls >= least } else { calls == 0 })
+    }
+}
+
+impl fmt::Display for Moves {
+    fn fmt(&self, f: &mut fmt::Formatter<'_>) -> fmt::Result {
+        let moving = SHAPES.iter().map(|shape| (self.0[shape.code as usize], shape.word));
+        let words: Vec<String> =
+            moving.filter(|&(calls, _)| calls > 0).map(|(n, word)| format!("{n} {word}")).collect();
+        write!(f, "{}", words.join(", "))
+    }
 }
 
 #[derive(Default)]
@@ -311,9 +438,19 @@ impl Seen {
         let written = before.handle(s, p).filter(|handle| handle.direction == Direction::Writing);
         let to_mapped_file = written.is_some_and(|handle| is_mapped_file(handle.object, before));
         let gone = pair.proved.gone();
+        let mut things: Vec<Thing> = needs::live_things(before).collect();
+        let needs_before = pair.needs.clone();
 
         let answer = pair.call(code, numbers)?;
+        pair.look()
+            .map_err(|difference| format!("after code {code}, numbers {numbers:?}: {difference}"))?;
         self.all.count(answer);
+        if let (Some(before), Some(after), Ok(_)) = (needs_before, &pair.needs, answer.granted()) {
+            things.retain(|&thing| needs::level(pair.plain.tables(), thing).is_some());
+            let some = |way| things.iter().any(|&thing| after.of(thing).cmp(&before.of(thing)) == way);
+            self.rising.0[code as usize] += usize::from(some(Ordering::Greater));
+            self.sinking.0[code as usize] += usize::from(some(Ordering::Less));
+        }
         if code == MAP {
             self.maps.count(answer);
         }
@@ -330,8 +467,32 @@ impl Seen {
         Ok(())
     }
 
+    /// Puts a monitor right that no calls made.
+    fn put_right(&mut self, pair: &mut Pair) -> Result<(), String> {
+        self.put_right += 1;
+        self.wrong_before += usize::from(pair.put_right()?);
+        Ok(())
+    }
+
+    /// Needs moved at calls that make or remove flows, at `least` of each code, and at no others.
+    fn moved_needs(&self, least: usize) {
+        let Seen { rising, sinking, .. } = self;
+        assert!(rising.are_at(&[OPEN_READ, OPEN_WRITE, CONNECT], least), "needs rose at calls to {rising}");
+        assert!(sinking.are_at(&[EXEC, CLOSE, EXIT], least), "needs sank at calls to {sinking}");
+    }
+
     fn report(&self, what: &str) {
-        let Seen { all, maps, mapped_writes, connects, ended_at_exec, unmapped_at_exec } = self;
+        let Seen {
+            all,
+            maps,
+            mapped_writes,
+            connects,
+            ended_at_exec,
+            unmapped_at_exec,
+            rising,
+            sinking,
+            ..
+        } = self;
         let calls = all.allowed + all.lowered + all.refused();
         println!("beside: {what}: {calls} calls, {all}");
         println!("beside: {what}: maps: {maps}; writes to mapped files: {mapped_writes}");
@@ -340,6 +501,7 @@ impl Seen {
         println!(
             "beside: {what}: {ended_at_exec} handles ended at exec, {unmapped_at_exec} of them mappings"
         );
+        println!("beside: {what}: needs rose at calls to {rising}, and sank at calls to {sinking}");
         assert!(all.allowed > calls / 10 && all.lowered > 100, "few calls were not refused");
         assert!(maps.allowed > 100 && maps.lowered > 100, "few maps were not refused");
         assert!(mapped_writes.allowed > 100, "few writes were to mapped files");
@@ -374,7 +536,7 @@ fn the_calls_of_generated_journals_are_answered_alike() {
         let mut pair = Pair::empty(Rules::default());
         for (code, numbers) in calls_of(&generate::journal(SEED, index, Wish::default())) {
             seen.call(&mut pair, code, numbers).unwrap_or_else(|difference| {
-                panic!("journal {index} of seed {SEED} (gk generate), call {calls}: {difference}")
+                panic!("journal {index} of seed {SEED} (tools/second generate), call {calls}: {difference}")
             });
             calls += 1;
         }
@@ -385,23 +547,35 @@ fn the_calls_of_generated_journals_are_answered_alike() {
     seen.report("calls of generated journals");
     // From empty tables a subject has fallen when it mapped the file: RULES T38.
     assert_eq!(seen.mapped_writes.lowered, 0, "a write to a mapped file lowered a subject");
+    seen.moved_needs(100);
 }
 
 #[test]
 fn calls_on_any_state_are_answered_alike() {
     let mut random = Random::new(SEED, 0);
     let mut seen = Seen::default();
-    let mut pair = Pair::empty(Rules::default());
-    for call in 0..CALLS_ON_ANY_STATE {
-        if call % 20 == 0 {
-            pair = Pair::of_bytes(drawn_state(&mut random));
+    for state in 0..CALLS_ON_ANY_STATE / CALLS_ON_EACH_STATE {
+        let differs = |difference| panic!("state {state}: {difference}");
+        let mut pair = Pair::of_bytes(drawn_state(&mut random));
+        // Half of them are put right before the calls, the others only after them: either way the rules answer.
+        let first = state % 2 == 0;
+        if first {
+            seen.put_right(&mut pair).unwrap_or_else(differs);
         }
-        let (code, numbers) = drawn_call(&mut random, pair.plain.tables());
-        seen.call(&mut pair, code, numbers)
-            .unwrap_or_else(|difference| panic!("call {call}: {difference}"));
+        for _ in 0..CALLS_ON_EACH_STATE {
+            let (code, numbers) = drawn_call(&mut random, pair.plain.tables());
+            seen.call(&mut pair, code, numbers).unwrap_or_else(differs);
+        }
+        if !first {
+            seen.put_right(&mut pair).unwrap_or_else(differs);
+        }
     }
     seen.report("calls on drawn states");
     assert!(seen.mapped_writes.lowered > 100, "few writes to mapped files lowered a subject");
+    seen.moved_needs(1);
+    let Seen { put_right, wrong_before, .. } = seen;
+    println!("beside: {put_right} drawn states were put right, {wrong_before} of which kept a wrong need");
+    assert!(wrong_before > put_right / 4, "few of the drawn states kept a wrong need");
 }
 
 #[test]

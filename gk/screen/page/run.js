@@ -1,0 +1,213 @@
+"use strict";
+// The run: states are rebuilt from what each record changed. Every level, need and handle was asked of the proved
+// gatekeeper when the page was made; nothing is worked out here.
+
+const STEPS = 32;
+const PLACES = 16;
+const THINGS = 96;
+const FREEZE = 96;
+const NO_FREEZE = 16;
+const READS = 1;
+const WRITES = 2;
+const MAPS = 3;
+const FILE = 1;
+/** A state is kept at every so many records. */
+const EVERY = 256;
+
+const DATA = JSON.parse(document.getElementById("run").textContent);
+const RECORDS = DATA.records;
+
+class State {
+  constructor() {
+    this.kind = new Uint8Array(THINGS); // 0 not there; 1 a step or file; 2 a pipe
+    this.level = new Uint8Array(THINGS);
+    this.need = new Uint8Array(THINGS);
+    this.way = new Uint8Array(STEPS * PLACES);
+    this.object = new Uint8Array(STEPS * PLACES);
+    this.marked = new Uint8Array(STEPS * PLACES);
+    this.freeze = NO_FREEZE;
+  }
+
+  copy() {
+    const copy = new State();
+    for (const field of ["kind", "level", "need", "way", "object", "marked"]) {
+      copy[field].set(this[field]);
+    }
+    copy.freeze = this.freeze;
+    return copy;
+  }
+
+  /** Makes the changes of a record. */
+  apply(changes) {
+    const behind = changes.indexOf(".");
+    for (let at = 0; at < behind; at += 3) {
+      const number = unpacked(changes, at);
+      const [thing, stands] = [Math.floor(number / 768), number % 768];
+      if (thing === FREEZE) {
+        this.freeze = stands;
+      } else {
+        this.kind[thing] = stands >> 8;
+        this.level[thing] = (stands >> 4) & 15;
+        this.need[thing] = stands & 15;
+      }
+    }
+    for (let at = behind + 1; behind >= 0 && at < changes.length; at += 3) {
+      const number = unpacked(changes, at);
+      const place = number >> 9;
+      this.way[place] = (number >> 7) & 3;
+      this.marked[place] = (number >> 6) & 1;
+      this.object[place] = number & 63;
+    }
+  }
+
+  /** Calls with each handle: step, place, way, thing, marked. */
+  handles(visit) {
+    for (let place = 0; place < STEPS * PLACES; place += 1) {
+      if (this.way[place] !== 0) {
+        const step = Math.floor(place / PLACES);
+        visit(step, place % PLACES, this.way[place], STEPS + this.object[place], this.marked[place] === 1);
+      }
+    }
+  }
+}
+
+const LETTERS = "ABCDEFGHIJKLMNOPQRSTUVWXYZabcdefghijklmnopqrstuvwxyz0123456789-_";
+const DIGIT = new Uint8Array(128);
+for (let at = 0; at < 64; at += 1) {
+  DIGIT[LETTERS.charCodeAt(at)] = at;
+}
+
+function unpacked(text, at) {
+  return (DIGIT[text.charCodeAt(at)] << 12) | (DIGIT[text.charCodeAt(at + 1)] << 6) | DIGIT[text.charCodeAt(at + 2)];
+}
+
+/** A record by its position, with the fields of its list named. */
+function record(position) {
+  const [letter, value, code, changes, asked, why, ways, changed, about, chain, sought] = RECORDS[position - 1];
+  const said = { asked, why, ways, changed, about, chain: pairs(chain), sought: pairs(sought) };
+  return { position, letter, value, code, changes, ...said };
+}
+
+function pairs(list) {
+  const found = [];
+  for (let at = 0; list !== undefined && at < list.length; at += 2) {
+    found.push([list[at], list[at + 1]]);
+  }
+  return found;
+}
+
+/** States at every so many records, the refusals, the falls, and which things were ever at which level. */
+const KEPT = [];
+const REFUSED = [];
+const LOWERED = [];
+const EVER = Array.from({ length: 16 }, () => new Set());
+(() => {
+  const state = new State();
+  for (let position = 0; position <= RECORDS.length; position += 1) {
+    if (position > 0) {
+      const [letter, , , changes] = RECORDS[position - 1];
+      state.apply(changes);
+      (letter === "R" ? REFUSED : letter === "L" ? LOWERED : []).push(position);
+      if (letter === "R") {
+        record(position).chain.forEach(([thing, level]) => EVER[level].add(thing));
+      }
+      for (let at = 0; at < changes.indexOf("."); at += 3) {
+        const thing = Math.floor(unpacked(changes, at) / 768);
+        if (thing !== FREEZE && state.kind[thing] !== 0) {
+          EVER[state.level[thing]].add(thing);
+        }
+      }
+    }
+    if (position % EVERY === 0) {
+      KEPT.push(state.copy());
+    }
+  }
+})();
+
+/** The state after a record; after record 0 everything is empty. */
+function stateAfter(position) {
+  const state = KEPT[Math.floor(position / EVERY)].copy();
+  for (let at = position - (position % EVERY) + 1; at <= position; at += 1) {
+    state.apply(RECORDS[at - 1][3]);
+  }
+  return state;
+}
+
+// Words.
+
+const NAMES = new Map();
+for (const [kind, number, from, name] of DATA.names) {
+  const key = `${kind} ${number}`;
+  NAMES.set(key, (NAMES.get(key) ?? []).concat([[from, name]]));
+}
+
+/** The name of a thing at a record, or "". */
+function nameOf(plain, position) {
+  let name = "";
+  for (const [from, given] of NAMES.get(plain) ?? []) {
+    name = from <= position ? given || "" : name;
+  }
+  return name;
+}
+
+const KINDS = { s: "step", f: "file", p: "pipe", o: "file or pipe" };
+
+/** A text with a capital. */
+function capital(text) {
+  const [first = "", ...rest] = text;
+  return first.toUpperCase() + rest.join("");
+}
+
+/** A phrase written out: its words, with the numbers put in. */
+function text(phrase, position) {
+  let at = 0;
+  const written = DATA.words[phrase[0]].replace(/\{([sfponl])\}/g, (mark, sign) => {
+    at += 1;
+    const number = phrase[at];
+    if (sign === "n") {
+      return String(number);
+    }
+    if (sign === "l") {
+      return ranges(number);
+    }
+    const plain = `${KINDS[sign]} ${number}`;
+    const name = nameOf(plain, position);
+    return name ? `${name} (${plain})` : plain;
+  });
+  return capital(written);
+}
+
+/** Rising numbers in short: "1 to 4, 7". */
+function ranges(list) {
+  const parts = [];
+  for (const number of list) {
+    const last = parts.at(-1);
+    if (last && number === last[1] + 1) {
+      last[1] = number;
+    } else {
+      parts.push([number, number]);
+    }
+  }
+  const word = ([first, last]) => `${first}${last - first > 1 ? " to " : ", "}${last}`;
+  return parts.map((part) => (part[0] === part[1] ? String(part[0]) : word(part))).join(", ");
+}
+
+/** What a thing is called without its name. */
+function plainName(thing, state) {
+  if (thing < STEPS) {
+    return `step ${thing}`;
+  }
+  return `${state.kind[thing] === FILE ? "file" : "pipe"} ${thing - STEPS}`;
+}
+
+/** What a thing is called at a record. */
+function called(thing, state, position) {
+  const plain = plainName(thing, state);
+  const name = nameOf(plain, position);
+  return name ? `${name} (${plain})` : plain;
+}
+
+/** The line that the program replies with. */
+function replyLine({ position, code, letter, value }) {
+  return `${position} ${code} ${letter} ${value}`;
+}

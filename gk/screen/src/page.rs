@@ -1,0 +1,340 @@
+//! The page: one file that a browser opens without a network. The run is in it as numbers, and the page's own script
+//! puts them to the words that stand there once.
+
+use std::collections::HashMap;
+use std::fmt::Write;
+
+use gatekeeper::{Kind, Refusal, Way, NO_FREEZE};
+
+use crate::chain::Chain;
+use crate::names::Names;
+use crate::order::Joins;
+use crate::phrase::Phrase;
+use crate::records::{letter_and_value, Run, Turn};
+use crate::state::{State, Thing, OBJECTS, PLACES, STEPS};
+use crate::told::{Memory, Told};
+
+const PAGE: &str = include_str!("../page/page.html");
+const STYLE: &str = include_str!("../page/style.css");
+const SCRIPTS: [&str; 3] =
+    [include_str!("../page/run.js"), include_str!("../page/graph.js"), include_str!("../page/view.js")];
+
+/// The page of a journal, which opens at a record: at this one, or else at the first refusal.
+pub fn page(journal: &[u8], title: &str, names: &Names, at: Option<u64>) -> String {
+    let data = data(journal, names, at);
+    let script = SCRIPTS.join("\n");
+    let mut page = String::with_capacity(data.len() + script.len() + STYLE.len() + PAGE.len());
+    let mut rest = PAGE;
+    while let Some(at) = rest.find("<!--@") {
+        page.push_str(&rest[..at]);
+        let end = rest[at..].find("-->").map_or(rest.len(), |end| at + end + 3);
+        match &rest[at..end] {
+            "<!--@title-->" => page.push_str(&escaped(title)),
+            "<!--@style-->" => page.push_str(STYLE),
+            "<!--@script-->" => page.push_str(&script),
+            "<!--@run-->" => page.push_str(&data),
+            other => page.push_str(other),
+        }
+        rest = &rest[end..];
+    }
+    page.push_str(rest);
+    page
+}
+
+/// A text as it may stand between tags.
+fn escaped(text: &str) -> String {
+    let mut safe = String::new();
+    for letter in text.chars() {
+        match letter {
+            '&' => safe.push_str("&amp;"),
+            '<' => safe.push_str("&lt;"),
+            '>' => safe.push_str("&gt;"),
+            '"' => safe.push_str("&quot;"),
+            '\'' => safe.push_str("&#39;"),
+            letter if letter.is_control() => safe.push('\u{fffd}'),
+            letter => safe.push(letter),
+        }
+    }
+    safe
+}
+
+/// A text in quotes, as it may stand in a script of the page: no sign in it can end the script.
+fn quoted(text: &str) -> String {
+    let mut safe = String::from("\"");
+    for letter in text.chars() {
+        match letter {
+            ' '..='~' if !"\"\\<>&'".contains(letter) => safe.push(letter),
+            letter => {
+                for unit in letter.encode_utf16(&mut [0; 2]) {
+                    let _ = write!(safe, "\\u{unit:04x}");
+                }
+            }
+        }
+    }
+    safe.push('"');
+    safe
+}
+
+/// The run as numbers.
+fn data(journal: &[u8], names: &Names, at: Option<u64>) -> String {
+    let mut names = names.clone();
+    let mut words = Words::default();
+    let mut joins = Joins::new();
+    let mut records = String::new();
+    let mut run = Run::new();
+    let mut memory = Memory::default();
+    let mut state = State::of(run.monitor());
+    let mut since = 0;
+    while let Some(turn) = run.next(journal) {
+        let before = state.clone();
+        if turn.before != turn.after {
+            joins.hold(&state, since, turn.position - since);
+            state = State::of(&turn.after);
+            since = turn.position;
+        }
+        names.follow(turn.position, &before, &state);
+        let told = memory.tell(&turn, &before, &state);
+        told.sought.iter().for_each(|&(from, to)| joins.refuse(from, to));
+        if !records.is_empty() {
+            records.push_str(",\n");
+        }
+        records.push_str(&record(&turn, &told, &changes(&before, &state), &mut words));
+    }
+    joins.hold(&state, since, 1);
+    let end = run.monitor();
+    let list = |things: Vec<String>| things.join(",");
+    let order = list(joins.order().into_iter().map(|thing| thing.index().to_string()).collect());
+    let nearest = joins.nearest().map(|thing| thing.map_or(-1, |thing| thing.index() as i32));
+    let nearest = list(nearest.iter().map(i32::to_string).collect());
+    let refusals = list(Refusal::ALL.iter().map(|refusal| quoted(refusal.words())).collect());
+    let names = names
+        .all()
+        .map(|(kind, n, from, name)| {
+            format!("[\"{kind}\",{n},{from},{}]", name.map_or("0".to_string(), quoted))
+        })
+        .collect();
+    format!(
+        "{{\"at\":{},\"end\":[{},{},{}],\"order\":[{order}],\"nearest\":[{nearest}],\n\
+         \"refusals\":[{refusals}],\n\"names\":[{}],\n\
+         \"words\":[{}],\n\"records\":[\n{records}\n]}}",
+        at.map_or(-1, |at| at as i64),
+        end.made(),
+        end.gone(),
+        end.open(),
+        list(names),
+        list(words.list.iter().map(|text| quoted(text)).collect()),
+    )
+}
+
+/// The words of all phrases, each once.
+#[derive(Default)]
+struct Words {
+    list: Vec<String>,
+    known: HashMap<String, usize>,
+}
+
+impl Words {
+    /// A phrase as the number of its words and the numbers in it.
+    fn phrase(&mut self, phrase: &Phrase) -> String {
+        let template = phrase.template();
+        let at = *self.known.entry(template.clone()).or_insert_with(|| {
+            self.list.push(template);
+            self.list.len() - 1
+        });
+        match phrase.numbers() {
+            numbers if numbers.is_empty() => format!("[{at}]"),
+            numbers => format!("[{at},{numbers}]"),
+        }
+    }
+
+    fn phrases(&mut self, phrases: &[Phrase]) -> String {
+        let phrases: Vec<String> = phrases.iter().map(|phrase| self.phrase(phrase)).collect();
+        format!("[{}]", phrases.join(","))
+    }
+}
+
+/// A record: letter, value, code, changes, what is asked, why, ways out, what changed, about whom, chain, flows sought.
+fn record(turn: &Turn, told: &Told, changes: &str, words: &mut Words) -> String {
+    let (letter, value) = letter_and_value(turn.answer);
+    let asked = words.phrase(&told.asked);
+    let (why, ways, changed) =
+        (words.phrases(&told.why), words.phrases(&told.ways), words.phrases(&told.changed));
+    let about: Vec<String> = told.about.iter().filter_map(|&thing| index(thing)).collect();
+    let mut fields = vec![format!(
+        "\"{letter}\",{value},{},\"{changes}\",{asked},{why},{ways},{changed},[{}]",
+        turn.body.code(),
+        about.join(",")
+    )];
+    if let Some(Chain { links }) = &told.chain {
+        let links: Vec<String> =
+            links.iter().map(|link| format!("{},{}", link.thing.index(), link.level)).collect();
+        fields.push(format!("[{}]", links.join(",")));
+        let sought =
+            told.sought.iter().filter_map(|&(from, to)| Some(format!("{},{}", index(from)?, index(to)?)));
+        fields.push(format!("[{}]", sought.collect::<Vec<_>>().join(",")));
+    }
+    format!("[{}]", fields.join(","))
+}
+
+/// The number of a thing that can be.
+fn index(thing: Thing) -> Option<String> {
+    let fits = match thing {
+        Thing::Step(s) => s < STEPS,
+        Thing::Object(o) => o < OBJECTS,
+    };
+    fits.then(|| thing.index().to_string())
+}
+
+/// What stands where a thing's number would, for the freeze.
+const FREEZE: u32 = STEPS + OBJECTS;
+
+/// What is different after a record, three letters a piece: first things and the freeze, then a dot, then handles.
+fn changes(before: &State, after: &State) -> String {
+    let mut text = String::new();
+    if before == after {
+        return text;
+    }
+    for s in 0..STEPS {
+        if before.step(s) != after.step(s) {
+            let stands = after.step(s).map_or(0, |step| standing(1, step.level, step.need));
+            packed(768 * s + stands, &mut text);
+        }
+    }
+    for o in 0..OBJECTS {
+        if before.object(o) != after.object(o) {
+            let stands = after.object(o).map_or(0, |object| {
+                let kind = if object.kind == Kind::File { 1 } else { 2 };
+                standing(kind, object.level, object.need)
+            });
+            packed(768 * (STEPS + o) + stands, &mut text);
+        }
+    }
+    if before.frozen_from != after.frozen_from {
+        packed(768 * FREEZE + after.frozen_from.map_or(NO_FREEZE, u32::from), &mut text);
+    }
+    text.push('.');
+    for s in 0..STEPS {
+        for p in 0..PLACES {
+            if before.handle(s, p) != after.handle(s, p) {
+                let handle = after.handle(s, p).map_or(0, |handle| {
+                    let way = match handle.way {
+                        Way::Reads => 1,
+                        Way::Writes => 2,
+                        Way::Maps => 3,
+                    };
+                    128 * way + 64 * u32::from(handle.marked) + u32::from(handle.object)
+                });
+                packed(512 * (PLACES * s + p) + handle, &mut text);
+            }
+        }
+    }
+    text
+}
+
+/// Kind, level and need in one number below 768. From empty tables no level is above 15.
+fn standing(kind: u32, level: u8, need: u8) -> u32 {
+    256 * kind + 16 * u32::from(level.min(15)) + u32::from(need.min(15))
+}
+
+/// A number below 64 cubed as three letters.
+fn packed(number: u32, text: &mut String) {
+    const LETTERS: &[u8; 64] = b"ABCDEFGHIJKLMNOPQRSTUVWXYZabcdefghijklmnopqrstuvwxyz0123456789-_";
+    for shift in [12, 6, 0] {
+        text.push(char::from(LETTERS[(number >> shift) as usize % 64]));
+    }
+}
+
+#[cfg(test)]
+mod tests {
+    use super::*;
+
+    /// The colours of the page by name, by day or by night.
+    fn colours(is_dark: bool) -> HashMap<&'static str, [f64; 3]> {
+        let (day, night) = STYLE
+            .split_once("@media screen and (prefers-color-scheme: dark)")
+            .expect("two sets of colours");
+        let lines = if is_dark { night } else { day }
+            .lines()
+            .take_while(|line| *line != "}" && !line.starts_with('*'));
+        let pairs =
+            lines.filter_map(|line| line.trim().strip_prefix("--")?.strip_suffix(';')?.split_once(": #"));
+        let part = |hex: &str, at: usize| {
+            let value = f64::from(u8::from_str_radix(&hex[at..at + 2], 16).expect("a colour")) / 255.0;
+            if value <= 0.04045 {
+                value / 12.92
+            } else {
+                ((value + 0.055) / 1.055).powf(2.4)
+            }
+        };
+        pairs.map(|(name, hex)| (name, [part(hex, 0), part(hex, 2), part(hex, 4)])).collect()
+    }
+
+    #[test]
+    fn every_text_stands_out_from_what_it_is_on() {
+        for is_dark in [false, true] {
+            let colours = colours(is_dark);
+            assert_eq!(colours.len(), 20);
+            let light = |name: &str| {
+                let [red, green, blue] = colours[name];
+                0.2126 * red + 0.7152 * green + 0.0722 * blue
+            };
+            let contrast = |one: &str, other: &str| {
+                let (one, other) = (light(one), light(other));
+                (one.max(other) + 0.05) / (one.min(other) + 0.05)
+            };
+            let texts = [
+                ("ink", "paper ground band step-fill file-fill pipe-fill lowered-fill"),
+                ("soft", "paper ground band"),
+                ("refused", "paper ground band refused-fill"),
+                ("lowered", "paper band lowered-fill"),
+                ("allowed", "allowed-fill"),
+            ];
+            let lines = [
+                ("step", "paper band"),
+                ("file", "paper band"),
+                ("pipe", "paper band"),
+                ("edge", "paper band"),
+                ("focus", "paper ground"),
+            ];
+            for (least, pairs) in [(4.5, &texts[..]), (3.0, &lines[..])] {
+                for (name, grounds) in pairs {
+                    for ground in grounds.split(' ') {
+                        let found = contrast(name, ground);
+                        assert!(found >= least, "{name} on {ground}, dark {is_dark}: {found:.2}");
+                    }
+                }
+            }
+        }
+    }
+
+    #[test]
+    fn a_text_cannot_leave_its_place() {
+        assert_eq!(escaped("<a href=\"x\">&'\u{1b}"), "&lt;a href=&quot;x&quot;&gt;&amp;&#39;\u{fffd}");
+        assert_eq!(
+            quoted("</script>&\"\\'\u{2028}é\u{1f4b6}"),
+            "\"\\u003c/script\\u003e\\u0026\\u0022\\u005c\\u0027\\u2028\\u00e9\\ud83d\\udcb6\""
+        );
+    }
+
+    #[test]
+    fn changes_are_packed_in_threes() -> Result<(), Refusal> {
+        let mut monitor = gatekeeper::Monitor::new();
+        let empty = State::of(&monitor);
+        monitor.admit(31, 9).granted()?;
+        monitor.register(63, 9).granted()?;
+        monitor.open_write(31, 63, 15).granted()?;
+        monitor.freeze(9).granted()?;
+        let full = State::of(&monitor);
+        // Kind, level and need are 256 + 16 * 9 + 9; the handle is 512 * 511 + 128 * 2 + 63.
+        let things = [three(31, 409), three(95, 409), three(FREEZE, 9)].concat();
+        assert_eq!(changes(&empty, &full), format!("{things}._8_"));
+        assert_eq!(changes(&full, &full), "");
+        Ok(())
+    }
+
+    fn three(thing: u32, stands: u32) -> String {
+        let mut text = String::new();
+        packed(768 * thing + stands, &mut text);
+        text
+    }
+}

@@ -1,0 +1,201 @@
+//! Sentences with numbers in them. The terminal writes them out; the page keeps the words of each once, and for each
+//! record only the numbers, so that nothing but numbers gets from a journal into the page.
+
+use std::fmt::Write;
+
+use gatekeeper::Kind;
+
+use crate::names::Names;
+use crate::state::State;
+
+/// A piece of a sentence.
+#[derive(Clone, Debug, PartialEq, Eq)]
+pub enum Piece {
+    Words(&'static str),
+    Step(u32),
+    File(u32),
+    Pipe(u32),
+    /// A number under which there is no file or pipe.
+    Either(u32),
+    Number(u64),
+    /// Numbers that rise, written short: "1 to 4, 7".
+    List(Vec<u32>),
+}
+
+/// A sentence.
+#[derive(Clone, Debug, PartialEq, Eq, Default)]
+pub struct Phrase(pub Vec<Piece>);
+
+impl From<&'static str> for Piece {
+    fn from(words: &'static str) -> Piece {
+        Piece::Words(words)
+    }
+}
+
+impl From<u32> for Piece {
+    fn from(number: u32) -> Piece {
+        Piece::Number(number.into())
+    }
+}
+
+impl From<u8> for Piece {
+    fn from(number: u8) -> Piece {
+        Piece::Number(number.into())
+    }
+}
+
+impl From<usize> for Piece {
+    fn from(number: usize) -> Piece {
+        Piece::Number(number as u64)
+    }
+}
+
+impl From<u64> for Piece {
+    fn from(number: u64) -> Piece {
+        Piece::Number(number)
+    }
+}
+
+/// A phrase of pieces: words, numbers, things.
+macro_rules! phrase {
+    ($($piece:expr),* $(,)?) => { $crate::phrase::Phrase(vec![$($crate::phrase::Piece::from($piece)),*]) };
+}
+pub(crate) use phrase;
+
+/// A file or pipe as it is called in this state.
+pub fn object(o: u32, state: &State) -> Piece {
+    match state.kind(o) {
+        Some(Kind::File) => Piece::File(o),
+        Some(Kind::Pipe) => Piece::Pipe(o),
+        None => Piece::Either(o),
+    }
+}
+
+impl Phrase {
+    /// Joins phrases with words between them.
+    pub fn joined(parts: Vec<Phrase>, between: &'static str) -> Phrase {
+        let mut pieces = Vec::new();
+        for (index, part) in parts.into_iter().enumerate() {
+            if index > 0 {
+                pieces.push(Piece::Words(between));
+            }
+            pieces.extend(part.0);
+        }
+        Phrase(pieces)
+    }
+
+    pub fn then(mut self, more: Phrase) -> Phrase {
+        self.0.extend(more.0);
+        self
+    }
+
+    /// The words, with a mark in braces for each thing and number.
+    pub fn template(&self) -> String {
+        let marks = self.0.iter().map(|piece| match piece {
+            Piece::Words(words) => words,
+            Piece::Step(_) => "{s}",
+            Piece::File(_) => "{f}",
+            Piece::Pipe(_) => "{p}",
+            Piece::Either(_) => "{o}",
+            Piece::Number(_) => "{n}",
+            Piece::List(_) => "{l}",
+        });
+        marks.collect()
+    }
+
+    /// What stands at these marks, as a list of numbers and of lists of numbers.
+    pub fn numbers(&self) -> String {
+        let numbers = self.0.iter().filter_map(|piece| match piece {
+            Piece::Words(_) => None,
+            Piece::Step(n) | Piece::File(n) | Piece::Pipe(n) | Piece::Either(n) => Some(n.to_string()),
+            Piece::Number(n) => Some(n.to_string()),
+            Piece::List(list) => {
+                Some(format!("[{}]", list.iter().map(u32::to_string).collect::<Vec<_>>().join(",")))
+            }
+        });
+        numbers.collect::<Vec<_>>().join(",")
+    }
+
+    /// The sentence written out, with the names that hold at a record; it starts with a capital.
+    pub fn text(&self, names: &Names, record: u64) -> String {
+        let text = self.middle(names, record);
+        let mut letters = text.chars();
+        letters.next().map_or(String::new(), |first| first.to_uppercase().chain(letters).collect())
+    }
+
+    /// The same as it stands within a sentence.
+    pub fn middle(&self, names: &Names, record: u64) -> String {
+        let mut text = String::new();
+        for piece in &self.0 {
+            let (kind, n) = match piece {
+                Piece::Words(words) => {
+                    text.push_str(words);
+                    continue;
+                }
+                Piece::Number(n) => {
+                    let _ = write!(text, "{n}");
+                    continue;
+                }
+                Piece::List(list) => {
+                    text.push_str(&ranges(list));
+                    continue;
+                }
+                Piece::Step(n) => ("step", *n),
+                Piece::File(n) => ("file", *n),
+                Piece::Pipe(n) => ("pipe", *n),
+                Piece::Either(n) => ("file or pipe", *n),
+            };
+            let _ = match names.name(kind, n, record) {
+                Some(name) => write!(text, "{name} ({kind} {n})"),
+                None => write!(text, "{kind} {n}"),
+            };
+        }
+        text
+    }
+}
+
+/// Rising numbers in short.
+pub fn ranges(list: &[u32]) -> String {
+    let mut parts: Vec<(u32, u32)> = Vec::new();
+    for &n in list {
+        match parts.last_mut() {
+            Some((_, last)) if n == *last + 1 => *last = n,
+            _ => parts.push((n, n)),
+        }
+    }
+    let words = parts.into_iter().map(|(first, last)| match last - first {
+        0 => first.to_string(),
+        1 => format!("{first}, {last}"),
+        _ => format!("{first} to {last}"),
+    });
+    words.collect::<Vec<_>>().join(", ")
+}
+
+#[cfg(test)]
+mod tests {
+    use super::*;
+
+    #[test]
+    fn a_phrase_is_words_and_numbers() {
+        let said = phrase![
+            Piece::Step(3),
+            " opens ",
+            Piece::File(1),
+            " at ",
+            5u32,
+            ": ",
+            Piece::List(vec![1, 2, 3, 7])
+        ];
+        assert_eq!(said.template(), "{s} opens {f} at {n}: {l}");
+        assert_eq!(said.numbers(), "3,1,5,[1,2,3,7]");
+        assert_eq!(said.text(&Names::default(), 1), "Step 3 opens file 1 at 5: 1 to 3, 7");
+    }
+
+    #[test]
+    fn numbers_in_a_row_are_short() {
+        assert_eq!(ranges(&[]), "");
+        assert_eq!(ranges(&[4]), "4");
+        assert_eq!(ranges(&[4, 5]), "4, 5");
+        assert_eq!(ranges(&[0, 1, 2, 9, 10, 11, 31]), "0 to 2, 9 to 11, 31");
+    }
+}

@@ -1,0 +1,153 @@
+//! What a monitor's tables hold at one moment, all of it asked of the proved archive through the crate.
+
+use gatekeeper::{Handle, Kind, Monitor, Way};
+
+/// How many there can be of each.
+pub const STEPS: u32 = 32;
+pub const OBJECTS: u32 = 64;
+pub const PLACES: u32 = 16;
+
+/// A step, file or pipe, by number.
+#[derive(Clone, Copy, Debug, PartialEq, Eq, PartialOrd, Ord, Hash)]
+pub enum Thing {
+    Step(u32),
+    Object(u32),
+}
+
+impl Thing {
+    /// Its number among all things: the steps, then the files and pipes. A step that cannot be has one above them all.
+    pub fn index(self) -> usize {
+        match self {
+            Thing::Step(s) if s < STEPS => s as usize,
+            Thing::Step(s) => OBJECTS as usize + s as usize,
+            Thing::Object(o) => STEPS as usize + o as usize,
+        }
+    }
+
+    pub fn from_index(index: usize) -> Thing {
+        let index = index as u32;
+        if index < STEPS {
+            Thing::Step(index)
+        } else {
+            Thing::Object(index - STEPS)
+        }
+    }
+}
+
+/// What is known of a running step.
+#[derive(Clone, Copy, Debug, PartialEq, Eq)]
+pub struct Step {
+    pub level: u8,
+    /// The lowest level that it may fall to while no handle goes.
+    pub need: u8,
+}
+
+/// What is known of a file or pipe.
+#[derive(Clone, Copy, Debug, PartialEq, Eq)]
+pub struct Object {
+    pub kind: Kind,
+    pub level: u8,
+    pub need: u8,
+}
+
+/// Who holds what at one moment.
+#[derive(Clone, Debug, PartialEq, Eq)]
+pub struct State {
+    steps: [Option<Step>; STEPS as usize],
+    objects: [Option<Object>; OBJECTS as usize],
+    handles: [Option<Handle>; (STEPS * PLACES) as usize],
+    /// The level from which on files are frozen.
+    pub frozen_from: Option<u8>,
+    pub made: u64,
+    pub gone: u64,
+}
+
+impl State {
+    /// Nothing is there, as a run starts.
+    pub fn empty() -> State {
+        State::of(&Monitor::new())
+    }
+
+    pub fn of(monitor: &Monitor) -> State {
+        let mut state = State {
+            steps: [None; STEPS as usize],
+            objects: [None; OBJECTS as usize],
+            handles: [None; (STEPS * PLACES) as usize],
+            frozen_from: monitor.frozen_from(),
+            made: monitor.made(),
+            gone: monitor.gone(),
+        };
+        for s in 0..STEPS {
+            let known = monitor.subject(s).zip(monitor.need_of_subject(s));
+            state.steps[s as usize] = known.map(|(level, need)| Step { level, need });
+            for p in 0..PLACES {
+                state.handles[(PLACES * s + p) as usize] = monitor.handle(s, p);
+            }
+        }
+        for o in 0..OBJECTS {
+            let known = monitor.object(o).zip(monitor.need_of_object(o));
+            state.objects[o as usize] =
+                known.map(|(object, need)| Object { kind: object.kind, level: object.level, need });
+        }
+        state
+    }
+
+    pub fn step(&self, s: u32) -> Option<Step> {
+        self.steps.get(s as usize).copied().flatten()
+    }
+
+    pub fn object(&self, o: u32) -> Option<Object> {
+        self.objects.get(o as usize).copied().flatten()
+    }
+
+    pub fn handle(&self, s: u32, p: u32) -> Option<Handle> {
+        let at = if p < PLACES { PLACES.checked_mul(s)?.checked_add(p)? } else { return None };
+        self.handles.get(at as usize).copied().flatten()
+    }
+
+    /// The running steps, by number.
+    pub fn steps(&self) -> impl Iterator<Item = (u32, Step)> + '_ {
+        (0..STEPS).filter_map(|s| Some((s, self.step(s)?)))
+    }
+
+    /// The files and pipes that are there, by number.
+    pub fn objects(&self) -> impl Iterator<Item = (u32, Object)> + '_ {
+        (0..OBJECTS).filter_map(|o| Some((o, self.object(o)?)))
+    }
+
+    /// Every handle with its step and place.
+    pub fn handles(&self) -> impl Iterator<Item = (u32, u32, Handle)> + '_ {
+        (0..STEPS).flat_map(|s| self.held(s).map(move |(p, handle)| (s, p, handle)))
+    }
+
+    /// The handles of a step, by place.
+    pub fn held(&self, s: u32) -> impl Iterator<Item = (u32, Handle)> + '_ {
+        (0..PLACES).filter_map(move |p| Some((p, self.handle(s, p)?)))
+    }
+
+    /// The handles on a file or pipe, with step and place.
+    pub fn holders(&self, o: u32) -> impl Iterator<Item = (u32, u32, Handle)> + '_ {
+        self.handles().filter(move |(_, _, handle)| u32::from(handle.object) == o)
+    }
+
+    /// The level of a thing that is there.
+    pub fn level(&self, thing: Thing) -> Option<u8> {
+        match thing {
+            Thing::Step(s) => self.step(s).map(|step| step.level),
+            Thing::Object(o) => self.object(o).map(|object| object.level),
+        }
+    }
+
+    pub fn kind(&self, o: u32) -> Option<Kind> {
+        self.object(o).map(|object| object.kind)
+    }
+}
+
+/// From where to where a handle lets data go.
+pub fn flow(s: u32, handle: Handle) -> (Thing, Thing) {
+    let (step, object) = (Thing::Step(s), Thing::Object(handle.object.into()));
+    match handle.way {
+        Way::Writes => (step, object),
+        Way::Reads | Way::Maps => (object, step),
+    }
+}

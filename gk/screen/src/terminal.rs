@@ -1,0 +1,331 @@
+//! The screen in a terminal: 80 columns, a colour only beside a word that says the same.
+
+use std::collections::VecDeque;
+
+use gatekeeper::{Answer, Way};
+
+use crate::chain::{Chain, Link};
+use crate::names::Names;
+use crate::phrase::{ranges, Phrase, Piece};
+use crate::records::{letter_and_value, Turn};
+use crate::state::{State, Thing};
+use crate::text::{fitted, width, wrapped, COLUMNS};
+use crate::told::{Memory, Told};
+
+/// Refusals that are kept on the screen.
+const MOST_REFUSALS: usize = 5;
+
+/// Links of a chain that are shown; the middle of a longer one is left out.
+const MOST_LINKS: usize = 9;
+
+/// Columns of a name in a table.
+const NAME: usize = 20;
+
+/// What is on the screen: the state after the last record, that record, and the last refusals.
+pub struct Screen {
+    title: String,
+    names: Names,
+    state: State,
+    memory: Memory,
+    position: u64,
+    last: Option<Vec<Line>>,
+    /// Each in full, for when it is the last one, and in short.
+    refusals: VecDeque<[Vec<Line>; 2]>,
+}
+
+/// A line, and how it stands out where there is colour.
+#[derive(Clone)]
+struct Line(Look, String);
+
+#[derive(Clone, Copy, PartialEq, Eq)]
+enum Look {
+    Plain,
+    Strong,
+    Allowed,
+    Lowered,
+    Refused,
+}
+
+impl Look {
+    fn code(self) -> &'static str {
+        match self {
+            Look::Plain => "",
+            Look::Strong => "\u{1b}[1m",
+            Look::Allowed => "\u{1b}[32m",
+            Look::Lowered => "\u{1b}[33m",
+            Look::Refused => "\u{1b}[31m",
+        }
+    }
+}
+
+impl Screen {
+    pub fn new(title: String, names: Names, state: State) -> Screen {
+        let (memory, refusals) = (Memory::default(), VecDeque::new());
+        Screen { title, names, state, memory, position: 0, last: None, refusals }
+    }
+
+    /// Takes the next record onto the screen, and says it in a line.
+    pub fn take(&mut self, turn: &Turn) -> String {
+        let before = self.state.clone();
+        if turn.before != turn.after {
+            self.state = State::of(&turn.after);
+        }
+        self.names.follow(turn.position, &before, &self.state);
+        let told = self.memory.tell(turn, &before, &self.state);
+        self.position = turn.position;
+        self.last = Some(self.record(turn, &told));
+        if matches!(turn.answer, Answer::Refused(_)) {
+            let said = [self.refusal(turn, &told, true), self.refusal(turn, &told, false)];
+            self.refusals.push_front(said);
+            self.refusals.truncate(MOST_REFUSALS);
+        }
+        let way = told.ways.first().map_or(String::new(), |way| format!(" Way out: {}", self.said(way)));
+        format!("{}  {}. {}.{way}\n", turn.line(), self.said(&told.asked), answer_words(turn.answer))
+    }
+
+    fn said(&self, phrase: &Phrase) -> String {
+        phrase.text(&self.names, self.position)
+    }
+
+    /// The record and its answer.
+    fn record(&self, turn: &Turn, told: &Told) -> Vec<Line> {
+        let asked = wrapped("", &format!("{}.", self.said(&told.asked)), 2);
+        let mut lines: Vec<Line> = asked.into_iter().map(|line| Line(Look::Strong, line)).collect();
+        let look = match turn.answer {
+            Answer::Allowed(_) => Look::Allowed,
+            Answer::Lowered(_) => Look::Lowered,
+            Answer::Refused(_) => Look::Refused,
+        };
+        let answer = wrapped("  ", &format!("{}.", answer_words(turn.answer)), 2);
+        lines.extend(answer.into_iter().map(|line| Line(look, line)));
+        for phrase in told.changed.iter().chain(if told.ways.is_empty() { &told.why[..] } else { &[] }) {
+            lines.extend(
+                wrapped("  ", &self.said(phrase), 4).into_iter().map(|line| Line(Look::Plain, line)),
+            );
+        }
+        lines
+    }
+
+    /// A refusal, the way out first; in full with all ways, the chain and why.
+    fn refusal(&self, turn: &Turn, told: &Told, is_full: bool) -> Vec<Line> {
+        let mut lines = Vec::new();
+        let mut start = format!("{:>5}  ", turn.position);
+        let mut word = "Way out: ";
+        for way in told.ways.iter().take(if is_full { usize::MAX } else { 1 }) {
+            let said = wrapped(&start, &format!("{word}{}", self.said(way)), 9);
+            lines.extend(said.into_iter().map(|line| Line(Look::Plain, line)));
+            (start, word) = (" ".repeat(7), "Or: ");
+        }
+        let (_, number) = letter_and_value(turn.answer);
+        let asked = self.said(&told.asked);
+        let what = format!("{asked}: refused ({number}), {}.", refusal_words(turn.answer));
+        lines.extend(wrapped(&start, &what, 9).into_iter().map(|line| Line(Look::Refused, line)));
+        if !is_full {
+            return lines;
+        }
+        let chain = told.chain.as_ref().map(|chain| self.chain(chain));
+        let why = chain.into_iter().chain(told.why.iter().take(1).map(|why| self.said(why)));
+        for text in why {
+            lines.extend(wrapped(&" ".repeat(7), &text, 9).into_iter().map(|line| Line(Look::Plain, line)));
+        }
+        lines
+    }
+
+    /// A chain in words; what was looked for and is not proved is said to be so.
+    fn chain(&self, chain: &Chain) -> String {
+        let link = |link: &Link| {
+            let piece = match (link.thing, link.kind) {
+                (Thing::Step(s), _) => Piece::Step(s),
+                (Thing::Object(o), Some(gatekeeper::Kind::File)) => Piece::File(o),
+                (Thing::Object(o), _) => Piece::Pipe(o),
+            };
+            let named = Phrase(vec![piece]).middle(&self.names, self.position);
+            format!("{named} at {}", link.level)
+        };
+        let links = &chain.links;
+        let mut words: Vec<String> = links.iter().map(link).collect();
+        if words.len() > MOST_LINKS {
+            let left = words.len() - MOST_LINKS + 1;
+            words.splice(5..5 + left, [format!("{left} more")]);
+        }
+        format!("{} (looked for, not proved)", words.join(" → "))
+    }
+
+    /// The whole screen. Where `height` is given, tables are cut so that no more lines come out.
+    pub fn text(
+        &self,
+        of: Option<u64>,
+        notice: Option<&str>,
+        is_coloured: bool,
+        height: Option<usize>,
+    ) -> String {
+        let mut head = vec![self.heading(of)];
+        head.extend(
+            notice
+                .into_iter()
+                .flat_map(|text| wrapped("! ", text, 2))
+                .map(|line| Line(Look::Refused, line)),
+        );
+        head.extend(self.last.clone().unwrap_or_default());
+        let mut refusals = vec![];
+        for (index, refusal) in self.refusals.iter().enumerate() {
+            if index == 0 {
+                refusals.extend([
+                    Line(Look::Plain, String::new()),
+                    Line(Look::Strong, "The last refusals".to_string()),
+                ]);
+            }
+            refusals.extend(refusal[usize::from(index > 0)].clone());
+        }
+        let (mut steps, mut objects) = (self.steps(), self.objects());
+        if let Some(height) = height {
+            refusals.truncate(height / 3);
+            let room = height.saturating_sub(head.len() + refusals.len() + 1);
+            let for_steps = room.saturating_sub(objects.len().min(room / 3));
+            cut(&mut steps, for_steps);
+            cut(&mut objects, room.saturating_sub(steps.len()));
+        }
+        let lines = head.into_iter().chain(steps).chain(objects).chain(refusals);
+        lines
+            .map(|Line(look, text)| match look {
+                look if is_coloured && look != Look::Plain => format!("{}{text}\u{1b}[0m\n", look.code()),
+                _ => format!("{text}\n"),
+            })
+            .collect()
+    }
+
+    fn heading(&self, of: Option<u64>) -> Line {
+        let books = match self.state.frozen_from {
+            Some(level) => format!("books closed from level {level} up"),
+            None => "books open".to_string(),
+        };
+        let open = self.state.made.wrapping_sub(self.state.gone);
+        let handles = if open == 1 { "handle" } else { "handles" };
+        let right = format!("{books}, {open} {handles} open");
+        let of = of.map_or(String::new(), |of| format!(" of {of}"));
+        let left = match self.position {
+            0 => "before the first record".to_string(),
+            position => format!("record {position}{of}"),
+        };
+        let title = fitted(&self.title, (COLUMNS - 4).saturating_sub(width(&left) + width(&right)));
+        Line(
+            Look::Strong,
+            format!(
+                "{}: {left}{}{right}",
+                title.trim_end(),
+                " ".repeat(2 + width(&title) - width(title.trim_end()))
+            ),
+        )
+    }
+
+    fn name(&self, kind: &str, n: u32) -> String {
+        self.names.name(kind, n, self.position).unwrap_or("").to_string()
+    }
+
+    fn steps(&self) -> Vec<Line> {
+        let state = &self.state;
+        let rows: Vec<(u32, String)> = state.steps().map(|(s, _)| (s, self.name("step", s))).collect();
+        let names = name_columns(&rows);
+        let head = format!("{} level  may fall to  holds", fitted("Steps", 3 + names.max(2)));
+        let mut lines = vec![Line(Look::Plain, String::new()), Line(Look::Strong, head)];
+        for ((s, step), (_, name)) in state.steps().zip(&rows) {
+            let held: Vec<String> = state
+                .held(s)
+                .map(|(p, handle)| {
+                    let way = match handle.way {
+                        Way::Reads => "reads",
+                        Way::Writes => "writes",
+                        Way::Maps => "maps",
+                    };
+                    let kind = if state.kind(handle.object.into()) == Some(gatekeeper::Kind::File) {
+                        "file"
+                    } else {
+                        "pipe"
+                    };
+                    let mark = if handle.marked { ", marked" } else { "" };
+                    format!("{p}: {way} {kind} {}{mark}", handle.object)
+                })
+                .collect();
+            let held = if held.is_empty() { "nothing".to_string() } else { held.join("; ") };
+            let start =
+                format!("{s:>2} {} {:>5}  {:>11}  ", fitted(name, names.max(2)), step.level, step.need);
+            let indent = width(&start);
+            lines.extend(wrapped(&start, &held, indent).into_iter().map(|line| Line(Look::Plain, line)));
+        }
+        if rows.is_empty() {
+            lines.push(Line(Look::Plain, "no step runs".to_string()));
+        }
+        lines
+    }
+
+    fn objects(&self) -> Vec<Line> {
+        let state = &self.state;
+        let kind = |o| if state.kind(o) == Some(gatekeeper::Kind::File) { "file" } else { "pipe" };
+        let rows: Vec<(u32, String)> = state.objects().map(|(o, _)| (o, self.name(kind(o), o))).collect();
+        let names = name_columns(&rows).max(8);
+        let head = format!("{} level  written by            read by", fitted("Files and pipes", 8 + names));
+        let mut lines = vec![Line(Look::Plain, String::new()), Line(Look::Strong, head)];
+        for ((o, object), (_, name)) in state.objects().zip(&rows) {
+            let who = |ways: &[Way]| {
+                let mut steps: Vec<u32> = state
+                    .holders(o)
+                    .filter(|(_, _, handle)| ways.contains(&handle.way))
+                    .map(|(s, _, _)| s)
+                    .collect();
+                steps.dedup();
+                ranges(&steps)
+            };
+            let (writers, readers, mappers) = (who(&[Way::Writes]), who(&[Way::Reads]), who(&[Way::Maps]));
+            let or_none = |list: String| if list.is_empty() { "-".to_string() } else { list };
+            let readers = match (readers.is_empty(), mappers.is_empty()) {
+                (_, true) => or_none(readers),
+                (true, false) => format!("mapped by {mappers}"),
+                (false, false) => format!("{readers}; mapped by {mappers}"),
+            };
+            let start = format!("{} {o:>2} {} {:>5}  ", kind(o), fitted(name, names), object.level);
+            let text = if width(&writers) <= 20 {
+                wrapped(
+                    &format!("{start}{}  ", fitted(&or_none(writers), 20)),
+                    &readers,
+                    width(&start) + 22,
+                )
+            } else {
+                let mut lines = wrapped(&start, &writers, width(&start));
+                lines.extend(wrapped(&" ".repeat(width(&start) + 22), &readers, width(&start) + 22));
+                lines
+            };
+            lines.extend(text.into_iter().map(|line| Line(Look::Plain, line)));
+        }
+        if rows.is_empty() {
+            lines.push(Line(Look::Plain, "no file and no pipe".to_string()));
+        }
+        lines
+    }
+}
+
+/// Columns for names: none where there is none.
+fn name_columns(rows: &[(u32, String)]) -> usize {
+    rows.iter().map(|(_, name)| width(name)).max().unwrap_or(0).min(NAME)
+}
+
+/// Cuts a table to so many lines, and says how many are left out.
+fn cut(lines: &mut Vec<Line>, most: usize) {
+    if lines.len() > most {
+        let left = lines.len() + 1 - most.max(1);
+        lines.truncate(most.saturating_sub(1));
+        lines.push(Line(Look::Plain, format!("  … {left} lines more: a taller window shows them")));
+    }
+}
+
+/// The answer in words.
+fn answer_words(answer: Answer) -> String {
+    match answer {
+        Answer::Allowed(level) => format!("Allowed, level {level}"),
+        Answer::Lowered(level) => format!("Lowered: level {level} now"),
+        Answer::Refused(refusal) => format!("Refused ({}): {}", refusal.number(), refusal.words()),
+    }
+}
+
+fn refusal_words(answer: Answer) -> &'static str {
+    answer.granted().err().map_or("", |refusal| refusal.words())
+}

@@ -1,0 +1,165 @@
+//! Trials on generated journals of a fixed seed: what is shown beside the independent program, and that nothing fails.
+
+use gatekeeper::{replay, Kind, Way, JOURNAL_BYTES};
+use gatekeeper_independent::generate::{journal, Style, Wish, STYLES};
+use gatekeeper_independent::needs::{Needs, Thing as Other};
+use gatekeeper_independent::replies;
+use gatekeeper_independent::tables::{Direction, Kind as OtherKind, Tables};
+use gatekeeper_independent::variants::Rules;
+
+use crate::chain::sought;
+use crate::names::Names;
+use crate::page::page;
+use crate::records::{Body, Run};
+use crate::state::{flow, State, Thing, OBJECTS, PLACES, STEPS};
+use crate::terminal::Screen;
+use crate::text::{width, COLUMNS};
+use crate::told::Memory;
+
+const SEED: u64 = 20_260_331;
+
+/// Journals of every style, and of every style one of the greatest length.
+fn journals() -> Vec<Vec<u8>> {
+    let mut all = Vec::new();
+    for &(style, _, _) in STYLES.iter().filter(|(style, _, _)| *style != Style::Mixed) {
+        all.extend((0..12).map(|index| journal(SEED, index, Wish { style, ..Wish::default() })));
+        let wish = Wish { style, calls: Some(20_000), bytes: Some(JOURNAL_BYTES) };
+        all.push(journal(SEED, 99, wish));
+    }
+    all.push(vec![0; JOURNAL_BYTES]);
+    all.push(vec![0; JOURNAL_BYTES + 1]);
+    all
+}
+
+fn agrees(state: &State, tables: &Tables) {
+    let needs = Needs::of_tables(tables);
+    for s in 0..STEPS {
+        let known = state.step(s).map(|step| (u32::from(step.level), u32::from(step.need)));
+        let other = tables.subject(s).map(|subject| (subject.level, needs.of(Other::Subject(s))));
+        assert_eq!(known, other, "step {s}");
+        for p in 0..PLACES {
+            let known = state.handle(s, p).map(|handle| {
+                (
+                    u32::from(handle.object),
+                    handle.way == Way::Writes,
+                    handle.way == Way::Maps,
+                    handle.marked,
+                )
+            });
+            let other = tables.handle(s, p).map(|handle| {
+                (handle.object, handle.direction == Direction::Writing, handle.mapped, handle.marked)
+            });
+            assert_eq!(known, other, "place {p} of step {s}");
+        }
+    }
+    for o in 0..OBJECTS {
+        let known = state
+            .object(o)
+            .map(|object| (object.kind == Kind::File, u32::from(object.level), u32::from(object.need)));
+        let other = tables
+            .object(o)
+            .map(|object| (object.kind == OtherKind::File, object.level, needs.of(Other::Object(o))));
+        assert_eq!(known, other, "file or pipe {o}");
+    }
+    assert_eq!(state.frozen_from.map(u32::from), tables.frozen_from());
+}
+
+#[test]
+fn what_is_shown_is_what_the_independent_program_has() {
+    let (mut records, mut nines) = (0, 0);
+    for journal in journals() {
+        let mut run = Run::new();
+        let mut other = replies::Run::new(&journal, Rules::default());
+        let mut memory = Memory::default();
+        let mut state = State::empty();
+        let mut lines = String::new();
+        while let Some(turn) = run.next(&journal) {
+            assert!(other.next_step().is_some());
+            let before = state.clone();
+            state = if turn.before == turn.after { state } else { State::of(&turn.after) };
+            // The independent program's needs are slow: a sample of the long journals is enough.
+            if turn.position < 900 || turn.position % 61 == 0 {
+                agrees(&state, other.monitor().tables());
+            }
+            lines.push_str(&turn.line());
+            lines.push('\n');
+            let told = memory.tell(&turn, &before, &state);
+            let is_nine = lines.ends_with(" R 9\n");
+            assert_eq!(told.chain.is_some(), is_nine, "{}", turn.line());
+            if let (Body::Call { code, numbers }, Some(chain)) = (turn.body, &told.chain) {
+                is_a_way(
+                    code,
+                    numbers,
+                    &before,
+                    &chain.links.iter().map(|link| link.thing).collect::<Vec<_>>(),
+                );
+                let (low, high) = (chain.links[0], chain.links[chain.links.len() - 1]);
+                assert!(low.level < high.level && high.kind == Some(Kind::File));
+                assert!(!told.ways.is_empty());
+                nines += 1;
+            }
+            assert_eq!(told.ways.is_empty(), turn.refusal().is_none(), "{}", turn.line());
+            records += 1;
+        }
+        assert!(replay(&journal).starts_with(&lines));
+        assert!(other.next_step().is_none());
+    }
+    assert!(records > 50_000 && nines > 1_500, "{records} records, {nines} nines");
+}
+
+/// Each link of a chain is a handle that is open or a flow that the call asks for, and one of these is among them.
+fn is_a_way(code: u32, numbers: [u32; 6], before: &State, things: &[Thing]) {
+    let sought = sought(code, numbers);
+    let open: Vec<(Thing, Thing)> = before.handles().map(|(s, _, handle)| flow(s, handle)).collect();
+    let links: Vec<(Thing, Thing)> = things.windows(2).map(|pair| (pair[0], pair[1])).collect();
+    assert!(links.iter().all(|link| open.contains(link) || sought.contains(link)));
+    assert!(links.iter().any(|link| sought.contains(link)));
+}
+
+#[test]
+fn no_journal_is_too_much_for_the_screen_and_the_page() {
+    for journal in journals() {
+        let mut run = Run::new();
+        let mut screen = Screen::new("a journal".to_string(), Names::default(), State::empty());
+        let mut records = 0;
+        while let Some(turn) = run.next(&journal) {
+            screen.take(&turn);
+            records = turn.position;
+            if records % 97 == 1 {
+                fits(&screen.text(Some(records), Some("a notice"), false, None), usize::MAX);
+                fits(&screen.text(None, None, false, Some(24)), 24);
+            }
+        }
+        fits(&screen.text(Some(records), None, false, None), usize::MAX);
+        let page = page(&journal, "a journal", &Names::default(), None);
+        assert!(page.len() < 6_000_000, "{} bytes for {records} records", page.len());
+        assert_eq!(page.matches("</script>").count(), 2);
+    }
+}
+
+fn fits(text: &str, most: usize) {
+    assert!(text.lines().count() <= most, "{} lines:\n{text}", text.lines().count());
+    for line in text.lines() {
+        assert!(width(line) <= COLUMNS, "{line}");
+        assert!(!line.chars().any(char::is_control), "{line:?}");
+    }
+}
+
+#[test]
+fn colours_only_stand_beside_words() {
+    let mut run = Run::new();
+    let mut screen = Screen::new("a journal".to_string(), Names::default(), State::empty());
+    let journal = journal(SEED, 3, Wish { style: Style::Payrun, ..Wish::default() });
+    while let Some(turn) = run.next(&journal) {
+        screen.take(&turn);
+        let plain = screen.text(None, None, false, None);
+        let coloured = screen.text(None, None, true, None);
+        let stripped: String = coloured
+            .split('\u{1b}')
+            .map(|part| {
+                part.strip_prefix('[').and_then(|part| part.split_once('m')).map_or(part, |(_, rest)| rest)
+            })
+            .collect();
+        assert_eq!(stripped, plain);
+    }
+}

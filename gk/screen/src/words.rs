@@ -1,0 +1,260 @@
+//! A record in words: what is asked, and what has changed. The changes are read off the states before and after it.
+
+use gatekeeper::{Handle, Kind, Way, NO_FREEZE};
+
+use crate::phrase::{object, phrase, Phrase, Piece};
+use crate::records::Body;
+use crate::state::{State, OBJECTS, PLACES, STEPS};
+
+/// Handles of one step that are named one by one.
+const MOST_HANDLES: usize = 4;
+
+/// Who asks what.
+pub fn asked(body: Body, state: &State) -> Phrase {
+    let (code, numbers) = match body {
+        Body::Call { code, numbers } => (code, numbers),
+        Body::None { code: 0 } => return phrase!["A record without a call"],
+        Body::None { code } => return phrase!["A record with code ", code],
+        Body::Broken { offset } => {
+            return phrase!["Byte ", offset, " of the journal should start a record"]
+        }
+        Body::TooLong => return phrase!["The journal is read as a whole"],
+    };
+    let [a, b, c, d, e, f] = numbers;
+    let step = Piece::Step;
+    let at = |verb: &'static str| match state.handle(a, b) {
+        Some(handle) => phrase![step(a), verb, object(handle.object.into(), state), ", at place ", b],
+        None => phrase![step(a), verb, "at place ", b, ", where nothing is"],
+    };
+    match code {
+        1 => phrase![step(a), " is admitted from outside at level ", b],
+        2 => phrase![Piece::File(a), " is registered from outside at level ", b],
+        3 => phrase![step(a), " creates ", Piece::File(b)],
+        4 => phrase![
+            step(a),
+            " makes ",
+            Piece::Pipe(b),
+            ", reading at place ",
+            c,
+            " and writing at place ",
+            d
+        ],
+        5 => phrase![step(a), " opens ", object(b, state), " for reading at place ", c],
+        6 => phrase![step(a), " opens ", object(b, state), " for writing at place ", c],
+        7 => at(" reads "),
+        8 => at(" writes "),
+        9 => phrase![step(a), " forks ", step(b)],
+        10 => phrase![step(a), " runs ", object(b, state)],
+        11 => at(" closes "),
+        12 => phrase![step(a), " exits"],
+        13 => phrase![object(a, state), " is retired"],
+        14 => phrase![step(a), " maps ", object(b, state), " at place ", c],
+        15 => at(" marks its handle on "),
+        16 if a == NO_FREEZE => phrase!["The books are opened: nothing is frozen"],
+        16 => phrase!["The books are closed from level ", a, " up"],
+        17 => phrase![
+            step(a),
+            " is connected to ",
+            step(b),
+            " by ",
+            Piece::Pipe(c),
+            " and back by ",
+            Piece::Pipe(d),
+            ", both reading at place ",
+            e,
+            " and writing at place ",
+            f
+        ],
+        _ => phrase!["A record with code ", code],
+    }
+}
+
+/// What a handle does.
+pub fn does(handle: Handle, state: &State) -> Phrase {
+    let o = object(handle.object.into(), state);
+    match handle.way {
+        Way::Reads => phrase!["reads ", o],
+        Way::Writes => phrase!["writes ", o],
+        Way::Maps => phrase!["has ", o, " mapped"],
+    }
+}
+
+/// What has changed, the levels first.
+pub fn changed(before: &State, after: &State) -> Vec<Phrase> {
+    let mut said = Vec::new();
+    levels(before, after, &mut said);
+    for (s, _) in after.steps() {
+        handles(s, before, after, &mut said);
+    }
+    needs(before, after, &mut said);
+    if before.frozen_from != after.frozen_from {
+        said.push(match after.frozen_from {
+            Some(level) => phrase!["No file at or above level ", level, " can be opened for writing now."],
+            None => phrase!["Every file can be opened for writing again."],
+        });
+    }
+    said
+}
+
+/// Who came, who went, and who fell.
+fn levels(before: &State, after: &State, said: &mut Vec<Phrase>) {
+    let mut falls: Vec<(Piece, u8, u8)> = Vec::new();
+    for s in 0..STEPS {
+        if let (Some(old), Some(new)) = (before.step(s), after.step(s)) {
+            falls.push((Piece::Step(s), old.level, new.level));
+        }
+    }
+    for o in 0..OBJECTS {
+        if let (Some(old), Some(new)) = (before.object(o), after.object(o)) {
+            falls.push((object(o, after), old.level, new.level));
+        }
+    }
+    falls.retain(|(_, from, to)| from != to);
+    let alone = if falls.len() == 1 { ". Nothing else falls." } else { "." };
+    for (who, from, to) in falls {
+        said.push(phrase![who, " falls from level ", from, " to level ", to, alone]);
+    }
+    for s in 0..STEPS {
+        match (before.step(s), after.step(s)) {
+            (None, Some(new)) => said.push(phrase![Piece::Step(s), " is new, at level ", new.level, "."]),
+            (Some(_), None) => said.push(match before.held(s).count() {
+                0 => phrase![Piece::Step(s), " is gone, and its number is free."],
+                1 => phrase![Piece::Step(s), " is gone with its handle, and its number is free."],
+                held => {
+                    phrase![Piece::Step(s), " is gone with its ", held, " handles, and its number is free."]
+                }
+            }),
+            _ => {}
+        }
+    }
+    for o in 0..OBJECTS {
+        match (before.object(o), after.object(o)) {
+            (None, Some(new)) if new.kind == Kind::File => {
+                said.push(phrase![Piece::File(o), " is new, at level ", new.level, " for good."]);
+            }
+            (None, Some(new)) => {
+                said.push(phrase![Piece::Pipe(o), " is new and empty, at level ", new.level, "."])
+            }
+            (Some(old), None) if old.kind == Kind::File => {
+                said.push(phrase![Piece::File(o), " is gone, and its number is free."]);
+            }
+            (Some(_), None) => said.push(phrase![Piece::Pipe(o), " has lost its last handle and ends."]),
+            _ => {}
+        }
+    }
+}
+
+/// The handles of a step that came, went, or were marked.
+fn handles(s: u32, before: &State, after: &State, said: &mut Vec<Phrase>) {
+    let differs = |p: &u32| before.handle(s, *p) != after.handle(s, *p);
+    let places: Vec<u32> = (0..PLACES).filter(differs).collect();
+    let step = || Piece::Step(s);
+    if places.len() > MOST_HANDLES {
+        let come = places.iter().filter(|&&p| before.handle(s, p).is_none()).count();
+        let went = places.iter().filter(|&&p| after.handle(s, p).is_none()).count();
+        if come > 0 {
+            said.push(phrase![step(), " has ", come, " handles more."]);
+        }
+        if went > 0 {
+            said.push(phrase![step(), " has ", went, " handles less."]);
+        }
+        return;
+    }
+    for p in places {
+        match (before.handle(s, p), after.handle(s, p)) {
+            (None, Some(new)) => {
+                said.push(phrase![step(), " "].then(does(new, after)).then(phrase![", at place ", p, "."]));
+            }
+            (Some(old), None) => {
+                let way = match old.way {
+                    Way::Reads => " no longer reads ",
+                    Way::Writes => " no longer writes ",
+                    Way::Maps => " no longer has mapped ",
+                };
+                let o = object(old.object.into(), before);
+                said.push(phrase![step(), way, o, "; place ", p, " is empty."]);
+            }
+            _ => said.push(phrase!["Place ", p, " of ", step(), " is marked: its next exec closes it."]),
+        }
+    }
+}
+
+/// Who may fall less far than before, and who further; by the level that they may fall to now.
+fn needs(before: &State, after: &State, said: &mut Vec<Phrase>) {
+    for need in (0..=u8::MAX).rev() {
+        let moved = |rises: bool| {
+            let steps = after.steps().filter(move |&(s, new)| {
+                before.step(s).is_some_and(|old| {
+                    new.need == need && if rises { old.need < need } else { old.need > need }
+                })
+            });
+            steps.map(|(s, _)| s).collect::<Vec<u32>>()
+        };
+        let who = |steps: Vec<u32>| match steps.as_slice() {
+            [s] => phrase![Piece::Step(*s)],
+            _ => phrase!["Steps ", Piece::List(steps)],
+        };
+        let (up, down) = (moved(true), moved(false));
+        if !up.is_empty() {
+            said.push(who(up).then(phrase![" may fall no lower than level ", need, " now."]));
+        }
+        if !down.is_empty() {
+            said.push(who(down).then(phrase![" may fall to level ", need, " now."]));
+        }
+    }
+}
+
+#[cfg(test)]
+mod tests {
+    use super::*;
+    use crate::names::Names;
+    use gatekeeper::{Monitor, Refusal};
+
+    fn told(before: &Monitor, after: &Monitor) -> Vec<String> {
+        let said = changed(&State::of(before), &State::of(after));
+        said.iter().map(|phrase| phrase.text(&Names::default(), 1)).collect()
+    }
+
+    #[test]
+    fn what_changes_is_said() -> Result<(), Refusal> {
+        let mut monitor = Monitor::new();
+        let mut step = |call: fn(&mut Monitor) -> gatekeeper::Answer| {
+            let before = monitor.clone();
+            call(&mut monitor).granted().map(|_| told(&before, &monitor))
+        };
+        assert_eq!(step(|m| m.admit(0, 9))?, ["Step 0 is new, at level 9."]);
+        assert_eq!(step(|m| m.register(1, 2))?, ["File 1 is new, at level 2 for good."]);
+        assert_eq!(
+            step(|m| m.pipe(0, 2, 0, 1))?,
+            [
+                "Pipe 2 is new and empty, at level 9.",
+                "Step 0 reads pipe 2, at place 0.",
+                "Step 0 writes pipe 2, at place 1."
+            ]
+        );
+        assert_eq!(
+            step(|m| m.open_write(0, 1, 3))?,
+            ["Step 0 writes file 1, at place 3.", "Step 0 may fall no lower than level 2 now."]
+        );
+        assert_eq!(step(|m| m.mark(0, 3))?, ["Place 3 of step 0 is marked: its next exec closes it."]);
+        assert_eq!(
+            step(|m| m.exec(0, 1))?,
+            [
+                "Step 0 falls from level 9 to level 2. Nothing else falls.",
+                "Step 0 no longer writes file 1; place 3 is empty.",
+                "Step 0 may fall to level 0 now."
+            ]
+        );
+        assert_eq!(step(|m| m.map(0, 1, 5))?, ["Step 0 has file 1 mapped, at place 5."]);
+        assert_eq!(
+            step(|m| m.exit(0))?,
+            [
+                "Step 0 is gone with its 3 handles, and its number is free.",
+                "Pipe 2 has lost its last handle and ends."
+            ]
+        );
+        assert_eq!(step(|m| m.freeze(9))?, ["No file at or above level 9 can be opened for writing now."]);
+        assert_eq!(step(|m| m.freeze(16))?, ["Every file can be opened for writing again."]);
+        Ok(())
+    }
+}

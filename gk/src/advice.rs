@@ -1,0 +1,162 @@
+//! Ways out of a refusal. Each has been tried: its calls were made one after the other on a copy of the monitor, and
+//! none of them was refused. What is said to be refused all the same has been tried, too.
+
+mod closing;
+mod cut;
+mod flow;
+mod frozen;
+mod numbers;
+mod places;
+
+use gatekeeper::{Answer, Call, Monitor, Refusal, NO_FREEZE};
+
+use crate::explain::scene::{listed, Scene};
+use crate::things::{is_frozen, Held};
+
+/// Things of a kind that are named one by one.
+const MOST_NAMED: usize = 3;
+
+/// A way out: what to do in words, and the calls that do it. The last one is most often the call that was refused.
+#[derive(Clone, Debug, PartialEq, Eq)]
+pub struct Advice {
+    pub text: String,
+    pub calls: Vec<Call>,
+}
+
+/// The ways out of a refusal, the cheapest first, and what else is to be known.
+#[derive(Clone, Debug, Default, PartialEq, Eq)]
+pub struct Counsel {
+    pub ways: Vec<Advice>,
+    pub notes: Vec<String>,
+}
+
+impl Counsel {
+    fn way(&mut self, text: String, calls: Vec<Call>) {
+        self.ways.push(Advice { text, calls });
+    }
+
+    fn note(&mut self, text: String) {
+        self.notes.push(text);
+    }
+}
+
+/// The freeze that is set, and the record that set it.
+#[derive(Clone, Copy, Debug, PartialEq, Eq)]
+pub struct Closing {
+    pub level: u8,
+    pub record: u64,
+}
+
+impl Closing {
+    /// To follow "the books are" or "they were".
+    pub fn words(self) -> String {
+        format!("closed from level {} up since record {}", self.level, self.record)
+    }
+}
+
+/// The ways out of a call's refusal; `scene` is the moment before it.
+pub fn counsel(call: Call, refusal: Refusal, scene: Scene, closing: Option<Closing>) -> Counsel {
+    let mut counsel = match refusal {
+        Refusal::NoSubject => numbers::missing_step(call, scene),
+        Refusal::NumberTaken => numbers::taken(call, scene),
+        Refusal::NoObject => numbers::missing_object(call, scene),
+        Refusal::IsPipe => numbers::named_pipe(call, scene),
+        Refusal::LevelTooHigh => numbers::high_level(call, scene),
+        Refusal::PlaceUnfit => places::unfit(call, scene),
+        Refusal::WrongDirection => places::wrong_direction(call, scene),
+        Refusal::Flow => flow::counsel(call, scene),
+        Refusal::StillOpen => closing::still_open(call, scene),
+        Refusal::Frozen => frozen::counsel(call, scene),
+        Refusal::SameSubject => numbers::same_step(call, scene),
+        _ => Counsel::default(),
+    };
+    if let (Call::OpenWrite { object, .. }, Some(closing)) = (call, closing) {
+        if refusal != Refusal::Frozen && is_frozen(scene.monitor, object) {
+            counsel.note(format!(
+                "Also: the books are {}, so that the open is refused with 15 when nothing else is in the way, until \
+                 they are open again (freeze {NO_FREEZE}).",
+                closing.words()
+            ));
+        }
+    }
+    if counsel.ways.is_empty() && counsel.notes.is_empty() {
+        counsel.note("No other number that was tried in its place is allowed either.".to_string());
+    }
+    counsel
+}
+
+/// Makes calls one after the other on a copy: the copy after them, or the first refusal.
+pub fn tried(monitor: &Monitor, calls: &[Call]) -> Result<Monitor, Refusal> {
+    let mut copy = monitor.clone();
+    for &call in calls {
+        copy.call(call).granted()?;
+    }
+    Ok(copy)
+}
+
+/// Why a call would be refused.
+fn refusal_of(monitor: &Monitor, call: Call) -> Option<Refusal> {
+    match monitor.clone().call(call) {
+        Answer::Refused(refusal) => Some(refusal),
+        _ => None,
+    }
+}
+
+/// What leads to a call's being let through now, the call last: it alone, or the books opened before it.
+fn aim(monitor: &Monitor, call: Call) -> Option<Vec<Call>> {
+    match refusal_of(monitor, call) {
+        None => Some(vec![call]),
+        Some(Refusal::Frozen) => {
+            let calls = vec![Call::Freeze { level: NO_FREEZE }, call];
+            tried(monitor, &calls).is_ok().then_some(calls)
+        }
+        Some(_) => None,
+    }
+}
+
+/// The same after other calls, which come first in what is given.
+fn aim_after(monitor: &Monitor, first: &[Call], call: Call) -> Option<Vec<Call>> {
+    let then = aim(&tried(monitor, first).ok()?, call)?;
+    Some(first.iter().copied().chain(then).collect())
+}
+
+/// Whether the calls of an [`aim`] open the books.
+fn opens_books(calls: &[Call]) -> bool {
+    calls.contains(&Call::Freeze { level: NO_FREEZE })
+}
+
+/// " once the books are open again (freeze 16)", where the calls open them.
+fn once_open(calls: &[Call]) -> &'static str {
+    if opens_books(calls) {
+        " once the books are open again (freeze 16)"
+    } else {
+        ""
+    }
+}
+
+/// What a call would be refused with, in words, to follow "it would be".
+fn refused_words(refusal: Refusal) -> String {
+    format!("refused with {}: {}", refusal.number(), refusal.words())
+}
+
+/// Some of these, with "for example" where there are more.
+fn some_of(words: &[String], last: &str) -> String {
+    if words.len() > MOST_NAMED {
+        format!("for example {}", listed(&words[..MOST_NAMED], last))
+    } else {
+        listed(words, last)
+    }
+}
+
+/// All of these, the later ones by their number alone where there are many.
+fn with_others(words: &[String]) -> String {
+    match words.len().saturating_sub(MOST_NAMED) {
+        0 => listed(words, "and"),
+        1 => format!("{} and another one", words[..MOST_NAMED].join(", ")),
+        more => format!("{} and {more} others", words[..MOST_NAMED].join(", ")),
+    }
+}
+
+fn close_calls(handles: &[Held]) -> Vec<Call> {
+    handles.iter().map(|held| Call::Close { subject: held.step, place: held.place }).collect()
+}

@@ -1,0 +1,209 @@
+//! Which handles to close so that the flow rule no longer refuses a call: a least cut, found by a greatest flow.
+//!
+//! A call that is refused with 9 joins two sides: data that could come to it, and files that it could go on to. It is
+//! let through once there is a level that nothing on the first side is below and no file on the second side is above.
+//! For each such level the fewest handles are sought that keep everything lower away from the one side, and that keep
+//! the other side away from every higher file. A handle of another step costs more than all of the caller's own, so
+//! that the caller's are taken where they are enough. What is found here is tried by the caller of these functions.
+
+use gatekeeper::{Call, Monitor};
+
+use crate::things::{handles, is_file, level, objects, steps, Held, Thing};
+
+/// Whose handles may be closed.
+#[derive(Clone, Copy, Debug, PartialEq, Eq)]
+pub enum Whose {
+    Only(u32),
+    Anyones,
+}
+
+/// What a handle of another step costs, when one of the caller costs 1: more than all that a step can hold.
+const OTHERS: u32 = 32;
+/// What the closing of a handle costs where a step asks.
+pub fn cost(held: &Held, caller: u32) -> u32 {
+    if held.step == caller {
+        1
+    } else {
+        OTHERS
+    }
+}
+
+/// What cannot be closed costs more than all handles together.
+const NEVER: u32 = 1 << 20;
+
+const SOURCE: usize = Thing::COUNT;
+const SINK: usize = Thing::COUNT + 1;
+const NODES: usize = Thing::COUNT + 2;
+
+/// The two sides that a call would join.
+struct Sides {
+    caller: u32,
+    /// Where data comes in; for an exec nothing upstream is asked, and only the file's level counts.
+    entries: Vec<Thing>,
+    exits: Vec<Thing>,
+    is_exec: bool,
+}
+
+impl Sides {
+    fn of(call: Call) -> Option<Sides> {
+        let (caller, entries, exits, is_exec) = match call {
+            Call::OpenRead { subject, object, .. } | Call::Map { subject, object, .. } => {
+                (subject, vec![Thing::Object(object)], vec![Thing::Step(subject)], false)
+            }
+            Call::OpenWrite { subject, object, .. } => {
+                (subject, vec![Thing::Step(subject)], vec![Thing::Object(object)], false)
+            }
+            Call::Exec { subject, object } => {
+                (subject, vec![Thing::Object(object)], vec![Thing::Step(subject)], true)
+            }
+            Call::Connect { subject, peer, .. } => {
+                let both = vec![Thing::Step(subject), Thing::Step(peer)];
+                (subject, both.clone(), both, false)
+            }
+            _ => return None,
+        };
+        Some(Sides { caller, entries, exits, is_exec })
+    }
+}
+
+/// The cheapest handles found whose closing lets the flow rule pass the call, and none of `kept` among them; none where
+/// no closing does.
+pub fn closes(call: Call, monitor: &Monitor, whose: Whose, kept: &[Held]) -> Option<Vec<Held>> {
+    let sides = Sides::of(call)?;
+    let counted: Vec<Held> = handles(monitor)
+        // RULES R110: these go with the exec.
+        .filter(|held| {
+            !(sides.is_exec && held.step == sides.caller && (held.handle.marked || held.is_mapping()))
+        })
+        .collect();
+    let cost_of = |held: &Held| match whose {
+        _ if kept.contains(held) => NEVER,
+        Whose::Only(step) if held.step != step => NEVER,
+        _ => cost(held, sides.caller),
+    };
+    let edges: Vec<(Held, u32)> = counted.iter().map(|held| (*held, cost_of(held))).collect();
+    let things: Vec<(Thing, u8)> = steps(monitor)
+        .map(Thing::Step)
+        .chain(objects(monitor).map(Thing::Object))
+        .filter_map(|thing| level(monitor, thing).map(|level| (thing, level)))
+        .collect();
+    let of = |thing: Thing| things.iter().find(|(other, _)| *other == thing).map_or(0, |&(_, level)| level);
+    let is_level_of_file = |thing: Thing| matches!(thing, Thing::Object(o) if is_file(monitor, o));
+    // Between two levels that occur, none is worth more than the lower one of them.
+    let mut levels: Vec<u8> = things.iter().map(|&(_, level)| level).collect();
+    levels.sort_unstable();
+    levels.dedup();
+    let mut best: Option<(u32, Vec<Held>)> = None;
+    for between in levels {
+        let is_high = |thing: Thing, level: u8| is_level_of_file(thing) && level > between;
+        if sides.entries.iter().any(|&thing| of(thing) < between)
+            || sides.exits.iter().any(|&thing| is_high(thing, of(thing)))
+        {
+            continue;
+        }
+        let those = |is_one: &dyn Fn(Thing, u8) -> bool| -> Vec<Thing> {
+            things.iter().filter(|&&(thing, level)| is_one(thing, level)).map(|&(thing, _)| thing).collect()
+        };
+        let coming = match sides.is_exec {
+            true => Some((0, Vec::new())),
+            false => least_cut(&edges, &those(&|_, level| level < between), &sides.entries),
+        };
+        let going = least_cut(&edges, &sides.exits, &those(&is_high));
+        let (Some((one, mut cut)), Some((other, more))) = (coming, going) else {
+            continue;
+        };
+        cut.extend(more.into_iter().filter(|held| !cut.contains(held)).collect::<Vec<Held>>());
+        if best.as_ref().is_none_or(|(known, _)| one + other < *known) {
+            best = Some((one + other, cut));
+        }
+    }
+    best.map(|(_, cut)| cut)
+}
+
+/// A flow network: edges with what room is left on them, each beside its own way back, and the edges out of each node.
+struct Network {
+    ends: Vec<(usize, u32)>,
+    out: Vec<Vec<usize>>,
+}
+
+impl Network {
+    fn new() -> Network {
+        Network { ends: Vec::new(), out: vec![Vec::new(); NODES] }
+    }
+
+    fn join(&mut self, from: usize, to: usize, room: u32) {
+        let known = self.out[from].iter().copied().find(|&edge| edge % 2 == 0 && self.ends[edge].0 == to);
+        match known {
+            Some(edge) => self.ends[edge].1 += room,
+            None => {
+                self.out[from].push(self.ends.len());
+                self.ends.push((to, room));
+                self.out[to].push(self.ends.len());
+                self.ends.push((from, 0));
+            }
+        }
+    }
+
+    /// What can still be reached from the source, breadth first: each node with the edge that leads to it.
+    fn reached(&self) -> [Option<usize>; NODES] {
+        let mut by = [None; NODES];
+        let mut queue = vec![SOURCE];
+        let mut next = 0;
+        while next < queue.len() && by[SINK].is_none() {
+            for &edge in &self.out[queue[next]] {
+                let (to, room) = self.ends[edge];
+                if room > 0 && by[to].is_none() && to != SOURCE {
+                    by[to] = Some(edge);
+                    queue.push(to);
+                }
+            }
+            next += 1;
+        }
+        by
+    }
+}
+
+/// The cheapest handles without which no flow leads from the one set to the other, and what they cost; none where
+/// handles that cannot be closed join them.
+fn least_cut(edges: &[(Held, u32)], from: &[Thing], to: &[Thing]) -> Option<(u32, Vec<Held>)> {
+    if from.is_empty() || to.is_empty() {
+        return Some((0, Vec::new()));
+    }
+    let mut network = Network::new();
+    for &(held, cost) in edges {
+        let (one, other) = held.flow();
+        network.join(one.index(), other.index(), cost);
+    }
+    for thing in from {
+        network.join(SOURCE, thing.index(), NEVER);
+    }
+    for thing in to {
+        network.join(thing.index(), SINK, NEVER);
+    }
+    let mut total = 0;
+    loop {
+        let by = network.reached();
+        if by[SINK].is_none() {
+            let is_cut = |held: &Held| {
+                let (one, other) = held.flow();
+                by[one.index()].is_some() && by[other.index()].is_none()
+            };
+            return Some((total, edges.iter().map(|(held, _)| *held).filter(is_cut).collect()));
+        }
+        let mut way = Vec::new();
+        let mut at = SINK;
+        while let Some(edge) = by[at] {
+            way.push(edge);
+            at = network.ends[edge ^ 1].0;
+        }
+        let most = way.iter().map(|&edge| network.ends[edge].1).min().unwrap_or(0);
+        for edge in way {
+            network.ends[edge].1 -= most;
+            network.ends[edge ^ 1].1 += most;
+        }
+        total += most;
+        if total >= NEVER {
+            return None;
+        }
+    }
+}

@@ -1,0 +1,297 @@
+//! Journals as text: from words to bytes.
+//!
+//! One call a line, as `open-read 0 1 2`; the words and the order of the numbers are those of `calls`. `call 77 1 2` is
+//! a record with any code and any numbers, `bytes 80 00` any bytes. `#` starts a comment.
+//!
+//! `name step 17 merge` gives a step, a file or a pipe a name, and from the next line on the name may stand where its
+//! number would: `open-read merge "the hours sheet of shop 3" 1`. A name that starts with a letter and has no space
+//! needs no quotes. It holds until the number gets another name, or the name another number.
+
+mod words;
+
+use crate::calls::{shape_of_word, Role, Shape, SHAPES};
+use crate::names::{Kind, Name, Names};
+use crate::records::{write_any, Records};
+use crate::text::{meant, shown};
+use words::fault;
+pub use words::{words_of, Fault, Word};
+
+/// A mark that some editors put before a text; it says nothing.
+const BYTE_ORDER_MARK: &[u8] = b"\xef\xbb\xbf";
+
+/// A journal, and the names that its text declares.
+#[derive(Clone, Debug, PartialEq, Eq)]
+pub struct Assembled {
+    pub journal: Vec<u8>,
+    pub names: Names,
+}
+
+/// What has been read of a text.
+#[derive(Default)]
+struct Assembler {
+    journal: Vec<u8>,
+    /// The declarations so far, each with the journal's length at that point.
+    declared: Vec<(usize, Kind, u32, Name)>,
+    /// The same, to look names up in: each from its own position on.
+    known: Names,
+}
+
+/// The lines of a text, without a byte-order mark.
+pub fn lines(text: &[u8]) -> impl Iterator<Item = &[u8]> {
+    text.strip_prefix(BYTE_ORDER_MARK).unwrap_or(text).split(|&byte| byte == b'\n')
+}
+
+/// The journal that a text describes.
+pub fn assemble(text: &[u8]) -> Result<Assembled, Fault> {
+    let mut assembler = Assembler::default();
+    for (index, line) in lines(text).enumerate() {
+        assembler.line(line).map_err(|fault| Fault { line: index + 1, ..fault })?;
+    }
+    let names = assembler.names();
+    Ok(Assembled { journal: assembler.journal, names })
+}
+
+impl Assembler {
+    fn line(&mut self, line: &[u8]) -> Result<(), Fault> {
+        let text = match std::str::from_utf8(line) {
+            Ok(text) => text,
+            Err(error) => {
+                let good = String::from_utf8_lossy(&line[..error.valid_up_to()]);
+                return Err(fault(
+                    good.chars().count() + 1,
+                    "expected text in UTF-8, found a byte that is none",
+                    "To see a binary journal as text, type: gk disassemble FILE",
+                ));
+            }
+        };
+        let (words, behind) = words_of(text)?;
+        let Some((&first, rest)) = words.split_first() else {
+            return Ok(());
+        };
+        match first.text {
+            "bytes" => self.bytes(rest, behind),
+            "call" => self.any(rest, behind),
+            "name" => self.name(rest, behind),
+            word => match shape_of_word(word).filter(|_| !first.is_quoted) {
+                Some(shape) => self.call(shape, rest, behind),
+                None => Err(unknown_word(first)),
+            },
+        }
+    }
+
+    /// `admit 0 9`.
+    fn call(&mut self, shape: &Shape, words: &[Word], behind: usize) -> Result<(), Fault> {
+        let usage = format!("{} {}", shape.word, shape.numbers.join(" "));
+        let mut numbers = Vec::new();
+        for (index, (name, role)) in shape.parts().enumerate() {
+            let Some(&word) = words.get(index) else {
+                return Err(fault(
+                    behind,
+                    &format!("expected the number {name}, found the end of the line"),
+                    &format!("Type: {usage}"),
+                ));
+            };
+            numbers.push(self.number(word, name, role, &usage)?);
+        }
+        if let Some(word) = words.get(shape.numbers.len()) {
+            let given: Vec<&str> = words.iter().map(|word| word.text).collect();
+            return Err(fault(
+                word.column,
+                &format!("expected the end of the line, found \"{}\"", shown(word.text)),
+                &format!(
+                    "Type: {usage}. For a record with numbers left over: call {} {}",
+                    shape.code,
+                    shown(&given.join(" "))
+                ),
+            ));
+        }
+        write_any(shape.code, &numbers, &mut self.journal);
+        Ok(())
+    }
+
+    /// A number, or a name in the place of one.
+    fn number(&self, word: Word, name: &str, role: Role, usage: &str) -> Result<u32, Fault> {
+        let is_number = word.text.starts_with(|character: char| "0123456789+-.".contains(character));
+        if !word.is_quoted && (is_number || matches!(role, Role::Place | Role::Level)) {
+            return decimal(word, &format!("the number {name}"), usage);
+        }
+        let wanted: &[Kind] = match role {
+            Role::Step => &[Kind::Step],
+            Role::Object => &[Kind::File, Kind::Pipe],
+            Role::File => &[Kind::File],
+            Role::Pipe => &[Kind::Pipe],
+            Role::Place | Role::Level => &[],
+        };
+        let what = match role {
+            Role::Step => "a step",
+            Role::Object => "a file or pipe",
+            Role::File => "a file",
+            Role::Pipe => "a pipe",
+            Role::Place | Role::Level => "a number: places and levels have no names",
+        };
+        match self.known.find(word.text, u64::MAX) {
+            Some((kind, number)) if wanted.contains(&kind) => Ok(number),
+            Some((kind, _)) => Err(fault(
+                word.column,
+                &format!("expected {what}, found \"{}\", the name of a {}", shown(word.text), kind.word()),
+                &format!("Type: {usage}"),
+            )),
+            None => Err(self.unknown_name(word, name, wanted, what, usage)),
+        }
+    }
+
+    fn unknown_name(&self, word: Word, name: &str, wanted: &[Kind], what: &str, usage: &str) -> Fault {
+        let is_fit =
+            |name: &str| self.known.find(name, u64::MAX).is_some_and(|(kind, _)| wanted.contains(&kind));
+        let mut known: Vec<&str> = self.known.entries().map(|entry| entry.name.as_str()).collect();
+        known.retain(|name| is_fit(name));
+        let kind = wanted.first().map_or("step", |kind| kind.word());
+        let advice = match meant(word.text, &known).as_slice() {
+            [] => format!(
+                "Type: {usage}, each a number from 0 to 4294967295, or a name that a line above declares, \
+                 as: name {kind} 1 NAME"
+            ),
+            meant => format!("Did you mean: {}", meant.join(" or ")),
+        };
+        let expected = format!(
+            "expected the number {name} in decimal, or the name of {what}, found \"{}\"",
+            shown(word.text)
+        );
+        fault(word.column, &expected, &advice)
+    }
+
+    /// `name step 17 merge`.
+    fn name(&mut self, words: &[Word], behind: usize) -> Result<(), Fault> {
+        let usage = "name step NUMBER NAME, name file NUMBER NAME or name pipe NUMBER NAME";
+        let word = |index: usize, what: &str| match words.get(index) {
+            Some(&word) => Ok(word),
+            None => {
+                let expected = format!("expected {what}, found the end of the line");
+                Err(fault(behind, &expected, &format!("Type: {usage}")))
+            }
+        };
+        let kind = word(0, "step, file or pipe")?;
+        let Some(kind) = Kind::of_word(kind.text).filter(|_| !kind.is_quoted) else {
+            let expected = format!("expected step, file or pipe, found \"{}\"", shown(kind.text));
+            return Err(fault(kind.column, &expected, &format!("Type: {usage}")));
+        };
+        let number = decimal(word(1, "a number")?, "a number", usage)?;
+        let given = word(2, "a name")?;
+        let name = Name::new(given.text).and_then(|name| match given.is_quoted || name.is_bare() {
+            true => Ok(name),
+            false => Err(crate::names::Unfit::Sign),
+        });
+        let name = name.map_err(|unfit| {
+            let advice = match unfit {
+                crate::names::Unfit::Sign if !given.is_quoted => {
+                    "Type a name that starts with a letter, or one in quotes: \"the pay book\"".to_string()
+                }
+                _ => format!("A name {}", unfit.words()),
+            };
+            fault(given.column, &format!("expected a name, found \"{}\"", shown(given.text)), &advice)
+        })?;
+        if let Some(word) = words.get(3) {
+            let expected = format!("expected the end of the line, found \"{}\"", shown(word.text));
+            return Err(fault(
+                word.column,
+                &expected,
+                "A name with spaces stands between two quotes: \"the pay book\"",
+            ));
+        }
+        self.known.give(kind, number, self.declared.len() as u64, name.clone());
+        self.declared.push((self.journal.len(), kind, number, name));
+        Ok(())
+    }
+
+    /// The names by record: each holds from the first record behind its line on.
+    fn names(&self) -> Names {
+        let starts: Vec<usize> = Records::new(&self.journal)
+            .map(|entry| match entry {
+                Ok(record) => record.start,
+                Err((start, _)) => start,
+            })
+            .collect();
+        let mut names = Names::new();
+        for (offset, kind, number, name) in &self.declared {
+            let before = starts.partition_point(|start| start < offset);
+            names.give(*kind, *number, before as u64 + 1, name.clone());
+        }
+        names
+    }
+
+    /// `call 77 1 2`.
+    fn any(&mut self, words: &[Word], behind: usize) -> Result<(), Fault> {
+        let usage = "call CODE NUMBER ...";
+        let Some((&code, rest)) = words.split_first() else {
+            return Err(fault(
+                behind,
+                "expected a code, found the end of the line",
+                "Type: call CODE NUMBER ..., for example: call 77 1 2",
+            ));
+        };
+        let code = decimal(code, "a code", usage)?;
+        let numbers: Result<Vec<u32>, Fault> =
+            rest.iter().map(|&word| decimal(word, "a number", usage)).collect();
+        write_any(code, &numbers?, &mut self.journal);
+        Ok(())
+    }
+
+    /// `bytes 80 00`.
+    fn bytes(&mut self, words: &[Word], behind: usize) -> Result<(), Fault> {
+        if words.is_empty() {
+            return Err(fault(
+                behind,
+                "expected bytes in hex, found the end of the line",
+                "Type: bytes XX ..., for example: bytes 80 00",
+            ));
+        }
+        for word in words {
+            let digits: Option<Vec<u8>> = word
+                .text
+                .chars()
+                .map(|character| character.to_digit(16).map(|digit| digit as u8))
+                .collect();
+            match digits {
+                Some(digits) if digits.len() % 2 == 0 && !digits.is_empty() => {
+                    self.journal.extend(digits.chunks(2).map(|pair| pair[0] * 16 + pair[1]));
+                }
+                _ => {
+                    return Err(fault(
+                        word.column,
+                        &format!("expected two hex digits for each byte, found \"{}\"", shown(word.text)),
+                        "Type each byte as two of the digits 0 to 9 and a to f, for example: bytes 80 00",
+                    ));
+                }
+            }
+        }
+        Ok(())
+    }
+}
+
+fn decimal(word: Word, what: &str, usage: &str) -> Result<u32, Fault> {
+    let is_decimal = !word.is_quoted && word.text.chars().all(|character| character.is_ascii_digit());
+    match word.text.parse::<u32>() {
+        Ok(number) if is_decimal => Ok(number),
+        _ if is_decimal => Err(fault(
+            word.column,
+            &format!("expected {what}, at most 4294967295, found \"{}\"", shown(word.text)),
+            "A larger number is malformed in a journal; to write it all the same, use: bytes XX ...",
+        )),
+        _ => Err(fault(
+            word.column,
+            &format!("expected {what} in decimal, found \"{}\"", shown(word.text)),
+            &format!("Type: {usage}, each a number from 0 to 4294967295"),
+        )),
+    }
+}
+
+fn unknown_word(word: Word) -> Fault {
+    let known: Vec<&str> = SHAPES.iter().map(|shape| shape.word).chain(["call", "bytes", "name"]).collect();
+    let meant = meant(word.text, &known);
+    let advice = if meant.is_empty() {
+        format!("The words are: {}", known.join(", "))
+    } else {
+        format!("Did you mean: {}", meant.join(" or "))
+    };
+    fault(word.column, &format!("expected a call's word, found \"{}\"", shown(word.text)), &advice)
+}

@@ -1,0 +1,93 @@
+//! The options and files of a command.
+
+use std::ffi::{OsStr, OsString};
+
+use super::Failure;
+use crate::text::{meant, shown};
+
+/// Arguments, sorted.
+pub struct Arguments {
+    command: &'static str,
+    options: Vec<(&'static str, OsString)>,
+    switches: Vec<&'static str>,
+    files: Vec<OsString>,
+}
+
+impl Arguments {
+    /// Sorts the arguments; `valued` are the options that take a value, `switches` those that do not.
+    pub fn sort(
+        command: &'static str,
+        arguments: Vec<OsString>,
+        valued: &[&'static str],
+        switches: &[&'static str],
+    ) -> Result<Arguments, Failure> {
+        let mut sorted =
+            Arguments { command, options: Vec::new(), switches: Vec::new(), files: Vec::new() };
+        let mut arguments = arguments.into_iter();
+        while let Some(argument) = arguments.next() {
+            let text = argument.to_string_lossy().into_owned();
+            if text == "--" {
+                sorted.files.extend(arguments.by_ref());
+            } else if !text.starts_with('-') || text == "-" {
+                sorted.files.push(argument);
+            } else if let Some(switch) = switches.iter().find(|switch| **switch == text) {
+                sorted.switches.push(switch);
+            } else if let Some(option) = valued.iter().find(|option| **option == text) {
+                match arguments.next() {
+                    Some(_) if sorted.value(option).is_some() => {
+                        return Err(sorted.wrong(&format!("{option} is given twice")));
+                    }
+                    Some(value) => sorted.options.push((option, value)),
+                    None => return Err(sorted.wrong(&format!("{option} needs a file behind it"))),
+                }
+            } else {
+                let known: Vec<&str> = valued.iter().chain(switches).copied().collect();
+                return Err(sorted.unknown(&text, &known));
+            }
+        }
+        Ok(sorted)
+    }
+
+    fn unknown(&self, option: &str, known: &[&str]) -> Failure {
+        let advice = match (meant(option, known).as_slice(), known) {
+            ([], []) => "It has no options".to_string(),
+            ([], known) => format!("Its options are: {}", known.join(", ")),
+            (meant, _) => format!("Did you mean: {}", meant.join(" or ")),
+        };
+        Failure::Usage(format!("{}: there is no option \"{}\". {advice}", self.command, shown(option)))
+    }
+
+    /// A complaint about the command line.
+    pub fn wrong(&self, message: &str) -> Failure {
+        let command = self.command;
+        Failure::Usage(format!("{command}: {message}. Type: gk help {command}"))
+    }
+
+    pub fn has(&self, switch: &str) -> bool {
+        self.switches.contains(&switch)
+    }
+
+    /// The value of an option.
+    pub fn value(&self, option: &str) -> Option<&OsStr> {
+        let given = self.options.iter().find(|(name, _)| *name == option);
+        given.map(|(_, value)| value.as_os_str())
+    }
+
+    /// The file behind `-o`; none for standard output.
+    pub fn out(&self) -> Option<&OsStr> {
+        self.value("-o").filter(|path| *path != "-")
+    }
+
+    /// The one file; none for standard input.
+    pub fn file(&self) -> Result<Option<&OsStr>, Failure> {
+        match self.files.as_slice() {
+            [] => Ok(None),
+            [file] if file == "-" => Ok(None),
+            [file] => Ok(Some(file)),
+            [_, second, ..] => {
+                let second = shown(&second.to_string_lossy());
+                Err(self.wrong(&format!("expected one file, found \"{second}\" as well")))
+            }
+        }
+    }
+}

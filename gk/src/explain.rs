@@ -1,0 +1,221 @@
+//! A journal's replies in plain words, for a payroll clerk: who asked what, what was answered, what did not happen
+//! where it was refused, and what can be done about it.
+
+mod alike;
+mod asked;
+pub mod json;
+mod outcome;
+mod refused;
+pub mod scene;
+pub mod summary;
+
+use gatekeeper::{Answer, Call, Monitor};
+
+use crate::advice::{Closing, Counsel};
+use crate::chain::Link;
+use crate::names::Names;
+use crate::run::{agrees, Content, Run, Step};
+use crate::text::{paragraph, wrapped};
+use crate::things::Thing;
+use alike::Alike;
+use refused::{refused, Refused};
+use scene::{Lives, Scene};
+
+/// What is said of a record.
+pub struct Told {
+    pub step: Step,
+    /// Who asked what; where it was refused, that it did not happen, and why.
+    pub title: String,
+    /// The names that the call's numbers have, by what the numbers are called.
+    pub names: Vec<(&'static str, String)>,
+    /// Sentences about what happened, or what did not.
+    pub facts: Vec<String>,
+    /// The chain behind a 9, with what each thing is called.
+    pub chain: Vec<(Link, String)>,
+    pub counsel: Counsel,
+}
+
+/// How a run came out.
+#[derive(Clone, Debug, Default, PartialEq, Eq)]
+pub struct End {
+    pub allowed: u64,
+    pub lowered: u64,
+    pub refused: u64,
+    pub made: u64,
+    pub gone: u64,
+    pub open: u64,
+}
+
+/// Said where the records, answered one by one, get other replies than the whole journal: a fault of this program.
+#[derive(Clone, Copy, Debug, PartialEq, Eq)]
+pub struct Differs;
+
+/// Which records are told.
+#[derive(Clone, Copy, Debug, PartialEq, Eq)]
+pub enum Which {
+    All,
+    Refused,
+}
+
+/// Tells a journal record by record, and then how it ended. Each reply is held to the proved run of the whole journal.
+pub fn tell(
+    journal: &[u8],
+    names: &Names,
+    which: Which,
+    mut each: impl FnMut(Told),
+) -> Result<End, Differs> {
+    look(journal, names, which, |moment| each(moment.told()))
+}
+
+/// A record in its run, of which something may be said.
+struct Moment<'a> {
+    step: &'a Step,
+    names: &'a Names,
+    lives: &'a Lives,
+    closing: Option<Closing>,
+}
+
+/// Goes through a journal record by record, as [`tell`] does.
+fn look(journal: &[u8], names: &Names, which: Which, mut each: impl FnMut(Moment)) -> Result<End, Differs> {
+    let mut end = End::default();
+    let mut lines = String::new();
+    let mut lives = Lives::default();
+    let mut closing: Option<Closing> = None;
+    let mut run = Run::new(journal);
+    for step in &mut run {
+        lines.push_str(&step.line());
+        lines.push('\n');
+        match step.answer {
+            Answer::Allowed(_) => end.allowed += 1,
+            Answer::Lowered(_) => end.lowered += 1,
+            Answer::Refused(_) => end.refused += 1,
+        }
+        if which == Which::All || step.refusal().is_some() {
+            each(Moment { step: &step, names, lives: &lives, closing });
+        }
+        lives.follow(&step);
+        if let (Content::Call(Call::Freeze { .. }), None) = (step.content, step.refusal()) {
+            let frozen_from = step.after.frozen_from();
+            closing = frozen_from.map(|level| Closing { level, record: step.position });
+        }
+    }
+    let monitor: &Monitor = run.monitor();
+    (end.made, end.gone, end.open) = (monitor.made(), monitor.gone(), monitor.open());
+    lines.push_str(&run.end_line());
+    lines.push('\n');
+    if agrees(journal, &lines) {
+        Ok(end)
+    } else {
+        Err(Differs)
+    }
+}
+
+impl<'a> Moment<'a> {
+    /// The tables before the record.
+    fn before(&self) -> Scene<'a> {
+        let Moment { step, names, lives, .. } = *self;
+        Scene { monitor: &step.before, record: step.position, names, lives, unnamed: None }
+    }
+
+    /// What is said of the record.
+    fn told(&self) -> Told {
+        self.told_in(self.before())
+    }
+
+    /// The same with a file or pipe that is not named, in words that may hold of other records, too.
+    fn told_without(&self, thing: Thing) -> Told {
+        self.told_in(Scene { unnamed: Some(thing), ..self.before() })
+    }
+
+    fn told_in(&self, before: Scene) -> Told {
+        let step = self.step.clone();
+        let names = match step.content {
+            Content::Call(call) => asked::names_in(call, before),
+            _ => Vec::new(),
+        };
+        match (step.content, step.refusal()) {
+            (Content::Call(call), Some(refusal)) => {
+                let Refused { title, facts, chain, counsel } = refused(call, refusal, before, self.closing);
+                Told { title, names, facts, chain, counsel, step }
+            }
+            (Content::Call(call), None) => {
+                let title = format!("{}.", asked::asked(call, before, true));
+                let mut facts = outcome::outcome(call, before, &step.after, self.closing);
+                let letter =
+                    if matches!(step.answer, Answer::Lowered(_)) { "Lowered." } else { "Allowed." };
+                match facts.first_mut() {
+                    Some(first) => *first = format!("{letter} {first}"),
+                    None => facts.push(letter.to_string()),
+                }
+                Told { title, names, facts, chain: Vec::new(), counsel: Counsel::default(), step }
+            }
+            (content, _) => {
+                let (title, facts) = refused::no_call(content);
+                Told { title, names, facts, chain: Vec::new(), counsel: Counsel::default(), step }
+            }
+        }
+    }
+}
+
+impl Told {
+    /// The record in sentences, on lines.
+    pub fn text(&self) -> String {
+        let title = match self.step.content {
+            Content::TooLong => paragraph("", &self.title),
+            _ => paragraph(&format!("{}. ", self.step.position), &self.title),
+        };
+        title + &self.below()
+    }
+
+    /// What stands below the title.
+    fn below(&self) -> String {
+        let mut text = String::new();
+        for fact in &self.facts {
+            text.push_str(&paragraph("  ", fact));
+        }
+        if !self.chain.is_empty() {
+            text.push_str("  The chain, found by gk and not proved:\n");
+            let links = self.chain.iter().enumerate().map(|(index, (link, name))| {
+                let arrow = if index == 0 { "" } else { "→ " };
+                format!("{arrow}{name} (level {})", link.level)
+            });
+            text.push_str(&wrapped(links, "    ", "      "));
+        }
+        for (index, advice) in self.counsel.ways.iter().enumerate() {
+            let start = if index == 0 { "  What to do: " } else { "  Or: " };
+            text.push_str(&paragraph(start, &advice.text));
+        }
+        for note in &self.counsel.notes {
+            text.push_str(&paragraph("  ", note));
+        }
+        text
+    }
+}
+
+/// The whole journal in sentences; where only refusals are told, those that are alike in one paragraph.
+pub fn explain(journal: &[u8], names: &Names, which: Which) -> Result<String, Differs> {
+    let mut text = String::new();
+    let mut has_ways = false;
+    let mut alike = Alike::default();
+    let end = look(journal, names, which, |moment| match which {
+        Which::All => {
+            let told = moment.told();
+            has_ways |= !told.counsel.ways.is_empty();
+            text.push_str(&told.text());
+        }
+        Which::Refused => has_ways |= alike.take(&moment),
+    })?;
+    text.push_str(&alike.text());
+    text.push_str(&format!(
+        "End of the run: {} allowed, {} lowered, {} refused.\nHandles: {} made, {} gone, {} still open.\n",
+        end.allowed, end.lowered, end.refused, end.made, end.gone, end.open
+    ));
+    if has_ways {
+        text.push_str(&paragraph(
+            "",
+            "The answers are the proved gatekeeper's. What to do is advice of gk and not proved; every advice was \
+             tried on a copy of the tables as they were before its record, and was allowed there.",
+        ));
+    }
+    Ok(text)
+}

@@ -1,0 +1,121 @@
+//! Who asks what: in one form for what happens, in another for what does not.
+
+use gatekeeper::{Call, NO_FREEZE};
+
+use super::scene::{capital, Scene};
+use crate::calls::{shape_of_code, Role};
+use crate::names::Kind;
+use crate::things::Thing;
+
+/// A call in words, without a full stop; `happens` says whether it was allowed.
+pub fn asked(call: Call, scene: Scene, happens: bool) -> String {
+    // "opens", or "may not open"
+    let by = |s: u32, does: &str, may_not: &str, rest: &str| {
+        let who = capital(&scene.whole(Thing::Step(s)));
+        match happens {
+            true => format!("{who} {does}{rest}"),
+            false => format!("{who} may not {may_not}{rest}"),
+        }
+    };
+    let is = if happens { "is" } else { "is not" };
+    let object = |o: u32| scene.whole(Thing::Object(o));
+    // What is said of several records at once leaves out the places, which differ.
+    let at = |place: u32| match scene.unnamed {
+        Some(_) => String::new(),
+        None => format!(" at place {place}"),
+    };
+    let new = |kind: Kind, number: u32| scene.new_thing(kind, number);
+    match call {
+        Call::Admit { subject, level } => {
+            format!("{} {is} admitted from outside at level {level}", capital(&new(Kind::Step, subject)))
+        }
+        Call::Register { object, level } => {
+            format!("{} {is} registered from outside at level {level}", capital(&new(Kind::File, object)))
+        }
+        Call::Create { subject, object } => {
+            by(subject, "creates", "create", &format!(" {}", new(Kind::File, object)))
+        }
+        Call::Pipe { subject, object, reads, writes } => {
+            let pipe = new(Kind::Pipe, object);
+            let rest = format!(" {pipe}, reading at place {reads} and writing at place {writes}");
+            by(subject, "makes", "make", &rest)
+        }
+        Call::OpenRead { subject, object: o, place } => {
+            by(subject, "opens", "open", &format!(" {} for reading{}", object(o), at(place)))
+        }
+        Call::OpenWrite { subject, object: o, place } => {
+            by(subject, "opens", "open", &format!(" {} for writing{}", object(o), at(place)))
+        }
+        Call::Read { subject, place } => {
+            by(subject, "reads", "read", &format!(" at place {place}, {}", scene.at_place(subject, place)))
+        }
+        Call::Write { subject, place } => {
+            by(subject, "writes", "write", &format!(" at place {place}, {}", scene.at_place(subject, place)))
+        }
+        Call::Fork { subject, child } => by(subject, "forks", "fork", &format!(" {}", new(Kind::Step, child))),
+        Call::Exec { subject, object: o } => by(subject, "runs", "run", &format!(" {}", object(o))),
+        Call::Close { subject, place } => {
+            by(subject, "closes", "close", &format!(" place {place}, {}", scene.at_place(subject, place)))
+        }
+        Call::Exit { subject } => by(subject, "exits", "exit", ""),
+        Call::Retire { object: o } => format!("{} {is} retired", capital(&object(o))),
+        Call::Map { subject, object: o, place } => {
+            by(subject, "maps", "map", &format!(" {}{}", object(o), at(place)))
+        }
+        Call::Mark { subject, place } => {
+            by(subject, "marks", "mark", &format!(" place {place}, {}", scene.at_place(subject, place)))
+        }
+        Call::Freeze { level: NO_FREEZE } => format!("The freeze {is} lifted"),
+        Call::Freeze { level } => format!("The freeze {is} set to {level}"),
+        Call::Connect { subject, peer, to, from, reading, writing } => format!(
+            "{} {is} connected to {} by {} and back by {}, both reading at place {reading} and writing at place \
+             {writing}",
+            capital(&scene.whole(Thing::Step(subject))),
+            scene.whole(Thing::Step(peer)),
+            new(Kind::Pipe, to),
+            new(Kind::Pipe, from)
+        ),
+        _ => format!("A call of code {}", call.code()),
+    }
+}
+
+/// The names that the numbers of a call have, by what the numbers are called.
+pub fn names_in(call: Call, scene: Scene) -> Vec<(&'static str, String)> {
+    let makes_step = matches!(call, Call::Admit { .. });
+    let parts = shape_of_code(call.code()).into_iter().flat_map(|shape| shape.parts());
+    let name = |part: &str, role: Role, number: u32| match role {
+        Role::Step if makes_step || part == "c" => scene.new_name(Kind::Step, number),
+        Role::Step => scene.name(Thing::Step(number)),
+        Role::File => scene.new_name(Kind::File, number),
+        Role::Pipe => scene.new_name(Kind::Pipe, number),
+        Role::Object => scene.name(Thing::Object(number)),
+        Role::Place | Role::Level => None,
+    };
+    parts
+        .zip(call.numbers())
+        .filter_map(|((part, role), number)| name(part, role, number).map(|name| (part, name.to_string())))
+        .collect()
+}
+
+/// What a refused call has not done.
+pub fn not_done(call: Call) -> &'static str {
+    match call {
+        Call::Admit { .. } => "No step is admitted.",
+        Call::Register { .. } => "No file is registered.",
+        Call::Create { .. } => "No file is created.",
+        Call::Pipe { .. } => "No pipe is made.",
+        Call::OpenRead { .. } | Call::OpenWrite { .. } => "Nothing is opened.",
+        Call::Read { .. } => "Nothing is read.",
+        Call::Write { .. } => "Nothing is written.",
+        Call::Fork { .. } => "No step is forked.",
+        Call::Exec { .. } => "Nothing is run, and no handle is closed.",
+        Call::Close { .. } => "Nothing is closed.",
+        Call::Exit { .. } => "No step exits.",
+        Call::Retire { .. } => "Nothing is retired.",
+        Call::Map { .. } => "Nothing is mapped, and nothing is read.",
+        Call::Mark { .. } => "Nothing is marked.",
+        Call::Freeze { .. } => "The freeze stays as it was.",
+        Call::Connect { .. } => "Neither pipe is made.",
+        _ => "Nothing is done.",
+    }
+}

@@ -1,0 +1,176 @@
+//! A journal as JSON, an object a line: one for each record, and a last one for the end. docs/JSON.md has the schema.
+
+use gatekeeper::{Answer, Call, Kind as ObjectKind, Monitor};
+
+use super::{tell, Differs, Told, Which};
+use crate::advice::Advice;
+use crate::calls::{assembly_of, shape_of_code};
+use crate::chain::Link;
+use crate::names::{Kind, Names};
+use crate::run::Content;
+use crate::things::Thing;
+
+/// The whole journal.
+pub fn json(journal: &[u8], names: &Names, which: Which) -> Result<String, Differs> {
+    let mut text = String::new();
+    let end = tell(journal, names, which, |told| {
+        text.push_str(&record(&told).line());
+    })?;
+    let mut counts = Object::default();
+    for (key, count) in [
+        ("allowed", end.allowed),
+        ("lowered", end.lowered),
+        ("refused", end.refused),
+        ("made", end.made),
+        ("gone", end.gone),
+        ("open", end.open),
+    ] {
+        counts.number(key, count);
+    }
+    let mut last = Object::default();
+    last.raw("end", counts.text());
+    text.push_str(&last.line());
+    Ok(text)
+}
+
+fn record(told: &Told) -> Object {
+    let step = &told.step;
+    let mut object = Object::default();
+    object.number("record", step.position);
+    object.number("code", step.code.into());
+    match step.answer {
+        Answer::Allowed(level) | Answer::Lowered(level) => {
+            let is_lowered = matches!(step.answer, Answer::Lowered(_));
+            object.string("outcome", if is_lowered { "lowered" } else { "allowed" });
+            object.number("level", level.into());
+        }
+        Answer::Refused(refusal) => {
+            object.string("outcome", "refused");
+            object.number("refusal", refusal.number().into());
+            object.string("meaning", refusal.words());
+        }
+    }
+    if let Content::Call(call) = step.content {
+        call_fields(call, &told.names, &mut object);
+    }
+    let said: Vec<String> =
+        std::iter::once(&told.title).chain(&told.facts).map(|text| string(text)).collect();
+    object.raw("said", list(&said));
+    if !told.chain.is_empty() {
+        let links: Vec<String> =
+            told.chain.iter().map(|(link, name)| link_text(*link, name, &step.before)).collect();
+        let mut chain = Object::default();
+        chain.raw("proved", "false".to_string());
+        chain.raw("links", list(&links));
+        object.raw("chain", chain.text());
+    }
+    if step.refusal().is_some() {
+        let ways: Vec<String> = told.counsel.ways.iter().map(way).collect();
+        object.raw("advice", list(&ways));
+        let notes: Vec<String> = told.counsel.notes.iter().map(|note| string(note)).collect();
+        object.raw("notes", list(&notes));
+    }
+    object
+}
+
+/// The call's word, its numbers, and the names that they have.
+fn call_fields(call: Call, names: &[(&'static str, String)], object: &mut Object) {
+    let Some(shape) = shape_of_code(call.code()) else {
+        return;
+    };
+    object.string("call", shape.word);
+    object.string("words", &assembly_of(call));
+    let mut numbers = Object::default();
+    for (key, number) in shape.numbers.iter().zip(call.numbers()) {
+        numbers.number(key, number.into());
+    }
+    object.raw("numbers", numbers.text());
+    if !names.is_empty() {
+        let mut named = Object::default();
+        for (key, name) in names {
+            named.string(key, name);
+        }
+        object.raw("names", named.text());
+    }
+}
+
+fn link_text(link: Link, name: &str, before: &Monitor) -> String {
+    let (kind, number) = match link.thing {
+        Thing::Step(s) => (Kind::Step, s),
+        Thing::Object(o) => match before.object(o).map(|object| object.kind) {
+            Some(ObjectKind::File) => (Kind::File, o),
+            _ => (Kind::Pipe, o),
+        },
+    };
+    let mut object = Object::default();
+    object.string("kind", kind.word());
+    object.number("number", number.into());
+    object.number("level", link.level.into());
+    object.string("called", name);
+    object.text()
+}
+
+fn way(advice: &Advice) -> String {
+    let calls: Vec<String> = advice.calls.iter().map(|&call| string(&assembly_of(call))).collect();
+    let mut object = Object::default();
+    object.string("text", &advice.text);
+    object.raw("calls", list(&calls));
+    object.text()
+}
+
+/// An object's fields in their order, each as JSON.
+#[derive(Default)]
+struct Object {
+    fields: Vec<String>,
+}
+
+impl Object {
+    fn raw(&mut self, key: &str, value: String) {
+        self.fields.push(format!("{}:{value}", string(key)));
+    }
+
+    fn string(&mut self, key: &str, value: &str) {
+        self.raw(key, string(value));
+    }
+
+    fn number(&mut self, key: &str, value: u64) {
+        self.raw(key, value.to_string());
+    }
+
+    fn text(&self) -> String {
+        format!("{{{}}}", self.fields.join(","))
+    }
+
+    fn line(&self) -> String {
+        format!("{}\n", self.text())
+    }
+}
+
+fn list(values: &[String]) -> String {
+    format!("[{}]", values.join(","))
+}
+
+/// A string in quotes, with what JSON asks to be escaped.
+fn string(text: &str) -> String {
+    let mut quoted = String::from('"');
+    for character in text.chars() {
+        match character {
+            '"' => quoted.push_str("\\\""),
+            '\\' => quoted.push_str("\\\\"),
+            control if control < ' ' => quoted.push_str(&format!("\\u{:04x}", control as u32)),
+            other => quoted.push(other),
+        }
+    }
+    quoted.push('"');
+    quoted
+}
+
+#[cfg(test)]
+mod tests {
+    use super::string;
+
+    #[test]
+    fn strings_are_escaped() {
+        assert_eq!(string("a\"b\\c\n→"), "\"a\\\"b\\\\c\\u000a→\"");
+    }
+}

@@ -1,0 +1,237 @@
+//! What an allowed call has done, in sentences.
+
+use gatekeeper::{Call, Monitor, NO_FREEZE};
+
+use super::scene::{capital, listed, way_word, Scene};
+use crate::advice::Closing;
+use crate::things::{handles_of, has_mapped, level, objects, steps, Held, Thing};
+
+/// The sentences; `before` is the moment before the call, `after` the monitor after it, `closing` the freeze before it.
+pub fn outcome(call: Call, before: Scene, after: &Monitor, closing: Option<Closing>) -> Vec<String> {
+    let now = before.with(after);
+    let old = |thing: Thing| level(before.monitor, thing).unwrap_or(0);
+    let new = |thing: Thing| level(after, thing).unwrap_or(0);
+    let (step, object) = (Thing::Step, Thing::Object);
+    match call {
+        Call::Admit { subject, level } => {
+            vec![format!("{} runs at level {level}, with no handles.", capital(&now.step(subject)))]
+        }
+        Call::Register { object: o, level } => {
+            vec![format!("{} has level {level} for good.", capital(&now.object(o)))]
+        }
+        Call::Create { subject, object: o } => vec![format!(
+            "{} is empty and has the level of {}, {}, for good.",
+            capital(&now.object(o)),
+            now.step(subject),
+            new(object(o))
+        )],
+        Call::Pipe { subject, object: o, .. } => vec![format!(
+            "{} is empty and starts at the level of {}, {}.",
+            capital(&now.object(o)),
+            now.step(subject),
+            new(object(o))
+        )],
+        Call::OpenRead { subject, object: o, .. } => vec![format!(
+            "{} has level {}; {} keeps level {} until it reads.",
+            capital(&before.object(o)),
+            old(object(o)),
+            before.step(subject),
+            old(step(subject))
+        )],
+        Call::OpenWrite { subject, object: o, .. } => vec![format!(
+            "{} has level {}, {} level {}.",
+            capital(&before.object(o)),
+            old(object(o)),
+            before.step(subject),
+            old(step(subject))
+        )],
+        Call::Read { subject, .. } => vec![fall(step(subject), before, after)],
+        Call::Exec { subject, .. } => exec(subject, before, after),
+        Call::Write { subject, place } => match before.monitor.handle(subject, place) {
+            Some(handle) => write(handle.object.into(), before, after),
+            None => Vec::new(),
+        },
+        Call::Fork { subject, child } => vec![fork(subject, child, now)],
+        Call::Close { place, .. } => vec![format!("Place {place} is empty.{}", ended(before, after))],
+        Call::Exit { subject } => {
+            let closed = match handles_of(before.monitor, subject).count() {
+                0 => "it held no handles".to_string(),
+                1 => "1 handle is closed".to_string(),
+                count => format!("{count} handles are closed"),
+            };
+            vec![format!(
+                "Its last level was {}; {closed}. Its number is free.{}",
+                old(step(subject)),
+                ended(before, after)
+            )]
+        }
+        Call::Retire { object: o } => {
+            vec![format!("Its last level was {}; its number is free.", old(object(o)))]
+        }
+        Call::Map { subject, object, place } => map(subject, object, place, before, after),
+        Call::Mark { subject, place } => mark(subject, place, before),
+        Call::Freeze { level } => freeze(level, closing),
+        Call::Connect { subject, peer, to, from, reading, writing } => {
+            let way = |from: u32, to: u32, o: u32| {
+                let pipe = now.leveled(object(o));
+                let (from, to) = (now.step(from), now.step(to));
+                format!("{from} writes {pipe} at place {writing}, and {to} reads it at place {reading}")
+            };
+            vec![
+                "Both pipes are empty.".to_string(),
+                format!("One way: {}.", way(subject, peer, to)),
+                format!("Back: {}.", way(peer, subject, from)),
+            ]
+        }
+        _ => Vec::new(),
+    }
+}
+
+fn fall(thing: Thing, before: Scene, after: &Monitor) -> String {
+    let (from, to) = (level(before.monitor, thing).unwrap_or(0), level(after, thing).unwrap_or(0));
+    let who = capital(&before.thing(thing));
+    if to < from {
+        format!("{who} falls from level {from} to level {to}.")
+    } else {
+        format!("{who} stays at level {to}.")
+    }
+}
+
+/// The pipes that have ended.
+fn ended(before: Scene, after: &Monitor) -> String {
+    objects(before.monitor)
+        .filter(|&o| after.object(o).is_none())
+        .map(|o| format!(" That was the last handle on {}, which ends.", before.object(o)))
+        .collect()
+}
+
+/// RULES C8, C111: who reads a mapped file after a write to it, in that order.
+fn write(object: u32, before: Scene, after: &Monitor) -> Vec<String> {
+    let mut facts = vec![fall(Thing::Object(object), before, after)];
+    let readers: Vec<String> = steps(before.monitor)
+        .filter(|&s| has_mapped(before.monitor, s, object))
+        .map(|s| before.step(s))
+        .collect();
+    match readers.len() {
+        0 => {}
+        1 => facts.push(format!("Then {}, which has it mapped, reads it.", readers[0])),
+        _ => facts.push(format!(
+            "Then {}, which have it mapped, read it, each once and in this order.",
+            listed(&readers, "and")
+        )),
+    }
+    facts
+}
+
+fn fork(parent: u32, child: u32, now: Scene) -> String {
+    let handles: Vec<Held> = handles_of(now.monitor, child).collect();
+    let of = now.step(parent);
+    let copies = match handles.len() {
+        0 => "no handles".to_string(),
+        1 => format!("a copy of the handle of {of}"),
+        count => format!("copies of the {count} handles of {of}"),
+    };
+    let part = |count: usize, one: &str, more: &str| match (count, handles.len()) {
+        (0, _) => String::new(),
+        (1, 1) => format!(", {one}"),
+        (1, _) => format!(", 1 of them {one}"),
+        (count, _) => format!(", {count} of them {more}"),
+    };
+    let marked = part(handles.iter().filter(|held| held.handle.marked).count(), "marked", "marked");
+    let mapped = part(handles.iter().filter(|held| held.is_mapping()).count(), "a mapping", "mappings");
+    let level = now.monitor.subject(child).unwrap_or(0);
+    format!("{} starts at level {level} with {copies}{marked}{mapped}.", capital(&now.step(child)))
+}
+
+/// RULES C10: the marked handles and the mappings that an exec has closed, and the pipes that have ended so.
+fn exec(subject: u32, before: Scene, after: &Monitor) -> Vec<String> {
+    let mut facts = vec![fall(Thing::Step(subject), before, after)];
+    let closed: Vec<Held> = handles_of(before.monitor, subject)
+        .filter(|held| after.handle(subject, held.place).is_none())
+        .collect();
+    let (mappings, marked): (Vec<Held>, Vec<Held>) = closed.into_iter().partition(|held| held.is_mapping());
+    let places = |handles: &[Held]| {
+        let words: Vec<String> = handles
+            .iter()
+            .map(|held| {
+                let object = before.object(held.object());
+                match held.is_mapping() {
+                    true => format!("place {} ({object})", held.place),
+                    false => format!("place {} ({} {object})", held.place, way_word(held.handle.way)),
+                }
+            })
+            .collect();
+        words.join(", ")
+    };
+    let gone: String = objects(before.monitor)
+        .filter(|&o| after.object(o).is_none())
+        .map(|o| format!(" {} has no handle left and ends.", capital(&before.object(o))))
+        .collect();
+    match marked.len() {
+        0 => {}
+        1 => facts.push(format!("Its marked handle is closed: {}.{gone}", places(&marked))),
+        _ => facts.push(format!("Its marked handles are closed: {}.{gone}", places(&marked))),
+    }
+    match mappings.len() {
+        0 => {}
+        1 => facts.push(format!("Its mapping is closed: {}.", places(&mappings))),
+        count => facts.push(format!("Its {count} mappings are closed: {}.", places(&mappings))),
+    }
+    facts
+}
+
+/// RULES C14, C111: a map is a read at that moment, and one after each write to come.
+fn map(subject: u32, object: u32, place: u32, before: Scene, after: &Monitor) -> Vec<String> {
+    let who = before.step(subject);
+    let (from, to) = (before.monitor.subject(subject).unwrap_or(0), after.subject(subject).unwrap_or(0));
+    let change = match to < from {
+        true => format!("falls from level {from} to level {to}"),
+        false => format!("stays at level {to}"),
+    };
+    let file = capital(&before.leveled(Thing::Object(object)));
+    let later = if has_mapped(before.monitor, subject, object) {
+        format!(
+            "{} had it mapped before: it reads it once after each write to it, as until now.",
+            capital(&who)
+        )
+    } else {
+        format!(
+            "From now on {who} reads it after each write to it, until place {place} is closed; its next exec that \
+             is allowed closes it, too."
+        )
+    };
+    vec![format!("{file} is read at that moment: {who} {change}."), later]
+}
+
+/// RULES C15, T35.
+fn mark(subject: u32, place: u32, before: Scene) -> Vec<String> {
+    let who = before.step(subject);
+    let held = handles_of(before.monitor, subject).find(|held| held.place == place);
+    vec![match held {
+        Some(held) if held.handle.marked => "It was marked before: nothing changes.".to_string(),
+        Some(held) if held.is_mapping() => {
+            format!("It is a mapping, which the next exec of {who} that is allowed closes in any case.")
+        }
+        _ => format!("The next exec of {who} that is allowed closes it; until then it is used as before."),
+    }]
+}
+
+/// RULES C16.
+fn freeze(level: u32, closing: Option<Closing>) -> Vec<String> {
+    let before = closing.map(Closing::words);
+    match (level, before) {
+        (NO_FREEZE, None) => vec!["Books open, as they were: there was no freeze.".to_string()],
+        (NO_FREEZE, Some(before)) => vec![
+            "Books open again: no open is refused with 15.".to_string(),
+            format!("They were {before}."),
+        ],
+        (_, before) => {
+            let mut facts = vec![
+                format!("Books closed from level {level} up: no such file can be opened for writing."),
+                format!("Handles that are open go on writing; freeze {NO_FREEZE} opens the books again."),
+            ];
+            facts.extend(before.map(|before| format!("Before, they were {before}.")));
+            facts
+        }
+    }
+}

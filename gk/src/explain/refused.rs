@@ -1,0 +1,227 @@
+//! A refusal in words: what did not happen and why, the chain behind a 9, and the ways out.
+
+use gatekeeper::{Call, Refusal, NO_FREEZE};
+
+use super::asked::{asked, not_done};
+use super::scene::{listed, sentence, way_word, Scene};
+use crate::advice::{counsel, Closing, Counsel};
+use crate::calls::number_of;
+use crate::chain::{behind, Link};
+use crate::names::Kind;
+use crate::records::{body_words, length_words};
+use crate::run::Content;
+use crate::things::{handles_on, Thing, HIGHEST, OBJECTS, PLACES, STEPS};
+
+/// What is said of a call that was refused.
+pub struct Refused {
+    pub title: String,
+    pub facts: Vec<String>,
+    pub chain: Vec<(Link, String)>,
+    pub counsel: Counsel,
+}
+
+/// A call that was refused; `scene` is the moment before it.
+pub fn refused(call: Call, refusal: Refusal, scene: Scene, closing: Option<Closing>) -> Refused {
+    let chain = if refusal == Refusal::Flow { behind(call, scene.monitor) } else { None };
+    let chain: Vec<(Link, String)> =
+        chain.unwrap_or_default().into_iter().map(|link| (link, link_name(link, call, scene))).collect();
+    let why = why(call, refusal, scene, closing, &chain);
+    let asked = asked(call, scene, false);
+    let title = if why.is_empty() { format!("{asked}.") } else { format!("{asked}: {why}.") };
+    let mut facts =
+        vec![format!("Refused ({}): {}. {}", refusal.number(), refusal.words(), not_done(call))];
+    if let (Some((low, low_name)), Some((high, high_name))) = (chain.first(), chain.last()) {
+        facts.push(format!(
+            "{} has level {}, and {high_name} takes nothing from below level {}.",
+            super::scene::capital(low_name),
+            low.level,
+            high.level
+        ));
+        facts.extend(floor(call, scene));
+    }
+    Refused { title, facts, chain, counsel: counsel(call, refusal, scene, closing) }
+}
+
+/// RULES F5: how far the step that asks to read may fall, as the monitor has it.
+fn floor(call: Call, scene: Scene) -> Option<String> {
+    let (Call::OpenRead { subject, .. } | Call::Map { subject, .. }) = call else {
+        return None;
+    };
+    let need = scene.monitor.need_of_subject(subject)?;
+    Some(format!(
+        "With the handles that there are, {} has to stay at level {need} or above.",
+        scene.step(subject)
+    ))
+}
+
+/// What a thing of a chain is called; the pipes of a connect are not there yet.
+fn link_name(link: Link, call: Call, scene: Scene) -> String {
+    match (link.thing, call) {
+        (Thing::Object(o), Call::Connect { to, from, .. }) if o == to || o == from => {
+            scene.new_name(Kind::Pipe, o).map_or_else(|| format!("pipe {o}"), str::to_string)
+        }
+        _ => scene.thing(link.thing),
+    }
+}
+
+/// A record that is no call, or a journal that breaks off or is too long.
+pub fn no_call(content: Content) -> (String, Vec<String>) {
+    let said = |refusal: Refusal, more: &str| {
+        format!("Refused ({}): {}. {}.", refusal.number(), refusal.words(), sentence(more))
+    };
+    match content {
+        Content::TooLong => (
+            format!(
+                "The journal is refused (14): {}. Nothing of it is run.",
+                Refusal::JournalTooLong.words()
+            ),
+            vec!["What to do: split the journal into runs of at most 65,536 bytes.".to_string()],
+        ),
+        Content::Stop(offset, fault) => (
+            format!("Byte {offset} of the journal should start a record, and does not."),
+            vec![
+                said(Refusal::JournalBroken, &format!("{}; the run stops here", length_words(fault))),
+                "What to do: look at how the journal was written or copied from there on.".to_string(),
+            ],
+        ),
+        Content::NoCall(body) => {
+            let refusal = match body {
+                crate::records::Body::UnknownCode(_) => Refusal::UnknownCode,
+                _ => Refusal::RecordBroken,
+            };
+            (
+                "A record that is no call.".to_string(),
+                vec![
+                    said(refusal, &body_words(body)),
+                    "What to do: look at the program that wrote the journal; the next record is read."
+                        .to_string(),
+                ],
+            )
+        }
+        Content::Call(_) => (String::new(), Vec::new()),
+    }
+}
+
+/// Why a call was refused, in a few words.
+fn why(
+    call: Call,
+    refusal: Refusal,
+    scene: Scene,
+    closing: Option<Closing>,
+    chain: &[(Link, String)],
+) -> String {
+    let monitor = scene.monitor;
+    match refusal {
+        Refusal::NoSubject => {
+            let named = ["s", "t"].into_iter().filter_map(|name| number_of(call, name));
+            match named.filter(|&s| monitor.subject(s).is_none()).collect::<Vec<u32>>().first() {
+                Some(&s) if s >= STEPS => format!("steps have the numbers 0 to {}", STEPS - 1),
+                Some(&s) => format!("{} is not there", scene.step(s)),
+                None => String::new(),
+            }
+        }
+        Refusal::NumberTaken => unfit_number(call, scene),
+        Refusal::NoObject => match number_of(call, "o") {
+            Some(o) if o >= OBJECTS => format!("files and pipes have the numbers 0 to {}", OBJECTS - 1),
+            Some(o) => format!("there is no {}", scene.object(o)),
+            None => String::new(),
+        },
+        Refusal::IsPipe => "it is a pipe".to_string(),
+        Refusal::LevelTooHigh => match call {
+            Call::Freeze { .. } => format!("a freeze is 0 to {HIGHEST}, or {NO_FREEZE} for none"),
+            _ => format!("levels are 0 to {HIGHEST}"),
+        },
+        Refusal::PlaceUnfit => unfit_place(call, scene),
+        Refusal::WrongDirection => match call {
+            Call::Read { .. } => "that handle is for writing".to_string(),
+            _ => "that handle is for reading".to_string(),
+        },
+        Refusal::Flow => flow_reason(call, chain),
+        Refusal::StillOpen => {
+            let o = number_of(call, "o").unwrap_or(0);
+            let mut holders: Vec<u32> = handles_on(monitor, o).map(|held| held.step).collect();
+            holders.dedup();
+            let words: Vec<String> = holders.iter().map(|&s| scene.step(s)).collect();
+            let have = if words.len() == 1 { "has" } else { "have" };
+            format!("{} {have} it open", listed(&words, "and"))
+        }
+        Refusal::Frozen => {
+            let level =
+                number_of(call, "o").and_then(|o| monitor.object(o)).map_or(0, |object| object.level);
+            let since = closing.map_or_else(String::new, |closing| format!(" {}", closing.words()));
+            format!("the books are{since}, and it has level {level}")
+        }
+        Refusal::SameSubject => "both ends would be the same step".to_string(),
+        _ => String::new(),
+    }
+}
+
+/// A chain in a few words, from where the caller stands: "it writes file 0".
+fn flow_reason(call: Call, chain: &[(Link, String)]) -> String {
+    let (Some((low, low_name)), Some((high, high_name))) = (chain.first(), chain.last()) else {
+        return String::new();
+    };
+    let step = Thing::Step(call.numbers()[0]);
+    match (call, &chain[..chain.len() - 1]) {
+        (Call::OpenWrite { .. }, _) if low.thing == step => {
+            format!("its level is {}, and {high_name} takes nothing from below {}", low.level, high.level)
+        }
+        (Call::OpenWrite { .. }, _) => format!("what {low_name} has could get there through it"),
+        (Call::Connect { .. }, _) => format!("what {low_name} has could then reach {high_name}"),
+        (_, [.., (last, _)]) if last.thing == step => format!("it writes {high_name}"),
+        _ => format!("what it passes on could reach {high_name}"),
+    }
+}
+
+/// RULES R3.
+fn unfit_number(call: Call, scene: Scene) -> String {
+    let monitor = scene.monitor;
+    let (numbers, limit, kind) = match call {
+        Call::Admit { subject, .. } => (vec![subject], STEPS, "steps"),
+        Call::Fork { child, .. } => (vec![child], STEPS, "steps"),
+        Call::Connect { to, from, .. } => (vec![to, from], OBJECTS, "files and pipes"),
+        _ => (number_of(call, "o").into_iter().collect(), OBJECTS, "files and pipes"),
+    };
+    let is_used = |number: &&u32| match limit {
+        STEPS => monitor.subject(**number).is_some(),
+        _ => monitor.object(**number).is_some(),
+    };
+    if numbers.iter().any(|&number| number >= limit) {
+        return format!("{kind} have the numbers 0 to {}", limit - 1);
+    }
+    match numbers.iter().find(is_used) {
+        Some(&number) if limit == STEPS => format!("{} is there already", scene.whole(Thing::Step(number))),
+        Some(&number) => format!("{} is there already", scene.whole(Thing::Object(number))),
+        None => "both pipes would have the same number".to_string(),
+    }
+}
+
+/// RULES R7.
+fn unfit_place(call: Call, scene: Scene) -> String {
+    let monitor = scene.monitor;
+    let (steps, places, wants_empty): (Vec<u32>, Vec<u32>, bool) = match call {
+        Call::Pipe { subject, reads, writes, .. } => (vec![subject], vec![reads, writes], true),
+        Call::Connect { subject, peer, reading, writing, .. } => {
+            (vec![subject, peer], vec![reading, writing], true)
+        }
+        Call::OpenRead { subject, place, .. }
+        | Call::OpenWrite { subject, place, .. }
+        | Call::Map { subject, place, .. } => (vec![subject], vec![place], true),
+        _ => (vec![call.numbers()[0]], vec![call.numbers()[1]], false),
+    };
+    if places.iter().any(|&place| place >= PLACES) {
+        return format!("places have the numbers 0 to {}", PLACES - 1);
+    }
+    let taken = steps
+        .iter()
+        .flat_map(|&step| places.iter().map(move |&place| (step, place)))
+        .find_map(|(step, place)| monitor.handle(step, place).map(|handle| (step, place, handle)));
+    match taken {
+        Some((step, place, handle)) if wants_empty => {
+            let what = format!("{} {}", way_word(handle.way), scene.object(handle.object.into()));
+            format!("place {place} of {} is taken, by its handle {what}", scene.step(step))
+        }
+        _ if wants_empty => "reading and writing need two places".to_string(),
+        _ => "that place is empty".to_string(),
+    }
+}

@@ -1,0 +1,227 @@
+//! A moment of a run, and what things are called at it.
+
+use gatekeeper::{Handle, Kind as ObjectKind, Monitor, Way};
+
+use crate::names::{Entry, Kind, Names};
+use crate::run::Step;
+use crate::things::{level, Thing, OBJECTS, STEPS};
+
+/// At which records the things of each number went, so that a name is not taken for that of the next one.
+#[derive(Clone, Debug)]
+pub struct Lives {
+    steps: Vec<Life>,
+    objects: Vec<Life>,
+}
+
+/// The life of a number.
+#[derive(Clone, Copy, Debug, Default)]
+struct Life {
+    /// The record at which its last thing went; 0 where none has.
+    went: u64,
+    /// The record at which the thing before the present one went: a name from then or before is not its.
+    before: u64,
+}
+
+impl Default for Lives {
+    fn default() -> Lives {
+        Lives {
+            steps: vec![Life::default(); STEPS as usize],
+            objects: vec![Life::default(); OBJECTS as usize],
+        }
+    }
+}
+
+impl Lives {
+    /// Takes note of what a record has ended and made.
+    pub fn follow(&mut self, step: &Step) {
+        if step.refusal().is_some() {
+            return;
+        }
+        let note = |life: &mut Life, was: bool, is: bool| match (was, is) {
+            (true, false) => life.went = step.position,
+            (false, true) => life.before = life.went,
+            _ => {}
+        };
+        for s in 0..STEPS {
+            let (was, is) = (step.before.subject(s).is_some(), step.after.subject(s).is_some());
+            note(&mut self.steps[s as usize], was, is);
+        }
+        for o in 0..OBJECTS {
+            let (was, is) = (step.before.object(o).is_some(), step.after.object(o).is_some());
+            note(&mut self.objects[o as usize], was, is);
+        }
+    }
+
+    fn of(&self, thing: Thing) -> Life {
+        let life = match thing {
+            Thing::Step(s) => self.steps.get(s as usize),
+            Thing::Object(o) => self.objects.get(o as usize),
+        };
+        life.copied().unwrap_or_default()
+    }
+}
+
+/// A moment: a monitor, the record that is looked at, and the names.
+#[derive(Clone, Copy)]
+pub struct Scene<'a> {
+    pub monitor: &'a Monitor,
+    pub record: u64,
+    pub names: &'a Names,
+    pub lives: &'a Lives,
+    /// A file or pipe that is called "the file" or "the pipe" here, in words that are for several records at once.
+    pub unnamed: Option<Thing>,
+}
+
+impl<'a> Scene<'a> {
+    /// The same moment with another monitor.
+    pub fn with(self, monitor: &'a Monitor) -> Scene<'a> {
+        Scene { monitor, ..self }
+    }
+
+    /// What a thing is called: its name, or its kind and number.
+    pub fn thing(&self, thing: Thing) -> String {
+        self.name(thing).map_or_else(|| self.number(thing), str::to_string)
+    }
+
+    /// Its name with kind and number behind it, or these alone.
+    pub fn whole(&self, thing: Thing) -> String {
+        match self.name(thing) {
+            Some(name) if self.unnamed == Some(thing) => name.to_string(),
+            Some(name) => format!("{name} ({})", self.number(thing)),
+            None => self.number(thing),
+        }
+    }
+
+    pub fn step(&self, s: u32) -> String {
+        self.thing(Thing::Step(s))
+    }
+
+    pub fn object(&self, o: u32) -> String {
+        self.thing(Thing::Object(o))
+    }
+
+    /// A thing with its level.
+    pub fn leveled(&self, thing: Thing) -> String {
+        match level(self.monitor, thing) {
+            Some(level) => format!("{} (level {level})", self.thing(thing)),
+            None => self.thing(thing),
+        }
+    }
+
+    /// What a thing that a call is to make will be called.
+    pub fn new_thing(&self, kind: Kind, number: u32) -> String {
+        match self.new_name(kind, number) {
+            Some(name) => format!("{name} ({} {number})", kind.word()),
+            None => format!("{} {number}", kind.word()),
+        }
+    }
+
+    /// The name of a thing that a call is to make: one that was given before the last thing of that number went is not
+    /// its.
+    pub fn new_name(&self, kind: Kind, number: u32) -> Option<&'a str> {
+        let thing = match kind {
+            Kind::Step => Thing::Step(number),
+            Kind::File | Kind::Pipe => Thing::Object(number),
+        };
+        let entry = self.names.entry(kind, number, self.record)?;
+        let is_its = level(self.monitor, thing).is_none() && entry.from > self.lives.of(thing).went;
+        is_its.then_some(entry.name.as_str())
+    }
+
+    /// What a file or pipe is called that is not to be named; none where it is not there.
+    pub fn name_of_kind(&self, thing: Thing) -> Option<&'static str> {
+        match thing {
+            Thing::Step(_) => None,
+            Thing::Object(o) => self.monitor.object(o).map(|object| match object.kind {
+                ObjectKind::File => "the file",
+                ObjectKind::Pipe => "the pipe",
+            }),
+        }
+    }
+
+    /// Kind and number of a thing.
+    pub fn number(&self, thing: Thing) -> String {
+        match thing {
+            Thing::Step(s) => format!("step {s}"),
+            Thing::Object(o) => match self.monitor.object(o).map(|object| object.kind) {
+                Some(ObjectKind::File) => format!("file {o}"),
+                Some(ObjectKind::Pipe) => format!("pipe {o}"),
+                None => format!("file or pipe {o}"),
+            },
+        }
+    }
+
+    /// The name of a thing.
+    pub fn name(&self, thing: Thing) -> Option<&'a str> {
+        if self.unnamed == Some(thing) {
+            return self.name_of_kind(thing);
+        }
+        let entry: Option<&Entry> = match thing {
+            Thing::Step(s) => self.names.entry(Kind::Step, s, self.record),
+            Thing::Object(o) => match self.monitor.object(o).map(|object| object.kind) {
+                Some(ObjectKind::File) => self.names.entry(Kind::File, o, self.record),
+                Some(ObjectKind::Pipe) => self.names.entry(Kind::Pipe, o, self.record),
+                None => {
+                    let kind = self.names.object(o, self.record).map(|(kind, _)| kind);
+                    kind.and_then(|kind| self.names.entry(kind, o, self.record))
+                }
+            },
+        };
+        entry.filter(|entry| entry.from > self.lives.of(thing).before).map(|entry| entry.name.as_str())
+    }
+
+    /// What stands at a place of a step.
+    pub fn at_place(&self, s: u32, p: u32) -> String {
+        match self.monitor.handle(s, p) {
+            Some(handle) => format!("its {}", self.handle(handle)),
+            None => "where it has nothing".to_string(),
+        }
+    }
+
+    fn handle(&self, handle: Handle) -> String {
+        let marked = if handle.marked { "marked " } else { "" };
+        let what = match handle.way {
+            Way::Reads => "reading handle on",
+            Way::Writes => "writing handle on",
+            Way::Maps => "mapping of",
+        };
+        format!("{marked}{what} {}", self.leveled(Thing::Object(handle.object.into())))
+    }
+}
+
+/// What a handle does, to stand before its file or pipe.
+pub fn way_word(way: Way) -> &'static str {
+    match way {
+        Way::Reads => "reading",
+        Way::Writes => "writing",
+        Way::Maps => "mapping",
+    }
+}
+
+/// A text as the front of a sentence: with a capital, but that a name stays as it is, an article at its front apart.
+pub fn capital(text: &str) -> String {
+    let words = ["step ", "file ", "pipe ", "file or pipe ", "the ", "a ", "an "];
+    if words.iter().any(|word| text.starts_with(word)) {
+        sentence(text)
+    } else {
+        text.to_string()
+    }
+}
+
+/// A text with a capital at its front.
+pub fn sentence(text: &str) -> String {
+    let mut letters = text.chars();
+    match letters.next() {
+        Some(first) => first.to_uppercase().collect::<String>() + letters.as_str(),
+        None => String::new(),
+    }
+}
+
+/// Words in a row: "a", "a and b", "a, b and c".
+pub fn listed(words: &[String], last: &str) -> String {
+    match words {
+        [] => String::new(),
+        [one] => one.clone(),
+        [first @ .., end] => format!("{} {last} {end}", first.join(", ")),
+    }
+}

@@ -1,0 +1,150 @@
+//! The help texts of the program. Every example is typed in the repository's folder, where the program is `tools/gk`.
+
+/// For `gk help`; COMMANDS stands for a line for each command.
+pub const WHOLE: &str = "\
+gk - the pay-run gatekeeper's command for people
+
+Usage: gk COMMAND [OPTIONS] [FILE]
+
+COMMANDS
+  help         this page, or that of one command: gk help explain
+
+Other pages: gk help names (names for steps, files and pipes)
+
+A first try:
+  printf 'admit 0 9\\nregister 1 2\\nopen-read 0 1 0\\nread 0 0\\n' | tools/gk assemble | tools/gk run
+  tools/gk explain --refused crates/payrun/stdin
+
+FILE is read from standard input if it is - or not given. With -o FILE the output goes to a file, which is
+written whole or not at all; -o - is standard output. gk --version has the version of the gatekeeper that
+gives the answers.
+Exit status: 0 if all went well, whatever the replies; 1 for a bad text, a failed read or write, or a
+standard output that is closed; 2 for a bad command line; 141, without a word, where the reader of the
+output has stopped. In the repository's folder gk is tools/gk, which builds it first.
+";
+
+/// Pages that are no command's.
+pub const TOPICS: &[(&str, &str)] = &[("names", NAMES)];
+
+pub const RUN: &str = "\
+gk run - the replies to a journal, by the proved gatekeeper
+
+Usage: gk run [-o FILE] [FILE]
+
+One line for each record: its position, its code, A (allowed), L (lowered) or R (refused), and the level
+or the refusal number. The last line has the handles made, gone and open.
+
+  -o FILE  write to this file
+
+Example: a step of level 9 opens a sheet of level 2, reads it and falls
+  printf '\\003\\002\\000\\002\\003\\001\\000\\011\\004\\005\\000\\000\\000\\003\\007\\000\\000' | tools/gk run
+    1 2 A 2
+    2 1 A 9
+    3 5 A 2
+    4 7 L 2
+    end 1 0 1
+";
+
+pub const EXPLAIN: &str = "\
+gk explain - the replies to a journal in plain words
+
+Usage: gk explain [--refused] [--json] [--names FILE] [-o FILE] [FILE]
+       gk explain --summary [--names FILE] [-o FILE] [FILE]
+
+Says who asked what and what was answered; for a refusal, what did not happen, why, and what can be done.
+Every answer is the proved gatekeeper's. What to do is not proved, but tried: the calls that are advised
+were made on a copy of the tables as they were before the record, and were allowed there. For refusal 9 it
+shows a chain that data could have taken from a low thing to a higher file, which is not proved either.
+
+  --refused     only the records that were refused, those that are alike in one paragraph, and the end
+  --summary     for each step its levels over time, what it held, and what it was refused
+  --json        an object a line: one for each record, and a last one for the end (docs/JSON.md)
+  --names FILE  the names of steps, files and pipes; else run.names beside run.journal, if it is there
+  -o FILE       write to this file
+
+Examples: the pay run of March; its refusals; who held what; the refusals for another program
+  tools/gk explain crates/payrun/stdin
+  tools/gk explain --refused crates/payrun/stdin
+  tools/gk explain --summary crates/payrun/stdin
+  tools/gk explain --refused --json crates/payrun/stdin
+";
+
+pub const ASSEMBLE: &str = "\
+gk assemble - from words to a journal
+
+Usage: gk assemble [--names FILE] [-o FILE] [FILE]
+
+One call a line; # starts a comment. The calls and their numbers:
+  admit s level       register o level     create s o         pipe s o r w
+  open-read s o p     open-write s o p     read s p           write s p
+  fork s c            exec s o             close s p          exit s
+  retire o            map s o p            mark s p           freeze level
+  connect s t a b p q
+s and c are steps, and so is t; o is a file or pipe, a and b are new pipes; p, q, r and w are places. A file that
+is mapped is read at that moment and after each write to it. A mapping, and a handle that is marked, is closed by
+its step's next exec. `freeze 9` closes the books from level 9 up, `freeze 16` opens them again. A connect makes
+pipe a from s to t and pipe b from t to s; each step reads at p and writes at q. For a record with any code and any
+numbers write `call 77 1 2`, for any bytes `bytes 80 00` (hex). A journal above 65,536 bytes is written, and
+standard error says that it will be refused.
+
+Names: `name step 17 merge`, and from the next line on merge stands for step 17. See: gk help names
+
+  -o FILE       write the journal to this file, and the names beside it: run.journal, run.names
+  --names FILE  write the names to this file
+
+Examples: a step of level 9 reads a sheet of level 2; the pay run of March, with names
+  printf 'admit 0 9\\nregister 1 2\\nopen-read 0 1 0\\nread 0 0\\n' | tools/gk assemble -o sheet.journal
+  tools/gk explain sheet.journal
+  tools/gk assemble gk/examples/march.txt -o march.journal
+  tools/gk explain march.journal
+";
+
+pub const DISASSEMBLE: &str = "\
+gk disassemble - from a journal to words
+
+Usage: gk disassemble [--names FILE] [-o FILE] [FILE]
+
+Every byte is accounted for: what it writes, assembled again, gives the same bytes for every journal. What
+is malformed stands as `bytes` or `call`, with a comment that says why. Of a journal above 65,536 bytes the
+first 65,537 are read.
+
+  --names FILE  the names of steps, files and pipes; else run.names beside run.journal, if it is there
+  -o FILE       write to this file
+
+Example:
+  printf '\\003\\001\\000\\011\\200\\000' | tools/gk disassemble
+    admit 0 9
+    bytes 80 00              # refusal 11: the length is longer than it need be; the run stops here
+";
+
+pub const NAMES: &str = "\
+Names for steps, files and pipes
+
+A journal has numbers alone. In a text for gk assemble a line gives a thing a name,
+  name step 17 merge
+  name file 1 \"the hours sheet of shop 3\"
+  name pipe 37 \"pay to health insurance\"
+and from the next line on the name may stand where its number would:
+  open-read merge \"the hours sheet of shop 3\" 5
+A name that starts with a letter and has no space needs no quotes. Texts without names are as they were.
+
+A name has 1 to 60 letters, digits, spaces and - _ . / + ' & @ %, with at least one letter. It has no space
+at its start or end, not two spaces in a row, no dot before a space or at its end, and none of the words
+step, file, pipe, place, level and record before a number.
+
+Numbers are used again, so a name holds from a record on: the first one behind its line. It holds until the
+number gets another name, or the name another number. Where a step exits, a file is retired or a pipe ends,
+and the number is used again, gk explain does not take the old name for the new thing.
+
+The names stand in a file beside the journal, run.names beside run.journal, which explain and disassemble
+find there; --names FILE names another one. Its first line is `names 1`. Each other line is empty, a comment
+that starts with #, or a kind, a number, the first record and the name, with one space between two of them:
+  names 1
+  step 17 1 merge
+  file 1 1 the hours sheet of shop 3
+  step 1 204 sheet reader
+
+Example:
+  tools/gk assemble gk/examples/march.txt -o march.journal
+  tools/gk explain --refused march.journal
+";

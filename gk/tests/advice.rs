@@ -1,0 +1,266 @@
+//! Advice never lies: everything that is advised for the refusals of the stored journals is done, on a monitor that was
+//! led there by the journal's own calls, and must be allowed; and what is said not to help must not help.
+
+mod common;
+
+use common::journals;
+use gatekeeper::{Answer, Call, Monitor, Refusal};
+use gk::advice::Advice;
+use gk::calls::with_number;
+use gk::explain::{tell, Told, Which};
+use gk::names::Names;
+use gk::records::{Body, Records};
+use gk::run::Content;
+use gk::things::{handles, handles_on, is_file, is_pipe, Held, Thing};
+
+/// A refusal of a stored journal, with the monitor before it.
+struct Case {
+    journal: String,
+    told: Told,
+    call: Call,
+    refusal: Refusal,
+    monitor: Monitor,
+}
+
+/// Every call of the stored journals that was refused.
+fn cases() -> Vec<Case> {
+    let mut cases = Vec::new();
+    for (name, journal) in journals() {
+        let mut monitor = Monitor::new();
+        let mut done = 0;
+        let mut records = Records::new(&journal);
+        let told = |told: Told| {
+            // Up to the record before it, each call is made once more.
+            while done + 1 < told.step.position {
+                if let Some(Ok(record)) = records.next() {
+                    if let Body::Call(call) = record.body {
+                        let _ = monitor.call(call);
+                    }
+                }
+                done += 1;
+            }
+            if let (Content::Call(call), Some(refusal)) = (told.step.content, told.step.refusal()) {
+                assert_eq!(monitor, told.step.before);
+                cases.push(Case { journal: name.clone(), told, call, refusal, monitor: monitor.clone() });
+            }
+        };
+        tell(&journal, &Names::new(), Which::Refused, told).unwrap();
+    }
+    cases
+}
+
+/// The monitor after some calls; none where one of them is refused.
+fn after(monitor: &Monitor, calls: &[Call]) -> Option<Monitor> {
+    let mut copy = monitor.clone();
+    calls.iter().all(|&call| copy.call(call).granted().is_ok()).then_some(copy)
+}
+
+fn closed(monitor: &Monitor, handles: &[Held]) -> Monitor {
+    let closes: Vec<Call> =
+        handles.iter().map(|held| Call::Close { subject: held.step, place: held.place }).collect();
+    after(monitor, &closes).unwrap()
+}
+
+/// The closes that an advice begins with, and what comes after them.
+fn closes_of(advice: &Advice) -> (&[Call], &[Call]) {
+    let count = advice.calls.iter().take_while(|call| matches!(call, Call::Close { .. })).count();
+    advice.calls.split_at(count)
+}
+
+#[test]
+fn every_advice_holds() {
+    let mut tried = [0; 17];
+    for case in cases() {
+        let Case { told, monitor, refusal, .. } = &case;
+        let at = format!("{}, record {}", case.journal, told.step.position);
+        assert!(!(told.counsel.ways.is_empty() && told.counsel.notes.is_empty()), "{at}: {}", told.text());
+        for advice in &told.counsel.ways {
+            assert!(!advice.calls.is_empty(), "{at}: {}", advice.text);
+            assert!(after(monitor, &advice.calls).is_some(), "{at}: {}", told.text());
+            tried[refusal.number() as usize] += 1;
+        }
+    }
+    for (number, least) in
+        [(2, 50), (3, 20), (4, 20), (5, 5), (6, 5), (7, 50), (8, 5), (9, 100), (10, 20), (15, 5), (16, 3)]
+    {
+        assert!(tried[number] >= least, "only {} advices for refusal {number}", tried[number]);
+    }
+}
+
+/// The number behind these words of a note.
+fn behind(note: &str, words: &str) -> Option<u32> {
+    let (_, rest) = note.split_once(words)?;
+    rest.split(|character: char| !character.is_ascii_digit()).next()?.parse().ok()
+}
+
+/// What is said to be refused in another way, at another place or with another number, is refused so.
+#[test]
+fn what_a_note_says_to_be_refused_is_refused() {
+    let mut tried = [0; 4];
+    for case in cases() {
+        for note in &case.told.counsel.notes {
+            let at = format!("{}, record {}: {note}", case.journal, case.told.step.position);
+            let Some(number) = behind(note, "it would be refused with ") else {
+                continue;
+            };
+            let refused = Answer::Refused(Refusal::from_number(number).unwrap());
+            let mut copy = case.monitor.clone();
+            let other = |name: &str, words: &str| {
+                behind(note, words).map(|other| with_number(case.call, name, other))
+            };
+            let (kind, call) = if note.starts_with("At an empty place") {
+                (0, other("p", "for example ").unwrap())
+            } else if note.starts_with("With a free number") {
+                let name = if matches!(case.call, Call::Fork { .. }) { "c" } else { "o" };
+                (1, other(name, "for example ").unwrap())
+            } else if note.starts_with("With step ") {
+                let subject = behind(note, "With step ").unwrap();
+                copy.admit(subject, 15).granted().unwrap();
+                (2, case.call)
+            } else if note.starts_with("With a file ") {
+                copy.register(behind(note, "With a file ").unwrap(), 15).granted().unwrap();
+                (3, case.call)
+            } else {
+                continue;
+            };
+            if note.contains(" and step ") {
+                continue;
+            }
+            assert_eq!(copy.call(call), refused, "{at}");
+            tried[kind] += 1;
+        }
+    }
+    assert!(tried.iter().all(|&count| count > 0), "{tried:?}");
+}
+
+#[test]
+fn a_9_has_a_whole_set_of_closes_or_is_said_to_have_none() {
+    let (mut with, mut without) = (0, 0);
+    for case in cases().into_iter().filter(|case| case.refusal == Refusal::Flow) {
+        let at = format!("{}, record {}: {}", case.journal, case.told.step.position, case.told.text());
+        let says_none =
+            case.told.counsel.notes.iter().any(|note| note.starts_with("No closing of handles helps"));
+        let first = case.told.counsel.ways.iter().find(|way| way.text.starts_with("close "));
+        match first {
+            Some(advice) => {
+                assert!(!says_none, "{at}");
+                with += 1;
+                let (closes, rest) = closes_of(advice);
+                // With one close fewer it is refused still.
+                for left_out in 0..closes.len() {
+                    let mut fewer = closes.to_vec();
+                    fewer.remove(left_out);
+                    assert!(after(&case.monitor, &[&fewer, rest].concat()).is_none(), "{at}");
+                }
+            }
+            None => {
+                assert!(says_none, "{at}");
+                without += 1;
+                nothing_helps(&case, &at);
+            }
+        }
+    }
+    assert!(with >= 100 && without >= 5, "{with} with closes, {without} without");
+}
+
+/// Closing everything, but for one handle on a pipe that is to be opened, does not help; so no closing does.
+fn nothing_helps(case: &Case, at: &str) {
+    let all: Vec<Held> = handles(&case.monitor).collect();
+    let kept: Vec<Option<Held>> = match case.call {
+        Call::OpenRead { object, .. } | Call::OpenWrite { object, .. }
+            if is_pipe(&case.monitor, object) =>
+        {
+            handles_on(&case.monitor, object).map(Some).collect()
+        }
+        _ => vec![None],
+    };
+    for kept in kept {
+        let set: Vec<Held> = all.iter().copied().filter(|held| Some(*held) != kept).collect();
+        let answer = closed(&case.monitor, &set).call(case.call);
+        assert_eq!(answer, Answer::Refused(Refusal::Flow), "{at}");
+    }
+}
+
+/// A close of another's handle counts more than all of the caller's; what is advised is as cheap as can be.
+#[test]
+fn no_cheaper_set_of_closes_is_enough() {
+    let mut compared = 0;
+    for case in cases().into_iter().filter(|case| case.refusal == Refusal::Flow) {
+        let Some(advice) = case.told.counsel.ways.iter().find(|way| way.text.starts_with("close ")) else {
+            continue;
+        };
+        let caller = case.call.numbers()[0];
+        let cost = |step: u32| if step == caller { 1 } else { 32 };
+        let (closes, rest) = closes_of(advice);
+        let given: u32 = closes.iter().map(|call| cost(call.numbers()[0])).sum();
+        let all: Vec<Held> = handles(&case.monitor).collect();
+        let mut sets: Vec<Vec<Held>> = all.iter().map(|&held| vec![held]).collect();
+        for (index, &one) in all.iter().enumerate() {
+            sets.extend(all[..index].iter().map(|&other| vec![one, other]));
+        }
+        for set in sets {
+            if set.iter().map(|held| cost(held.step)).sum::<u32>() < given {
+                let is_enough = after(&closed(&case.monitor, &set), rest).is_some();
+                assert!(!is_enough, "{}: {set:?} is cheaper than {}", case.journal, advice.text);
+                compared += 1;
+            }
+        }
+    }
+    assert!(compared >= 1000, "only {compared} sets were compared");
+}
+
+#[test]
+fn the_chain_of_a_9_is_one() {
+    let mut seen = 0;
+    for case in cases().into_iter().filter(|case| case.refusal == Refusal::Flow) {
+        let at = format!("{}, record {}: {}", case.journal, case.told.step.position, case.told.text());
+        let chain: Vec<_> = case.told.chain.iter().map(|(link, _)| *link).collect();
+        let (low, high) = (chain.first().unwrap(), chain.last().unwrap());
+        assert!(low.level < high.level, "{at}");
+        assert!(matches!(high.thing, Thing::Object(o) if is_file(&case.monitor, o)), "{at}");
+        for pair in chain.windows(2) {
+            let flow = (pair[0].thing, pair[1].thing);
+            let is_held = handles(&case.monitor).any(|held| held.flow() == flow);
+            assert!(is_held || is_sought(case.call, flow), "{at}");
+        }
+        seen += 1;
+    }
+    assert!(seen >= 100, "{seen}");
+}
+
+fn is_sought(call: Call, flow: (Thing, Thing)) -> bool {
+    let (step, object) = (Thing::Step, Thing::Object);
+    match call {
+        Call::OpenRead { subject, object: o, .. }
+        | Call::Map { subject, object: o, .. }
+        | Call::Exec { subject, object: o } => flow == (object(o), step(subject)),
+        Call::OpenWrite { subject, object: o, .. } => flow == (step(subject), object(o)),
+        Call::Connect { subject, peer, to, from, .. } => [
+            (step(subject), object(to)),
+            (object(to), step(peer)),
+            (step(peer), object(from)),
+            (object(from), step(subject)),
+        ]
+        .contains(&flow),
+        _ => false,
+    }
+}
+
+/// The marks that an exec's 9 is answered with are enough, and each of them is needed.
+#[test]
+fn the_marks_that_are_advised_are_needed() {
+    let mut tried = 0;
+    for case in cases() {
+        for advice in case.told.counsel.ways.iter().filter(|way| way.text.contains(" mark ")) {
+            let (exec, marks) = advice.calls.split_last().unwrap();
+            for left_out in 0..marks.len() {
+                let mut fewer = marks.to_vec();
+                fewer.remove(left_out);
+                fewer.push(*exec);
+                assert!(after(&case.monitor, &fewer).is_none(), "{}: {}", case.journal, advice.text);
+            }
+            tried += 1;
+        }
+    }
+    assert!(tried >= 5, "{tried}");
+}

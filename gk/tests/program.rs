@@ -1,0 +1,348 @@
+//! The program from outside: help, exit statuses, reading and writing.
+
+mod common;
+
+use std::fs;
+use std::io::Read;
+use std::process::{Command, Stdio};
+
+use common::{err, gk, journals, out, Folder, ROOT};
+use gk::{cli, help};
+
+const MARCH: &str = "crates/payrun/stdin";
+const COMMANDS: [&str; 4] = ["run", "explain", "assemble", "disassemble"];
+
+#[test]
+fn help_teaches_with_an_example() {
+    for arguments in [vec!["--help"], vec!["help"], vec!["-h"], vec!["help", "help"]] {
+        let output = gk(&arguments, b"");
+        assert_eq!((output.status.code(), out(&output)), (Some(0), cli::whole_help()));
+    }
+    let helps = cli::helps();
+    assert_eq!(helps.iter().map(|(word, _)| *word).collect::<Vec<&str>>(), COMMANDS);
+    for (command, text) in helps {
+        assert!(cli::whole_help().contains(&format!("  {command} ")), "{command}");
+        assert!(text.contains("Example"), "{command}");
+        assert!(text.starts_with(&format!("gk {command} - ")), "{command}");
+        for arguments in [vec![command, "--help"], vec!["help", command], vec![command, "-h"]] {
+            let output = gk(&arguments, b"");
+            assert_eq!((output.status.code(), out(&output)), (Some(0), text.to_string()));
+        }
+    }
+    assert_eq!(out(&gk(&["help", "names"], b"")), help::NAMES);
+}
+
+#[test]
+fn the_version_is_that_of_the_gatekeeper() {
+    let manifest = fs::read_to_string(format!("{ROOT}/host/rust/Cargo.toml")).unwrap();
+    let version = manifest.lines().find_map(|line| line.strip_prefix("version = ")).unwrap();
+    assert_eq!(out(&gk(&["--version"], b"")), format!("gk {}\n", version.trim_matches('"')));
+}
+
+/// The examples in the help texts do what they say, typed in a folder like the repository's.
+#[test]
+fn the_examples_of_the_help_run() {
+    let folder = Folder::new("examples");
+    fs::create_dir(folder.0.join("tools")).unwrap();
+    std::os::unix::fs::symlink(env!("CARGO_BIN_EXE_gk"), folder.0.join("tools/gk")).unwrap();
+    for name in ["crates", "gk"] {
+        std::os::unix::fs::symlink(format!("{ROOT}/{name}"), folder.0.join(name)).unwrap();
+    }
+    let mut tried = 0;
+    let whole = cli::whole_help();
+    let topics = help::TOPICS.iter().copied();
+    for (page, text) in cli::helps().into_iter().chain(topics).chain([("help", whole.as_str())]) {
+        let mut lines = text.lines().peekable();
+        while let Some(line) = lines.next() {
+            if !line.starts_with("  ") || !line.contains("tools/gk ") || line.contains("which builds it") {
+                continue;
+            }
+            let output = Command::new("bash")
+                .args(["-c", &format!("set -o pipefail; {line}")])
+                .current_dir(&folder.0)
+                .stdin(Stdio::null())
+                .output()
+                .unwrap();
+            assert_eq!(output.status.code(), Some(0), "{page}: {line}\n{}", err(&output));
+            // What stands below an example, indented further, is what it writes.
+            let mut shown = String::new();
+            while let Some(below) = lines.next_if(|below| below.starts_with("    ")) {
+                shown.push_str(&format!("{}\n", &below[4..]));
+            }
+            assert!(shown.is_empty() || shown == out(&output), "{page}: {line}\n{}", out(&output));
+            assert!(line.contains(" -o ") || !output.stdout.is_empty(), "{page}: {line}");
+            tried += 1;
+        }
+    }
+    assert!(tried >= 14, "only {tried} examples were found");
+    assert!(folder.files().contains(&"march.names".to_string()));
+}
+
+#[test]
+fn a_bad_command_line_has_status_2() {
+    let wrong: &[(&[&str], &str)] = &[
+        (&[], "expected a command"),
+        (&["payroll"], "There are: run, explain"),
+        (&["EXPLAIN"], "Did you mean: explain"),
+        (&["exlain"], "Did you mean: explain"),
+        (&["help", "payroll"], "there is no help on"),
+        (&["help", "name"], "Did you mean: names"),
+        (&["help", "run", "explain"], "found \"explain\" as well"),
+        (&["explain", "--refuse"], "Did you mean: --refused"),
+        (&["explain", "--summry"], "Did you mean: --summary"),
+        (&["explain", "--summary", "--json"], "--summary stands alone"),
+        (&["explain", "--summary", "--refused"], "--summary stands alone"),
+        (&["explain", "--names"], "--names needs a file"),
+        (&["run", "-o"], "-o needs a file"),
+        (&["run", "-o", "/dev/null", "-o", "/dev/null"], "-o is given twice"),
+        (&["run", "--names", "x"], "Its options are: -o"),
+        (&["run", "one", "two"], "found \"two\" as well"),
+        (&["assemble", "-o", "run.names", "/dev/null"], "need two files"),
+        (&["disassemble", "--json"], "there is no option \"--json\""),
+    ];
+    for (arguments, words) in wrong {
+        let output = gk(arguments, b"");
+        assert_eq!(output.status.code(), Some(2), "{arguments:?}");
+        assert!(
+            err(&output).starts_with("gk: ") && err(&output).contains(words),
+            "{arguments:?}: {}",
+            err(&output)
+        );
+        assert!(output.stdout.is_empty(), "{arguments:?}");
+    }
+}
+
+#[test]
+fn a_failed_read_has_status_1() {
+    for command in COMMANDS {
+        for (file, words) in
+            [("no/such/file", "cannot read no/such/file"), ("crates", "cannot read crates: it is a folder")]
+        {
+            let output = gk(&[command, file], b"");
+            assert_eq!(output.status.code(), Some(1), "{command}");
+            assert!(err(&output).contains(words), "{command}: {}", err(&output));
+        }
+    }
+    for (names, words) in
+        [("no/such/file", "No such file"), ("crates", "it is a folder"), ("README.md", "line 1")]
+    {
+        let output = gk(&["explain", "--names", names, MARCH], b"");
+        assert_eq!((output.status.code(), out(&output)), (Some(1), String::new()), "{names}");
+        assert!(err(&output).contains(words), "{}", err(&output));
+    }
+}
+
+#[test]
+fn standard_input_is_read_for_a_dash_or_no_file() {
+    let journal = fs::read(format!("{ROOT}/{MARCH}")).unwrap();
+    for command in ["run", "explain", "disassemble"] {
+        let of_file = gk(&[command, MARCH], b"");
+        for arguments in [vec![command], vec![command, "-"]] {
+            assert_eq!(gk(&arguments, &journal).stdout, of_file.stdout);
+        }
+    }
+    assert_eq!(gk(&["assemble", "-"], b"admit 0 9").stdout, [3, 1, 0, 9]);
+    assert_eq!(gk(&["assemble", "-", "-o", "-"], b"admit 0 9").stdout, [3, 1, 0, 9]);
+}
+
+#[test]
+fn a_file_behind_o_is_written_whole_or_not_at_all() {
+    let folder = Folder::new("whole");
+    let file = folder.path("replies");
+    let output = gk(&["run", MARCH, "-o", &file], b"");
+    assert_eq!((output.status.code(), out(&output), err(&output)), (Some(0), String::new(), String::new()));
+    assert_eq!(fs::read_to_string(&file).unwrap(), out(&gk(&["run", MARCH], b"")));
+    assert_eq!(folder.files(), ["replies"]);
+
+    // What was there stays where the work fails, and nothing else is left.
+    fs::write(&file, "as it was").unwrap();
+    assert_eq!(gk(&["assemble", "-o", &file], b"payroll").status.code(), Some(1));
+    assert_eq!(fs::read_to_string(&file).unwrap(), "as it was");
+    let output = gk(&["run", MARCH, "-o", &folder.path("no/such/file")], b"");
+    assert_eq!(output.status.code(), Some(1));
+    assert!(err(&output).contains("cannot write"), "{}", err(&output));
+    let output = gk(&["run", MARCH, "-o", &folder.path("")], b"");
+    assert_eq!(output.status.code(), Some(1));
+    assert!(err(&output).contains("it is a folder"), "{}", err(&output));
+    assert_eq!(folder.files(), ["replies"]);
+
+    // A link stays one, and a device is written to.
+    std::os::unix::fs::symlink(&file, folder.path("link")).unwrap();
+    assert_eq!(gk(&["run", MARCH, "-o", &folder.path("link")], b"").status.code(), Some(0));
+    assert!(fs::symlink_metadata(folder.path("link")).unwrap().is_symlink());
+    assert_eq!(fs::read_to_string(&file).unwrap().lines().last(), Some("end 157 157 0"));
+    assert_eq!(gk(&["run", MARCH, "-o", "/dev/null"], b"").status.code(), Some(0));
+    let output = gk(&["run", MARCH, "-o", "/dev/full"], b"");
+    assert_eq!(output.status.code(), Some(1));
+    assert!(err(&output).contains("cannot write /dev/full"), "{}", err(&output));
+}
+
+#[test]
+fn a_closed_or_full_output_has_status_1() {
+    for command in ["run", "explain", "help"] {
+        let line = format!("{} {command} {MARCH} >&-", env!("CARGO_BIN_EXE_gk"));
+        let line = if command == "help" { line.replace(MARCH, "") } else { line };
+        let output = Command::new("bash").args(["-c", &line]).current_dir(ROOT).output().unwrap();
+        assert_eq!(output.status.code(), Some(1), "{command}");
+        assert!(err(&output).contains("standard output is closed"), "{}", err(&output));
+    }
+    let output = Command::new(env!("CARGO_BIN_EXE_gk"))
+        .args(["run", MARCH])
+        .current_dir(ROOT)
+        .stdout(fs::File::create("/dev/full").unwrap())
+        .output()
+        .unwrap();
+    assert_eq!(output.status.code(), Some(1));
+    assert!(err(&output).contains("cannot write standard output"), "{}", err(&output));
+    // Into nothing is no fault.
+    for nothing in ["> /dev/null", "<> /dev/null >&0"] {
+        let line = format!("{} run {MARCH} {nothing}", env!("CARGO_BIN_EXE_gk"));
+        let output = Command::new("bash").args(["-c", &line]).current_dir(ROOT).output().unwrap();
+        assert_eq!((output.status.code(), err(&output)), (Some(0), String::new()));
+    }
+}
+
+#[test]
+fn a_reader_that_stops_ends_the_program_without_a_word() {
+    let mut child = Command::new(env!("CARGO_BIN_EXE_gk"))
+        .args(["explain", MARCH])
+        .current_dir(ROOT)
+        .stdin(Stdio::null())
+        .stdout(Stdio::piped())
+        .stderr(Stdio::piped())
+        .spawn()
+        .unwrap();
+    drop(child.stdout.take());
+    let mut message = String::new();
+    child.stderr.take().unwrap().read_to_string(&mut message).unwrap();
+    assert_eq!((child.wait().unwrap().code(), message), (Some(141), String::new()));
+    let line = format!("{} explain {MARCH} | head -n 1", env!("CARGO_BIN_EXE_gk"));
+    let output = Command::new("bash").args(["-c", &line]).current_dir(ROOT).output().unwrap();
+    assert_eq!(err(&output), "");
+}
+
+#[test]
+fn what_is_foreign_is_shown_escaped_and_cut() {
+    let long = "x".repeat(1 << 20);
+    let word = "x".repeat(1 << 16);
+    let wrong: &[(&[&str], &[u8])] = &[
+        (&["assemble"], b"\x1b]0;title\x07 0 9"),
+        (&["assemble"], b"admit \x1b[2J 9"),
+        (&["assemble"], b"admit 0 9 # \x1b[2J\x9b\xff"),
+        (&["assemble"], b"name step 0 \"\x1b[2J\""),
+        (&["assemble"], b"name step 0 \x1b[2J"),
+        (&["assemble"], b"name \x1b[2J 0 a"),
+        (&["assemble"], b"admit 0 \"\x1b[2J"),
+        (&["assemble"], long.as_bytes()),
+        (&["\x1b[2J"], b""),
+        (&["help", "\x1b[2J"], b""),
+        (&["explain", "--\x1b[2J"], b""),
+        (&["explain", "no/such/\x1b[2J"], b""),
+        (&["explain", "--names", "no/such/\x1b[2J"], b""),
+        (&["run", "-o", "no/such/\x1b[2J"], b""),
+        (&[&word], b""),
+    ];
+    for (arguments, input) in wrong {
+        let output = gk(arguments, input);
+        assert_ne!(output.status.code(), Some(0), "{arguments:?}");
+        let message = err(&output);
+        assert!(message.chars().all(|letter| letter == '\n' || !letter.is_control()), "{message:?}");
+        assert!(message.len() < 1000, "{arguments:?}");
+    }
+}
+
+#[test]
+fn input_without_end_is_not_read_to_its_end() {
+    for (command, status, words) in [
+        ("run", 0, "1 0 R 14\nend 0 0 0\n"),
+        ("explain", 0, "The journal is refused (14)"),
+        ("disassemble", 0, "# refusal 14: the journal is longer than 65536 bytes"),
+        ("assemble", 1, ""),
+    ] {
+        let output = gk(&[command, "/dev/zero"], b"");
+        assert_eq!(output.status.code(), Some(status), "{command}");
+        assert!(out(&output).starts_with(words), "{command}");
+        assert_eq!(err(&output).is_empty(), command == "run", "{command}");
+    }
+    let output = gk(&["explain", "--names", "/dev/zero", MARCH], b"");
+    assert_eq!(output.status.code(), Some(1));
+}
+
+#[test]
+fn a_text_in_the_place_of_a_journal_is_answered_with_a_word() {
+    let texts: [&[u8]; 2] = [b"admit 0 9\n", b"\xef\xbb\xbfadmit"];
+    let journals: [&[u8]; 2] = [b"\x03\x01\x00\x09", b""];
+    for command in ["run", "explain", "disassemble"] {
+        for (bytes, is_said) in
+            texts.map(|text| (text, true)).into_iter().chain(journals.map(|bytes| (bytes, false)))
+        {
+            let output = gk(&[command], bytes);
+            assert_eq!(output.status.code(), Some(0), "{command}");
+            assert_eq!(err(&output).contains("looks like a text"), is_said, "{command}: {}", err(&output));
+        }
+    }
+}
+
+#[test]
+fn behind_two_dashes_stands_a_file() {
+    for command in COMMANDS {
+        let output = gk(&[command, "-x"], b"");
+        assert_eq!(output.status.code(), Some(2), "{command}");
+        assert!(err(&output).contains("there is no option \"-x\""), "{command}");
+        let output = gk(&[command, "--", "-x"], b"");
+        assert_eq!(output.status.code(), Some(1), "{command}");
+        assert!(err(&output).contains("cannot read -x"), "{command}");
+    }
+}
+
+/// In a pipe the names file is not there yet when the second program starts.
+#[test]
+fn a_trace_is_explained_from_a_pipe_with_its_names() {
+    let folder = Folder::new("traced");
+    let program = env!("CARGO_BIN_EXE_gk");
+    let runs = format!("{ROOT}/gk/trace/tests/runs");
+    for (command, most) in [("explain --refused", 40), ("disassemble", 300)] {
+        let names = folder.path(&format!("{}.names", command.len()));
+        let trace =
+            format!("trace '{runs}/pay.trace' --quiet --levels '{runs}/pay.levels' --names '{names}'");
+        let line =
+            format!("set -o pipefail; '{program}' {trace} | '{program}' {command} --names '{names}' -");
+        let output = Command::new("bash").args(["-c", &line]).stdin(Stdio::null()).output().unwrap();
+        assert_eq!(output.status.code(), Some(0), "{}", err(&output));
+        assert!(out(&output).contains("paybook.csv"), "{}", out(&output));
+        // Thirty refusals that are alike are a page and no more.
+        assert!(out(&output).lines().count() <= most, "{}", out(&output));
+    }
+}
+
+#[test]
+fn every_stored_journal_is_answered_as_the_proved_run_of_it() {
+    for (name, journal) in journals() {
+        let replies = gatekeeper::replay(&journal);
+        assert_eq!(out(&gk(&["run"], &journal)), replies, "{name}");
+        for arguments in [vec!["explain"], vec!["explain", "--summary"], vec!["explain", "--json"]] {
+            let output = gk(&arguments, &journal);
+            assert_eq!((output.status.code(), err(&output)), (Some(0), String::new()), "{name}");
+        }
+        // A record a line in JSON, with the same outcome.
+        let lines = out(&gk(&["explain", "--json"], &journal));
+        assert_eq!(lines.lines().count(), replies.lines().count(), "{name}");
+        for (line, reply) in lines.lines().zip(replies.lines()) {
+            let parts: Vec<&str> = reply.split(' ').collect();
+            let start = match parts[..] {
+                ["end", ..] => "{\"end\":{".to_string(),
+                [position, code, "R", number] => {
+                    format!("{{\"record\":{position},\"code\":{code},\"outcome\":\"refused\",\"refusal\":{number},")
+                }
+                [position, code, letter, level] => {
+                    let outcome = if letter == "L" { "lowered" } else { "allowed" };
+                    format!("{{\"record\":{position},\"code\":{code},\"outcome\":\"{outcome}\",\"level\":{level},")
+                }
+                _ => unreachable!("{reply}"),
+            };
+            assert!(line.starts_with(&start), "{name}: {line}");
+        }
+        let refused = out(&gk(&["explain", "--json", "--refused"], &journal));
+        assert_eq!(refused.lines().count(), replies.matches(" R ").count() + 1, "{name}");
+    }
+}

@@ -1,0 +1,280 @@
+//! Journals as text, both ways, and the names that a text gives.
+
+mod common;
+
+use std::fs;
+
+use common::{err, gk, journals, out, sees, Folder, ROOT};
+use gk::assembly::assemble;
+use gk::disassembly::disassemble;
+use gk::names::{Kind, Name, Names};
+
+fn wrong(text: &str) -> (usize, usize, String) {
+    let fault = assemble(text.as_bytes()).unwrap_err();
+    let message = format!("{}. {}", fault.expected, fault.advice);
+    (fault.line, fault.column, message)
+}
+
+#[test]
+fn words_become_records() {
+    let text = "# a comment\nregister 0 2\n\nadmit 0 9 # a step\r\nopen-read 0 0 0\n  read 0 0";
+    let assembled = assemble(text.as_bytes()).unwrap();
+    assert_eq!(assembled.journal, [3, 2, 0, 2, 3, 1, 0, 9, 4, 5, 0, 0, 0, 3, 7, 0, 0]);
+    assert!(assembled.names.is_empty());
+    let bytes = |text: &str| assemble(text.as_bytes()).unwrap().journal;
+    assert_eq!(bytes("call 77 1 2"), [3, 77, 1, 2]);
+    assert_eq!(bytes("call 300"), [2, 0xac, 0x02]);
+    assert_eq!(bytes("call 12 0 5"), [3, 12, 0, 5]);
+    assert_eq!(bytes("bytes 80 00 aBcD"), [0x80, 0, 0xab, 0xcd]);
+    assert_eq!(bytes(""), []);
+    assert_eq!(bytes("exit 4294967295").len(), 7);
+    assert_eq!(bytes("\u{feff}admit 0 9\r\n"), [3, 1, 0, 9]);
+    assert_eq!(bytes("connect 0 1 5 6 0 1"), [7, 17, 0, 1, 5, 6, 0, 1]);
+}
+
+#[test]
+fn what_is_wrong_is_named_with_its_place() {
+    for (text, line, column, words) in [
+        ("admit 0 9\n  opne-read 0 1 2", 2, 3, "Did you mean: open-read"),
+        ("ADMIT 0 9", 1, 1, "Did you mean: admit"),
+        ("open 0 9 1", 1, 1, "Did you mean: open-read or open-write"),
+        ("payroll", 1, 1, "The words are: admit, register"),
+        ("\"admit\" 0 9", 1, 1, "expected a call's word"),
+        ("\u{feff}admit x 9", 1, 7, "or the name of a step"),
+        ("admit 0", 1, 8, "expected the number level, found the end of the line"),
+        ("admit", 1, 6, "Type: admit s level"),
+        ("admit 0 +9", 1, 9, "in decimal"),
+        ("admit 0 high", 1, 9, "in decimal"),
+        ("exit 4294967296", 1, 6, "at most 4294967295"),
+        ("exit -1", 1, 6, "in decimal"),
+        ("exit 0 1 2", 1, 8, "call 12 0 1 2"),
+        ("call", 1, 5, "expected a code"),
+        ("call 77 -1", 1, 9, "expected a number in decimal"),
+        ("bytes", 1, 6, "expected bytes in hex"),
+        ("bytes 80 0", 1, 10, "two hex digits"),
+        ("bytes \"\"", 1, 7, "two hex digits"),
+        ("name", 1, 5, "expected step, file or pipe"),
+        ("name steps 0 a", 1, 6, "found \"steps\""),
+        ("name step a 0", 1, 11, "expected a number in decimal"),
+        ("name step 0", 1, 12, "expected a name, found the end of the line"),
+        ("name step 0 \"\"", 1, 13, "at least one character"),
+        ("name step 0 17", 1, 13, "at least one letter"),
+        ("name step 0 3com", 1, 13, "starts with a letter, or one in quotes"),
+        ("name step 0 a b", 1, 15, "between two quotes"),
+        ("name file 0 \"file 3\"", 1, 13, "before a number"),
+        ("name step 0 \"a", 1, 13, "expected a second quote"),
+        ("exit merge", 1, 6, "or a name that a line above declares"),
+        ("name step 0 merge\nexit merg", 2, 6, "Did you mean: merge"),
+        ("name file 0 book\nexit book", 2, 6, "expected a step, found \"book\", the name of a file"),
+        ("name pipe 0 out\nregister out 9", 2, 10, "expected a file"),
+        ("name step 0 a\nclose 0 a", 2, 9, "in decimal"),
+        ("name step 0 a\nclose 0 \"a\"", 2, 9, "places and levels have no names"),
+    ] {
+        let (at_line, at_column, message) = wrong(text);
+        assert_eq!((at_line, at_column), (line, column), "{text:?}: {message}");
+        assert!(message.contains(words), "{text:?}: {message}");
+    }
+    let fault = assemble(b"admit 0 9\nadmit \xff").unwrap_err();
+    assert_eq!((fault.line, fault.column), (2, 7));
+    for text in [
+        "a".repeat(100_000),
+        format!("exit {}", "9".repeat(100_000)),
+        format!("exit{}", " 1".repeat(50_000)),
+    ] {
+        assert!(wrong(&text).2.chars().count() < 500);
+    }
+}
+
+#[test]
+fn a_fault_is_shown_with_its_line() {
+    let output = gk(&["assemble"], b"admit 0 9\nopen-raed 0 1 2\n");
+    assert_eq!((output.status.code(), output.stdout.len()), (Some(1), 0));
+    sees(
+        &err(&output),
+        &[
+            "standard input:2:1: expected a call's word, found \"open-raed\"\n    open-raed 0 1 2\n    ^\n",
+            "Did you mean: open-read",
+        ],
+    );
+    let message = err(&gk(&["assemble"], b"\tadmit\t0 x"));
+    assert!(message.contains("    \tadmit\t0 x\n    \t     \t  ^\n"), "{message}");
+}
+
+#[test]
+fn a_journal_that_will_be_refused_is_written_with_a_word() {
+    let line = b"admit 0 9\n";
+    let output = gk(&["assemble"], &line.repeat(65_536 / 4));
+    assert_eq!((output.status.code(), output.stdout.len(), err(&output)), (Some(0), 65_536, String::new()));
+    let output = gk(&["assemble"], &line.repeat(65_536 / 4 + 1));
+    assert_eq!((output.status.code(), output.stdout.len()), (Some(0), 65_540));
+    assert!(err(&output).contains("the journal has 65540 bytes"), "{}", err(&output));
+}
+
+#[test]
+fn calls_and_faults_are_shown() {
+    let journal = [
+        3, 1, 0, 9, // admit 0 9
+        3, 77, 1, 2, // an unknown code
+        0, // no code
+        2, 12, 0x80, // a number cut off
+        3, 12, 0, 5, // a number left over
+        1, 16, // a number missing
+        0x80, 0x00, 3, 1, // a padded length
+    ];
+    let text = "\
+admit 0 9
+call 77 1 2              # refusal 1: no call has the code 77
+bytes 00                 # refusal 12: the body is empty, there is no code
+bytes 02 0c 80           # refusal 12: the number s of exit is cut off
+call 12 0 5              # refusal 12: 1 byte is left over behind exit
+call 16                  # refusal 12: the number level of freeze is missing
+bytes 80 00 03 01        # refusal 11: the length is longer than it need be; the run stops here
+";
+    assert_eq!(disassemble(&journal, &Names::new()), text);
+    assert_eq!(assemble(text.as_bytes()).unwrap().journal, journal);
+}
+
+#[test]
+fn every_journal_comes_back() {
+    let names = Names::new();
+    for first in 0..=255 {
+        for second in 0..=255 {
+            let journal = [first, second];
+            assert_eq!(assemble(disassemble(&journal, &names).as_bytes()).unwrap().journal, journal);
+        }
+    }
+    for (name, journal) in journals() {
+        let text = disassemble(&journal, &names);
+        assert_eq!(assemble(text.as_bytes()).unwrap().journal, journal, "{name}");
+    }
+}
+
+/// Names that are drawn at random, used again and moved about, change no byte; and the names come back, too.
+#[test]
+fn every_journal_comes_back_with_names() {
+    let mut seed: u64 = 1;
+    let mut drawn = move |limit: u64| {
+        seed = seed.wrapping_mul(6_364_136_223_846_793_005).wrapping_add(1_442_695_040_888_963_407);
+        (seed >> 33) % limit
+    };
+    for (name, journal) in journals() {
+        let mut names = Names::new();
+        let records = gk::records::Records::new(&journal).count() as u64;
+        for _ in 0..60 {
+            let kind = Kind::ALL[drawn(3) as usize];
+            let called = ["a", "b 2", "c", "d", "e-5", "f"][drawn(6) as usize];
+            names.give(kind, drawn(8) as u32, 1 + drawn(records), Name::new(called).unwrap());
+        }
+        let text = disassemble(&journal, &names);
+        let again = assemble(text.as_bytes()).unwrap();
+        assert_eq!(again.journal, journal, "{name}");
+        assert_eq!(again.names, names, "{name}");
+        let told = gk::explain::explain(&journal, &names, gk::explain::Which::All).unwrap();
+        assert!(told.chars().all(|letter| letter == '\n' || !letter.is_control()), "{name}");
+        // Names change no answer and no record.
+        let plain = gk::explain::explain(&journal, &Names::new(), gk::explain::Which::All).unwrap();
+        for letter in ["  Allowed. ", "  Lowered. ", "  Refused ("] {
+            assert_eq!(told.matches(letter).count(), plain.matches(letter).count(), "{name}");
+        }
+    }
+}
+
+#[test]
+fn a_name_holds_from_the_next_record_on() {
+    let text = "name step 1 first\nadmit first 9\nbytes 03 01 02 09\nname step 1 second\nname file 0 \
+                first\nregister first 2\nexit second\nname pipe 5 last";
+    let assembled = assemble(text.as_bytes()).unwrap();
+    assert_eq!(
+        assembled.names.text(),
+        "names 1\nstep 1 1 first\nstep 1 3 second\nfile 0 3 first\npipe 5 5 last\n"
+    );
+    assert_eq!(assembled.journal, [3, 1, 1, 9, 3, 1, 2, 9, 3, 2, 0, 2, 2, 12, 1]);
+    // The number has another name now, and the name another number.
+    assert!(wrong("name step 1 intake\nname step 1 reader\nexit intake")
+        .2
+        .contains("or a name that a line above declares"));
+    let moved = assemble(b"name step 1 a\nname step 2 a\nexit a").unwrap();
+    assert_eq!(moved.journal, [2, 12, 2]);
+}
+
+#[test]
+fn the_names_are_kept_beside_the_journal() {
+    let folder = Folder::new("names");
+    let journal = folder.path("run.journal");
+    let text = b"name step 17 merge\nname file 1 \"the sheet\"\nadmit merge 9\nregister \"the sheet\" 2\n\
+                 open-read merge \"the sheet\" 0\n";
+    let output = gk(&["assemble", "-o", &journal], text);
+    assert_eq!((output.status.code(), err(&output)), (Some(0), String::new()));
+    assert_eq!(folder.files(), ["run.journal", "run.names"]);
+    let names = fs::read_to_string(folder.path("run.names")).unwrap();
+    assert_eq!(names, "names 1\nstep 17 1 merge\nfile 1 1 the sheet\n");
+    assert_eq!(out(&gk(&["disassemble", &journal], b"")), String::from_utf8_lossy(text));
+    let told = out(&gk(&["explain", &journal], b""));
+    sees(
+        &told,
+        &["3. merge (step 17) opens the sheet (file 1) for reading at place 0.\n  Allowed. The sheet has"],
+    );
+    // From standard input there is nothing beside it; --names says where.
+    let bytes = fs::read(&journal).unwrap();
+    assert!(!out(&gk(&["explain"], &bytes)).contains("merge"));
+    assert_eq!(out(&gk(&["explain", "--names", &folder.path("run.names")], &bytes)), told);
+
+    // A text without names leaves none of an earlier one.
+    assert_eq!(gk(&["assemble", "-o", &journal], b"admit 17 9\n").status.code(), Some(0));
+    assert_eq!(fs::read_to_string(folder.path("run.names")).unwrap(), "names 1\n");
+    // What is no names file is not written over.
+    fs::write(folder.path("run.names"), "a list of my own\n").unwrap();
+    let output = gk(&["assemble", "-o", &journal], text);
+    assert_eq!(output.status.code(), Some(1));
+    assert!(err(&output).contains("is no names file"), "{}", err(&output));
+    assert_eq!(fs::read(&journal).unwrap(), [3, 1, 17, 9]);
+    assert_eq!(fs::read_to_string(folder.path("run.names")).unwrap(), "a list of my own\n");
+
+    let output = gk(&["assemble"], text);
+    assert_eq!((output.status.code(), output.stdout), (Some(0), bytes.clone()));
+    assert!(err(&gk(&["assemble"], text)).contains("the names are not kept"));
+    let output = gk(&["assemble", "--names", &folder.path("other")], text);
+    assert_eq!((output.status.code(), err(&output), output.stdout), (Some(0), String::new(), bytes));
+    assert_eq!(fs::read_to_string(folder.path("other")).unwrap(), names);
+    // No names file is made where there are no names and none is asked for.
+    assert_eq!(gk(&["assemble", "-o", &folder.path("plain")], b"admit 0 9").status.code(), Some(0));
+    assert_eq!(folder.files(), ["other", "plain", "run.journal", "run.names"]);
+}
+
+#[test]
+fn a_name_is_not_taken_for_that_of_the_next_thing() {
+    let folder = Folder::new("again");
+    let text = b"name step 1 intake\nname file 2 sheet\nadmit 1 9\nregister 2 9\nretire 2\nexit 1\nread 1 0\nadmit \
+                 1 4\nexit 1\nname step 1 reader\nadmit 1 5\nname pipe 2 line\npipe 1 2 0 1\n";
+    let journal = folder.path("run.journal");
+    assert_eq!(gk(&["assemble", "-o", &journal], text).status.code(), Some(0));
+    let told = out(&gk(&["explain", &journal], b""));
+    sees(
+        &told,
+        &[
+            "1. intake (step 1) is admitted",
+            "3. sheet (file or pipe 2) is retired".replace("file or pipe", "file").as_str(),
+            "4. intake (step 1) exits",
+            "5. intake (step 1) may not read",
+            "6. Step 1 is admitted from outside at level 4.",
+            "7. Step 1 exits",
+            "8. reader (step 1) is admitted",
+            "9. reader (step 1) makes line (pipe 2), reading",
+            "Allowed. line is empty and starts at the level of reader, 5.",
+        ],
+    );
+    assert_eq!(told.matches("intake").count(), 6, "{told}");
+}
+
+#[test]
+fn the_pay_run_of_march_in_words_is_the_one_that_is_run() {
+    let text = fs::read(format!("{ROOT}/gk/examples/march.txt")).unwrap();
+    let assembled = assemble(&text).unwrap();
+    assert_eq!(assembled.journal, fs::read(format!("{ROOT}/crates/payrun/stdin")).unwrap());
+    let told = gk::explain::explain(&assembled.journal, &assembled.names, gk::explain::Which::All).unwrap();
+    let stored = include_str!("../examples/march.explained.txt");
+    for (line, (one, other)) in (1..).zip(told.lines().zip(stored.lines())) {
+        assert_eq!(one, other, "line {line}");
+    }
+    assert_eq!(told, stored);
+}

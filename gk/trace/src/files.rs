@@ -1,0 +1,324 @@
+//! Files and pipes, and the numbers that they have in the journal.
+//!
+//! A file keeps its level, so that its number can be given to another file while nobody holds it; it is registered
+//! again at the same level when it is opened again.
+
+use std::collections::BTreeMap;
+
+use gatekeeper::Call;
+
+use crate::levels::{Found, Level, TOP};
+use crate::names::{Kind, Names};
+use crate::paths::{Key, Paths};
+use crate::text::shown;
+use crate::world::{Done, World, OBJECTS};
+
+pub struct File {
+    /// The paths that it has; without one it goes with its last handle.
+    keys: Vec<Key>,
+    pub level: u32,
+    number: Option<u32>,
+    /// When it was last asked for.
+    asked: u64,
+    /// Whether it has been made or opened for writing.
+    pub is_written: bool,
+    name: String,
+}
+
+pub struct Pipe {
+    number: u32,
+    from: u64,
+    line: u64,
+    writer: Option<String>,
+    reader: Option<String>,
+}
+
+#[derive(Clone, Copy, PartialEq, Eq)]
+enum Slot {
+    Free,
+    File(usize),
+    Pipe(usize),
+}
+
+pub struct Files {
+    files: Vec<File>,
+    pipes: Vec<Pipe>,
+    by_key: BTreeMap<Key, usize>,
+    slots: [Slot; OBJECTS as usize],
+}
+
+impl Default for Files {
+    fn default() -> Files {
+        let slots = [Slot::Free; OBJECTS as usize];
+        Files { files: Vec::new(), pipes: Vec::new(), by_key: BTreeMap::new(), slots }
+    }
+}
+
+impl Files {
+    pub fn find(&self, key: &[u8]) -> Option<usize> {
+        self.by_key.get(key).copied()
+    }
+
+    pub fn file(&self, id: usize) -> &File {
+        &self.files[id]
+    }
+
+    pub fn file_mut(&mut self, id: usize) -> &mut File {
+        &mut self.files[id]
+    }
+
+    /// The file under a number.
+    pub fn at(&self, object: u32) -> Option<usize> {
+        match self.slots.get(object as usize) {
+            Some(Slot::File(id)) => Some(*id),
+            _ => None,
+        }
+    }
+
+    /// A new file, under a path or without one.
+    fn add(&mut self, key: Option<Key>, level: u32) -> usize {
+        let id = self.files.len();
+        self.by_key.extend(key.iter().map(|key| (key.clone(), id)));
+        let keys = key.into_iter().collect();
+        self.files.push(File {
+            keys,
+            level,
+            number: None,
+            asked: 0,
+            is_written: false,
+            name: String::new(),
+        });
+        id
+    }
+
+    /// Gives a file one more path; a file that had it loses it.
+    pub fn add_key(&mut self, id: usize, key: Key) {
+        self.remove_key(&key);
+        self.files[id].keys.push(key.clone());
+        self.by_key.insert(key, id);
+    }
+
+    pub fn remove_key(&mut self, key: &[u8]) {
+        if let Some(id) = self.by_key.remove(key) {
+            self.files[id].keys.retain(|own| own != key);
+        }
+    }
+
+    /// The paths of files below a folder.
+    pub fn below(&self, folder: &[u8]) -> Vec<Key> {
+        let front = [folder, b"/"].concat();
+        let below = self.by_key.range(front.clone()..).take_while(|(key, _)| key.starts_with(&front));
+        below.map(|(key, _)| key.clone()).collect()
+    }
+
+    /// Whether what is under a number is a file without a path.
+    pub fn is_nameless(&self, object: u32) -> bool {
+        self.at(object).is_some_and(|id| self.files[id].keys.is_empty())
+    }
+
+    /// Says that a number is free.
+    pub fn free(&mut self, object: u32) {
+        if let Slot::File(id) = self.slots[object as usize] {
+            self.files[id].number = None;
+        }
+        self.slots[object as usize] = Slot::Free;
+    }
+
+    /// What is under a number, as a message names it.
+    pub fn called(&self, object: u32) -> String {
+        match self.slots.get(object as usize) {
+            Some(&Slot::File(id)) => shown(self.files[id].name.as_bytes()),
+            Some(&Slot::Pipe(id)) => format!("the pipe of line {}", self.pipes[id].line),
+            _ => format!("number {object}"),
+        }
+    }
+
+    /// Says that a step of this program has written to, or read, what is under a number.
+    pub fn moved_data(&mut self, object: u32, program: &str, is_write: bool) {
+        if let Slot::Pipe(id) = self.slots[object as usize] {
+            let pipe = &mut self.pipes[id];
+            let end = if is_write { &mut pipe.writer } else { &mut pipe.reader };
+            end.get_or_insert_with(|| program.to_string());
+        }
+    }
+
+    /// Names each pipe by who wrote it and who read it first.
+    pub fn name_pipes(&self, names: &mut Names) {
+        for pipe in &self.pipes {
+            let text = match (&pipe.writer, &pipe.reader) {
+                (Some(writer), Some(reader)) => format!("{writer} to {reader}"),
+                (Some(writer), None) => format!("from {writer}"),
+                (None, Some(reader)) => format!("to {reader}"),
+                (None, None) => continue,
+            };
+            names.give_new(Kind::Pipe, pipe.number, pipe.from, &text);
+        }
+    }
+
+    /// Brings the paths to the form that they have now that the starting folder is known. Where two of them are one
+    /// then, says which.
+    pub fn rekey(&mut self, paths: &Paths) -> Result<(), Key> {
+        self.by_key.clear();
+        for (id, file) in self.files.iter_mut().enumerate() {
+            for key in &mut file.keys {
+                *key = paths.key(key);
+                if self.by_key.insert(key.clone(), id).is_some() {
+                    return Err(key.clone());
+                }
+            }
+        }
+        Ok(())
+    }
+
+    /// A path of a file that may be the same as this one, as long as the starting folder is not known.
+    pub fn may_be(&self, key: &[u8]) -> Option<&Key> {
+        let is_end = |long: &[u8], short: &[u8]| {
+            long.starts_with(b"/") && !short.starts_with(b"/") && long.ends_with(&[b"/", short].concat())
+        };
+        self.by_key.keys().find(|other| is_end(other, key) || is_end(key, other))
+    }
+}
+
+impl World<'_> {
+    /// The level of a path. What was moved there has at most the level of where it came from.
+    pub fn level_of(&self, key: &[u8]) -> Done<Found> {
+        let mut found = self.listed(key)?;
+        for origin in self.paths.origins(key) {
+            if let (Level::At(level), Level::At(before)) =
+                (found.level, self.listed(&origin)?.level.of_unmade())
+            {
+                found.level = Level::At(level.min(before));
+            }
+        }
+        Ok(found)
+    }
+
+    /// What the levels file says of a path.
+    fn listed(&self, key: &[u8]) -> Done<Found> {
+        if let Some(absolute) = self.paths.start().and_then(|_| self.paths.absolute(key)) {
+            return Ok(self.levels.of(key, &absolute));
+        }
+        match self.levels.of_somewhere(key) {
+            Ok(found) => Ok(found),
+            Err(line) => self.stop(format!(
+                "whether line {line} of the levels file is about \"{}\" depends on the folder that the run was started \
+                 in, and the trace does not say it. Give it with --folder",
+                shown(key)
+            )),
+        }
+    }
+
+    /// The file at a path, which has no number yet where it is new here. `is_made` says that the run makes it.
+    pub fn file_at(&mut self, step: u32, key: &[u8], level: Level, is_made: bool) -> Done<usize> {
+        if let Some(id) = self.files.find(key) {
+            return Ok(id);
+        }
+        if self.paths.start().is_none() {
+            if let Some(other) = self.files.may_be(key) {
+                let (other, key) = (shown(other), shown(key));
+                return self.stop(format!(
+                    "\"{key}\" and \"{other}\" may be the same file, and the trace does not say which folder the run \
+                     was started in. Give it with --folder"
+                ));
+            }
+        }
+        match level {
+            Level::Step if is_made => self.create(step, Some(key.to_vec())),
+            Level::At(level) => Ok(self.files.add(Some(key.to_vec()), level)),
+            Level::Step | Level::Out => Ok(self.files.add(Some(key.to_vec()), 0)),
+        }
+    }
+
+    /// Makes an empty file at the step's level.
+    pub fn create(&mut self, step: u32, key: Option<Key>) -> Done<usize> {
+        let wanted = key.as_ref().map_or("a file without a name".to_string(), |key| shown(key));
+        let object = self.free_object(&wanted)?;
+        let id = self.files.add(key, TOP);
+        self.make(Call::Create { subject: step, object })?;
+        self.files.file_mut(id).level = u32::from(self.journal.object_level(object));
+        self.files.file_mut(id).is_written = true;
+        self.seat(id, object);
+        Ok(id)
+    }
+
+    /// The number of a file, which is registered if need be.
+    pub fn object_of(&mut self, id: usize) -> Done<u32> {
+        let now = self.tick();
+        self.files.files[id].asked = now;
+        if let Some(object) = self.files.files[id].number {
+            return Ok(object);
+        }
+        let wanted = self.files.files[id].keys.first().map_or(String::new(), |key| shown(key));
+        let object = self.free_object(&wanted)?;
+        self.make(Call::Register { object, level: self.files.files[id].level })?;
+        self.seat(id, object);
+        Ok(object)
+    }
+
+    /// Registers a file that has no path in the trace, as standard input.
+    pub fn register(&mut self, name: &str, level: u32) -> Done<u32> {
+        let id = self.files.add(Some(format!("<{name}>").into_bytes()), level);
+        self.files.files[id].name = String::new();
+        let object = self.free_object(name)?;
+        self.make(Call::Register { object, level })?;
+        self.seat(id, object);
+        Ok(object)
+    }
+
+    /// Puts a file under a number, by the call just written.
+    fn seat(&mut self, id: usize, object: u32) {
+        let from = self.journal.next() - 1;
+        let file = &mut self.files.files[id];
+        file.number = Some(object);
+        self.files.slots[object as usize] = Slot::File(id);
+        if file.name.is_empty() {
+            let text = match file.keys.first().map(Vec::as_slice) {
+                None => "a file without a name".to_string(),
+                Some(b"<stdin>") => "standard input".to_string(),
+                Some(b"<stdout>") => "standard output".to_string(),
+                Some(b"<stderr>") => "standard error".to_string(),
+                Some(key) => String::from_utf8_lossy(key).into_owned(),
+            };
+            file.name = self.journal.names.give_new(Kind::File, object, from, &text);
+        } else {
+            self.journal.names.give_again(Kind::File, object, from, &file.name);
+        }
+    }
+
+    /// Puts a pipe under a number, by the call just written.
+    pub fn seat_pipe(&mut self, object: u32) {
+        let from = self.journal.next() - 1;
+        self.files.slots[object as usize] = Slot::Pipe(self.files.pipes.len());
+        self.files.pipes.push(Pipe { number: object, from, line: self.line, writer: None, reader: None });
+    }
+
+    /// A number for a new file or pipe. Where all are taken, the file that nobody holds and that was asked for longest
+    /// ago gives up its own.
+    pub fn free_object(&mut self, wanted: &str) -> Done<u32> {
+        let slots = &self.files.slots;
+        if let Some(free) = slots.iter().position(|slot| *slot == Slot::Free) {
+            return Ok(free as u32);
+        }
+        let held: Vec<bool> = (0..OBJECTS).map(|object| self.journal.is_held(object)).collect();
+        let idle = self.files.slots.iter().enumerate().filter_map(|(object, slot)| match slot {
+            Slot::File(id) if !held[object] => Some((self.files.files[*id].asked, object as u32)),
+            _ => None,
+        });
+        match idle.min() {
+            Some((_, object)) => {
+                self.make(Call::Retire { object })?;
+                self.files.free(object);
+                Ok(object)
+            }
+            None => {
+                let files = self.files.slots.iter().filter(|slot| matches!(slot, Slot::File(_))).count();
+                let pipes = OBJECTS as usize - files;
+                self.stop(format!(
+                    "{wanted} would be the 65th file or pipe that is open at once, and the gatekeeper has numbers for \
+                     64 ({files} files and {pipes} pipes are open). Leave files out: a line with the word out in the \
+                     levels file; or trace a part of the run"
+                ))
+            }
+        }
+    }
+}

@@ -1,0 +1,82 @@
+//! The journal as it grows: each call is made on a proved monitor first, so that the answer is known.
+
+use gatekeeper::{Answer, Call, Handle, Kind, Monitor, Refusal, JOURNAL_BYTES};
+
+use crate::names::Names;
+use crate::report::Report;
+use crate::world::{PLACES, STEPS};
+
+#[derive(Default)]
+pub struct Journal {
+    monitor: Monitor,
+    bytes: Vec<u8>,
+    records: u64,
+    pub names: Names,
+}
+
+/// Why a call cannot be written.
+pub enum Trouble {
+    /// The journal would be longer than 65,536 bytes.
+    Full,
+    /// The gatekeeper refuses it for another reason than the flow, which no trace leads to.
+    Odd(Call, Refusal),
+}
+
+impl Journal {
+    /// Writes a call. Whether it is granted: it is not where the gatekeeper refuses it for the flow (9).
+    pub fn make(&mut self, call: Call, report: &mut Report) -> Result<bool, Trouble> {
+        let end = self.bytes.len();
+        call.write_record(&mut self.bytes);
+        if self.bytes.len() > JOURNAL_BYTES {
+            self.bytes.truncate(end);
+            return Err(Trouble::Full);
+        }
+        let answer = self.monitor.call(call);
+        if let Answer::Refused(refusal) = answer {
+            if refusal != Refusal::Flow {
+                self.bytes.truncate(end);
+                return Err(Trouble::Odd(call, refusal));
+            }
+        }
+        self.records += 1;
+        report.wrote(call, answer);
+        Ok(answer.granted().is_ok())
+    }
+
+    pub fn bytes(&self) -> &[u8] {
+        &self.bytes
+    }
+
+    /// The position of the next record.
+    pub fn next(&self) -> u64 {
+        self.records + 1
+    }
+
+    /// The level of a step; 0 where it is not there.
+    pub fn step_level(&self, step: u32) -> u8 {
+        self.monitor.subject(step).unwrap_or(0)
+    }
+
+    /// The level of a file or pipe; 15 where it is not there.
+    pub fn object_level(&self, object: u32) -> u8 {
+        self.monitor.object(object).map_or(15, |object| object.level)
+    }
+
+    pub fn is_live(&self, object: u32) -> bool {
+        self.monitor.object(object).is_some()
+    }
+
+    pub fn is_pipe(&self, object: u32) -> bool {
+        self.monitor.object(object).is_some_and(|object| object.kind == Kind::Pipe)
+    }
+
+    /// Whether any handle is on an object.
+    pub fn is_held(&self, object: u32) -> bool {
+        let is_on = |handle: Handle| u32::from(handle.object) == object;
+        (0..STEPS).any(|step| (0..PLACES).any(|place| self.handle(step, place).is_some_and(is_on)))
+    }
+
+    pub fn handle(&self, step: u32, place: u32) -> Option<Handle> {
+        self.monitor.handle(step, place)
+    }
+}

@@ -1,0 +1,180 @@
+//! The command `gk trace`: its options, its exit statuses and what it writes where.
+
+use std::fs;
+use std::io::Write;
+use std::path::PathBuf;
+use std::process::{Command, Output, Stdio};
+
+fn runs() -> PathBuf {
+    PathBuf::from(env!("CARGO_MANIFEST_DIR")).join("tests/runs")
+}
+
+fn run(arguments: &[&str], input: &[u8]) -> Output {
+    let mut child = Command::new(env!("CARGO_BIN_EXE_gk-trace"))
+        .args(arguments)
+        .current_dir(runs())
+        .stdin(Stdio::piped())
+        .stdout(Stdio::piped())
+        .stderr(Stdio::piped())
+        .spawn()
+        .unwrap();
+    // The program may end before it has read everything.
+    let _ = child.stdin.take().unwrap().write_all(input);
+    child.wait_with_output().unwrap()
+}
+
+fn errors(output: &Output) -> String {
+    String::from_utf8(output.stderr.clone()).unwrap()
+}
+
+/// A folder of one test, which is gone after it.
+struct Room(PathBuf);
+
+impl Room {
+    fn new(name: &str) -> Room {
+        let path = std::env::temp_dir().join(format!("gk-trace-{name}-{}", std::process::id()));
+        fs::create_dir_all(&path).unwrap();
+        Room(path)
+    }
+
+    fn path(&self, name: &str) -> String {
+        self.0.join(name).to_string_lossy().into_owned()
+    }
+}
+
+impl Drop for Room {
+    fn drop(&mut self) {
+        let _ = fs::remove_dir_all(&self.0);
+    }
+}
+
+#[test]
+fn a_trace_by_name_or_on_standard_input() {
+    let journal = fs::read(runs().join("pay.journal")).unwrap();
+    let report = fs::read_to_string(runs().join("pay.report")).unwrap();
+    let trace = fs::read(runs().join("pay.trace")).unwrap();
+    for (arguments, input) in [
+        (&["pay.trace", "--levels", "pay.levels"][..], &b""[..]),
+        (&["--levels", "pay.levels", "-"][..], &trace[..]),
+        (&["--levels", "pay.levels"][..], &trace[..]),
+        (&["--levels", "pay.levels", "--", "pay.trace"][..], &b""[..]),
+    ] {
+        let output = run(arguments, input);
+        assert_eq!(output.status.code(), Some(0), "{}", errors(&output));
+        assert!(output.stdout == journal, "{arguments:?}");
+        assert_eq!(errors(&output), report);
+    }
+    let quiet = run(&["pay.trace", "--levels", "pay.levels", "--quiet"], b"");
+    assert_eq!((quiet.status.code(), errors(&quiet)), (Some(0), String::new()));
+}
+
+#[test]
+fn the_journal_and_the_names_go_to_files() {
+    let room = Room::new("files");
+    let names = fs::read(runs().join("pay.names")).unwrap();
+    let journal = room.path("march.journal");
+    let output = run(&["pay.trace", "--levels", "pay.levels", "-o", &journal], b"");
+    assert_eq!((output.status.code(), output.stdout.len()), (Some(0), 0));
+    assert_eq!(fs::read(&journal).unwrap(), fs::read(runs().join("pay.journal")).unwrap());
+    assert_eq!(fs::read(room.path("march.names")).unwrap(), names);
+    let other = room.path("other.txt");
+    let output = run(&["pay.trace", "--levels", "pay.levels", "--names", &other], b"");
+    assert_eq!(output.status.code(), Some(0));
+    assert_eq!(fs::read(other).unwrap(), names);
+}
+
+#[test]
+fn the_help_has_the_line_to_type() {
+    for help in ["--help", "-h"] {
+        let output = run(&["--levels", help], b"");
+        let text = String::from_utf8(output.stdout).unwrap();
+        assert_eq!(output.status.code(), Some(0));
+        assert!(text.contains("strace -f -y -s 2 -o pay.trace sh pay.sh\n"), "{text}");
+        assert!(text.lines().all(|line| line.chars().count() <= 118), "{text}");
+    }
+}
+
+#[test]
+fn bad_usage_is_two() {
+    for (arguments, words) in [
+        (&[][..], "expected --levels FILE"),
+        (&["--levels"][..], "--levels needs a value"),
+        (&["--frob"][..], "there is no option \"--frob\""),
+        (&["-\x1b[2J"][..], "there is no option \"-\\u{1b}[2J\""),
+        (&["a", "b", "--levels", "pay.levels"][..], "expected one trace, found \"b\" as well"),
+        (&["--start", "16"][..], "--start needs a number, 0 to 15, not \"16\""),
+        (&["--until", "+1"][..], "--until needs a number, not \"+1\""),
+        (&["--levels", "pay.levels", "-o", "a.names"][..], "the journal and the names need two files"),
+        (
+            &["--levels", "pay.levels", "-o", "a", "--names", "a"][..],
+            "the journal and the names need two files",
+        ),
+        (&["--folder", "here"][..], "--folder needs an absolute path, not \"here\""),
+    ] {
+        let output = run(arguments, b"");
+        assert_eq!(output.status.code(), Some(2), "{arguments:?}");
+        assert!(errors(&output).starts_with(&format!("gk trace: {words}")), "{}", errors(&output));
+        assert!(errors(&output).ends_with("Type: gk trace --help\n"));
+    }
+}
+
+#[test]
+fn what_cannot_be_read_or_written_is_one() {
+    let room = Room::new("wrong");
+    let wrong = room.path("wrong.levels");
+    fs::write(&wrong, "a 2\nb \x1b[2J\nelse 1\n").unwrap();
+    let nowhere = room.path("nowhere/a.journal");
+    for (arguments, input, words) in [
+        (&["--levels", "none"][..], &b""[..], "cannot read none: "),
+        (&["--levels", "."][..], b"", "cannot read .: it is a folder"),
+        (&["--levels", "pay.levels", "."][..], b"", "cannot read .: it is a folder"),
+        (&["--levels", "pay.levels", "none"][..], b"", "cannot read none: "),
+        (
+            &["--levels", "pay.levels"][..],
+            b"",
+            "standard input, line 1: there is no whole line in the trace",
+        ),
+        (
+            &["--levels", "pay.levels"][..],
+            b"\x1b[2J\n",
+            "standard input, line 1: column 1: expected the number",
+        ),
+        (
+            &["--levels", &wrong][..],
+            b"",
+            "line 2, column 3: expected a level, 0 to 15, or step or out, not \"\\u{1b}",
+        ),
+        (&["--levels", "pay.levels", "pay.trace", "-o", &nowhere][..], b"", "cannot write "),
+    ] {
+        let output = run(arguments, input);
+        assert_eq!(output.status.code(), Some(1), "{arguments:?}");
+        assert!(
+            errors(&output).contains(words) && !errors(&output).contains('\x1b'),
+            "{}",
+            errors(&output)
+        );
+        assert!(output.stdout.is_empty(), "{arguments:?}");
+    }
+}
+
+#[test]
+fn until_and_start_are_heeded() {
+    let output = run(&["pay.trace", "--levels", "pay.levels", "--until", "5", "--start", "9"], b"");
+    assert_eq!(output.stdout, [3, 1, 0, 9, 3, 2, 0, 15, 3, 10, 0, 0]);
+    assert!(errors(&output).contains("read up to line 5, as --until says"), "{}", errors(&output));
+}
+
+#[test]
+fn a_reader_that_stops_ends_it_without_a_word() {
+    let mut child = Command::new(env!("CARGO_BIN_EXE_gk-trace"))
+        .arg("--help")
+        .stdout(Stdio::piped())
+        .stderr(Stdio::piped())
+        .spawn()
+        .unwrap();
+    drop(child.stdout.take());
+    let output = child.wait_with_output().unwrap();
+    // It may have written everything before the reader stopped.
+    assert!(matches!(output.status.code(), Some(0 | 141)), "{output:?}");
+    assert!(output.stderr.is_empty());
+}
