@@ -30,6 +30,13 @@ fn help_teaches_with_an_example() {
         }
     }
     assert_eq!(out(&gk(&["help", "names"], b"")), help::NAMES);
+    // Libraries of their own have these, and their help.
+    for command in ["trace", "screen"] {
+        assert!(cli::whole_help().contains(&format!("  {command} ")), "{command}");
+        let [one, other] = [["help", command], [command, "--help"]].map(|words| gk(&words, b""));
+        assert_eq!((one.status.code(), out(&one)), (Some(0), out(&other)));
+        assert!(out(&one).contains(&format!("gk {command} ")), "{}", out(&one));
+    }
 }
 
 #[test]
@@ -312,6 +319,14 @@ fn a_trace_is_explained_from_a_pipe_with_its_names() {
         assert!(out(&output).contains("paybook.csv"), "{}", out(&output));
         // Thirty refusals that are alike are a page and no more.
         assert!(out(&output).lines().count() <= most, "{}", out(&output));
+        if command.starts_with("explain") {
+            let page = fs::read_to_string(format!("{ROOT}/docs/TRACE.md")).unwrap();
+            let shown = page.split_once("$ gk explain --refused pay.journal\n").unwrap().1;
+            for line in shown.lines().take_while(|line| !line.starts_with("```")) {
+                let is_said = line.trim() == "…" || out(&output).lines().any(|said| said == line);
+                assert!(is_said, "docs/TRACE.md shows: {line}");
+            }
+        }
     }
 }
 

@@ -4,6 +4,7 @@ use std::fs;
 use std::io::{Read, Write};
 use std::path::PathBuf;
 use std::process::{Child, Command, Output, Stdio};
+use std::sync::{Arc, Mutex};
 use std::thread::sleep;
 use std::time::{Duration, Instant};
 
@@ -222,28 +223,34 @@ fn a_journal_is_followed_while_it_is_written() {
     let path = scratch.write("run.journal", &journal[..10]);
     let mut child = spawn(&["--follow", &path]);
     let mut stdout = child.stdout.take().expect("its output");
+    let seen = Arc::new(Mutex::new(Vec::new()));
+    let shared = Arc::clone(&seen);
     let reader = std::thread::spawn(move || {
-        let mut text = Vec::new();
         let mut part = [0; 4096];
-        let began = Instant::now();
-        while began.elapsed() < Duration::from_secs(20) {
-            let count = stdout.read(&mut part).unwrap_or(0);
-            text.extend(&part[..count]);
-            if count == 0 || String::from_utf8_lossy(&text).contains("\n306 12 A 12") {
-                break;
-            }
+        while let Ok(count @ 1..) = stdout.read(&mut part) {
+            shared.lock().expect("the text").extend(&part[..count]);
         }
-        String::from_utf8_lossy(&text).into_owned()
     });
+    // A busy machine may take its time.
+    let text = || String::from_utf8_lossy(&seen.lock().expect("the text")).into_owned();
+    let await_words = |words: &str| {
+        let began = Instant::now();
+        while !text().contains(words) && began.elapsed() < Duration::from_secs(120) {
+            sleep(Duration::from_millis(20));
+        }
+    };
+    await_words("! The next record is not whole yet.");
     for end in [12, 500, journal.len()] {
-        sleep(Duration::from_millis(300));
         let mut file = fs::OpenOptions::new().append(true).open(&path).expect("the file");
         let begin = fs::metadata(&path).expect("its length").len() as usize;
         file.write_all(&journal[begin..end]).expect("a write");
+        sleep(Duration::from_millis(300));
     }
-    let text = reader.join().expect("a reader");
+    await_words("\n306 12 A 12");
     child.kill().expect("it is ended");
     child.wait().expect("its end");
+    reader.join().expect("a reader");
+    let text = text();
     let reply = fs::read_to_string(REPLY).expect("the replies");
     let lines: Vec<&str> = text.lines().filter(|line| !line.starts_with('!')).collect();
     assert_eq!(lines.len(), 306);
