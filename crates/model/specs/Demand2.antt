@@ -12,6 +12,7 @@ use Rattle.model.specs.Tables.{Dir, Entry, handle, Tables, no-freeze, la
 use Rattle.model.specs.Steps.{hold, apply}
 pub mod Laws
 pub mod Mappings
+pub mod Reads
 pub mod Top
 
 -- RULES F4, R9: x reaches, through open handles, a file that a thing of label a must not reach: one of a higher level

@@ -44,7 +44,7 @@ put-demand a x v q y = go (same x y) (same→eq x y)
     go true e = subst (λ (z : Thing). demand z v ≡ demand z (a z)) (e tt) q
     go false e = refl
 
-subject-demand : (n : ℕ) (o : Option Entry) → demand (subject n) o ≡ bot
+pub subject-demand : (n : ℕ) (o : Option Entry) → demand (subject n) o ≡ bot
 subject-demand n none = refl
 subject-demand n (some e) = refl
 
@@ -127,7 +127,7 @@ hold-ranged t s p v ls lp w = record {
 }
 
 -- a handle, in range by the tables u, makes a flow
-edge-in : {u : Tables} (t : Tables) {s p : ℕ} {k : Handle} → Ranged u → u .hand s p ≡ some k → t .hand s p ≡ some k → In (flow (subject s) k) (edges t)
+pub edge-in : {u : Tables} (t : Tables) {s p : ℕ} {k : Handle} → Ranged u → u .hand s p ≡ some k → t .hand s p ≡ some k → In (flow (subject s) k) (edges t)
 edge-in {u} t {s} {p} {k} w q h = let b = w .bounds s p k q in flow-edge t s p (subject s) k (b .0) (b .1) (speaks-self t s) h
 
 -- a flow comes of a handle
@@ -138,7 +138,7 @@ pub record Held (t : Tables) (e : Edge) : Type 0 where
   pub holds : t .hand s p ≡ some k
   pub is : flow (subject s) k ≡ e
 
-in-edge : (t : Tables) (e : Edge) → In e (edges t) → Held t e
+pub in-edge : (t : Tables) (e : Edge) → In e (edges t) → Held t e
 in-edge t e i = let r = edge-flow t e i in
     record {
       s = r .s;

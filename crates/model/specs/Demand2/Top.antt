@@ -1,23 +1,21 @@
 -- A file at the highest level that is only read can be left out of a run: its open for reading is never refused for flow (RULES R9), and a read of it lowers
 -- nobody (RULES C7, C104). Of all tables to which calls lead from empty ones. Assumes nothing.
-use mathlib.Core.Path.{_≡_, sym, _∙_, ap, subst}
+use mathlib.Core.Path.{_≡_, sym, _∙_, ap, subst, subst₂}
 use mathlib.Core.Bool.{Bool, true, false, not, cond}
 use mathlib.Core.Logic.{inl, inr}
 use mathlib.Core.Option.{Option, none, some, Option·none-ne-some, Option·some-injective}
 use Prim.Native.Nat.{ℕ}
 use lib.Dec.{T}
-use Rattle.model.specs.Bools.{cond-yes, yes-not-not}
-use Rattle.model.specs.Label.{Label, _⊑_, label, highest, bot}
+use Rattle.model.specs.Label.{Label, _⊑_, label, highest}
 use Rattle.model.specs.Label.Laws.{⊑-refl, ⊑-trans, le→⊑, level-label, level-in-scale}
 use Rattle.model.specs.Flow.{Thing, subject, object}
-use Rattle.model.specs.Tables.{reading, Entry, Handle, handle, Tables, live, is-file, cell, handles, demand, needs, safe}
-use Rattle.model.specs.Tables.Laws.{speaks-cell, cell-entry}
-use Rattle.model.specs.Steps.{reads, hold, mix, fall, apply, ended}
+use Rattle.model.specs.Tables.{reading, Entry, Handle, Tables, live, is-file, cell, handles, needs}
+use Rattle.model.specs.Tables.Laws.{cell-entry, cell-self}
+use Rattle.model.specs.Steps.{reads, mix, fall, apply, ended}
 use Rattle.model.specs.Steps.Laws.{put-cases, fell}
 use Rattle.model.specs.Invariant.{Kept, Scaled}
-use Rattle.model.specs.Invariant.Laws.{needs-pot, pot-hold, pot-safe}
 use Rattle.model.specs.Calls.{opens, access, target, enough, broken, effect, lowers}
-use Rattle.model.specs.Calls.Kept.{safe-complete}
+use Rattle.model.specs.Demand2.Reads.{reads-above}
 use Rattle.model.specs.Calls.Moving.{None-lower, lowers-none}
 
 -- o is a file of the highest level
@@ -33,20 +31,11 @@ under-top v x e q = le→⊑ (e .label) (label highest) (rw (level-label highest
 
 module _ (t : Tables) (v : Kept t) where
   pub top-open-harmless : (s o p : ℕ) → T (live t (subject s)) → Topmost t o → T (not (broken t (enough (opens reading s o p))))
-  top-open-harmless s o p l h = yes-not-not (safe (apply (hold s p (some (handle reading o))) t)) (safe-complete (apply (hold s p (some (handle reading o))) t)
-      (pot-safe (pot-hold t (needs t) s p (handle reading o) (needs-pot (v .wf) (v .safe))
-      (λ x z. subst (λ (y : Thing). needs t y ⊑ needs t (object o)) (Option·some-injective (cell t s) x (sym (speaks-cell t s) ∙ z)) falls))))
-    where
-      own : (e : Entry) × (t .at (cell t s) ≡ some e)
-      own = cell-entry t s l
-
-      demands : demand (object o) (t .at (object o)) ≡ label highest
-      demands = ap (demand (object o)) (h .there) ∙ cond-yes (is-file (object o) (h .its .kind)) (h .its .label) bot (h .a-file) ∙ h .top
-
-      -- what s needs is at most its level, and that is at most what the file demands
-      falls : needs t (cell t s) ⊑ needs t (object o)
-      falls = ⊑-trans (v .safe .above (cell t s) (own .0) (own .1)) (⊑-trans (under-top (v .scaled) (cell t s) (own .0) (own .1))
-          (subst (λ (a : Label). a ⊑ needs t (object o)) demands (needs-pot (v .wf) (v .safe) .low (object o))))
+  top-open-harmless s o p l h = let own = cell-entry t s l in
+      -- what s needs is at most its level, and that is at most the file's
+      reads-above t v s o p (h .its) (record { there = h .there; a-file = h .a-file })
+      (subst₂ (λ (x : Thing) (a : Label). needs t x ⊑ a) (cell-self t s) (sym (h .top))
+      (⊑-trans (v .safe .above (cell t s) (own .0) (own .1)) (under-top (v .scaled) (cell t s) (own .0) (own .1))))
 
   pub top-read-harmless : (s p : ℕ) (k : Handle) → t .hand s p ≡ some k → Topmost t (k .to) → lowers t (effect t (access reading s p)) ≡ false
   unfolding effect
