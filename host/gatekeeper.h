@@ -29,8 +29,9 @@ extern "C" {
 #define GATEKEEPER_MUST_USE
 #endif
 
-/* The version of this header, and of the archive that belongs to it. */
+/* The version of this header and of the archive that belongs to it, and as the number that gatekeeper_version gives. */
 #define GATEKEEPER_VERSION "4.0.0"
+#define GATEKEEPER_VERSION_NUMBER (65536 * 4 + 256 * 0 + 0)
 
 /* How much stack a call of any function here takes at most, in bytes: measured (tools/hosts), not proved. */
 #define GATEKEEPER_STACK_BYTES 40960
@@ -192,6 +193,10 @@ enum gatekeeper_way {
     GATEKEEPER_WAY_WRITES = 2,
     GATEKEEPER_WAY_MAPS = 3 /* a mapping, which reads */
 };
+
+/* The version of the archive that is linked. Where it is not GATEKEEPER_VERSION_NUMBER, the header is another one's. */
+GATEKEEPER_MUST_USE
+uint32_t gatekeeper_version(void);
 
 /* GATEKEEPER_STATE_BYTES, for a host that sees no header. */
 size_t gatekeeper_state_bytes(void);

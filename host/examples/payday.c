@@ -101,7 +101,7 @@ int main(void)
 {
     static struct host host;
     static uint8_t reply[GATEKEEPER_REPLY_ROOM];
-    if (!gatekeeper_empty(host.monitor, sizeof host.monitor))
+    if (gatekeeper_version() != GATEKEEPER_VERSION_NUMBER || !gatekeeper_empty(host.monitor, sizeof host.monitor))
         return 1;
 
     puts("What comes from outside");

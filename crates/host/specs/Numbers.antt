@@ -1,5 +1,5 @@
 -- Answers as one number, since an exported function cannot hand back an enum: of a call, of the record writer and of the number reader.
--- States RULES H11 to H14 and H17 to H19, by RULES G9.
+-- States RULES H11 to H14, H17 to H19 and H22, by RULES G9.
 --
 -- For a wrong length of the lent bytes the rules have no answer: it is 0, which is no answer's number. The laws are in Numbers/Laws. Assumes nothing.
 use mathlib.Core.Bool.{cond}
@@ -20,6 +20,10 @@ use Rattle.journal.specs.Record.{record-of}
 use Rattle.answers.specs.Telling.{letter-of, value-of}
 use Rattle.host.specs.State.{state-bytes, state-view}
 pub mod Laws
+
+-- RULES H22: the version of the archive, first part, second and third
+abbrev pub version : ℕ
+version = 65536 * 4 + 256 * 0 + 0
 
 -- RULES H10, H11: x where the bytes have the length of a state; else y
 abbrev pub sized : {A : Type 0} → List ℕ → A → A → A

@@ -18,7 +18,7 @@ ghost use Rattle.host.specs.State.{state-bytes, objects-at, handles-at, 
 ghost use Rattle.host.specs.State.{subjects-of, objects-of, handles-of, needs-of, made-of, gone-of, monitor-of, tally-of};
 ghost use Rattle.host.specs.State.{subject-bytes, object-bytes, handle-bytes, need-bytes, blank-bytes, Stands, Blank};
 ghost use Rattle.host.specs.Over.{over};
-ghost use Rattle.host.specs.Numbers.{sized, answer-number, answer-in, record-number, roomy-number, reading-number};
+ghost use Rattle.host.specs.Numbers.{version, sized, answer-number, answer-in, record-number, roomy-number, reading-number};
 ghost use Rattle.host.specs.Demand3.{Called};
 use answers::Answer;
 use gatekeeper::Monitor;
@@ -57,6 +57,9 @@ const NEEDS_AT: usize = FREEZE_AT + 1;
 
 // How many bytes a monitor and its tally take.
 const STATE_BYTES: usize = NEEDS_AT + THINGS;
+
+// The version, its three parts in one number (specs/Numbers.antt).
+const VERSION: u32 = 65536 * 4 + 256 * 0 + 0;
 
 // The answer to a call on bytes of another length, which is no answer of a call.
 const UNSIZED: u32 = 0;
@@ -339,6 +342,14 @@ fn to_number(a: Answer) -> u32
 }
 
 // ---- exported
+
+// The version of this archive, for a host that would see whether it is its header's.
+#[no_mangle]
+pub extern "C" fn gatekeeper_version() -> u32
+    ensures { λ r. ⌜ r ≡ version ⌝ }
+{
+    VERSION
+}
 
 // How many bytes a host has to keep for a monitor and its tally.
 #[no_mangle]

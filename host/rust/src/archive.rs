@@ -8,6 +8,7 @@ mod c {
     extern "C" {
         #[cfg(test)]
         pub fn gatekeeper_state_bytes() -> usize;
+        pub fn gatekeeper_version() -> u32;
         pub fn gatekeeper_empty(state: *mut u8, len: usize) -> bool;
         pub fn gatekeeper_call(
             state: *mut u8,
@@ -48,6 +49,10 @@ mod c {
 /// Said where the archive finds the length of a monitor wrong.
 pub const OTHER_VERSION: &str =
     "libhost.a is of another version than this crate: its monitors have another length";
+
+pub fn version() -> u32 {
+    unsafe { c::gatekeeper_version() }
+}
 
 #[cfg(test)]
 pub fn state_bytes() -> usize {

@@ -39,3 +39,9 @@ pub use monitor::{Monitor, STATE_BYTES};
 
 /// The version of this crate and of the archive that belongs to it, as `GATEKEEPER_VERSION` in C.
 pub const VERSION: &str = env!("CARGO_PKG_VERSION");
+
+/// The three parts of the version of the archive that is linked, which is [`VERSION`] where they belong together.
+pub fn archive_version() -> [u32; 3] {
+    let version = archive::version();
+    [version >> 16, version >> 8 & 255, version & 255]
+}

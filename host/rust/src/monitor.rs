@@ -271,6 +271,12 @@ mod tests {
     }
 
     #[test]
+    fn the_archive_is_of_this_version() {
+        let parts: Vec<String> = crate::archive_version().iter().map(u32::to_string).collect();
+        assert_eq!(parts.join("."), crate::VERSION);
+    }
+
+    #[test]
     fn the_archive_agrees_on_the_size() {
         assert_eq!(archive::state_bytes(), STATE_BYTES);
         let mut empty = [0; STATE_BYTES];
