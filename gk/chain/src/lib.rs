@@ -1,7 +1,8 @@
 //! The chain behind a refusal 9: how something low could reach a higher file if the call were let through.
 //!
-//! That a call is refused with 9 exactly where there is such a chain is proved (RULES R9). Which one it is, [`behind`]
-//! finds, and that is NOT PROVED. `gk explain` and the duty screen both show what it finds, so that they show the same.
+//! That a call is refused with 9 exactly where there is such a chain is proved (RULES R9). Which one it is,
+//! [`behind`] finds, and that is NOT PROVED. `gk explain` and the duty screen both show what it finds, so that
+//! they show the same.
 //!
 //! ```
 //! use gatekeeper::{Answer, Call, Monitor, Refusal};
@@ -59,12 +60,13 @@ pub fn sought(code: u32, numbers: [u32; 6]) -> Vec<(Thing, Thing)> {
     }
 }
 
-/// The chain of flows that a call refused with 9 would have closed, from the low thing to the higher file, in the
-/// monitor before the call. It is empty where there is none, and where a number is out of range.
+/// The chain of flows that a call refused with 9 would have closed, from the low thing to the higher file, in
+/// the monitor before the call. It is empty where there is none, and where a number is out of range.
 ///
-/// It is the shortest; of several as short, the one from the lowest thing; of several such, the one whose things come
-/// first in their order. It starts at a thing that is there: a pipe that a connect would make is as low as the step
-/// that writes it. That of an exec starts at the file, since nothing else is asked of it (RULES R110).
+/// It is the shortest; of several as short, the one from the lowest thing; of several such, the one whose
+/// things come first in their order. It starts at a thing that is there: a pipe that a connect would make is as
+/// low as the step that writes it. That of an exec starts at the file, since no other level is asked about
+/// (RULES R9).
 pub fn behind(monitor: &Monitor, code: u32, numbers: [u32; 6]) -> Vec<Link> {
     let sought = sought(code, numbers);
     let is_out_of_range = |thing: Thing| thing.index() >= Thing::COUNT;
@@ -89,8 +91,8 @@ fn link(monitor: &Monitor, thing: Thing) -> Option<Link> {
     }
 }
 
-/// All things that are there, by index, with the pipes that a connect would make: each has its writer's level (RULES
-/// C17).
+/// All things that are there, by index, with the pipes that a connect would make: each has its writer's level
+/// (RULES C17).
 fn links(monitor: &Monitor, code: u32, numbers: [u32; 6]) -> Vec<Option<Link>> {
     let mut links: Vec<Option<Link>> = Thing::all().map(|thing| link(monitor, thing)).collect();
     if code == CONNECT {
@@ -104,8 +106,8 @@ fn links(monitor: &Monitor, code: u32, numbers: [u32; 6]) -> Vec<Option<Link>> {
     links
 }
 
-/// For each thing, by index, to which things data could flow from it, with the flows that the call would add. An exec
-/// is asked without the step's own marked handles and mappings (RULES R110).
+/// For each thing, by index, to which things data could flow from it, with the flows that the call would add. An
+/// exec is asked without the step's own marked handles and mappings (RULES R110).
 fn next(monitor: &Monitor, code: u32, numbers: [u32; 6]) -> Vec<Vec<usize>> {
     let mut flows = sought(code, numbers);
     for s in 0..SUBJECTS {
@@ -122,8 +124,9 @@ fn next(monitor: &Monitor, code: u32, numbers: [u32; 6]) -> Vec<Vec<usize>> {
     next
 }
 
-/// The shortest way from a thing to a file of a higher level, the first of these in the order of things. It is looked
-/// for breadth first: where each thing's next ones are in order, ways that are as long are reached in theirs.
+/// The shortest way from a thing to a file of a higher level, the first of these in the order of things. It is
+/// looked for breadth first: where each thing's next ones are in order, ways that are as long are reached in
+/// theirs.
 fn way_up(start: Link, links: &[Option<Link>], next: &[Vec<usize>]) -> Option<Vec<Link>> {
     // Each thing that was reached, with the place here of the one before it.
     let mut reached = vec![(start, 0)];
@@ -218,7 +221,7 @@ mod tests {
     #[test]
     fn an_exec_starts_at_the_file_alone() -> Result<(), Refusal> {
         let mut monitor = book()?;
-        // Step 1, which is lower still, writes the file that is run; an exec does not ask who does.
+        // Step 1 writes the file that is run; an exec does not ask who does.
         monitor.admit(1, 2).granted()?;
         monitor.open_write(1, 1, 0).granted()?;
         let up = [(Object(1), 2), (Step(0), 9), (Object(0), 9)];

@@ -13,8 +13,8 @@ impl Thing {
     /// How many there can be.
     pub const COUNT: usize = (SUBJECTS + OBJECTS) as usize;
 
-    /// Its number among all things, below [`Thing::COUNT`]: the steps, then the files and pipes. One that cannot be has
-    /// a number above them all.
+    /// Its number among all things, below [`Thing::COUNT`]: the steps, then the files and pipes. One that
+    /// cannot be has a number above them all.
     pub fn index(self) -> usize {
         match self {
             Thing::Step(s) if s < SUBJECTS => s as usize,
@@ -23,19 +23,9 @@ impl Thing {
         }
     }
 
-    /// The thing of a number below [`Thing::COUNT`].
-    pub fn from_index(index: usize) -> Thing {
-        let index = index as u32;
-        if index < SUBJECTS {
-            Thing::Step(index)
-        } else {
-            Thing::Object(index - SUBJECTS)
-        }
-    }
-
     /// All that can be, in their order.
     pub fn all() -> impl Iterator<Item = Thing> {
-        (0..Thing::COUNT).map(Thing::from_index)
+        (0..SUBJECTS).map(Thing::Step).chain((0..OBJECTS).map(Thing::Object))
     }
 }
 
