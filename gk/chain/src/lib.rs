@@ -1,8 +1,8 @@
 //! The chain behind a refusal 9: how something low could reach a higher file if the call were let through.
 //!
 //! That a call is refused with 9 exactly where there is such a chain is proved (RULES R9). Which one it is,
-//! [`behind`] finds, and that is NOT PROVED. `gk explain` and the duty screen both show what it finds, so that
-//! they show the same.
+//! [`behind`] finds, and that is NOT PROVED. `gk explain` and the duty screen both show what it finds, so
+//! that they show the same.
 //!
 //! ```
 //! use gatekeeper::{Answer, Call, Monitor, Refusal};
@@ -64,8 +64,8 @@ pub fn sought(code: u32, numbers: [u32; 6]) -> Vec<(Thing, Thing)> {
 /// the monitor before the call. It is empty where there is none, and where a number is out of range.
 ///
 /// It is the shortest; of several as short, the one from the lowest thing; of several such, the one whose
-/// things come first in their order. It starts at a thing that is there: a pipe that a connect would make is as
-/// low as the step that writes it. That of an exec starts at the file, since no other level is asked about
+/// things come first in their order. It starts at a thing that is there: a pipe that a connect would make is
+/// as low as the step that writes it. That of an exec starts at the file, since no other level is asked about
 /// (RULES R9).
 pub fn behind(monitor: &Monitor, code: u32, numbers: [u32; 6]) -> Vec<Link> {
     let sought = sought(code, numbers);
@@ -106,8 +106,8 @@ fn links(monitor: &Monitor, code: u32, numbers: [u32; 6]) -> Vec<Option<Link>> {
     links
 }
 
-/// For each thing, by index, to which things data could flow from it, with the flows that the call would add. An
-/// exec is asked without the step's own marked handles and mappings (RULES R110).
+/// For each thing, by index, to which things data could flow from it, with the flows that the call would add.
+/// An exec is asked without the step's own marked handles and mappings (RULES R110).
 fn next(monitor: &Monitor, code: u32, numbers: [u32; 6]) -> Vec<Vec<usize>> {
     let mut flows = sought(code, numbers);
     for s in 0..SUBJECTS {
@@ -124,9 +124,9 @@ fn next(monitor: &Monitor, code: u32, numbers: [u32; 6]) -> Vec<Vec<usize>> {
     next
 }
 
-/// The shortest way from a thing to a file of a higher level, the first of these in the order of things. It is
-/// looked for breadth first: where each thing's next ones are in order, ways that are as long are reached in
-/// theirs.
+/// The shortest way from a thing to a file of a higher level, the first of these in the order of things. It
+/// is looked for breadth first: where each thing's next ones are in order, ways that are as long are reached
+/// in theirs.
 fn way_up(start: Link, links: &[Option<Link>], next: &[Vec<usize>]) -> Option<Vec<Link>> {
     // Each thing that was reached, with the place here of the one before it.
     let mut reached = vec![(start, 0)];

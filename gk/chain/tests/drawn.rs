@@ -1,4 +1,5 @@
-//! Drawn calls: each that is refused with 9 has a chain, and it is the one that is to be chosen, told in another way.
+//! Drawn calls: each that is refused with 9 has a chain, and it is the one that is to be chosen, which is told
+//! in another way here.
 
 use gatekeeper::{Answer, Kind, Monitor, Refusal, Way, OBJECTS, PLACES, SUBJECTS};
 use gk_chain::{behind, flow, sought, Link, Thing};
@@ -57,7 +58,8 @@ fn drawn(draw: &mut Draw, size: &Size, monitor: &Monitor) -> (u32, [u32; 6]) {
     (code, numbers)
 }
 
-/// What a call refused with 9 met: the things that were there, those that it would make, and all flows with its own.
+/// What a call refused with 9 met: the things that were there, those that it would make, and all flows with
+/// its own.
 struct Met {
     there: Vec<Link>,
     made: Vec<Link>,
