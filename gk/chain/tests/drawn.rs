@@ -1,5 +1,5 @@
-//! Drawn calls: each that is refused with 9 has a chain, and it is the one that is to be chosen, which is told
-//! in another way here.
+//! Drawn calls: each that is refused with 9 has a chain, and it is the one that is to be chosen, which is
+//! told in another way here.
 
 use gatekeeper::{Answer, Kind, Monitor, Refusal, Way, OBJECTS, PLACES, SUBJECTS};
 use gk_chain::{behind, flow, sought, Link, Thing};
