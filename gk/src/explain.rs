@@ -10,9 +10,9 @@ pub mod scene;
 pub mod summary;
 
 use gatekeeper::{Answer, Call, Monitor};
+use gk_chain::Link;
 
 use crate::advice::{Closing, Counsel};
-use crate::chain::Link;
 use crate::names::Names;
 use crate::run::{agrees, Content, Run, Step};
 use crate::text::{paragraph, wrapped};

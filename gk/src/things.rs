@@ -3,30 +3,11 @@
 use gatekeeper::{Handle, Kind, Monitor, Way};
 
 /// How many steps, files and pipes, and places of a step there can be.
-pub const STEPS: u32 = 32;
-pub const OBJECTS: u32 = 64;
-pub const PLACES: u32 = 16;
+pub use gatekeeper::{OBJECTS, PLACES, SUBJECTS as STEPS};
+pub use gk_chain::Thing;
+
 /// The highest level.
 pub const HIGHEST: u32 = 15;
-
-/// A step, or a file or pipe.
-#[derive(Clone, Copy, Debug, PartialEq, Eq, PartialOrd, Ord)]
-pub enum Thing {
-    Step(u32),
-    Object(u32),
-}
-
-impl Thing {
-    /// A number below [`Thing::COUNT`] of its own, for arrays.
-    pub fn index(self) -> usize {
-        match self {
-            Thing::Step(s) => s as usize,
-            Thing::Object(o) => (STEPS + o) as usize,
-        }
-    }
-
-    pub const COUNT: usize = (STEPS + OBJECTS) as usize;
-}
 
 /// A handle with its holder and its place.
 #[derive(Clone, Copy, Debug, PartialEq, Eq)]
@@ -51,12 +32,7 @@ impl Held {
 
     /// RULES F1, F2: from where to where data can flow through it.
     pub fn flow(self) -> (Thing, Thing) {
-        let (step, object) = (Thing::Step(self.step), Thing::Object(self.object()));
-        if self.writes() {
-            (step, object)
-        } else {
-            (object, step)
-        }
+        gk_chain::flow(self.step, self.handle)
     }
 }
 

@@ -257,11 +257,11 @@ fn channels_are_explained() {
     sees(
         &text,
         &[
-            "writing at place 4: what pipe 6 has could then reach file 0. Refused (9): low data could reach a \
+            "writing at place 4: what step 1 has could then reach file 0. Refused (9): low data could reach a \
              higher file. Neither pipe is made.",
-            "pipe 6 (level 8) → step 0 (level 9) → file 0 (level 9) What to do: close place 0 (writing file 0) of \
-             step 0; connect them after that. Or: if data need only go from step 0 to step 1, let step 0 make pipe \
-             5 and step 1 open it for reading. End",
+            "step 1 (level 8) → pipe 6 (level 8) → step 0 (level 9) → file 0 (level 9) What to do: close place 0 \
+             (writing file 0) of step 0; connect them after that. Or: if data need only go from step 0 to step 1, \
+             let step 0 make pipe 5 and step 1 open it for reading. End",
         ],
     );
     let full: String = (0..15).map(|p| format!("open-read 0 0 {p}\n")).collect();

@@ -2,8 +2,8 @@
 //! the monitor, by the archive's own calls, before it is named.
 
 use gatekeeper::{Answer, Kind, Monitor, Refusal, Way};
+use gk_chain::Link;
 
-use crate::chain::{Chain, Link};
 use crate::phrase::{phrase, Phrase, Piece};
 use crate::refused::{Asked, Both};
 use crate::state::{flow, Thing, PLACES};
@@ -12,11 +12,11 @@ use crate::state::{flow, Thing, PLACES};
 const MOST_TRIED: usize = 6;
 
 impl Asked<'_> {
-    pub fn flow(&self, chain: Option<&Chain>) -> Both {
-        let Some((low, high)) = chain.and_then(|chain| chain.links.first().zip(chain.links.last())) else {
+    pub fn flow(&self, chain: &[Link]) -> Both {
+        let Some((low, high)) = chain.first().zip(chain.last()) else {
             return (Vec::new(), Vec::new());
         };
-        let through = chain.map_or(0, |chain| chain.links.len()).saturating_sub(2);
+        let through = chain.len().saturating_sub(2);
         let why = phrase![
             named(low),
             " has level ",
@@ -55,11 +55,10 @@ impl Asked<'_> {
 
     /// Handles whose closing, or marking, lets the call through: those of the step that asks first, then from the
     /// file down.
-    fn closes(&self, chain: Option<&Chain>) -> Vec<Phrase> {
+    fn closes(&self, chain: &[Link]) -> Vec<Phrase> {
         let s = self.numbers[0];
-        let links = chain.map_or(&[][..], |chain| &chain.links);
         let mut carried: Vec<Carriers> =
-            links.windows(2).rev().filter_map(|pair| self.carriers(pair)).collect();
+            chain.windows(2).rev().filter_map(|pair| self.carriers(pair)).collect();
         carried.sort_by_key(|carriers| carriers.step != s);
         carried.truncate(MOST_TRIED);
         let mut ways = Vec::new();

@@ -1,17 +1,16 @@
 //! The duty screen: a pay run to look at, in the terminal and as a page for a browser.
 //!
 //! What it shows comes from the proved archive through the crate `gatekeeper`: records and answers, levels, kinds,
-//! handles, needs and the freeze. It works none of that out. Only the chain behind a refusal 9 is looked for here, in
-//! `chain`, and is said to be not proved; a way out of a 9 is tried on a copy of the monitor before it is named.
+//! handles, needs and the freeze. It works none of that out. Only the chain behind a refusal 9 is looked for, by
+//! `gk_chain`, and is said to be not proved; a way out of a 9 is tried on a copy of the monitor before it is named.
 //!
 //! ```text
 //! cli ── follow ──┐
-//!  ├── terminal ──┼── told ── words, refused, flow, chain
+//!  ├── terminal ──┼── told ── words, refused, flow, gk_chain
 //!  └── page ──────┘    └── phrase ── names
 //!        └── order          records, state ── the archive
 //! ```
 
-mod chain;
 mod cli;
 mod flow;
 mod follow;

@@ -43,8 +43,7 @@ impl Names {
         if self.of.is_empty() {
             return;
         }
-        let things: Vec<Thing> = (0..96).map(Thing::from_index).collect();
-        for thing in things {
+        for thing in Thing::all() {
             match (before.level(thing).is_some(), after.level(thing).is_some()) {
                 (true, false) => drop(self.went.insert(thing, record)),
                 (false, true) => {

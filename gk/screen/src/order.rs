@@ -3,8 +3,6 @@
 
 use crate::state::{flow, State, Thing, OBJECTS, STEPS};
 
-const THINGS: usize = (STEPS + OBJECTS) as usize;
-
 /// What a refused flow weighs: as much as one that was open for so many records.
 const REFUSED: u64 = 20;
 
@@ -15,13 +13,13 @@ pub struct Joins {
     /// Likewise: how often a flow between them was refused.
     refused: Vec<u64>,
     /// The record at which a thing was there first.
-    first: [u64; THINGS],
+    first: [u64; Thing::COUNT],
 }
 
 impl Joins {
     pub fn new() -> Joins {
         let pairs = (STEPS * OBJECTS) as usize;
-        Joins { weights: vec![[0; 2]; pairs], refused: vec![0; pairs], first: [u64::MAX; THINGS] }
+        Joins { weights: vec![[0; 2]; pairs], refused: vec![0; pairs], first: [u64::MAX; Thing::COUNT] }
     }
 
     /// A state that held for so many records, from one on.
@@ -64,8 +62,8 @@ impl Joins {
     /// All things that were ever there, in the order of the graph.
     pub fn order(&self) -> Vec<Thing> {
         // Pairs are joined end to end, the longest first, to lines without a fork.
-        let mut line: Vec<usize> = (0..THINGS).collect();
-        let mut lines: Vec<Vec<Thing>> = (0..THINGS).map(|index| vec![Thing::from_index(index)]).collect();
+        let mut line: Vec<usize> = (0..Thing::COUNT).collect();
+        let mut lines: Vec<Vec<Thing>> = Thing::all().map(|thing| vec![thing]).collect();
         for (from, to, _) in self.pairs(false) {
             let (one, other) = (line[from.index()], line[to.index()]);
             if one == other {
@@ -119,8 +117,8 @@ impl Joins {
     }
 
     /// For each thing the one that it was joined to longest.
-    pub fn nearest(&self) -> [Option<Thing>; THINGS] {
-        let mut nearest = [None; THINGS];
+    pub fn nearest(&self) -> [Option<Thing>; Thing::COUNT] {
+        let mut nearest = [None; Thing::COUNT];
         for (from, to, _) in self.pairs(true) {
             nearest[from.index()].get_or_insert(to);
             nearest[to.index()].get_or_insert(from);

@@ -6,7 +6,6 @@ use std::fmt::Write;
 
 use gatekeeper::{Kind, Refusal, Way, NO_FREEZE};
 
-use crate::chain::Chain;
 use crate::names::Names;
 use crate::order::Joins;
 use crate::phrase::Phrase;
@@ -165,9 +164,9 @@ fn record(turn: &Turn, told: &Told, changes: &str, words: &mut Words) -> String 
         turn.body.code(),
         about.join(",")
     )];
-    if let Some(Chain { links }) = &told.chain {
+    if !told.chain.is_empty() {
         let links: Vec<String> =
-            links.iter().map(|link| format!("{},{}", link.thing.index(), link.level)).collect();
+            told.chain.iter().map(|link| format!("{},{}", link.thing.index(), link.level)).collect();
         fields.push(format!("[{}]", links.join(",")));
         let sought =
             told.sought.iter().filter_map(|&(from, to)| Some(format!("{},{}", index(from)?, index(to)?)));
@@ -178,11 +177,7 @@ fn record(turn: &Turn, told: &Told, changes: &str, words: &mut Words) -> String 
 
 /// The number of a thing that can be.
 fn index(thing: Thing) -> Option<String> {
-    let fits = match thing {
-        Thing::Step(s) => s < STEPS,
-        Thing::Object(o) => o < OBJECTS,
-    };
-    fits.then(|| thing.index().to_string())
+    (thing.index() < Thing::COUNT).then(|| thing.index().to_string())
 }
 
 /// What stands where a thing's number would, for the freeze.

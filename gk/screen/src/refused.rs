@@ -1,8 +1,8 @@
 //! Why a record is refused, and the ways out. Refusal 9 is in `flow`.
 
 use gatekeeper::{Kind, Monitor, Refusal, Way};
+use gk_chain::Link;
 
-use crate::chain::Chain;
 use crate::phrase::{object, phrase, Phrase, Piece};
 use crate::records::{Body, Turn};
 use crate::state::{State, OBJECTS, PLACES, STEPS};
@@ -25,7 +25,7 @@ pub fn reasons(
     turn: &Turn,
     refusal: Refusal,
     before: &State,
-    chain: Option<&Chain>,
+    chain: &[Link],
     closing: Option<Closing>,
 ) -> Both {
     match turn.body {
@@ -79,7 +79,7 @@ pub struct Asked<'a> {
 }
 
 impl Asked<'_> {
-    fn reasons(&self, refusal: Refusal, chain: Option<&Chain>, closing: Option<Closing>) -> Both {
+    fn reasons(&self, refusal: Refusal, chain: &[Link], closing: Option<Closing>) -> Both {
         let one = |why: Phrase, way: Phrase| (vec![why], vec![way]);
         let [a, b, ..] = self.numbers;
         match refusal {

@@ -1,38 +1,10 @@
 //! What a monitor's tables hold at one moment, all of it asked of the proved archive through the crate.
 
-use gatekeeper::{Handle, Kind, Monitor, Way};
+use gatekeeper::{Handle, Kind, Monitor};
 
 /// How many there can be of each.
-pub const STEPS: u32 = 32;
-pub const OBJECTS: u32 = 64;
-pub const PLACES: u32 = 16;
-
-/// A step, file or pipe, by number.
-#[derive(Clone, Copy, Debug, PartialEq, Eq, PartialOrd, Ord, Hash)]
-pub enum Thing {
-    Step(u32),
-    Object(u32),
-}
-
-impl Thing {
-    /// Its number among all things: the steps, then the files and pipes. A step that cannot be has one above them all.
-    pub fn index(self) -> usize {
-        match self {
-            Thing::Step(s) if s < STEPS => s as usize,
-            Thing::Step(s) => OBJECTS as usize + s as usize,
-            Thing::Object(o) => STEPS as usize + o as usize,
-        }
-    }
-
-    pub fn from_index(index: usize) -> Thing {
-        let index = index as u32;
-        if index < STEPS {
-            Thing::Step(index)
-        } else {
-            Thing::Object(index - STEPS)
-        }
-    }
-}
+pub use gatekeeper::{OBJECTS, PLACES, SUBJECTS as STEPS};
+pub use gk_chain::{flow, Thing};
 
 /// What is known of a running step.
 #[derive(Clone, Copy, Debug, PartialEq, Eq)]
@@ -140,14 +112,5 @@ impl State {
 
     pub fn kind(&self, o: u32) -> Option<Kind> {
         self.object(o).map(|object| object.kind)
-    }
-}
-
-/// From where to where a handle lets data go.
-pub fn flow(s: u32, handle: Handle) -> (Thing, Thing) {
-    let (step, object) = (Thing::Step(s), Thing::Object(handle.object.into()));
-    match handle.way {
-        Way::Writes => (step, object),
-        Way::Reads | Way::Maps => (object, step),
     }
 }

@@ -3,8 +3,8 @@
 use std::collections::VecDeque;
 
 use gatekeeper::{Answer, Way};
+use gk_chain::Link;
 
-use crate::chain::{Chain, Link};
 use crate::names::Names;
 use crate::phrase::{ranges, Phrase, Piece};
 use crate::records::{letter_and_value, Turn};
@@ -123,7 +123,7 @@ impl Screen {
         if !is_full {
             return lines;
         }
-        let chain = told.chain.as_ref().map(|chain| self.chain(chain));
+        let chain = (!told.chain.is_empty()).then(|| self.chain(&told.chain));
         let why = chain.into_iter().chain(told.why.iter().take(1).map(|why| self.said(why)));
         for text in why {
             lines.extend(wrapped(&" ".repeat(7), &text, 9).into_iter().map(|line| Line(Look::Plain, line)));
@@ -132,7 +132,7 @@ impl Screen {
     }
 
     /// A chain in words; what was looked for and is not proved is said to be so.
-    fn chain(&self, chain: &Chain) -> String {
+    fn chain(&self, chain: &[Link]) -> String {
         let link = |link: &Link| {
             let piece = match (link.thing, link.kind) {
                 (Thing::Step(s), _) => Piece::Step(s),
@@ -142,8 +142,7 @@ impl Screen {
             let named = Phrase(vec![piece]).middle(&self.names, self.position);
             format!("{named} at {}", link.level)
         };
-        let links = &chain.links;
-        let mut words: Vec<String> = links.iter().map(link).collect();
+        let mut words: Vec<String> = chain.iter().map(link).collect();
         if words.len() > MOST_LINKS {
             let left = words.len() - MOST_LINKS + 1;
             words.splice(5..5 + left, [format!("{left} more")]);

@@ -3,8 +3,8 @@
 use std::collections::HashMap;
 
 use gatekeeper::{Answer, Refusal};
+use gk_chain::{behind, sought, Link};
 
-use crate::chain::{chain, sought, Chain};
 use crate::names::Names;
 use crate::phrase::{object, phrase, Phrase, Piece};
 use crate::records::{Body, Run, Turn};
@@ -19,7 +19,8 @@ pub struct Told {
     pub why: Vec<Phrase>,
     pub ways: Vec<Phrase>,
     pub changed: Vec<Phrase>,
-    pub chain: Option<Chain>,
+    /// The chain behind a 9, from the low thing to the higher file.
+    pub chain: Vec<Link>,
     /// The flows that a call refused with 9 would have added.
     pub sought: Vec<(Thing, Thing)>,
     /// The things that the record is about.
@@ -63,10 +64,10 @@ impl Memory {
         };
         if let Some(refusal) = turn.refusal() {
             if let (Refusal::Flow, Body::Call { code, numbers }) = (refusal, turn.body) {
-                told.chain = chain(code, numbers, before);
+                told.chain = behind(&turn.before, code, numbers);
                 told.sought = sought(code, numbers);
             }
-            (told.why, told.ways) = reasons(turn, refusal, before, told.chain.as_ref(), self.closing);
+            (told.why, told.ways) = reasons(turn, refusal, before, &told.chain, self.closing);
         } else {
             told.why = self.why_it_may(turn, before);
         }

@@ -6,8 +6,8 @@ use gatekeeper_independent::needs::{Needs, Thing as Other};
 use gatekeeper_independent::replies;
 use gatekeeper_independent::tables::{Direction, Kind as OtherKind, Tables};
 use gatekeeper_independent::variants::Rules;
+use gk_chain::sought;
 
-use crate::chain::sought;
 use crate::names::Names;
 use crate::page::page;
 use crate::records::{Body, Run};
@@ -85,15 +85,14 @@ fn what_is_shown_is_what_the_independent_program_has() {
             lines.push('\n');
             let told = memory.tell(&turn, &before, &state);
             let is_nine = lines.ends_with(" R 9\n");
-            assert_eq!(told.chain.is_some(), is_nine, "{}", turn.line());
-            if let (Body::Call { code, numbers }, Some(chain)) = (turn.body, &told.chain) {
+            assert_eq!(!told.chain.is_empty(), is_nine, "{}", turn.line());
+            if let (Body::Call { code, numbers }, [low, .., high]) = (turn.body, &told.chain[..]) {
                 is_a_way(
                     code,
                     numbers,
                     &before,
-                    &chain.links.iter().map(|link| link.thing).collect::<Vec<_>>(),
+                    &told.chain.iter().map(|link| link.thing).collect::<Vec<_>>(),
                 );
-                let (low, high) = (chain.links[0], chain.links[chain.links.len() - 1]);
                 assert!(low.level < high.level && high.kind == Some(Kind::File));
                 assert!(!told.ways.is_empty());
                 nines += 1;

@@ -1,11 +1,11 @@
 //! A journal as JSON, an object a line: one for each record, and a last one for the end. docs/JSON.md has the schema.
 
-use gatekeeper::{Answer, Call, Kind as ObjectKind, Monitor};
+use gatekeeper::{Answer, Call, Kind as ObjectKind};
+use gk_chain::Link;
 
 use super::{tell, Differs, Told, Which};
 use crate::advice::Advice;
 use crate::calls::{assembly_of, shape_of_code};
-use crate::chain::Link;
 use crate::names::{Kind, Names};
 use crate::run::Content;
 use crate::things::Thing;
@@ -57,8 +57,7 @@ fn record(told: &Told) -> Object {
         std::iter::once(&told.title).chain(&told.facts).map(|text| string(text)).collect();
     object.raw("said", list(&said));
     if !told.chain.is_empty() {
-        let links: Vec<String> =
-            told.chain.iter().map(|(link, name)| link_text(*link, name, &step.before)).collect();
+        let links: Vec<String> = told.chain.iter().map(|(link, name)| link_text(*link, name)).collect();
         let mut chain = Object::default();
         chain.raw("proved", "false".to_string());
         chain.raw("links", list(&links));
@@ -94,13 +93,11 @@ fn call_fields(call: Call, names: &[(&'static str, String)], object: &mut Object
     }
 }
 
-fn link_text(link: Link, name: &str, before: &Monitor) -> String {
-    let (kind, number) = match link.thing {
-        Thing::Step(s) => (Kind::Step, s),
-        Thing::Object(o) => match before.object(o).map(|object| object.kind) {
-            Some(ObjectKind::File) => (Kind::File, o),
-            _ => (Kind::Pipe, o),
-        },
+fn link_text(link: Link, name: &str) -> String {
+    let (kind, number) = match (link.thing, link.kind) {
+        (Thing::Step(s), _) => (Kind::Step, s),
+        (Thing::Object(o), Some(ObjectKind::File)) => (Kind::File, o),
+        (Thing::Object(o), _) => (Kind::Pipe, o),
     };
     let mut object = Object::default();
     object.string("kind", kind.word());

@@ -1,12 +1,12 @@
 //! A refusal in words: what did not happen and why, the chain behind a 9, and the ways out.
 
 use gatekeeper::{Call, Refusal, NO_FREEZE};
+use gk_chain::{behind, Link};
 
 use super::asked::{asked, not_done};
 use super::scene::{listed, sentence, way_word, Scene};
 use crate::advice::{counsel, Closing, Counsel};
 use crate::calls::number_of;
-use crate::chain::{behind, Link};
 use crate::names::Kind;
 use crate::records::{body_words, length_words};
 use crate::run::Content;
@@ -22,9 +22,12 @@ pub struct Refused {
 
 /// A call that was refused; `scene` is the moment before it.
 pub fn refused(call: Call, refusal: Refusal, scene: Scene, closing: Option<Closing>) -> Refused {
-    let chain = if refusal == Refusal::Flow { behind(call, scene.monitor) } else { None };
+    let chain = match refusal {
+        Refusal::Flow => behind(scene.monitor, call.code(), call.numbers()),
+        _ => Vec::new(),
+    };
     let chain: Vec<(Link, String)> =
-        chain.unwrap_or_default().into_iter().map(|link| (link, link_name(link, call, scene))).collect();
+        chain.into_iter().map(|link| (link, link_name(link, call, scene))).collect();
     let why = why(call, refusal, scene, closing, &chain);
     let asked = asked(call, scene, false);
     let title = if why.is_empty() { format!("{asked}.") } else { format!("{asked}: {why}.") };

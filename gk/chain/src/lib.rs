@@ -1,0 +1,261 @@
+//! The chain behind a refusal 9: how something low could reach a higher file if the call were let through.
+//!
+//! That a call is refused with 9 exactly where there is such a chain is proved (RULES R9). Which one it is,
+//! [`behind`] finds, and that is NOT PROVED. `gk explain` and the duty screen both show what it finds, so
+//! that they show the same.
+//!
+//! ```
+//! use gatekeeper::{Answer, Call, Monitor, Refusal};
+//! use gk_chain::{behind, Thing};
+//!
+//! let mut monitor = Monitor::new();
+//! monitor.admit(0, 9).granted()?; // a step of level 9
+//! monitor.register(0, 9).granted()?; // the pay book
+//! monitor.register(1, 2).granted()?; // an hours sheet
+//! monitor.open_write(0, 0, 0).granted()?;
+//!
+//! let call = Call::OpenRead { subject: 0, object: 1, place: 1 };
+//! assert_eq!(monitor.call(call), Answer::Refused(Refusal::Flow));
+//! let chain = behind(&monitor, call.code(), call.numbers());
+//! let things: Vec<Thing> = chain.iter().map(|link| link.thing).collect();
+//! assert_eq!(things, [Thing::Object(1), Thing::Step(0), Thing::Object(0)]);
+//! # Ok::<(), Refusal>(())
+//! ```
+
+mod thing;
+
+use gatekeeper::{Kind, Monitor, Way, PLACES, SUBJECTS};
+
+pub use thing::{flow, Thing};
+
+/// The codes of the calls that add a flow.
+const OPEN_READ: u32 = 5;
+const OPEN_WRITE: u32 = 6;
+const EXEC: u32 = 10;
+const MAP: u32 = 14;
+const CONNECT: u32 = 17;
+
+/// A thing of a chain.
+#[derive(Clone, Copy, Debug, PartialEq, Eq)]
+pub struct Link {
+    pub thing: Thing,
+    /// What it is where it is no step; a pipe that a connect would make is one, too.
+    pub kind: Option<Kind>,
+    pub level: u8,
+}
+
+/// The flows that a call would add; none for a call that adds none.
+pub fn sought(code: u32, numbers: [u32; 6]) -> Vec<(Thing, Thing)> {
+    let [s, other, to, from, ..] = numbers;
+    let (step, object) = (Thing::Step(s), Thing::Object(other));
+    match code {
+        // Running a file is a flow from it to the step.
+        OPEN_READ | MAP | EXEC => vec![(object, step)],
+        OPEN_WRITE => vec![(step, object)],
+        CONNECT => {
+            let (peer, to, from) = (Thing::Step(other), Thing::Object(to), Thing::Object(from));
+            vec![(step, to), (to, peer), (peer, from), (from, step)]
+        }
+        _ => Vec::new(),
+    }
+}
+
+/// The chain of flows that a call refused with 9 would have closed, from the low thing to the higher file, in
+/// the monitor before the call. It is empty where there is none, and where a number is out of range.
+///
+/// It is the shortest; of several as short, the one from the lowest thing; of several such, the one whose
+/// things come first in their order. It starts at a thing that is there: a pipe that a connect would make is
+/// as low as the step that writes it. That of an exec starts at the file, since no other level is asked about
+/// (RULES R9).
+pub fn behind(monitor: &Monitor, code: u32, numbers: [u32; 6]) -> Vec<Link> {
+    let sought = sought(code, numbers);
+    let is_out_of_range = |thing: Thing| thing.index() >= Thing::COUNT;
+    if sought.is_empty() || sought.iter().any(|&(from, to)| is_out_of_range(from) || is_out_of_range(to)) {
+        return Vec::new();
+    }
+    let links = links(monitor, code, numbers);
+    let next = next(monitor, code, numbers);
+    let is_start = |thing: Thing| code != EXEC || thing == Thing::Object(numbers[1]);
+    let starts = Thing::all().filter_map(|thing| link(monitor, thing)).filter(|link| is_start(link.thing));
+    let chains = starts.filter_map(|start| way_up(start, &links, &next));
+    chains.min_by_key(|chain| (chain.len(), chain[0].level)).unwrap_or_default()
+}
+
+/// A thing as it is before the call; none where it is not there.
+fn link(monitor: &Monitor, thing: Thing) -> Option<Link> {
+    match thing {
+        Thing::Step(s) => monitor.subject(s).map(|level| Link { thing, kind: None, level }),
+        Thing::Object(o) => {
+            monitor.object(o).map(|object| Link { thing, kind: Some(object.kind), level: object.level })
+        }
+    }
+}
+
+/// All things that are there, by index, with the pipes that a connect would make: each has its writer's level
+/// (RULES C17).
+fn links(monitor: &Monitor, code: u32, numbers: [u32; 6]) -> Vec<Option<Link>> {
+    let mut links: Vec<Option<Link>> = Thing::all().map(|thing| link(monitor, thing)).collect();
+    if code == CONNECT {
+        let [s, peer, to, from, ..] = numbers;
+        for (writer, pipe) in [(s, to), (peer, from)] {
+            let thing = Thing::Object(pipe);
+            links[thing.index()] =
+                monitor.subject(writer).map(|level| Link { thing, kind: Some(Kind::Pipe), level });
+        }
+    }
+    links
+}
+
+/// For each thing, by index, to which things data could flow from it, with the flows that the call would add.
+/// An exec is asked without the step's own marked handles and mappings (RULES R110).
+fn next(monitor: &Monitor, code: u32, numbers: [u32; 6]) -> Vec<Vec<usize>> {
+    let mut flows = sought(code, numbers);
+    for s in 0..SUBJECTS {
+        let is_exec = code == EXEC && s == numbers[0];
+        let held = (0..PLACES).filter_map(|place| monitor.handle(s, place));
+        let counted = held.filter(|handle| !(is_exec && (handle.marked || handle.way == Way::Maps)));
+        flows.extend(counted.map(|handle| flow(s, handle)));
+    }
+    flows.sort_unstable();
+    let mut next = vec![Vec::new(); Thing::COUNT];
+    for (from, to) in flows {
+        next[from.index()].push(to.index());
+    }
+    next
+}
+
+/// The shortest way from a thing to a file of a higher level, the first of these in the order of things. It
+/// is looked for breadth first: where each thing's next ones are in order, ways that are as long are reached
+/// in theirs.
+fn way_up(start: Link, links: &[Option<Link>], next: &[Vec<usize>]) -> Option<Vec<Link>> {
+    // Each thing that was reached, with the place here of the one before it.
+    let mut reached = vec![(start, 0)];
+    let mut is_known = [false; Thing::COUNT];
+    is_known[start.thing.index()] = true;
+    let mut at = 0;
+    while let Some(&(here, _)) = reached.get(at) {
+        if here.kind == Some(Kind::File) && here.level > start.level {
+            return Some(way_to(at, &reached));
+        }
+        for &index in &next[here.thing.index()] {
+            if let (Some(there), false) = (links[index], is_known[index]) {
+                is_known[index] = true;
+                reached.push((there, at));
+            }
+        }
+        at += 1;
+    }
+    None
+}
+
+/// The way to a thing that was reached, from the first one.
+fn way_to(mut at: usize, reached: &[(Link, usize)]) -> Vec<Link> {
+    let mut way = vec![reached[at].0];
+    while at != 0 {
+        at = reached[at].1;
+        way.push(reached[at].0);
+    }
+    way.reverse();
+    way
+}
+
+#[cfg(test)]
+mod tests {
+    use super::*;
+    use gatekeeper::{Answer, Refusal};
+    use Thing::{Object, Step};
+
+    fn found(monitor: &mut Monitor, code: u32, numbers: [u32; 6]) -> Vec<(Thing, u8)> {
+        let chain = behind(monitor, code, numbers);
+        assert_eq!(monitor.direct(code, numbers), Answer::Refused(Refusal::Flow));
+        chain.iter().map(|link| (link.thing, link.level)).collect()
+    }
+
+    /// Step 0 of level 9 writes file 0 of level 9; file 1 has level 2.
+    fn book() -> Result<Monitor, Refusal> {
+        let mut monitor = Monitor::new();
+        monitor.admit(0, 9).granted()?;
+        monitor.register(0, 9).granted()?;
+        monitor.register(1, 2).granted()?;
+        monitor.open_write(0, 0, 0).granted()?;
+        Ok(monitor)
+    }
+
+    #[test]
+    fn the_chain_of_each_call() -> Result<(), Refusal> {
+        let mut monitor = book()?;
+        let up = [(Object(1), 2), (Step(0), 9), (Object(0), 9)];
+        assert_eq!(found(&mut monitor, OPEN_READ, [0, 1, 1, 0, 0, 0]), up);
+        assert_eq!(found(&mut monitor, MAP, [0, 1, 1, 0, 0, 0]), up);
+        assert_eq!(found(&mut monitor, EXEC, [0, 1, 0, 0, 0, 0]), up);
+
+        monitor.admit(1, 5).granted()?;
+        assert_eq!(found(&mut monitor, OPEN_WRITE, [1, 0, 0, 0, 0, 0]), [(Step(1), 5), (Object(0), 9)]);
+        let channel = found(&mut monitor, CONNECT, [0, 1, 5, 6, 1, 2]);
+        assert_eq!(channel, [(Step(1), 5), (Object(6), 5), (Step(0), 9), (Object(0), 9)]);
+        Ok(())
+    }
+
+    #[test]
+    fn each_link_has_its_kind() -> Result<(), Refusal> {
+        let mut monitor = book()?;
+        monitor.admit(1, 5).granted()?;
+        let chain = behind(&monitor, CONNECT, [0, 1, 5, 6, 1, 2]);
+        let kinds: Vec<Option<Kind>> = chain.iter().map(|link| link.kind).collect();
+        assert_eq!(kinds, [None, Some(Kind::Pipe), None, Some(Kind::File)]);
+        Ok(())
+    }
+
+    #[test]
+    fn what_an_exec_leaves_out_is_in_no_chain() -> Result<(), Refusal> {
+        let mut monitor = book()?;
+        monitor.open_write(0, 0, 3).granted()?;
+        monitor.mark(0, 0).granted()?;
+        assert_eq!(found(&mut monitor, EXEC, [0, 1, 0, 0, 0, 0]).len(), 3);
+        monitor.mark(0, 3).granted()?;
+        assert!(behind(&monitor, EXEC, [0, 1, 0, 0, 0, 0]).is_empty());
+        assert_eq!(monitor.exec(0, 1), Answer::Lowered(2));
+        Ok(())
+    }
+
+    #[test]
+    fn an_exec_starts_at_the_file_alone() -> Result<(), Refusal> {
+        let mut monitor = book()?;
+        // Step 1 writes the file that is run; an exec does not ask who does.
+        monitor.admit(1, 2).granted()?;
+        monitor.open_write(1, 1, 0).granted()?;
+        let up = [(Object(1), 2), (Step(0), 9), (Object(0), 9)];
+        assert_eq!(found(&mut monitor, EXEC, [0, 1, 0, 0, 0, 0]), up);
+        Ok(())
+    }
+
+    #[test]
+    fn of_several_as_short_the_one_from_the_lowest_then_the_first() -> Result<(), Refusal> {
+        let mut monitor = Monitor::new();
+        for (step, level) in [(0, 9), (1, 6), (2, 4), (3, 4), (4, 12)] {
+            monitor.admit(step, level).granted()?;
+        }
+        monitor.register(0, 9).granted()?;
+        monitor.register(1, 9).granted()?;
+        monitor.pipe(4, 8, 0, 1).granted()?;
+        monitor.close(4, 0).granted()?;
+        for step in [3, 2, 1] {
+            monitor.open_write(step, 8, 0).granted()?;
+        }
+        monitor.open_write(0, 1, 5).granted()?;
+        monitor.open_write(0, 0, 6).granted()?;
+        // Steps 1, 2 and 3 are too low; 2 and 3 are lowest. The file of the lower number is opened later.
+        let up = [(Step(2), 4), (Object(8), 12), (Step(0), 9), (Object(0), 9)];
+        assert_eq!(found(&mut monitor, OPEN_READ, [0, 8, 1, 0, 0, 0]), up);
+        Ok(())
+    }
+
+    #[test]
+    fn numbers_out_of_range_are_no_chain() {
+        let monitor = Monitor::new();
+        for code in 0..20 {
+            assert!(behind(&monitor, code, [u32::MAX; 6]).is_empty());
+            assert!(behind(&monitor, code, [64; 6]).is_empty());
+        }
+    }
+}

@@ -1,0 +1,194 @@
+//! Drawn calls: each that is refused with 9 has a chain, and it is the one that is to be chosen, which is
+//! told in another way here.
+
+use gatekeeper::{Answer, Kind, Monitor, Refusal, Way, OBJECTS, PLACES, SUBJECTS};
+use gk_chain::{behind, flow, sought, Link, Thing};
+
+const RUNS: u64 = 500;
+const CALLS: usize = 600;
+
+/// Numbers that look drawn and are the same at each run of the tests (SplitMix64).
+struct Draw(u64);
+
+impl Draw {
+    fn below(&mut self, limit: u32) -> u32 {
+        self.0 = self.0.wrapping_add(0x9e37_79b9_7f4a_7c15);
+        let mut mixed = self.0;
+        mixed = (mixed ^ (mixed >> 30)).wrapping_mul(0xbf58_476d_1ce4_e5b9);
+        mixed = (mixed ^ (mixed >> 27)).wrapping_mul(0x94d0_49bb_1331_11eb);
+        ((((mixed ^ (mixed >> 31)) >> 32) * u64::from(limit)) >> 32) as u32
+    }
+
+    fn between(&mut self, low: u32, high: u32) -> u32 {
+        low + self.below(high - low + 1)
+    }
+}
+
+/// How many steps, files and pipes the calls of a run name.
+struct Size {
+    steps: u32,
+    objects: u32,
+}
+
+/// A call; most make handles, a few end them. What is to be new is so where that is possible.
+fn drawn(draw: &mut Draw, size: &Size, monitor: &Monitor) -> (u32, [u32; 6]) {
+    let codes = [1, 1, 2, 2, 4, 4, 5, 5, 6, 6, 9, 10, 14, 15, 17, 17, 17, 11, 3, 7, 8];
+    let code = match draw.below(80) {
+        0 => [12, 13][draw.below(2) as usize],
+        _ => codes[draw.below(codes.len() as u32) as usize],
+    };
+    let (s, t) = (draw.below(size.steps), draw.below(size.steps));
+    let (o, p, level) = (draw.below(size.objects), draw.below(PLACES), draw.below(16));
+    let mut new = (0..size.objects).rev().filter(|&o| monitor.object(o).is_none());
+    let (to, from) = (new.next().unwrap_or(o), new.next().unwrap_or(o));
+    let is_empty = |step: u32, place: u32| monitor.handle(step, place).is_none();
+    let mut empty = (0..PLACES).filter(|&place| is_empty(s, place) && (code != 17 || is_empty(t, place)));
+    let (one, other) = (empty.next().unwrap_or(p), empty.next().unwrap_or(p));
+    let numbers = match code {
+        1 => [s, level, 0, 0, 0, 0],
+        2 => [o, level, 0, 0, 0, 0],
+        4 => [s, to, one, other, 0, 0],
+        9 => [s, t, 0, 0, 0, 0],
+        7 | 8 | 11 | 15 => [s, p, 0, 0, 0, 0],
+        12 => [s, 0, 0, 0, 0, 0],
+        13 => [o, 0, 0, 0, 0, 0],
+        17 => [s, t, to, from, one, other],
+        _ => [s, o, one, 0, 0, 0],
+    };
+    (code, numbers)
+}
+
+/// What a call refused with 9 met: the things that were there, those that it would make, and all flows with
+/// its own.
+struct Met {
+    there: Vec<Link>,
+    made: Vec<Link>,
+    flows: Vec<(Thing, Thing)>,
+}
+
+impl Met {
+    fn of(monitor: &Monitor, code: u32, numbers: [u32; 6]) -> Met {
+        let step = |s: u32| Some(Link { thing: Thing::Step(s), kind: None, level: monitor.subject(s)? });
+        let object = |o: u32| {
+            let object = monitor.object(o)?;
+            Some(Link { thing: Thing::Object(o), kind: Some(object.kind), level: object.level })
+        };
+        let there = (0..SUBJECTS).filter_map(step).chain((0..OBJECTS).filter_map(object)).collect();
+        let [s, peer, to, from, ..] = numbers;
+        let made = match code {
+            17 => [(s, to), (peer, from)]
+                .into_iter()
+                .filter_map(|(writer, pipe)| {
+                    let level = monitor.subject(writer)?;
+                    Some(Link { thing: Thing::Object(pipe), kind: Some(Kind::Pipe), level })
+                })
+                .collect(),
+            _ => Vec::new(),
+        };
+        let mut flows = sought(code, numbers);
+        for (holder, place) in (0..SUBJECTS).flat_map(|s| (0..PLACES).map(move |place| (s, place))) {
+            if let Some(handle) = monitor.handle(holder, place) {
+                let ends_with_the_exec =
+                    code == 10 && holder == s && (handle.marked || handle.way == Way::Maps);
+                if !ends_with_the_exec {
+                    flows.push(flow(holder, handle));
+                }
+            }
+        }
+        Met { there, made, flows }
+    }
+
+    fn link(&self, thing: Thing) -> Link {
+        let mut known = self.there.iter().chain(&self.made);
+        *known.find(|link| link.thing == thing).expect("a flow joins things that are there or made")
+    }
+
+    /// For each thing the fewest flows to a file above a level: what a flow leads to is one flow nearer.
+    fn distances(&self, level: u8) -> [Option<usize>; Thing::COUNT] {
+        let mut distances = [None; Thing::COUNT];
+        for link in &self.there {
+            if link.kind == Some(Kind::File) && link.level > level {
+                distances[link.thing.index()] = Some(0);
+            }
+        }
+        loop {
+            let before = distances;
+            for &(from, to) in &self.flows {
+                if let Some(rest) = distances[to.index()] {
+                    let known = &mut distances[from.index()];
+                    *known = Some(known.map_or(rest + 1, |known: usize| known.min(rest + 1)));
+                }
+            }
+            if distances == before {
+                return distances;
+            }
+        }
+    }
+
+    /// The chain that is to be chosen: at each thing the first of the next ones that are a flow nearer.
+    fn chain(&self, starts: &[Link]) -> Vec<Link> {
+        let fewest = |link: &Link| self.distances(link.level)[link.thing.index()];
+        let known = starts.iter().filter_map(|link| Some((fewest(link)?, link.level, *link)));
+        let Some((_, level, start)) =
+            known.min_by_key(|&(fewest, level, link)| (fewest, level, link.thing))
+        else {
+            return Vec::new();
+        };
+        let distances = self.distances(level);
+        let mut chain = vec![start];
+        loop {
+            let here = chain[chain.len() - 1].thing;
+            let Some(rest) = distances[here.index()].filter(|&rest| rest > 0) else {
+                return chain;
+            };
+            let nearer = self
+                .flows
+                .iter()
+                .filter(|(from, to)| *from == here && distances[to.index()] == Some(rest - 1));
+            let first = nearer.map(|&(_, to)| to).min().expect("a flow leads nearer");
+            chain.push(self.link(first));
+        }
+    }
+}
+
+/// Sees that a call's chain is a chain, and the one that is to be chosen; says how long it is.
+fn holds(monitor: &Monitor, code: u32, numbers: [u32; 6]) -> usize {
+    let chain = behind(monitor, code, numbers);
+    let met = Met::of(monitor, code, numbers);
+    let (low, high) = (chain.first().expect("a chain"), chain.last().expect("a chain"));
+    assert!(low.level < high.level && high.kind == Some(Kind::File));
+    assert!(met.there.contains(low));
+    assert!(code != 10 || low.thing == Thing::Object(numbers[1]));
+    let joins: Vec<(Thing, Thing)> = chain.windows(2).map(|pair| (pair[0].thing, pair[1].thing)).collect();
+    assert!(joins.iter().all(|join| met.flows.contains(join)));
+    assert!(joins.iter().any(|join| sought(code, numbers).contains(join)));
+
+    let starts: Vec<Link> =
+        met.there.iter().copied().filter(|link| code != 10 || link.thing == low.thing).collect();
+    assert_eq!(chain, met.chain(&starts), "code {code}, {numbers:?}");
+    chain.len()
+}
+
+#[test]
+fn each_nine_has_its_chain_and_nothing_else_has_one() {
+    let (mut nines, mut lengths) = ([0; 18], [0; Thing::COUNT + 1]);
+    for run in 0..RUNS {
+        let mut draw = Draw(run);
+        let size = Size { steps: draw.between(3, SUBJECTS), objects: draw.between(4, OBJECTS) };
+        let mut monitor = Monitor::new();
+        for _ in 0..CALLS {
+            let (code, numbers) = drawn(&mut draw, &size, &monitor);
+            let before = monitor.clone();
+            match monitor.direct(code, numbers) {
+                Answer::Refused(Refusal::Flow) => {
+                    nines[code as usize] += 1;
+                    lengths[holds(&before, code, numbers)] += 1;
+                }
+                Answer::Refused(_) => {}
+                _ => assert!(behind(&before, code, numbers).is_empty(), "code {code}, {numbers:?}"),
+            }
+        }
+    }
+    assert!([5, 6, 10, 14, 17].iter().all(|&code| nines[code] > 100), "{nines:?}");
+    assert!(lengths[2..8].iter().all(|&count| count > 10), "{lengths:?}");
+}
