@@ -33,6 +33,7 @@
 //! | ask what a name stands for at a record | [`Names::find`] |
 //! | give a name from a record on | [`Names::give`] with a [`Name`]: [`Name::new`], or [`Name::fitted`] for any text |
 //! | write the file | [`Names::text`] |
+//! | lose no file by it, and no word | [`files`]: what every command asks before it reads and writes |
 //!
 //! ```
 //! use gk_names::{Kind, Name, Names};
@@ -49,6 +50,7 @@
 //! ```
 
 mod file;
+pub mod files;
 mod name;
 
 use std::collections::BTreeMap;

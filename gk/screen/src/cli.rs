@@ -5,6 +5,7 @@ use std::io::{self, IsTerminal, Read, Write};
 use std::path::Path;
 
 use gatekeeper::{replay, JOURNAL_BYTES};
+use gk_names::files::{is_input_open, INPUT_CLOSED};
 use gk_names::Fault;
 
 use crate::follow::follow;
@@ -172,6 +173,9 @@ fn perform(wish: &Wish) -> Result<(), Failure> {
             Path::new(path).file_name().map_or(path.into(), |name| name.to_string_lossy().into_owned())
         }
     };
+    if path == "-" && !is_input_open() {
+        return Err(Failure::Failed(INPUT_CLOSED.to_string()));
+    }
     let names = names(wish, path)?;
     let is_coloured = match wish.color.as_deref() {
         Some("always") => true,

@@ -6,6 +6,7 @@ use std::io::{self, Read, Write};
 use std::path::{Path, PathBuf};
 
 use super::{Done, Failure};
+use crate::names::files::{is_input_open, INPUT_CLOSED};
 use crate::text::shown;
 
 fn failed(what: &str, path: &Path, why: impl std::fmt::Display) -> Failure {
@@ -27,6 +28,7 @@ pub fn read_input(file: Option<&OsStr>, most: usize) -> Result<Vec<u8>, Failure>
             let read = opened.and_then(|file| file.take(most as u64).read_to_end(&mut bytes));
             read.map_err(|error| failed("read", path, error))?;
         }
+        None if !is_input_open() => return Err(Failure::Failed(INPUT_CLOSED.to_string())),
         None => {
             let read = io::stdin().lock().take(most as u64).read_to_end(&mut bytes);
             read.map_err(|error| Failure::Failed(format!("cannot read standard input: {error}")))?;
