@@ -170,6 +170,8 @@ fn a_file_behind_o_is_written_whole_or_not_at_all() {
     let output = gk(&["run", MARCH, "-o", &folder.path("no/such/file")], b"");
     assert_eq!(output.status.code(), Some(1));
     assert!(err(&output).contains("cannot write"), "{}", err(&output));
+    let output = gk(&["run", MARCH, "-o", ""], b"");
+    assert!(err(&output).contains("cannot write \"\": "), "{}", err(&output));
     let output = gk(&["run", MARCH, "-o", &folder.path("")], b"");
     assert_eq!(output.status.code(), Some(1));
     assert!(err(&output).contains("it is a folder"), "{}", err(&output));
@@ -328,7 +330,7 @@ fn input_without_end_is_not_read_to_its_end() {
     for (command, status, words) in [
         ("run", 0, "1 0 R 14\nend 0 0 0\n"),
         ("explain", 0, "The journal is refused (14)"),
-        ("disassemble", 0, "# refusal 14: the journal is longer than 65536 bytes"),
+        ("disassemble", 0, "# refusal 14: the journal is longer than 65,536 bytes"),
         ("assemble", 1, ""),
     ] {
         let output = gk(&[command, "/dev/zero"], b"");

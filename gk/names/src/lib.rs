@@ -83,6 +83,22 @@ impl Kind {
         Kind::ALL.into_iter().find(|kind| kind.word() == word)
     }
 
+    /// The highest number that a thing of this kind can have.
+    pub fn highest(self) -> u32 {
+        match self {
+            Kind::Step => 31,
+            Kind::File | Kind::Pipe => 63,
+        }
+    }
+
+    /// What a number of this kind may be, in words.
+    pub fn numbers_words(self) -> &'static str {
+        match self {
+            Kind::Step => "a number behind the kind: steps have 0 to 31",
+            Kind::File | Kind::Pipe => "a number behind the kind: files and pipes have 0 to 63",
+        }
+    }
+
     /// Steps have numbers of their own; files and pipes share theirs.
     fn numbers(self) -> Numbers {
         match self {

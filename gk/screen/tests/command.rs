@@ -185,6 +185,7 @@ fn bad_usage_is_said() {
     fails(&["no such journal\u{7}"], 1, "cannot read 'no such journal\\u{7}'");
     fails(&["/"], 1, "it is a folder");
     fails(&["--names", "none", MARCH], 1, "cannot read 'none'");
+    fails(&["--names", "/", MARCH], 1, "cannot read '/': it is a folder");
     let help = shown(&["--help"], b"");
     assert!(help.contains("Exit status: 0 shown") && help.lines().all(|line| line.len() <= 80), "{help}");
 }

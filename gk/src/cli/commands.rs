@@ -23,7 +23,7 @@ const LONGEST_TEXT: usize = 1 << 24;
 fn read_journal(command: &str, file: Option<&OsStr>) -> Result<Vec<u8>, Failure> {
     let journal = read_input(file, JOURNAL_BYTES + 1)?;
     if journal.len() > JOURNAL_BYTES && command != "run" {
-        remark(&format!("{command}: the journal is longer than 65536 bytes; the first 65537 were read"));
+        remark(&format!("{command}: the journal is longer than 65,536 bytes; the first 65,537 were read"));
     }
     if looks_like_text(&journal) {
         remark(&format!(
@@ -138,7 +138,7 @@ pub fn assemble(arguments: Vec<OsString>) -> Done {
         assembly::assemble(&text).map_err(|fault| Failure::Failed(fault_text(&name, &text, &fault)))?;
     if assembled.journal.len() > JOURNAL_BYTES {
         remark(&format!(
-            "assemble: the journal has {} bytes. Above 65536 it is refused (14), and nothing of it is run: split it",
+            "assemble: the journal has {} bytes. Above 65,536 it is refused (14), and nothing of it is run: split it",
             assembled.journal.len()
         ));
     }

@@ -10,7 +10,11 @@ use crate::names::files::{is_input_open, INPUT_CLOSED};
 use crate::text::shown;
 
 fn failed(what: &str, path: &Path, why: impl std::fmt::Display) -> Failure {
-    Failure::Failed(format!("cannot {what} {}: {why}", shown(&path.to_string_lossy())))
+    let name = match path.as_os_str().is_empty() {
+        true => "\"\"".to_string(),
+        false => shown(&path.to_string_lossy()),
+    };
+    Failure::Failed(format!("cannot {what} {name}: {why}"))
 }
 
 /// How a file is called in a message.

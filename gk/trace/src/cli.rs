@@ -36,7 +36,7 @@ out, with the first line of each kind.
   --folder PATH   the folder that the run was started in, where the trace does not say it; absolute
   --start LEVEL   the level of the first step (15)
   --until LINE    read the trace up to this line
-  --all-files     keep files of level 15 that are only read (laws top-open-harmless and top-read-harmless)
+  --all-files     keep files of level 15 that are only read (harmless: docs/TRACE.md says why)
   --repeats       keep reads and writes that come again and lower nobody
   --quiet         no report
 
@@ -123,7 +123,11 @@ fn command(arguments: &[String]) -> Result<(), Failure> {
     files.extend(names.iter().map(|path| (path.as_path(), written.names.as_bytes())));
     files.extend(arguments.journal.iter().map(|path| (Path::new(path), &written.journal[..])));
     write_whole(&files).map_err(|(path, error)| {
-        Failure::Failed(format!("cannot write {}: {error}", shown(path.to_string_lossy().as_bytes())))
+        let name = match path.as_os_str().is_empty() {
+            true => "\"\"".to_string(),
+            false => shown(path.to_string_lossy().as_bytes()),
+        };
+        Failure::Failed(format!("cannot write {name}: {error}"))
     })?;
     if arguments.journal.is_none() {
         write_output(&written.journal)?;
@@ -230,6 +234,10 @@ fn journal(
     journal_of(trace, levels, arguments.options.clone(), arguments.until).map_err(|failure| {
         Failure::Failed(match failure {
             RunFailure::Unread(error) => format!("cannot read {name}: {error}"),
+            RunFailure::Empty => format!("{name}: the trace is empty"),
+            RunFailure::Malformed { line, column, expected } => {
+                format!("{name}, line {line}, column {column}: expected {expected}")
+            }
             RunFailure::Stopped(stop) => format!("{name}, line {}: {}", stop.line, stop.message),
         })
     })

@@ -171,15 +171,11 @@ fn what_cannot_be_read_or_written_is_one() {
         (&["--levels", "."][..], b"", "cannot read .: it is a folder"),
         (&["--levels", "pay.levels", "."][..], b"", "cannot read .: it is a folder"),
         (&["--levels", "pay.levels", "none"][..], b"", "cannot read none: "),
-        (
-            &["--levels", "pay.levels"][..],
-            b"",
-            "standard input, line 1: there is no whole line in the trace",
-        ),
+        (&["--levels", "pay.levels"][..], b"", "standard input: the trace is empty"),
         (
             &["--levels", "pay.levels"][..],
             b"\x1b[2J\n",
-            "standard input, line 1: column 1: expected the number",
+            "standard input, line 1, column 1: expected the number",
         ),
         (
             &["--levels", &wrong][..],
