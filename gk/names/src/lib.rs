@@ -12,8 +12,8 @@
 //! ```
 //!
 //! The first line is `names 1`. Each other line is empty, a comment (its first character is `#`), or a kind (`step`,
-//! `file` or `pipe`), a number, the record from which on the name holds (from 1), and the name, with one space
-//! between two of them. The file is UTF-8, lines end in a line feed, with or without a carriage return. [`beside`]
+//! `file` or `pipe`), a number (0 to 31 for a step, 0 to 63 for a file or pipe), the record from which on the name holds
+//! (from 1), and the name, with one space between two of them. The file is UTF-8, lines end in a line feed, with or without a carriage return. [`beside`]
 //! says where it stands: `run.names` beside `run.journal`.
 //!
 //! What holds at a record:
