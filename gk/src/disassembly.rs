@@ -19,7 +19,7 @@ const BYTES_A_LINE: usize = 16;
 pub fn disassemble(journal: &[u8], names: &Names) -> String {
     let mut text = String::new();
     if journal.len() > JOURNAL_BYTES {
-        text.push_str("# refusal 14: the journal is longer than 65,536 bytes, and nothing is run\n");
+        text.push_str("# refusal 14: the journal is longer than 65536 bytes, and nothing is run\n");
     }
     let mut entries = names.entries().peekable();
     for (position, entry) in (1..).zip(Records::new(journal)) {

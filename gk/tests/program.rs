@@ -330,7 +330,7 @@ fn input_without_end_is_not_read_to_its_end() {
     for (command, status, words) in [
         ("run", 0, "1 0 R 14\nend 0 0 0\n"),
         ("explain", 0, "The journal is refused (14)"),
-        ("disassemble", 0, "# refusal 14: the journal is longer than 65,536 bytes"),
+        ("disassemble", 0, "# refusal 14: the journal is longer than 65536 bytes"),
         ("assemble", 1, ""),
     ] {
         let output = gk(&[command, "/dev/zero"], b"");
