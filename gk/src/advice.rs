@@ -11,7 +11,7 @@ mod places;
 use gatekeeper::{Answer, Call, Monitor, Refusal, NO_FREEZE};
 
 use crate::explain::scene::{listed, Scene};
-use crate::things::{is_frozen, Held};
+use crate::things::{is_frozen, Held, HIGHEST};
 
 /// Things of a kind that are named one by one.
 const MOST_NAMED: usize = 3;
@@ -31,12 +31,31 @@ pub struct Counsel {
 }
 
 impl Counsel {
+    /// An advice that names no calls, and so cannot be tried.
+    pub fn without_calls(text: String) -> Counsel {
+        Counsel { ways: vec![Advice { text, calls: Vec::new() }], notes: Vec::new() }
+    }
+
+    /// Whether there is an advice that was tried.
+    pub fn is_tried(&self) -> bool {
+        self.ways.iter().any(|way| !way.calls.is_empty())
+    }
+
     fn way(&mut self, text: String, calls: Vec<Call>) {
         self.ways.push(Advice { text, calls });
     }
 
     fn note(&mut self, text: String) {
         self.notes.push(text);
+    }
+}
+
+/// A level and those above it, to follow "level".
+pub fn or_above(level: u32) -> String {
+    if level >= HIGHEST {
+        level.to_string()
+    } else {
+        format!("{level} or above")
     }
 }
 

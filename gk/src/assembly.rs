@@ -175,7 +175,12 @@ impl Assembler {
             let expected = format!("expected step, file or pipe, found \"{}\"", shown(kind.text));
             return Err(fault(kind.column, &expected, &format!("Type: {usage}")));
         };
-        let number = decimal(word(1, "a number")?, "a number", usage)?;
+        let at = word(1, "a number")?;
+        let number = decimal(at, "a number", usage)?;
+        if number > kind.highest() {
+            let expected = format!("expected {}, found {number}", kind.numbers_words());
+            return Err(fault(at.column, &expected, &format!("Type: {usage}")));
+        }
         let given = word(2, "a name")?;
         let name = Name::new(given.text).and_then(|name| match given.is_quoted || name.is_bare() {
             true => Ok(name),

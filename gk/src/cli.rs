@@ -82,7 +82,7 @@ fn dispatch(arguments: Vec<OsString>) -> Done {
     let rest: Vec<OsString> = arguments.collect();
     let word = word.to_string_lossy().into_owned();
     match word.as_str() {
-        "--version" => return write_output(format!("gk {}\n", gatekeeper::VERSION).as_bytes()),
+        "--version" => return version_command(&rest),
         "help" | "--help" | "-h" => return help_command(&rest),
         _ => {}
     }
@@ -122,6 +122,14 @@ fn unknown(what: &str, word: &str) -> Failure {
         meant => format!("Did you mean: {}", meant.join(" or ")),
     };
     Failure::Usage(format!("there is no {what} \"{}\". {advice}", shown(word)))
+}
+
+fn version_command(rest: &[OsString]) -> Done {
+    if let Some(second) = rest.first() {
+        let second = shown(&second.to_string_lossy());
+        return Err(Failure::Usage(format!("--version: expected nothing behind it, found \"{second}\"")));
+    }
+    write_output(format!("gk {}\n", gatekeeper::VERSION).as_bytes())
 }
 
 fn help_command(rest: &[OsString]) -> Done {

@@ -150,8 +150,8 @@ impl<'a> Moment<'a> {
                 Told { title, names, facts, chain: Vec::new(), counsel: Counsel::default(), step }
             }
             (content, _) => {
-                let (title, facts) = refused::no_call(content);
-                Told { title, names, facts, chain: Vec::new(), counsel: Counsel::default(), step }
+                let (title, facts, counsel) = refused::no_call(content);
+                Told { title, names, facts, chain: Vec::new(), counsel, step }
             }
         }
     }
@@ -200,7 +200,7 @@ pub fn explain(journal: &[u8], names: &Names, which: Which) -> Result<String, Di
     let end = look(journal, names, which, |moment| match which {
         Which::All => {
             let told = moment.told();
-            has_ways |= !told.counsel.ways.is_empty();
+            has_ways |= told.counsel.is_tried();
             text.push_str(&told.text());
         }
         Which::Refused => has_ways |= alike.take(&moment),
@@ -213,8 +213,8 @@ pub fn explain(journal: &[u8], names: &Names, which: Which) -> Result<String, Di
     if has_ways {
         text.push_str(&paragraph(
             "",
-            "The answers are the proved gatekeeper's. What to do is advice of gk and not proved; every advice was \
-             tried on a copy of the tables as they were before its record, and was allowed there.",
+            "The answers are the proved gatekeeper's. What to do is advice of gk and not proved; every advice that \
+             names calls was tried on a copy of the tables as they were before its record, and was allowed there.",
         ));
     }
     Ok(text)

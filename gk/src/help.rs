@@ -15,12 +15,12 @@ A first try:
   printf 'admit 0 9\\nregister 1 2\\nopen-read 0 1 0\\nread 0 0\\n' | tools/gk assemble | tools/gk run
   tools/gk explain --refused crates/payrun/stdin
 
-FILE is read from standard input if it is - or not given. With -o FILE the output goes to a file, which is
-written whole or not at all; -o - is standard output. gk --version has the version of the gatekeeper that
-gives the answers.
+FILE is read from standard input if it is - or not given; screen needs a file or -. With -o FILE the output
+goes to a file, which is written whole or not at all and replaces no input; -o - is standard output. screen
+has no -o. gk --version has the version of the gatekeeper that gives the answers.
 Exit status: 0 if all went well, whatever the replies; 1 for a bad text, a failed read or write, or a
-standard output that is closed; 2 for a bad command line; 141, without a word, where the reader of the
-output has stopped. In the repository's folder gk is tools/gk, which builds it first.
+standard input or output that is closed; 2 for a bad command line; 141, without a word, where the reader of
+the output has stopped. In the repository's folder gk is tools/gk, which builds it first.
 ";
 
 /// Pages that are no command's.
@@ -52,7 +52,7 @@ Usage: gk explain [--refused] [--json] [--names FILE] [-o FILE] [FILE]
        gk explain --summary [--names FILE] [-o FILE] [FILE]
 
 Says who asked what and what was answered; for a refusal, what did not happen, why, and what can be done.
-Every answer is the proved gatekeeper's. What to do is not proved, but tried: the calls that are advised
+Every answer is the proved gatekeeper's. What to do is not proved, but tried: calls that are advised
 were made on a copy of the tables as they were before the record, and were allowed there. For refusal 9 it
 shows a chain that data could have taken from a low thing to a higher file, which is not proved either.
 
@@ -136,8 +136,8 @@ Numbers are used again, so a name holds from a record on: the first one behind i
 number gets another name, or the name another number. Where a step exits, a file is retired or a pipe ends,
 and the number is used again, gk explain does not take the old name for the new thing.
 
-The names stand in a file beside the journal, run.names beside run.journal, which explain and disassemble
-find there; --names FILE names another one. Its first line is `names 1`. Each other line is empty, a comment
+The names stand in a file beside the journal, run.names beside run.journal, which explain, disassemble and
+screen find there; --names FILE names another one. Its first line is `names 1`. Each other line is empty, a comment
 that starts with #, or a kind, a number, the first record and the name, with one space between two of them:
   names 1
   step 17 1 merge

@@ -53,11 +53,7 @@ fn a_refusal_says_what_did_not_happen() {
             "Step 0 may not read at place 3, where it has nothing: that place is empty",
             "Nothing is read",
         ),
-        (
-            "write 9 0",
-            "Step 9 may not write at place 0, where it has nothing: step 9 is not there",
-            "Nothing is written",
-        ),
+        ("write 9 0", "Step 9 may not write at place 0: step 9 is not there", "Nothing is written"),
         ("fork 0 32", "Step 0 may not fork step 32: steps have the numbers 0 to 31", "No step is forked"),
         ("exec 0 9", "Step 0 may not run file or pipe 9", "Nothing is run, and no handle is closed"),
         (
@@ -403,8 +399,7 @@ Step 1, from record 4 to the end.
   Held nothing.
   Never refused.
 Asked by no step that was there.
-  Refused at record 11: Step 7 may not read at place 0, where it has nothing (2, the step that asks
-    is not there).
+  Refused at record 11: Step 7 may not read at place 0 (2, the step that asks is not there).
   Refused at record 12: The freeze is not set to 17 (6, the level is above 15, or a freeze above
     16).
   Refused at record 13: no call (12, the record is not well formed).
@@ -439,8 +434,8 @@ fn a_record_in_json_has_what_docs_json_says() {
     let expected = concat!(
         r#"{"record":7,"code":0,"outcome":"refused","refusal":12,"meaning":"the record is not well formed","#,
         r#""said":["A record that is no call.","Refused (12): the record is not well formed. The body is empty, "#,
-        r#"there is no code.","What to do: look at the program that wrote the journal; the next record is read."],"#,
-        r#""advice":[],"notes":[]}"#
+        r#"there is no code."],"advice":[{"text":"look at the program that wrote the journal; the next record is "#,
+        r#"read.","calls":[]}],"notes":[]}"#
     );
     assert_eq!(lines[6], expected);
     assert_eq!(lines[7], r#"{"end":{"allowed":5,"lowered":0,"refused":2,"made":1,"gone":0,"open":1}}"#);
@@ -472,4 +467,33 @@ fn the_calls_that_json_advises_can_be_typed() {
         tried += 1;
     }
     assert_eq!(tried, 4);
+}
+
+#[test]
+fn an_advice_without_calls_is_not_said_to_be_tried() {
+    // A code that no call has.
+    let output = gk(&["explain"], &[1, 32]);
+    sees(
+        &out(&output).split_whitespace().collect::<Vec<&str>>().join(" "),
+        &[
+            "1. A record that is no call. Refused (1): no call has the code 32; calls have 1 to 17. What to do: look \
+             at the program that wrote the journal; the next record is read.",
+        ],
+    );
+    assert!(!out(&output).contains("was tried") && err(&output).is_empty(), "{}", out(&output));
+    for (journal, refusal) in [(vec![1, 32], 1), (vec![0x80, 0], 11), (vec![0], 12), (vec![0; 65_537], 14)]
+    {
+        let text = out(&gk(&["explain", "--json"], &journal));
+        let first = text.lines().next().unwrap_or_default();
+        assert!(first.contains(&format!("\"refusal\":{refusal},")), "{first}");
+        assert!(first.contains("\"advice\":[{\"text\":") && first.contains("\"calls\":[]}]"), "{first}");
+        assert!(!first.contains("What to do"), "{first}");
+    }
+}
+
+#[test]
+fn nothing_is_above_level_15() {
+    let text = explained("register 0 15\nregister 1 2\nadmit 0 15\nopen-write 0 0 0\nopen-read 0 1 1\n");
+    sees(&text, &["step 0 has to stay at level 15.", "register it at level 15, and"]);
+    assert!(!text.contains("15 or above"), "{text}");
 }

@@ -106,6 +106,8 @@ fn a_bad_command_line_has_status_2() {
         (&["run", "one", "two"], "found \"two\" as well"),
         (&["assemble", "-o", "run.names", "/dev/null"], "need two files"),
         (&["disassemble", "--json"], "there is no option \"--json\""),
+        (&["assemble", "--names", "-"], "--names needs a file, not standard output"),
+        (&["--version", "x"], "expected nothing behind it, found \"x\""),
     ];
     for (arguments, words) in wrong {
         let output = gk(arguments, b"");
@@ -168,6 +170,8 @@ fn a_file_behind_o_is_written_whole_or_not_at_all() {
     let output = gk(&["run", MARCH, "-o", &folder.path("no/such/file")], b"");
     assert_eq!(output.status.code(), Some(1));
     assert!(err(&output).contains("cannot write"), "{}", err(&output));
+    let output = gk(&["run", MARCH, "-o", ""], b"");
+    assert!(err(&output).contains("cannot write \"\": "), "{}", err(&output));
     let output = gk(&["run", MARCH, "-o", &folder.path("")], b"");
     assert_eq!(output.status.code(), Some(1));
     assert!(err(&output).contains("it is a folder"), "{}", err(&output));
@@ -182,6 +186,69 @@ fn a_file_behind_o_is_written_whole_or_not_at_all() {
     let output = gk(&["run", MARCH, "-o", "/dev/full"], b"");
     assert_eq!(output.status.code(), Some(1));
     assert!(err(&output).contains("cannot write /dev/full"), "{}", err(&output));
+}
+
+#[test]
+fn an_output_replaces_no_input() {
+    let folder = Folder::new("replaces");
+    fs::create_dir(folder.0.join("sub")).unwrap();
+    let text = "admit 0 9\nname step 0 merge\n";
+    let files = [("run.journal", "\u{3}\u{1}\0\t"), ("run.names", "names 1\n"), ("run.txt", text)];
+    for (name, bytes) in files {
+        fs::write(folder.path(name), bytes).unwrap();
+    }
+    std::os::unix::fs::symlink("run.journal", folder.path("link")).unwrap();
+    for line in [
+        "run run.journal -o run.journal",
+        "run run.journal -o sub/../run.journal",
+        "run link -o run.journal",
+        "run -o run.journal <run.journal",
+        "run run.journal -o run.names",
+        "explain run.journal -o run.journal",
+        "explain run.journal -o link",
+        "explain run.journal --json -o run.names",
+        "explain run.journal --names run.names -o ./run.names",
+        "explain --names run.names -o run.names <run.journal",
+        "disassemble run.journal -o run.journal",
+        "disassemble run.journal -o run.names",
+        "assemble run.txt -o run.txt",
+        "assemble -o run.txt <run.txt",
+        "assemble run.txt -o other.journal --names run.txt",
+    ] {
+        let output = Command::new("bash")
+            .args(["-c", &format!("'{}' {line}", env!("CARGO_BIN_EXE_gk"))])
+            .current_dir(&folder.0)
+            .stdin(Stdio::null())
+            .output()
+            .unwrap();
+        assert_eq!((output.status.code(), out(&output)), (Some(2), String::new()), "{line}");
+        let said = "the output would replace the input: nothing is written";
+        assert!(err(&output).contains(said), "{line}: {}", err(&output));
+        for (name, bytes) in files {
+            assert_eq!(fs::read_to_string(folder.path(name)).unwrap(), bytes, "{line}");
+        }
+        assert_eq!(folder.files(), ["link", "run.journal", "run.names", "run.txt", "sub"], "{line}");
+    }
+}
+
+#[test]
+fn a_closed_input_has_status_1_where_it_is_to_be_read() {
+    let folder = Folder::new("closed");
+    let levels = format!("{ROOT}/gk/trace/tests/runs/pay.levels");
+    let trace = format!("trace --levels '{levels}' -o a.journal");
+    for line in ["run", "explain -", "disassemble", "assemble -o a.journal", &trace, "screen -"] {
+        let line = format!("'{}' {line} <&-", env!("CARGO_BIN_EXE_gk"));
+        let output = Command::new("bash").args(["-c", &line]).current_dir(&folder.0).output().unwrap();
+        assert_eq!((output.status.code(), out(&output)), (Some(1), String::new()), "{line}");
+        assert!(err(&output).ends_with(": standard input is closed\n"), "{line}: {}", err(&output));
+        assert!(folder.files().is_empty(), "{line}");
+    }
+    // Where a file is read, and where the input is empty, all is well.
+    for line in [format!("run {MARCH} <&-"), "run </dev/null".to_string()] {
+        let line = format!("'{}' {line}", env!("CARGO_BIN_EXE_gk"));
+        let output = Command::new("bash").args(["-c", &line]).current_dir(ROOT).output().unwrap();
+        assert_eq!((output.status.code(), err(&output)), (Some(0), String::new()), "{line}");
+    }
 }
 
 #[test]

@@ -56,6 +56,8 @@ fn what_is_wrong_is_named_with_its_place() {
         ("name", 1, 5, "expected step, file or pipe"),
         ("name steps 0 a", 1, 6, "found \"steps\""),
         ("name step a 0", 1, 11, "expected a number in decimal"),
+        ("name step 32 a", 1, 11, "steps have 0 to 31, found 32"),
+        ("name pipe 63 a\nname file 64 b", 2, 11, "files and pipes have 0 to 63, found 64"),
         ("name step 0", 1, 12, "expected a name, found the end of the line"),
         ("name step 0 \"\"", 1, 13, "at least one character"),
         ("name step 0 17", 1, 13, "at least one letter"),

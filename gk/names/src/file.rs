@@ -86,7 +86,8 @@ impl Names {
         let mut parts = line.splitn(4, ' ');
         let mut part = || parts.next().unwrap_or("");
         let kind = Kind::of_word(part()).ok_or("step, file or pipe")?;
-        let number = digits(part()).ok_or("a number behind the kind, at most 4294967295")?;
+        let number =
+            digits(part()).filter(|&number| number <= kind.highest()).ok_or(kind.numbers_words())?;
         let from = digits(part())
             .filter(|&from| from > 0)
             .ok_or("the first record behind the number, from 1 on")?;
@@ -134,6 +135,9 @@ mod tests {
             ("names 1\nstep x 1 a\n", 2),
             ("names 1\nstep +1 1 a\n", 2),
             ("names 1\nstep 4294967296 1 a\n", 2),
+            ("names 1\nstep 32 1 a\n", 2),
+            ("names 1\nstep 31 1 a\nfile 64 1 b\n", 3),
+            ("names 1\npipe 63 1 a\npipe 64 1 b\n", 3),
             ("names 1\nstep 1 0 a\n", 2),
             ("names 1\nstep 1 1\n", 2),
             ("names 1\n\nstep 1 1  a\n", 3),

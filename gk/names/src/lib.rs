@@ -12,8 +12,8 @@
 //! ```
 //!
 //! The first line is `names 1`. Each other line is empty, a comment (its first character is `#`), or a kind (`step`,
-//! `file` or `pipe`), a number, the record from which on the name holds (from 1), and the name, with one space
-//! between two of them. The file is UTF-8, lines end in a line feed, with or without a carriage return. [`beside`]
+//! `file` or `pipe`), a number (0 to 31 for a step, 0 to 63 for a file or pipe), the record from which on the name holds
+//! (from 1), and the name, with one space between two of them. The file is UTF-8, lines end in a line feed, with or without a carriage return. [`beside`]
 //! says where it stands: `run.names` beside `run.journal`.
 //!
 //! What holds at a record:
@@ -33,6 +33,7 @@
 //! | ask what a name stands for at a record | [`Names::find`] |
 //! | give a name from a record on | [`Names::give`] with a [`Name`]: [`Name::new`], or [`Name::fitted`] for any text |
 //! | write the file | [`Names::text`] |
+//! | lose no file by it, and no word | [`files`]: what every command asks before it reads and writes |
 //!
 //! ```
 //! use gk_names::{Kind, Name, Names};
@@ -49,6 +50,7 @@
 //! ```
 
 mod file;
+pub mod files;
 mod name;
 
 use std::collections::BTreeMap;
@@ -79,6 +81,22 @@ impl Kind {
     /// The kind of this word.
     pub fn of_word(word: &str) -> Option<Kind> {
         Kind::ALL.into_iter().find(|kind| kind.word() == word)
+    }
+
+    /// The highest number that a thing of this kind can have.
+    pub fn highest(self) -> u32 {
+        match self {
+            Kind::Step => 31,
+            Kind::File | Kind::Pipe => 63,
+        }
+    }
+
+    /// What a number of this kind may be, in words.
+    pub fn numbers_words(self) -> &'static str {
+        match self {
+            Kind::Step => "a number behind the kind: steps have 0 to 31",
+            Kind::File | Kind::Pipe => "a number behind the kind: files and pipes have 0 to 63",
+        }
     }
 
     /// Steps have numbers of their own; files and pipes share theirs.

@@ -5,6 +5,7 @@ use std::io::{self, IsTerminal, Read, Write};
 use std::path::Path;
 
 use gatekeeper::{replay, JOURNAL_BYTES};
+use gk_names::files::{is_input_open, INPUT_CLOSED};
 use gk_names::Fault;
 
 use crate::follow::follow;
@@ -28,8 +29,9 @@ gatekeeper; only the chain behind a refusal 9 is looked for, and said to be.
   JOURNAL        a journal; '-' reads standard input
   --at N         the state after record N; 0 is before the first. On a page:
                  where it opens, in place of the first refusal
-  --follow       shows each new record, until it is interrupted; into a pipe,
-                 a line for each
+  --follow       shows each new record, until it is interrupted, the journal
+                 breaks or gets shorter, or standard input ends; into a pipe, a
+                 line for each
   --page         one file, without a network: gk screen --page RUN > run.html
   --names FILE   names for steps, files and pipes; else those of run.names
                  beside run.journal, if it is there
@@ -37,6 +39,7 @@ gatekeeper; only the chain behind a refusal 9 is looked for, and said to be.
   --color WHEN   always, never, or auto: on a terminal, unless NO_COLOR is set
   --help         this text
 
+A terminal needs 80 columns.
 A journal that is too long is refused (14) and read no further; --follow goes
 on, and says so.
 
@@ -172,6 +175,9 @@ fn perform(wish: &Wish) -> Result<(), Failure> {
             Path::new(path).file_name().map_or(path.into(), |name| name.to_string_lossy().into_owned())
         }
     };
+    if path == "-" && !is_input_open() {
+        return Err(Failure::Failed(INPUT_CLOSED.to_string()));
+    }
     let names = names(wish, path)?;
     let is_coloured = match wish.color.as_deref() {
         Some("always") => true,
@@ -189,7 +195,7 @@ fn perform(wish: &Wish) -> Result<(), Failure> {
         return Err(Failure::Usage(format!("there is no record {at}: the journal has {records}")));
     }
     if looks_like_text(&journal) {
-        remark("this looks like a text and not like a journal. From words to a journal: gk assemble TEXT > JOURNAL");
+        remark("this looks like a text and not like a journal. From words to a journal: gk assemble TEXT -o JOURNAL");
     }
     if wish.is_page {
         return write(page(&journal, &title, &names, wish.at).as_bytes());
@@ -247,6 +253,9 @@ fn names(wish: &Wish, path: &str) -> Result<Names, Failure> {
         Fault::Unread(error) => Failure::Failed(format!("cannot read '{}': {error}", shown(&file))),
         fault => Failure::Failed(format!("{}: {fault}", shown(&file))),
     };
+    if is_asked && Path::new(&file).is_dir() {
+        return Err(Failure::Failed(format!("cannot read '{}': it is a folder", shown(&file))));
+    }
     let read = gk_names::Names::load(Path::new(&file)).map(|names| Names::given(&names)).map_err(wrong);
     match read {
         Err(Failure::Failed(message)) if !is_asked => {

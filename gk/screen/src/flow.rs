@@ -11,6 +11,15 @@ use crate::state::{flow, Thing, PLACES};
 /// Ways that are tried one by one.
 const MOST_TRIED: usize = 6;
 
+/// To follow the level of a link; nothing is above the highest.
+fn or_above(link: &Link) -> &'static str {
+    if link.level >= 15 {
+        ""
+    } else {
+        " or above"
+    }
+}
+
 impl Asked<'_> {
     pub fn flow(&self, chain: &[Link]) -> Both {
         let Some((low, high)) = chain.first().zip(chain.last()) else {
@@ -47,7 +56,8 @@ impl Asked<'_> {
                 Piece::File(o),
                 " looked over; then retire it and register it again at level ",
                 high.level,
-                " or above."
+                or_above(high),
+                "."
             ]);
         }
         (vec![why, over], ways)
@@ -166,7 +176,8 @@ impl Asked<'_> {
             (None, 6) => phrase![
                 "Let a step of level ",
                 high.level,
-                " or above write it, one that takes in nothing lower."
+                or_above(high),
+                " write it, one that takes in nothing lower."
             ],
             (Some(fit), _) => {
                 phrase!["Let another step read it, one with no way up: ", Piece::Step(fit), " may."]

@@ -32,6 +32,8 @@ pub fn follow(path: &str, mut screen: Screen, is_coloured: bool) -> Result<(), F
         let now = loop {
             let next = match run.next_growing(&journal) {
                 Next::Unfinished if more == More::End => run.break_off(),
+                // What was read of the record that is not whole belongs to a journal that is gone.
+                Next::Unfinished if more == More::Cut => Next::End,
                 next => next,
             };
             match next {

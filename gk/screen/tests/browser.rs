@@ -244,9 +244,9 @@ fn march_is_walked_by_keyboard() {
     browser.open(&paged.page, "#196");
     let said = browser.value(SAID);
     let chain = [
-        "hours sheet of shop 3 (file 1)level 2",
-        "book entry (step 17)✗ refusedlevel 12",
-        "pay book (file 0)level 9",
+        "the hours sheet of shop 3 (file 1)level 2",
+        "merge (step 17)✗ refusedlevel 12",
+        "the pay book (file 0)level 9",
     ];
     assert_eq!(said.get("chain").texts(), chain);
     browser.open(&paged.page, "#198");

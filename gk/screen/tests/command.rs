@@ -185,6 +185,7 @@ fn bad_usage_is_said() {
     fails(&["no such journal\u{7}"], 1, "cannot read 'no such journal\\u{7}'");
     fails(&["/"], 1, "it is a folder");
     fails(&["--names", "none", MARCH], 1, "cannot read 'none'");
+    fails(&["--names", "/", MARCH], 1, "cannot read '/': it is a folder");
     let help = shown(&["--help"], b"");
     assert!(help.contains("Exit status: 0 shown") && help.lines().all(|line| line.len() <= 80), "{help}");
 }
@@ -274,4 +275,48 @@ fn following_says_when_a_journal_grows_too_long() {
             && text.ends_with("! The journal is broken here: nothing behind it is read.\n"),
         "{text}"
     );
+}
+
+#[test]
+fn a_journal_that_is_cut_in_a_record_is_not_mixed_with_another() {
+    let scratch = Scratch::new("cut");
+    let journal = fs::read(MARCH).expect("the journal of March");
+    // Two records and a half, and then another journal of the same first bytes, which is shorter.
+    let path = scratch.write("run.journal", &journal[..10]);
+    let mut child = spawn(&["--follow", &path]);
+    let mut stdout = child.stdout.take().expect("its output");
+    let mut text = String::new();
+    let mut part = [0; 4096];
+    while !text.contains("! The next record is not whole yet.") {
+        let count = stdout.read(&mut part).expect("a read");
+        assert!(count > 0, "{text}");
+        text.push_str(&String::from_utf8_lossy(&part[..count]));
+    }
+    let records = text.lines().count();
+    fs::write(&path, &journal[..4]).expect("a write");
+    let began = Instant::now();
+    while child.try_wait().expect("its end").is_none() && began.elapsed() < Duration::from_secs(120) {
+        sleep(Duration::from_millis(20));
+    }
+    // It has ended by itself; what comes in the place is not read.
+    fs::write(&path, &journal).expect("a write");
+    let _ = child.kill();
+    assert_eq!(child.wait().expect("its end").code(), Some(0));
+    stdout.read_to_string(&mut text).expect("the rest");
+    assert!(
+        text.ends_with("! The journal has become shorter: it is another one now. Start again to see it.\n"),
+        "{text}"
+    );
+    assert_eq!(text.lines().count(), records + 1, "{text}");
+}
+
+#[test]
+fn a_closed_input_is_said() {
+    for arguments in ["-", "--follow -", "--page -"] {
+        let line = format!("'{PROGRAM}' {arguments} <&-");
+        let output = Command::new("bash").args(["-c", &line]).output().expect("the program starts");
+        assert_eq!(output.status.code(), Some(1), "{arguments}");
+        assert_eq!(String::from_utf8_lossy(&output.stderr), "screen: standard input is closed\n");
+        assert!(output.stdout.is_empty(), "{arguments}");
+    }
 }

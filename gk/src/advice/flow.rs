@@ -5,7 +5,7 @@ use gatekeeper::{Call, Monitor};
 
 use super::closing::{closed_for_good, ended_words, enough, handle_words};
 use super::cut::Whose;
-use super::{aim, aim_after, once_open, tried, with_others, Counsel};
+use super::{aim, aim_after, once_open, or_above, tried, with_others, Counsel};
 use crate::calls::with_number;
 use crate::explain::scene::Scene;
 use crate::things::{empty_places, handles_of, handles_on, is_file, steps, Held, Thing, HIGHEST, STEPS};
@@ -193,7 +193,10 @@ fn admitted_step(call: Call, scene: Scene, counsel: &mut Counsel) {
     if let Some(calls) = calls_at(least) {
         let when = once_open(&calls);
         counsel.way(
-            format!("admit a step at level {least} or above, number {number} is free, and let it open it{when}."),
+            format!(
+                "admit a step at level {}, number {number} is free, and let it open it{when}.",
+                or_above(least)
+            ),
             calls,
         );
     }
@@ -219,7 +222,8 @@ fn looked_over(call: Call, scene: Scene, counsel: &mut Counsel) {
         let file = scene.object(object);
         counsel.way(
             format!(
-                "when a clerk has looked {file} over, retire it, register it at level {least} or above, and {} then.",
+                "when a clerk has looked {file} over, retire it, register it at level {}, and {} then.",
+                or_above(least),
                 again(call)
             ),
             calls,

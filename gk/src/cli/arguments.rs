@@ -1,8 +1,10 @@
 //! The options and files of a command.
 
 use std::ffi::{OsStr, OsString};
+use std::path::Path;
 
-use super::Failure;
+use super::{Done, Failure};
+use crate::names::files::{replaces, INPUT, REPLACES};
 use crate::text::{meant, shown};
 
 /// Arguments, sorted.
@@ -76,6 +78,17 @@ impl Arguments {
     /// The file behind `-o`; none for standard output.
     pub fn out(&self) -> Option<&OsStr> {
         self.value("-o").filter(|path| *path != "-")
+    }
+
+    /// That no output is the file of an input: the one file or standard input, or one of `more`.
+    pub fn keep_input(&self, outputs: &[Option<&Path>], more: &[Option<&Path>]) -> Done {
+        let file = self.file()?.map_or(Path::new(INPUT), Path::new);
+        let outputs: Vec<&Path> = outputs.iter().copied().flatten().collect();
+        let inputs: Vec<&Path> = more.iter().copied().flatten().chain([file]).collect();
+        match replaces(&outputs, &inputs) {
+            true => Err(self.wrong(REPLACES)),
+            false => Ok(()),
+        }
     }
 
     /// The one file; none for standard input.

@@ -11,6 +11,7 @@ use super::{remark, Done, Failure};
 use crate::assembly::{self, lines, Assembled};
 use crate::disassembly;
 use crate::explain::{self, json, summary, Differs, Which};
+use crate::names::files::no_names;
 use crate::names::{self, Names};
 use crate::records::{Body, Record, Records};
 use crate::text::{excerpt, shown};
@@ -22,7 +23,7 @@ const LONGEST_TEXT: usize = 1 << 24;
 fn read_journal(command: &str, file: Option<&OsStr>) -> Result<Vec<u8>, Failure> {
     let journal = read_input(file, JOURNAL_BYTES + 1)?;
     if journal.len() > JOURNAL_BYTES && command != "run" {
-        remark(&format!("{command}: the journal is longer than 65536 bytes; the first 65537 were read"));
+        remark(&format!("{command}: the journal is longer than 65,536 bytes; the first 65,537 were read"));
     }
     if looks_like_text(&journal) {
         remark(&format!(
@@ -42,6 +43,20 @@ fn looks_like_text(journal: &[u8]) -> bool {
     !text.is_empty() && text.iter().take(16).all(is_letter) && has_no_call()
 }
 
+/// The names file beside the journal, if it is there.
+fn names_beside(arguments: &Arguments) -> Result<Option<PathBuf>, Failure> {
+    let beside = arguments.file()?.map(|file| names::beside(Path::new(file)));
+    Ok(beside.filter(|path| path.is_file()))
+}
+
+/// Writes what was made of a journal and its names, and replaces neither.
+fn write_result(arguments: &Arguments, text: &str) -> Done {
+    let beside = names_beside(arguments)?;
+    let names = arguments.value("--names").map(Path::new).or(beside.as_deref());
+    arguments.keep_input(&[arguments.out().map(Path::new)], &[names])?;
+    write_to(arguments.out(), text.as_bytes())
+}
+
 /// The names behind `--names`, or of the file beside the journal, or none.
 fn read_names(arguments: &Arguments) -> Result<Names, Failure> {
     let bad = |path: &Path, fault: names::Fault| {
@@ -57,8 +72,7 @@ fn read_names(arguments: &Arguments) -> Result<Names, Failure> {
             false => Names::load(path).map_err(|fault| bad(path, fault)),
         };
     }
-    let beside = arguments.file()?.map(|file| names::beside(Path::new(file)));
-    let Some(path) = beside.filter(|path| path.is_file()) else {
+    let Some(path) = names_beside(arguments)? else {
         return Ok(Names::new());
     };
     // It may only happen to be called so: what is said without names is true as well.
@@ -71,7 +85,7 @@ fn read_names(arguments: &Arguments) -> Result<Names, Failure> {
 pub fn run(arguments: Vec<OsString>) -> Done {
     let arguments = Arguments::sort("run", arguments, &["-o"], &[])?;
     let journal = read_journal("run", arguments.file()?)?;
-    write_to(arguments.out(), gatekeeper::replay(&journal).as_bytes())
+    write_result(&arguments, &gatekeeper::replay(&journal))
 }
 
 pub fn explain(arguments: Vec<OsString>) -> Done {
@@ -98,7 +112,7 @@ pub fn explain(arguments: Vec<OsString>) -> Done {
                 .to_string(),
         )
     };
-    write_to(arguments.out(), text.map_err(differs)?.as_bytes())
+    write_result(&arguments, &text.map_err(differs)?)
 }
 
 pub fn disassemble(arguments: Vec<OsString>) -> Done {
@@ -106,11 +120,14 @@ pub fn disassemble(arguments: Vec<OsString>) -> Done {
     // The journal first: in a pipe, who writes it may write the names as well, and has done so when it is whole.
     let journal = read_journal("disassemble", arguments.file()?)?;
     let names = read_names(&arguments)?;
-    write_to(arguments.out(), disassembly::disassemble(&journal, &names).as_bytes())
+    write_result(&arguments, &disassembly::disassemble(&journal, &names))
 }
 
 pub fn assemble(arguments: Vec<OsString>) -> Done {
     let arguments = Arguments::sort("assemble", arguments, &["-o", "--names"], &[])?;
+    if arguments.value("--names").is_some_and(|path| path == "-") {
+        return Err(arguments.wrong("--names needs a file, not standard output"));
+    }
     let file = arguments.file()?;
     let name = name_of(file);
     let text = read_input(file, LONGEST_TEXT + 1)?;
@@ -121,7 +138,7 @@ pub fn assemble(arguments: Vec<OsString>) -> Done {
         assembly::assemble(&text).map_err(|fault| Failure::Failed(fault_text(&name, &text, &fault)))?;
     if assembled.journal.len() > JOURNAL_BYTES {
         remark(&format!(
-            "assemble: the journal has {} bytes. Above 65536 it is refused (14), and nothing of it is run: split it",
+            "assemble: the journal has {} bytes. Above 65,536 it is refused (14), and nothing of it is run: split it",
             assembled.journal.len()
         ));
     }
@@ -141,14 +158,12 @@ fn write_assembled(arguments: &Arguments, assembled: &Assembled) -> Done {
     if out.is_some() && out == named.as_deref() {
         return Err(arguments.wrong("the journal and its names need two files"));
     }
-    if let Some(path) = named.as_deref().filter(|path| path.is_file()) {
-        // Not to lose a file that only happens to be called so.
-        if let Err(fault) = Names::load(path) {
-            let path = shown(&path.to_string_lossy());
-            return Err(Failure::Failed(format!(
-                "{path} is there and is no names file ({fault}): nothing is written"
-            )));
-        }
+    arguments.keep_input(&[out, named.as_deref()], &[])?;
+    if let Some((path, fault)) = named.as_deref().and_then(|path| Some((path, no_names(path)?))) {
+        let path = shown(&path.to_string_lossy());
+        return Err(Failure::Failed(format!(
+            "{path} is there and is no names file ({fault}): nothing is written"
+        )));
     }
     let is_asked = arguments.value("--names").is_some();
     let text = names.text();

@@ -6,10 +6,15 @@ use std::io::{self, Read, Write};
 use std::path::{Path, PathBuf};
 
 use super::{Done, Failure};
+use crate::names::files::{is_input_open, INPUT_CLOSED};
 use crate::text::shown;
 
 fn failed(what: &str, path: &Path, why: impl std::fmt::Display) -> Failure {
-    Failure::Failed(format!("cannot {what} {}: {why}", shown(&path.to_string_lossy())))
+    let name = match path.as_os_str().is_empty() {
+        true => "\"\"".to_string(),
+        false => shown(&path.to_string_lossy()),
+    };
+    Failure::Failed(format!("cannot {what} {name}: {why}"))
 }
 
 /// How a file is called in a message.
@@ -27,6 +32,7 @@ pub fn read_input(file: Option<&OsStr>, most: usize) -> Result<Vec<u8>, Failure>
             let read = opened.and_then(|file| file.take(most as u64).read_to_end(&mut bytes));
             read.map_err(|error| failed("read", path, error))?;
         }
+        None if !is_input_open() => return Err(Failure::Failed(INPUT_CLOSED.to_string())),
         None => {
             let read = io::stdin().lock().take(most as u64).read_to_end(&mut bytes);
             read.map_err(|error| Failure::Failed(format!("cannot read standard input: {error}")))?;

@@ -35,7 +35,7 @@ struct Group {
 }
 
 impl Alike {
-    /// Takes a refused record in; says whether there is an advice for it.
+    /// Takes a refused record in; says whether there is an advice for it that was tried.
     pub fn take(&mut self, moment: &Moment) -> bool {
         let scene = moment.before();
         let thing = sought(moment.step.content).filter(|&thing| scene.name_of_kind(thing).is_some());
@@ -43,7 +43,7 @@ impl Alike {
             Some(thing) => moment.told_without(thing),
             None => moment.told(),
         };
-        let has_ways = !told.counsel.ways.is_empty();
+        let has_ways = told.counsel.is_tried();
         let called = thing.map_or(String::new(), |thing| scene.whole(thing));
         let (title, below) = (told.title.clone(), told.below());
         let words = format!("{title}\n{below}");

@@ -47,15 +47,15 @@ pub fn asked(call: Call, scene: Scene, happens: bool) -> String {
             by(subject, "opens", "open", &format!(" {} for writing{}", object(o), at(place)))
         }
         Call::Read { subject, place } => {
-            by(subject, "reads", "read", &format!(" at place {place}, {}", scene.at_place(subject, place)))
+            by(subject, "reads", "read", &format!(" at {}", scene.at_place(subject, place)))
         }
         Call::Write { subject, place } => {
-            by(subject, "writes", "write", &format!(" at place {place}, {}", scene.at_place(subject, place)))
+            by(subject, "writes", "write", &format!(" at {}", scene.at_place(subject, place)))
         }
         Call::Fork { subject, child } => by(subject, "forks", "fork", &format!(" {}", new(Kind::Step, child))),
         Call::Exec { subject, object: o } => by(subject, "runs", "run", &format!(" {}", object(o))),
         Call::Close { subject, place } => {
-            by(subject, "closes", "close", &format!(" place {place}, {}", scene.at_place(subject, place)))
+            by(subject, "closes", "close", &format!(" {}", scene.at_place(subject, place)))
         }
         Call::Exit { subject } => by(subject, "exits", "exit", ""),
         Call::Retire { object: o } => format!("{} {is} retired", capital(&object(o))),
@@ -63,7 +63,7 @@ pub fn asked(call: Call, scene: Scene, happens: bool) -> String {
             by(subject, "maps", "map", &format!(" {}{}", object(o), at(place)))
         }
         Call::Mark { subject, place } => {
-            by(subject, "marks", "mark", &format!(" place {place}, {}", scene.at_place(subject, place)))
+            by(subject, "marks", "mark", &format!(" {}", scene.at_place(subject, place)))
         }
         Call::Freeze { level: NO_FREEZE } => format!("The freeze {is} lifted"),
         Call::Freeze { level } => format!("The freeze {is} set to {level}"),

@@ -5,8 +5,8 @@ use gk_chain::{behind, Link};
 
 use super::asked::{asked, not_done};
 use super::scene::{listed, sentence, way_word, Scene};
-use crate::advice::{counsel, Closing, Counsel};
-use crate::calls::number_of;
+use crate::advice::{counsel, or_above, Closing, Counsel};
+use crate::calls::{number_of, SHAPES};
 use crate::names::Kind;
 use crate::records::{body_words, length_words};
 use crate::run::Content;
@@ -52,8 +52,9 @@ fn floor(call: Call, scene: Scene) -> Option<String> {
     };
     let need = scene.monitor.need_of_subject(subject)?;
     Some(format!(
-        "With the handles that there are, {} has to stay at level {need} or above.",
-        scene.step(subject)
+        "With the handles that there are, {} has to stay at level {}.",
+        scene.step(subject),
+        or_above(need.into())
     ))
 }
 
@@ -68,7 +69,8 @@ fn link_name(link: Link, call: Call, scene: Scene) -> String {
 }
 
 /// A record that is no call, or a journal that breaks off or is too long.
-pub fn no_call(content: Content) -> (String, Vec<String>) {
+pub fn no_call(content: Content) -> (String, Vec<String>, Counsel) {
+    let advice = |text: &str| Counsel::without_calls(text.to_string());
     let said = |refusal: Refusal, more: &str| {
         format!("Refused ({}): {}. {}.", refusal.number(), refusal.words(), sentence(more))
     };
@@ -78,30 +80,31 @@ pub fn no_call(content: Content) -> (String, Vec<String>) {
                 "The journal is refused (14): {}. Nothing of it is run.",
                 Refusal::JournalTooLong.words()
             ),
-            vec!["What to do: split the journal into runs of at most 65,536 bytes.".to_string()],
+            Vec::new(),
+            advice("split the journal into runs of at most 65,536 bytes."),
         ),
         Content::Stop(offset, fault) => (
             format!("Byte {offset} of the journal should start a record, and does not."),
-            vec![
-                said(Refusal::JournalBroken, &format!("{}; the run stops here", length_words(fault))),
-                "What to do: look at how the journal was written or copied from there on.".to_string(),
-            ],
+            vec![said(Refusal::JournalBroken, &format!("{}; the run stops here", length_words(fault)))],
+            advice("look at how the journal was written or copied from there on."),
         ),
         Content::NoCall(body) => {
-            let refusal = match body {
-                crate::records::Body::UnknownCode(_) => Refusal::UnknownCode,
-                _ => Refusal::RecordBroken,
+            let fact = match body {
+                crate::records::Body::UnknownCode(_) => format!(
+                    "Refused ({}): {}; calls have 1 to {}.",
+                    Refusal::UnknownCode.number(),
+                    body_words(body),
+                    SHAPES.len()
+                ),
+                _ => said(Refusal::RecordBroken, &body_words(body)),
             };
             (
                 "A record that is no call.".to_string(),
-                vec![
-                    said(refusal, &body_words(body)),
-                    "What to do: look at the program that wrote the journal; the next record is read."
-                        .to_string(),
-                ],
+                vec![fact],
+                advice("look at the program that wrote the journal; the next record is read."),
             )
         }
-        Content::Call(_) => (String::new(), Vec::new()),
+        Content::Call(_) => (String::new(), Vec::new(), Counsel::default()),
     }
 }
 

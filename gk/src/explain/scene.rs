@@ -170,11 +170,12 @@ impl<'a> Scene<'a> {
         entry.filter(|entry| entry.from > self.lives.of(thing).before).map(|entry| entry.name.as_str())
     }
 
-    /// What stands at a place of a step.
+    /// A place of a step, with what stands there.
     pub fn at_place(&self, s: u32, p: u32) -> String {
-        match self.monitor.handle(s, p) {
-            Some(handle) => format!("its {}", self.handle(handle)),
-            None => "where it has nothing".to_string(),
+        match (self.monitor.handle(s, p), self.monitor.subject(s)) {
+            (Some(handle), _) => format!("place {p}, its {}", self.handle(handle)),
+            (None, Some(_)) => format!("place {p}, where it has nothing"),
+            (None, None) => format!("place {p}"),
         }
     }
 

@@ -4,6 +4,8 @@ use std::fs::File;
 use std::io::{self, BufRead, BufReader, Read, Write};
 use std::path::{Path, PathBuf};
 
+use gk_names::files::{is_input_open, no_names, replaces, INPUT, INPUT_CLOSED, REPLACES};
+
 use crate::levels::{Levels, LONGEST_FILE, TOP};
 use crate::output::write_whole;
 use crate::run::{journal_of, Failure as RunFailure};
@@ -34,7 +36,7 @@ out, with the first line of each kind.
   --folder PATH   the folder that the run was started in, where the trace does not say it; absolute
   --start LEVEL   the level of the first step (15)
   --until LINE    read the trace up to this line
-  --all-files     keep files of level 15 that are only read (laws top-open-harmless and top-read-harmless)
+  --all-files     keep files of level 15 that are only read (harmless: docs/TRACE.md says why)
   --repeats       keep reads and writes that come again and lower nobody
   --quiet         no report
 
@@ -96,6 +98,7 @@ fn command(arguments: &[String]) -> Result<(), Failure> {
     let levels = read_levels(path)?;
     let name = arguments.trace.as_deref().filter(|name| *name != "-");
     let written = match name {
+        None if !is_input_open() => return Err(Failure::Failed(INPUT_CLOSED.to_string())),
         None => journal(io::stdin().lock(), "standard input", &levels, &arguments)?,
         Some(name) => {
             let file = open(name)?;
@@ -105,11 +108,26 @@ fn command(arguments: &[String]) -> Result<(), Failure> {
     let mut files: Vec<(&Path, &[u8])> = Vec::new();
     let beside = arguments.journal.as_ref().map(|path| gk_names::beside(Path::new(path)));
     let names = arguments.names.as_ref().map(PathBuf::from).or(beside);
+    let outputs: Vec<&Path> =
+        names.iter().map(PathBuf::as_path).chain(arguments.journal.iter().map(Path::new)).collect();
+    if replaces(&outputs, &[Path::new(path), Path::new(name.unwrap_or(INPUT))]) {
+        return Err(Failure::Usage(REPLACES.to_string()));
+    }
+    if let Some((path, fault)) = names.as_deref().and_then(|path| Some((path, no_names(path)?))) {
+        let path = shown(path.to_string_lossy().as_bytes());
+        return Err(Failure::Failed(format!(
+            "{path} is there and is no names file ({fault}): nothing is written"
+        )));
+    }
     // Who reads the journal from standard output finds the names there.
     files.extend(names.iter().map(|path| (path.as_path(), written.names.as_bytes())));
     files.extend(arguments.journal.iter().map(|path| (Path::new(path), &written.journal[..])));
     write_whole(&files).map_err(|(path, error)| {
-        Failure::Failed(format!("cannot write {}: {error}", shown(path.to_string_lossy().as_bytes())))
+        let name = match path.as_os_str().is_empty() {
+            true => "\"\"".to_string(),
+            false => shown(path.to_string_lossy().as_bytes()),
+        };
+        Failure::Failed(format!("cannot write {name}: {error}"))
     })?;
     if arguments.journal.is_none() {
         write_output(&written.journal)?;
@@ -131,8 +149,13 @@ fn sorted(arguments: &[String]) -> Result<Arguments, Failure> {
         };
         match argument.as_str() {
             "--levels" => sorted.levels = Some(value()?),
-            "-o" => sorted.journal = Some(value()?),
-            "--names" => sorted.names = Some(value()?),
+            "-o" => sorted.journal = Some(value()?).filter(|path| path != "-"),
+            "--names" => {
+                sorted.names = Some(value()?).filter(|path| path != "-");
+                if sorted.names.is_none() {
+                    return Err(Failure::Usage("--names needs a file, not standard output".to_string()));
+                }
+            }
             "--folder" => {
                 let folder = value()?;
                 if !folder.starts_with('/') {
@@ -211,6 +234,10 @@ fn journal(
     journal_of(trace, levels, arguments.options.clone(), arguments.until).map_err(|failure| {
         Failure::Failed(match failure {
             RunFailure::Unread(error) => format!("cannot read {name}: {error}"),
+            RunFailure::Empty => format!("{name}: the trace is empty"),
+            RunFailure::Malformed { line, column, expected } => {
+                format!("{name}, line {line}, column {column}: expected {expected}")
+            }
             RunFailure::Stopped(stop) => format!("{name}, line {}: {}", stop.line, stop.message),
         })
     })

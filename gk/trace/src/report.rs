@@ -35,7 +35,7 @@ pub enum Left {
 impl Left {
     fn words(self) -> &'static str {
         match self {
-            Left::Top => "calls on files of level 15 that are only read (law top-read-harmless)",
+            Left::Top => "calls on files of level 15 that are only read (harmless: docs/TRACE.md says why)",
             Left::Repeats => "reads and writes that come again and lower nobody",
             Left::ByLevels => "calls on files that the levels file leaves out",
             Left::Refused => "calls on what was refused before",

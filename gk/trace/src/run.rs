@@ -30,6 +30,14 @@ pub struct Written {
 #[derive(Debug)]
 pub enum Failure {
     Unread(io::Error),
+    /// There is no byte in it.
+    Empty,
+    /// A line that is none of strace's.
+    Malformed {
+        line: u64,
+        column: usize,
+        expected: &'static str,
+    },
     Stopped(Stop),
 }
 
@@ -54,7 +62,10 @@ pub fn journal_of(
         reader.world.report.lines = number;
         reader.take(&text)?;
     }
-    let Reader { mut world, .. } = reader;
+    let Reader { mut world, read, .. } = reader;
+    if read == 0 && until != Some(0) {
+        return Err(Failure::Empty);
+    }
     if world.report.lines == 0 {
         let message = "there is no whole line in the trace".to_string();
         return Err(Stop { line: 1, message }.into());
@@ -198,8 +209,8 @@ impl<T: BufRead> Reader<'_, T> {
     }
 
     fn wrong(&self, fault: line::Fault, offset: usize) -> Failure {
-        let message = format!("column {}: expected {}", offset + fault.column, fault.expected);
-        Failure::Stopped(Stop { line: self.world.line, message })
+        let line::Fault { column, expected } = fault;
+        Failure::Malformed { line: self.world.line, column: offset + column, expected }
     }
 
     /// A process is new here: it is the child of a fork that has begun, or comes from outside.

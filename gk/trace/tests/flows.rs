@@ -377,7 +377,7 @@ fn what_really_leaks_is_refused() {
                 );
                 stopped += 1;
             }
-            Err(Failure::Unread(error)) => panic!("{error}"),
+            Err(failure) => panic!("{failure:?}"),
         }
     }
     let counts =

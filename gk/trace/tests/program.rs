@@ -84,6 +84,47 @@ fn the_journal_and_the_names_go_to_files() {
 }
 
 #[test]
+fn no_file_is_lost_by_what_is_written() {
+    let room = Room::new("lost");
+    let [trace, levels, other] = ["run.trace", "run.names", "other.names"].map(|name| room.path(name));
+    let link = room.path("link");
+    std::os::unix::fs::symlink("run.names", &link).unwrap();
+    for (from, to) in [("pay.trace", &trace), ("pay.levels", &levels), ("pay.levels", &other)] {
+        fs::copy(runs().join(from), to).unwrap();
+    }
+    let beside = |name: &str| room.path(&format!("{name}.journal"));
+    let replaces =
+        "gk trace: the output would replace the input: nothing is written. Type: gk trace --help\n";
+    let no_names = format!("gk trace: {other} is there and is no names file (line 1: ");
+    for (output, names, status, words) in [
+        (&trace, None, 2, replaces),
+        (&levels, Some(room.path("new.names")), 2, replaces),
+        (&link, Some(room.path("new.names")), 2, replaces),
+        (&beside("run"), None, 2, replaces),
+        (&beside("new"), Some(trace.clone()), 2, replaces),
+        (&beside("other"), None, 1, &no_names),
+        (&beside("new"), Some(other.clone()), 1, &no_names),
+    ] {
+        let mut arguments = vec![trace.as_str(), "--levels", &levels, "-o", output];
+        arguments.extend(names.iter().flat_map(|names| ["--names", names]));
+        let output = run(&arguments, b"");
+        assert_eq!(output.status.code(), Some(status), "{arguments:?}");
+        assert!(errors(&output).starts_with(words), "{}", errors(&output));
+        for (from, to) in [("pay.trace", &trace), ("pay.levels", &levels), ("pay.levels", &other)] {
+            assert_eq!(fs::read(to).unwrap(), fs::read(runs().join(from)).unwrap(), "{arguments:?}");
+        }
+        assert_eq!(fs::read_dir(&room.0).unwrap().count(), 4, "{arguments:?}");
+    }
+    // A names file is replaced by a new one, and a dash is standard output.
+    fs::write(&other, "names 1\nstep 1 1 old\n").unwrap();
+    let journal = beside("other");
+    assert_eq!(run(&[&trace, "--levels", &levels, "-o", &journal], b"").status.code(), Some(0));
+    assert_eq!(fs::read(&other).unwrap(), fs::read(runs().join("pay.names")).unwrap());
+    let dash = run(&[&trace, "--levels", &levels, "-o", "-"], b"");
+    assert_eq!(dash.stdout, fs::read(&journal).unwrap());
+}
+
+#[test]
 fn the_help_has_the_line_to_type() {
     for help in ["--help", "-h"] {
         let output = run(&["--levels", help], b"");
@@ -110,6 +151,7 @@ fn bad_usage_is_two() {
             "the journal and the names need two files",
         ),
         (&["--folder", "here"][..], "--folder needs an absolute path, not \"here\""),
+        (&["--levels", "pay.levels", "--names", "-"][..], "--names needs a file, not standard output"),
     ] {
         let output = run(arguments, b"");
         assert_eq!(output.status.code(), Some(2), "{arguments:?}");
@@ -129,15 +171,11 @@ fn what_cannot_be_read_or_written_is_one() {
         (&["--levels", "."][..], b"", "cannot read .: it is a folder"),
         (&["--levels", "pay.levels", "."][..], b"", "cannot read .: it is a folder"),
         (&["--levels", "pay.levels", "none"][..], b"", "cannot read none: "),
-        (
-            &["--levels", "pay.levels"][..],
-            b"",
-            "standard input, line 1: there is no whole line in the trace",
-        ),
+        (&["--levels", "pay.levels"][..], b"", "standard input: the trace is empty"),
         (
             &["--levels", "pay.levels"][..],
             b"\x1b[2J\n",
-            "standard input, line 1: column 1: expected the number",
+            "standard input, line 1, column 1: expected the number",
         ),
         (
             &["--levels", &wrong][..],

@@ -46,6 +46,7 @@ fn tried(trace: &[u8], options: Options, what: &str) -> bool {
             assert!(!stop.message.chars().any(char::is_control), "{what}: {}", stop.message);
             false
         }
+        Err(Failure::Empty | Failure::Malformed { .. }) => false,
         Err(Failure::Unread(error)) => panic!("{what}: {error}"),
     }
 }

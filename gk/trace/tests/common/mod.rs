@@ -61,6 +61,9 @@ pub fn told(lines: &str, levels: &str) -> Written {
 pub fn stop(lines: &str, levels: &str) -> (u64, String) {
     match attempt(format!("{lines}\n").as_bytes(), levels, Options::default()) {
         Err(Failure::Stopped(stop)) => (stop.line, stop.message),
+        Err(Failure::Malformed { line, column, expected }) => {
+            (line, format!("column {column}: expected {expected}"))
+        }
         Err(failure) => panic!("{failure:?}"),
         Ok(written) => panic!("written: {:?}", words(&written.journal)),
     }
