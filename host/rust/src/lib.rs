@@ -21,6 +21,9 @@
 //! # Ok::<(), Refusal>(())
 //! ```
 //!
+//! [`Monitor::subject`], [`Monitor::object`] and [`Monitor::handle`] show what the tables hold, and
+//! [`Monitor::need_of_subject`] how far a step may fall.
+//!
 //! [`replay`] answers a whole journal, [`Call::write_record`] writes one, [`read_number`] reads its numbers.
 
 mod answer;

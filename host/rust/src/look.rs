@@ -4,9 +4,11 @@
 use crate::archive;
 use crate::monitor::Monitor;
 
-/// How many there are of each; numbers start at 0. Files and pipes share theirs, and places are those of one subject.
+/// How many subjects there may be; numbers start at 0.
 pub const SUBJECTS: u32 = 32;
+/// How many objects, files and pipes together.
 pub const OBJECTS: u32 = 64;
+/// How many places for handles each subject has.
 pub const PLACES: u32 = 16;
 
 /// What an object is.
