@@ -5,11 +5,13 @@
  *   cc host.c -I host target/staticlib/libhost.a          links it; it needs nothing but the C library
  *
  * A host keeps a monitor as GATEKEEPER_STATE_BYTES bytes of its own and lends them to each call. Every byte string of
- * that length is a monitor: a host can hand in a wrong length, but no wrong monitor.
+ * that length is a monitor: a host can hand in a wrong length, but no wrong monitor. Or it keeps one as a
+ * `struct gatekeeper_monitor`, which a call need not take apart. The answers are the same. Bytes are for a monitor that
+ * is stored or sent, the struct is for speed.
  *
- * What a host owes each function: a pointer has the given number of bytes behind it, and is not null even where that
- * number is 0; the two buffers of gatekeeper_replay do not overlap; and no other thread uses the lent bytes meanwhile.
- * The functions keep nothing, allocate nothing and always return.
+ * What a host owes each function: a pointer has the given number of bytes behind it, or a whole struct, and is not null
+ * even where that number is 0; a struct lies as its type is aligned; no two buffers of one call overlap; and no other
+ * thread uses what is lent meanwhile. The functions keep nothing, allocate nothing and always return.
  */
 #ifndef GATEKEEPER_H
 #define GATEKEEPER_H
@@ -29,9 +31,16 @@ extern "C" {
 #define GATEKEEPER_MUST_USE
 #endif
 
+/* The small functions of this header. In C++ each is one and the same in all files of a host. */
+#if defined(__cplusplus)
+#define GATEKEEPER_INLINE inline
+#else
+#define GATEKEEPER_INLINE static inline
+#endif
+
 /* The version of this header and of the archive that belongs to it, and as the number that gatekeeper_version gives. */
-#define GATEKEEPER_VERSION "4.0.0"
-#define GATEKEEPER_VERSION_NUMBER (65536 * 4 + 256 * 0 + 0)
+#define GATEKEEPER_VERSION "4.1.0"
+#define GATEKEEPER_VERSION_NUMBER (65536 * 4 + 256 * 1 + 0)
 
 /* How much stack a call of any function here takes at most, in bytes: measured (tools/hosts), not proved. */
 #define GATEKEEPER_STACK_BYTES 40960
@@ -158,7 +167,7 @@ enum gatekeeper_refusal {
 
 /* What a refusal says, in plain words, for a log or a message: a text that stays. For any other number, 0 among them,
  * which is what gatekeeper_value gives for a wrong length: "no refusal". */
-static inline const char *gatekeeper_refusal_text(uint32_t refusal)
+GATEKEEPER_INLINE const char *gatekeeper_refusal_text(uint32_t refusal)
 {
     switch (refusal) {
     case GATEKEEPER_UNKNOWN_CODE: return "no call has this code";
@@ -218,13 +227,13 @@ uint32_t gatekeeper_call(uint8_t *state, size_t len, uint32_t code, uint32_t a, 
 
 /* The outcome in an answer of gatekeeper_call: an `enum gatekeeper_outcome`, or 0 for a wrong length. What this
  * function and the next two read off an answer that is not 0 is the rules' answer, whatever the lent bytes were. */
-static inline uint32_t gatekeeper_letter(uint32_t answer) { return answer / 256; }
+GATEKEEPER_INLINE uint32_t gatekeeper_letter(uint32_t answer) { return answer / 256; }
 
 /* Whether the host may carry the call out: true for an allowed and for a lowered call, and for nothing else. A host
  * asks this, and does not go on where it is false: a test for GATEKEEPER_REFUSED alone would let a wrong length
  * pass. */
 GATEKEEPER_MUST_USE
-static inline bool gatekeeper_allows(uint32_t answer)
+GATEKEEPER_INLINE bool gatekeeper_allows(uint32_t answer)
 {
     return gatekeeper_letter(answer) == GATEKEEPER_ALLOWED || gatekeeper_letter(answer) == GATEKEEPER_LOWERED;
 }
@@ -233,7 +242,7 @@ static inline bool gatekeeper_allows(uint32_t answer)
  * started empty a level is below GATEKEEPER_LEVELS, but for that of a freeze that is lifted: GATEKEEPER_NO_FREEZE.
  * After a read, an exec, a map and a connect it is s's; after an open and a write it is the object's, also where what
  * the write made fall is a subject that has the file mapped. */
-static inline uint32_t gatekeeper_value(uint32_t answer) { return answer % 256; }
+GATEKEEPER_INLINE uint32_t gatekeeper_value(uint32_t answer) { return answer % 256; }
 
 /* Handles made and handles gone over all calls on this monitor, modulo 2 to the 64th. On a monitor that started empty
  * made minus gone are open; on any other made minus gone moves as the open ones do. 0 where `len` is not
@@ -256,19 +265,19 @@ uint32_t gatekeeper_handle(const uint8_t *state, size_t len, uint32_t s, uint32_
 
 /* The level in an answer of gatekeeper_subject or gatekeeper_object that is not 0. On a monitor that started empty it
  * is below GATEKEEPER_LEVELS. */
-static inline uint32_t gatekeeper_level_of(uint32_t thing) { return thing % 256; }
+GATEKEEPER_INLINE uint32_t gatekeeper_level_of(uint32_t thing) { return thing % 256; }
 
 /* The kind in an answer of gatekeeper_object: an `enum gatekeeper_kind`, or 0 where there is no object. */
-static inline uint32_t gatekeeper_kind_of(uint32_t object) { return object / 256; }
+GATEKEEPER_INLINE uint32_t gatekeeper_kind_of(uint32_t object) { return object / 256; }
 
 /* The way in an answer of gatekeeper_handle: an `enum gatekeeper_way`, or 0 where there is no handle. */
-static inline uint32_t gatekeeper_way_of(uint32_t handle) { return handle / 256 % 256; }
+GATEKEEPER_INLINE uint32_t gatekeeper_way_of(uint32_t handle) { return handle / 256 % 256; }
 
 /* The object in an answer of gatekeeper_handle that is not 0. It is live. */
-static inline uint32_t gatekeeper_object_of(uint32_t handle) { return handle % 256; }
+GATEKEEPER_INLINE uint32_t gatekeeper_object_of(uint32_t handle) { return handle % 256; }
 
 /* Whether the handle in an answer of gatekeeper_handle is marked: it ends when its subject runs a program. */
-static inline bool gatekeeper_is_marked(uint32_t handle) { return handle >= 256 * 256; }
+GATEKEEPER_INLINE bool gatekeeper_is_marked(uint32_t handle) { return handle >= 256 * 256; }
 
 /* The kept need of a subject and of an object. It is ready: nothing is worked out here. On a monitor that started empty
  * it is at most the level, and a subject or a pipe falls no lower while no handle goes; a file's is its level. 0 where
@@ -286,6 +295,137 @@ bool gatekeeper_put_right(uint8_t *state, size_t len);
 /* The level from which on files are frozen, for a host that shows it, or GATEKEEPER_NO_FREEZE where none is. 0, as if
  * every file were, where `len` is not GATEKEEPER_STATE_BYTES. */
 uint32_t gatekeeper_frozen_from(const uint8_t *state, size_t len);
+
+/*
+ * A monitor as a struct. A call on it parses no bytes and lays none out, as gatekeeper_call does each time. A host
+ * makes it empty once, lends it to each call, and reads the fields where it shows what they hold. A copy of it is a
+ * monitor of its own. Between `sure` and `counts` are six bytes of padding, which mean nothing and may change at any
+ * call: a host that compares two monitors does so field by field.
+ *
+ * A handle dangles here as in the bytes: where its subject or its object is not live, it counts as an empty place. The
+ * freeze and the kept needs mean the same in both. What the other fields say with a value that no call makes differs:
+ *
+ *                   here                                      in the bytes of gatekeeper_call
+ *   live, mark      any but 0: live, marked                   1 alone: live, marked
+ *   kind            any above 1: a pipe                       any above 2: no object
+ *   way             2 and any above 3: it writes              any above 3: no handle
+ *
+ * So bytes of the one that hold such values are not to be copied into the other.
+ *
+ * What is promised goes by `sure`, which says that calls made the value, from the empty monitor on:
+ *
+ *   1, and calls    On a monitor that gatekeeper_monitor_empty and after it gatekeeper_monitor_step and
+ *   made it         gatekeeper_monitor_call alone have made, every answer is the rules'. `sure` stays 1: that is tested
+ *                   and not proved, and only speed goes by it. A copy of such a monitor is one, too.
+ *   0               For a host that fills the tables itself. Any bytes are a monitor, and every answer is the rules',
+ *                   as for gatekeeper_call. But the call is slow, and `sure` stays 0 (tested, not proved).
+ *   not 0, and no   The tables may have handles that dangle, kept needs that are wrong, or levels below needs. Then a
+ *   calls made it   call ends and touches nothing but the struct, and a refused call leaves it as it was. Nothing else
+ *                   is promised of the answer.
+ *
+ * So a host sets `sure` itself only to 0, and does so where it changes another field.
+ */
+struct gatekeeper_monitor {
+    struct {
+        uint8_t live; /* 0: there is no such subject */
+        uint8_t level;
+    } subjects[GATEKEEPER_SUBJECTS];
+    struct {
+        uint8_t kind; /* an `enum gatekeeper_kind`; 0: there is no such object */
+        uint8_t level;
+    } objects[GATEKEEPER_OBJECTS];
+    struct {
+        uint8_t way; /* an `enum gatekeeper_way`; 0: the place is empty */
+        uint8_t object;
+        uint8_t mark; /* 0: it is not marked */
+    } handles[GATEKEEPER_SUBJECTS * GATEKEEPER_PLACES]; /* place p of subject s is the (16 s + p)th */
+    uint8_t freeze; /* the level from which on files are frozen; 16 and above: none is */
+    uint8_t needs[GATEKEEPER_SUBJECTS + GATEKEEPER_OBJECTS]; /* the kept needs: of the subjects, then of the objects */
+    uint8_t sure;       /* 1: calls made this value, from the empty monitor on; a host sets it only to 0 */
+    uint64_t counts[2]; /* handles over all calls, modulo 2 to the 64th: at GATEKEEPER_MADE, and at GATEKEEPER_GONE */
+};
+
+/* Where the handles made, and the handles gone, stand in `counts`. */
+enum gatekeeper_count {
+    GATEKEEPER_MADE = 0,
+    GATEKEEPER_GONE = 1
+};
+
+/* The archive has the struct laid out so. A compiler that lays it out otherwise says so here. */
+#if defined(__cplusplus) && __cplusplus >= 201103L
+#define GATEKEEPER_HOLDS(what) static_assert(what, "struct gatekeeper_monitor is not laid out as the archive has it")
+#define GATEKEEPER_ALIGNMENT(type) alignof(type)
+#elif !defined(__cplusplus) && defined(__STDC_VERSION__) && __STDC_VERSION__ >= 201112L
+#define GATEKEEPER_HOLDS(what) _Static_assert(what, "struct gatekeeper_monitor is not laid out as the archive has it")
+#define GATEKEEPER_ALIGNMENT(type) _Alignof(type)
+#endif
+#ifdef GATEKEEPER_HOLDS
+GATEKEEPER_HOLDS(sizeof(struct gatekeeper_monitor) == 1848);
+GATEKEEPER_HOLDS(GATEKEEPER_ALIGNMENT(struct gatekeeper_monitor) == 8);
+GATEKEEPER_HOLDS(offsetof(struct gatekeeper_monitor, subjects) == 0);
+GATEKEEPER_HOLDS(offsetof(struct gatekeeper_monitor, objects) == 64);
+GATEKEEPER_HOLDS(offsetof(struct gatekeeper_monitor, handles) == 192);
+GATEKEEPER_HOLDS(offsetof(struct gatekeeper_monitor, freeze) == 1728);
+GATEKEEPER_HOLDS(offsetof(struct gatekeeper_monitor, needs) == 1729);
+GATEKEEPER_HOLDS(offsetof(struct gatekeeper_monitor, sure) == 1825);
+GATEKEEPER_HOLDS(offsetof(struct gatekeeper_monitor, counts) == 1832);
+#undef GATEKEEPER_HOLDS
+#undef GATEKEEPER_ALIGNMENT
+#endif
+
+/* Makes the lent struct the empty monitor, with nothing made, nothing gone and nothing frozen, whatever stood there. A
+ * struct that is all 0 has no subject, object or handle either, but it freezes every file, and a call on it is slow. */
+void gatekeeper_monitor_empty(struct gatekeeper_monitor *monitor);
+
+/* Makes one call on the lent monitor, and counts the handles it makes and removes. Its numbers and its answer are those
+ * of gatekeeper_call, and gatekeeper_letter, gatekeeper_allows and gatekeeper_value read the answer. There is no length
+ * that could be wrong. A refused call changes no field. A host makes its calls with gatekeeper_monitor_step, below. */
+GATEKEEPER_MUST_USE
+uint32_t gatekeeper_monitor_call(struct gatekeeper_monitor *monitor, uint32_t code, uint32_t a, uint32_t b, uint32_t c,
+                                 uint32_t d, uint32_t e, uint32_t f);
+
+/* An open (code 5 or 6) and a close that change no need, done in place on the parts of one struct, each lent with its
+ * size in bytes, but `counts` with 2, for it has two numbers. They return the number that gatekeeper_monitor_call
+ * returns. Or 0, and nothing is touched: the call is not that simple, `sure` is not 1, the code is another, or a size
+ * is wrong. Then gatekeeper_monitor_call is to be made. A host does not call them itself: gatekeeper_monitor_step
+ * does. */
+GATEKEEPER_MUST_USE
+uint32_t gatekeeper_quick_open(const uint8_t *subjects, size_t subjects_len, const uint8_t *objects, size_t objects_len,
+                               uint8_t *handles, size_t handles_len, const uint8_t *needs, size_t needs_len,
+                               uint64_t *counts, size_t counts_len, uint8_t freeze, uint8_t sure, uint32_t code,
+                               uint32_t s, uint32_t o, uint32_t p);
+GATEKEEPER_MUST_USE
+uint32_t gatekeeper_quick_close(const uint8_t *subjects, size_t subjects_len, const uint8_t *objects,
+                                size_t objects_len, uint8_t *handles, size_t handles_len, const uint8_t *needs,
+                                size_t needs_len, uint64_t *counts, size_t counts_len, uint8_t freeze, uint8_t sure,
+                                uint32_t s, uint32_t p);
+
+/* A part of the struct as its bytes, and how many. */
+#if defined(__cplusplus)
+#define GATEKEEPER_PART(part) reinterpret_cast<uint8_t *>(part), sizeof(part)
+#else
+#define GATEKEEPER_PART(part) (uint8_t *)(part), sizeof(part)
+#endif
+
+/* Makes one call on the lent monitor. It has the answer of gatekeeper_monitor_call, and leaves the same tables and
+ * counts: both ways that a call can take here are proved to go by the rules. It is faster for an open or a close that changes no
+ * need; any other call goes to gatekeeper_monitor_call. */
+GATEKEEPER_MUST_USE
+GATEKEEPER_INLINE uint32_t gatekeeper_monitor_step(struct gatekeeper_monitor *monitor, uint32_t code, uint32_t a,
+                                                   uint32_t b, uint32_t c, uint32_t d, uint32_t e, uint32_t f)
+{
+    uint32_t answer = 0;
+    if (code == GATEKEEPER_OPEN_READ || code == GATEKEEPER_OPEN_WRITE)
+        answer = gatekeeper_quick_open(GATEKEEPER_PART(monitor->subjects), GATEKEEPER_PART(monitor->objects),
+                                       GATEKEEPER_PART(monitor->handles), monitor->needs, sizeof monitor->needs,
+                                       monitor->counts, 2, monitor->freeze, monitor->sure, code, a, b, c);
+    else if (code == GATEKEEPER_CLOSE)
+        answer = gatekeeper_quick_close(GATEKEEPER_PART(monitor->subjects), GATEKEEPER_PART(monitor->objects),
+                                        GATEKEEPER_PART(monitor->handles), monitor->needs, sizeof monitor->needs,
+                                        monitor->counts, 2, monitor->freeze, monitor->sure, a, b);
+    return answer != 0 ? answer : gatekeeper_monitor_call(monitor, code, a, b, c, d, e, f);
+}
+#undef GATEKEEPER_PART
 
 /* Runs a journal from an empty monitor and writes the reply over the front of `out`: a line for each record with its
  * position, code, A, L or R, and the level or refusal number; then `end`, handles made, gone and open. Returns how many

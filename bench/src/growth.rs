@@ -1,32 +1,54 @@
-//! How the instructions of one call grow with the number of open handles.
+//! How the instructions of one call grow: with the number of open handles, and with the length of the rings.
 
-use gatekeeper::{Call, Monitor};
+use gatekeeper::{Call, Monitor, State};
 use gatekeeper_plain::{Monitor as PlainMonitor, When};
 
 use crate::counting::{counted, part_ends, Part};
 use crate::inputs::{figure, plain_figure, Side};
-use crate::layouts::{one_ring, rings_of_4, Layout, LOW_FILE};
+use crate::layouts::{one_ring, rings_of, rings_of_4, Layout, LOW_FILE};
 
-/// How many subjects hold handles, 16 each.
+/// How many subjects hold handles, 16 each, where the tables grow.
 pub const SUBJECTS: [u32; 6] = [1, 2, 4, 8, 16, 32];
 
-/// Tables that grow, subject by subject.
+/// Tables of several sizes.
+#[derive(Debug)]
 pub struct Family {
     pub name: &'static str,
     /// What they are, above their panels of the plot.
     pub caption: &'static str,
+    pub sizes: &'static [u32],
+    /// The calls that are counted.
+    pub kinds: &'static [Kind],
     layout: fn(u32) -> Layout,
 }
 
-pub const FAMILIES: [Family; 2] = [
-    Family { name: "rings of 4", caption: "Rings of 4 subjects, 16 handles each", layout: rings_of_4 },
+/// Tables that grow, subject by subject.
+pub static BY_HANDLES: [Family; 2] = [
+    Family {
+        name: "rings of 4",
+        caption: "Rings of 4 subjects, 16 handles each",
+        sizes: &SUBJECTS,
+        kinds: &KINDS,
+        layout: rings_of_4,
+    },
     Family {
         name: "one ring",
         caption: "One ring of all subjects, 16 handles each, where one file is written: \
                   the need travels all the way round",
+        sizes: &SUBJECTS,
+        kinds: &KINDS,
         layout: one_ring,
     },
 ];
+
+/// Full tables whose rings grow.
+pub static BY_RING: Family = Family {
+    name: "full tables",
+    caption: "512 handles in rings of so many subjects",
+    sizes: &[4, 8, 16, 32],
+    kinds: &[Kind::Close, Kind::Open],
+    layout: rings_of,
+};
 
 /// The programs that are compared.
 pub const COMPARED: [Side; 2] = [Side::Proved, Side::Plain];
@@ -54,22 +76,22 @@ impl Kind {
     }
 }
 
-/// One point of the plot.
+/// What is counted once: a call on tables of one size.
 #[derive(Clone, Copy, Debug)]
 pub struct Point {
-    pub family: usize,
+    pub family: &'static Family,
     pub kind: Kind,
     pub side: Side,
-    pub subjects: u32,
+    pub size: u32,
 }
 
 /// Every point, in the order in which they are counted.
 pub fn points() -> Vec<Point> {
     let mut points = Vec::new();
-    for family in 0..FAMILIES.len() {
-        for kind in KINDS {
+    for family in BY_HANDLES.iter().chain([&BY_RING]) {
+        for &kind in family.kinds {
             for side in COMPARED {
-                points.extend(SUBJECTS.map(|subjects| Point { family, kind, side, subjects }));
+                points.extend(family.sizes.iter().map(|&size| Point { family, kind, side, size }));
             }
         }
     }
@@ -78,17 +100,17 @@ pub fn points() -> Vec<Point> {
 
 impl Point {
     fn layout(self) -> Layout {
-        (FAMILIES[self.family].layout)(self.subjects)
+        (self.family.layout)(self.size)
     }
 
-    pub fn handles(self) -> u32 {
-        16 * self.subjects
+    pub fn handles(self) -> usize {
+        self.layout().places().count()
     }
 
     /// The handles at which the call is made: of all of them about 60, evenly spread; for reads and refused opens those
     /// that read a file, as the needs are the same without them.
     fn sample(self) -> Vec<(u32, u32)> {
-        let step = (self.handles() as usize / 64) | 1;
+        let step = (self.handles() / 64) | 1;
         let reads_file = |place: u32| place % 2 == 0 && place > 0;
         let all = self.layout().places().step_by(step);
         match self.kind {
@@ -144,6 +166,10 @@ type Machine = Box<dyn FnMut(Call) -> u64>;
 fn filled(side: Side, layout: Layout) -> Machine {
     let mut monitor: Machine = match side {
         Side::Proved => {
+            let mut state = State::new();
+            Box::new(move |call| figure(state.call(call)))
+        }
+        Side::Bytes => {
             let mut monitor = Monitor::new();
             Box::new(move |call| figure(monitor.call(call)))
         }
@@ -159,6 +185,48 @@ fn filled(side: Side, layout: Layout) -> Machine {
     monitor
 }
 
+/// A line of the plot, and a row of its table.
+#[derive(Clone, Copy, Debug, PartialEq, Eq)]
+pub enum Line {
+    /// As counted now.
+    Now(Side),
+    /// The proved library before request (g), with a monitor of bytes: constants.
+    Before,
+}
+
+pub const LINES: [Line; 3] = [Line::Now(Side::Proved), Line::Before, Line::Now(Side::Plain)];
+
+/// Rings, call, handles and instructions, below two lines that say so.
+const BEFORE: &str = include_str!("../before.tsv");
+
+impl Line {
+    pub fn name(self) -> &'static str {
+        match self {
+            Line::Now(side) => side.name(),
+            Line::Before => "before",
+        }
+    }
+
+    /// The figures of one call on tables of a family, each with the size.
+    pub fn figures(self, figures: &[(Point, f64)], family: &Family, kind: Kind) -> Vec<(u32, f64)> {
+        let of_line = |point: &Point| {
+            point.family.name == family.name && point.kind == kind && Line::Now(point.side) == self
+        };
+        match self {
+            Line::Now(_) => {
+                let points = figures.iter().filter(|(point, _)| of_line(point));
+                points.map(|(point, figure)| (point.size, *figure)).collect()
+            }
+            Line::Before => {
+                let rows = BEFORE.lines().skip(2).map(|row| row.split('\t').collect::<Vec<&str>>());
+                let rows = rows.filter(|row| row[..2] == [family.name, kind.name()]);
+                rows.filter_map(|row| Some((row[2].parse::<u32>().ok()? / 16, row[3].parse().ok()?)))
+                    .collect()
+            }
+        }
+    }
+}
+
 #[cfg(test)]
 mod tests {
     use super::*;
@@ -168,6 +236,30 @@ mod tests {
         for point in points() {
             assert!(point.sample().len() >= 7, "{point:?}");
             point.run();
+        }
+    }
+
+    #[test]
+    fn figures_of_before_are_there() {
+        let mut rows = 0;
+        for family in &BY_HANDLES {
+            for kind in KINDS {
+                let figures = Line::Before.figures(&[], family, kind);
+                let sizes: Vec<u32> = figures.iter().map(|figure| figure.0).collect();
+                assert_eq!(sizes, SUBJECTS, "{}, {}", family.name, kind.name());
+                assert!(figures.iter().all(|figure| (20_000.0..60_000.0).contains(&figure.1)));
+                rows += figures.len();
+            }
+        }
+        assert_eq!(rows + 2, BEFORE.lines().count());
+        let close = Line::Before.figures(&[], &BY_HANDLES[0], Kind::Close);
+        assert_eq!((close[0], close[5]), ((1, 32_749.0), (32, 32_815.0)));
+    }
+
+    #[test]
+    fn full_tables_have_512_handles() {
+        for point in points().into_iter().filter(|point| point.family.name == BY_RING.name) {
+            assert_eq!(point.handles(), 512, "{point:?}");
         }
     }
 }

@@ -2,7 +2,7 @@
 
 use std::hint::black_box;
 
-use gatekeeper::{Answer, Call, Monitor};
+use gatekeeper::{Answer, Call, Monitor, State};
 use gatekeeper_independent::generate::{self, Style, Wish};
 use gatekeeper_independent::numbers;
 use gatekeeper_independent::random::Random;
@@ -22,20 +22,23 @@ const NUMBERS: usize = 100_000;
 /// The programs that are measured.
 #[derive(Clone, Copy, Debug, PartialEq, Eq)]
 pub enum Side {
-    /// The proved library, through the archive for hosts.
+    /// The proved library, through the archive for hosts, its monitor a struct.
     Proved,
+    /// The same with a monitor of bytes.
+    Bytes,
     /// The plain program, which works needs out at each call.
     Plain,
     /// The plain program, where it works needs out only at calls that go by them.
     Sparing,
 }
 
-pub const SIDES: [Side; 3] = [Side::Proved, Side::Plain, Side::Sparing];
+pub const SIDES: [Side; 4] = [Side::Proved, Side::Bytes, Side::Plain, Side::Sparing];
 
 impl Side {
     pub fn name(self) -> &'static str {
         match self {
             Side::Proved => "proved",
+            Side::Bytes => "bytes",
             Side::Plain => "plain",
             Side::Sparing => "sparing",
         }
@@ -112,20 +115,32 @@ impl Work {
 /// Work as one program does it. It answers with a sum over what it found, and each program finds the same.
 pub type Run = Box<dyn FnMut() -> u64>;
 
-/// One piece of work, done in two ways or three.
+/// One piece of work, done in two ways to four.
 pub struct Input {
     /// How many calls, records or numbers it has.
     pub calls: usize,
     pub proved: Run,
+    /// None where no monitor is lent.
+    pub bytes: Option<Run>,
     pub plain: Run,
     /// None where no needs are worked out.
     pub sparing: Option<Run>,
 }
 
 impl Input {
+    /// Whether a program does the work.
+    pub fn has(&self, side: Side) -> bool {
+        match side {
+            Side::Proved | Side::Plain => true,
+            Side::Bytes => self.bytes.is_some(),
+            Side::Sparing => self.sparing.is_some(),
+        }
+    }
+
     pub fn run(&mut self, side: Side) -> Option<&mut Run> {
         match side {
             Side::Proved => Some(&mut self.proved),
+            Side::Bytes => self.bytes.as_mut(),
             Side::Plain => Some(&mut self.plain),
             Side::Sparing => self.sparing.as_mut(),
         }
@@ -151,6 +166,7 @@ fn replayed(journal: Vec<u8>) -> Input {
         calls: reply.lines().count() - 1,
         plain: plain(When::EachCall),
         sparing: Some(plain(When::Asked)),
+        bytes: None,
         proved: Box::new(move || match gatekeeper::replay_into(black_box(&journal), &mut text) {
             Some(bytes) => bytes as u64,
             None => 0,
@@ -173,10 +189,13 @@ fn called(layout: Layout) -> Input {
     let filling: Vec<(u32, [u32; calls::NUMBERS])> = layout.filling().into_iter().map(numbered).collect();
     let round: Vec<(u32, [u32; calls::NUMBERS])> = layout.round().into_iter().map(numbered).collect();
 
-    let mut proved = Monitor::new();
+    let (mut proved, mut bytes) = (State::new(), Monitor::new());
     for &(code, numbers) in &filling {
-        proved.direct(code, numbers).granted().expect("the calls that fill the tables are allowed");
+        for answer in [proved.direct(code, numbers), bytes.direct(code, numbers)] {
+            answer.granted().expect("the calls that fill the tables are allowed");
+        }
     }
+    let round_of_bytes = round.clone();
     let plain = |when| {
         let mut monitor = PlainMonitor::new(when);
         for &(code, numbers) in &filling {
@@ -192,6 +211,11 @@ fn called(layout: Layout) -> Input {
         calls: round.len(),
         plain: plain(When::EachCall),
         sparing: Some(plain(When::Asked)),
+        bytes: Some(Box::new(move || {
+            let answers =
+                black_box(&round_of_bytes).iter().map(|&(code, numbers)| bytes.direct(code, numbers));
+            answers.map(figure).sum()
+        })),
         proved: Box::new(move || {
             let answers = black_box(&round).iter().map(|&(code, numbers)| proved.direct(code, numbers));
             answers.map(figure).sum()
@@ -241,6 +265,7 @@ fn numbers_read(most: u32, plain: impl Fn(&[u8]) -> Option<(u32, usize)> + 'stat
     Input {
         calls: NUMBERS,
         proved: Box::new(move || sum(black_box(&bytes), gatekeeper::read_number)),
+        bytes: None,
         plain: Box::new(move || sum(black_box(&bytes_beside), &plain)),
         sparing: None,
     }
@@ -271,9 +296,12 @@ mod tests {
             for side in SIDES {
                 // Twice, as a round leaves the tables as they were.
                 for _ in 0..2 {
-                    if let Some(run) = input.run(side) {
-                        assert_eq!(run(), found, "{}, {}", work.name(), side.name());
-                    }
+                    let has = input.has(side);
+                    let Some(run) = input.run(side) else {
+                        assert!(!has);
+                        continue;
+                    };
+                    assert_eq!(run(), found, "{}, {}", work.name(), side.name());
                 }
             }
         }

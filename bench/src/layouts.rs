@@ -86,6 +86,11 @@ pub fn one_ring(subjects: u32) -> Layout {
     Layout { name: "one ring", subjects, shape }
 }
 
+/// Full tables, in rings of so many subjects, where one file is written.
+pub fn rings_of(size: u32) -> Layout {
+    rings("rings of one size", size, false, Files::One)
+}
+
 impl Layout {
     /// Every subject and place that holds a handle, in the order of a pass.
     pub fn places(self) -> impl Iterator<Item = (u32, u32)> {
@@ -238,7 +243,7 @@ fn on_pipes(subject: u32, place: u32) -> Held {
 #[cfg(test)]
 mod tests {
     use super::*;
-    use gatekeeper::{Answer, Monitor};
+    use gatekeeper::{Answer, Monitor, State};
     use gatekeeper_independent::monitor::{Answer as AnswerBeside, Monitor as MonitorBeside};
     use gatekeeper_independent::needs::{live_things, Flow, Needs, Thing};
     use gatekeeper_independent::tables::{Kind, Tables};
@@ -304,22 +309,32 @@ mod tests {
     #[test]
     fn every_call_of_a_round_is_allowed_and_answered_alike() {
         for layout in LAYOUTS {
-            let mut proved = Monitor::new();
+            let mut proved = State::new();
+            let mut bytes = Monitor::new();
             let mut plain = [PlainMonitor::new(When::EachCall), PlainMonitor::new(When::Asked)];
             let mut independent = MonitorBeside::new();
             for call in layout.filling().into_iter().chain(layout.round()) {
                 let Answer::Allowed(level) = proved.call(call) else {
                     panic!("{}: {call:?} is not allowed", layout.name);
                 };
+                assert_eq!(bytes.call(call), Answer::Allowed(level), "{}: {call:?}", layout.name);
                 for plain in &mut plain {
                     assert_eq!(plain.direct(call.code(), call.numbers()), PlainAnswer::Allowed(level));
                 }
                 let beside = independent.call(call.code(), call.numbers());
                 assert_eq!(beside, AnswerBeside::Allowed(u32::from(level)), "{}: {call:?}", layout.name);
             }
-            assert_eq!(proved.open(), 512);
+            assert_eq!((proved.open(), bytes.open()), (512, 512));
             assert_eq!(plain.map(|plain| plain.tally().open()), [512; 2]);
         }
+    }
+
+    #[test]
+    fn rings_of_32_are_the_ring_against_the_order() {
+        assert_eq!(rings_of(32).round(), LAYOUTS[2].round());
+        assert_eq!(rings_of(32).filling(), LAYOUTS[2].filling());
+        let passes = [4, 8, 16, 32].map(|size| passes(filled(rings_of(size)).tables()));
+        assert_eq!(passes, [9, 17, 33, 65]);
     }
 
     #[test]

@@ -60,6 +60,8 @@ fn run(options: &Options, works: &[Work]) -> Result<(), String> {
                 .map_err(|error| format!("{file} is not written: {error}"))?;
             println!("Instructions per call; the plot is in {file}");
             print!("{}", figures::growth_table(&figures).text(false));
+            println!("\nInstructions per call by length of the rings, 512 handles");
+            print!("{}", figures::ring_table(&figures).text(false));
         }
         Task::Counted => figures::run_counted(options, works),
         Task::CountedGrowth => growth::points().into_iter().for_each(Point::run),
@@ -94,7 +96,9 @@ fn markdown(options: &Options, works: &[Work]) -> Result<(), String> {
     println!(
         "### By number of open handles\n\nInstructions per call; the plot above has the same figures.\n"
     );
-    print!("{}", figures::growth_table(&grown).text(true));
+    println!("{}", figures::growth_table(&grown).text(true));
+    println!("### By length of the rings\n\nInstructions per call; 512 handles.\n");
+    print!("{}", figures::ring_table(&grown).text(true));
     Ok(())
 }
 

@@ -46,8 +46,9 @@ impl Options {
                 "--alone" => {
                     let value = value()?;
                     let side = SIDES.into_iter().find(|side| side.name() == value);
-                    options.alone =
-                        Some(side.ok_or(format!("'{value}' is not 'proved', 'plain' or 'sparing'"))?);
+                    options.alone = Some(
+                        side.ok_or(format!("'{value}' is not 'proved', 'bytes', 'plain' or 'sparing'"))?,
+                    );
                 }
                 _ => return Err(format!("unknown option '{option}'")),
             }
@@ -67,6 +68,7 @@ mod tests {
     #[test]
     fn options_are_read() {
         assert_eq!(read("").map(|options| (options.task, options.rounds)), Ok((Task::Times, 15)));
+        assert_eq!(read("--alone bytes").map(|options| options.alone), Ok(Some(Side::Bytes)));
         let options = read("--instructions --only rings --alone sparing").unwrap();
         assert_eq!((options.task, options.alone), (Task::Instructions, Some(Side::Sparing)));
         assert_eq!(options.only, "rings");

@@ -7,11 +7,11 @@ pub struct Table {
 }
 
 impl Table {
-    pub fn of_figures(header: &[&str]) -> Table {
-        Table { rows: vec![header.iter().map(|title| title.to_string()).collect()], words: false }
+    pub fn of_figures(header: &[impl ToString]) -> Table {
+        Table { rows: vec![header.iter().map(ToString::to_string).collect()], words: false }
     }
 
-    pub fn of_words(header: &[&str]) -> Table {
+    pub fn of_words(header: &[impl ToString]) -> Table {
         Table { words: true, ..Table::of_figures(header) }
     }
 

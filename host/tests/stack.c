@@ -3,8 +3,9 @@
  * is no longer painted afterwards has been used. Prints the most that each took, and fails where one took more than
  * GATEKEEPER_STACK_BYTES. tools/hosts builds and runs it.
  *
- * The calls are those of many drawn lists, from an empty monitor and from drawn bytes, and journals of the greatest
- * length, so that every code, answer and refusal is met. What is seen is what these calls took: no proof.
+ * The calls are those of many drawn lists, from an empty monitor and from drawn bytes, on bytes and on the struct, and
+ * journals of the greatest length, so that every code, answer and refusal is met. What is seen is what these calls
+ * took: no proof.
  */
 #include <pthread.h>
 #include <stdio.h>
@@ -19,9 +20,11 @@ static uint8_t *stack;       /* the thread's, painted */
 static const uint8_t *above; /* where the thread stands when it calls */
 static uint64_t seed = 1;
 static uint8_t state[GATEKEEPER_STATE_BYTES];
+static struct gatekeeper_monitor monitor;
 static uint8_t journal[GATEKEEPER_JOURNAL_BYTES];
 static uint8_t reply[GATEKEEPER_REPLY_ROOM];
 static unsigned long met[256]; /* how many answers had each value, refused ones from 128 on */
+static unsigned long quick[2]; /* how many opens, and closes, were allowed in place */
 
 /* A drawn number below a limit. */
 static uint32_t drawn(uint32_t limit)
@@ -30,12 +33,49 @@ static uint32_t drawn(uint32_t limit)
     return (uint32_t)(seed >> 33) % limit;
 }
 
+static void note(uint32_t answer)
+{
+    met[(gatekeeper_allows(answer) ? 0 : 128) + gatekeeper_value(answer) % 128]++;
+}
+
 static void one_call(void)
 {
     uint32_t few = drawn(4) ? 6 : 40; /* small numbers meet more often */
-    uint32_t answer = gatekeeper_call(state, sizeof state, 1 + drawn(18), drawn(few), drawn(few), drawn(few),
-                                      drawn(few), drawn(17), drawn(17));
-    met[(gatekeeper_allows(answer) ? 0 : 128) + gatekeeper_value(answer) % 128]++;
+    note(gatekeeper_call(state, sizeof state, 1 + drawn(18), drawn(few), drawn(few), drawn(few), drawn(few), drawn(17),
+                         drawn(17)));
+}
+
+static void one_monitor_call(void)
+{
+    uint32_t few = drawn(4) ? 6 : 40;
+    note(gatekeeper_monitor_call(&monitor, 1 + drawn(18), drawn(few), drawn(few), drawn(few), drawn(few), drawn(17),
+                                 drawn(17)));
+}
+
+static void one_monitor_step(void)
+{
+    uint32_t few = drawn(4) ? 6 : 40;
+    note(gatekeeper_monitor_step(&monitor, 1 + drawn(18), drawn(few), drawn(few), drawn(few), drawn(few), drawn(17),
+                                 drawn(17)));
+}
+
+/* An open or a close in place, and nothing where it is not that simple. */
+static void one_quick_call(void)
+{
+    uint8_t *subjects = (uint8_t *)monitor.subjects, *objects = (uint8_t *)monitor.objects;
+    uint8_t *handles = (uint8_t *)monitor.handles;
+    uint32_t few = drawn(4) ? 6 : 40, code = drawn(2) ? GATEKEEPER_CLOSE : GATEKEEPER_OPEN_READ + drawn(2);
+    uint32_t s = drawn(few), o = drawn(few), p = drawn(17), answer;
+    if (code == GATEKEEPER_CLOSE)
+        answer = gatekeeper_quick_close(subjects, sizeof monitor.subjects, objects, sizeof monitor.objects, handles,
+                                        sizeof monitor.handles, monitor.needs, sizeof monitor.needs, monitor.counts, 2,
+                                        monitor.freeze, monitor.sure, s, p);
+    else
+        answer = gatekeeper_quick_open(subjects, sizeof monitor.subjects, objects, sizeof monitor.objects, handles,
+                                       sizeof monitor.handles, monitor.needs, sizeof monitor.needs, monitor.counts, 2,
+                                       monitor.freeze, monitor.sure, code, s, o, p);
+    if (gatekeeper_allows(answer))
+        quick[code == GATEKEEPER_CLOSE]++;
 }
 
 static void calls(void)
@@ -53,11 +93,48 @@ static void calls(void)
     }
 }
 
+static void draw_monitor(uint8_t sure)
+{
+    uint8_t *bytes = (uint8_t *)&monitor;
+    for (size_t at = 0; at < sizeof monitor; at++)
+        bytes[at] = (uint8_t)drawn(drawn(2) ? 4 : 256);
+    monitor.sure = sure;
+}
+
+/* The same with the struct. Of those that are drawn, half say that calls made them. */
+static void on_monitors(void (*one)(void))
+{
+    for (int list = 0; list < LISTS; list++) {
+        if (list % 2 == 0)
+            gatekeeper_monitor_empty(&monitor);
+        else
+            draw_monitor(list % 4 == 1);
+        for (int call = 0; call < CALLS; call++)
+            one();
+    }
+}
+
+static void monitor_calls(void) { on_monitors(one_monitor_call); }
+
+static void monitor_steps(void) { on_monitors(one_monitor_step); }
+
+/* No other function of the archive is called here. */
+static void quick_calls(void)
+{
+    for (int list = 0; list < LISTS; list++) {
+        draw_monitor(1);
+        for (int call = 0; call < CALLS; call++)
+            one_quick_call();
+    }
+}
+
 static void empty(void)
 {
     if (!gatekeeper_empty(state, sizeof state))
         exit(1);
 }
+
+static void monitor_empty(void) { gatekeeper_monitor_empty(&monitor); }
 
 static void counts(void)
 {
@@ -134,8 +211,16 @@ int main(void)
     static const struct {
         const char *name;
         void (*work)(void);
-    } works[] = {{"gatekeeper_call", calls},     {"gatekeeper_empty", empty},   {"gatekeeper_made, gone", counts},
-                 {"gatekeeper_replay", replays}, {"gatekeeper_record", records}, {"gatekeeper_number", numbers}};
+    } works[] = {{"gatekeeper_call", calls},
+                 {"gatekeeper_empty", empty},
+                 {"gatekeeper_monitor_call", monitor_calls},
+                 {"gatekeeper_monitor_step", monitor_steps},
+                 {"gatekeeper_quick_open, close", quick_calls},
+                 {"gatekeeper_monitor_empty", monitor_empty},
+                 {"gatekeeper_made, gone", counts},
+                 {"gatekeeper_replay", replays},
+                 {"gatekeeper_record", records},
+                 {"gatekeeper_number", numbers}};
     size_t most = 0;
     void *bytes;
     if (posix_memalign(&bytes, 4096, STACK))
@@ -143,7 +228,7 @@ int main(void)
     stack = bytes;
     for (size_t at = 0; at < sizeof works / sizeof works[0]; at++) {
         size_t depth = taken(works[at].work);
-        printf("%-22s %6zu bytes of stack\n", works[at].name, depth);
+        printf("%-28s %6zu bytes of stack\n", works[at].name, depth);
         if (depth > most)
             most = depth;
     }
@@ -152,6 +237,10 @@ int main(void)
             fprintf(stderr, "stack: no drawn call was refused with %u\n", (unsigned)refusal);
             return 1;
         }
+    if (quick[0] == 0 || quick[1] == 0) {
+        fputs("stack: no drawn open, or no drawn close, was allowed in place\n", stderr);
+        return 1;
+    }
     printf("the most: %zu of %d bytes\n", most, GATEKEEPER_STACK_BYTES);
     return most <= GATEKEEPER_STACK_BYTES ? 0 : 1;
 }

@@ -21,14 +21,13 @@ use Rattle.model.specs.Tables.{Dir, reading, writing, Entry, Tables, in-range, 
 use Rattle.model.specs.Tables.{Handle as Held}
 use Rattle.model.specs.Tables.Laws.{live-of, speaks-cell, cell-self, flow-edge, edge-flow}
 use Rattle.model.specs.Invariant.{Wf}
-use Rattle.need.specs.Least.{figure, Low, Least}
-use Rattle.need.specs.Least.{node as nth}
 use Rattle.tables.specs.declared.Subject.{Subject}
 use Rattle.tables.specs.declared.Object.{Object}
 use Rattle.tables.specs.declared.Handle.{Handle}
 use Rattle.tables.specs.Records.{object-entry, reads-by, held, no-object, no-handle, tables-of}
 use Rattle.tables.specs.Needs.{node, Needed}
-use Rattle.flows.specs.Working.{alike, end-by, Ends, demanded-by, Marked}
+use Rattle.flows.specs.Least.{figure, Before, Settled, Between}
+use Rattle.flows.specs.Working.{alike, end-by, source, target, demanded-by, Marked}
 
 -- the thing of a number
 abbrev thing : ℕ → Thing
@@ -77,34 +76,26 @@ edge-node start h k s q l ls = go (eqb (h .way) 0) (reads-by (h .way)) q
     of w = record { dir = cond w reading writing; to = h .object; marked = not (eqb (h .mark) 0); mapped = eqb (h .way) 3 }
 
     at : (w start : Bool) → h .object < 64
-        → cond (alike w start) (32 + h .object) s ≡ node (tip start (flow (subject s) (of w)))
-    at true true lo = refl
+        → cond (alike w start) (32 + h .object % 64) s ≡ node (tip start (flow (subject s) (of w)))
+    at true true lo = omega arith
     at true false lo = refl
     at false true lo = refl
-    at false false lo = refl
+    at false false lo = omega arith
 
     go : (b w : Bool) → cond b none (some (of w)) ≡ some k
-        → cond b 0 (cond (ltb (h .object) 64) (cond (alike w start) (32 + h .object) s) 0) ≡ node (tip start (flow (subject s) k))
+        → cond b 0 (cond (alike w start) (32 + h .object % 64) s) ≡ node (tip start (flow (subject s) k))
     go true w q = absurd (Option·none-ne-some k q)
     go false w q = let e = Option·some-injective _ k q in let lo : h .object < 64 = subst (λ (z : Held). z .to < 64) (sym e) l in
-        rw (lt-ltb (h .object) 64 lo) (at w start lo ∙ ap (λ (z : Held). node (tip start (flow (subject s) z))) e)
+        at w start lo ∙ ap (λ (z : Held). node (tip start (flow (subject s) z))) e
 
 -- each end is one of the 96
-end-low : (start : Bool) (h : Handle) (s : ℕ) → s < 32 → end-by h s start < 96
-end-low start h s l = go (eqb (h .way) 0) (decLt (h .object) 64) (alike (reads-by (h .way)) start)
+pub end-low : (start : Bool) (h : Handle) (s : ℕ) → s < 32 → end-by h s start < 96
+end-low start h s l = go (eqb (h .way) 0) (alike (reads-by (h .way)) start)
   where
-    go : (b : Bool) → Dec (h .object < 64) → (w : Bool) → cond b 0 (cond (ltb (h .object) 64) (cond w (32 + h .object) s) 0) < 96
-    go true d w = omega arith
-    go false (yes o) true = rw (lt-ltb (h .object) 64 o) (omega arith)
-    go false (yes o) false = rw (lt-ltb (h .object) 64 o) (omega arith)
-    go false (no o) w = rw (le-ltb (h .object) 64 (omega arith)) (omega arith)
-
-pub ends-low : (hs : List Handle) (start : Bool) (l : List ℕ) → length l ≡ 512 → Ends hs start l → Low l
-ends-low hs start l n g = record { thing = λ i. go i (decLt i 512) }
-  where
-    go : (i : ℕ) → Dec (i < 512) → getD l i 0 < 96
-    go i (yes h) = subst (λ (z : ℕ). z < 96) (sym (g .end-is i h)) (end-low start (getD hs i no-handle) (i / 16) (omega arith))
-    go i (no h) = subst (λ (z : ℕ). z < 96) (sym (List·getD-eq-default l 0 {n = i} (omega arith))) (omega arith)
+    go : (b w : Bool) → cond b 0 (cond w (32 + h .object % 64) s) < 96
+    go true w = omega arith
+    go false true = omega arith
+    go false false = omega arith
 
 -- a record that holds nothing has both ends at 0
 no-edge : (start : Bool) (h : Handle) (s : ℕ) → held h ≡ none → end-by h s start ≡ 0
@@ -116,8 +107,7 @@ no-edge start h s q = go (eqb (h .way) 0) _ _ q
 
 -- ── the tables ──
 module _ (rest : Tables) (ss : List Subject) (os : List Object) (hs : List Handle) (w : Wf (tables-of rest ss os hs)) (lo : length os ≡ 64)
-    (from to base r : List ℕ) (lb : length base ≡ 96) (k : Marked os base) (fs : Ends hs true from) (ts : Ends hs false to)
-    (p : Least from to base r) where
+    (base r : List ℕ) (lb : length base ≡ 96) (k : Marked os base) (p : Between 512 (source hs) (target hs) base r) where
   abbrev t : Tables
   t = tables-of rest ss os hs
 
@@ -139,47 +129,19 @@ module _ (rest : Tables) (ss : List Subject) (os : List Object) (hs : List Handl
       (ltb→lt s 32 (live-of t (subject s) (g .from) .0), g .place, ltb→lt (j .to) 64 (live-of t (object (j .to)) (g .to) .0))
 
   -- an end of the record at a place
-  module _ (start : Bool) (l : List ℕ) (g : Ends hs start l) (s q : ℕ) where
-    end-at : s < 32 → q < 16 → getD l (s * 16 + q) 0 ≡ end-by (record-at s q) s start
-    end-at a b = let d : (s * 16 + q) / 16 ≡ s = omega arith in
-        g .end-is (s * 16 + q) (omega arith) ∙ ap (λ (z : ℕ). end-by (record-at s q) z start) d
+  module _ (start : Bool) (s q : ℕ) where
+    abbrev tip-at : ℕ
+    tip-at = end-by (getD hs (s * 16 + q) no-handle) ((s * 16 + q) / 16) start
 
-    taken-at : (j : Held) → t .hand s q ≡ some j → nth l (s * 16 + q) ≡ node (tip start (flow (subject s) j))
+    end-at : s < 32 → q < 16 → tip-at ≡ end-by (record-at s q) s start
+    end-at a b = let d : (s * 16 + q) / 16 ≡ s = omega arith in ap (λ (z : ℕ). end-by (record-at s q) z start) d
+
+    taken-at : (j : Held) → t .hand s q ≡ some j → tip-at ≡ node (tip start (flow (subject s) j))
     taken-at j e = let b = far s q j e in
         end-at (b .0) (b .1) ∙ edge-node start (record-at s q) j s (hand-is s q (b .1) ∙ e) (b .2) (b .0)
 
-    empty-at : s < 32 → q < 16 → t .hand s q ≡ none → nth l (s * 16 + q) ≡ 0
+    empty-at : s < 32 → q < 16 → t .hand s q ≡ none → tip-at ≡ 0
     empty-at a b e = end-at a b ∙ no-edge start (record-at s q) s (hand-is s q b ∙ e)
-
-  -- ── the figures are a potential of the tables ──
-  low : (y : Thing) → f y ⊑ fig y
-  unfolding f tables-of
-  low (subject n) = none-demanded (t .at (subject n))
-    where
-      none-demanded : (o : Option Entry) → demand (subject n) o ⊑ fig (subject n)
-      none-demanded none = bot-least
-      none-demanded (some e) = bot-least
-  low (object n) = le→⊑ _ _ (go (decLt n 64))
-    where
-      go : Dec (n < 64) → level (demand (object n) (object-entry (getD os n no-object))) ≤ level (fig (object n))
-      go (yes l) = rw (demands-as n (getD os n no-object), level-label (figure r (32 + n)))
-          (omega (arith, p .between .above (32 + n), k .objects n l))
-      go (no nl) = rw (List·getD-eq-default os no-object {n = n} (omega arith), demands-as n no-object) (omega arith)
-
-  falls : (e : Edge) → In e (edges t) → fig (e .dst) ⊑ fig (e .src)
-  falls e i = let v = edge-flow t e i in let b = far (v .s) (v .p) (v .k) (v .holds) in
-      subst (λ (z : Edge). fig (z .dst) ⊑ fig (z .src))
-      (ap (λ (x : Thing). flow x (v .k)) (sym (cell-self t (v .s))
-      ∙ Option·some-injective (cell t (v .s)) (v .x) (sym (speaks-cell t (v .s)) ∙ v .speaker)) ∙ v .is)
-      (at-place (v .s) (v .p) (v .k) (v .holds) (b .0) (b .1))
-    where
-      at-place : (s q : ℕ) (j : Held) → t .hand s q ≡ some j → s < 32 → q < 16 → fig (flow (subject s) j .dst) ⊑ fig (flow (subject s) j .src)
-      at-place s q j e a b = label-up _ _ (subst₂ (λ x y. figure r x ≤ figure r y)
-          (taken-at false to ts s q j e) (taken-at true from fs s q j e) (p .settled (s * 16 + q) (omega arith)))
-
-  at-most : (x : Thing) → needs t x ⊑ fig x
-  unfolding f
-  at-most x = need-below (edges t) f (λ y. fig y) low falls x
 
   -- ── the needs are a potential of the figures ──
   ψ : ℕ → ℕ
@@ -196,27 +158,60 @@ module _ (rest : Tables) (ss : List Subject) (os : List Object) (hs : List Handl
           (rw (thing-object o, k .objects o (omega arith), ← demands-as o (getD os o no-object)) (⊑→le _ _ (need-self (edges t) f (object o))))
       go (no a) (no b) = rw (List·getD-eq-default base 0 {n = n} (omega arith)) (omega arith)
 
-  settled : (i : ℕ) → i < 512 → ψ (nth to i) ≤ ψ (nth from i)
+  settled : (i : ℕ) → i < 512 → ψ (target hs i) ≤ ψ (source hs i)
   unfolding ψ f
-  settled i l = let e : i / 16 * 16 + i % 16 ≡ i = omega arith in subst (λ (z : ℕ). ψ (nth to z) ≤ ψ (nth from z)) e
+  settled i l = let e : i / 16 * 16 + i % 16 ≡ i = omega arith in subst (λ (z : ℕ). ψ (target hs z) ≤ ψ (source hs z)) e
       (go (i / 16) (i % 16) (omega arith) (omega arith) (t .hand (i / 16) (i % 16)) refl)
     where
-      go : (s q : ℕ) → s < 32 → q < 16 → (v : Option Held) → t .hand s q ≡ v → ψ (nth to (s * 16 + q)) ≤ ψ (nth from (s * 16 + q))
-      go s q a b none z = rw (empty-at true from fs s q a b z, empty-at false to ts s q a b z) (le-refl _)
+      go : (s q : ℕ) → s < 32 → q < 16 → (v : Option Held) → t .hand s q ≡ v → ψ (target hs (s * 16 + q)) ≤ ψ (source hs (s * 16 + q))
+      go s q a b none z = rw (empty-at true s q a b z, empty-at false s q a b z) (le-refl _)
       go s q a b (some j) z =
-          subst₂ (λ x y. level (needs t x) ≤ level (needs t y)) (sym (end-thing false to ts)) (sym (end-thing true from fs))
+          subst₂ (λ x y. level (needs t x) ≤ level (needs t y)) (sym (end-thing false)) (sym (end-thing true))
           (⊑→le _ _ (need-flow (edges t) f (flow (subject s) j)
           (flow-edge t s q (subject s) j a b (speaks-cell t s ∙ ap {B = Option Thing} some (cell-self t s)) z)))
         where
-          end-thing : (start : Bool) (l : List ℕ) → Ends hs start l → thing (nth l (s * 16 + q)) ≡ tip start (flow (subject s) j)
-          end-thing start l g = ap thing (taken-at start l g s q j z)
+          end-thing : (start : Bool) → thing (tip-at start s q) ≡ tip start (flow (subject s) j)
+          end-thing start = ap thing (taken-at start s q j z)
               ∙ thing-node (tip start (flow (subject s) j)) (tip-in-range start s j a (far s q j z .2))
 
-  at-least : (x : Thing) → T (in-range x) → fig x ⊑ needs t x
+  -- at any time while they are worked out
+  pub at-least : (x : Thing) → T (in-range x) → label (figure r (node x)) ⊑ needs (tables-of rest ss os hs) x
   unfolding ψ
   at-least x g = le→⊑ _ _ (rw (level-label (figure r (node x)))
       (subst (λ (y : Thing). figure r (node x) ≤ level (needs t y)) (thing-node x g)
-      (p .between .under ψ (record { above = above; settled = settled }) (node x))))
+      (p .under ψ (record { above = above; settled = settled }) (node x))))
 
-  pub needed : Needed (tables-of rest ss os hs) r
-  needed = record { need-is = λ x g. ⊑-antisym (at-least x g) (at-most x) }
+  -- once they fall along every flow
+  module _ (st : Settled (source hs) (target hs) (figure r) (Before 512)) where
+    -- ── the figures are a potential of the tables ──
+    low : (y : Thing) → f y ⊑ fig y
+    unfolding f tables-of
+    low (subject n) = none-demanded (t .at (subject n))
+      where
+        none-demanded : (o : Option Entry) → demand (subject n) o ⊑ fig (subject n)
+        none-demanded none = bot-least
+        none-demanded (some e) = bot-least
+    low (object n) = le→⊑ _ _ (go (decLt n 64))
+      where
+        go : Dec (n < 64) → level (demand (object n) (object-entry (getD os n no-object))) ≤ level (fig (object n))
+        go (yes l) = rw (demands-as n (getD os n no-object), level-label (figure r (32 + n)))
+            (omega (arith, p .above (32 + n), k .objects n l))
+        go (no nl) = rw (List·getD-eq-default os no-object {n = n} (omega arith), demands-as n no-object) (omega arith)
+
+    falls : (e : Edge) → In e (edges t) → fig (e .dst) ⊑ fig (e .src)
+    falls e i = let v = edge-flow t e i in let b = far (v .s) (v .p) (v .k) (v .holds) in
+        subst (λ (z : Edge). fig (z .dst) ⊑ fig (z .src))
+        (ap (λ (x : Thing). flow x (v .k)) (sym (cell-self t (v .s))
+        ∙ Option·some-injective (cell t (v .s)) (v .x) (sym (speaks-cell t (v .s)) ∙ v .speaker)) ∙ v .is)
+        (at-place (v .s) (v .p) (v .k) (v .holds) (b .0) (b .1))
+      where
+        at-place : (s q : ℕ) (j : Held) → t .hand s q ≡ some j → s < 32 → q < 16 → fig (flow (subject s) j .dst) ⊑ fig (flow (subject s) j .src)
+        at-place s q j e a b = label-up _ _ (subst₂ (λ x y. figure r x ≤ figure r y)
+            (taken-at false s q j e) (taken-at true s q j e) (st (s * 16 + q) (omega arith)))
+
+    at-most : (x : Thing) → needs t x ⊑ fig x
+    unfolding f
+    at-most x = need-below (edges t) f (λ y. fig y) low falls x
+
+    pub needed : Needed (tables-of rest ss os hs) r
+    needed = record { need-is = λ x g. ⊑-antisym (at-least x g) (at-most x) }

@@ -10,19 +10,20 @@ use native.Mathlib.Decide.{decLt}
 use borrow.Author.Tests.{lt-ltb, le-ltb, le-leb, lt-leb}
 use lib.ListN.{getD}
 use lib.Dec.{T, leb, ltb, ltb→lt, lt→ltb, eqb}
-use Rattle.model.specs.Bools.{or-cases, or-left, or-right}
+use Rattle.model.specs.Bools.{both, or-cases, or-left, or-right}
 use Rattle.model.specs.Lists.{In}
 use Rattle.model.specs.Label.{Label, leq, label}
 use Rattle.model.specs.Label.Laws.{leq-levels, level-label}
 use Rattle.model.specs.Flow.{Thing, subject, object}
-use Rattle.model.specs.Tables.{Kind, running, file, pipe, Entry, entry, Tables, in-range, label-of, things, needs, safe}
-use Rattle.model.specs.Tables.Laws.{thing-listed, listed-thing, not-safe}
+use Rattle.model.specs.Tables.{Kind, running, file, pipe, Entry, entry, Tables, in-range, used, live, label-of, things, needs, safe}
+use Rattle.model.specs.Tables.Laws.{used-is, some-is, thing-listed, listed-thing, not-safe}
 use Rattle.model.specs.Invariant.{Wf}
 use Rattle.tables.specs.declared.Subject.{Subject}
 use Rattle.tables.specs.declared.Object.{Object}
 use Rattle.tables.specs.declared.Handle.{Handle}
 use Rattle.tables.specs.Records.{subject-entry, object-entry, no-subject, no-object, tables-of}
-use Rattle.tables.specs.Needs.{node, Needed}
+use Rattle.model.specs.Figures.{Ready}
+use Rattle.tables.specs.Needs.{node, figure-of}
 use Rattle.tables.specs.Working.{some-below}
 use Rattle.flows.specs.Working.{low-by, short-subject, short-object}
 use Rattle.tables.proofs.Below.{some-of-below, below-some, same-test}
@@ -59,7 +60,7 @@ object-as x v = low-as (eqb (x .kind) 0) (cond (eqb (x .kind) 1) file pipe) (x .
 
 -- ── all things ──
 module _ (rest : Tables) (ss : List Subject) (os : List Object) (hs : List Handle) (n : List ℕ) (w : Wf (tables-of rest ss os hs))
-    (d : Needed (tables-of rest ss os hs) n) where
+    (d : Ready (tables-of rest ss os hs) (figure-of n)) where
   abbrev t : Tables
   t = tables-of rest ss os hs
 
@@ -75,17 +76,20 @@ module _ (rest : Tables) (ss : List Subject) (os : List Object) (hs : List Handl
   abbrev Lacks : Thing → Option Entry → Type 0
   Lacks x o = T (not (leq (needs t x) (label-of o)))
 
+  lives : (x : Thing) (e : Entry) → T (in-range x) → t .at x ≡ some e → T (live t x)
+  lives x e g q = both (in-range x) (used t x) g (subst T (sym (used-is t x)) (some-is q))
+
   offends : (x : Thing) → T (in-range x) → Low (getD n (node x) 0) (t .at x) → T (not (safe t))
   offends x g r = not-safe t .1 (
     x,
     thing-listed t x (r .0) g (r .1),
     subst (Lacks x) (sym (r .1))
-        (subst (λ (a : Label). T (not (leq a (r .0 .label)))) (d .need-is x g) (r .2)),
+        (subst (λ (a : Label). T (not (leq a (r .0 .label)))) (d .need-is x (lives x (r .0) g (r .1))) (r .2)),
   )
 
   found : (x : Thing) → In x (things t) → Lacks x (t .at x) → T (in-range x) × Low (getD n (node x) 0) (t .at x)
   found x i h = let r = listed-thing t x i in let g = w .ranged x (r .0) (r .1) in
-      (g, (r .0, r .1, subst (λ (a : Label). T (not (leq a (r .0 .label)))) (sym (d .need-is x g)) (subst (Lacks x) (r .1) h)))
+      (g, (r .0, r .1, subst (λ (a : Label). T (not (leq a (r .0 .label)))) (sym (d .need-is x (lives x (r .0) g (r .1)))) (subst (Lacks x) (r .1) h)))
 
   to-either : (x : Thing) → T (in-range x) → Low (getD n (node x) 0) (t .at x) → T either
   unfolding tables-of fs fo

@@ -10,7 +10,8 @@ use Rattle.model.specs.Calls.{Call, tests, first, refusal, effect, refused, all
 use Rattle.model.specs.Calls.{Answer as Told}
 use Rattle.model.specs.Calls.Refusals.{answered-refused}
 use Rattle.model.specs.Calls.Dangling.{effect-wf}
-use Rattle.model.specs.Invariant.{Wf}
+use Rattle.model.specs.Calls.Kept.{effect-kept}
+use Rattle.model.specs.Invariant.{Wf, Safe, Kept}
 use Rattle.model.specs.Invariant.Laws.{clean-same}
 use Rattle.model.specs.Figures.{Ready}
 use Rattle.model.specs.Promise.{Meets}
@@ -19,8 +20,8 @@ use Rattle.tables.specs.Refusing.{late, Refuses, Refused}
 use Rattle.gatekeeper.specs.declared.Monitor.{Monitor}
 use Rattle.gatekeeper.specs.declared.Reply.{Reply}
 use Rattle.answers.specs.Telling.{told, refuses}
-use Rattle.gatekeeper.specs.View.{view, Right}
-use Rattle.gatekeeper.specs.Acting.{Acts, back, settled}
+use Rattle.gatekeeper.specs.View.{view, Honest, Right}
+use Rattle.gatekeeper.specs.Acting.{Firm, Acts, back, settled}
 use Rattle.gatekeeper.proofs.Doing.{Does}
 
 -- ── refused ──
@@ -31,6 +32,7 @@ halts m c n r e q = record {
   unchanged = λ k z. ap (λ (z : Reply). z .monitor) q;
   moved = λ z. absurd (Option·none-ne-some n (sym z ∙ e));
   kept = λ h. subst (λ (z : Reply). Ready (view (z .monitor)) (figure-of (z .monitor .needs))) (sym q) h;
+  says = ap (λ (z : Reply). z .monitor .sure) q;
 }
 
 -- by a row over records
@@ -53,47 +55,111 @@ goes z h = waits z h .said
 pub frees : {t : Tables} {c : Call} {n : ℕ} → Refused t c n → n ≡ 0 → refusal t c ≡ none
 frees {n = n} z h = z .is ∙ ap (λ (b : Bool). cond b none (some n)) (eq-eqb n 0 h)
 
-pub acts : (m : Monitor) (c : Call) (a : Told) (n : Monitor) (u : Tables) → Does (view m) c a u → view n ≡ u
+pub acts : (m : Monitor) (c : Call) (a : Told) (n : Monitor) (u : Tables) → n .sure ≡ m .sure → Does (view m) c a u → view n ≡ u
     → (Ready (view m) (figure-of (m .needs)) → Ready (effect (view m) c) (figure-of (n .needs))) → Acts m c a n
-acts m c a n u d v k = record {
+acts m c a n u s d v k = record {
   answered = d .answered;
   unchanged = λ k z. absurd (Option·none-ne-some k (sym (d .free) ∙ z));
   moved = λ z. v ∙ d .made;
   kept = λ r. subst (λ (t : Tables). Ready t (figure-of (n .needs))) (sym (v ∙ d .made)) (k r);
+  says = s;
 }
 
 -- ── settled ──
--- m is the monitor that came, t its cleaned form, r the reply on t
-pub settles : (m t : Monitor) (c : Call) (r a : Reply) → view t ≡ clean (view m) → t .needs ≡ m .needs → Wf (view t)
-    → Acts t c (told (r .answer)) (r .monitor) → a ≡ settled m r → Meets view Right m c (told (a .answer)) (a .monitor)
-settles m t c r a e f w z q = subst (λ (x : Reply). Meets view Right m c (told (x .answer)) (x .monitor)) (sym q) (record {
-  answered = is;
-  unchanged = λ k f. ap (λ (b : Told). cond (refuses b) m (r .monitor)) (is ∙ answered-refused (clean (view m)) c k .1 f);
-  moved = λ f. ap (λ (n : Monitor). view n) (allowed-is f (told (r .answer)) refl) ∙ z .moved (free f) ∙ ap (λ (u : Tables). effect u c) e;
-  kept = λ h. right h (refusal (clean (view m)) c) refl;
-})
-  where
+-- m is the monitor that came, t its readied form, r the reply on t
+module _ (m t : Monitor) (c : Call) (r a : Reply) (w : Wf (clean (view m))) (e : Honest m → view t ≡ clean (view m)) (f : t .needs ≡ m .needs) (g : t .sure ≡ m .sure)
+    (z : Firm t → Acts t c (told (r .answer)) (r .monitor)) where
+  -- what is said of a sure monitor is so
+  module _ (h : Honest m) where
+    sure-one : t .sure ≡ 1 → m .sure ≡ 1
+    sure-one q = sym g ∙ q
+
+    -- whose tables are read as they stand
+    as-it-is : m .sure ≡ 1 → clean (view m) ≡ view m
+    as-it-is q = clean-same (view m) (h q .0 .wf)
+
+    firm : Firm t
+    firm = record {
+      wf = subst Wf (sym (e h)) w;
+      safe = λ q. (let k = h (sure-one q) in let v = sym (e h ∙ as-it-is (sure-one q)) in
+          (subst Safe v (k .0 .safe), subst₂ (λ (u : Tables) (n : List ℕ). Ready u (figure-of n)) v (sym f) (k .1)));
+    }
+
+    done : Acts t c (told (r .answer)) (r .monitor)
+    done = z firm
+
     is : told (r .answer) ≡ answer (clean (view m)) c
-    is = z .answered ∙ ap (λ (u : Tables). answer u c) e
+    is = done .answered ∙ ap (λ (u : Tables). answer u c) (e h)
 
     free : refusal (clean (view m)) c ≡ none → refusal (view t) c ≡ none
-    free f = ap (λ (u : Tables). refusal u c) e ∙ f
+    free q = ap (λ (u : Tables). refusal u c) (e h) ∙ q
 
     -- an allowed call's answer is no refusal
     allowed-is : refusal (clean (view m)) c ≡ none → (b : Told) → told (r .answer) ≡ b → cond (refuses b) m (r .monitor) ≡ r .monitor
-    allowed-is f (allowed l) p = refl
-    allowed-is f (lowered l) p = refl
-    allowed-is f (refused n) p = absurd (Option·none-ne-some n (sym f ∙ answered-refused (clean (view m)) c n .0 (sym is ∙ p)))
+    allowed-is q (allowed l) p = refl
+    allowed-is q (lowered l) p = refl
+    allowed-is q (refused n) p = absurd (Option·none-ne-some n (sym q ∙ answered-refused (clean (view m)) c n .0 (sym is ∙ p)))
+
+    refused-is : (k : ℕ) → refusal (clean (view m)) c ≡ some k → settled m r .monitor ≡ m
+    refused-is k q = ap (λ (b : Told). cond (refuses b) m (r .monitor)) (is ∙ answered-refused (clean (view m)) c k .1 q)
+
+    after : refusal (clean (view m)) c ≡ none → view (r .monitor) ≡ effect (clean (view m)) c
+    after q = done .moved (free q) ∙ ap (λ (u : Tables). effect u c) (e h)
 
     -- nothing dangles in what an allowed call hands back, so that its tables are read as they stand
     clean-after : refusal (clean (view m)) c ≡ none → clean (view (r .monitor)) ≡ view (r .monitor)
-    clean-after f = clean-same (view (r .monitor)) (subst Wf (sym (z .moved (free f))) (effect-wf (view t) c w (free f)))
+    clean-after q = clean-same (view (r .monitor)) (subst Wf (sym (after q)) (effect-wf (clean (view m)) c w q))
 
-    begun : Right m → Ready (view t) (figure-of (t .needs))
-    begun h = subst₂ (λ (u : Tables) (n : List ℕ). Ready u (figure-of n)) (sym e) (sym f) h
+    begun : Ready (clean (view m)) (figure-of (m .needs)) → Ready (view t) (figure-of (t .needs))
+    begun k = subst₂ (λ (u : Tables) (n : List ℕ). Ready u (figure-of n)) (sym (e h)) (sym f) k
 
     right : Right m → (o : Option ℕ) → refusal (clean (view m)) c ≡ o → Right (settled m r .monitor)
-    right h none q = subst Right (sym (allowed-is q (told (r .answer)) refl))
-        (subst (λ (u : Tables). Ready u (figure-of (r .monitor .needs))) (sym (clean-after q)) (z .kept (begun h)))
-    right h (some k) q = subst Right
-        (sym (ap (λ (b : Told). cond (refuses b) m (r .monitor)) (is ∙ answered-refused (clean (view m)) c k .1 q))) h
+    right k none q = subst Right (sym (allowed-is q (told (r .answer)) refl))
+        (subst (λ (u : Tables). Ready u (figure-of (r .monitor .needs))) (sym (clean-after q)) (done .kept (begun k)))
+    right k (some j) q = subst Right (sym (refused-is j q)) k
+
+    honest : (o : Option ℕ) → refusal (clean (view m)) c ≡ o → Honest (settled m r .monitor)
+    honest none q = subst Honest (sym (allowed-is q (told (r .answer)) refl)) (λ s. let k = h (sym (done .says ∙ g) ∙ s) in let v = as-it-is (sym (done .says ∙ g) ∙ s) in (
+      subst Kept (sym (after q)) (effect-kept (clean (view m)) c (subst Kept (sym v) (k .0)) q),
+      done .kept (begun (subst (λ (u : Tables). Ready u (figure-of (m .needs))) (sym v) (k .1))),
+    ))
+    honest (some j) q = subst Honest (sym (refused-is j q)) h
+
+  pub settles : a ≡ settled m r → Meets view Honest Right m c (told (a .answer)) (a .monitor)
+  settles q = subst (λ (x : Reply). Meets view Honest Right m c (told (x .answer)) (x .monitor)) (sym q) (record {
+    unchanged = λ k p. ap (λ (b : Told). cond (refuses b) m (r .monitor)) p;
+    answered = is;
+    moved = λ h p. ap (λ (n : Monitor). view n) (allowed-is h p (told (r .answer)) refl) ∙ after h p;
+    stays = λ h. honest h (refusal (clean (view m)) c) refl;
+    kept = λ h k. right h k (refusal (clean (view m)) c) refl;
+  })
+
+-- ── a sure monitor, whose tables are read as they stand ──
+pub straight : (m n : Monitor) (c : Call) (a : Told) → m .sure ≡ 1 → ((k : ℕ) → a ≡ refused k → n ≡ m) → (Firm m → Acts m c a n) → Meets view Honest Right m c a n
+straight m n c a s b z = record {
+  unchanged = b;
+  answered = λ h. done h .answered ∙ ap (λ (u : Tables). answer u c) (sym (same h));
+  moved = λ h q. done h .moved (ap (λ (u : Tables). refusal u c) (sym (same h)) ∙ q) ∙ ap (λ (u : Tables). effect u c) (sym (same h));
+  stays = λ h. honest h (refusal (view m) c) refl;
+  kept = λ h r. right h (refusal (view m) c) refl;
+}
+  where
+    same : Honest m → clean (view m) ≡ view m
+    same h = clean-same (view m) (h s .0 .wf)
+
+    done : Honest m → Acts m c a n
+    done h = z (record { wf = h s .0 .wf; safe = λ q. (h s .0 .safe, h s .1) })
+
+    after : (h : Honest m) → refusal (view m) c ≡ none → Kept (view n) × Ready (view n) (figure-of (n .needs))
+    after h q = (subst Kept (sym (done h .moved q)) (effect-kept (view m) c (h s .0) q), done h .kept (h s .1))
+
+    back : (h : Honest m) (k : ℕ) → refusal (view m) c ≡ some k → n ≡ m
+    back h k q = b k (done h .answered ∙ answered-refused (view m) c k .1 q)
+
+    honest : Honest m → (o : Option ℕ) → refusal (view m) c ≡ o → Honest n
+    honest h none q = λ e. after h q
+    honest h (some k) q = subst Honest (sym (back h k q)) h
+
+    right : Honest m → (o : Option ℕ) → refusal (view m) c ≡ o → Right n
+    right h none q = let r = after h q in subst (λ (u : Tables). Ready u (figure-of (n .needs))) (sym (clean-same (view n) (r .0 .wf))) (r .1)
+    right h (some k) q = subst Right (sym (back h k q)) (subst (λ (u : Tables). Ready u (figure-of (m .needs))) (sym (same h)) (h s .1))

@@ -15,7 +15,8 @@ use Rattle.model.specs.Flow.{Thing, subject, object}
 use Rattle.model.specs.Tables.{running, file, pipe, Entry, entry, Tables, empty, in-range, is-some, used, live, clean, needs}
 use Rattle.model.specs.Tables.Laws.{used-is, some-is}
 use Rattle.model.specs.Steps.Laws.{live-hand}
-use Rattle.model.specs.Invariant.{Wf}
+use Rattle.model.specs.Invariant.{Wf, Kept}
+use Rattle.model.specs.Calls.Kept.{empty-kept}
 use Rattle.model.specs.Invariant.Laws.{clean-same, empty-wf}
 use Rattle.model.specs.Figures.{Ready}
 use Rattle.model.specs.Figures.Laws.{empty-ready, needs-none, ready-anew}
@@ -27,11 +28,11 @@ use Rattle.tables.specs.Records.Laws.{cleaned-wf}
 use Rattle.tables.specs.Needs.{node, figure-of, Needed}
 use Rattle.gatekeeper.specs.declared.Monitor.{Monitor}
 use Rattle.gatekeeper.specs.View.{beside, view, Right, kept-need}
-use Rattle.gatekeeper.proofs.Owned.{Owned, subjects-long, objects-long}
+use Rattle.gatekeeper.proofs.Owned.{Long}
 
 -- nothing dangles in the tables as they are read
-pub read-wf : (m : Monitor) → Owned m → Wf (clean (view m))
-read-wf m g = cleaned-wf (beside m) (m .subjects) (m .objects) (m .handles) (clean (view m)) (subjects-long m g) (objects-long m g) refl
+pub read-wf : (m : Monitor) → Long m → Wf (clean (view m))
+read-wf m g = cleaned-wf (beside m) (m .subjects) (m .objects) (m .handles) (clean (view m)) (g .subjects) (g .objects) refl
 
 module _ (m : Monitor) (w : Wf (clean (view m))) where
   -- ── what is live ──
@@ -114,3 +115,6 @@ module _ (m : Monitor) (w : Wf (clean (view m))) where
 -- ── the empty tables ──
 pub empty-right : (t : Tables) (ns : List ℕ) → t ≡ empty → Ready (clean t) (figure-of ns)
 empty-right t ns q = subst (λ (u : Tables). Ready u (figure-of ns)) (sym (ap clean q ∙ clean-same empty empty-wf)) (empty-ready (figure-of ns))
+
+pub empty-honest : (t : Tables) (ns : List ℕ) → t ≡ empty → Kept t × Ready t (figure-of ns)
+empty-honest t ns q = (subst Kept (sym q) empty-kept, subst (λ (u : Tables). Ready u (figure-of ns)) (sym q) (empty-ready (figure-of ns)))

@@ -28,3 +28,13 @@ handles-long m g = search (needs, unmapped)
 
 pub needs-long : (m : Monitor) → Owned m → length (m .needs) ≡ 96
 needs-long m g = search needs
+
+-- the arrays have the lengths of the struct's
+pub record Long (m : Monitor) : Type 0 where
+  pub subjects : length (m .subjects) ≡ 32
+  pub objects : length (m .objects) ≡ 64
+  pub handles : length (m .handles) ≡ 512
+  pub needs : length (m .needs) ≡ 96
+
+pub owned-long : (m : Monitor) → Owned m → Long m
+owned-long m g = record { subjects = subjects-long m g; objects = objects-long m g; handles = handles-long m g; needs = needs-long m g }

@@ -8,7 +8,7 @@ use Prim.Native.Nat.{ℕ, _+_, _*_, _%_, _≤_, _<_}
 use native.Mathlib.Omega.{arith}
 use borrow.Author.Tests.{lt-ltb, ltb-false}
 use lib.ListN.{getD, set, length-set}
-use lib.Dec.{T, eqb, ltb, ltb→lt, lt→ltb}
+use lib.Dec.{T, eqb, eqb→eq, ltb, ltb→lt, lt→ltb}
 use Rattle.model.specs.Bools.{is-false}
 use Rattle.model.specs.Lists.{In}
 use Rattle.model.specs.Label.{Label, leq, label, bot}
@@ -19,12 +19,12 @@ use Rattle.model.specs.Tables.{pipe, reading, writing, entry, handle, mapping, 
 use Rattle.model.specs.Tables.{Handle as Held}
 use Rattle.model.specs.Tables.Laws.{live-of, cell-self, handles-by}
 use Rattle.model.specs.Steps.{hold, holds, put, row, place, apply, applies, reap}
-use Rattle.model.specs.Invariant.{Wf}
-use Rattle.model.specs.Invariant.Laws.{less-wf, wf-hold}
+use Rattle.model.specs.Invariant.{Ends, Wf, Safe}
+use Rattle.model.specs.Invariant.Laws.{less-wf}
 use Rattle.model.specs.Calls.{Call, admit, register, create, make-pipe, opens, access, fork, exec, close, exit, retire, maps, mark, freeze, connect, rereads, marking, lasting, sheds, channel, steps, effect, Test, number, known, alive, present, no-pipe, leveled, freezable, new, vacant, taken, apart, unlike, others, facing, enough, suits, idle, thawed, broken, tests, order, earlier, In-order, breaks, refusal, allowed, lowers, outcome}
 use Rattle.model.specs.Calls.{Answer as Told}
 use Rattle.model.specs.Calls.Refusals.{refused-by}
-use Rattle.model.specs.Calls.Passed.{is-alive, is-present, is-new, is-place, sheds-less}
+use Rattle.model.specs.Calls.Passed.{is-alive, is-present, is-new, is-place, is-vacant, sheds-less}
 use Rattle.model.specs.Calls.Dangling.{connect-wf}
 use Rattle.model.specs.Figures.{Ready}
 use Rattle.model.specs.Figures.Laws.{access-ready, mark-ready, freeze-ready, retire-ready, admit-ready, register-ready, create-ready, pipe-ready, fork-ready, effect-ready, anew-ready, map-ready, exec-ready, exit-ready}
@@ -38,17 +38,18 @@ use Rattle.tables.specs.Needs.Laws.{set-ready}
 use Rattle.tables.specs.Refusing.{Refuses, Late, direction}
 use Rattle.tables.proofs.Finding.{alone}
 use Rattle.flows.proofs.Short.{below-test}
+use Rattle.flows.proofs.Closing.{anew}
 use Rattle.tables.specs.Working.{subject-at, object-at, handle-at, joining, fallen-by, sunken-by, Outlives}
 use Rattle.gatekeeper.specs.declared.Monitor.{Monitor}
 use Rattle.gatekeeper.specs.View.{beside, view}
 use Rattle.gatekeeper.specs.Acting.{Acts, way-by}
-use Rattle.gatekeeper.proofs.Owned.{Owned, subjects-long, objects-long, handles-long, needs-long}
+use Rattle.gatekeeper.proofs.Owned.{Long}
 use Rattle.gatekeeper.proofs.Doing.{Does, passed, row-low, live-low, new-row, new-column, place-low, found, found-place, found-to, found-live, full-subject, full-object, full-held, own, low-row-live, admit-does, register-does, create-does, pipe-does, open-does, read-does, write-does, fork-does, exec-does, map-does, connect-does, close-does, exit-does, retire-does, mark-does, freeze-does}
 use Rattle.gatekeeper.proofs.Acting.{acts}
 
 -- the monitor with these arrays, and the freeze of m
 abbrev pub monitor : Monitor → List Subject → List Object → List Handle → List ℕ → Monitor
-monitor m ss os hs ns = record { subjects = ss; objects = os; handles = hs; freeze = m .freeze; needs = ns }
+monitor m ss os hs ns = record { subjects = ss; objects = os; handles = hs; freeze = m .freeze; needs = ns; sure = m .sure }
 
 -- a level that a call may name is a byte
 leveled-low : (t : Tables) (c : Call) (l : ℕ) → refusal t c ≡ none → In (leveled l) (tests c) → l % 256 ≡ l
@@ -131,19 +132,29 @@ abbrev Works : List Object → List Handle → List ℕ → Type 0
 Works os hs ns = (rest : Tables) (ss : List Subject) → Wf (tables-of rest ss os hs) → Needed (tables-of rest ss os hs) ns
 
 abbrev Shorts : List Subject → List Object → List ℕ → Bool → Type 0
-Shorts ss os ns r = (rest : Tables) (hs : List Handle) → Wf (tables-of rest ss os hs) → Needed (tables-of rest ss os hs) ns
+Shorts ss os ns r = (rest : Tables) (hs : List Handle) → Wf (tables-of rest ss os hs) → Ready (tables-of rest ss os hs) (figure-of ns)
     → r ≡ not (safe (tables-of rest ss os hs))
 
-module _ (m : Monitor) (g : Owned m) where
+-- the figures once a handle came, and whether some level is below one
+abbrev pub Opening : Monitor → Bool → List Handle → ℕ → Handle → List ℕ → Bool → Type 0
+Opening m sure next s h ns short = (rest : Tables) (t : Tables) (p : ℕ) → Wf t → Ends t s p (joins h) → t .hand s p ≡ none
+    → tables-of rest (m .subjects) (m .objects) next ≡ apply (hold s p (some (joins h))) t → (sure ≡ true → Safe t × Ready t (figure-of (m .needs)))
+    → (short ≡ not (safe (tables-of rest (m .subjects) (m .objects) next))) × Ready (tables-of rest (m .subjects) (m .objects) next) (figure-of ns)
+
+-- what a monitor that is sure says
+abbrev Says : Monitor → Type 0
+Says m = m .sure ≡ 1 → Safe (view m) × Ready (view m) (figure-of (m .needs))
+
+module _ (m : Monitor) (g : Long m) where
   -- ── what stands at a number ──
   pub subject-got : (s : ℕ) (x : Subject) → x ≡ subject-at s (getD (m .subjects) (s % 32) no-subject) → view m .at (subject s) ≡ subject-entry x
-  subject-got s x q = subject-there (beside m) (m .subjects) (m .objects) (m .handles) s (subjects-long m g) ∙ ap subject-entry (sym q)
+  subject-got s x q = subject-there (beside m) (m .subjects) (m .objects) (m .handles) s (g .subjects) ∙ ap subject-entry (sym q)
 
   pub object-got : (o : ℕ) (y : Object) → y ≡ object-at o (getD (m .objects) (o % 64) no-object) → view m .at (object o) ≡ object-entry y
-  object-got o y q = object-there (beside m) (m .subjects) (m .objects) (m .handles) o (objects-long m g) ∙ ap object-entry (sym q)
+  object-got o y q = object-there (beside m) (m .subjects) (m .objects) (m .handles) o (g .objects) ∙ ap object-entry (sym q)
 
   pub handle-got : (s p : ℕ) (h : Handle) → h ≡ handle-at s p (getD (m .handles) (s % 32 * 16 + p % 16) no-handle) → view m .hand s p ≡ held h
-  handle-got s p h q = handle-there (beside m) (m .subjects) (m .objects) (m .handles) s p (handles-long m g) ∙ ap held (sym q)
+  handle-got s p h q = handle-there (beside m) (m .subjects) (m .objects) (m .handles) s p (g .handles) ∙ ap held (sym q)
 
   -- the record of a live object is that at its number
   object-low : (o : ℕ) → o < 64 → object-at o (getD (m .objects) (o % 64) no-object) ≡ getD (m .objects) (o % 64) no-object
@@ -152,22 +163,22 @@ module _ (m : Monitor) (g : Owned m) where
   -- ── stores ──
   pub put-subject : (s : ℕ) (v : Subject) (ns : List ℕ) → s < 32 → view (monitor m (set (m .subjects) (s % 32) v) (m .objects) (m .handles) ns) ≡ with-at (view m)
       (put (view m .at) (subject s) (subject-entry v))
-  put-subject s v ns l = store-subject (beside m) (m .subjects) (m .objects) (m .handles) s v (subjects-long m g) l
+  put-subject s v ns l = store-subject (beside m) (m .subjects) (m .objects) (m .handles) s v (g .subjects) l
 
   pub put-object : (o : ℕ) (v : Object) (ns : List ℕ) → o < 64 → view (monitor m (m .subjects) (set (m .objects) (o % 64) v) (m .handles) ns) ≡ with-at (view m)
       (put (view m .at) (object o) (object-entry v))
-  put-object o v ns l = store-object (beside m) (m .subjects) (m .objects) (m .handles) o v (objects-long m g) l
+  put-object o v ns l = store-object (beside m) (m .subjects) (m .objects) (m .handles) o v (g .objects) l
 
   -- one figure
   kept-subject : (s v : ℕ) (a : Label) (t : Tables) → s < 32 → label v ≡ a → Ready t (but (figure-of (m .needs)) (subject s) a)
       → Ready t (figure-of (set (m .needs) (s % 32) v))
   kept-subject s v a t l q k = let e : s ≡ s % 32 = omega arith in
-      subst (λ (i : ℕ). Ready t (figure-of (set (m .needs) i v))) e (set-ready (m .needs) (subject s) v (needs-long m g) (lt→ltb s 32 l) t a q k)
+      subst (λ (i : ℕ). Ready t (figure-of (set (m .needs) i v))) e (set-ready (m .needs) (subject s) v (g .needs) (lt→ltb s 32 l) t a q k)
 
   kept-object : (o v : ℕ) (a : Label) (t : Tables) → o < 64 → label v ≡ a → Ready t (but (figure-of (m .needs)) (object o) a)
       → Ready t (figure-of (set (m .needs) (32 + o % 64) v))
   kept-object o v a t l q k = let e : o ≡ o % 64 = omega arith in
-      subst (λ (i : ℕ). Ready t (figure-of (set (m .needs) (32 + i) v))) e (set-ready (m .needs) (object o) v (needs-long m g) (lt→ltb o 64 l) t a q k)
+      subst (λ (i : ℕ). Ready t (figure-of (set (m .needs) (32 + i) v))) e (set-ready (m .needs) (object o) v (g .needs) (lt→ltb o 64 l) t a q k)
 
   -- that of a subject in range
   own-figure : (s : ℕ) → s < 32 → label (getD (m .needs) (s % 32) 0) ≡ figure-of (m .needs) (subject s)
@@ -184,7 +195,7 @@ module _ (m : Monitor) (g : Owned m) where
       → ss ≡ set (m .subjects) (s % 32) (record { live = 1; level = l % 256 }) → ns ≡ set (m .needs) (s % 32) 0
       → Acts m (admit s l) (allowed (l % 256)) (monitor m ss (m .objects) (m .handles) ns)
   admits s l ss ns w e p q = rw (p, q, leveled-low (view m) (admit s l) l e (inr (inl refl)))
-      (acts m (admit s l) (allowed l) _ _ (admit-does (view m) s l e) (put-subject s (record { live = 1; level = l }) (set (m .needs) (s % 32) 0) low)
+      (acts m (admit s l) (allowed l) _ _ refl (admit-does (view m) s l e) (put-subject s (record { live = 1; level = l }) (set (m .needs) (s % 32) 0) low)
       (λ k. kept-subject s 0 bot _ low label-zero (admit-ready (view m) (figure-of (m .needs)) w k s l e)))
     where
       low : s < 32
@@ -194,7 +205,7 @@ module _ (m : Monitor) (g : Owned m) where
       → os ≡ set (m .objects) (o % 64) (record { kind = 1; level = l % 256 }) → ns ≡ set (m .needs) (32 + o % 64) (l % 256)
       → Acts m (register o l) (allowed (l % 256)) (monitor m (m .subjects) os (m .handles) ns)
   registers o l os ns w e p q = rw (p, q, leveled-low (view m) (register o l) l e (inr (inl refl)))
-      (acts m (register o l) (allowed l) _ _ (register-does (view m) o l e) (put-object o (record { kind = 1; level = l }) (set (m .needs) (32 + o % 64) l) low)
+      (acts m (register o l) (allowed l) _ _ refl (register-does (view m) o l e) (put-object o (record { kind = 1; level = l }) (set (m .needs) (32 + o % 64) l) low)
       (λ k. kept-object o l (label l) _ low refl (register-ready (view m) (figure-of (m .needs)) w k o l e)))
     where
       low : o < 64
@@ -203,7 +214,7 @@ module _ (m : Monitor) (g : Owned m) where
   pub creates : (s o : ℕ) (x : Subject) (os : List Object) (ns : List ℕ) → Wf (view m) → refusal (view m) (create s o) ≡ none
       → view m .at (subject s) ≡ subject-entry x → os ≡ set (m .objects) (o % 64) (record { kind = 1; level = x .level })
       → ns ≡ set (m .needs) (32 + o % 64) (x .level) → Acts m (create s o) (allowed (x .level)) (monitor m (m .subjects) os (m .handles) ns)
-  creates s o x os ns w e q p r = rw (p, r) (acts m (create s o) (allowed (x .level)) _ _ (create-does (view m) s o x e q)
+  creates s o x os ns w e q p r = rw (p, r) (acts m (create s o) (allowed (x .level)) _ _ refl (create-does (view m) s o x e q)
       (put-object o (record { kind = 1; level = x .level }) (set (m .needs) (32 + o % 64) (x .level)) low)
       (λ k. kept-object o (x .level) _ _ low (sym (own (view m) (create s o) e s (inl refl) x q)) (create-ready (view m) (figure-of (m .needs)) w k s o e)))
     where
@@ -215,7 +226,7 @@ module _ (m : Monitor) (g : Owned m) where
       → view m .at (subject s) ≡ subject-entry x → view m .hand s p ≡ held h → view m .at (object (h .object)) ≡ object-entry y → v ≡ fallen-by x (y .level)
       → ss ≡ set (m .subjects) (s % 32) v → a ≡ outcome (ltb (v .level) (x .level)) (v .level)
       → Acts m (access reading s p) a (monitor m ss (m .objects) (m .handles) (m .needs))
-  reads s p x v h y ss a w e q r o f n k = rw n (acts m (access reading s p) a _ _ (subst₂ (λ (b : Told) (z : Subject). Does (view m) (access reading s p) b
+  reads s p x v h y ss a w e q r o f n k = rw n (acts m (access reading s p) a _ _ refl (subst₂ (λ (b : Told) (z : Subject). Does (view m) (access reading s p) b
       (with-at (view m) (put (view m .at) (subject s) (subject-entry z)))) (sym (k ∙ ap (λ (z : Subject). outcome (ltb (z .level) (x .level)) (z .level)) f))
       (sym f) (read-does (view m) w s p x h y e q r o))
       (put-subject s v (m .needs) (row-low (view m) (access reading s p) e s (inl refl)))
@@ -231,12 +242,12 @@ module _ (m : Monitor) (g : Owned m) where
       → ((rest : Tables) (os : List Object) (hs : List Handle) → lowers (tables-of rest (m .subjects) os hs) (tables-of rest after os hs) ≡ b)
       → os ≡ set (m .objects) (h .object % 64) v → a ≡ outcome (ltb (v .level) (y .level) || b) (v .level)
       → Acts m (access writing s p) a (monitor m after os (m .handles) (m .needs))
-  writes s p x h y v after os b a w e q r o f n l c k = rw c (acts m (access writing s p) a _ _ (subst₂ (λ (c : Told) (z : Object). Does (view m) (access writing s p) c
+  writes s p x h y v after os b a w e q r o f n l c k = rw c (acts m (access writing s p) a _ _ refl (subst₂ (λ (c : Told) (z : Object). Does (view m) (access writing s p) c
       (with-at u (put (u .at) (object (h .object)) (object-entry z)))) (sym (k ∙ ap (λ (z : Object). outcome (ltb (z .level) (y .level) || b) (z .level)) f))
       (sym f)
       (write-does (view m) w s p x h y u b e q r (object-got (h .object) y o)
       (n (beside m) (m .objects) (ap (λ (i : ℕ). getD (m .objects) i no-object) same ∙ sym (o ∙ object-low (h .object) low)))
-      (l (beside m) (m .objects) (m .handles)))) (store-object (beside m) after (m .objects) (m .handles) (h .object) v (objects-long m g) low)
+      (l (beside m) (m .objects) (m .handles)))) (store-object (beside m) after (m .objects) (m .handles) (h .object) v (g .objects) low)
       (λ k. access-ready (view m) (figure-of (m .needs)) w k writing s p))
     where
       u : Tables
@@ -255,7 +266,7 @@ module _ (m : Monitor) (g : Owned m) where
       → v ≡ getD (m .needs) (s % 32) 0 → ns ≡ set (m .needs) (32 + o % 64) v
       → Acts m (make-pipe s o r w) (allowed (x .level)) (monitor m (m .subjects) os next ns)
   unfolding tables-of
-  pipes s o r w x os next v ns wf e q p f d n = rw (p, n) (acts m (make-pipe s o r w) (allowed (x .level)) _ _ (pipe-does (view m) s o r w x e q)
+  pipes s o r w x os next v ns wf e q p f d n = rw (p, n) (acts m (make-pipe s o r w) (allowed (x .level)) _ _ refl (pipe-does (view m) s o r w x e q)
       (f (beside m) (m .subjects) (set (m .objects) (o % 64) y)
       ∙ ap (λ (u : Tables). with-hand u (joined (hands (m .handles)) (s % 32) (r % 16) (w % 16) (o % 64) (o % 64))) (put-object o y (m .needs) low)
       ∙ ap (λ (h : ℕ → ℕ → Option Held). with-hand (with-at (view m) (put (view m .at) (object o) (some (entry pipe (label (x .level)))))) h)
@@ -316,7 +327,7 @@ module _ (m : Monitor) (g : Owned m) where
         ∙ ap (λ (v : Tables). with-hand v (joined (joined (hands (m .handles)) (s % 32) (p % 16) (q % 16) (b % 64) (a % 64)) (u % 32) (p % 16) (q % 16)
         (a % 64) (b % 64)))
         (store-object (beside m) (m .subjects) (set (m .objects) (a % 64) (pipe-of (x .level))) (m .handles) b (pipe-of (z .level))
-        (simp length-set (objects-long m g)) low-b
+        (simp length-set (g .objects)) low-b
         ∙ ap (λ (v : Tables). with-at v (put (v .at) (object b) (some (entry pipe (label (z .level)))))) (put-object a (pipe-of (x .level)) (m .needs) low-a))
         ∙ ap (λ (h : ℕ → ℕ → Option Held). with-hand
         (with-at (view m) (put (put (view m .at) (object a) (some (entry pipe (label (x .level))))) (object b) (some (entry pipe (label (z .level)))))) h)
@@ -345,10 +356,10 @@ module _ (m : Monitor) (g : Owned m) where
     connect-late r f = record { nine = alone tested; ten = refl; fifteen = refl }
       where
         tested : broken (view m) (enough (connect s u a b p q)) ≡ r
-        tested = sym (f (beside m) next wf-now (h (beside m) (m .subjects) wf-now) ∙ ap (λ (v : Tables). not (safe v)) flows-now)
+        tested = sym (f (beside m) next wf-now (anew (beside m) (m .subjects) os next ns (h (beside m) (m .subjects) wf-now)) ∙ ap (λ (v : Tables). not (safe v)) flows-now)
 
     pub connects : refusal (view m) (connect s u a b p q) ≡ none → Acts m (connect s u a b p q) (allowed (x .level)) (monitor m (m .subjects) os next ns)
-    connects e = acts m (connect s u a b p q) (allowed (x .level)) _ _ (connect-does (view m) s u a b p q x z e i j)
+    connects e = acts m (connect s u a b p q) (allowed (x .level)) _ _ refl (connect-does (view m) s u a b p q x z e i j)
         (ap (λ (l : List Object). tables-of (beside m) (m .subjects) l next) os-is ∙ connected)
         (λ k. worked (connect s u a b p q) (m .subjects) os next ns flows-now wf-now h)
 
@@ -360,9 +371,9 @@ module _ (m : Monitor) (g : Owned m) where
       → ((rest : Tables) (ss : List Subject) (t : Tables) (p : ℕ) → Wf t → t .hand s p ≡ some (joins h) → tables-of rest ss (m .objects) hs ≡ apply (hold s p none) t
       → Ready t (figure-of (m .needs)) → Ready (tables-of rest ss (m .objects) hs) (figure-of ns))
       → Acts m (close s p) (allowed (x .level)) (monitor m (m .subjects) os hs ns)
-  closes s p x h y r os hs ns w e q z o n d v f = acts m (close s p) (allowed (x .level)) _ _ (close-does (view m) s p x e q)
+  closes s p x h y r os hs ns w e q z o n d v f = acts m (close s p) (allowed (x .level)) _ _ refl (close-does (view m) s p x e q)
       (ap₂ (λ (a : List Object) (b : List Handle). tables-of (beside m) (m .subjects) a b) v n
-      ∙ store-close (beside m) (m .subjects) (m .objects) (m .handles) s p (h .object) (k .0) no-handle r (objects-long m g) (handles-long m g) low-s low-p low
+      ∙ store-close (beside m) (m .subjects) (m .objects) (m .handles) s p (h .object) (k .0) no-handle r (g .objects) (g .handles) low-s low-p low
       (k .1) to (subst₂ (λ (l : List Handle) (a : Object). Outlives l a (h .object) r) n (o ∙ object-low (h .object) low) d))
       (λ c. effect-ready (view m) (close s p) (figure-of ns) (subst (λ (t : Tables). Ready t (figure-of ns)) shut (f (beside m) (m .subjects) (view m) p w taken-at shut c)))
     where
@@ -383,7 +394,7 @@ module _ (m : Monitor) (g : Owned m) where
 
       shut : tables-of (beside m) (m .subjects) (m .objects) hs ≡ apply (hold s p none) (view m)
       shut = ap (tables-of (beside m) (m .subjects) (m .objects)) n
-          ∙ store-handle (beside m) (m .subjects) (m .objects) (m .handles) s p no-handle (handles-long m g) low-s low-p
+          ∙ store-handle (beside m) (m .subjects) (m .objects) (m .handles) s p no-handle (g .handles) low-s low-p
 
       taken-at : view m .hand s p ≡ some (joins h)
       taken-at = z ∙ full-held h (k .0) (sym z ∙ k .1)
@@ -395,7 +406,7 @@ module _ (m : Monitor) (g : Owned m) where
       → Ready t (figure-of (m .needs)) → Ready (tables-of rest ss (m .objects) after) (figure-of ns))
       → Acts m (exit s) (allowed (x .level)) (monitor m ss left after ns)
   unfolding tables-of
-  exits s x ss after left ns w e q n a b f = rw n (acts m (exit s) (allowed (x .level)) _ _ (exit-does (view m) s x e q)
+  exits s x ss after left ns w e q n a b f = rw n (acts m (exit s) (allowed (x .level)) _ _ refl (exit-does (view m) s x e q)
       (b (beside m) _ (view m) (all-handles m) ∙ ap (reap (handles (view m))) (a (beside m) _ _ ∙ ap₂ (λ (u : Tables) (f : ℕ → ℕ → Option Held). with-hand u f)
       (put-subject s no-subject (m .needs) low) (ap (λ (i : ℕ). row (hands (m .handles)) i (λ p. none)) same)))
       (λ k. exit-ready (view m) s (figure-of ns) w (subst (λ (t : Tables). Ready t (figure-of ns)) vacant-now
@@ -415,7 +426,7 @@ module _ (m : Monitor) (g : Owned m) where
       → Rowed (m .handles) (c % 32) (hands (m .handles) (s % 32)) after → v ≡ getD (m .needs) (s % 32) 0 → ns ≡ set (m .needs) (c % 32) v
       → Acts m (fork s c) (allowed (x .level)) (monitor m ss (m .objects) after ns)
   unfolding tables-of
-  forks s c x ss after v ns w e q n a d r = rw (n, r) (acts m (fork s c) (allowed (x .level)) _ _ (fork-does (view m) s c x w e q)
+  forks s c x ss after v ns w e q n a d r = rw (n, r) (acts m (fork s c) (allowed (x .level)) _ _ refl (fork-does (view m) s c x w e q)
       (a (beside m) _ _ ∙ ap₂ (λ (u : Tables) (f : ℕ → ℕ → Option Held). with-hand u f) (put-subject c (record { live = 1; level = x .level }) (m .needs) low)
       (ap₂ (λ (i : ℕ) (f : ℕ → Option Held). row (hands (m .handles)) i f) same (ap (hands (m .handles)) same-s)))
       (λ k. kept-subject c v _ _ low (ap label d ∙ own-figure s low-s) (fork-ready (view m) (figure-of (m .needs)) w k s c e)))
@@ -433,8 +444,9 @@ module _ (m : Monitor) (g : Owned m) where
       same-s = omega (arith, low-s)
 
   -- ── open ──
-  module _ (b : Bool) (s o p : ℕ) (x : Object) (next : List Handle) (ns : List ℕ) (w : Wf (view m)) (z : Refuses (view m) (opens (direction b) s o p) 0)
-      (k : view m .at (object o) ≡ object-entry x) (y : next ≡ set (m .handles) (s % 32 * 16 + p % 16) (joining (way-by b) o)) (f : Works (m .objects) next ns) where
+  module _ (b : Bool) (s o p : ℕ) (x : Object) (h : Handle) (next : List Handle) (ns : List ℕ) (r : Bool) (w : Wf (view m)) (v : Says m)
+      (z : Refuses (view m) (opens (direction b) s o p) 0) (k : view m .at (object o) ≡ object-entry x) (i : h ≡ joining (way-by b) o)
+      (y : next ≡ set (m .handles) (s % 32 * 16 + p % 16) h) (f : Opening m (eqb (m .sure) 1) next s h ns r) where
     lives : T (live (view m) (subject s))
     lives = is-alive (view m) s (early-passed (view m) (opens (direction b) s o p) z (alive s) (inl refl) tt)
 
@@ -455,32 +467,48 @@ module _ (m : Monitor) (g : Owned m) where
     way-held false n = refl
 
     placed : tables-of (beside m) (m .subjects) (m .objects) next ≡ with-hand (view m) (place (view m .hand) s p (some (handle (direction b) o)))
-    placed = ap (tables-of (beside m) (m .subjects) (m .objects)) y
-        ∙ store-handle (beside m) (m .subjects) (m .objects) (m .handles) s p (joining (way-by b) o) (handles-long m g) low-s low-p
+    placed = ap (tables-of (beside m) (m .subjects) (m .objects)) (y ∙ ap (set (m .handles) (s % 32 * 16 + p % 16)) i)
+        ∙ store-handle (beside m) (m .subjects) (m .objects) (m .handles) s p (joining (way-by b) o) (g .handles) low-s low-p
         ∙ ap (λ (k : Option Held). with-hand (view m) (place (view m .hand) s p k)) (way-held b (o % 64) ∙ ap (λ (n : ℕ). some (handle (direction b) n)) same)
       where
         same : o % 64 ≡ o
         same = omega (arith, low-o)
 
-    placed-wf : Wf (tables-of (beside m) (m .subjects) (m .objects) next)
-    placed-wf = subst Wf (sym placed) (wf-hold (view m) s p (handle (direction b) o) w (record { from = lives; to = there; place = low-p }))
+    its-ends : Ends (view m) s p (handle (direction b) o)
+    its-ends = record { from = lives; to = there; place = low-p }
 
-    -- the flow test of the code is the rules'
-    tested : (r : Bool) → Shorts (m .subjects) (m .objects) ns r → broken (view m) (enough (opens (direction b) s o p)) ≡ r
-    tested r h = sym (h (beside m) next placed-wf (f (beside m) (m .subjects) placed-wf) ∙ ap (λ (u : Tables). not (safe u)) placed)
+    joins-is : joins h ≡ handle (direction b) o
+    joins-is = ap joins i ∙ way-joins b (o % 64) ∙ ap (handle (direction b)) same
+      where
+        way-joins : (b : Bool) (n : ℕ) → joins (record { way = way-by b; object = n; mark = 0 }) ≡ handle (direction b) n
+        way-joins true n = refl
+        way-joins false n = refl
 
-    pub open-late : (r q : Bool) → Shorts (m .subjects) (m .objects) ns r → broken (view m) (thawed (direction b) o) ≡ q
-        → Late (view m) (opens (direction b) s o p) r false q
-    open-late r q h e = record { nine = alone (tested r h); ten = refl; fifteen = alone e }
+        same : o % 64 ≡ o
+        same = omega (arith, low-o)
+
+    -- what the code works out
+    out : (r ≡ not (safe (tables-of (beside m) (m .subjects) (m .objects) next))) × Ready (tables-of (beside m) (m .subjects) (m .objects) next) (figure-of ns)
+    out = f (beside m) (view m) p w (subst (Ends (view m) s p) (sym joins-is) its-ends)
+        (is-vacant (view m) s p (early-passed (view m) (opens (direction b) s o p) z (vacant s p) (inr (inr (inl refl))) tt))
+        (placed ∙ ap (λ (j : Held). with-hand (view m) (place (view m .hand) s p (some j))) (sym joins-is)) (λ q. v (eqb→eq (m .sure) 1 (subst T (sym q) tt)))
+
+    -- its flow test is the rules'
+    tested : broken (view m) (enough (opens (direction b) s o p)) ≡ r
+    tested = sym (out .0 ∙ ap (λ (u : Tables). not (safe u)) placed)
+
+    pub open-late : (q : Bool) → broken (view m) (thawed (direction b) o) ≡ q → Late (view m) (opens (direction b) s o p) r false q
+    open-late q e = record { nine = alone tested; ten = refl; fifteen = alone e }
 
     pub opens-acts : refusal (view m) (opens (direction b) s o p) ≡ none
         → Acts m (opens (direction b) s o p) (allowed (x .level)) (monitor m (m .subjects) (m .objects) next ns)
-    opens-acts e = acts m (opens (direction b) s o p) (allowed (x .level)) _ _ (open-does (view m) (direction b) s o p x e k) placed
-        (λ k. worked (opens (direction b) s o p) (m .subjects) (m .objects) next ns placed placed-wf f)
+    opens-acts e = acts m (opens (direction b) s o p) (allowed (x .level)) _ _ refl (open-does (view m) (direction b) s o p x e k) placed
+        (λ k. effect-ready (view m) (opens (direction b) s o p) (figure-of ns) (subst (λ (t : Tables). Ready t (figure-of ns)) placed (out .1)))
 
   -- ── map ──
-  module _ (s o p : ℕ) (x : Object) (next : List Handle) (ns : List ℕ) (w : Wf (view m)) (z : Refuses (view m) (maps s o p) 0)
-      (k : view m .at (object o) ≡ object-entry x) (y : next ≡ set (m .handles) (s % 32 * 16 + p % 16) (joining 1 o)) (f : Works (m .objects) next ns) where
+  module _ (s o p : ℕ) (x : Object) (h : Handle) (next : List Handle) (ns : List ℕ) (r : Bool) (w : Wf (view m)) (v : Says m) (z : Refuses (view m) (maps s o p) 0)
+      (k : view m .at (object o) ≡ object-entry x) (i : h ≡ joining 1 o) (y : next ≡ set (m .handles) (s % 32 * 16 + p % 16) h)
+      (f : Opening m (eqb (m .sure) 1) next s h ns r) where
     map-lives : T (live (view m) (subject s))
     map-lives = is-alive (view m) s (early-passed (view m) (maps s o p) z (alive s) (inl refl) tt)
 
@@ -498,31 +526,33 @@ module _ (m : Monitor) (g : Owned m) where
 
     -- the flow test is that of the open for reading
     map-placed : tables-of (beside m) (m .subjects) (m .objects) next ≡ with-hand (view m) (place (view m .hand) s p (some (handle reading o)))
-    map-placed = ap (tables-of (beside m) (m .subjects) (m .objects)) y
-        ∙ store-handle (beside m) (m .subjects) (m .objects) (m .handles) s p (joining 1 o) (handles-long m g) map-low-s map-low-p
+    map-placed = ap (tables-of (beside m) (m .subjects) (m .objects)) (y ∙ ap (set (m .handles) (s % 32 * 16 + p % 16)) i)
+        ∙ store-handle (beside m) (m .subjects) (m .objects) (m .handles) s p (joining 1 o) (g .handles) map-low-s map-low-p
         ∙ ap (λ (n : ℕ). with-hand (view m) (place (view m .hand) s p (some (handle reading n)))) same-o
 
-    map-placed-wf : Wf (tables-of (beside m) (m .subjects) (m .objects) next)
-    map-placed-wf = subst Wf (sym map-placed) (wf-hold (view m) s p (handle reading o) w (record { from = map-lives; to = map-there; place = map-low-p }))
+    map-joins : joins h ≡ handle reading o
+    map-joins = ap joins i ∙ ap (handle reading) same-o
 
-    pub map-late : (r : Bool) → Shorts (m .subjects) (m .objects) ns r → Late (view m) (maps s o p) r false false
-    map-late r h = record { nine = alone tested; ten = refl; fifteen = refl }
-      where
-        tested : broken (view m) (enough (opens reading s o p)) ≡ r
-        tested = sym (h (beside m) next map-placed-wf (f (beside m) (m .subjects) map-placed-wf) ∙ ap (λ (u : Tables). not (safe u)) map-placed)
+    -- what the code works out
+    map-out : (r ≡ not (safe (tables-of (beside m) (m .subjects) (m .objects) next))) × Ready (tables-of (beside m) (m .subjects) (m .objects) next) (figure-of ns)
+    map-out = f (beside m) (view m) p w (subst (Ends (view m) s p) (sym map-joins) (record { from = map-lives; to = map-there; place = map-low-p }))
+        (is-vacant (view m) s p (early-passed (view m) (maps s o p) z (vacant s p) (inr (inr (inr (inl refl)))) tt))
+        (map-placed ∙ ap (λ (j : Held). with-hand (view m) (place (view m .hand) s p (some j))) (sym map-joins)) (λ q. v (eqb→eq (m .sure) 1 (subst T (sym q) tt)))
+
+    pub map-late : Late (view m) (maps s o p) r false false
+    map-late = record { nine = alone (sym (map-out .0 ∙ ap (λ (u : Tables). not (safe u)) map-placed)); ten = refl; fifteen = refl }
 
     pub maps-acts : (y v : Subject) (ss : List Subject) (hs : List Handle) (b : Told) → view m .at (subject s) ≡ subject-entry y
         → refusal (view m) (maps s o p) ≡ none → v ≡ fallen-by y (x .level) → ss ≡ set (m .subjects) (s % 32) v
         → hs ≡ set (m .handles) (s % 32 * 16 + p % 16) (joining 3 o) → b ≡ outcome (ltb (v .level) (y .level)) (v .level)
         → Acts m (maps s o p) b (monitor m ss (m .objects) hs ns)
-    maps-acts y v ss hs b q e d i j h = rw (i, j) (acts m (maps s o p) b _ _ (subst₂ (λ (c : Told) (z : Subject). Does (view m) (maps s o p) c
+    maps-acts y v ss hs b q e d i j h = rw (i, j) (acts m (maps s o p) b _ _ refl (subst₂ (λ (c : Told) (z : Subject). Does (view m) (maps s o p) c
         (with-hand (with-at (view m) (put (view m .at) (subject s) (subject-entry z))) (place (view m .hand) s p (some (mapping o)))))
         (sym (h ∙ ap (λ (z : Subject). outcome (ltb (z .level) (y .level)) (z .level)) d)) (sym d) (map-does (view m) s o p y x e q k))
-        (store-handle (beside m) (set (m .subjects) (s % 32) v) (m .objects) (m .handles) s p (joining 3 o) (handles-long m g) map-low-s map-low-p
+        (store-handle (beside m) (set (m .subjects) (s % 32) v) (m .objects) (m .handles) s p (joining 3 o) (g .handles) map-low-s map-low-p
         ∙ ap (λ (u : Tables). with-hand u (place (u .hand) s p (held (joining 3 o)))) (put-subject s v ns map-low-s)
         ∙ ap (λ (n : ℕ). with-hand (with-at (view m) (put (view m .at) (subject s) (subject-entry v))) (place (view m .hand) s p (some (mapping n)))) same-o)
-        (λ k. map-ready (view m) s o p (figure-of ns) w e
-        (λ x h. f (beside m) (m .subjects) map-placed-wf .need-is x h ∙ ap (λ (t : Tables). needs t x) map-placed)))
+        (λ k. map-ready (view m) s o p (figure-of ns) w e (subst (λ (t : Tables). Ready t (figure-of ns)) map-placed (map-out .1))))
 
   -- ── exec ──
   module _ (s o : ℕ) (y : Object) (after : List Handle) (ns : List ℕ) (w : Wf (view m)) (z : Refuses (view m) (exec s o) 0)
@@ -577,7 +607,7 @@ module _ (m : Monitor) (g : Owned m) where
         → b ≡ outcome (ltb (v .level) (x .level)) (v .level) → Reaps (m .objects) (m .handles) after left
         → Acts m (exec s o) b (monitor m ss left after ns)
     unfolding tables-of
-    execs x v ss left b r e d n h c = rw n (acts m (exec s o) b _ _ (subst₂ (λ (c : Told) (z : Subject). Does (view m) (exec s o) c (reap (handles (view m))
+    execs x v ss left b r e d n h c = rw n (acts m (exec s o) b _ _ refl (subst₂ (λ (c : Told) (z : Subject). Does (view m) (exec s o) c (reap (handles (view m))
         (with-hand (with-at (view m) (put (view m .at) (subject s) (subject-entry z))) dropped)))
         (sym (h ∙ ap (λ (z : Subject). outcome (ltb (z .level) (x .level)) (z .level)) d)) (sym d) (exec-does (view m) s o x y e r q))
         (c (beside m) _ (view m) (all-handles m) ∙ ap (reap (handles (view m))) (shed (set (m .subjects) (s % 32) v)
@@ -592,8 +622,8 @@ module _ (m : Monitor) (g : Owned m) where
       → view m .at (subject s) ≡ subject-entry x → view m .hand s p ≡ held h
       → hs ≡ set (m .handles) (s % 32 * 16 + p % 16) (record { way = h .way; object = h .object; mark = 1 })
       → Acts m (mark s p) (allowed (x .level)) (monitor m (m .subjects) (m .objects) hs (m .needs))
-  marks s p x h hs w e q r n = rw n (acts m (mark s p) (allowed (x .level)) _ _ (mark-does (view m) s p x e q)
-      (store-handle (beside m) (m .subjects) (m .objects) (m .handles) s p (record { way = h .way; object = h .object; mark = 1 }) (handles-long m g)
+  marks s p x h hs w e q r n = rw n (acts m (mark s p) (allowed (x .level)) _ _ refl (mark-does (view m) s p x e q)
+      (store-handle (beside m) (m .subjects) (m .objects) (m .handles) s p (record { way = h .way; object = h .object; mark = 1 }) (g .handles)
       (row-low (view m) (mark s p) e s (inl refl)) (found-place (view m) w (mark s p) s p h e (inr (inl refl)) r)
       ∙ ap (λ (v : Option Held). with-hand (view m) (place (view m .hand) s p v)) (go (eqb (h .way) 0) ∙ ap marking (sym r)))
       (λ k. mark-ready (view m) (figure-of (m .needs)) w k s p))
@@ -618,14 +648,14 @@ module _ (m : Monitor) (g : Owned m) where
 
     pub retires : (y : Object) (os : List Object) → Wf (view m) → view m .at (object o) ≡ object-entry y → refusal (view m) (retire o) ≡ none
         → os ≡ set (m .objects) (o % 64) no-object → Acts m (retire o) (allowed (y .level)) (monitor m (m .subjects) os (m .handles) (m .needs))
-    retires y os w q e n = rw n (acts m (retire o) (allowed (y .level)) _ _ (retire-does (view m) o y e q) (put-object o no-object (m .needs) low-here)
+    retires y os w q e n = rw n (acts m (retire o) (allowed (y .level)) _ _ refl (retire-does (view m) o y e q) (put-object o no-object (m .needs) low-here)
         (λ k. retire-ready (view m) (figure-of (m .needs)) w k o e))
 
   -- ── freeze ──
   pub freezes : (n : ℕ) → Wf (view m) → refusal (view m) (freeze n) ≡ none → Acts m (freeze n) (allowed (n % 256))
-      (record { subjects = m .subjects; objects = m .objects; handles = m .handles; freeze = n % 256; needs = m .needs })
+      (record { subjects = m .subjects; objects = m .objects; handles = m .handles; freeze = n % 256; needs = m .needs; sure = m .sure })
   unfolding tables-of
-  freezes n w e = rw low (acts m (freeze n) (allowed n) _ _ (freeze-does (view m) n e) refl (λ k. freeze-ready (view m) (figure-of (m .needs)) w k n))
+  freezes n w e = rw low (acts m (freeze n) (allowed n) _ _ refl (freeze-does (view m) n e) refl (λ k. freeze-ready (view m) (figure-of (m .needs)) w k n))
     where
       low : n % 256 ≡ n
       low = let h : n ≤ 16 = ltb-false 16 n (is-false (ltb 16 n) (passed (view m) (freeze n) e (freezable n) (inl refl))) in omega arith

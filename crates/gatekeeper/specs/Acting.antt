@@ -5,6 +5,7 @@ use mathlib.Core.Option.{none, some}
 use Prim.Native.Nat.{ℕ}
 use Rattle.model.specs.Calls.{Call, refusal, effect, answer}
 use Rattle.model.specs.Calls.{Answer as Told}
+use Rattle.model.specs.Invariant.{Wf, Safe}
 use Rattle.model.specs.Figures.{Ready}
 use Rattle.tables.specs.Needs.{figure-of}
 use Rattle.gatekeeper.specs.declared.Monitor.{Monitor}
@@ -13,12 +14,18 @@ use Rattle.answers.specs.declared.Answer.the-variants.{Refused}
 use Rattle.answers.specs.Telling.{told, refuses}
 use Rattle.gatekeeper.specs.View.{view}
 
+-- nothing dangles in the tables of m, and where it says that it is sure, its needs are right and no level is below one
+pub record Firm (m : Monitor) : Type 0 where
+  pub wf : Wf (view m)
+  pub safe : m .sure ≡ 1 → Safe (view m) × Ready (view m) (figure-of (m .needs))
+
 -- call c on monitor m, as its tables stand, is answered a, and monitor n is handed back
 pub record Acts (m : Monitor) (c : Call) (a : Told) (n : Monitor) : Type 0 where
   pub answered : a ≡ answer (view m) c
   pub unchanged : (k : ℕ) → refusal (view m) c ≡ some k → n ≡ m
   pub moved : refusal (view m) c ≡ none → view n ≡ effect (view m) c
   pub kept : Ready (view m) (figure-of (m .needs)) → Ready (view n) (figure-of (n .needs))
+  pub says : n .sure ≡ m .sure
 
 -- a refusal: its number, and the monitor as it came
 abbrev pub back : Monitor → ℕ → Reply

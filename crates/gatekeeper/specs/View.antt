@@ -1,4 +1,4 @@
--- The monitor seen as the tables of the rules, and the needs that it keeps beside them. States RULES T13, T33, F10, F11, F15, F16 and C106. Assumes nothing.
+-- The monitor seen as the tables of the rules, and the needs that it keeps beside them. States RULES T13, T33, F10, F11, F15, F16, F19 and C106. Assumes nothing.
 use mathlib.Core.Path.{_≡_}
 use mathlib.Core.Bool.{cond}
 use mathlib.Core.List.{[], _∷_}
@@ -7,10 +7,12 @@ use lib.ListN.{getD}
 use Rattle.model.specs.Flow.{Thing}
 use Rattle.model.specs.Tables.{Tables, empty, with-freeze, live, clean}
 use Rattle.model.specs.Calls.{Raw}
+use Rattle.model.specs.Invariant.{Kept}
 use Rattle.model.specs.Figures.{Ready}
 use Rattle.tables.specs.Records.{tables-of}
 use Rattle.tables.specs.Needs.{node, figure-of}
 use Rattle.gatekeeper.specs.declared.Monitor.{Monitor}
+pub mod Laws
 
 -- ── the monitor ──
 -- RULES T13: what the tables have that is in no array, the freeze
@@ -26,13 +28,17 @@ view m = tables-of (beside m) (m .subjects) (m .objects) (m .handles)
 abbrev pub Right : Monitor → Type 0
 Right m = Ready (clean (view m)) (figure-of (m .needs))
 
+-- RULES F19: a monitor is honest if, where it says that it is sure, it has what calls from the empty tables leave: the invariant, and kept needs that are right
+abbrev pub Honest : Monitor → Type 0
+Honest m = m .sure ≡ 1 → Kept (view m) × Ready (view m) (figure-of (m .needs))
+
 -- RULES F16: the kept need of a live thing, 0 for any other
 abbrev pub kept-need : Monitor → Thing → ℕ
 kept-need m x = cond (live (view m) x) (getD (m .needs) (node x) 0) 0
 
 -- RULES F15: n is m with its kept needs put right
 pub record Righted (m n : Monitor) : Type 0 where
-  pub same : n ≡ record { subjects = m .subjects; objects = m .objects; handles = m .handles; freeze = m .freeze; needs = n .needs }
+  pub same : n ≡ record { subjects = m .subjects; objects = m .objects; handles = m .handles; freeze = m .freeze; needs = n .needs; sure = m .sure }
   pub right : Right n
 
 -- ── direct calls ──

@@ -1,9 +1,7 @@
 // The call that connects two subjects, on tables in which nothing dangles.
 ghost use Rattle.answers.specs.Telling.{told};
-ghost use Rattle.model.specs.Invariant.{Wf};
 ghost use Rattle.model.specs.Calls.{connect};
-ghost use Rattle.gatekeeper.specs.View.{view};
-ghost use Rattle.gatekeeper.specs.Acting.{Acts};
+ghost use Rattle.gatekeeper.specs.Acting.{Firm, Acts};
 use crate::Monitor;
 use crate::Reply;
 use answers::Answer;
@@ -15,8 +13,7 @@ use tables::refusals;
 impl Monitor {
     // Call 17, whose t is u here: two new empty pipes, a at s's level and b at u's; s and u each read the other's at place p and write their own at q.
     pub(crate) fn connect(mut self, s: u32, u: u32, a: u32, b: u32, p: u32, q: u32) -> Reply
-        requires { ⌜ Wf (view self) ⌝ }
-        ensures { λ r. ⌜ Acts self (connect s u a b p q) (told (r .answer)) (r .monitor) ⌝ }
+        ensures { λ r. ⌜ (Firm self → Acts self (connect s u a b p q) (told (r .answer)) (r .monitor)) ⌝ }
     {
         let subjects = self.subjects;
         let objects = self.objects;

@@ -1,21 +1,26 @@
-// The direct call, for every monitor value: it cleans the tables, makes the call, and hands the very same monitor back where it is refused.
+// The direct call, for every monitor value: it cleans the tables where they are not sure, makes the call, and hands the very same monitor back where it is
+// refused.
 ghost use mathlib.Core.Path.{_≡_};
 ghost use Rattle.model.specs.Tables.{clean};
-ghost use Rattle.model.specs.Invariant.{Wf};
 ghost use Rattle.model.specs.Calls.{decode};
 ghost use Rattle.model.specs.Promise.{Meets};
 ghost use Rattle.answers.specs.Telling.{told};
-ghost use Rattle.gatekeeper.specs.View.{view, Right, direct};
-ghost use Rattle.gatekeeper.specs.Acting.{Acts};
+ghost use Rattle.gatekeeper.specs.View.{view, Honest, Right, direct};
+ghost use Rattle.gatekeeper.specs.Acting.{Firm, Acts};
 use crate::Monitor;
 use crate::Reply;
+use crate::SURE;
 
 impl Monitor {
-    // No dangling handle remains.
-    fn cleaned(mut self) -> Monitor
-        ensures tables { λ r. ⌜ view r ≡ clean (view self) ⌝ }
+    // This monitor where it is sure; else no dangling handle remains.
+    fn readied(mut self) -> Monitor
+        ensures tables { λ r. ⌜ (Honest self → view r ≡ clean (view self)) ⌝ }
         ensures needs { λ r. ⌜ r .needs ≡ self .needs ⌝ }
+        ensures sure { λ r. ⌜ r .sure ≡ self .sure ⌝ }
     {
+        if self.sure == SURE {
+            return self;
+        }
         let subjects = self.subjects;
         let objects = self.objects;
         let handles = self.handles;
@@ -26,8 +31,7 @@ impl Monitor {
 
     // A code and six numbers; those that the code does not use are ignored. Nothing dangles in the tables.
     fn dispatch(self, code: u32, a: u32, b: u32, c: u32, d: u32, e: u32, f: u32) -> Reply
-        requires { ⌜ Wf (view self) ⌝ }
-        ensures { λ r. ⌜ Acts self (decode (direct code a b c d e f)) (told (r .answer)) (r .monitor) ⌝ }
+        ensures { λ r. ⌜ (Firm self → Acts self (decode (direct code a b c d e f)) (told (r .answer)) (r .monitor)) ⌝ }
     {
         match code {
             1 => self.admit(a, b),
@@ -52,11 +56,12 @@ impl Monitor {
     }
 
     // A code and six numbers; those that the code does not use are ignored. A refused call hands the same struct back, free part included;
-    // any other hands back the rules' next tables, and its free part is any (model, `Promise`). Of a right monitor either is right.
+    // any other hands back the rules' next tables, and its free part is any (model, `Promise`). Of a right monitor either is right. All but the first is promised of
+    // honest monitors: of those that do not say that they are sure, and of those that say so and have what calls from the empty tables leave.
     pub fn call(self, code: u32, a: u32, b: u32, c: u32, d: u32, e: u32, f: u32) -> Reply
-        ensures { λ r. ⌜ Meets view Right self (decode (direct code a b c d e f)) (told (r .answer)) (r .monitor) ⌝ }
+        ensures { λ r. ⌜ Meets view Honest Right self (decode (direct code a b c d e f)) (told (r .answer)) (r .monitor) ⌝ }
     {
-        let t = self.cleaned();
+        let t = self.readied();
         let r = t.dispatch(code, a, b, c, d, e, f);
         self.settle(r)
     }

@@ -1,9 +1,7 @@
 // The call that freezes files, on tables in which nothing dangles.
-ghost use Rattle.model.specs.Invariant.{Wf};
 ghost use Rattle.model.specs.Calls.{freeze};
 ghost use Rattle.answers.specs.Telling.{told};
-ghost use Rattle.gatekeeper.specs.View.{view};
-ghost use Rattle.gatekeeper.specs.Acting.{Acts};
+ghost use Rattle.gatekeeper.specs.Acting.{Firm, Acts};
 use crate::Monitor;
 use crate::Reply;
 use answers::Answer;
@@ -12,8 +10,7 @@ use tables::refusals;
 impl Monitor {
     // Call 16: the freeze is this number, in place of the one before it.
     pub(crate) fn freeze(mut self, level: u32) -> Reply
-        requires { ⌜ Wf (view self) ⌝ }
-        ensures { λ r. ⌜ Acts self (freeze level) (told (r .answer)) (r .monitor) ⌝ }
+        ensures { λ r. ⌜ (Firm self → Acts self (freeze level) (told (r .answer)) (r .monitor)) ⌝ }
     {
         let n = refusals::of_freeze(level);
         if n != 0 {

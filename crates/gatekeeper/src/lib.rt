@@ -5,7 +5,7 @@
 // the needs that are kept beside the tables.
 ghost use mathlib.Core.Path.{_≡_};
 ghost use Rattle.model.specs.Tables.{empty};
-ghost use Rattle.gatekeeper.specs.View.{view, Right};
+ghost use Rattle.gatekeeper.specs.View.{view, Honest, Right};
 ghost use Rattle.gatekeeper.specs.Acting.{back, settled, way-by};
 use answers::Answer;
 use tables::EMPTY;
@@ -30,7 +30,8 @@ mod made;
 mod moved;
 
 // The tables, and beside them the kept needs, of the subjects and then of the objects. Place p of subject s is handle 16 s + p. A freeze of NO_FREEZE
-// and above says that no file is frozen.
+// and above says that no file is frozen. `sure` is SURE where calls from the empty tables made this value: then calls go by the kept needs, and look for no
+// dangling handle. Any other byte says nothing, and calls work out what they go by.
 #[repr(C)]
 pub struct Monitor {
     pub subjects: [Subject; SUBJECTS],
@@ -38,7 +39,11 @@ pub struct Monitor {
     pub handles: [Handle; HANDLES],
     pub freeze: u8,
     pub needs: [u8; THINGS],
+    pub sure: u8,
 }
+
+// What `sure` is in the empty tables, and in all that calls make of them.
+pub const SURE: u8 = 1;
 
 pub struct Reply {
     pub monitor: Monitor,
@@ -56,11 +61,12 @@ fn way_of(reads: bool) -> u8
 }
 
 impl Monitor {
-    // The empty tables, whose needs are right. The free part (model, `Promise`: the level and the kept need beside a number that is not in use, the object and
+    // The empty tables, whose needs are right, and which calls may rely on. The free part (model, `Promise`: the level and the kept need beside a number that is not in use, the object and
     // mark beside an empty place) is any; this code has zeros there.
     pub fn empty() -> Monitor
         ensures tables { λ r. ⌜ view r ≡ empty ⌝ }
         ensures needs { λ r. ⌜ Right r ⌝ }
+        ensures honest { λ r. ⌜ Honest r ⌝ }
     {
         let subjects = [Subject { live: 0, level: 0 }; SUBJECTS];
         let objects = [Object {
@@ -78,6 +84,7 @@ impl Monitor {
             handles: handles,
             freeze: NO_FREEZE,
             needs: [0; THINGS],
+            sure: SURE,
         }
     }
 

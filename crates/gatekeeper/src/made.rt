@@ -1,12 +1,11 @@
 // Calls that make things, and that place and mark handles, on tables in which nothing dangles.
-ghost use Rattle.model.specs.Invariant.{Wf};
 ghost use Rattle.model.specs.Calls.{admit, register, create, make-pipe, opens, fork, mark};
 ghost use Rattle.answers.specs.Telling.{told};
-ghost use Rattle.gatekeeper.specs.View.{view};
-ghost use Rattle.gatekeeper.specs.Acting.{Acts};
+ghost use Rattle.gatekeeper.specs.Acting.{Firm, Acts};
 ghost use Rattle.tables.specs.Refusing.{direction};
 use crate::Monitor;
 use crate::Reply;
+use crate::SURE;
 use answers::Answer;
 use flows::kept;
 use tables::FILE;
@@ -20,8 +19,7 @@ use tables::refusals;
 impl Monitor {
     // Call 1: a new subject from outside, with no handles, and so with no need.
     pub(crate) fn admit(mut self, s: u32, level: u32) -> Reply
-        requires { ⌜ Wf (view self) ⌝ }
-        ensures { λ r. ⌜ Acts self (admit s level) (told (r .answer)) (r .monitor) ⌝ }
+        ensures { λ r. ⌜ (Firm self → Acts self (admit s level) (told (r .answer)) (r .monitor)) ⌝ }
     {
         let before = self.subjects;
         let x = looks::subject_of(before, s);
@@ -44,8 +42,7 @@ impl Monitor {
 
     // Call 2: a new file from outside, which needs its level.
     pub(crate) fn register(mut self, o: u32, level: u32) -> Reply
-        requires { ⌜ Wf (view self) ⌝ }
-        ensures { λ r. ⌜ Acts self (register o level) (told (r .answer)) (r .monitor) ⌝ }
+        ensures { λ r. ⌜ (Firm self → Acts self (register o level) (told (r .answer)) (r .monitor)) ⌝ }
     {
         let before = self.objects;
         let y = looks::object_of(before, o);
@@ -71,8 +68,7 @@ impl Monitor {
 
     // Call 3: a new empty file at s's level, no handle.
     pub(crate) fn create(mut self, s: u32, o: u32) -> Reply
-        requires { ⌜ Wf (view self) ⌝ }
-        ensures { λ r. ⌜ Acts self (create s o) (told (r .answer)) (r .monitor) ⌝ }
+        ensures { λ r. ⌜ (Firm self → Acts self (create s o) (told (r .answer)) (r .monitor)) ⌝ }
     {
         let subjects = self.subjects;
         let before = self.objects;
@@ -99,8 +95,7 @@ impl Monitor {
 
     // Call 4: a new empty pipe at s's level; place r reads, w writes. It needs what s needs.
     pub(crate) fn pipe(mut self, s: u32, o: u32, r: u32, w: u32) -> Reply
-        requires { ⌜ Wf (view self) ⌝ }
-        ensures { λ a. ⌜ Acts self (make-pipe s o r w) (told (a .answer)) (a .monitor) ⌝ }
+        ensures { λ a. ⌜ (Firm self → Acts self (make-pipe s o r w) (told (a .answer)) (a .monitor)) ⌝ }
     {
         let subjects = self.subjects;
         let before = self.objects;
@@ -132,8 +127,7 @@ impl Monitor {
 
     // Calls 5 and 6: a reading or writing handle; no level falls.
     pub(crate) fn open(mut self, reads: bool, s: u32, o: u32, p: u32) -> Reply
-        requires { ⌜ Wf (view self) ⌝ }
-        ensures { λ r. ⌜ Acts self (opens (direction reads) s o p) (told (r .answer)) (r .monitor) ⌝ }
+        ensures { λ r. ⌜ (Firm self → Acts self (opens (direction reads) s o p) (told (r .answer)) (r .monitor)) ⌝ }
     {
         let subjects = self.subjects;
         let objects = self.objects;
@@ -148,13 +142,15 @@ impl Monitor {
         let way = crate::way_of(reads);
         let put = looks::joining(way, o);
         let next = looks::with_handle(held, s, p, put);
-        let needs = flows::figures(objects, next);
-        let short = flows::is_short(subjects, objects, needs);
+        let had = self.needs;
+        let sure = self.sure == SURE;
+        let w = kept::opened(sure, had, subjects, objects, next, s, put);
         let frozen = refusals::is_frozen(self.freeze, reads, y);
-        let late = refusals::last(short, false, frozen);
+        let late = refusals::last(w.short, false, frozen);
         if late != 0 {
             return self.refuse(late);
         }
+        let needs = w.needs;
         self.handles = next;
         self.needs = needs;
         Reply {
@@ -165,8 +161,7 @@ impl Monitor {
 
     // Call 9: new subject c, with s's level and the same handles at the same places. It needs what s needs.
     pub(crate) fn fork(mut self, s: u32, c: u32) -> Reply
-        requires { ⌜ Wf (view self) ⌝ }
-        ensures { λ r. ⌜ Acts self (fork s c) (told (r .answer)) (r .monitor) ⌝ }
+        ensures { λ r. ⌜ (Firm self → Acts self (fork s c) (told (r .answer)) (r .monitor)) ⌝ }
     {
         let before = self.subjects;
         let x = looks::subject_of(before, s);
@@ -195,8 +190,7 @@ impl Monitor {
 
     // Call 15: the handle at place p of s is marked.
     pub(crate) fn mark(mut self, s: u32, p: u32) -> Reply
-        requires { ⌜ Wf (view self) ⌝ }
-        ensures { λ r. ⌜ Acts self (mark s p) (told (r .answer)) (r .monitor) ⌝ }
+        ensures { λ r. ⌜ (Firm self → Acts self (mark s p) (told (r .answer)) (r .monitor)) ⌝ }
     {
         let subjects = self.subjects;
         let held = self.handles;

@@ -1,12 +1,11 @@
 // Calls that move data, a map among them, on tables in which nothing dangles.
 ghost use Rattle.model.specs.Tables.{reading, writing};
-ghost use Rattle.model.specs.Invariant.{Wf};
 ghost use Rattle.model.specs.Calls.{access, exec, maps};
 ghost use Rattle.answers.specs.Telling.{told};
-ghost use Rattle.gatekeeper.specs.View.{view};
-ghost use Rattle.gatekeeper.specs.Acting.{Acts};
+ghost use Rattle.gatekeeper.specs.Acting.{Firm, Acts};
 use crate::Monitor;
 use crate::Reply;
+use crate::SURE;
 use flows::kept;
 use handles::mappings;
 use tables::MAPS;
@@ -17,8 +16,7 @@ use tables::refusals;
 impl Monitor {
     // Call 7: s falls to the object's level if that is lower.
     pub(crate) fn read(mut self, s: u32, p: u32) -> Reply
-        requires { ⌜ Wf (view self) ⌝ }
-        ensures { λ r. ⌜ Acts self (access reading s p) (told (r .answer)) (r .monitor) ⌝ }
+        ensures { λ r. ⌜ (Firm self → Acts self (access reading s p) (told (r .answer)) (r .monitor)) ⌝ }
     {
         let before = self.subjects;
         let held = self.handles;
@@ -43,8 +41,7 @@ impl Monitor {
 
     // Call 8: a pipe falls to s's level if that is lower; a file keeps its own, and each subject that has it mapped reads it.
     pub(crate) fn write(mut self, s: u32, p: u32) -> Reply
-        requires { ⌜ Wf (view self) ⌝ }
-        ensures { λ r. ⌜ Acts self (access writing s p) (told (r .answer)) (r .monitor) ⌝ }
+        ensures { λ r. ⌜ (Firm self → Acts self (access writing s p) (told (r .answer)) (r .monitor)) ⌝ }
     {
         let before = self.subjects;
         let held = self.handles;
@@ -74,8 +71,7 @@ impl Monitor {
     // Call 10: file o is run; s falls to o's level if lower; its marked handles and its mappings are closed, and pipes end with their last
     // handles.
     pub(crate) fn exec(mut self, s: u32, o: u32) -> Reply
-        requires { ⌜ Wf (view self) ⌝ }
-        ensures { λ r. ⌜ Acts self (exec s o) (told (r .answer)) (r .monitor) ⌝ }
+        ensures { λ r. ⌜ (Firm self → Acts self (exec s o) (told (r .answer)) (r .monitor)) ⌝ }
     {
         let subjects = self.subjects;
         let objects = self.objects;
@@ -109,8 +105,7 @@ impl Monitor {
 
     // Call 14: a mapping, which is tested as an open for reading is, and a read: s falls to o's level if lower.
     pub(crate) fn map(mut self, s: u32, o: u32, p: u32) -> Reply
-        requires { ⌜ Wf (view self) ⌝ }
-        ensures { λ r. ⌜ Acts self (maps s o p) (told (r .answer)) (r .monitor) ⌝ }
+        ensures { λ r. ⌜ (Firm self → Acts self (maps s o p) (told (r .answer)) (r .monitor)) ⌝ }
     {
         let subjects = self.subjects;
         let objects = self.objects;
@@ -124,12 +119,14 @@ impl Monitor {
         }
         let opened = looks::joining(READS, o);
         let next = looks::with_handle(held, s, p, opened);
-        let needs = flows::figures(objects, next);
-        let short = flows::is_short(subjects, objects, needs);
-        let late = refusals::last(short, false, false);
+        let had = self.needs;
+        let sure = self.sure == SURE;
+        let w = kept::opened(sure, had, subjects, objects, next, s, opened);
+        let late = refusals::last(w.short, false, false);
         if late != 0 {
             return self.refuse(late);
         }
+        let needs = w.needs;
         let put = looks::fallen(x, y.level);
         let after = looks::with_subject(subjects, s, put);
         let mapping = looks::joining(MAPS, o);

@@ -16,8 +16,8 @@ use Rattle.gatekeeper.specs.declared.Monitor.{Monitor}
 use Rattle.tally.specs.declared.Tally.{Tally}
 use Rattle.answers.specs.Telling.{letter-of}
 use Rattle.tables.specs.Needs.{figure-of}
-use Rattle.gatekeeper.specs.View.{view, Right}
-use Rattle.tally.specs.Counting.{counts-of}
+use Rattle.gatekeeper.specs.View.{view, Honest, Right}
+use Rattle.tally.specs.Counting.{counts-of, Tallies}
 use Rattle.host.specs.State.{state-bytes, Sized, monitor-of, tally-of, Stands, state-view, Stored}
 use Rattle.host.specs.Numbers.{answer-number, answer-in, call-number}
 use Rattle.host.specs.Demand3.{Called}
@@ -32,26 +32,33 @@ r-refused (refused k) h = (k, refl)
 pub record Made (s : List ℕ) (c : Call) (m : Monitor) (y : Tally) (a : Answer) (n : Monitor) (z : Tally) : Type 0 where
   pub from-monitor : m ≡ monitor-of s
   pub from-tally : y ≡ tally-of s
-  pub meets : Meets view Right m c a n
-  pub counts : counts-of z ≡ tallied (clean (view m)) c (counts-of y)
+  pub meets : Meets view Honest Right m c a n
+  pub counts : Tallies m y c a z
 
 pub made : (s : List ℕ) {c : Call} {m : Monitor} {y : Tally} {a : Answer} {n : Monitor} {z : Tally} → m ≡ monitor-of s → y ≡ tally-of s
-    → Meets view Right m c a n → counts-of z ≡ tallied (clean (view m)) c (counts-of y) → Made s c m y a n z
+    → Meets view Honest Right m c a n → Tallies m y c a z → Made s c m y a n z
 made s em ey p q = record { from-monitor = em; from-tally = ey; meets = p; counts = q }
 
 module _ {s : List ℕ} {c : Call} {m : Monitor} {y : Tally} {a : Answer} {n : Monitor} {z : Tally} (p : Made s c m y a n z) where
   abbrev t : Tables
   t = clean (state-view s)
 
+  -- what is loaded says nothing of itself
+  honest : Honest (monitor-of s)
+  honest e = absurd (let z : _≡_ {A = ℕ} 0 1 = e in omega arith)
+
+  honest-here : Honest m
+  honest-here = subst Honest (sym (p .from-monitor)) honest
+
   answered : a ≡ answer t c
-  answered = p .meets .answered ∙ ap (λ (x : Monitor). answer (clean (view x)) c) (p .from-monitor)
+  answered = p .meets .answered honest-here ∙ ap (λ (x : Monitor). answer (clean (view x)) c) (p .from-monitor)
 
   call-answered : (n : ℕ) → Sized s → n ≡ answer-number a → n ≡ call-number s c
   unfolding call-number
   call-answered n h e = rw (eq-eqb (length s) state-bytes h) (e ∙ ap answer-number answered)
 
-  meets-here : Meets view Right (monitor-of s) c a n
-  meets-here = subst (λ (x : Monitor). Meets view Right x c a n) (p .from-monitor) (p .meets)
+  meets-here : Meets view Honest Right (monitor-of s) c a n
+  meets-here = subst (λ (x : Monitor). Meets view Honest Right x c a n) (p .from-monitor) (p .meets)
 
   -- a refused call leaves every byte
   call-refused : Sized s → letter-of a ≡ 82 → Stored s c s
@@ -61,7 +68,7 @@ module _ {s : List ℕ} {c : Call} {m : Monitor} {y : Tally} {a : Answer} {n : M
       let q : refusal t c ≡ some k = answered-refused t c k .0 (sym answered ∙ r) in
       record {
         size = size;
-        meets = record { answered = refl; unchanged = λ j w. refl; moved = λ w. absurd (Option·none-ne-some k (sym w ∙ q)); kept = λ r. r };
+        meets = record { unchanged = λ j w. refl; answered = λ u. refl; moved = λ u w. absurd (Option·none-ne-some k (sym w ∙ q)); stays = λ u. u; kept = λ u r. r };
         counts = rw (q, tallied);
         exact = λ w. absurd (Option·none-ne-some k (sym w ∙ q));
       }
@@ -71,13 +78,14 @@ module _ {s : List ℕ} {c : Call} {m : Monitor} {y : Tally} {a : Answer} {n : M
   call-moved h k = record {
     size = k .size;
     meets = record {
-      answered = refl;
-      unchanged = λ j w. absurd (h (ap letter-of (answered ∙ answered-refused t c j .1 w)));
-      moved = λ w. k .tables ∙ meets-here .moved w;
-      kept = λ r. subst₂ (λ (u : Tables) (ns : List ℕ). Ready (clean u) (figure-of ns)) (sym (k .tables)) (sym (k .needs)) (meets-here .kept r);
+      unchanged = λ j w. absurd (h (ap letter-of (answered ∙ w)));
+      answered = λ u. refl;
+      moved = λ u w. k .tables ∙ meets-here .moved honest w;
+      stays = λ u. u;
+      kept = λ u r. subst₂ (λ (u : Tables) (ns : List ℕ). Ready (clean u) (figure-of ns)) (sym (k .tables)) (sym (k .needs)) (meets-here .kept honest r);
     };
     counts = ap counts-of (k .tally)
-        ∙ p .counts
+        ∙ p .counts .counts honest-here
         ∙ ap₂ (λ (x : Monitor) (v : Tally). tallied (clean (view x)) c (counts-of v)) (p .from-monitor) (p .from-tally);
     exact = λ w. k .again;
   }

@@ -242,7 +242,7 @@ module _ (s s′ : List ℕ) (h : Sized s) (h′ : Sized s′) (e : take needs-a
   same-freeze = sym (getD-take needs-at s′ freeze-at 0 (omega arith)) ∙ ap (λ (t : List ℕ). getD t freeze-at 0) e ∙ getD-take needs-at s freeze-at 0 (omega arith)
 
   same-view : state-view s′ ≡ state-view s
-  same-view = λ i. view (record { subjects = same-subjects i; objects = same-objects i; handles = same-handles i; freeze = same-freeze i; needs = needs-of s })
+  same-view = λ i. view (record { subjects = same-subjects i; objects = same-objects i; handles = same-handles i; freeze = same-freeze i; needs = needs-of s; sure = 0 })
 
   same-tally : tally-of s′ ≡ tally-of s
   unfolding made-of gone-of
@@ -290,6 +290,6 @@ put-right s s′ m n h q r l e = subst (Put-right s) (sym e) (record {
     tables-same : state-view t ≡ state-view s
     tables-same = same-view s t h (kept-size s (n .needs) h l) front
 
-    same : _≡_ {A = Monitor} (record { subjects = m .subjects; objects = m .objects; handles = m .handles; freeze = m .freeze; needs = n .needs })
-        (record { subjects = subjects-of s; objects = objects-of s; handles = handles-of s; freeze = freeze-of s; needs = n .needs })
-    same = ap (λ (x : Monitor). record { subjects = x .subjects; objects = x .objects; handles = x .handles; freeze = x .freeze; needs = n .needs }) q
+    same : _≡_ {A = Monitor} (record { subjects = m .subjects; objects = m .objects; handles = m .handles; freeze = m .freeze; needs = n .needs; sure = m .sure })
+        (record { subjects = subjects-of s; objects = objects-of s; handles = handles-of s; freeze = freeze-of s; needs = n .needs; sure = 0 })
+    same = ap (λ (x : Monitor). record { subjects = x .subjects; objects = x .objects; handles = x .handles; freeze = x .freeze; needs = n .needs; sure = x .sure }) q

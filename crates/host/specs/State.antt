@@ -160,7 +160,7 @@ needs-of s = records need-of need-width (subjects + objects) (drop needs-at s)
 
 -- RULES H5, H9, H16
 abbrev pub monitor-of : List ℕ → Monitor
-monitor-of s = record { subjects = subjects-of s; objects = objects-of s; handles = handles-of s; freeze = freeze-of s; needs = needs-of s }
+monitor-of s = record { subjects = subjects-of s; objects = objects-of s; handles = handles-of s; freeze = freeze-of s; needs = needs-of s; sure = 0 }
 
 abbrev pub tally-of : List ℕ → Tally
 tally-of s = record { made = made-of s; gone = gone-of s }
@@ -201,6 +201,10 @@ state-view s = view (monitor-of s)
 abbrev pub state-right : List ℕ → Type 0
 state-right s = Right (monitor-of s)
 
+-- RULES F19: bytes say nothing of themselves, so that all of them are honest: a call on them works out what it goes by
+abbrev pub state-honest : List ℕ → Type 0
+state-honest s = Unit {0}
+
 -- as what it is stored: the freeze says that there is none, and all else is 0
 unfoldable pub blank-bytes : List ℕ
 blank-bytes = replicate freeze-at 0 ++ (no-freeze ∷ replicate (subjects + objects) 0)
@@ -217,7 +221,7 @@ pub record Blank (s : List ℕ) : Type 0 where
 -- Which level and kept need stand beside a number that is not in use, and which object and mark beside an empty place, is the free part of `Promise`.
 pub record Stored (s : List ℕ) (c : Call) (s′ : List ℕ) : Type 0 where
   pub size : Sized s′
-  pub meets : Meets state-view state-right s c (answer (clean (state-view s)) c) s′
+  pub meets : Meets state-view state-honest state-right s c (answer (clean (state-view s)) c) s′
   pub counts : counts-of (tally-of s′) ≡ tallied (clean (state-view s)) c (counts-of (tally-of s))
   pub exact : refusal (clean (state-view s)) c ≡ none → s′ ≡ bytes-of (monitor-of s′) (tally-of s′)
 

@@ -1,7 +1,8 @@
 // The gatekeeper for a host in C or Rust (RULES S1, H4 to H15): the tables, the calls, the journal reader and writer. Each
 // function below "exported" has its plain name in the archive; a slice crosses as a pointer and a length, and an answer as a number
 // (specs/Numbers.antt). The monitor with its tally crosses as lent bytes, laid out as in specs/State.antt. Every byte string of that length is a
-// monitor, so that a host can hand in nothing wrong but the length, and then nothing is touched.
+// monitor, so that a host can hand in nothing wrong but the length, and then nothing is touched. As a struct that
+// is lent it crosses in `lent`.
 ghost use mathlib.Core.Path.{_≡_};
 ghost use mathlib.Core.Option.{Option·getD};
 ghost use mathlib.Core.List.{_∷_, []};
@@ -37,6 +38,7 @@ use tables::Subject;
 use tables::THINGS;
 use tally::Tally;
 
+mod lent;
 mod seen;
 
 // Where the parts of a state stand: the subjects at 0, two bytes each; the objects likewise; the handles, three bytes each; the two counts, eight bytes each; the freeze,
@@ -59,7 +61,7 @@ const NEEDS_AT: usize = FREEZE_AT + 1;
 const STATE_BYTES: usize = NEEDS_AT + THINGS;
 
 // The version, its three parts in one number (specs/Numbers.antt).
-const VERSION: u32 = 65536 * 4 + 256 * 0 + 0;
+const VERSION: u32 = 65536 * 4 + 256 * 1 + 0;
 
 // The answer to a call on bytes of another length, which is no answer of a call.
 const UNSIZED: u32 = 0;
@@ -203,6 +205,7 @@ fn load_monitor(state: &[u8]) -> Monitor
         handles: handles,
         freeze: freeze,
         needs: needs,
+        sure: 0,
     }
 }
 

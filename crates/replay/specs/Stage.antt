@@ -30,7 +30,7 @@ use Rattle.text.specs.Parts.{Over}
 use Rattle.text.specs.Parts.Laws.{untouched, put-over, over-count, over-put, rest-length, put-after, none-after}
 use Rattle.replay.specs.Replay.{records, records-of, calls-of, last-line, largest-journal, reply, Begun, reply-room}
 use Rattle.replay.specs.Replay.Laws.{records-more, records-end, records-stop, Plain, body-plain, eleven-plain, left, left-more, kept-more, ends-more}
-use Rattle.replay.specs.One.{One}
+use Rattle.replay.specs.One.{Turned}
 
 -- the whole text, of a journal that is not too long
 abbrev pub whole : List ℕ → List ℕ
@@ -87,7 +87,7 @@ room-left first done out e used most v short h answer =
 
 module _ (j first out : List ℕ) (p used : ℕ) where
   module _ (m n : Monitor) (y z : Tally) (s : Said) (l : List Said) (code : ℕ) (a : Answer) (plain : Plain s)
-      (o : One m y s code a n z) (g : Stage j first out (view m) y p used (s ∷ l)) where
+      (o : Turned m y s code a n z) (g : Stage j first out (view m) y p used (s ∷ l)) where
     abbrev e : List ℕ
     e = line p code (letter-of a) (value-of a)
 
@@ -168,7 +168,7 @@ module _ (j first out : List ℕ) (at p used : ℕ) (m : Monitor) (y : Tally) (g
         go zero q = absurd (omega (arith, g .enough, entry-next j at start len next e))
         go (suc n) q = (n, (omega (arith, g .enough, entry-next j at start len next e)), subst (λ (x : List Said). Stage j first out (view m) y p used x) (ap (λ (i : ℕ). records i j at) q ∙ records-more n j at start len next e) (g .stage))
 
-    module _ (n : Monitor) (z : Tally) (code : ℕ) (a : Answer) (o : One m y s code a n z)
+    module _ (n : Monitor) (z : Tally) (code : ℕ) (a : Answer) (o : Turned m y s code a n z)
         (thin : length (line p code (letter-of a) (value-of a)) ≤ longest-line) where
       pub record-turn : (ys : List ℕ) (k : ℕ) → some k ≡ fitted (line p code (letter-of a) (value-of a)) (take (length out - used) (drop used out))
           → ys ≡ put (line p code (letter-of a) (value-of a)) (take (length out - used) (drop used out))

@@ -9,7 +9,7 @@ ghost use Rattle.number.specs.Put.{put, fitted};
 ghost use Rattle.number.specs.Answers.{writing};
 ghost use Rattle.journal.specs.Journal.{body-in};
 ghost use Rattle.answers.specs.Telling.{told};
-ghost use Rattle.gatekeeper.specs.View.{view, Right};
+ghost use Rattle.gatekeeper.specs.View.{view, Honest, Right};
 ghost use Rattle.tally.specs.Counting.{counts-of};
 ghost use Rattle.replay.specs.One.{One};
 ghost use Rattle.replay.specs.Replay.{reply, largest-journal, Begun};
@@ -43,7 +43,7 @@ pub struct Replied {
 
 // Makes the call that a record's body stands for. A body that stands for none is refused and changes nothing.
 pub fn one(m: Monitor, tally: Tally, body: &[u8]) -> Replied
-    ensures { λ r. ⌜ One m (counts-of tally) (body-in (now (body .entry))) (r .code) (told (r .answer)) (r .monitor) (counts-of (r .tally)) ⌝ }
+    ensures { λ r. ⌜ One m tally (body-in (now (body .entry))) (r .code) (told (r .answer)) (r .monitor) (r .tally) ⌝ }
 {
     match journal::read_body(body) {
         Body::Whole(call) => {
@@ -100,6 +100,7 @@ fn records(journal: &[u8], out: &mut [u8]) -> Ran
     ensures text { λ r. ⌜ Ends (whole (now (journal .entry))) (now (out .entry)) (now (out .exit)) (writing (r .written)) ⌝ }
     ensures end { λ r. ⌜ ((k : ℕ) → writing (r .written) ≡ some k → Ended (now (journal .entry)) (view (r .monitor)) (counts-of (r .tally))) ⌝ }
     ensures right { λ r. ⌜ Right (r .monitor) ⌝ }
+    ensures honest { λ r. ⌜ Honest (r .monitor) ⌝ }
 {
     let mut m = Monitor::empty();
     let mut tally = Tally { made: 0, gone: 0 };
@@ -193,6 +194,7 @@ pub fn run(journal: &[u8], out: &mut [u8]) -> Ran
     ensures room { λ _. do ⌜ ((← ⟦REPLY_ROOM⟧ .entry) ≤ length (now (out .entry)) → length (reply (now (journal .entry))) ≤ length (now (out .entry))) ⌝ }
     ensures end { λ r. ⌜ ((k : ℕ) → writing (r .written) ≡ some k → Ended (now (journal .entry)) (view (r .monitor)) (counts-of (r .tally))) ⌝ }
     ensures right { λ r. ⌜ Right (r .monitor) ⌝ }
+    ensures honest { λ r. ⌜ Honest (r .monitor) ⌝ }
 {
     if LARGEST_JOURNAL < journal.len() {
         let written = too_long(out);

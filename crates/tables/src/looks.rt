@@ -4,7 +4,7 @@ ghost use mathlib.Core.Bool.{_&&_, _||_};
 ghost use Prim.Native.Nat.{_+_, _*_, _%_};
 ghost use lib.ListN.{getD, set};
 ghost use Rattle.tables.specs.Records.{reads-by, no-subject, no-object, no-handle};
-ghost use Rattle.tables.specs.Working.{subject-at, object-at, handle-at, joining, fallen-by, sunken-by};
+ghost use Rattle.tables.specs.Working.{subject-at, object-at, handle-at, joining, fallen-by, sunken-by, writes-by};
 use crate::EMPTY;
 use crate::FILE;
 use crate::FREE;
@@ -163,6 +163,17 @@ pub fn is_reading(way: u8) -> bool
         return true;
     }
     way == MAPS
+}
+
+// A handle of this way writes; an empty place has none.
+pub fn is_writing(way: u8) -> bool
+    ensures { λ r. ⌜ r ≡ writes-by way ⌝ }
+{
+    if way == EMPTY {
+        return false;
+    }
+    let reads = is_reading(way);
+    !reads
 }
 
 // A live subject that takes in something of this level: it falls to it if that is lower.

@@ -11,7 +11,7 @@ ghost use Rattle.model.specs.Invariant.{Wf};
 ghost use Rattle.model.specs.Calls.{Call, admit, register, create, make-pipe, opens, access, fork, exec, close, exit, retire, maps, mark, freeze, connect, thawed, broken};
 ghost use Rattle.tables.specs.Records.{subject-entry, object-entry, held};
 ghost use Rattle.tables.specs.Refusing.{found, Refuses, Late, Refused, direction};
-ghost use Rattle.tables.specs.Working.{used-subject, used-object, used-place, writes-by};
+ghost use Rattle.tables.specs.Working.{used-subject, used-object, used-place};
 use crate::EMPTY;
 use crate::FILE;
 use crate::FREE;
@@ -101,17 +101,6 @@ fn ends_used(p: u32, q: u32, h: Handle, k: Handle) -> bool
     let at_p = place_used(p, h);
     let at_q = place_used(q, k);
     looks::either(at_p, at_q)
-}
-
-// RULES R8: a handle of this way writes; an empty place has none.
-fn is_writing(way: u8) -> bool
-    ensures { λ r. ⌜ r ≡ writes-by way ⌝ }
-{
-    if way == EMPTY {
-        return false;
-    }
-    let reads = looks::is_reading(way);
-    !reads
 }
 
 // Call 1; x stands at s.
@@ -223,7 +212,7 @@ pub fn of_read(x: Subject, h: Handle) -> u8
 {
     let absent = x.live == 0;
     let empty = h.way == EMPTY;
-    let turned = is_writing(h.way);
+    let turned = looks::is_writing(h.way);
     first(absent, false, false, false, false, false, empty, turned)
 }
 

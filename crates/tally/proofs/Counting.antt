@@ -12,7 +12,7 @@ use lib.ListN.{length, length-append}
 use lib.Dec.{T, eqb, ltb→lt}
 use Rattle.model.specs.Lists.{each}
 use Rattle.model.specs.Flow.{subject}
-use Rattle.model.specs.Tables.{Tables, one, clean}
+use Rattle.model.specs.Tables.{Tables, empty, with-hand, one, clean}
 use Rattle.model.specs.Tables.Laws.{live-of}
 use Rattle.model.specs.Invariant.{Wf}
 use Rattle.model.specs.Calls.{Call, lasting, decode, refusal, Answer, allowed, lowered, refused, answer}
@@ -85,6 +85,9 @@ module _ (t : Tables) (s : ℕ) (row : List Handle) (e : (p : ℕ) → along row
 false-true : false ≡ true → ⊥
 false-true e = subst T (sym e) tt
 
+pub not-refused : (x : Answer) (n : ℕ) → x ≡ refused n → refuses x ≡ false → ⊥
+not-refused x n e q = false-true (sym q ∙ ap refuses e)
+
 pub tally-same : (x : Answer) (t : Tables) (c : Call) (y : Counts) → x ≡ answer t c → refuses x ≡ true → y ≡ tallied t c y
 unfolding tallied
 tally-same (allowed l) t c y e q = absurd (false-true q)
@@ -109,3 +112,13 @@ pub row-is : (rest : Tables) (ss : List Subject) (os : List Object) (hs kept pla
     → (p : ℕ) → along places p ≡ clean (tables-of rest ss os hs) .hand s p
 unfolding tables-of
 row-is rest ss os hs kept places s e f p = f p ∙ ap (λ (u : Tables). u .hand s p) e
+
+-- and in tables in which nothing dangles
+pub row-as-is : (rest : Tables) (ss : List Subject) (os : List Object) (hs places : List Handle) (s : ℕ)
+    → clean (tables-of rest ss os hs) ≡ tables-of rest ss os hs → ((p : ℕ) → along places p ≡ hands hs s p)
+    → (p : ℕ) → along places p ≡ clean (tables-of rest ss os hs) .hand s p
+row-as-is rest ss os hs places s e f = row-is rest ss os hs hs places s (sym e) f
+
+-- the places of a row by themselves, as those of subject 0
+abbrev pub lone : List Handle → Tables
+lone row = with-hand empty (λ s p. along row p)

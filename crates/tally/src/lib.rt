@@ -7,16 +7,18 @@ ghost use Rattle.model.specs.Tables.{one, clean};
 ghost use Rattle.model.specs.Tally.{held as held-count};
 ghost use Rattle.model.specs.Tally.{drops};
 ghost use Rattle.tables.specs.Records.{held, along};
-ghost use Rattle.gatekeeper.specs.View.{view};
+ghost use Rattle.gatekeeper.specs.View.{view, Honest};
 ghost use Rattle.tally.specs.Counting.{Counting, made-by, gone-by};
 use gatekeeper::Monitor;
 use gatekeeper::Reply;
+use gatekeeper::SURE;
 use tables::EMPTY;
 use tables::Handle;
 use tables::PLACES;
 use tables::SUBJECTS;
 
 // Handles made and handles gone, over the history of calls.
+#[repr(C)]
 pub struct Tally {
     pub made: u64,
     pub gone: u64,
@@ -55,7 +57,7 @@ fn count(row: [Handle; PLACES]) -> u64
 
 // The places of subject s, in the tables as they are read.
 fn row_by(monitor: Monitor, s: u32) -> [Handle; PLACES]
-    ensures { λ r. ⌜ ((p : ℕ) → along r p ≡ clean (view monitor) .hand s p) ⌝ }
+    ensures { λ r. ⌜ (Honest monitor → (p : ℕ) → along r p ≡ clean (view monitor) .hand s p) ⌝ }
 {
     if SUBJECTS as u32 <= s {
         return [Handle {
@@ -64,24 +66,27 @@ fn row_by(monitor: Monitor, s: u32) -> [Handle; PLACES]
             mark: 0,
         }; PLACES];
     }
+    let handles = monitor.handles;
+    let i = s as usize;
+    if monitor.sure == SURE {
+        return handles::row_of(handles, i);
+    }
     let subjects = monitor.subjects;
     let objects = monitor.objects;
-    let handles = monitor.handles;
     let kept = handles::cleaned(subjects, objects, handles);
-    let i = s as usize;
     handles::row_of(kept, i)
 }
 
 // How many handles subject s holds, and how many of them an exec drops.
 fn held_by(monitor: Monitor, s: u32) -> u64
-    ensures { λ r. ⌜ r ≡ held-count (clean (view monitor)) s ⌝ }
+    ensures { λ r. ⌜ (Honest monitor → r ≡ held-count (clean (view monitor)) s) ⌝ }
 {
     let row = row_by(monitor, s);
     count(row)
 }
 
 fn dropped_by(monitor: Monitor, s: u32) -> u64
-    ensures { λ r. ⌜ r ≡ drops (clean (view monitor)) s ⌝ }
+    ensures { λ r. ⌜ (Honest monitor → r ≡ drops (clean (view monitor)) s) ⌝ }
 {
     let row = row_by(monitor, s);
     let left = handles::lasting(row);
@@ -92,7 +97,7 @@ fn dropped_by(monitor: Monitor, s: u32) -> u64
 
 // How many handles an allowed call of this code by subject s makes, and removes.
 fn made_by(monitor: Monitor, code: u32, s: u32) -> u64
-    ensures { λ r. ⌜ r ≡ made-by code (held-count (clean (view monitor)) s) ⌝ }
+    ensures { λ r. ⌜ (Honest monitor → r ≡ made-by code (held-count (clean (view monitor)) s)) ⌝ }
 {
     if code == 4 {
         return 2;
@@ -116,7 +121,7 @@ fn made_by(monitor: Monitor, code: u32, s: u32) -> u64
 }
 
 fn gone_by(monitor: Monitor, code: u32, s: u32) -> u64
-    ensures { λ r. ⌜ r ≡ gone-by code (held-count (clean (view monitor)) s) (drops (clean (view monitor)) s) ⌝ }
+    ensures { λ r. ⌜ (Honest monitor → r ≡ gone-by code (held-count (clean (view monitor)) s) (drops (clean (view monitor)) s)) ⌝ }
 {
     if code == 10 {
         return dropped_by(monitor, s);

@@ -1,10 +1,18 @@
-//! The functions of `libhost.a`, as `host/gatekeeper.h` declares them, over slices. All that is unsafe is here.
+//! The functions of `libhost.a`, as `host/gatekeeper.h` declares them, over slices and the struct. All that is unsafe is
+//! here.
 //!
-//! Why it is sound: each function takes any bytes and any numbers, reads and writes only the buffers that it is
-//! lent, and keeps none of them. A slice has its length behind its pointer, and a `&mut` slice is lent to
-//! nobody else.
+//! Why it is sound: each function takes any bytes and any numbers, reads and writes only what it is lent, and keeps none
+//! of it. A slice has its length behind its pointer, a [`State`] is laid out as the header's struct, with every value of
+//! a field being one, and what is behind a `&mut` is lent to nobody else. The parts of a state are bytes without padding
+//! between them, and two numbers, and lie apart from each other.
+
+use std::mem::size_of_val;
+
+use crate::lent::State;
 
 mod c {
+    use super::State;
+
     extern "C" {
         #[cfg(test)]
         pub fn gatekeeper_state_bytes() -> usize;
@@ -30,6 +38,51 @@ mod c {
         pub fn gatekeeper_object_need(state: *const u8, len: usize, o: u32) -> u32;
         pub fn gatekeeper_put_right(state: *mut u8, len: usize) -> bool;
         pub fn gatekeeper_frozen_from(state: *const u8, len: usize) -> u32;
+        pub fn gatekeeper_monitor_empty(monitor: *mut State);
+        pub fn gatekeeper_monitor_call(
+            monitor: *mut State,
+            code: u32,
+            a: u32,
+            b: u32,
+            c: u32,
+            d: u32,
+            e: u32,
+            f: u32,
+        ) -> u32;
+        pub fn gatekeeper_quick_open(
+            subjects: *const u8,
+            subjects_len: usize,
+            objects: *const u8,
+            objects_len: usize,
+            handles: *mut u8,
+            handles_len: usize,
+            needs: *const u8,
+            needs_len: usize,
+            counts: *mut u64,
+            counts_len: usize,
+            freeze: u8,
+            sure: u8,
+            code: u32,
+            s: u32,
+            o: u32,
+            p: u32,
+        ) -> u32;
+        pub fn gatekeeper_quick_close(
+            subjects: *const u8,
+            subjects_len: usize,
+            objects: *const u8,
+            objects_len: usize,
+            handles: *mut u8,
+            handles_len: usize,
+            needs: *const u8,
+            needs_len: usize,
+            counts: *mut u64,
+            counts_len: usize,
+            freeze: u8,
+            sure: u8,
+            s: u32,
+            p: u32,
+        ) -> u32;
         pub fn gatekeeper_replay(journal: *const u8, len: usize, out: *mut u8, room: usize) -> usize;
         pub fn gatekeeper_record(
             out: *mut u8,
@@ -105,6 +158,96 @@ pub fn frozen_from(state: &[u8]) -> u32 {
     unsafe { c::gatekeeper_frozen_from(state.as_ptr(), state.len()) }
 }
 
+pub fn monitor_empty(monitor: &mut State) {
+    unsafe { c::gatekeeper_monitor_empty(monitor) }
+}
+
+#[inline]
+pub fn monitor_call(monitor: &mut State, code: u32, numbers: [u32; 6]) -> u32 {
+    let [a, b, c, d, e, f] = numbers;
+    unsafe { c::gatekeeper_monitor_call(monitor, code, a, b, c, d, e, f) }
+}
+
+/// How long the parts of a state are: subjects, objects, handles and kept needs in bytes, and how many counts.
+type Lengths = [usize; 5];
+
+#[inline]
+fn lengths(monitor: &State) -> Lengths {
+    let State { subjects, objects, handles, needs, counts, .. } = monitor;
+    [size_of_val(subjects), size_of_val(objects), size_of_val(handles), needs.len(), counts.len()]
+}
+
+/// An open for reading (code 5) or writing (code 6) of object `o` at place `p` of subject `s` that changes no need; 0, and
+/// nothing is touched, where it is not that simple.
+#[inline]
+pub fn quick_open(monitor: &mut State, code: u32, s: u32, o: u32, p: u32) -> u32 {
+    let lengths = lengths(monitor);
+    // The lengths are those of the parts.
+    unsafe { quick_open_of(monitor, lengths, code, s, o, p) }
+}
+
+/// A close at place `p` of subject `s` that changes no need; 0, and nothing is touched, where it is not that simple.
+#[inline]
+pub fn quick_close(monitor: &mut State, s: u32, p: u32) -> u32 {
+    let lengths = lengths(monitor);
+    // The lengths are those of the parts.
+    unsafe { quick_close_of(monitor, lengths, s, p) }
+}
+
+/// # Safety
+/// No part is shorter than its length.
+#[inline]
+unsafe fn quick_open_of(monitor: &mut State, lengths: Lengths, code: u32, s: u32, o: u32, p: u32) -> u32 {
+    let State { subjects, objects, handles, freeze, needs, sure, counts } = monitor;
+    let [subjects_len, objects_len, handles_len, needs_len, counts_len] = lengths;
+    unsafe {
+        c::gatekeeper_quick_open(
+            subjects.as_ptr().cast(),
+            subjects_len,
+            objects.as_ptr().cast(),
+            objects_len,
+            handles.as_mut_ptr().cast(),
+            handles_len,
+            needs.as_ptr(),
+            needs_len,
+            counts.as_mut_ptr(),
+            counts_len,
+            *freeze,
+            *sure,
+            code,
+            s,
+            o,
+            p,
+        )
+    }
+}
+
+/// # Safety
+/// No part is shorter than its length.
+#[inline]
+unsafe fn quick_close_of(monitor: &mut State, lengths: Lengths, s: u32, p: u32) -> u32 {
+    let State { subjects, objects, handles, freeze, needs, sure, counts } = monitor;
+    let [subjects_len, objects_len, handles_len, needs_len, counts_len] = lengths;
+    unsafe {
+        c::gatekeeper_quick_close(
+            subjects.as_ptr().cast(),
+            subjects_len,
+            objects.as_ptr().cast(),
+            objects_len,
+            handles.as_mut_ptr().cast(),
+            handles_len,
+            needs.as_ptr(),
+            needs_len,
+            counts.as_mut_ptr(),
+            counts_len,
+            *freeze,
+            *sure,
+            s,
+            p,
+        )
+    }
+}
+
 pub fn replay(journal: &[u8], out: &mut [u8]) -> usize {
     unsafe { c::gatekeeper_replay(journal.as_ptr(), journal.len(), out.as_mut_ptr(), out.len()) }
 }
@@ -122,7 +265,7 @@ pub fn number(bytes: &[u8]) -> u64 {
 #[cfg(test)]
 mod tests {
     use super::*;
-    use crate::STATE_BYTES;
+    use crate::{Call, STATE_BYTES};
 
     /// What a handle's number has more where it is marked.
     const MARKED: u32 = 256 * 256;
@@ -143,6 +286,59 @@ mod tests {
                 assert_eq!(state, vec![byte; len]);
             }
         }
+    }
+
+    #[test]
+    fn parts_of_another_length_are_not_touched() {
+        let mut state = State::new();
+        for call in [
+            Call::Register { object: 0, level: 7 },
+            Call::Admit { subject: 0, level: 9 },
+            Call::OpenRead { subject: 0, object: 0, place: 0 },
+        ] {
+            assert!(state.call(call).granted().is_ok(), "{call:?}");
+        }
+        let whole = lengths(&state);
+        assert_eq!(whole, [64, 128, 1536, 96, 2]);
+
+        // An open and a close are quick with these lengths, and so are two that are refused.
+        type Tried = fn(&mut State, Lengths) -> u32;
+        let calls: [(Tried, u32); 4] = [
+            (|state, lengths| unsafe { quick_open_of(state, lengths, 5, 0, 0, 1) }, 256 * 65 + 7),
+            (|state, lengths| unsafe { quick_close_of(state, lengths, 0, 0) }, 256 * 65 + 9),
+            (|state, lengths| unsafe { quick_open_of(state, lengths, 6, 1, 0, 1) }, 256 * 82 + 2),
+            (|state, lengths| unsafe { quick_close_of(state, lengths, 0, 1) }, 256 * 82 + 7),
+        ];
+        for (call, answer) in calls {
+            assert_eq!(call(&mut state.clone(), whole), answer);
+        }
+
+        // Each part shorter, by itself and with all the others.
+        for part in 0..whole.len() {
+            for shorter in 0..whole[part] {
+                let mut one = whole;
+                one[part] = shorter;
+                let all = whole.map(|length| length.min(shorter));
+                for (lengths, (call, _)) in [one, all].into_iter().flat_map(|l| calls.map(|c| (l, c))) {
+                    let mut touched = state.clone();
+                    assert_eq!(call(&mut touched, lengths), 0, "{lengths:?}");
+                    assert!(touched == state, "{lengths:?}");
+                }
+            }
+        }
+    }
+
+    #[test]
+    fn quick_opens_have_two_codes() {
+        let mut state = State::new();
+        assert_eq!(quick_open(&mut state, 5, 0, 0, 0), 256 * 82 + 2);
+        assert_eq!(quick_open(&mut state, 6, 0, 0, 0), 256 * 82 + 2);
+        for code in (0..300).chain([1 << 8 | 5, 1 << 16 | 6, 1 << 31 | 5, u32::MAX]) {
+            if code != 5 && code != 6 {
+                assert_eq!(quick_open(&mut state, code, 0, 0, 0), 0, "{code}");
+            }
+        }
+        assert!(state == State::new());
     }
 
     #[test]

@@ -24,12 +24,15 @@
 //! [`Monitor::subject`], [`Monitor::object`] and [`Monitor::handle`] show what the tables hold, and
 //! [`Monitor::need_of_subject`] how far a step may fall.
 //!
+//! [`State`] is a monitor that is kept as a struct in place of bytes, and answers the same, faster.
+//!
 //! [`replay`] answers a whole journal, [`Call::write_record`] writes one, [`read_number`] reads its numbers.
 
 mod answer;
 mod archive;
 mod call;
 mod journal;
+mod lent;
 mod look;
 mod monitor;
 
@@ -37,6 +40,7 @@ pub use answer::{Answer, Refusal};
 pub use call::{Call, NO_FREEZE};
 pub use journal::{read_number, replay, replay_into, write_record};
 pub use journal::{JOURNAL_BYTES, RECORD_ROOM, REPLY_ROOM};
+pub use lent::State;
 pub use look::{Handle, Kind, Object, Way, OBJECTS, PLACES, SUBJECTS};
 pub use monitor::{Monitor, STATE_BYTES};
 

@@ -1,27 +1,29 @@
 -- `flows::figures` meets its contract. Assumes nothing.
+use native.Mathlib.Omega.{arith}
 use borrow.Author.Needs.{needs}
 use Rattle.tables.proofs.Maps.{unmapped}
-use Rattle.flows.proofs.Nodes.{ends-low, needed}
+use Rattle.flows.specs.Least.{figure}
+use Rattle.flows.proofs.Raising.{never-stopped}
+use Rattle.flows.proofs.Nodes.{needed}
+use Rattle.flows.proofs.Listing.{bounded, between-handles, all-handles}
 use Rattle.flows.proofs.figures.Statement.{statement}
 use Rattle.flows.proofs.figures.Tie as tie
-
-ends-requires : tie.Need-ends-requires
-ends-requires c κs = search needs
-
-ends-requires-2 : tie.Need-ends-requires-2
-ends-requires-2 c κs = search needs
 
 marks-requires : tie.Need-marks-requires
 marks-requires c κs = search needs
 
-least-requires : tie.Need-least-requires
-least-requires c κs = (ends-low _ _ _ (search needs) (c .before .before .ends .ensures), ends-low _ _ _ (search needs) (c .before .ends2 .ensures))
+listed-requires : tie.Need-listed-requires
+listed-requires c κs = search needs
+
+worked-requires : tie.Need-worked-requires
+worked-requires c κs = (bounded (c .listed .ensures), omega arith)
 
 returns : tie.Need-returns
 returns c =
-    λ rest ss w. needed rest ss _ _ w (search (needs, unmapped)) _ _ _ _ (search needs) (c .before .marks .ensures)
-    (c .before .before .before .ends .ensures) (c .before .before .ends2 .ensures) (c .least .ensures)
+    let e = c .before .worked .ensures in
+    let l = c .before .before .listed .ensures in
+    λ rest ss w. needed rest ss _ _ w (search (needs, unmapped)) _ _ (search needs) (c .before .before .before .marks .ensures) (between-handles l _ _ (e .0))
+    (all-handles l (figure (c .before .worked .result .figures)) (e .1 .0 (never-stopped _ (λ q. e .1 .1 q .0))))
 
 pub figures-spec : {M : Type 1} → statement M
-figures-spec =
-    tie.close (tie.spec ends-requires ends-requires-2 marks-requires least-requires returns)
+figures-spec = tie.close (tie.spec marks-requires listed-requires worked-requires returns)

@@ -9,7 +9,7 @@ subjects-short-requires : tie.Need-subjects-short-requires
 subjects-short-requires c κs = search needs
 
 returns : tie.Need-returns
-returns c = λ rest hs w d. short-first rest _ _ hs _ w d (sym (c .before .subjects-short .ensures) ∙ c .if1 .taken)
+returns c = λ rest hs w d. short-first rest _ _ hs (c .before .before .args .n) w d (sym (c .before .subjects-short .ensures) ∙ c .if1 .taken)
 
 objects-short-requires : tie.Need-objects-short-requires
 objects-short-requires c κs = search needs
@@ -17,7 +17,7 @@ objects-short-requires c κs = search needs
 returns-2 : tie.Need-returns-2
 returns-2 c =
     λ rest hs w d. c .objects-short .ensures
-    ∙ short-second rest _ _ hs _ w d (sym (c .before .before .subjects-short .ensures) ∙ c .before .if1 .left)
+    ∙ short-second rest _ _ hs (c .before .before .before .args .n) w d (sym (c .before .before .subjects-short .ensures) ∙ c .before .if1 .left)
 
 pub is-short-spec : {M : Type 1} → statement M
 is-short-spec = tie.close (tie.spec subjects-short-requires returns objects-short-requires returns-2)

@@ -1,25 +1,25 @@
 -- `flows::objects_short` meets its contract. Assumes nothing.
-use mathlib.Core.Path.{_≡_, sym, _∙_}
-use mathlib.Core.Bool.{false}
-use Prim.Native.Nat.{ℕ, _+_, _-_, _≤_, _<_}
+use mathlib.Core.Path.{_≡_, refl, sym, _∙_, ap, ap₂}
+use mathlib.Core.Bool.{_||_}
+use Prim.Native.Nat.{_+_, _-_, _≤_}
 use native.Mathlib.Omega.{arith}
+use native.Mathlib.Numerals.{add-one}
 use borrow.Author.Needs.{needs}
-use borrow.Author.Count.{below-more}
 use lib.ListN.{getD}
 use Rattle.tables.specs.Records.{no-object}
+use Rattle.tables.specs.Working.{some-below}
 use Rattle.flows.specs.Working.{short-object}
-use Rattle.tables.proofs.Below.{some-at, none-below}
 use Rattle.flows.proofs.objects_short.Statement.{statement}
 use Rattle.flows.proofs.objects_short.Tie as tie
 
 abbrev Inv-loop : tie.InvT-loop
-Inv-loop objects n i₀ i = (i ≤ 64) × ((j : ℕ) → j < i → short-object (getD objects j no-object) (getD n (32 + j) 0) ≡ false)
+Inv-loop objects n found₀ i₀ found i = (i ≤ 64) × (found ≡ some-below i (λ j. short-object (getD objects j no-object) (getD n (32 + j) 0)))
 
 abbrev μ-loop : tie.MeasureT-loop
-μ-loop objects n i₀ i = 64 - i
+μ-loop objects n found₀ i₀ found i = 64 - i
 
 loop-holds : tie.Need-loop-holds Inv-loop μ-loop
-loop-holds c = (omega arith, λ j h. absurd (omega arith))
+loop-holds c = (omega arith, refl)
 
 mul-x : tie.Need-mul-x Inv-loop μ-loop
 mul-x c = search needs
@@ -36,12 +36,8 @@ array-read-is-low c = search needs
 is-low-requires : tie.Need-is-low-requires Inv-loop μ-loop
 is-low-requires c κs = search needs
 
-returns : tie.Need-returns Inv-loop μ-loop
-returns c =
-    let a = c .before .before .before .before .before .before .args in
-    sym
-    (some-at 64 (λ j. short-object (getD (a .t1) j no-object) (getD (a .t2) (32 + j) 0))
-    (c .before .before .before .before .before .loop .i) (omega arith) (sym (c .before .is-low .ensures) ∙ c .if1 .taken))
+either-requires : tie.Need-either-requires Inv-loop μ-loop
+either-requires c κs = search needs
 
 add-i : tie.Need-add-i Inv-loop μ-loop
 add-i c = search needs
@@ -50,13 +46,20 @@ loop-less : tie.Need-loop-less Inv-loop μ-loop
 loop-less c = search needs
 
 loop-again : tie.Need-loop-again Inv-loop μ-loop
-loop-again c = (
-  omega arith,
-  below-more _ _ (c .before .before .before .before .before .loop .inv .1) (sym (c .before .is-low .ensures) ∙ c .if1 .left),
-)
+loop-again c =
+    let a = c .before .before .before .before .before .before .args in
+    let i = c .before .before .before .before .before .loop .i in (
+      omega arith,
+      c .either .ensures
+          ∙ ap₂ _||_ (c .before .before .before .before .before .loop .inv .1) (c .before .is-low .ensures)
+          ∙ ap (λ n. some-below n (λ j. short-object (getD (a .t1) j no-object) (getD (a .t2) (32 + j) 0))) (sym (add-one i)),
+    )
 
-returns-2 : tie.Need-returns-2 Inv-loop μ-loop
-returns-2 c = sym (none-below 64 _ (λ j h. c .before .loop .inv .1 j (omega arith)))
+returns : tie.Need-returns Inv-loop μ-loop
+returns c =
+    let a = c .before .before .args in
+    let e : c .before .loop .i ≡ 64 = omega arith in
+    c .before .loop .inv .1 ∙ ap (λ n. some-below n (λ j. short-object (getD (a .t1) j no-object) (getD (a .t2) (32 + j) 0))) e
 
 pub objects-short-spec : {M : Type 1} → statement M
 objects-short-spec =
@@ -70,8 +73,8 @@ objects-short-spec =
     add-at
     array-read-is-low
     is-low-requires
-    returns
+    either-requires
     add-i
     loop-less
     loop-again
-    returns-2)
+    returns)

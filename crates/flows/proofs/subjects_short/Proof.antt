@@ -1,25 +1,25 @@
 -- `flows::subjects_short` meets its contract. Assumes nothing.
-use mathlib.Core.Path.{_≡_, sym, _∙_}
-use mathlib.Core.Bool.{false}
-use Prim.Native.Nat.{ℕ, _-_, _≤_, _<_}
+use mathlib.Core.Path.{_≡_, refl, sym, _∙_, ap, ap₂}
+use mathlib.Core.Bool.{_||_}
+use Prim.Native.Nat.{_-_, _≤_}
 use native.Mathlib.Omega.{arith}
+use native.Mathlib.Numerals.{add-one}
 use borrow.Author.Needs.{needs}
-use borrow.Author.Count.{below-more}
 use lib.ListN.{getD}
 use Rattle.tables.specs.Records.{no-subject}
+use Rattle.tables.specs.Working.{some-below}
 use Rattle.flows.specs.Working.{short-subject}
-use Rattle.tables.proofs.Below.{some-at, none-below}
 use Rattle.flows.proofs.subjects_short.Statement.{statement}
 use Rattle.flows.proofs.subjects_short.Tie as tie
 
 abbrev Inv-loop : tie.InvT-loop
-Inv-loop subjects n i₀ i = (i ≤ 32) × ((j : ℕ) → j < i → short-subject (getD subjects j no-subject) (getD n j 0) ≡ false)
+Inv-loop subjects n found₀ i₀ found i = (i ≤ 32) × (found ≡ some-below i (λ j. short-subject (getD subjects j no-subject) (getD n j 0)))
 
 abbrev μ-loop : tie.MeasureT-loop
-μ-loop subjects n i₀ i = 32 - i
+μ-loop subjects n found₀ i₀ found i = 32 - i
 
 loop-holds : tie.Need-loop-holds Inv-loop μ-loop
-loop-holds c = (omega arith, λ j h. absurd (omega arith))
+loop-holds c = (omega arith, refl)
 
 mul-x : tie.Need-mul-x Inv-loop μ-loop
 mul-x c = search needs
@@ -33,12 +33,8 @@ array-read-is-low c = search needs
 is-low-requires : tie.Need-is-low-requires Inv-loop μ-loop
 is-low-requires c κs = search needs
 
-returns : tie.Need-returns Inv-loop μ-loop
-returns c =
-    let a = c .before .before .before .before .before .before .args in
-    sym
-    (some-at 32 (λ j. short-subject (getD (a .t1) j no-subject) (getD (a .t2) j 0))
-    (c .before .before .before .before .before .loop .i) (omega arith) (sym (c .before .is-low .ensures) ∙ c .if1 .taken))
+either-requires : tie.Need-either-requires Inv-loop μ-loop
+either-requires c κs = search needs
 
 add-i : tie.Need-add-i Inv-loop μ-loop
 add-i c = search needs
@@ -47,13 +43,20 @@ loop-less : tie.Need-loop-less Inv-loop μ-loop
 loop-less c = search needs
 
 loop-again : tie.Need-loop-again Inv-loop μ-loop
-loop-again c = (
-  omega arith,
-  below-more _ _ (c .before .before .before .before .before .loop .inv .1) (sym (c .before .is-low .ensures) ∙ c .if1 .left),
-)
+loop-again c =
+    let a = c .before .before .before .before .before .before .args in
+    let i = c .before .before .before .before .before .loop .i in (
+      omega arith,
+      c .either .ensures
+          ∙ ap₂ _||_ (c .before .before .before .before .before .loop .inv .1) (c .before .is-low .ensures)
+          ∙ ap (λ n. some-below n (λ j. short-subject (getD (a .t1) j no-subject) (getD (a .t2) j 0))) (sym (add-one i)),
+    )
 
-returns-2 : tie.Need-returns-2 Inv-loop μ-loop
-returns-2 c = sym (none-below 32 _ (λ j h. c .before .loop .inv .1 j (omega arith)))
+returns : tie.Need-returns Inv-loop μ-loop
+returns c =
+    let a = c .before .before .args in
+    let e : c .before .loop .i ≡ 32 = omega arith in
+    c .before .loop .inv .1 ∙ ap (λ n. some-below n (λ j. short-subject (getD (a .t1) j no-subject) (getD (a .t2) j 0))) e
 
 pub subjects-short-spec : {M : Type 1} → statement M
 subjects-short-spec =
@@ -66,8 +69,8 @@ subjects-short-spec =
     array-copy-out-x
     array-read-is-low
     is-low-requires
-    returns
+    either-requires
     add-i
     loop-less
     loop-again
-    returns-2)
+    returns)

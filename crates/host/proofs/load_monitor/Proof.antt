@@ -31,6 +31,7 @@ returns c =
       handles = handles .load-handles .ensures i;
       freeze = freeze-of (subjects .before .before .args .state .now);
       needs = c .load-needs .ensures i;
+      sure = 0;
     }
 
 pub load-monitor-spec : {M : Type 1} → statement M

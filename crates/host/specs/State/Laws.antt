@@ -161,6 +161,7 @@ plain m = record {
   handles = map plain-handle (m .handles);
   freeze = m .freeze;
   needs = m .needs;
+  sure = 0;
 }
 
 plain-view : (m : Monitor) → view (plain m) ≡ view m
@@ -292,7 +293,7 @@ module _ (m : Monitor) (y : Tally) (long : Long m) where
       ∙ records-flat need-record need-width (λ x. refl) need-of (m .needs) [] ∙ as-they-are (m .needs)
 
   monitor-back : monitor-of (bytes-of m y) ≡ plain m
-  monitor-back = λ i. record { subjects = subjects-back i; objects = objects-back i; handles = handles-back i; freeze = freeze-back i; needs = needs-back i }
+  monitor-back = λ i. record { subjects = subjects-back i; objects = objects-back i; handles = handles-back i; freeze = freeze-back i; needs = needs-back i; sure = 0 }
 
   -- a monitor's bytes stand for its tables
   pub view-back : view (monitor-of (bytes-of m y)) ≡ view m

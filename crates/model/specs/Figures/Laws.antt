@@ -219,18 +219,26 @@ effect-ready t c ψ = ready-same (λ x l. (effect-lived t c x l, effect-needs t 
 pub anew-ready : (t : Tables) (c : Call) (ψ : Thing → Label) → ((x : Thing) → T (in-range x) → ψ x ≡ needs (applies (steps t c) t) x) → Ready (effect t c) ψ
 anew-ready t c ψ f = ready-anew (effect t c) (applies (steps t c) t) ψ f (effect-needs t c)
 
--- a map's are worked out with the handle of the open for reading
+-- a map's are right if they were with the handle of the open for reading
 pub map-ready : (t : Tables) (s o p : ℕ) (ψ : Thing → Label) → Wf t → refusal t (maps s o p) ≡ none
-    → ((x : Thing) → T (in-range x) → ψ x ≡ needs (apply (hold s p (some (handle reading o))) t) x) → Ready (effect t (maps s o p)) ψ
-map-ready t s o p ψ w e f = ready-anew (effect t (maps s o p)) (apply (hold s p (some (handle reading o))) t) ψ f
-    (maps-open-needs t s o p w (ltb→lt s 32 (live-of t (subject s) (is-alive t s (passed (alive s) (inl refl))) .0)) (is-place t s p (passed (vacant s p) at-p))
-    (is-vacant t s p (passed (vacant s p) at-p)))
+    → Ready (apply (hold s p (some (handle reading o))) t) ψ → Ready (effect t (maps s o p)) ψ
+unfolding used
+map-ready t s o p ψ w e = ready-same {t = apply (hold s p (some (handle reading o))) t} (λ x l. (
+  steps-lived (steps t (maps s o p)) t x (makes x) (effect-lived t (maps s o p) x l),
+  maps-open-needs t s o p w (ltb→lt s 32 (live-of t (subject s) (is-alive t s (passed (alive s) (inl refl))) .0)) (is-place t s p (passed (vacant s p) at-p))
+      (is-vacant t s p (passed (vacant s p) at-p)) x,
+))
   where
     passed : Passed t (maps s o p)
     passed = allowed-iff t (maps s o p) .0 e
 
     at-p : In (vacant s p) (tests (maps s o p))
     at-p = inr (inr (inr (inl refl)))
+
+    makes : (x : Thing) (k : Step) → In k (steps t (maps s o p)) → Makes k x → ⊥
+    makes x k (inl q) m = subst (λ (j : Step). Makes j x) (sym q) m
+    makes x k (inr (inl q)) m = subst (λ (j : Step). Makes j x) (sym q) m
+    makes x k (inr (inr i)) m = i
 
 -- an exec's with what is left of the handles
 pub exec-ready : (t : Tables) (s o : ℕ) (ψ : Thing → Label) → ((x : Thing) → T (in-range x) → ψ x ≡ needs (applies (sheds t s) t) x) → Ready (effect t (exec s o)) ψ

@@ -4,7 +4,6 @@ use borrow.Author.Needs.{needs}
 use Rattle.model.specs.Calls.{refused}
 use Rattle.journal.specs.Answers.{Said, body-answer}
 use Rattle.answers.specs.Telling.{told}
-use Rattle.tally.specs.Counting.{counts-of}
 use Rattle.replay.specs.One.{One}
 use Rattle.replay.proofs.one.Statement.{statement}
 use Rattle.replay.proofs.one.Tie as tie
@@ -33,22 +32,22 @@ returns c =
     let a = c10 .args in
     let k = c3 .counted-call in
     let call = c6 .call .given .0 .0 in
-    subst (λ (s : Said). One (a .m) (counts-of (a .tally)) s (call .code) (told (k .result .reply .answer)) (k .result .reply .monitor)
-    (counts-of (k .result .tally)))
+    subst (λ (s : Said). One (a .m) (a .tally) s (call .code) (told (k .result .reply .answer)) (k .result .reply .monitor)
+    (k .result .tally))
     (ap body-answer (sym (c6 .call .given .1)) ∙ c8 .read-body .ensures)
     (refl, k .ensures .0, k .ensures .1)
 
 returns-2 : tie.Need-returns-2
 returns-2 c =
     let a = c .before .before .before .before .before .args in
-    subst (λ (s : Said). One (a .m) (counts-of (a .tally)) s (c .before .code .given .0 .0) (refused 1) (a .m) (counts-of (a .tally)))
+    subst (λ (s : Said). One (a .m) (a .tally) s (c .before .code .given .0 .0) (refused 1) (a .m) (a .tally))
     (ap body-answer (sym (c .before .code .given .1)) ∙ c .before .before .before .read-body .ensures)
     (refl, refl, refl, refl)
 
 returns-3 : tie.Need-returns-3
 returns-3 c =
     let a = c .before .before .before .before .before .args in
-    subst (λ (s : Said). One (a .m) (counts-of (a .tally)) s (c .before .code2 .given .0 .0) (refused 12) (a .m) (counts-of (a .tally)))
+    subst (λ (s : Said). One (a .m) (a .tally) s (c .before .code2 .given .0 .0) (refused 12) (a .m) (a .tally))
     (ap body-answer (sym (c .before .code2 .given .1)) ∙ c .before .before .before .read-body .ensures)
     (refl, refl, refl, refl)
 

@@ -7,7 +7,7 @@ use lib.ListN.{length, set, length-set}
 use Rattle.answers.specs.Telling.{told}
 use Rattle.gatekeeper.specs.View.{view, Right}
 use Rattle.run.specs.Buffers.{lesser}
-use Rattle.run.specs.Buffers.Laws.{lesser-left, lesser-right, So-far, so-far-none, so-far-more, run-demand3}
+use Rattle.run.specs.Buffers.Laws.{lesser-left, lesser-right, So-far, so-far-none, so-far-honest, so-far-more, run-demand3}
 use Rattle.run.proofs.run.Statement.{statement}
 use Rattle.run.proofs.run.Tie as tie
 
@@ -27,7 +27,7 @@ loop-holds : tie.Need-loop-holds Inv-loop μ-loop
 loop-holds c =
     let a = c .before .before .before .before .args in
     let fits : c .before .fewer .result ≡ lesser (length (a .calls .now) / 7) (length (a .out .now) / 2) = c .before .fewer .ensures in
-    (omega arith, omega (arith, lesser-left (length (a .calls .now) / 7) (length (a .out .now) / 2)), omega (arith, lesser-right (length (a .calls .now) / 7) (length (a .out .now) / 2)), refl, so-far-none (a .calls .now) (a .out .now) (view (c .empty .result)) (c .empty .ensures .0), c .empty .ensures .1)
+    (omega arith, omega (arith, lesser-left (length (a .calls .now) / 7) (length (a .out .now) / 2)), omega (arith, lesser-right (length (a .calls .now) / 7) (length (a .out .now) / 2)), refl, so-far-none (a .calls .now) (a .out .now) (view (c .empty .result)) (c .empty .ensures .0), c .empty .ensures .1 .0)
 
 mul-at : tie.Need-mul-at Inv-loop μ-loop
 mul-at c = search needs
@@ -123,14 +123,15 @@ loop-again : tie.Need-loop-again Inv-loop μ-loop
 loop-again c =
     let l = c .before .before .before .before .before .before .before .before .before .before .before .before .loop in
     let a = c .before .before .before .before .before .before .before .before .before .before .before .before .before .before .before .before .before .args in
-    let k = c .before .before .before .call in (
+    let k = c .before .before .before .call in
+    let h = so-far-honest (a .calls .now) (a .out .now) (l .out) (l .i) (l .m) (k .result .monitor) (told (k .result .answer)) (l .inv .4) (l .inv .5) in (
       omega arith,
       l .inv .1,
       l .inv .2,
       length-set (set (l .out) (l .i * 2) (c .before .before .letter .result)) (l .i * 2 + 1) (c .before .value .result) ∙ length-set (l .out) (l .i * 2) (c .before .before .letter .result) ∙ l .inv .3,
       subst₂ (λ (x y : ℕ). So-far (a .calls .now) (a .out .now) (set (set (l .out) (l .i * 2) x) (l .i * 2 + 1) y) (l .i + 1) (view (k .result .monitor))) (sym (c .before .before .letter .ensures)) (sym (c .before .value .ensures))
-          (so-far-more (a .calls .now) (a .out .now) (l .out) (l .i) (l .m) (k .result .monitor) (told (k .result .answer)) (omega (arith, l .inv .2)) (l .inv .4) (k .ensures)),
-      k .ensures .kept (l .inv .5),
+          (so-far-more (a .calls .now) (a .out .now) (l .out) (l .i) (l .m) (k .result .monitor) (told (k .result .answer)) (omega (arith, l .inv .2)) (l .inv .4) h (k .ensures)),
+      k .ensures .kept h (l .inv .5),
     )
 
 same-length : tie.Need-same-length Inv-loop μ-loop

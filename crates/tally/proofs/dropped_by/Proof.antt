@@ -1,8 +1,9 @@
 -- `tally::dropped_by` meets its contract. Assumes nothing.
+use mathlib.Core.Path.{refl}
 use borrow.Author.Needs.{needs}
 use Rattle.model.specs.Tables.{clean}
 use Rattle.gatekeeper.specs.View.{view}
-use Rattle.tally.proofs.Counting.{rest-within, drops-is}
+use Rattle.tally.proofs.Counting.{rest-within, drops-is, lone}
 use Rattle.tally.proofs.dropped_by.Statement.{statement}
 use Rattle.tally.proofs.dropped_by.Tie as tie
 
@@ -24,7 +25,7 @@ sub-result c =
     let c2 = c1 .before in
     let c3 = c2 .before in
     let a = c3 .before .args in
-    rest-within (clean (view (a .monitor))) (a .s) (c3 .row-by .result) (c3 .row-by .ensures) (c2 .lasting .result) (c1 .count .result) (c .count2 .result)
+    rest-within (lone (c3 .row-by .result)) (a .s) (c3 .row-by .result) (λ p. refl) (c2 .lasting .result) (c1 .count .result) (c .count2 .result)
     (c2 .lasting .ensures) (c1 .count .ensures) (c .count2 .ensures)
 
 returns : tie.Need-returns
@@ -33,7 +34,7 @@ returns c =
     let c2 = c1 .before in
     let c3 = c2 .before in
     let a = c3 .before .args in
-    drops-is (clean (view (a .monitor))) (a .s) (c3 .row-by .result) (c3 .row-by .ensures) (c2 .lasting .result) (c1 .count .result) (c .count2 .result)
+    λ h. drops-is (clean (view (a .monitor))) (a .s) (c3 .row-by .result) (c3 .row-by .ensures h) (c2 .lasting .result) (c1 .count .result) (c .count2 .result)
     (c2 .lasting .ensures) (c1 .count .ensures) (c .count2 .ensures)
 
 pub dropped-by-spec : {M : Type 1} → statement M

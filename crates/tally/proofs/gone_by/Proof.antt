@@ -10,20 +10,20 @@ dropped-by-requires : tie.Need-dropped-by-requires
 dropped-by-requires c κs = search needs
 
 returns : tie.Need-returns
-returns c = here _ _ _ (eq-eqb _ _ (c .before .if1 .taken)) (c .dropped-by .ensures)
+returns c = λ h. here _ _ _ (eq-eqb _ _ (c .before .if1 .taken)) (c .dropped-by .ensures h)
 
 returns-2 : tie.Need-returns-2
-returns-2 c = past _ _ _ (ne-eqb _ _ (c .before .if1 .left)) (here _ _ _ (eq-eqb _ _ (c .if2 .taken)) refl)
+returns-2 c = λ h. past _ _ _ (ne-eqb _ _ (c .before .if1 .left)) (here _ _ _ (eq-eqb _ _ (c .if2 .taken)) refl)
 
 held-by-requires : tie.Need-held-by-requires
 held-by-requires c κs = search needs
 
 returns-3 : tie.Need-returns-3
-returns-3 c = past _ _ _ (ne-eqb _ _ (c .before .before .before .if1 .left)) (past _ _ _ (ne-eqb _ _ (c .before .before .if2 .left))
-    (here _ _ _ (eq-eqb _ _ (c .before .if3 .taken)) (c .held-by .ensures)))
+returns-3 c = λ h. past _ _ _ (ne-eqb _ _ (c .before .before .before .if1 .left)) (past _ _ _ (ne-eqb _ _ (c .before .before .if2 .left))
+    (here _ _ _ (eq-eqb _ _ (c .before .if3 .taken)) (c .held-by .ensures h)))
 
 returns-4 : tie.Need-returns-4
-returns-4 c = past _ _ _ (ne-eqb _ _ (c .before .before .if1 .left)) (past _ _ _ (ne-eqb _ _ (c .before .if2 .left))
+returns-4 c = λ h. past _ _ _ (ne-eqb _ _ (c .before .before .if1 .left)) (past _ _ _ (ne-eqb _ _ (c .before .if2 .left))
     (past _ _ _ (ne-eqb _ _ (c .if3 .left)) refl))
 
 pub gone-by-spec : {M : Type 1} → statement M

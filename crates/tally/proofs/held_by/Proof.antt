@@ -16,7 +16,7 @@ returns : tie.Need-returns
 returns c =
     let c1 = c .before in
     let a = c1 .before .args in
-    held-is (clean (view (a .monitor))) (a .s) (c1 .row-by .result) (c1 .row-by .ensures) (c .count .result) (c .count .ensures)
+    λ h. held-is (clean (view (a .monitor))) (a .s) (c1 .row-by .result) (c1 .row-by .ensures h) (c .count .result) (c .count .ensures)
 
 pub held-by-spec : {M : Type 1} → statement M
 held-by-spec = tie.close (tie.spec row-by-requires count-requires returns)

@@ -2,16 +2,16 @@
 use mathlib.Core.Path.{_≡_, _∙_, ap, sym, subst}
 use mathlib.Core.Bool.{_&&_}
 use borrow.Author.Needs.{needs}
+use borrow.Author.Tests.{not-true}
 use Prim.Native.Nat.{ℕ}
 use lib.ListN.{length}
-use lib.Dec.{eqb, leb}
 use Rattle.model.specs.Tables.{Tables}
-use Rattle.model.specs.Invariant.{Wf}
 use Rattle.model.specs.Figures.{Ready}
 use Rattle.tables.proofs.Maps.{unmapped}
 use Rattle.tables.specs.Records.{reads-by}
 use Rattle.tables.specs.Needs.{figure-of}
-use Rattle.flows.proofs.Closing.{anew, apart-ready, zero-ready, backed-ready, close-wf, object-then}
+use Rattle.flows.specs.Working.{demands}
+use Rattle.flows.proofs.Closing.{apart-ready, zero-ready, backed-ready, object-then, beside-kept}
 use Rattle.flows.proofs.kept.closed.Statement.{statement}
 use Rattle.flows.proofs.kept.closed.Tie as tie
 
@@ -56,16 +56,35 @@ returns-3 c =
     λ rest ss t p w g q k. subst (λ (u : Tables). Ready u (figure-of (a .n))) (sym q)
     (backed-ready (a .n) t (a .s) p (a .h) w g k (c2 .object-of .result)
     (object-then rest ss (a .objects) (a .handles) t (a .s) p (a .h .object) (c2 .object-of .result) l q (c2 .object-of .ensures))
-    (ap (λ (v : ℕ). reads-by (a .h .way) && (eqb (c2 .object-of .result .kind) 1 && leb v (c2 .object-of .result .level))) (sym (c6 .of-subject .ensures))
+    (ap (λ (v : ℕ). reads-by (a .h .way) && demands (c2 .object-of .result) v) (sym (c6 .of-subject .ensures))
     ∙ sym (c .before .is-backed .ensures) ∙ c .if3 .taken))
 
-figures-requires : tie.Need-figures-requires
-figures-requires c κs = search needs
+is-reading-requires : tie.Need-is-reading-requires
+is-reading-requires c κs = search needs
+
+is-beside-requires : tie.Need-is-beside-requires
+is-beside-requires c κs = search needs
 
 returns-4 : tie.Need-returns-4
 returns-4 c =
-    let a = c .before .before .before .before .before .before .before .before .before .args in
-    λ rest ss t p w g q k. anew rest ss _ _ _ (c .figures .ensures rest ss (subst Wf (sym q) (close-wf (a .n) t (a .s) p (a .h) w g k)))
+    let c3 = c .before .before .before in
+    let c8 = c3 .before .before .before .before .before in
+    let c10 = c8 .before .before in
+    let a = c10 .before .before .args in
+    let l : length (a .objects) ≡ 64 = search (needs, unmapped) in
+    λ rest ss t p w g q k. beside-kept rest ss (a .objects) (a .handles) l (a .n) t (a .s) p (a .h) w g k q
+    (sym (c10 .of-subject .ensures) ∙ c8 .if1 .left ∙ c8 .before .of-object .ensures) (sym (c3 .is-reading .ensures) ∙ not-true _ (c .before .before .if4 .taken))
+    (rw (sym (c10 .of-subject .ensures)) (sym (c .before .is-beside .ensures) ∙ c .if5 .taken))
+
+sunk-requires : tie.Need-sunk-requires
+sunk-requires c κs = search needs
+
+returns-5 : tie.Need-returns-5
+returns-5 c =
+    let c7 = c .before .before .before .before .before .before .before in
+    let c8 = c7 .before in
+    let m = c8 .before .of-subject .ensures in
+    λ rest ss t p w g q k. c .sunk .ensures rest ss t p w g q k m (c7 .if1 .left ∙ c8 .of-object .ensures)
 
 pub closed-spec : {M : Type 1} → statement M
 closed-spec =
@@ -79,5 +98,8 @@ closed-spec =
     object-of-requires
     is-backed-requires
     returns-3
-    figures-requires
-    returns-4)
+    is-reading-requires
+    is-beside-requires
+    returns-4
+    sunk-requires
+    returns-5)

@@ -8,14 +8,14 @@ use Rattle.flows.proofs.kept.is_backed.Tie as tie
 is-reading-requires : tie.Need-is-reading-requires
 is-reading-requires c κs = search needs
 
+is-demanding-requires : tie.Need-is-demanding-requires
+is-demanding-requires c κs = search needs
+
 both-requires : tie.Need-both-requires
 both-requires c κs = search needs
 
-both-requires-2 : tie.Need-both-requires-2
-both-requires-2 c κs = search needs
-
 returns : tie.Need-returns
-returns c = c .both2 .ensures ∙ ap₂ _&&_ (c .before .before .before .before .is-reading .ensures) (c .before .both .ensures)
+returns c = c .both .ensures ∙ ap₂ _&&_ (c .before .before .is-reading .ensures) (c .before .is-demanding .ensures)
 
 pub is-backed-spec : {M : Type 1} → statement M
-is-backed-spec = tie.close (tie.spec is-reading-requires both-requires both-requires-2 returns)
+is-backed-spec = tie.close (tie.spec is-reading-requires is-demanding-requires both-requires returns)

@@ -2,6 +2,7 @@
 use Rattle.model.specs.Calls.{admit}
 use Rattle.gatekeeper.specs.View.{view}
 use Rattle.gatekeeper.proofs.Acting.{stops, goes}
+use Rattle.gatekeeper.proofs.Owned.{owned-long}
 use Rattle.gatekeeper.proofs.Storing.{subject-got, admits}
 use borrow.Author.Needs.{needs}
 use Rattle.gatekeeper.proofs.Monitor.admit.Statement.{statement}
@@ -23,8 +24,8 @@ returns c =
     let c3 = c2 .before in
     let c5 = c3 .before .before in
     let a = c5 .args in
-    let g = c5 .good .0 in
-    let w = c5 .pre in
+    let g = owned-long (a .self) (c5 .good .0) in
+    λ firm. let w = firm .wf in
     stops (a .self) (admit (a .s) (a .level)) (c2 .of-admit .result) (c .refuse .result)
     (c2 .of-admit .ensures (view (a .self)) w (subject-got (a .self) g (a .s) (c3 .subject-of .result) (c3 .subject-of .ensures)))
     (c1 .if1 .taken) (c .refuse .ensures)
@@ -46,8 +47,8 @@ returns-2 c =
     let c5 = c4 .before in
     let c7 = c5 .before .before in
     let a = c7 .args in
-    let g = c7 .good .0 in
-    let w = c7 .pre in
+    let g = owned-long (a .self) (c7 .good .0) in
+    λ firm. let w = firm .wf in
     let z = goes (c4 .of-admit .ensures (view (a .self)) w
     (subject-got (a .self) g (a .s) (c5 .subject-of .result) (c5 .subject-of .ensures))) (c3 .if1 .left) in
     admits (a .self) g (a .s) (a .level) (c2 .with-subject .result) (c .with-subject2 .result) w z (c2 .with-subject .ensures) (c .with-subject2 .ensures)

@@ -1,19 +1,18 @@
 -- `gatekeeper::Monitor::call` meets its contract. Assumes nothing.
-use mathlib.Core.Path.{sym, subst}
-use Rattle.model.specs.Invariant.{Wf}
 use Rattle.model.specs.Calls.{decode}
 use Rattle.gatekeeper.specs.View.{direct}
 use Rattle.gatekeeper.proofs.Acting.{settles}
+use Rattle.gatekeeper.proofs.Owned.{owned-long}
 use Rattle.gatekeeper.proofs.Keeping.{read-wf}
 use borrow.Author.Needs.{needs}
 use Rattle.gatekeeper.proofs.Monitor.call.Statement.{statement}
 use Rattle.gatekeeper.proofs.Monitor.call.Tie as tie
 
-cleaned-requires : tie.Need-cleaned-requires
-cleaned-requires c κs = search needs
+readied-requires : tie.Need-readied-requires
+readied-requires c κs = search needs
 
 dispatch-requires : tie.Need-dispatch-requires
-dispatch-requires c κs = subst Wf (sym (c .cleaned .ensures .0)) (read-wf (c .before .args .self) (c .before .good .0))
+dispatch-requires c κs = search needs
 
 settle-requires : tie.Need-settle-requires
 settle-requires c κs = search needs
@@ -22,16 +21,9 @@ returns : tie.Need-returns
 returns c =
     let c2 = c .before .before in
     let a = c2 .before .args in
-    let k = c2 .cleaned .ensures in
-    settles (a .self) (c2 .cleaned .result) (decode (direct (a .code) (a .a) (a .b) (a .c) (a .d) (a .e) (a .f)))
-    (c .before .dispatch .result) (c .settle .result) (k .0) (k .1) (subst Wf (sym (k .0)) (read-wf (a .self) (c2 .before .good .0)))
-    (c .before .dispatch .ensures) (c .settle .ensures)
+    let k = c2 .readied .ensures in
+    settles (a .self) (c2 .readied .result) (decode (direct (a .code) (a .a) (a .b) (a .c) (a .d) (a .e) (a .f)))
+    (c .before .dispatch .result) (c .settle .result) (read-wf (a .self) (owned-long (a .self) (c2 .before .good .0))) (k .0) (k .1 .0) (k .1 .1) (c .before .dispatch .ensures) (c .settle .ensures)
 
 pub call-spec : {M : Type 1} → statement M
-call-spec =
-    tie.close
-    (tie.spec
-    cleaned-requires
-    dispatch-requires
-    settle-requires
-    returns)
+call-spec = tie.close (tie.spec readied-requires dispatch-requires settle-requires returns)

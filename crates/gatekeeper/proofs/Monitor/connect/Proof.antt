@@ -2,6 +2,7 @@
 use Rattle.model.specs.Calls.{connect}
 use Rattle.gatekeeper.specs.View.{view}
 use Rattle.gatekeeper.proofs.Acting.{stops, ends, waits, frees}
+use Rattle.gatekeeper.proofs.Owned.{owned-long}
 use Rattle.gatekeeper.proofs.Storing.{subject-got, object-got, handle-got, connect-late, connects}
 use borrow.Author.Needs.{needs}
 use Rattle.gatekeeper.proofs.Monitor.connect.Statement.{statement}
@@ -51,8 +52,8 @@ returns c =
     let c10 = c9 .before in
     let c14 = c10 .before .before .before .before in
     let a = c14 .args in
-    let g = c14 .good .0 in
-    let w = c14 .pre in
+    let g = owned-long (a .self) (c14 .good .0) in
+    λ firm. let w = firm .wf in
     stops (a .self) (connect (a .s) (a .u) (a .a) (a .b) (a .p) (a .q)) (c2 .of-connect .result) (c .refuse .result)
     (c2 .of-connect .ensures (view (a .self)) w (subject-got (a .self) g (a .s) (c10 .subject-of .result) (c10 .subject-of .ensures))
     (subject-got (a .self) g (a .u) (c9 .subject-of2 .result) (c9 .subject-of2 .ensures))
@@ -109,8 +110,8 @@ returns-2 c =
     let c18 = c17 .before in
     let c22 = c18 .before .before .before .before in
     let a = c22 .args in
-    let g = c22 .good .0 in
-    let w = c22 .pre in
+    let g = owned-long (a .self) (c22 .good .0) in
+    λ firm. let w = firm .wf in
     let x = subject-got (a .self) g (a .s) (c18 .subject-of .result) (c18 .subject-of .ensures) in
     let y = subject-got (a .self) g (a .u) (c17 .subject-of2 .result) (c17 .subject-of2 .ensures) in
     let z = waits (c10 .of-connect .ensures (view (a .self)) w x y
@@ -148,8 +149,8 @@ returns-3 c =
     let c17 = c16 .before in
     let c21 = c17 .before .before .before .before in
     let a = c21 .args in
-    let g = c21 .good .0 in
-    let w = c21 .pre in
+    let g = owned-long (a .self) (c21 .good .0) in
+    λ firm. let w = firm .wf in
     let x = subject-got (a .self) g (a .s) (c17 .subject-of .result) (c17 .subject-of .ensures) in
     let y = subject-got (a .self) g (a .u) (c16 .subject-of2 .result) (c16 .subject-of2 .ensures) in
     let z = waits (c9 .of-connect .ensures (view (a .self)) w x y

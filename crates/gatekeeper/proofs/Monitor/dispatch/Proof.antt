@@ -11,55 +11,55 @@ use Rattle.gatekeeper.proofs.Monitor.dispatch.Statement.{statement}
 use Rattle.gatekeeper.proofs.Monitor.dispatch.Tie as tie
 
 admit-requires : tie.Need-admit-requires
-admit-requires c κs = c .before .pre
+admit-requires c κs = search needs
 
 register-requires : tie.Need-register-requires
-register-requires c κs = c .before .pre
+register-requires c κs = search needs
 
 create-requires : tie.Need-create-requires
-create-requires c κs = c .before .pre
+create-requires c κs = search needs
 
 pipe-requires : tie.Need-pipe-requires
-pipe-requires c κs = c .before .pre
+pipe-requires c κs = search needs
 
 open-requires : tie.Need-open-requires
-open-requires c κs = c .before .pre
+open-requires c κs = search needs
 
 open-requires-2 : tie.Need-open-requires-2
-open-requires-2 c κs = c .before .pre
+open-requires-2 c κs = search needs
 
 read-requires : tie.Need-read-requires
-read-requires c κs = c .before .pre
+read-requires c κs = search needs
 
 write-requires : tie.Need-write-requires
-write-requires c κs = c .before .pre
+write-requires c κs = search needs
 
 fork-requires : tie.Need-fork-requires
-fork-requires c κs = c .before .pre
+fork-requires c κs = search needs
 
 exec-requires : tie.Need-exec-requires
-exec-requires c κs = c .before .pre
+exec-requires c κs = search needs
 
 close-requires : tie.Need-close-requires
-close-requires c κs = c .before .pre
+close-requires c κs = search needs
 
 exit-requires : tie.Need-exit-requires
-exit-requires c κs = c .before .pre
+exit-requires c κs = search needs
 
 retire-requires : tie.Need-retire-requires
-retire-requires c κs = c .before .pre
+retire-requires c κs = search needs
 
 map-requires : tie.Need-map-requires
-map-requires c κs = c .before .pre
+map-requires c κs = search needs
 
 mark-requires : tie.Need-mark-requires
-mark-requires c κs = c .before .pre
+mark-requires c κs = search needs
 
 freeze-requires : tie.Need-freeze-requires
-freeze-requires c κs = c .before .pre
+freeze-requires c κs = search needs
 
 connect-requires : tie.Need-connect-requires
-connect-requires c κs = c .before .pre
+connect-requires c κs = search needs
 
 refuse-requires : tie.Need-refuse-requires
 refuse-requires c κs = search needs
@@ -136,7 +136,7 @@ returns-18 : tie.Need-returns-18
 returns-18 c =
     let c2 = c .before .before in
     let a = c2 .args in
-    subst (λ (k : Call). Acts (a .self) k (told (c .refuse .result .answer)) (c .refuse .result .monitor))
+    λ firm. subst (λ (k : Call). Acts (a .self) k (told (c .refuse .result .answer)) (c .refuse .result .monitor))
     (sym (decode-unknown (direct (a .code) (a .a) (a .b) (a .c) (a .d) (a .e) (a .f)) (c .before .match .rest .0 .0 .0 .0 .0 .0 .0 .0 .0 .0 .0 .0 .0 .0 .0 .0 .1, (c .before .match .rest .0 .0 .0 .0 .0 .0 .0 .0 .0 .0 .0 .0 .0 .0 .0 .1, (c .before .match .rest .0 .0 .0 .0 .0 .0 .0 .0 .0 .0 .0 .0 .0 .0 .1, (c .before .match .rest .0 .0 .0 .0 .0 .0 .0 .0 .0 .0 .0 .0 .0 .1, (c .before .match .rest .0 .0 .0 .0 .0 .0 .0 .0 .0 .0 .0 .0 .1, (c .before .match .rest .0 .0 .0 .0 .0 .0 .0 .0 .0 .0 .0 .1, (c .before .match .rest .0 .0 .0 .0 .0 .0 .0 .0 .0 .0 .1, (c .before .match .rest .0 .0 .0 .0 .0 .0 .0 .0 .0 .1, (c .before .match .rest .0 .0 .0 .0 .0 .0 .0 .0 .1, (c .before .match .rest .0 .0 .0 .0 .0 .0 .0 .1, (c .before .match .rest .0 .0 .0 .0 .0 .0 .1, (c .before .match .rest .0 .0 .0 .0 .0 .1, (c .before .match .rest .0 .0 .0 .0 .1, (c .before .match .rest .0 .0 .0 .1, (c .before .match .rest .0 .0 .1, (c .before .match .rest .0 .1, (c .before .match .rest .1, tt)))))))))))))))))))
     (halts (a .self) unknown 1 (c .refuse .result) (unknown-refused (view (a .self))) (c .refuse .ensures))
 

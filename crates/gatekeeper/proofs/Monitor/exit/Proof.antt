@@ -2,6 +2,7 @@
 use Rattle.model.specs.Calls.{exit}
 use Rattle.gatekeeper.specs.View.{view}
 use Rattle.gatekeeper.proofs.Acting.{stops, goes}
+use Rattle.gatekeeper.proofs.Owned.{owned-long}
 use Rattle.gatekeeper.proofs.Storing.{subject-got, exits}
 use borrow.Author.Needs.{needs}
 use Rattle.gatekeeper.proofs.Monitor.exit.Statement.{statement}
@@ -23,8 +24,8 @@ returns c =
     let c3 = c2 .before in
     let c5 = c3 .before .before in
     let a = c5 .args in
-    let g = c5 .good .0 in
-    let w = c5 .pre in
+    let g = owned-long (a .self) (c5 .good .0) in
+    λ firm. let w = firm .wf in
     stops (a .self) (exit (a .s)) (c2 .of-exit .result) (c .refuse .result)
     (c2 .of-exit .ensures (view (a .self)) (a .s) w (subject-got (a .self) g (a .s) (c3 .subject-of .result) (c3 .subject-of .ensures))) (c1 .if1 .taken)
     (c .refuse .ensures)
@@ -51,8 +52,8 @@ returns-2 c =
     let c9 = c8 .before in
     let c11 = c9 .before .before in
     let a = c11 .args in
-    let g = c11 .good .0 in
-    let w = c11 .pre in
+    let g = owned-long (a .self) (c11 .good .0) in
+    λ firm. let w = firm .wf in
     let x = subject-got (a .self) g (a .s) (c9 .subject-of .result) (c9 .subject-of .ensures) in
     let z = goes (c8 .of-exit .ensures (view (a .self)) (a .s) w x) (c7 .if1 .left) in
     exits (a .self) g (a .s) (c9 .subject-of .result) (c .with-subject .result) (c4 .vacated .result) (c3 .reaped .result) (c1 .vacated2 .result) w z x

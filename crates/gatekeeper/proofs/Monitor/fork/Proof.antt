@@ -2,6 +2,7 @@
 use Rattle.model.specs.Calls.{fork}
 use Rattle.gatekeeper.specs.View.{view}
 use Rattle.gatekeeper.proofs.Acting.{stops, goes}
+use Rattle.gatekeeper.proofs.Owned.{owned-long}
 use Rattle.gatekeeper.proofs.Storing.{subject-got, forks}
 use borrow.Author.Needs.{needs}
 use Rattle.gatekeeper.proofs.Monitor.fork.Statement.{statement}
@@ -27,8 +28,8 @@ returns c =
     let c4 = c3 .before in
     let c6 = c4 .before .before in
     let a = c6 .args in
-    let g = c6 .good .0 in
-    let w = c6 .pre in
+    let g = owned-long (a .self) (c6 .good .0) in
+    λ firm. let w = firm .wf in
     stops (a .self) (fork (a .s) (a .c)) (c2 .of-fork .result) (c .refuse .result)
     (c2 .of-fork .ensures (view (a .self)) (a .s) w (subject-got (a .self) g (a .s) (c4 .subject-of .result) (c4 .subject-of .ensures))
     (subject-got (a .self) g (a .c) (c3 .subject-of2 .result) (c3 .subject-of2 .ensures))) (c1 .if1 .taken) (c .refuse .ensures)
@@ -56,8 +57,8 @@ returns-2 c =
     let c9 = c8 .before in
     let c11 = c9 .before .before in
     let a = c11 .args in
-    let g = c11 .good .0 in
-    let w = c11 .pre in
+    let g = owned-long (a .self) (c11 .good .0) in
+    λ firm. let w = firm .wf in
     let x = subject-got (a .self) g (a .s) (c9 .subject-of .result) (c9 .subject-of .ensures) in
     let z = goes (c7 .of-fork .ensures (view (a .self)) (a .s) w x
     (subject-got (a .self) g (a .c) (c8 .subject-of2 .result) (c8 .subject-of2 .ensures))) (c6 .if1 .left) in

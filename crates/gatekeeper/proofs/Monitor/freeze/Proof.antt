@@ -2,6 +2,7 @@
 use Rattle.model.specs.Calls.{freeze}
 use Rattle.gatekeeper.specs.View.{view}
 use Rattle.gatekeeper.proofs.Acting.{stops, goes}
+use Rattle.gatekeeper.proofs.Owned.{owned-long}
 use Rattle.gatekeeper.proofs.Storing.{freezes}
 use borrow.Author.Needs.{needs}
 use Rattle.gatekeeper.proofs.Monitor.freeze.Statement.{statement}
@@ -18,7 +19,7 @@ returns c =
     let c2 = c .before .before in
     let c3 = c2 .before in
     let a = c3 .args in
-    stops (a .self) (freeze (a .level)) (c2 .of-freeze .result) (c .refuse .result) (c2 .of-freeze .ensures (view (a .self)) (c3 .pre))
+    λ firm. stops (a .self) (freeze (a .level)) (c2 .of-freeze .result) (c .refuse .result) (c2 .of-freeze .ensures (view (a .self)) (firm .wf))
     (c .before .if1 .taken) (c .refuse .ensures)
 
 cast-l : tie.Need-cast-l
@@ -29,7 +30,7 @@ returns-2 c =
     let c1 = c .before in
     let c2 = c1 .before in
     let a = c2 .args in
-    freezes (a .self) (c2 .good .0) (a .level) (c2 .pre) (goes (c1 .of-freeze .ensures (view (a .self)) (c2 .pre)) (c .if1 .left))
+    λ firm. freezes (a .self) (owned-long (a .self) (c2 .good .0)) (a .level) (firm .wf) (goes (c1 .of-freeze .ensures (view (a .self)) (firm .wf)) (c .if1 .left))
 
 pub freeze-spec : {M : Type 1} → statement M
 freeze-spec = tie.close (tie.spec of-freeze-requires refuse-requires returns cast-l returns-2)

@@ -5,6 +5,7 @@ use lib.ListN.{set}
 use Rattle.model.specs.Calls.{maps}
 use Rattle.gatekeeper.specs.View.{view}
 use Rattle.gatekeeper.proofs.Acting.{stops, ends, waits, frees}
+use Rattle.gatekeeper.proofs.Owned.{owned-long}
 use Rattle.gatekeeper.proofs.Storing.{subject-got, object-got, handle-got, map-late, maps-acts}
 use borrow.Author.Needs.{needs}
 use Rattle.gatekeeper.proofs.Monitor.map.Statement.{statement}
@@ -34,8 +35,8 @@ returns c =
     let c5 = c4 .before in
     let c9 = c5 .before .before .before .before in
     let a = c9 .args in
-    let g = c9 .good .0 in
-    let w = c9 .pre in
+    let g = owned-long (a .self) (c9 .good .0) in
+    λ firm. let w = firm .wf in
     stops (a .self) (maps (a .s) (a .o) (a .p)) (c2 .of-map .result) (c .refuse .result)
     (c2 .of-map .ensures (view (a .self)) (a .s) (a .o) w (subject-got (a .self) g (a .s) (c5 .subject-of .result) (c5 .subject-of .ensures))
     (object-got (a .self) g (a .o) (c4 .object-of .result) (c4 .object-of .ensures))
@@ -47,11 +48,8 @@ joining-requires c κs = search needs
 with-handle-requires : tie.Need-with-handle-requires
 with-handle-requires c κs = search needs
 
-figures-requires : tie.Need-figures-requires
-figures-requires c κs = search needs
-
-is-short-requires : tie.Need-is-short-requires
-is-short-requires c κs = search needs
+opened-requires : tie.Need-opened-requires
+opened-requires c κs = search needs
 
 last-requires : tie.Need-last-requires
 last-requires c κs = search needs
@@ -72,18 +70,18 @@ returns-2 c =
     let c9 = c8 .before in
     let c10 = c9 .before in
     let c11 = c10 .before in
-    let c15 = c11 .before .before .before .before in
-    let a = c15 .args in
-    let g = c15 .good .0 in
-    let w = c15 .pre in
-    let put = c5 .with-handle .ensures ∙ ap (set (a .self .handles) (a .s % 32 * 16 + a .p % 16)) (c6 .joining .ensures) in
-    let x = subject-got (a .self) g (a .s) (c11 .subject-of .result) (c11 .subject-of .ensures) in
-    let y = object-got (a .self) g (a .o) (c10 .object-of .result) (c10 .object-of .ensures) in
-    let z = waits (c8 .of-map .ensures (view (a .self)) (a .s) (a .o) w x y
-    (handle-got (a .self) g (a .s) (a .p) (c9 .handle-of .result) (c9 .handle-of .ensures))) (c7 .if1 .left) in
+    let c12 = c11 .before in
+    let c16 = c12 .before .before .before .before in
+    let a = c16 .args in
+    let g = owned-long (a .self) (c16 .good .0) in
+    λ firm. let w = firm .wf in
+    let x = subject-got (a .self) g (a .s) (c12 .subject-of .result) (c12 .subject-of .ensures) in
+    let y = object-got (a .self) g (a .o) (c11 .object-of .result) (c11 .object-of .ensures) in
+    let z = waits (c9 .of-map .ensures (view (a .self)) (a .s) (a .o) w x y
+    (handle-got (a .self) g (a .s) (a .p) (c10 .handle-of .result) (c10 .handle-of .ensures))) (c8 .if1 .left) in
     let e = c2 .last .ensures (view (a .self)) (maps (a .s) (a .o) (a .p)) z
-    (map-late (a .self) g (a .s) (a .o) (a .p) (c10 .object-of .result) (c5 .with-handle .result) (c4 .figures .result) w z y put
-    (c4 .figures .ensures) (c3 .is-short .result) (c3 .is-short .ensures)) in
+    (map-late (a .self) g (a .s) (a .o) (a .p) (c11 .object-of .result) (c7 .joining .result) (c6 .with-handle .result) (c3 .opened .result .needs) (c3 .opened .result .short)
+    w (firm .safe) z y (c7 .joining .ensures) (c6 .with-handle .ensures) (c3 .opened .ensures)) in
     ends (a .self) (maps (a .s) (a .o) (a .p)) (c2 .last .result) (c .refuse2 .result) e (c1 .if2 .taken) (c .refuse2 .ensures)
 
 fallen-requires : tie.Need-fallen-requires
@@ -118,20 +116,22 @@ returns-3 c =
     let c15 = c14 .before in
     let c16 = c15 .before in
     let c17 = c16 .before in
-    let c21 = c17 .before .before .before .before in
-    let a = c21 .args in
-    let g = c21 .good .0 in
-    let w = c21 .pre in
-    let put = c11 .with-handle .ensures ∙ ap (set (a .self .handles) (a .s % 32 * 16 + a .p % 16)) (c12 .joining .ensures) in
-    let x = subject-got (a .self) g (a .s) (c17 .subject-of .result) (c17 .subject-of .ensures) in
-    let y = object-got (a .self) g (a .o) (c16 .object-of .result) (c16 .object-of .ensures) in
-    let z = waits (c14 .of-map .ensures (view (a .self)) (a .s) (a .o) w x y
-    (handle-got (a .self) g (a .s) (a .p) (c15 .handle-of .result) (c15 .handle-of .ensures))) (c13 .if1 .left) in
-    let e = c8 .last .ensures (view (a .self)) (maps (a .s) (a .o) (a .p)) z
-    (map-late (a .self) g (a .s) (a .o) (a .p) (c16 .object-of .result) (c11 .with-handle .result) (c10 .figures .result) w z y put
-    (c10 .figures .ensures) (c9 .is-short .result) (c9 .is-short .ensures)) in
-    maps-acts (a .self) g (a .s) (a .o) (a .p) (c16 .object-of .result) (c11 .with-handle .result) (c10 .figures .result) w z y put (c10 .figures .ensures)
-    (c17 .subject-of .result) (c6 .fallen .result) (c5 .with-subject .result) (c3 .with-handle2 .result) _ x (frees e (c7 .if2 .left)) (c6 .fallen .ensures)
+    let c18 = c17 .before in
+    let c19 = c18 .before in
+    let c23 = c19 .before .before .before .before in
+    let a = c23 .args in
+    let g = owned-long (a .self) (c23 .good .0) in
+    λ firm. let w = firm .wf in
+    let x = subject-got (a .self) g (a .s) (c19 .subject-of .result) (c19 .subject-of .ensures) in
+    let y = object-got (a .self) g (a .o) (c18 .object-of .result) (c18 .object-of .ensures) in
+    let z = waits (c16 .of-map .ensures (view (a .self)) (a .s) (a .o) w x y
+    (handle-got (a .self) g (a .s) (a .p) (c17 .handle-of .result) (c17 .handle-of .ensures))) (c15 .if1 .left) in
+    let e = c9 .last .ensures (view (a .self)) (maps (a .s) (a .o) (a .p)) z
+    (map-late (a .self) g (a .s) (a .o) (a .p) (c18 .object-of .result) (c14 .joining .result) (c13 .with-handle .result) (c10 .opened .result .needs)
+    (c10 .opened .result .short) w (firm .safe) z y (c14 .joining .ensures) (c13 .with-handle .ensures) (c10 .opened .ensures)) in
+    maps-acts (a .self) g (a .s) (a .o) (a .p) (c18 .object-of .result) (c14 .joining .result) (c13 .with-handle .result) (c10 .opened .result .needs)
+    (c10 .opened .result .short) w (firm .safe) z y (c14 .joining .ensures) (c13 .with-handle .ensures) (c10 .opened .ensures)
+    (c19 .subject-of .result) (c6 .fallen .result) (c5 .with-subject .result) (c3 .with-handle2 .result) _ x (frees e (c8 .if2 .left)) (c6 .fallen .ensures)
     (c5 .with-subject .ensures) (c3 .with-handle2 .ensures ∙ ap (set (a .self .handles) (a .s % 32 * 16 + a .p % 16)) (c4 .joining2 .ensures)) (c .not-refused .ensures)
 
 pub map-spec : {M : Type 1} → statement M
@@ -146,8 +146,7 @@ map-spec =
     returns
     joining-requires
     with-handle-requires
-    figures-requires
-    is-short-requires
+    opened-requires
     last-requires
     refuse-requires-2
     returns-2

@@ -2,6 +2,7 @@
 use Rattle.model.specs.Calls.{mark}
 use Rattle.gatekeeper.specs.View.{view}
 use Rattle.gatekeeper.proofs.Acting.{stops, goes}
+use Rattle.gatekeeper.proofs.Owned.{owned-long}
 use Rattle.gatekeeper.proofs.Storing.{subject-got, handle-got, marks}
 use borrow.Author.Needs.{needs}
 use Rattle.gatekeeper.proofs.Monitor.mark.Statement.{statement}
@@ -27,8 +28,8 @@ returns c =
     let c4 = c3 .before in
     let c7 = c4 .before .before .before in
     let a = c7 .args in
-    let g = c7 .good .0 in
-    let w = c7 .pre in
+    let g = owned-long (a .self) (c7 .good .0) in
+    λ firm. let w = firm .wf in
     stops (a .self) (mark (a .s) (a .p)) (c2 .of-held .result) (c .refuse .result)
     (c2 .of-held .ensures (view (a .self)) (a .s) (a .p) w (subject-got (a .self) g (a .s) (c4 .subject-of .result) (c4 .subject-of .ensures))
     (handle-got (a .self) g (a .s) (a .p) (c3 .handle-of .result) (c3 .handle-of .ensures)) .1) (c1 .if1 .taken) (c .refuse .ensures)
@@ -44,8 +45,8 @@ returns-2 c =
     let c4 = c3 .before in
     let c7 = c4 .before .before .before in
     let a = c7 .args in
-    let g = c7 .good .0 in
-    let w = c7 .pre in
+    let g = owned-long (a .self) (c7 .good .0) in
+    λ firm. let w = firm .wf in
     let x = subject-got (a .self) g (a .s) (c4 .subject-of .result) (c4 .subject-of .ensures) in
     let h = handle-got (a .self) g (a .s) (a .p) (c3 .handle-of .result) (c3 .handle-of .ensures) in
     let z = goes (c2 .of-held .ensures (view (a .self)) (a .s) (a .p) w x h .1) (c1 .if1 .left) in

@@ -1,4 +1,5 @@
 -- `gatekeeper::Monitor::need_of_object` meets its contract. Assumes nothing.
+use Rattle.gatekeeper.proofs.Owned.{owned-long}
 use Rattle.gatekeeper.proofs.Storing.{object-got}
 use Rattle.gatekeeper.proofs.Keeping.{read-wf, Told, object-dead, object-told}
 use borrow.Author.Needs.{needs}
@@ -14,7 +15,7 @@ returns c =
     let c2 = c .before .before in
     let c4 = c2 .before .before in
     let a = c4 .args in
-    let g = c4 .good .0 in
+    let g = owned-long (a .self) (c4 .good .0) in
     object-dead (a .self) (read-wf (a .self) g) (a .o) (c2 .object-of .result) (object-got (a .self) g (a .o) (c2 .object-of .result) (c2 .object-of .ensures)) (c .if1 .taken)
 
 of-object-requires : tie.Need-of-object-requires
@@ -26,7 +27,7 @@ returns-2 c =
     let c4 = c .before .before .before .before in
     let c6 = c4 .before .before in
     let a = c6 .args in
-    let g = c6 .good .0 in
+    let g = owned-long (a .self) (c6 .good .0) in
     object-told (a .self) (read-wf (a .self) g) (a .o) (c4 .object-of .result) (object-got (a .self) g (a .o) (c4 .object-of .result) (c4 .object-of .ensures)) (c .of-object .result)
     (c .before .before .if1 .left) (c .of-object .ensures)
 

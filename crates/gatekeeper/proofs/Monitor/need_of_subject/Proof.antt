@@ -1,4 +1,5 @@
 -- `gatekeeper::Monitor::need_of_subject` meets its contract. Assumes nothing.
+use Rattle.gatekeeper.proofs.Owned.{owned-long}
 use Rattle.gatekeeper.proofs.Storing.{subject-got}
 use Rattle.gatekeeper.proofs.Keeping.{read-wf, Told, subject-dead, subject-told}
 use borrow.Author.Needs.{needs}
@@ -14,7 +15,7 @@ returns c =
     let c2 = c .before .before in
     let c4 = c2 .before .before in
     let a = c4 .args in
-    let g = c4 .good .0 in
+    let g = owned-long (a .self) (c4 .good .0) in
     subject-dead (a .self) (read-wf (a .self) g) (a .s) (c2 .subject-of .result) (subject-got (a .self) g (a .s) (c2 .subject-of .result) (c2 .subject-of .ensures)) (c .if1 .taken)
 
 of-subject-requires : tie.Need-of-subject-requires
@@ -26,7 +27,7 @@ returns-2 c =
     let c4 = c .before .before .before .before in
     let c6 = c4 .before .before in
     let a = c6 .args in
-    let g = c6 .good .0 in
+    let g = owned-long (a .self) (c6 .good .0) in
     subject-told (a .self) (read-wf (a .self) g) (a .s) (c4 .subject-of .result) (subject-got (a .self) g (a .s) (c4 .subject-of .result) (c4 .subject-of .ensures)) (c .of-subject .result)
     (c .before .before .if1 .left) (c .of-subject .ensures)
 

@@ -1,13 +1,13 @@
 -- `gatekeeper::Monitor::open` meets its contract. Assumes nothing.
 use mathlib.Core.Path.{refl, _∙_, ap}
 use Rattle.model.specs.Calls.{opens}
-use Prim.Native.Nat.{ℕ, _+_, _*_, _%_}
-use lib.ListN.{set}
+use Prim.Native.Nat.{ℕ}
 use Rattle.tables.specs.Working.{joining}
 use Rattle.tables.specs.Records.{tables-of}
 use Rattle.tables.specs.Refusing.{direction}
 use Rattle.gatekeeper.specs.View.{view}
 use Rattle.gatekeeper.proofs.Acting.{stops, ends, waits, frees}
+use Rattle.gatekeeper.proofs.Owned.{owned-long}
 use Rattle.gatekeeper.proofs.Storing.{subject-got, object-got, handle-got, open-late, opens-acts}
 use borrow.Author.Needs.{needs}
 use Rattle.gatekeeper.proofs.Monitor.open.Statement.{statement}
@@ -37,8 +37,8 @@ returns c =
     let c5 = c4 .before in
     let c9 = c5 .before .before .before .before in
     let a = c9 .args in
-    let g = c9 .good .0 in
-    let w = c9 .pre in
+    let g = owned-long (a .self) (c9 .good .0) in
+    λ firm. let w = firm .wf in
     stops (a .self) (opens (direction (a .reads)) (a .s) (a .o) (a .p)) (c2 .of-open .result) (c .refuse .result)
     (c2 .of-open .ensures (view (a .self)) (direction (a .reads)) (a .s) (a .o) w
     (subject-got (a .self) g (a .s) (c5 .subject-of .result) (c5 .subject-of .ensures))
@@ -54,11 +54,8 @@ joining-requires c κs = search needs
 with-handle-requires : tie.Need-with-handle-requires
 with-handle-requires c κs = search needs
 
-figures-requires : tie.Need-figures-requires
-figures-requires c κs = search needs
-
-is-short-requires : tie.Need-is-short-requires
-is-short-requires c κs = search needs
+opened-requires : tie.Need-opened-requires
+opened-requires c κs = search needs
 
 is-frozen-requires : tie.Need-is-frozen-requires
 is-frozen-requires c κs = search needs
@@ -85,19 +82,19 @@ returns-2 c =
     let c11 = c10 .before in
     let c12 = c11 .before in
     let c13 = c12 .before in
-    let c17 = c13 .before .before .before .before in
-    let a = c17 .args in
-    let g = c17 .good .0 in
-    let w = c17 .pre in
-    let put = c6 .with-handle .ensures
-    ∙ ap (set (a .self .handles) (a .s % 32 * 16 + a .p % 16)) (c7 .joining .ensures ∙ ap (λ (i : ℕ). joining i (a .o)) (c8 .way-of .ensures)) in
-    let y = object-got (a .self) g (a .o) (c12 .object-of .result) (c12 .object-of .ensures) in
-    let z = waits (c10 .of-open .ensures (view (a .self)) (direction (a .reads)) (a .s) (a .o) w
-    (subject-got (a .self) g (a .s) (c13 .subject-of .result) (c13 .subject-of .ensures)) y
-    (handle-got (a .self) g (a .s) (a .p) (c11 .handle-of .result) (c11 .handle-of .ensures))) (c9 .if1 .left) in
+    let c14 = c13 .before in
+    let c18 = c14 .before .before .before .before in
+    let a = c18 .args in
+    let g = owned-long (a .self) (c18 .good .0) in
+    λ firm. let w = firm .wf in
+    let i = c8 .joining .ensures ∙ ap (λ (i : ℕ). joining i (a .o)) (c9 .way-of .ensures) in
+    let y = object-got (a .self) g (a .o) (c13 .object-of .result) (c13 .object-of .ensures) in
+    let z = waits (c11 .of-open .ensures (view (a .self)) (direction (a .reads)) (a .s) (a .o) w
+    (subject-got (a .self) g (a .s) (c14 .subject-of .result) (c14 .subject-of .ensures)) y
+    (handle-got (a .self) g (a .s) (a .p) (c12 .handle-of .result) (c12 .handle-of .ensures))) (c10 .if1 .left) in
     let e = c2 .last .ensures (view (a .self)) (opens (direction (a .reads)) (a .s) (a .o) (a .p)) z
-    (open-late (a .self) g (a .reads) (a .s) (a .o) (a .p) (c12 .object-of .result) (c6 .with-handle .result) (c5 .figures .result) w z y put
-    (c5 .figures .ensures) (c4 .is-short .result) (c3 .is-frozen .result) (c4 .is-short .ensures)
+    (open-late (a .self) g (a .reads) (a .s) (a .o) (a .p) (c13 .object-of .result) (c8 .joining .result) (c7 .with-handle .result) (c4 .opened .result .needs)
+    (c4 .opened .result .short) w (firm .safe) z y i (c7 .with-handle .ensures) (c4 .opened .ensures) (c3 .is-frozen .result)
     (c3 .is-frozen .ensures (view (a .self)) (a .o) refl y)) in
     ends (a .self) (opens (direction (a .reads)) (a .s) (a .o) (a .p)) (c2 .last .result) (c .refuse2 .result) e (c1 .if2 .taken) (c .refuse2 .ensures)
 
@@ -116,22 +113,23 @@ returns-3 c =
     let c10 = c9 .before in
     let c11 = c10 .before in
     let c12 = c11 .before in
-    let c16 = c12 .before .before .before .before in
-    let a = c16 .args in
-    let g = c16 .good .0 in
-    let w = c16 .pre in
-    let put = c5 .with-handle .ensures
-    ∙ ap (set (a .self .handles) (a .s % 32 * 16 + a .p % 16)) (c6 .joining .ensures ∙ ap (λ (i : ℕ). joining i (a .o)) (c7 .way-of .ensures)) in
-    let y = object-got (a .self) g (a .o) (c11 .object-of .result) (c11 .object-of .ensures) in
-    let z = waits (c9 .of-open .ensures (view (a .self)) (direction (a .reads)) (a .s) (a .o) w
-    (subject-got (a .self) g (a .s) (c12 .subject-of .result) (c12 .subject-of .ensures)) y
-    (handle-got (a .self) g (a .s) (a .p) (c10 .handle-of .result) (c10 .handle-of .ensures))) (c8 .if1 .left) in
-    let e = c1 .last .ensures (view (a .self)) (opens (direction (a .reads)) (a .s) (a .o) (a .p)) z
-    (open-late (a .self) g (a .reads) (a .s) (a .o) (a .p) (c11 .object-of .result) (c5 .with-handle .result) (c4 .figures .result) w z y put
-    (c4 .figures .ensures) (c3 .is-short .result) (c2 .is-frozen .result) (c3 .is-short .ensures)
-    (c2 .is-frozen .ensures (view (a .self)) (a .o) refl y)) in
-    opens-acts (a .self) g (a .reads) (a .s) (a .o) (a .p) (c11 .object-of .result) (c5 .with-handle .result) (c4 .figures .result) w z y put (c4 .figures .ensures)
-    (frees e (c .if2 .left))
+    let c13 = c12 .before in
+    let c14 = c13 .before in
+    let c18 = c14 .before .before .before .before in
+    let a = c18 .args in
+    let g = owned-long (a .self) (c18 .good .0) in
+    λ firm. let w = firm .wf in
+    let i = c8 .joining .ensures ∙ ap (λ (i : ℕ). joining i (a .o)) (c9 .way-of .ensures) in
+    let y = object-got (a .self) g (a .o) (c13 .object-of .result) (c13 .object-of .ensures) in
+    let z = waits (c11 .of-open .ensures (view (a .self)) (direction (a .reads)) (a .s) (a .o) w
+    (subject-got (a .self) g (a .s) (c14 .subject-of .result) (c14 .subject-of .ensures)) y
+    (handle-got (a .self) g (a .s) (a .p) (c12 .handle-of .result) (c12 .handle-of .ensures))) (c10 .if1 .left) in
+    let e = c2 .last .ensures (view (a .self)) (opens (direction (a .reads)) (a .s) (a .o) (a .p)) z
+    (open-late (a .self) g (a .reads) (a .s) (a .o) (a .p) (c13 .object-of .result) (c8 .joining .result) (c7 .with-handle .result) (c4 .opened .result .needs)
+    (c4 .opened .result .short) w (firm .safe) z y i (c7 .with-handle .ensures) (c4 .opened .ensures) (c3 .is-frozen .result)
+    (c3 .is-frozen .ensures (view (a .self)) (a .o) refl y)) in
+    opens-acts (a .self) g (a .reads) (a .s) (a .o) (a .p) (c13 .object-of .result) (c8 .joining .result) (c7 .with-handle .result) (c4 .opened .result .needs)
+    (c4 .opened .result .short) w (firm .safe) z y i (c7 .with-handle .ensures) (c4 .opened .ensures) (frees e (c1 .if2 .left))
 
 pub open-spec : {M : Type 1} → statement M
 open-spec =
@@ -146,8 +144,7 @@ open-spec =
     way-of-requires
     joining-requires
     with-handle-requires
-    figures-requires
-    is-short-requires
+    opened-requires
     is-frozen-requires
     last-requires
     refuse-requires-2

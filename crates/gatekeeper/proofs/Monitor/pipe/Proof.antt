@@ -2,6 +2,7 @@
 use Rattle.model.specs.Calls.{make-pipe}
 use Rattle.gatekeeper.specs.View.{view}
 use Rattle.gatekeeper.proofs.Acting.{stops, goes}
+use Rattle.gatekeeper.proofs.Owned.{owned-long}
 use Rattle.gatekeeper.proofs.Storing.{subject-got, object-got, handle-got, pipes}
 use borrow.Author.Needs.{needs}
 use Rattle.gatekeeper.proofs.Monitor.pipe.Statement.{statement}
@@ -35,8 +36,8 @@ returns c =
     let c6 = c5 .before in
     let c10 = c6 .before .before .before .before in
     let a = c10 .args in
-    let g = c10 .good .0 in
-    let w = c10 .pre in
+    let g = owned-long (a .self) (c10 .good .0) in
+    λ firm. let w = firm .wf in
     stops (a .self) (make-pipe (a .s) (a .o) (a .r) (a .w)) (c2 .of-pipe .result) (c .refuse .result)
     (c2 .of-pipe .ensures (view (a .self)) (a .s) w (subject-got (a .self) g (a .s) (c6 .subject-of .result) (c6 .subject-of .ensures))
     (object-got (a .self) g (a .o) (c5 .object-of .result) (c5 .object-of .ensures))
@@ -68,8 +69,8 @@ returns-2 c =
     let c10 = c9 .before in
     let c14 = c10 .before .before .before .before in
     let a = c14 .args in
-    let g = c14 .good .0 in
-    let w = c14 .pre in
+    let g = owned-long (a .self) (c14 .good .0) in
+    λ firm. let w = firm .wf in
     let x = subject-got (a .self) g (a .s) (c10 .subject-of .result) (c10 .subject-of .ensures) in
     let z = goes (c6 .of-pipe .ensures (view (a .self)) (a .s) w x
     (object-got (a .self) g (a .o) (c9 .object-of .result) (c9 .object-of .ensures))

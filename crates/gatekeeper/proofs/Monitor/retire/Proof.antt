@@ -2,6 +2,7 @@
 use Rattle.model.specs.Calls.{retire}
 use Rattle.gatekeeper.specs.View.{view}
 use Rattle.gatekeeper.proofs.Acting.{stops, ends, waits, frees}
+use Rattle.gatekeeper.proofs.Owned.{owned-long}
 use Rattle.gatekeeper.proofs.Storing.{object-got, retire-late, retires}
 use borrow.Author.Needs.{needs}
 use Rattle.gatekeeper.proofs.Monitor.retire.Statement.{statement}
@@ -23,8 +24,8 @@ returns c =
     let c3 = c2 .before in
     let c5 = c3 .before .before in
     let a = c5 .args in
-    let g = c5 .good .0 in
-    let w = c5 .pre in
+    let g = owned-long (a .self) (c5 .good .0) in
+    λ firm. let w = firm .wf in
     stops (a .self) (retire (a .o)) (c2 .of-retire .result) (c .refuse .result)
     (c2 .of-retire .ensures (view (a .self)) (a .o) w (object-got (a .self) g (a .o) (c3 .object-of .result) (c3 .object-of .ensures))) (c1 .if1 .taken)
     (c .refuse .ensures)
@@ -51,8 +52,8 @@ returns-2 c =
     let c7 = c6 .before in
     let c9 = c7 .before .before in
     let a = c9 .args in
-    let g = c9 .good .0 in
-    let w = c9 .pre in
+    let g = owned-long (a .self) (c9 .good .0) in
+    λ firm. let w = firm .wf in
     let y = object-got (a .self) g (a .o) (c7 .object-of .result) (c7 .object-of .ensures) in
     let z = waits (c6 .of-retire .ensures (view (a .self)) (a .o) w y) (c5 .if1 .left) in
     let e = c2 .last .ensures (view (a .self)) (retire (a .o)) z
@@ -72,8 +73,8 @@ returns-3 c =
     let c7 = c6 .before in
     let c9 = c7 .before .before in
     let a = c9 .args in
-    let g = c9 .good .0 in
-    let w = c9 .pre in
+    let g = owned-long (a .self) (c9 .good .0) in
+    λ firm. let w = firm .wf in
     let y = object-got (a .self) g (a .o) (c7 .object-of .result) (c7 .object-of .ensures) in
     let z = waits (c6 .of-retire .ensures (view (a .self)) (a .o) w y) (c5 .if1 .left) in
     let e = c2 .last .ensures (view (a .self)) (retire (a .o)) z

@@ -1,0 +1,12 @@
+-- A monitor that keeps the invariant and whose needs are right is honest, whatever it says of itself; and so is one that does not say that it is sure. Assumes nothing.
+use mathlib.Core.Path.{subst}
+use Rattle.model.specs.Tables.{Tables}
+use Rattle.model.specs.Invariant.{Kept}
+use Rattle.model.specs.Invariant.Laws.{clean-same}
+use Rattle.model.specs.Figures.{Ready}
+use Rattle.tables.specs.Needs.{figure-of}
+use Rattle.gatekeeper.specs.declared.Monitor.{Monitor}
+use Rattle.gatekeeper.specs.View.{view, Honest, Right}
+
+pub kept-honest : (m : Monitor) → Kept (view m) → Right m → Honest m
+kept-honest m k r q = (k, subst (λ (t : Tables). Ready t (figure-of (m .needs))) (clean-same (view m) (k .wf)) r)

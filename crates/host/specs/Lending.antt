@@ -1,0 +1,51 @@
+-- A monitor and its tally as the struct that a host lends: what a call leaves there and returns, what the empty state is, and a list of calls. States RULES H12, H23, T12,
+-- T15, F12, F19, F20, Y8, Y9, R102, R103 and B24 of it.
+--
+-- Every value of the struct is a state, and there is no length that could be another: nothing is asked of what is lent but that it is honest, and of any other a refused call
+-- still leaves every field (RULES R102, R103). Assumes nothing.
+use mathlib.Core.Path.{_≡_}
+use mathlib.Core.List.{List, [], _∷_}
+use Prim.Native.Nat.{ℕ}
+use Rattle.model.specs.Tables.{Tables, empty, clean}
+use Rattle.model.specs.Calls.{Raw, decode, Answer}
+use Rattle.model.specs.Promise.{Meets}
+use Rattle.model.specs.Tally.{zeroed, tallied}
+use Rattle.gatekeeper.specs.View.{view, Honest, Right}
+use Rattle.tally.specs.Counting.{counts-of}
+use Rattle.quick.specs.Parts.{Done}
+use Rattle.host.specs.declared.lent.State.{State}
+use Rattle.host.specs.Numbers.{answer-number, answer-in}
+pub mod Laws
+
+-- the tables of a state; that what it says of itself is so; that its kept needs are right
+abbrev pub lent-view : State → Tables
+lent-view x = view (x .monitor)
+
+abbrev pub lent-honest : State → Type 0
+lent-honest x = Honest (x .monitor)
+
+abbrev pub lent-right : State → Type 0
+lent-right x = Right (x .monitor)
+
+-- `gatekeeper_monitor_call` of the call r on the state x returned n, and left the state y
+pub record Lends (x : State) (r : Raw) (n : ℕ) (y : State) : Type 0 where
+  -- RULES H12: n is the number of the answer that the header's two functions read off it
+  pub number : n ≡ answer-number (answer-in n)
+  -- RULES T15, F12, F20, R102, R103: and that answer and the state left are what the rules promise of a call
+  pub meets : Meets lent-view lent-honest lent-right x (decode r) (answer-in n) y
+  -- RULES Y9: the tally left is the history's
+  pub counts : lent-honest x → counts-of (y .tally) ≡ tallied (clean (lent-view x)) (decode r) (counts-of (x .tally))
+
+-- RULES T12, F12, F19, Y8: `gatekeeper_monitor_empty` leaves empty tables, which say of themselves what is so, kept needs that are right, and counts of 0
+pub record Begins (x : State) : Type 0 where
+  pub tables : lent-view x ≡ empty
+  pub honest : lent-honest x
+  pub right : lent-right x
+  pub counts : counts-of (x .tally) ≡ zeroed
+
+-- RULES B24: a list of calls, each on the state that the one before left, by `gatekeeper_monitor_call` or done in place, with their answers
+pub data Lendings : State → List Raw → List Answer → State → Type 0 where
+  done : {x : State} → Lendings x [] [] x
+  called : {x y z : State} {r : Raw} {rs : List Raw} {n : ℕ} {l : List Answer} → Lends x r n y → Lendings y rs l z → Lendings x (r ∷ rs) (answer-in n ∷ l) z
+  quickly : {x y z : State} {r : Raw} {rs : List Raw} {n : ℕ} {l : List Answer} → Done (x .monitor) (x .tally) r n (y .monitor) (y .tally) → Lendings y rs l z
+      → Lendings x (r ∷ rs) (answer-in n ∷ l) z

@@ -1,0 +1,146 @@
+// A monitor and its tally as a struct that a host keeps and lends, in place of the lent bytes (RULES S1, H12, H23, H24): nothing is parsed at a call, and nothing
+// laid out. It has bytes and two numbers of 64 bits, each value of which is one, so that a host can hand in nothing wrong.
+ghost use Rattle.gatekeeper.specs.View.{direct};
+ghost use Rattle.quick.specs.Parts.{Tried};
+ghost use Rattle.host.specs.Lending.{Lends, Begins};
+use gatekeeper::Monitor;
+use tally::Tally;
+
+// A monitor and its tally, as a host keeps them.
+#[repr(C)]
+pub struct State {
+    pub monitor: Monitor,
+    pub tally: Tally,
+}
+
+// What a call hands back: the next state, and the answer as a number.
+struct Stepped {
+    state: State,
+    number: u32,
+}
+
+// The work of a call, with the state by value.
+fn step(state: State, code: u32, a: u32, b: u32, c: u32, d: u32, e: u32, f: u32) -> Stepped
+    ensures { λ r. ⌜ Lends state (direct code a b c d e f) (r .number) (r .state) ⌝ }
+{
+    let m = state.monitor;
+    let t = state.tally;
+    let counted = tally::counted_call(m, t, code, a, b, c, d, e, f);
+    let reply = counted.reply;
+    let answer = reply.answer;
+    let number = crate::to_number(answer);
+    let monitor = reply.monitor;
+    let after = counted.tally;
+    let next = State {
+        monitor: monitor,
+        tally: after,
+    };
+    Stepped {
+        state: next,
+        number: number,
+    }
+}
+
+// The empty tables, without a freeze, and a zero tally.
+fn begun() -> State
+    ensures { λ r. ⌜ Begins r ⌝ }
+{
+    let monitor = Monitor::empty();
+    State {
+        monitor: monitor,
+        tally: Tally { made: 0, gone: 0 },
+    }
+}
+
+// ---- exported
+
+// The empty tables, without a freeze, and a zero tally, whatever stood there.
+#[no_mangle]
+pub extern "C" fn gatekeeper_monitor_empty(state: &mut State)
+    ensures { λ _. ⌜ Begins (now (state .exit)) ⌝ }
+{
+    let out = begun();
+    *state = out;
+}
+
+// The direct counted call on the monitor and the tally that are lent.
+#[no_mangle]
+pub extern "C" fn gatekeeper_monitor_call(
+    state: &mut State,
+    code: u32,
+    a: u32,
+    b: u32,
+    c: u32,
+    d: u32,
+    e: u32,
+    f: u32,
+) -> u32
+    ensures { λ r. ⌜ Lends (now (state .entry)) (direct code a b c d e f) r (now (state .exit)) ⌝ }
+{
+    let was = *state;
+    let out = step(was, code, a, b, c, d, e, f);
+    *state = out.state;
+    out.number
+}
+
+// An open (code 5 or 6), or a close, that changes no need, done in place on the parts of the struct as they lie in memory; 0, and nothing is touched, where it is not that simple: then
+// `gatekeeper_monitor_call` is to be made.
+#[no_mangle]
+pub extern "C" fn gatekeeper_quick_open(
+    subjects: &[u8],
+    objects: &[u8],
+    handles: &mut [u8],
+    needs: &[u8],
+    counts: &mut [u64],
+    freeze: u8,
+    sure: u8,
+    code: u32,
+    s: u32,
+    o: u32,
+    p: u32,
+) -> u32
+    ensures { λ r. ⌜ Tried (now (subjects .entry)) (now (objects .entry)) (now (handles .entry)) (now (needs .entry)) (now (counts .entry)) freeze sure
+        (direct code s o p 0 0 0) r (now (handles .exit)) (now (counts .exit)) ⌝ }
+{
+    quick::opened(
+        subjects,
+        objects,
+        handles,
+        needs,
+        counts,
+        freeze,
+        sure,
+        code,
+        s,
+        o,
+        p,
+    )
+}
+
+#[no_mangle]
+pub extern "C" fn gatekeeper_quick_close(
+    subjects: &[u8],
+    objects: &[u8],
+    handles: &mut [u8],
+    needs: &[u8],
+    counts: &mut [u64],
+    freeze: u8,
+    sure: u8,
+    s: u32,
+    p: u32,
+) -> u32
+    ensures { λ r. ⌜ Tried (now (subjects .entry)) (now (objects .entry)) (now (handles .entry)) (now (needs .entry)) (now (counts .entry)) freeze sure
+        (direct 11 s p 0 0 0 0) r (now (handles .exit)) (now (counts .exit)) ⌝ }
+{
+    quick::closed(
+        subjects,
+        objects,
+        handles,
+        needs,
+        counts,
+        freeze,
+        sure,
+        s,
+        p,
+    )
+}

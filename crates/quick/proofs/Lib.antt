@@ -1,0 +1,5 @@
+-- The laws that this crate's proofs cite: a call that was done on a monitor's parts (Doing), and for an open and a close what the quick tests say (Opening, Closing). Assumes
+-- nothing.
+pub mod Doing
+pub mod Opening
+pub mod Closing

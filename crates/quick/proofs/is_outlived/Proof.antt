@@ -1,0 +1,18 @@
+-- `quick::is_outlived` meets its contract. Assumes nothing.
+use mathlib.Core.Logic.{inl, inr}
+use native.Mathlib.Omega.{arith}
+use borrow.Author.Needs.{needs}
+use Rattle.quick.proofs.is_outlived.Statement.{statement}
+use Rattle.quick.proofs.is_outlived.Tie as tie
+
+returns : tie.Need-returns
+returns c = λ e. inl (omega (arith, c .if1 .taken))
+
+is-beside-requires : tie.Need-is-beside-requires
+is-beside-requires c κs = search needs
+
+returns-2 : tie.Need-returns-2
+returns-2 c = λ e. inr (c .is-beside .ensures e)
+
+pub is-outlived-spec : {M : Type 1} → statement M
+is-outlived-spec = tie.close (tie.spec returns is-beside-requires returns-2)

@@ -1,0 +1,327 @@
+// Opens and closes that change no need, in place: on the bytes of the struct's parts, of which they read and store the few that the call is about. Whatever else a call
+// may be, it is left alone, and 0 says so: then the monitor's own call is to be made.
+//
+// The parts are those of the monitor (`gatekeeper::Monitor`) as they lie in memory, and the two counts. What they stand for is in specs/Parts.antt.
+ghost use mathlib.Core.Path.{_≡_};
+ghost use mathlib.Core.Bool.{true, not, _&&_, _||_};
+ghost use mathlib.Core.Logic.{_⊎_};
+ghost use Prim.Native.Nat.{_+_, _*_, _%_, _<_};
+ghost use lib.Dec.{eqb};
+ghost use lib.ListN.{length, getD, set};
+ghost use Rattle.model.specs.Tally.{wrapped};
+ghost use Rattle.tables.specs.Records.{reads-by, no-subject, no-object, no-handle};
+ghost use Rattle.tables.specs.Working.{subject-at, object-at, handle-at};
+ghost use Rattle.flows.specs.Working.{demands};
+ghost use Rattle.gatekeeper.specs.View.{direct};
+ghost use Rattle.gatekeeper.specs.Acting.{way-by};
+ghost use Rattle.quick.specs.Parts.{subjects-in, objects-in, handles-in, Beside, Tried};
+use flows::kept;
+use gatekeeper::SURE;
+use tables::EMPTY;
+use tables::FILE;
+use tables::HANDLES;
+use tables::Handle;
+use tables::OBJECTS;
+use tables::Object;
+use tables::READS;
+use tables::SUBJECTS;
+use tables::Subject;
+use tables::WRITES;
+use tables::looks;
+use tables::refusals;
+
+// What is returned where nothing was done.
+const NOT_DONE: u32 = 0;
+
+// 256 times the letter's byte: A, and R.
+const ALLOWED: u32 = 256 * 65;
+
+const REFUSED: u32 = 256 * 82;
+
+// How many bytes each part has; the counts are two numbers.
+const SUBJECT_BYTES: usize = 2 * SUBJECTS;
+
+const OBJECT_BYTES: usize = 2 * OBJECTS;
+
+const HANDLE_BYTES: usize = 3 * HANDLES;
+
+// ---- one record
+
+fn subject_in(subjects: &[u8], s: u32) -> Subject
+    requires { ⌜ length (now subjects) ≡ 64 ⌝ }
+    ensures there { λ r. ⌜ r ≡ subject-at s (getD (subjects-in (now (subjects .entry))) (s % 32) no-subject) ⌝ }
+    ensures byte { λ r. ⌜ r .level < 256 ⌝ }
+{
+    let at = 2 * (s as usize % SUBJECTS);
+    let live = subjects[at];
+    let next = at + 1;
+    let level = subjects[next];
+    let x = Subject { live, level };
+    looks::subject_at(s, x)
+}
+
+fn object_in(objects: &[u8], o: u32) -> Object
+    requires { ⌜ length (now objects) ≡ 128 ⌝ }
+    ensures there { λ r. ⌜ r ≡ object-at o (getD (objects-in (now (objects .entry))) (o % 64) no-object) ⌝ }
+    ensures byte { λ r. ⌜ r .level < 256 ⌝ }
+{
+    let at = 2 * (o as usize % OBJECTS);
+    let kind = objects[at];
+    let next = at + 1;
+    let level = objects[next];
+    let y = Object { kind, level };
+    looks::object_at(o, y)
+}
+
+fn handle_in(handles: &[u8], s: u32, p: u32) -> Handle
+    requires { ⌜ length (now handles) ≡ 1536 ⌝ }
+    ensures { λ r. ⌜ r ≡ handle-at s p (getD (handles-in (now (handles .entry))) (s % 32 * 16 + p % 16) no-handle) ⌝ }
+{
+    let i = looks::slot_of(s, p);
+    let at = 3 * i;
+    let way = handles[at];
+    let next = at + 1;
+    let object = handles[next];
+    let last = next + 1;
+    let mark = handles[last];
+    let h = Handle { way, object, mark };
+    looks::handle_at(s, p, h)
+}
+
+fn put(handles: &mut [u8], s: u32, p: u32, h: Handle)
+    requires { ⌜ length (now handles) ≡ 1536 ⌝ }
+    ensures put { λ _. ⌜ handles-in (now (handles .exit)) ≡ set (handles-in (now (handles .entry))) (s % 32 * 16 + p % 16) h ⌝ }
+    ensures size { λ _. ⌜ length (now (handles .exit)) ≡ 1536 ⌝ }
+{
+    let i = looks::slot_of(s, p);
+    let at = 3 * i;
+    let next = at + 1;
+    let last = next + 1;
+    handles[at] = h.way;
+    handles[next] = h.object;
+    handles[last] = h.mark;
+}
+
+// The need of subject s, and of object o, each modulo how many there are.
+fn subject_need(needs: &[u8], s: u32) -> u8
+    requires { ⌜ length (now needs) ≡ 96 ⌝ }
+    ensures { λ r. ⌜ r ≡ getD (now (needs .entry)) (s % 32) 0 ⌝ }
+{
+    let at = s as usize % SUBJECTS;
+    needs[at]
+}
+
+fn object_need(needs: &[u8], o: u32) -> u8
+    requires { ⌜ length (now needs) ≡ 96 ⌝ }
+    ensures { λ r. ⌜ r ≡ getD (now (needs .entry)) (32 + o % 64) 0 ⌝ }
+{
+    let at = SUBJECTS + o as usize % OBJECTS;
+    needs[at]
+}
+
+// So many more handles made, and gone.
+fn count(counts: &mut [u64], made: u64, gone: u64)
+    requires { ⌜ length (now counts) ≡ 2 ⌝ }
+    ensures { λ _. ⌜ now (counts .exit) ≡ set (set (now (counts .entry)) 0 (wrapped (getD (now (counts .entry)) 0 0 + made))) 1 (wrapped (getD (now (counts .entry)) 1 0 + gone)) ⌝ }
+{
+    let first = counts[0];
+    let second = counts[1];
+    counts[0] = std::num::wrapping_add_u64(first, made);
+    counts[1] = std::num::wrapping_add_u64(second, gone);
+}
+
+// The way of a handle for reading, or for writing.
+fn way_of(reads: bool) -> u8
+    ensures { λ r. ⌜ r ≡ way-by reads ⌝ }
+{
+    if reads {
+        return READS;
+    }
+    WRITES
+}
+
+// ---- what is asked first
+
+// The parts have their lengths.
+fn are_whole(subjects: usize, objects: usize, handles: usize, needs: usize, counts: usize) -> bool
+    ensures { λ r. ⌜ (r ≡ true → (subjects ≡ 64) × (objects ≡ 128) × (handles ≡ 1536) × (needs ≡ 96) × (counts ≡ 2)) ⌝ }
+{
+    if subjects != SUBJECT_BYTES {
+        return false;
+    }
+    if objects != OBJECT_BYTES {
+        return false;
+    }
+    if handles != HANDLE_BYTES {
+        return false;
+    }
+    if needs != SUBJECTS + OBJECTS {
+        return false;
+    }
+    counts == 2
+}
+
+// A handle other than that at index `at` is on object o. It looks from there on, and then from the front.
+fn is_beside(handles: &[u8], o: u8, at: usize) -> bool
+    requires { ⌜ (length (now handles) ≡ 1536) × (at < 512) ⌝ }
+    ensures { λ r. ⌜ (r ≡ true → Beside (handles-in (now (handles .entry))) o at) ⌝ }
+{
+    let mut k: usize = 1;
+    while k < HANDLES {
+        let i = (at + k) % HANDLES;
+        let first = 3 * i;
+        let way = handles[first];
+        let next = first + 1;
+        let object = handles[next];
+        if way != EMPTY {
+            if object == o {
+                return true;
+            }
+        }
+        k += 1;
+    }
+    false
+}
+
+// ---- calls 5 and 6
+
+// An open for reading (code 5) or writing (code 6) of object o by subject s at its place p: done where the monitor is sure and the flow falls by the needs, or where no
+// flow is asked about.
+pub fn opened(
+    subjects: &[u8],
+    objects: &[u8],
+    handles: &mut [u8],
+    needs: &[u8],
+    counts: &mut [u64],
+    freeze: u8,
+    sure: u8,
+    code: u32,
+    s: u32,
+    o: u32,
+    p: u32,
+) -> u32
+    ensures { λ r. ⌜ Tried (now (subjects .entry)) (now (objects .entry)) (now (handles .entry)) (now (needs .entry)) (now (counts .entry)) freeze sure
+        (direct code s o p 0 0 0) r (now (handles .exit)) (now (counts .exit)) ⌝ }
+{
+    let whole = are_whole(
+        subjects.len(),
+        objects.len(),
+        handles.len(),
+        needs.len(),
+        counts.len(),
+    );
+    if !whole {
+        return NOT_DONE;
+    }
+    if sure != SURE {
+        return NOT_DONE;
+    }
+    let reads = code == 5;
+    let writes = code == 6;
+    let opens = looks::either(reads, writes);
+    if !opens {
+        return NOT_DONE;
+    }
+    let x = subject_in(subjects, s);
+    let y = object_in(objects, o);
+    let h = handle_in(&handles[..], s, p);
+    let n = refusals::of_open(p, x, y, h);
+    if n != 0 {
+        return REFUSED + n as u32;
+    }
+    let mine = subject_need(needs, s);
+    let its = object_need(needs, o);
+    let down = kept::falls(reads, mine, its);
+    if !down {
+        return NOT_DONE;
+    }
+    let frozen = refusals::is_frozen(freeze, reads, y);
+    let late = refusals::last(false, false, frozen);
+    if late != 0 {
+        return REFUSED + late as u32;
+    }
+    let way = way_of(reads);
+    let new = looks::joining(way, o);
+    put(handles, s, p, new);
+    count(counts, 1, 0);
+    ALLOWED + y.level as u32
+}
+
+// ---- call 11
+
+// No need changes where subject s closes handle h: the needs of its two ends differ, both are 0, or h read the file y, which demands as much by itself.
+fn is_quiet(h: Handle, y: Object, mine: u8, its: u8) -> bool
+    ensures { λ r. ⌜ r ≡ (not (eqb mine its) || (eqb mine 0 || (reads-by (h .way) && demands y mine))) ⌝ }
+{
+    let apart = mine != its;
+    let none = mine == 0;
+    let backed = kept::is_backed(h, y, mine);
+    let same = looks::either(none, backed);
+    looks::either(apart, same)
+}
+
+// The object y of a handle outlives it: it is a file, or another handle is on it.
+fn is_outlived(handles: &[u8], y: Object, o: u8, at: usize) -> bool
+    requires { ⌜ (length (now handles) ≡ 1536) × (at < 512) ⌝ }
+    ensures { λ r. ⌜ (r ≡ true → (y .kind < 2) ⊎ Beside (handles-in (now (handles .entry))) o at) ⌝ }
+{
+    if y.kind <= FILE {
+        return true;
+    }
+    is_beside(handles, o, at)
+}
+
+// A close of the handle at place p of subject s: done where the monitor is sure, no need changes by it, and its object outlives it.
+pub fn closed(
+    subjects: &[u8],
+    objects: &[u8],
+    handles: &mut [u8],
+    needs: &[u8],
+    counts: &mut [u64],
+    freeze: u8,
+    sure: u8,
+    s: u32,
+    p: u32,
+) -> u32
+    ensures { λ r. ⌜ Tried (now (subjects .entry)) (now (objects .entry)) (now (handles .entry)) (now (needs .entry)) (now (counts .entry)) freeze sure
+        (direct 11 s p 0 0 0 0) r (now (handles .exit)) (now (counts .exit)) ⌝ }
+{
+    let whole = are_whole(
+        subjects.len(),
+        objects.len(),
+        handles.len(),
+        needs.len(),
+        counts.len(),
+    );
+    if !whole {
+        return NOT_DONE;
+    }
+    if sure != SURE {
+        return NOT_DONE;
+    }
+    let x = subject_in(subjects, s);
+    let h = handle_in(&handles[..], s, p);
+    let n = refusals::of_held(x, h);
+    if n != 0 {
+        return REFUSED + n as u32;
+    }
+    let number = h.object as u32;
+    let y = object_in(objects, number);
+    let mine = subject_need(needs, s);
+    let its = object_need(needs, number);
+    if !is_quiet(h, y, mine, its) {
+        return NOT_DONE;
+    }
+    let at = looks::slot_of(s, p);
+    if !is_outlived(&handles[..], y, h.object, at) {
+        return NOT_DONE;
+    }
+    let empty = Handle {
+        way: EMPTY,
+        object: 0,
+        mark: 0,
+    };
+    put(handles, s, p, empty);
+    count(counts, 0, 1);
+    ALLOWED + x.level as u32
+}

@@ -1,0 +1,92 @@
+/*
+ * A small host in C that keeps its monitor as a struct, for speed: it asks before each step of a pay run, reads what it
+ * shows from the fields, and asks what would be on a copy. host/examples/lent.txt is what it prints; payday.c, beside
+ * this one, keeps a monitor as bytes.
+ *
+ *   cc host/examples/lent.c -I host target/staticlib/libhost.a -o lent && ./lent
+ */
+#include <inttypes.h>
+#include <stdio.h>
+#include <stdlib.h>
+
+#include "gatekeeper.h"
+
+/* The numbers that this host gives: subjects, files, pipes. */
+enum { SHELL = 0, ADDER = 1 };
+enum { PAY_BOOK = 0, SHEET = 1, PIPE = 8 };
+
+/* The numbers of a call, and 0 for each that it does not use. */
+#define WITH(...) ((const uint32_t[6]){__VA_ARGS__})
+
+/* Makes a call, and says what came of it; whether it may be done. */
+static bool ask(struct gatekeeper_monitor *monitor, const char *what, uint32_t code, const uint32_t n[6])
+{
+    uint32_t answer = gatekeeper_monitor_step(monitor, code, n[0], n[1], n[2], n[3], n[4], n[5]);
+    uint32_t value = gatekeeper_value(answer);
+    printf("%-66s ", what);
+    if (!gatekeeper_allows(answer)) {
+        printf("refused (%" PRIu32 "): %s\n", value, gatekeeper_refusal_text(value));
+        return false;
+    }
+    bool lowered = gatekeeper_letter(answer) == GATEKEEPER_LOWERED;
+    printf(lowered ? "lowered to level %" PRIu32 "\n" : "allowed, level %" PRIu32 "\n", value);
+    return true;
+}
+
+/* The same for a call without which this host cannot go on. */
+static void must(struct gatekeeper_monitor *monitor, const char *what, uint32_t code, const uint32_t n[6])
+{
+    if (!ask(monitor, what, code, n)) {
+        fflush(stdout);
+        fputs("lent: a call that the pay run needs was refused\n", stderr);
+        exit(EXIT_FAILURE);
+    }
+}
+
+/* What the duty screen shows, from the fields: each step's level, its kept need, and how many handles it has. */
+static void show(const struct gatekeeper_monitor *monitor)
+{
+    for (unsigned step = 0; step < GATEKEEPER_SUBJECTS; step++) {
+        unsigned handles = 0;
+        if (monitor->subjects[step].live == 0)
+            continue;
+        for (unsigned place = 0; place < GATEKEEPER_PLACES; place++)
+            handles += monitor->handles[GATEKEEPER_PLACES * step + place].way != 0;
+        printf("The duty screen shows: step %u is at level %u and may fall to %u; handles: %u.\n", step,
+               monitor->subjects[step].level, monitor->needs[step], handles);
+    }
+}
+
+int main(void)
+{
+    struct gatekeeper_monitor monitor;
+    if (gatekeeper_version() != GATEKEEPER_VERSION_NUMBER)
+        return 1;
+    gatekeeper_monitor_empty(&monitor);
+
+    must(&monitor, "The pay book is file 0.", GATEKEEPER_REGISTER, WITH(PAY_BOOK, 9));
+    must(&monitor, "The hours sheet of shop 3, which nobody has checked, is file 1.", GATEKEEPER_REGISTER,
+         WITH(SHEET, 2));
+    must(&monitor, "The shell is step 0.", GATEKEEPER_ADMIT, WITH(SHELL, 12));
+    must(&monitor, "The shell makes pipe 8: place 0 reads it, place 1 writes it.", GATEKEEPER_PIPE,
+         WITH(SHELL, PIPE, 0, 1));
+    must(&monitor, "It forks the adder, step 1.", GATEKEEPER_FORK, WITH(SHELL, ADDER));
+    must(&monitor, "The adder closes its reading end.", GATEKEEPER_CLOSE, WITH(ADDER, 0));
+    must(&monitor, "The shell closes its writing end.", GATEKEEPER_CLOSE, WITH(SHELL, 1));
+    must(&monitor, "The shell opens the pay book for writing.", GATEKEEPER_OPEN_WRITE, WITH(SHELL, PAY_BOOK, 2));
+    show(&monitor);
+
+    if (!ask(&monitor, "The adder opens the sheet for reading.", GATEKEEPER_OPEN_READ, WITH(ADDER, SHEET, 3))) {
+        puts("\nOn a copy, which is a monitor of its own: what if the shell closed the pay book?");
+        struct gatekeeper_monitor copy = monitor;
+        must(&copy, "The shell closes the pay book.", GATEKEEPER_CLOSE, WITH(SHELL, 2));
+        if (ask(&copy, "The adder opens the sheet for reading.", GATEKEEPER_OPEN_READ, WITH(ADDER, SHEET, 3)))
+            must(&copy, "The adder reads it.", GATEKEEPER_READ, WITH(ADDER, 3));
+        show(&copy);
+        puts("\nThe monitor itself is as it was");
+        show(&monitor);
+    }
+    uint64_t made = monitor.counts[GATEKEEPER_MADE], gone = monitor.counts[GATEKEEPER_GONE];
+    printf("\nHandles made: %" PRIu64 ", gone: %" PRIu64 ", open: %" PRIu64 ".\n", made, gone, made - gone);
+    return fflush(stdout) == 0 ? 0 : 1;
+}

@@ -1,0 +1,432 @@
+//! The monitor as a struct, for speed: the calls on it, and what its tables hold.
+
+use std::fmt;
+use std::mem::{align_of, offset_of, size_of};
+
+use crate::answer::Answer;
+use crate::archive;
+use crate::call::{Call, NO_FREEZE};
+use crate::look::{Handle, Kind, Object, Way, OBJECTS, PLACES, SUBJECTS};
+
+/// The codes of the calls that are tried in place first.
+const OPEN_READ: u32 = 5;
+const OPEN_WRITE: u32 = 6;
+const CLOSE: u32 = 11;
+
+/// A monitor with its tally of handles and its kept needs, as [`Monitor`](crate::Monitor) is one, and with the same
+/// answers: but it is kept as a struct, and a call parses no bytes and lays none out. It is for speed; a `Monitor` has
+/// bytes, which can be stored and sent.
+///
+/// It starts empty and only calls change it. So every answer is the rules', and its kept needs are right. It is a plain
+/// value: a clone is a state of its own. Two are equal if their tables, their counts, their freeze and their kept needs
+/// are, what stands at numbers that are not in use too.
+///
+/// ```
+/// use gatekeeper::{Answer, Call, Refusal, State};
+///
+/// let mut state = State::new();
+/// state.call(Call::Admit { subject: 0, level: 9 }).granted()?; // a step of level 9
+/// state.call(Call::Register { object: 0, level: 9 }).granted()?; // the pay book
+/// state.call(Call::Register { object: 1, level: 2 }).granted()?; // an hours sheet that nobody has checked
+///
+/// let open = Call::OpenWrite { subject: 0, object: 0, place: 0 };
+/// assert_eq!(state.call(open), Answer::Allowed(9));
+/// let open = Call::OpenRead { subject: 0, object: 1, place: 1 };
+/// assert_eq!(state.call(open), Answer::Refused(Refusal::Flow));
+/// assert_eq!((state.subject(0), state.need_of_subject(0), state.open()), (Some(9), Some(9), 1));
+/// # Ok::<(), Refusal>(())
+/// ```
+#[repr(C)]
+#[derive(Clone, PartialEq, Eq)]
+pub struct State {
+    pub(crate) subjects: [SubjectRecord; SUBJECTS as usize],
+    pub(crate) objects: [ObjectRecord; OBJECTS as usize],
+    pub(crate) handles: [HandleRecord; (SUBJECTS * PLACES) as usize],
+    pub(crate) freeze: u8,
+    pub(crate) needs: [u8; (SUBJECTS + OBJECTS) as usize],
+    pub(crate) sure: u8,
+    /// Handles made, and handles gone.
+    pub(crate) counts: [u64; 2],
+}
+
+/// 0 where there is no such subject, and its level.
+#[repr(C)]
+#[derive(Clone, Copy, PartialEq, Eq)]
+pub(crate) struct SubjectRecord {
+    live: u8,
+    level: u8,
+}
+
+/// 0 where there is no such object, and its level.
+#[repr(C)]
+#[derive(Clone, Copy, PartialEq, Eq)]
+pub(crate) struct ObjectRecord {
+    kind: u8,
+    level: u8,
+}
+
+/// 0 where the place is empty, its object, and 0 where it is not marked. That of place p of subject s is number 16 s + p.
+#[repr(C)]
+#[derive(Clone, Copy, PartialEq, Eq)]
+pub(crate) struct HandleRecord {
+    way: u8,
+    object: u8,
+    mark: u8,
+}
+
+// `struct gatekeeper_monitor` of host/gatekeeper.h: what the archive is lent.
+const _: () = {
+    assert!(size_of::<State>() == 1848 && align_of::<State>() == 8);
+    assert!(offset_of!(State, subjects) == 0);
+    assert!(offset_of!(State, objects) == 64);
+    assert!(offset_of!(State, handles) == 192);
+    assert!(offset_of!(State, freeze) == 1728);
+    assert!(offset_of!(State, needs) == 1729);
+    assert!(offset_of!(State, sure) == 1825);
+    assert!(offset_of!(State, counts) == 1832);
+};
+
+impl State {
+    /// Nothing live, nothing open, nothing counted, nothing frozen.
+    pub fn new() -> State {
+        // No call hands a length over, which an archive of another version would find wrong.
+        let [major, minor, patch] = crate::archive_version();
+        let version = format!("{major}.{minor}.{patch}");
+        assert_eq!(version, crate::VERSION, "libhost.a is of another version than this crate");
+
+        let mut state = State {
+            subjects: [SubjectRecord { live: 0, level: 0 }; SUBJECTS as usize],
+            objects: [ObjectRecord { kind: 0, level: 0 }; OBJECTS as usize],
+            handles: [HandleRecord { way: 0, object: 0, mark: 0 }; (SUBJECTS * PLACES) as usize],
+            freeze: 0,
+            needs: [0; (SUBJECTS + OBJECTS) as usize],
+            sure: 0,
+            counts: [0; 2],
+        };
+        archive::monitor_empty(&mut state);
+        state
+    }
+
+    /// Makes a call.
+    pub fn call(&mut self, call: Call) -> Answer {
+        self.direct(call.code(), call.numbers())
+    }
+
+    /// Makes the call with this code, whatever it is. Numbers that the code does not use are ignored.
+    #[inline]
+    pub fn direct(&mut self, code: u32, numbers: [u32; 6]) -> Answer {
+        let quick = self.quick(code, numbers);
+        let number = if quick != 0 { quick } else { archive::monitor_call(self, code, numbers) };
+        Answer::from_number(number)
+    }
+
+    /// The answer's number to an open or a close that changes no need, which is done in place; 0, and nothing is
+    /// touched, where it is not that simple.
+    #[inline]
+    fn quick(&mut self, code: u32, numbers: [u32; 6]) -> u32 {
+        let [a, b, c, ..] = numbers;
+        match code {
+            OPEN_READ | OPEN_WRITE => archive::quick_open(self, code, a, b, c),
+            CLOSE => archive::quick_close(self, a, b),
+            _ => 0,
+        }
+    }
+
+    /// Handles made over all calls, modulo 2 to the 64th.
+    pub fn made(&self) -> u64 {
+        self.counts[0]
+    }
+
+    /// Handles gone over all calls, modulo 2 to the 64th.
+    pub fn gone(&self) -> u64 {
+        self.counts[1]
+    }
+
+    /// Made minus gone, modulo 2 to the 64th: the handles open.
+    pub fn open(&self) -> u64 {
+        self.made().wrapping_sub(self.gone())
+    }
+
+    /// The level from which on files are frozen; none where no file is.
+    pub fn frozen_from(&self) -> Option<u8> {
+        (u32::from(self.freeze) < NO_FREEZE).then_some(self.freeze)
+    }
+
+    /// Whether the state says of itself that calls made it, from the empty one on: the header's `sure`. It does, and
+    /// every call leaves that so: that is tested, not proved, and only speed goes by it.
+    pub fn is_sure(&self) -> bool {
+        self.sure == 1
+    }
+}
+
+/// For the tests of this crate: each of the two ways that a call can take, by itself, and a state that is not sure.
+#[doc(hidden)]
+impl State {
+    /// The call in place. None, and nothing is touched, where it is not that simple.
+    pub fn quickly(&mut self, code: u32, numbers: [u32; 6]) -> Option<Answer> {
+        let number = self.quick(code, numbers);
+        (number != 0).then(|| Answer::from_number(number))
+    }
+
+    /// The call by `gatekeeper_monitor_call`, whatever it is.
+    pub fn wholly(&mut self, code: u32, numbers: [u32; 6]) -> Answer {
+        Answer::from_number(archive::monitor_call(self, code, numbers))
+    }
+
+    /// The same tables, of which nothing is said.
+    pub fn unsure(&self) -> State {
+        State { sure: 0, ..self.clone() }
+    }
+}
+
+/// What the tables hold. Any number may be given; out of range there is nothing.
+///
+/// ```
+/// use gatekeeper::{Call, Handle, Kind, Object, Refusal, State, Way};
+///
+/// let mut state = State::new();
+/// state.call(Call::Register { object: 0, level: 7 }).granted()?; // a book of level 7
+/// state.call(Call::Admit { subject: 3, level: 9 }).granted()?; // a step of level 9
+/// state.call(Call::OpenWrite { subject: 3, object: 0, place: 5 }).granted()?; // the book at place 5
+///
+/// assert_eq!(state.object(0), Some(Object { kind: Kind::File, level: 7 }));
+/// assert_eq!(state.handle(3, 5), Some(Handle { way: Way::Writes, object: 0, marked: false }));
+/// assert_eq!(state.handle(3, 6), None);
+/// assert_eq!((state.subject(3), state.need_of_subject(3)), (Some(9), Some(7)));
+/// assert_eq!((state.subject(4), state.need_of_subject(4)), (None, None));
+/// # Ok::<(), Refusal>(())
+/// ```
+impl State {
+    /// The level of a subject; none where it is not live.
+    pub fn subject(&self, subject: u32) -> Option<u8> {
+        let record = self.subjects.get(subject as usize)?;
+        (record.live > 0).then_some(record.level)
+    }
+
+    /// An object; none where it is not live.
+    pub fn object(&self, object: u32) -> Option<Object> {
+        let &ObjectRecord { kind, level } = self.objects.get(object as usize)?;
+        let kind = match kind {
+            0 => return None,
+            1 => Kind::File,
+            _ => Kind::Pipe,
+        };
+        Some(Object { kind, level })
+    }
+
+    /// The handle at a place; none where it is empty, the subject not live, or the handle's object not live.
+    pub fn handle(&self, subject: u32, place: u32) -> Option<Handle> {
+        self.subject(subject)?;
+        let at = (place < PLACES).then_some(PLACES * subject + place)?;
+        let &HandleRecord { way, object, mark } = self.handles.get(at as usize)?;
+        let way = match way {
+            0 => return None,
+            1 => Way::Reads,
+            3 => Way::Maps,
+            _ => Way::Writes,
+        };
+        self.object(object.into())?;
+        Some(Handle { way, object, marked: mark > 0 })
+    }
+
+    /// The need of a subject, the lowest level that it may fall to while no handle goes; none where it is not live.
+    ///
+    /// The state keeps it ready, and nothing is worked out here.
+    pub fn need_of_subject(&self, subject: u32) -> Option<u8> {
+        self.subject(subject)?;
+        self.needs.get(subject as usize).copied()
+    }
+
+    /// The need of an object: nothing of a lower level may reach it; none where it is not live.
+    ///
+    /// It is kept as that of a subject is ([`State::need_of_subject`]).
+    pub fn need_of_object(&self, object: u32) -> Option<u8> {
+        self.object(object)?;
+        self.needs.get((SUBJECTS + object) as usize).copied()
+    }
+}
+
+impl Default for State {
+    fn default() -> State {
+        State::new()
+    }
+}
+
+impl fmt::Debug for State {
+    fn fmt(&self, f: &mut fmt::Formatter<'_>) -> fmt::Result {
+        f.debug_struct("State")
+            .field("made", &self.made())
+            .field("gone", &self.gone())
+            .field("frozen_from", &self.frozen_from())
+            .finish_non_exhaustive()
+    }
+}
+
+#[cfg(test)]
+mod tests {
+    use super::*;
+    use crate::Refusal;
+
+    /// The state after calls that are allowed.
+    fn after(calls: &[Call]) -> State {
+        let mut state = State::new();
+        for &call in calls {
+            assert!(state.call(call).granted().is_ok(), "{call:?}");
+        }
+        state
+    }
+
+    /// Every field, at the last number that it has.
+    #[test]
+    fn the_archive_writes_where_the_fields_are() {
+        let mut state = after(&[
+            Call::Register { object: 63, level: 7 },
+            Call::Admit { subject: 31, level: 9 },
+            Call::OpenWrite { subject: 31, object: 63, place: 15 },
+            Call::Pipe { subject: 31, object: 62, reads: 13, writes: 14 },
+            Call::Mark { subject: 31, place: 15 },
+            Call::Close { subject: 31, place: 13 },
+            Call::Freeze { level: 5 },
+        ]);
+        assert!(state.subjects[31] == SubjectRecord { live: 1, level: 9 });
+        assert!(state.objects[62] == ObjectRecord { kind: 2, level: 9 });
+        assert!(state.objects[63] == ObjectRecord { kind: 1, level: 7 });
+        assert!(state.handles[16 * 31 + 13].way == 0);
+        assert!(state.handles[16 * 31 + 14] == HandleRecord { way: 2, object: 62, mark: 0 });
+        assert!(state.handles[16 * 31 + 15] == HandleRecord { way: 2, object: 63, mark: 1 });
+        assert_eq!((state.needs[31], state.needs[32 + 63]), (7, 7));
+        assert_eq!((state.freeze, state.sure, state.counts), (5, 1, [3, 1]));
+        assert_eq!((state.open(), state.frozen_from()), (2, Some(5)));
+
+        assert_eq!(state.call(Call::Freeze { level: NO_FREEZE }), Answer::Allowed(16));
+        assert_eq!((state.freeze, state.frozen_from()), (16, None));
+        assert_eq!(state.call(Call::Exit { subject: 31 }), Answer::Allowed(9));
+        assert_eq!((state.subject(31), state.object(62), state.gone()), (None, None, 3));
+        assert!(state.is_sure());
+    }
+
+    #[test]
+    fn a_new_state_is_empty() {
+        let state = State::default();
+        assert_eq!((state.made(), state.gone(), state.open(), state.frozen_from()), (0, 0, 0, None));
+        assert_eq!((state.sure, state.is_sure(), state.unsure().is_sure()), (1, true, false));
+        assert!(state != state.unsure() && state == State::new());
+        assert!((0..=SUBJECTS).all(|s| state.subject(s).is_none() && state.need_of_subject(s).is_none()));
+        assert!((0..=OBJECTS).all(|o| state.object(o).is_none() && state.need_of_object(o).is_none()));
+        assert!((0..=SUBJECTS).all(|s| (0..=PLACES).all(|p| state.handle(s, p).is_none())));
+    }
+
+    #[test]
+    fn the_tables_are_shown() {
+        let state = after(&[
+            Call::Register { object: 0, level: 7 },
+            Call::Register { object: 1, level: 12 },
+            Call::Admit { subject: 0, level: 12 },
+            Call::Pipe { subject: 0, object: 5, reads: 0, writes: 1 },
+            Call::OpenWrite { subject: 0, object: 0, place: 2 },
+            Call::Map { subject: 0, object: 1, place: 15 },
+            Call::Mark { subject: 0, place: 0 },
+        ]);
+        let object = |kind, level| Some(Object { kind, level });
+        assert_eq!(
+            [0, 1, 2, 5, 64, u32::MAX].map(|o| state.object(o)),
+            [object(Kind::File, 7), object(Kind::File, 12), None, object(Kind::Pipe, 12), None, None]
+        );
+        assert_eq!([0, 1, 32, u32::MAX].map(|s| state.subject(s)), [Some(12), None, None, None]);
+        let handle = |way, object, marked| Some(Handle { way, object, marked });
+        assert_eq!(state.handle(0, 0), handle(Way::Reads, 5, true));
+        assert_eq!(state.handle(0, 1), handle(Way::Writes, 5, false));
+        assert_eq!(state.handle(0, 15), handle(Way::Maps, 1, false));
+        let empty = [(0, 3), (0, 16), (1, 0), (32, 0), (0, u32::MAX), (u32::MAX, 0), (1 << 28, 0)];
+        assert_eq!(empty.map(|(s, p)| state.handle(s, p)), [None; 7]);
+        assert_eq!([0, 1, 32, u32::MAX].map(|s| state.need_of_subject(s)), [Some(7), None, None, None]);
+        assert_eq!([0, 1, 5, 6].map(|o| state.need_of_object(o)), [Some(7), Some(12), Some(7), None]);
+        assert_eq!(state.need_of_object(u32::MAX), None);
+    }
+
+    #[test]
+    fn a_refused_call_changes_nothing() {
+        let mut state = after(&[
+            Call::Register { object: 0, level: 9 },
+            Call::Register { object: 1, level: 2 },
+            Call::Admit { subject: 0, level: 9 },
+            Call::OpenWrite { subject: 0, object: 0, place: 0 },
+        ]);
+        let before = state.clone();
+        let open = Call::OpenRead { subject: 0, object: 1, place: 1 };
+        assert_eq!(state.call(open), Answer::Refused(Refusal::Flow));
+        assert_eq!(state.direct(18, [0; 6]), Answer::Refused(Refusal::UnknownCode));
+        assert_eq!(state, before);
+    }
+
+    /// Opens and closes of each kind: what is quick, and what is not.
+    #[test]
+    fn what_changes_no_need_is_quick() {
+        let state = after(&[
+            Call::Register { object: 0, level: 9 },
+            Call::Register { object: 1, level: 2 },
+            Call::Admit { subject: 0, level: 9 },
+            Call::Pipe { subject: 0, object: 8, reads: 0, writes: 1 },
+            Call::OpenRead { subject: 0, object: 0, place: 2 },
+            Call::Map { subject: 0, object: 0, place: 3 },
+            Call::Mark { subject: 0, place: 2 },
+            Call::Freeze { level: 9 },
+        ]);
+        let tried = |call: Call| {
+            let mut state = state.clone();
+            (state.quickly(call.code(), call.numbers()), state)
+        };
+
+        // No need rises by a read of the file, and none falls by a close of one of the pipe's two handles.
+        for (call, level, counts) in [
+            (Call::OpenRead { subject: 0, object: 1, place: 4 }, 2, [5, 0]),
+            (Call::OpenRead { subject: 0, object: 8, place: 15 }, 9, [5, 0]),
+            (Call::Close { subject: 0, place: 0 }, 9, [4, 1]),
+            (Call::Close { subject: 0, place: 2 }, 9, [4, 1]),
+            (Call::Close { subject: 0, place: 3 }, 9, [4, 1]),
+        ] {
+            let (answer, left) = tried(call);
+            assert_eq!((answer, left.counts), (Some(Answer::Allowed(level)), counts), "{call:?}");
+        }
+        // What is refused before flows are asked about.
+        for (call, refusal) in [
+            (Call::OpenWrite { subject: 1, object: 0, place: 4 }, Refusal::NoSubject),
+            (Call::OpenRead { subject: 0, object: 2, place: 4 }, Refusal::NoObject),
+            (Call::OpenRead { subject: 0, object: 0, place: 16 }, Refusal::PlaceUnfit),
+            (Call::OpenWrite { subject: 0, object: 0, place: 0 }, Refusal::PlaceUnfit),
+            (Call::Close { subject: 32, place: 0 }, Refusal::NoSubject),
+            (Call::Close { subject: 0, place: 4 }, Refusal::PlaceUnfit),
+        ] {
+            let (answer, left) = tried(call);
+            assert_eq!((answer, left), (Some(Answer::Refused(refusal)), state.clone()), "{call:?}");
+        }
+        // A need rises, or the call is another.
+        for call in [
+            Call::OpenWrite { subject: 0, object: 0, place: 4 },
+            Call::OpenWrite { subject: 0, object: 1, place: 4 },
+            Call::Map { subject: 0, object: 0, place: 4 },
+            Call::Read { subject: 0, place: 2 },
+            Call::Exit { subject: 0 },
+        ] {
+            assert_eq!(tried(call), (None, state.clone()), "{call:?}");
+        }
+
+        // The last handle of a pipe is closed with the pipe, and the one that a need comes by with the need.
+        let mut state = state;
+        assert_eq!(state.call(Call::Close { subject: 0, place: 0 }), Answer::Allowed(9));
+        let last = Call::Close { subject: 0, place: 1 };
+        assert_eq!(state.quickly(last.code(), last.numbers()), None);
+        assert_eq!((state.call(last), state.object(8)), (Answer::Allowed(9), None));
+        assert_eq!(state.call(Call::Freeze { level: NO_FREEZE }), Answer::Allowed(16));
+        let open = Call::OpenWrite { subject: 0, object: 0, place: 4 };
+        assert_eq!((state.call(open), state.need_of_subject(0)), (Answer::Allowed(9), Some(9)));
+        // Now that the need is there, a second handle is quick, and frozen is what is quick but for the freeze.
+        let second = Call::OpenWrite { subject: 0, object: 0, place: 5 };
+        let mut frozen = state.clone();
+        assert_eq!(frozen.call(Call::Freeze { level: 9 }), Answer::Allowed(9));
+        assert_eq!(frozen.quickly(second.code(), second.numbers()), Some(Answer::Refused(Refusal::Frozen)));
+        assert_eq!(state.quickly(second.code(), second.numbers()), Some(Answer::Allowed(9)));
+        let close = Call::Close { subject: 0, place: 5 };
+        assert_eq!(state.quickly(close.code(), close.numbers()), None);
+    }
+}
