@@ -25,7 +25,7 @@ use Rattle.tables.specs.Records.{subject-entry, object-entry, no-subject, no-ob
 use Rattle.model.specs.Figures.{Ready}
 use Rattle.tables.specs.Needs.{node, figure-of}
 use Rattle.tables.specs.Working.{some-below}
-use Rattle.flows.specs.Working.{low-by, short-subject, short-object}
+use Rattle.passes.specs.Working.{low-by, short-subject, short-object}
 use Rattle.tables.proofs.Below.{some-of-below, below-some, same-test}
 
 -- ── one thing ──

@@ -13,7 +13,7 @@ ghost use Rattle.tables.specs.Records.{no-subject, no-object, tables-of};
 ghost use Rattle.model.specs.Figures.{Ready};
 ghost use Rattle.tables.specs.Needs.{figure-of, Needed};
 ghost use Rattle.tables.specs.Working.{some-below};
-ghost use Rattle.flows.specs.Working.{demanded-by, Marked, low-by, short-subject, short-object};
+ghost use Rattle.passes.specs.Working.{demanded-by, Marked, low-by, short-subject, short-object};
 use tables::FILE;
 use tables::FREE;
 use tables::HANDLES;
@@ -24,9 +24,6 @@ use tables::SUBJECTS;
 use tables::Subject;
 use tables::THINGS;
 use tables::looks;
-
-pub mod kept;
-mod passes;
 
 // A file's level; nothing else demands anything.
 fn demanded(x: Object) -> u8
@@ -39,7 +36,7 @@ fn demanded(x: Object) -> u8
 }
 
 // What each thing demands of all that reach it.
-fn marks(objects: [Object; OBJECTS]) -> [u8; THINGS]
+pub fn marks(objects: [Object; OBJECTS]) -> [u8; THINGS]
     ensures { λ r. ⌜ Marked objects r ⌝ }
 {
     let mut r = [0u8; THINGS];

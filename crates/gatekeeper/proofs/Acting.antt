@@ -16,7 +16,7 @@ use Rattle.model.specs.Invariant.Laws.{clean-same}
 use Rattle.model.specs.Figures.{Ready}
 use Rattle.model.specs.Promise.{Meets}
 use Rattle.tables.specs.Needs.{figure-of}
-use Rattle.tables.specs.Refusing.{late, Refuses, Refused}
+use Rattle.refusals.specs.Refusing.{late, Refuses, Refused}
 use Rattle.gatekeeper.specs.declared.Monitor.{Monitor}
 use Rattle.gatekeeper.specs.declared.Reply.{Reply}
 use Rattle.answers.specs.Telling.{told, refuses}

@@ -35,10 +35,10 @@ use Rattle.tables.specs.Records.{subject-entry, object-entry, joins, held, no-s
 use Rattle.tables.specs.Records.Laws.{subject-there, object-there, handle-there, store-subject, store-object, store-handle, store-close}
 use Rattle.tables.specs.Needs.{figure-of, Needed}
 use Rattle.tables.specs.Needs.Laws.{set-ready}
-use Rattle.tables.specs.Refusing.{Refuses, Late, direction}
-use Rattle.tables.proofs.Finding.{alone}
+use Rattle.refusals.specs.Refusing.{Refuses, Late, direction}
+use Rattle.refusals.proofs.Finding.{alone}
 use Rattle.flows.proofs.Short.{below-test}
-use Rattle.flows.proofs.Closing.{anew}
+use Rattle.keeping.proofs.Closing.{anew}
 use Rattle.tables.specs.Working.{subject-at, object-at, handle-at, joining, fallen-by, sunken-by, Outlives}
 use Rattle.gatekeeper.specs.declared.Monitor.{Monitor}
 use Rattle.gatekeeper.specs.View.{beside, view}

@@ -8,7 +8,6 @@ use answers::Answer;
 use tables::Object;
 use tables::PIPE;
 use tables::looks;
-use tables::refusals;
 
 impl Monitor {
     // Call 17, whose t is u here: two new empty pipes, a at s's level and b at u's; s and u each read the other's at place p and write their own at q.

@@ -5,7 +5,6 @@ ghost use Rattle.gatekeeper.specs.Acting.{Firm, Acts};
 use crate::Monitor;
 use crate::Reply;
 use answers::Answer;
-use tables::refusals;
 
 impl Monitor {
     // Call 16: the freeze is this number, in place of the one before it.

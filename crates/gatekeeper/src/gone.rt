@@ -5,7 +5,6 @@ ghost use Rattle.gatekeeper.specs.Acting.{Firm, Acts};
 use crate::Monitor;
 use crate::Reply;
 use answers::Answer;
-use flows::kept;
 use tables::EMPTY;
 use tables::FREE;
 use tables::Handle;
@@ -13,7 +12,6 @@ use tables::OBJECT_NUMBERS;
 use tables::Object;
 use tables::Subject;
 use tables::looks;
-use tables::refusals;
 
 impl Monitor {
     // Call 11: the place is empty; a pipe ends with its last handle.
@@ -40,7 +38,7 @@ impl Monitor {
         let left = handles::outlived(handles, y, h.object);
         let rest = looks::with_object(objects, number, left);
         let had = self.needs;
-        let needs = kept::closed(had, objects, handles, s, h);
+        let needs = keeping::closed(had, objects, handles, s, h);
         self.objects = rest;
         self.handles = handles;
         self.needs = needs;
@@ -65,7 +63,7 @@ impl Monitor {
         let after = handles::vacated(before, s);
         let left = handles::reaped(objects, before, after);
         let had = self.needs;
-        let needs = kept::vacated(had, objects, after, s);
+        let needs = keeping::vacated(had, objects, after, s);
         let gone = Subject { live: 0, level: 0 };
         let rest = looks::with_subject(subjects, s, gone);
         self.subjects = rest;

@@ -5,7 +5,6 @@ ghost use Rattle.model.specs.Flow.{subject, object};
 ghost use Rattle.model.specs.Tables.{clean, needs};
 ghost use Rattle.gatekeeper.specs.View.{view, Right, kept-need, Righted};
 use crate::Monitor;
-use flows::kept;
 use tables::FREE;
 use tables::looks;
 
@@ -21,7 +20,7 @@ impl Monitor {
             return 0;
         }
         let n = self.needs;
-        kept::of_subject(n, s)
+        keeping::of_subject(n, s)
     }
 
     pub fn need_of_object(self, o: u32) -> u8
@@ -34,7 +33,7 @@ impl Monitor {
             return 0;
         }
         let n = self.needs;
-        kept::of_object(n, o)
+        keeping::of_object(n, o)
     }
 
     // This monitor with its needs worked out anew, whatever they were. All else stays as it is, the free part too.

@@ -2,19 +2,17 @@
 ghost use Rattle.model.specs.Calls.{admit, register, create, make-pipe, opens, fork, mark};
 ghost use Rattle.answers.specs.Telling.{told};
 ghost use Rattle.gatekeeper.specs.Acting.{Firm, Acts};
-ghost use Rattle.tables.specs.Refusing.{direction};
+ghost use Rattle.refusals.specs.Refusing.{direction};
 use crate::Monitor;
 use crate::Reply;
 use crate::SURE;
 use answers::Answer;
-use flows::kept;
 use tables::FILE;
 use tables::Handle;
 use tables::Object;
 use tables::PIPE;
 use tables::Subject;
 use tables::looks;
-use tables::refusals;
 
 impl Monitor {
     // Call 1: a new subject from outside, with no handles, and so with no need.
@@ -31,7 +29,7 @@ impl Monitor {
         let new = Subject { live: 1, level: l };
         let after = looks::with_subject(before, s, new);
         let had = self.needs;
-        let needs = kept::with_subject(had, s, 0);
+        let needs = keeping::with_subject(had, s, 0);
         self.subjects = after;
         self.needs = needs;
         Reply {
@@ -57,7 +55,7 @@ impl Monitor {
         };
         let after = looks::with_object(before, o, new);
         let had = self.needs;
-        let needs = kept::with_object(had, o, l);
+        let needs = keeping::with_object(had, o, l);
         self.objects = after;
         self.needs = needs;
         Reply {
@@ -84,7 +82,7 @@ impl Monitor {
         };
         let after = looks::with_object(before, o, new);
         let had = self.needs;
-        let needs = kept::with_object(had, o, x.level);
+        let needs = keeping::with_object(had, o, x.level);
         self.objects = after;
         self.needs = needs;
         Reply {
@@ -115,7 +113,7 @@ impl Monitor {
         let after = looks::with_object(before, o, new);
         let joined = handles::with_ends(held, s, r, w, o, o);
         let had = self.needs;
-        let needs = kept::with_object(had, o, kept::of_subject(had, s));
+        let needs = keeping::with_object(had, o, keeping::of_subject(had, s));
         self.objects = after;
         self.handles = joined;
         self.needs = needs;
@@ -144,7 +142,7 @@ impl Monitor {
         let next = looks::with_handle(held, s, p, put);
         let had = self.needs;
         let sure = self.sure == SURE;
-        let w = kept::opened(sure, had, subjects, objects, next, s, put);
+        let w = keeping::opened(sure, had, subjects, objects, next, s, put);
         let frozen = refusals::is_frozen(self.freeze, reads, y);
         let late = refusals::last(w.short, false, frozen);
         if late != 0 {
@@ -178,7 +176,7 @@ impl Monitor {
         let held = self.handles;
         let all = handles::forked(held, s, c);
         let had = self.needs;
-        let needs = kept::with_subject(had, c, kept::of_subject(had, s));
+        let needs = keeping::with_subject(had, c, keeping::of_subject(had, s));
         self.subjects = after;
         self.handles = all;
         self.needs = needs;

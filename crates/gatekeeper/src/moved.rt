@@ -6,12 +6,9 @@ ghost use Rattle.gatekeeper.specs.Acting.{Firm, Acts};
 use crate::Monitor;
 use crate::Reply;
 use crate::SURE;
-use flows::kept;
-use handles::mappings;
 use tables::MAPS;
 use tables::READS;
 use tables::looks;
-use tables::refusals;
 
 impl Monitor {
     // Call 7: s falls to the object's level if that is lower.
@@ -84,7 +81,7 @@ impl Monitor {
         let before = self.handles;
         let after = handles::shed(before, s);
         let needs = flows::figures(objects, after);
-        let short = y.level < kept::of_subject(needs, s);
+        let short = y.level < keeping::of_subject(needs, s);
         let late = refusals::last(short, false, false);
         if late != 0 {
             return self.refuse(late);
@@ -121,7 +118,7 @@ impl Monitor {
         let next = looks::with_handle(held, s, p, opened);
         let had = self.needs;
         let sure = self.sure == SURE;
-        let w = kept::opened(sure, had, subjects, objects, next, s, opened);
+        let w = keeping::opened(sure, had, subjects, objects, next, s, opened);
         let late = refusals::last(w.short, false, false);
         if late != 0 {
             return self.refuse(late);

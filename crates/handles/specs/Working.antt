@@ -9,7 +9,7 @@ use Rattle.tables.specs.declared.Subject.{Subject}
 use Rattle.tables.specs.declared.Object.{Object}
 use Rattle.tables.specs.declared.Handle.{Handle}
 use Rattle.tables.specs.Records.{no-object, no-handle}
-use Rattle.tables.specs.Working.{some-below, fallen-by}
+use Rattle.tables.specs.Working.{some-below}
 
 -- h, of the subject, or an empty record where it dangles
 abbrev pub kept-of : Handle → Subject → Object → Handle
@@ -36,16 +36,3 @@ pub record Hits (g : ℕ → ℕ) (n : ℕ) (r : List Bool) (i : ℕ) : Type 0 w
 
 abbrev pub outlived-by : Object → Bool → Bool → Object
 outlived-by x was is = cond (ltb (x .kind) 2) x (cond is x (cond was no-object x))
-
--- ── mappings ──
--- s where h is a mapping on object o, 32 where it is not
-abbrev pub reader-slot : Handle → ℕ → ℕ → ℕ
-reader-slot h o s = cond (eqb (h .way) 3) (cond (eqb (h .object) o) s 32) 32
-
--- x, or x once it has read something of level l
-abbrev pub taken-by : Subject → Bool → ℕ → Subject
-taken-by x reads l = cond reads (fallen-by x l) x
-
--- x and y are live, and y has the smaller level
-abbrev pub sank-by : Subject → Subject → Bool
-sank-by x y = cond (eqb (x .live) 0) false (cond (eqb (y .live) 0) false (ltb (y .level) (x .level)))

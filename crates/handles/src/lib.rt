@@ -1,4 +1,4 @@
-// Whole arrays of handles: those that dangle, those on one object, the ends of a pipe, the row of one subject, the pipes that end. Mappings are in `mappings`.
+// Whole arrays of handles: those that dangle, those on one object, the ends of a pipe, the row of one subject, the pipes that end.
 ghost use mathlib.Core.Path.{_≡_};
 ghost use mathlib.Core.List.{List};
 ghost use Prim.Native.Nat.{ℕ, _%_, _<_};
@@ -27,8 +27,6 @@ use tables::SUBJECTS;
 use tables::Subject;
 use tables::WRITES;
 use tables::looks;
-
-pub mod mappings;
 
 // ---- tables that no calls made ----
 

@@ -24,12 +24,12 @@ use Rattle.tables.specs.declared.Object.{Object}
 use Rattle.tables.specs.declared.Handle.{Handle}
 use Rattle.tables.specs.Records.{subject-entry, joins, held, reads-by, no-subject, no-object, no-handle, hands, tables-of}
 use Rattle.tables.specs.Needs.{figure-of}
-use Rattle.tables.specs.Refusing.{Refuses}
+use Rattle.refusals.specs.Refusing.{Refuses}
 use Rattle.tables.specs.Working.{subject-at, object-at, handle-at, Outlives}
 use Rattle.handles.specs.Working.{on}
 use Rattle.handles.proofs.Opening.{found}
-use Rattle.flows.specs.Working.{demands}
-use Rattle.flows.proofs.Closing.{apart-ready, zero-ready, backed-ready, object-then}
+use Rattle.passes.specs.Working.{demands}
+use Rattle.keeping.proofs.Closing.{apart-ready, zero-ready, backed-ready, object-then}
 use Rattle.gatekeeper.specs.declared.Monitor.{Monitor}
 use Rattle.gatekeeper.specs.View.{view, direct}
 use Rattle.gatekeeper.specs.Acting.{Firm, Acts, back}

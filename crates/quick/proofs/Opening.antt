@@ -19,10 +19,10 @@ use Rattle.tables.specs.declared.Object.{Object}
 use Rattle.tables.specs.declared.Handle.{Handle}
 use Rattle.tables.specs.Records.{subject-entry, object-entry, held, reads-by, no-subject, no-object, no-handle, tables-of}
 use Rattle.tables.specs.Needs.{figure-of}
-use Rattle.tables.specs.Refusing.{Refuses, Late, Refused, direction}
+use Rattle.refusals.specs.Refusing.{Refuses, Late, Refused, direction}
 use Rattle.tables.specs.Working.{subject-at, object-at, handle-at, joining}
-use Rattle.flows.specs.Working.{falls-by}
-use Rattle.flows.proofs.Opening.{quiet-ready, quiet-safe}
+use Rattle.passes.specs.Working.{falls-by}
+use Rattle.keeping.proofs.Opens.{quiet-ready, quiet-safe}
 use Rattle.gatekeeper.specs.declared.Monitor.{Monitor}
 use Rattle.gatekeeper.specs.View.{view, direct}
 use Rattle.gatekeeper.specs.Acting.{Firm, back, way-by}

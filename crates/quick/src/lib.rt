@@ -11,11 +11,10 @@ ghost use lib.ListN.{length, getD, set};
 ghost use Rattle.model.specs.Tally.{wrapped};
 ghost use Rattle.tables.specs.Records.{reads-by, no-subject, no-object, no-handle};
 ghost use Rattle.tables.specs.Working.{subject-at, object-at, handle-at};
-ghost use Rattle.flows.specs.Working.{demands};
+ghost use Rattle.passes.specs.Working.{demands};
 ghost use Rattle.gatekeeper.specs.View.{direct};
 ghost use Rattle.gatekeeper.specs.Acting.{way-by};
 ghost use Rattle.quick.specs.Parts.{subjects-in, objects-in, handles-in, Beside, Tried};
-use flows::kept;
 use gatekeeper::SURE;
 use tables::EMPTY;
 use tables::FILE;
@@ -28,7 +27,6 @@ use tables::SUBJECTS;
 use tables::Subject;
 use tables::WRITES;
 use tables::looks;
-use tables::refusals;
 
 // What is returned where nothing was done.
 const NOT_DONE: u32 = 0;
@@ -231,7 +229,7 @@ pub fn opened(
     }
     let mine = subject_need(needs, s);
     let its = object_need(needs, o);
-    let down = kept::falls(reads, mine, its);
+    let down = keeping::falls(reads, mine, its);
     if !down {
         return NOT_DONE;
     }
@@ -255,7 +253,7 @@ fn is_quiet(h: Handle, y: Object, mine: u8, its: u8) -> bool
 {
     let apart = mine != its;
     let none = mine == 0;
-    let backed = kept::is_backed(h, y, mine);
+    let backed = keeping::is_backed(h, y, mine);
     let same = looks::either(none, backed);
     looks::either(apart, same)
 }

@@ -2,5 +2,3 @@
 -- tests (Testing), the first test that fails (Finding). Assumes nothing.
 pub mod Maps
 pub mod Below
-pub mod Testing
-pub mod Finding

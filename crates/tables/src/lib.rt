@@ -4,7 +4,6 @@
 // Every byte is a value: no record is malformed. Promises go through `tables-of`, which reads the three arrays as the tables of the
 // rules (crate `model`).
 pub mod looks;
-pub mod refusals;
 
 // How many there are of each. Place p of subject s is handle PLACES * s + p.
 pub const SUBJECTS: usize = 32;

@@ -2,10 +2,10 @@
 use native.Mathlib.Omega.{arith}
 use borrow.Author.Needs.{needs}
 use Rattle.tables.proofs.Maps.{unmapped}
-use Rattle.flows.specs.Least.{figure}
-use Rattle.flows.proofs.Raising.{never-stopped}
-use Rattle.flows.proofs.Nodes.{needed}
-use Rattle.flows.proofs.Listing.{bounded, between-handles, all-handles}
+use Rattle.passes.specs.Least.{figure}
+use Rattle.passes.proofs.Raising.{never-stopped}
+use Rattle.passes.proofs.Nodes.{needed}
+use Rattle.passes.proofs.Listing.{bounded, between-handles, all-handles}
 use Rattle.flows.proofs.figures.Statement.{statement}
 use Rattle.flows.proofs.figures.Tie as tie
 

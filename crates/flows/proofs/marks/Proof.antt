@@ -6,7 +6,7 @@ use native.Mathlib.Omega.{arith}
 use borrow.Author.Needs.{needs}
 use lib.ListN.{getD, replicate, getD-replicate}
 use Rattle.tables.specs.Records.{no-object}
-use Rattle.flows.specs.Working.{demanded-by}
+use Rattle.passes.specs.Working.{demanded-by}
 use Rattle.tables.proofs.Maps.{Rowed, rowed-none, rowed-more}
 use Rattle.flows.proofs.marks.Statement.{statement}
 use Rattle.flows.proofs.marks.Tie as tie

@@ -8,7 +8,7 @@ use borrow.Author.Needs.{needs}
 use lib.ListN.{getD}
 use Rattle.tables.specs.Records.{no-object}
 use Rattle.tables.specs.Working.{some-below}
-use Rattle.flows.specs.Working.{short-object}
+use Rattle.passes.specs.Working.{short-object}
 use Rattle.flows.proofs.objects_short.Statement.{statement}
 use Rattle.flows.proofs.objects_short.Tie as tie
 

@@ -8,7 +8,7 @@ use borrow.Author.Needs.{needs}
 use lib.ListN.{getD}
 use Rattle.tables.specs.Records.{no-subject}
 use Rattle.tables.specs.Working.{some-below}
-use Rattle.flows.specs.Working.{short-subject}
+use Rattle.passes.specs.Working.{short-subject}
 use Rattle.flows.proofs.subjects_short.Statement.{statement}
 use Rattle.flows.proofs.subjects_short.Tie as tie
 

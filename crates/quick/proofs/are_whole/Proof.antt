@@ -1,7 +1,7 @@
 -- `quick::are_whole` meets its contract. Assumes nothing.
 use mathlib.Core.Path.{sym, subst}
 use lib.Dec.{T, eqb→eq}
-use Rattle.flows.proofs.Raising.{true-false}
+use Rattle.passes.proofs.Raising.{true-false}
 use borrow.Author.Needs.{needs}
 use Rattle.quick.proofs.are_whole.Statement.{statement}
 use Rattle.quick.proofs.are_whole.Tie as tie

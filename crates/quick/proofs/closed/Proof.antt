@@ -8,7 +8,7 @@ use borrow.Author.Tests.{not-false}
 use denote.Ref.{now}
 use lib.Dec.{eqb}
 use Rattle.tables.specs.Records.{reads-by}
-use Rattle.flows.specs.Working.{demands}
+use Rattle.passes.specs.Working.{demands}
 use Rattle.quick.specs.Parts.{Whole}
 use Rattle.quick.proofs.Closing.{close-refused, close-done}
 use Rattle.quick.proofs.closed.Statement.{statement}

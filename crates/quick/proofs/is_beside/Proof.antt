@@ -7,7 +7,7 @@ use borrow.Author.Tests.{eq-eqb, ne-eqb}
 use denote.Ref.{now}
 use Rattle.tables.specs.declared.Handle.{Handle}
 use Rattle.handles.specs.Working.{on}
-use Rattle.flows.proofs.Raising.{true-false}
+use Rattle.passes.proofs.Raising.{true-false}
 use Rattle.quick.specs.Parts.Laws.{handle-there}
 use Rattle.quick.proofs.is_beside.Statement.{statement}
 use Rattle.quick.proofs.is_beside.Tie as tie

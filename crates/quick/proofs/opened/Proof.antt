@@ -7,7 +7,7 @@ use borrow.Author.Tests.{not-false}
 use denote.Ref.{now}
 use lib.Dec.{eqb}
 use Rattle.tables.specs.Working.{joining}
-use Rattle.flows.specs.Working.{falls-by}
+use Rattle.passes.specs.Working.{falls-by}
 use Rattle.gatekeeper.specs.Acting.{way-by}
 use Rattle.quick.specs.Parts.{Whole}
 use Rattle.quick.proofs.Opening.{open-refused, open-frozen, open-done}

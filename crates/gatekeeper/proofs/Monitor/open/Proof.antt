@@ -4,7 +4,7 @@ use Rattle.model.specs.Calls.{opens}
 use Prim.Native.Nat.{ℕ}
 use Rattle.tables.specs.Working.{joining}
 use Rattle.tables.specs.Records.{tables-of}
-use Rattle.tables.specs.Refusing.{direction}
+use Rattle.refusals.specs.Refusing.{direction}
 use Rattle.gatekeeper.specs.View.{view}
 use Rattle.gatekeeper.proofs.Acting.{stops, ends, waits, frees}
 use Rattle.gatekeeper.proofs.Owned.{owned-long}

@@ -1,0 +1,3 @@
+-- Figures when handles go (Closing), and when one comes (Opening). Assumes nothing.
+pub mod Closing
+pub mod Opens

@@ -1,0 +1,40 @@
+-- `flows::kept::opened` meets its contract. Assumes nothing.
+use mathlib.Core.Path.{sym, _∙_, ap, subst}
+use mathlib.Core.Bool.{not}
+use borrow.Author.Needs.{needs}
+use Rattle.model.specs.Tables.{Tables, safe}
+use Rattle.model.specs.Invariant.{Wf}
+use Rattle.model.specs.Figures.{Ready}
+use Rattle.tables.specs.Needs.{figure-of}
+use Rattle.keeping.proofs.Closing.{anew}
+use Rattle.keeping.proofs.Opens.{opened-wf, quiet-ready, quiet-safe, quiet-parts}
+use Rattle.keeping.proofs.opened.Statement.{statement}
+use Rattle.keeping.proofs.opened.Tie as tie
+
+is-quiet-requires : tie.Need-is-quiet-requires
+is-quiet-requires c κs = search needs
+
+returns : tie.Need-returns
+returns c =
+    let a = c .before .before .args in
+    let z = quiet-parts _ _ (sym (c .before .is-quiet .ensures) ∙ c .if1 .taken) in
+    λ rest t p w e v q k. let f = k (z .0) in (
+      quiet-safe (a .n) t (a .s) p (a .h) w e v (f .0) (f .1) (z .1) ∙ ap (λ (u : Tables). not (safe u)) (sym q),
+      subst (λ (u : Tables). Ready u (figure-of (a .n))) (sym q) (quiet-ready (a .n) t (a .s) p (a .h) w e v (f .0) (f .1) (z .1)),
+    )
+
+figures-requires : tie.Need-figures-requires
+figures-requires c κs = search needs
+
+is-short-requires : tie.Need-is-short-requires
+is-short-requires c κs = search needs
+
+returns-2 : tie.Need-returns-2
+returns-2 c =
+    let a = c .before .before .before .before .args in
+    λ rest t p w e v q k. let u = subst Wf (sym q) (opened-wf t (a .s) p (a .h) w e) in
+    let r = anew rest (a .subjects) (a .objects) (a .handles) _ (c .before .figures .ensures rest (a .subjects) u) in
+    (c .is-short .ensures rest (a .handles) u r, r)
+
+pub opened-spec : {M : Type 1} → statement M
+opened-spec = tie.close (tie.spec is-quiet-requires returns figures-requires is-short-requires returns-2)

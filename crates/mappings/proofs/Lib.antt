@@ -1,0 +1,2 @@
+-- The laws that this crate's proofs cite: who has a file mapped, and what these subjects become (Reading). Assumes nothing.
+pub mod Reading

@@ -1,0 +1,217 @@
+-- Needs: the least figures over the handle records are the needs of the tables. A thing is its number among 96, an edge
+-- the flow of a handle record. One way, the figures are a potential of the tables; the other way, the needs are a
+-- potential of the figures. Assumes nothing.
+use mathlib.Core.Path.{_≡_, refl, sym, _∙_, ap, subst, subst₂}
+use mathlib.Core.Bool.{Bool, true, false, not, cond}
+use mathlib.Core.Option.{Option, none, some, Option·none-ne-some, Option·some-injective}
+use mathlib.Core.List.{List}
+use Prim.Native.Nat.{ℕ, _+_, _*_, _-_, _/_, _%_, _≤_, _<_}
+use native.Mathlib.Omega.{arith}
+use native.Mathlib.Decide.{ℕ-discrete, decLt}
+use native.Mathlib.Nat.{le-refl}
+use borrow.Author.Tests.{lt-ltb, le-ltb, ne-eqb}
+use lib.ListN.{length, getD, List·getD-eq-default}
+use lib.Dec.{T, ltb, ltb→lt, lt→ltb, eqb}
+use Rattle.model.specs.Lists.{In}
+use Rattle.model.specs.Label.{Label, _⊑_, label, level, bot}
+use Rattle.model.specs.Label.Laws.{⊑-antisym, level-label, le→⊑, ⊑→le, bot-least}
+use Rattle.model.specs.Flow.{Thing, subject, object, Edge}
+use Rattle.model.specs.Flow.Laws.{need-self, need-flow, need-below}
+use Rattle.model.specs.Tables.{Dir, reading, writing, Entry, Tables, in-range, cell, arc, flow, edges, demand, needs}
+use Rattle.model.specs.Tables.{Handle as Held}
+use Rattle.model.specs.Tables.Laws.{live-of, speaks-cell, cell-self, flow-edge, edge-flow}
+use Rattle.model.specs.Invariant.{Wf}
+use Rattle.tables.specs.declared.Subject.{Subject}
+use Rattle.tables.specs.declared.Object.{Object}
+use Rattle.tables.specs.declared.Handle.{Handle}
+use Rattle.tables.specs.Records.{object-entry, reads-by, held, no-object, no-handle, tables-of}
+use Rattle.tables.specs.Needs.{node, Needed}
+use Rattle.passes.specs.Least.{figure, Before, Settled, Between}
+use Rattle.passes.specs.Working.{alike, end-by, source, target, demanded-by, Marked}
+
+-- the thing of a number
+abbrev thing : ℕ → Thing
+thing n = cond (ltb n 32) (subject n) (object (n - 32))
+
+thing-object : (o : ℕ) → thing (32 + o) ≡ object o
+thing-object o = let e : 32 + o - 32 ≡ o = omega arith in rw (le-ltb (32 + o) 32 (omega arith), e)
+
+thing-node : (x : Thing) → T (in-range x) → thing (node x) ≡ x
+thing-node (subject n) g = rw (lt-ltb n 32 (ltb→lt n 32 g))
+thing-node (object n) g = thing-object n
+
+label-up : (a b : ℕ) → a ≤ b → label a ⊑ label b
+label-up a b h = le→⊑ _ _ (rw (level-label a, level-label b) h)
+
+-- what an object demands
+demands-as : (n : ℕ) (x : Object) → level (demand (object n) (object-entry x)) ≡ demanded-by x
+unfolding Label level bot
+demands-as n x = go (ℕ-discrete (x .kind) 0) (ℕ-discrete (x .kind) 1)
+  where
+    go : Dec (x .kind ≡ 0) → Dec (x .kind ≡ 1) → level (demand (object n) (object-entry x)) ≡ demanded-by x
+    go (yes e) d = rw e
+    go (no z) (yes e) = rw e (level-label (x .level))
+    go (no z) (no o) = rw (ne-eqb (x .kind) 0 z, ne-eqb (x .kind) 1 o)
+
+-- ── one record ──
+-- the start of an edge, or its end
+abbrev tip : Bool → Edge → Thing
+tip start e = cond start (e .src) (e .dst)
+
+tip-in-range : (start : Bool) (s : ℕ) (j : Held) → s < 32 → j .to < 64 → T (in-range (tip start (flow (subject s) j)))
+tip-in-range start s j a b = go start (j .dir)
+  where
+    go : (start : Bool) (d : Dir) → T (in-range (tip start (arc d (subject s) (object (j .to)))))
+    go true reading = lt→ltb (j .to) 64 b
+    go true writing = lt→ltb s 32 a
+    go false reading = lt→ltb s 32 a
+    go false writing = lt→ltb (j .to) 64 b
+
+-- an end of a record of subject s is that end of its flow
+edge-node : (start : Bool) (h : Handle) (k : Held) (s : ℕ) → held h ≡ some k → k .to < 64 → s < 32
+    → end-by h s start ≡ node (tip start (flow (subject s) k))
+edge-node start h k s q l ls = go (eqb (h .way) 0) (reads-by (h .way)) q
+  where
+    of : Bool → Held
+    of w = record { dir = cond w reading writing; to = h .object; marked = not (eqb (h .mark) 0); mapped = eqb (h .way) 3 }
+
+    at : (w start : Bool) → h .object < 64
+        → cond (alike w start) (32 + h .object % 64) s ≡ node (tip start (flow (subject s) (of w)))
+    at true true lo = omega arith
+    at true false lo = refl
+    at false true lo = refl
+    at false false lo = omega arith
+
+    go : (b w : Bool) → cond b none (some (of w)) ≡ some k
+        → cond b 0 (cond (alike w start) (32 + h .object % 64) s) ≡ node (tip start (flow (subject s) k))
+    go true w q = absurd (Option·none-ne-some k q)
+    go false w q = let e = Option·some-injective _ k q in let lo : h .object < 64 = subst (λ (z : Held). z .to < 64) (sym e) l in
+        at w start lo ∙ ap (λ (z : Held). node (tip start (flow (subject s) z))) e
+
+-- each end is one of the 96
+pub end-low : (start : Bool) (h : Handle) (s : ℕ) → s < 32 → end-by h s start < 96
+end-low start h s l = go (eqb (h .way) 0) (alike (reads-by (h .way)) start)
+  where
+    go : (b w : Bool) → cond b 0 (cond w (32 + h .object % 64) s) < 96
+    go true w = omega arith
+    go false true = omega arith
+    go false false = omega arith
+
+-- a record that holds nothing has both ends at 0
+no-edge : (start : Bool) (h : Handle) (s : ℕ) → held h ≡ none → end-by h s start ≡ 0
+no-edge start h s q = go (eqb (h .way) 0) _ _ q
+  where
+    go : (b : Bool) (k : Held) (n : ℕ) → cond b none (some k) ≡ none → cond b 0 n ≡ 0
+    go true k n q = refl
+    go false k n q = absurd (Option·none-ne-some k (sym q))
+
+-- ── the tables ──
+module _ (rest : Tables) (ss : List Subject) (os : List Object) (hs : List Handle) (w : Wf (tables-of rest ss os hs)) (lo : length os ≡ 64)
+    (base r : List ℕ) (lb : length base ≡ 96) (k : Marked os base) (p : Between 512 (source hs) (target hs) base r) where
+  abbrev t : Tables
+  t = tables-of rest ss os hs
+
+  f : Thing → Label
+  f y = demand y (t .at y)
+
+  abbrev fig : Thing → Label
+  fig y = label (figure r (node y))
+
+  abbrev record-at : ℕ → ℕ → Handle
+  record-at s q = getD hs (s * 16 + q) no-handle
+
+  hand-is : (s q : ℕ) → q < 16 → held (record-at s q) ≡ t .hand s q
+  unfolding tables-of
+  hand-is s q h = rw (lt-ltb q 16 h)
+
+  far : (s q : ℕ) (j : Held) → t .hand s q ≡ some j → (s < 32) × (q < 16) × (j .to < 64)
+  far s q j e = let g = w .ends s q j e in
+      (ltb→lt s 32 (live-of t (subject s) (g .from) .0), g .place, ltb→lt (j .to) 64 (live-of t (object (j .to)) (g .to) .0))
+
+  -- an end of the record at a place
+  module _ (start : Bool) (s q : ℕ) where
+    abbrev tip-at : ℕ
+    tip-at = end-by (getD hs (s * 16 + q) no-handle) ((s * 16 + q) / 16) start
+
+    end-at : s < 32 → q < 16 → tip-at ≡ end-by (record-at s q) s start
+    end-at a b = let d : (s * 16 + q) / 16 ≡ s = omega arith in ap (λ (z : ℕ). end-by (record-at s q) z start) d
+
+    taken-at : (j : Held) → t .hand s q ≡ some j → tip-at ≡ node (tip start (flow (subject s) j))
+    taken-at j e = let b = far s q j e in
+        end-at (b .0) (b .1) ∙ edge-node start (record-at s q) j s (hand-is s q (b .1) ∙ e) (b .2) (b .0)
+
+    empty-at : s < 32 → q < 16 → t .hand s q ≡ none → tip-at ≡ 0
+    empty-at a b e = end-at a b ∙ no-edge start (record-at s q) s (hand-is s q b ∙ e)
+
+  -- ── the needs are a potential of the figures ──
+  ψ : ℕ → ℕ
+  ψ n = level (needs t (thing n))
+
+  above : (n : ℕ) → figure base n ≤ ψ n
+  unfolding ψ f tables-of
+  above n = go (decLt n 32) (decLt n 96)
+    where
+      go : Dec (n < 32) → Dec (n < 96) → figure base n ≤ level (needs t (thing n))
+      go (yes a) b = omega (arith, k .subjects n a)
+      go (no a) (yes b) = let o : ℕ = n - 32 in let e : 32 + o ≡ n = omega arith in
+          subst (λ (z : ℕ). figure base z ≤ level (needs t (thing z))) e
+          (rw (thing-object o, k .objects o (omega arith), ← demands-as o (getD os o no-object)) (⊑→le _ _ (need-self (edges t) f (object o))))
+      go (no a) (no b) = rw (List·getD-eq-default base 0 {n = n} (omega arith)) (omega arith)
+
+  settled : (i : ℕ) → i < 512 → ψ (target hs i) ≤ ψ (source hs i)
+  unfolding ψ f
+  settled i l = let e : i / 16 * 16 + i % 16 ≡ i = omega arith in subst (λ (z : ℕ). ψ (target hs z) ≤ ψ (source hs z)) e
+      (go (i / 16) (i % 16) (omega arith) (omega arith) (t .hand (i / 16) (i % 16)) refl)
+    where
+      go : (s q : ℕ) → s < 32 → q < 16 → (v : Option Held) → t .hand s q ≡ v → ψ (target hs (s * 16 + q)) ≤ ψ (source hs (s * 16 + q))
+      go s q a b none z = rw (empty-at true s q a b z, empty-at false s q a b z) (le-refl _)
+      go s q a b (some j) z =
+          subst₂ (λ x y. level (needs t x) ≤ level (needs t y)) (sym (end-thing false)) (sym (end-thing true))
+          (⊑→le _ _ (need-flow (edges t) f (flow (subject s) j)
+          (flow-edge t s q (subject s) j a b (speaks-cell t s ∙ ap {B = Option Thing} some (cell-self t s)) z)))
+        where
+          end-thing : (start : Bool) → thing (tip-at start s q) ≡ tip start (flow (subject s) j)
+          end-thing start = ap thing (taken-at start s q j z)
+              ∙ thing-node (tip start (flow (subject s) j)) (tip-in-range start s j a (far s q j z .2))
+
+  -- at any time while they are worked out
+  pub at-least : (x : Thing) → T (in-range x) → label (figure r (node x)) ⊑ needs (tables-of rest ss os hs) x
+  unfolding ψ
+  at-least x g = le→⊑ _ _ (rw (level-label (figure r (node x)))
+      (subst (λ (y : Thing). figure r (node x) ≤ level (needs t y)) (thing-node x g)
+      (p .under ψ (record { above = above; settled = settled }) (node x))))
+
+  -- once they fall along every flow
+  module _ (st : Settled (source hs) (target hs) (figure r) (Before 512)) where
+    -- ── the figures are a potential of the tables ──
+    low : (y : Thing) → f y ⊑ fig y
+    unfolding f tables-of
+    low (subject n) = none-demanded (t .at (subject n))
+      where
+        none-demanded : (o : Option Entry) → demand (subject n) o ⊑ fig (subject n)
+        none-demanded none = bot-least
+        none-demanded (some e) = bot-least
+    low (object n) = le→⊑ _ _ (go (decLt n 64))
+      where
+        go : Dec (n < 64) → level (demand (object n) (object-entry (getD os n no-object))) ≤ level (fig (object n))
+        go (yes l) = rw (demands-as n (getD os n no-object), level-label (figure r (32 + n)))
+            (omega (arith, p .above (32 + n), k .objects n l))
+        go (no nl) = rw (List·getD-eq-default os no-object {n = n} (omega arith), demands-as n no-object) (omega arith)
+
+    falls : (e : Edge) → In e (edges t) → fig (e .dst) ⊑ fig (e .src)
+    falls e i = let v = edge-flow t e i in let b = far (v .s) (v .p) (v .k) (v .holds) in
+        subst (λ (z : Edge). fig (z .dst) ⊑ fig (z .src))
+        (ap (λ (x : Thing). flow x (v .k)) (sym (cell-self t (v .s))
+        ∙ Option·some-injective (cell t (v .s)) (v .x) (sym (speaks-cell t (v .s)) ∙ v .speaker)) ∙ v .is)
+        (at-place (v .s) (v .p) (v .k) (v .holds) (b .0) (b .1))
+      where
+        at-place : (s q : ℕ) (j : Held) → t .hand s q ≡ some j → s < 32 → q < 16 → fig (flow (subject s) j .dst) ⊑ fig (flow (subject s) j .src)
+        at-place s q j e a b = label-up _ _ (subst₂ (λ x y. figure r x ≤ figure r y)
+            (taken-at false s q j e) (taken-at true s q j e) (st (s * 16 + q) (omega arith)))
+
+    at-most : (x : Thing) → needs t x ⊑ fig x
+    unfolding f
+    at-most x = need-below (edges t) f (λ y. fig y) low falls x
+
+    pub needed : Needed (tables-of rest ss os hs) r
+    needed = record { need-is = λ x g. ⊑-antisym (at-least x g) (at-most x) }

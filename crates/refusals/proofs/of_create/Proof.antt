@@ -1,0 +1,34 @@
+-- `refusals::of_create` meets its contract. Assumes nothing.
+use mathlib.Core.Path.{refl, sym, _∙_}
+use borrow.Author.Needs.{needs}
+use Rattle.refusals.proofs.Testing.{alive-is, new-object-is}
+use Rattle.refusals.proofs.Finding.{alone, finds}
+use Rattle.refusals.proofs.of_create.Statement.{statement}
+use Rattle.refusals.proofs.of_create.Tie as tie
+
+object-used-requires : tie.Need-object-used-requires
+object-used-requires c κs = search needs
+
+first-requires : tie.Need-first-requires
+first-requires c κs = search needs
+
+returns : tie.Need-returns
+returns c = λ t s w x y.
+    let a = c .before .before .before .args in
+    finds (record {
+      one = refl;
+      two = alone (alive-is t w s (a .x) x);
+      sixteen = refl;
+      three = alone
+          (new-object-is t (a .o) (a .y) y ∙ sym
+          (c .before .object-used .ensures));
+      four = refl;
+      five = refl;
+      six = refl;
+      seven = refl;
+      eight = refl;
+    })
+    (c .first .ensures)
+
+pub of-create-spec : {M : Type 1} → statement M
+of-create-spec = tie.close (tie.spec object-used-requires first-requires returns)

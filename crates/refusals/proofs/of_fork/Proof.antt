@@ -1,0 +1,34 @@
+-- `refusals::of_fork` meets its contract. Assumes nothing.
+use mathlib.Core.Path.{refl, sym, _∙_}
+use borrow.Author.Needs.{needs}
+use Rattle.refusals.proofs.Testing.{alive-is, new-subject-is}
+use Rattle.refusals.proofs.Finding.{alone, finds}
+use Rattle.refusals.proofs.of_fork.Statement.{statement}
+use Rattle.refusals.proofs.of_fork.Tie as tie
+
+subject-used-requires : tie.Need-subject-used-requires
+subject-used-requires c κs = search needs
+
+first-requires : tie.Need-first-requires
+first-requires c κs = search needs
+
+returns : tie.Need-returns
+returns c = λ t s w x z.
+    let a = c .before .before .before .args in
+    finds (record {
+      one = refl;
+      two = alone (alive-is t w s (a .x) x);
+      sixteen = refl;
+      three = alone
+          (new-subject-is t (a .c) (a .z) z ∙ sym
+          (c .before .subject-used .ensures));
+      four = refl;
+      five = refl;
+      six = refl;
+      seven = refl;
+      eight = refl;
+    })
+    (c .first .ensures)
+
+pub of-fork-spec : {M : Type 1} → statement M
+of-fork-spec = tie.close (tie.spec subject-used-requires first-requires returns)
