@@ -1,4 +1,4 @@
--- Every row of RULES C1 to C17, and of R1 to R10, R15 and R16, tried once: one list of calls from empty tables with the answer to each, and
+-- Every row of RULES C1 to C17, and of R1 to R10, R15 and R16, tried once: lists of calls from empty tables with the answer to each, and
 -- the contents and the tally after a few short lists. Not cases of the rules' own: they pin the definitions down where no law does, so that
 -- a slip in a row does not go unseen. Assumes nothing.
 use mathlib.Core.Path.{_≡_, refl}
@@ -23,8 +23,11 @@ abbrev pub line : ℕ → List ℕ → Answer → Line
 line c ns a = record { given = call c ns; answered = a }
 
 -- ── answers ──
-unfoldable pub lines : List Line
-lines =
+-- Four lists, each from empty tables: what a list costs to compute grows faster than its length.
+
+-- the thirteen calls of the base
+unfoldable pub base-lines : List Line
+base-lines =
     line 0 [] (R 1) ∷ line 18 [] (R 1)
     ∷ line 1 (31 ∷ 15 ∷ []) (A 15) ∷ line 1 (32 ∷ 0 ∷ []) (R 3) ∷ line 1 (31 ∷ 16 ∷ []) (R 3) ∷ line 1 (30 ∷ 16 ∷ []) (R 6) ∷ line 1 (4 ∷ []) (A 0)
     ∷ line 2 (63 ∷ 15 ∷ []) (A 15) ∷ line 2 (64 ∷ 0 ∷ []) (R 3) ∷ line 2 (63 ∷ 1 ∷ []) (R 3) ∷ line 2 (0 ∷ 16 ∷ []) (R 6) ∷ line 2 (0 ∷ 2 ∷ []) (A 2)
@@ -38,6 +41,12 @@ lines =
     ∷ line 9 (2 ∷ 2 ∷ []) (R 3) ∷ line 9 (2 ∷ 32 ∷ []) (R 3) ∷ line 9 (1 ∷ 3 ∷ []) (A 2)
     ∷ line 13 (7 ∷ []) (R 5) ∷ line 12 (1 ∷ []) (A 2) ∷ line 12 (1 ∷ []) (R 2) ∷ line 8 (3 ∷ 15 ∷ []) (A 2) ∷ line 12 (3 ∷ []) (A 2) ∷ line 5 (2 ∷ 7 ∷ 0 ∷ []) (R 4) ∷ line 13 (6 ∷ []) (A 7) ∷ line 13 (6 ∷ []) (R 4)
     ∷ line 3 (31 ∷ 62 ∷ []) (A 15) ∷ line 13 (62 ∷ []) (A 15) ∷ line 9 (31 ∷ 30 ∷ []) (A 15) ∷ line 12 (31 ∷ []) (A 15)
+    ∷ []
+
+-- a freeze, and handles that are marked
+unfoldable pub closed-lines : List Line
+closed-lines =
+    line 1 (30 ∷ 15 ∷ []) (A 15) ∷ line 2 (0 ∷ 2 ∷ []) (A 2)
     ∷ line 16 (17 ∷ []) (R 6) ∷ line 16 (16 ∷ []) (A 16) ∷ line 16 [] (A 0)
     ∷ line 3 (30 ∷ 20 ∷ []) (A 15) ∷ line 1 (5 ∷ 8 ∷ []) (A 8) ∷ line 3 (5 ∷ 21 ∷ []) (A 8) ∷ line 2 (22 ∷ 7 ∷ []) (A 7) ∷ line 4 (30 ∷ 23 ∷ 0 ∷ 1 ∷ []) (A 15)
     ∷ line 6 (5 ∷ 21 ∷ 0 ∷ []) (R 15) ∷ line 16 (9 ∷ []) (A 9) ∷ line 6 (5 ∷ 21 ∷ 0 ∷ []) (A 8) ∷ line 16 (8 ∷ []) (A 8) ∷ line 8 (5 ∷ 0 ∷ []) (A 8)
@@ -51,6 +60,12 @@ lines =
     ∷ line 8 (5 ∷ 0 ∷ []) (R 7) ∷ line 7 (5 ∷ 2 ∷ []) (A 2) ∷ line 8 (6 ∷ 0 ∷ []) (A 8) ∷ line 10 (6 ∷ 0 ∷ []) (L 2)
     ∷ line 15 (30 ∷ 0 ∷ []) (A 15) ∷ line 15 (30 ∷ 1 ∷ []) (A 15) ∷ line 15 (30 ∷ 2 ∷ []) (A 15) ∷ line 10 (30 ∷ 20 ∷ []) (A 15)
     ∷ line 5 (30 ∷ 23 ∷ 0 ∷ []) (R 4) ∷ line 6 (30 ∷ 20 ∷ 0 ∷ []) (A 15) ∷ line 10 (30 ∷ 0 ∷ []) (R 9)
+    ∷ []
+
+-- maps
+unfoldable pub mapped-lines : List Line
+mapped-lines =
+    line 1 (30 ∷ 15 ∷ []) (A 15) ∷ line 3 (30 ∷ 20 ∷ []) (A 15) ∷ line 2 (21 ∷ 8 ∷ []) (A 8) ∷ line 2 (22 ∷ 7 ∷ []) (A 7) ∷ line 6 (30 ∷ 20 ∷ 0 ∷ []) (A 15)
     ∷ line 16 [] (A 0) ∷ line 14 (32 ∷ 64 ∷ 16 ∷ []) (R 2) ∷ line 14 (30 ∷ 64 ∷ 16 ∷ []) (R 4) ∷ line 4 (30 ∷ 23 ∷ 1 ∷ 2 ∷ []) (A 15) ∷ line 14 (30 ∷ 23 ∷ 16 ∷ []) (R 5)
     ∷ line 14 (30 ∷ 21 ∷ 0 ∷ []) (R 7) ∷ line 14 (30 ∷ 21 ∷ 16 ∷ []) (R 7) ∷ line 14 (30 ∷ 21 ∷ 3 ∷ []) (R 9) ∷ line 11 (30 ∷ 0 ∷ []) (A 15)
     ∷ line 14 (30 ∷ 21 ∷ 3 ∷ []) (L 8) ∷ line 14 (30 ∷ 20 ∷ 4 ∷ []) (A 8) ∷ line 7 (30 ∷ 3 ∷ []) (A 8) ∷ line 8 (30 ∷ 3 ∷ []) (R 8) ∷ line 13 (20 ∷ []) (R 10)
@@ -58,6 +73,12 @@ lines =
     ∷ line 10 (7 ∷ 22 ∷ []) (R 9) ∷ line 7 (7 ∷ 3 ∷ []) (A 8) ∷ line 10 (30 ∷ 22 ∷ []) (R 9) ∷ line 7 (30 ∷ 3 ∷ []) (A 8)
     ∷ line 11 (7 ∷ 5 ∷ []) (A 8) ∷ line 10 (7 ∷ 22 ∷ []) (L 7) ∷ line 7 (30 ∷ 3 ∷ []) (A 8) ∷ line 7 (7 ∷ 3 ∷ []) (R 7) ∷ line 7 (7 ∷ 1 ∷ []) (A 7) ∷ line 12 (7 ∷ []) (A 7)
     ∷ line 10 (30 ∷ 22 ∷ []) (L 7) ∷ line 7 (30 ∷ 3 ∷ []) (R 7) ∷ line 7 (30 ∷ 1 ∷ []) (A 7)
+    ∷ []
+
+-- channels
+unfoldable pub channel-lines : List Line
+channel-lines =
+    line 2 (0 ∷ 2 ∷ []) (A 2)
     ∷ line 1 (8 ∷ 6 ∷ []) (A 6) ∷ line 1 (9 ∷ 3 ∷ []) (A 3) ∷ line 2 (40 ∷ 3 ∷ []) (A 3) ∷ line 2 (41 ∷ 6 ∷ []) (A 6)
     ∷ line 17 (32 ∷ 32 ∷ 0 ∷ 0 ∷ 16 ∷ 16 ∷ []) (R 2) ∷ line 17 (8 ∷ 32 ∷ 0 ∷ 0 ∷ 16 ∷ 16 ∷ []) (R 2) ∷ line 17 (31 ∷ 8 ∷ 0 ∷ 0 ∷ 16 ∷ 16 ∷ []) (R 2)
     ∷ line 17 (8 ∷ 8 ∷ 0 ∷ 0 ∷ 16 ∷ 16 ∷ []) (R 16) ∷ line 17 (8 ∷ 9 ∷ 0 ∷ 42 ∷ 16 ∷ 16 ∷ []) (R 3) ∷ line 17 (8 ∷ 9 ∷ 42 ∷ 64 ∷ 16 ∷ 16 ∷ []) (R 3)
@@ -75,8 +96,8 @@ abbrev pub answered-so : Tables → List Line → Bool
 answered-so t [] = true
 answered-so t (l ∷ ls) = equal (answer t (decode (l .given))) (l .answered) && answered-so (next t (decode (l .given))) ls
 
-pub rows-right : answered-so empty lines ≡ true
-unfolding lines Label label level leq meet join bot need used cell speaks things handles edges safe decode rereads sheds ended effect refusal lowers answer
+pub rows-right : (answered-so empty base-lines && answered-so empty closed-lines && answered-so empty mapped-lines && answered-so empty channel-lines) ≡ true
+unfolding base-lines closed-lines mapped-lines channel-lines Label label level leq meet join bot need used cell speaks things handles edges safe decode rereads sheds ended effect refusal lowers answer
 rows-right = refl
 
 -- ── contents ──
