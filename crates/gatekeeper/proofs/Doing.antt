@@ -21,7 +21,7 @@ use Rattle.model.specs.Tables.{Kind, running, file, pipe, Dir, reading, writing
 use Rattle.model.specs.Tables.{Handle as Held}
 use Rattle.model.specs.Tables.Laws.{live-of, used-is, cell-self, handles-by, handles-at, open-here, open-at}
 use Rattle.model.specs.Steps.{Step, put, row, place, sunk, fall, applies, ended, reap}
-use Rattle.model.specs.Steps.Laws.{put-cases, put-same, put-apart, place-other, place-apart, ended-subject, reap-more, file-keeps}
+use Rattle.model.specs.Steps.Laws.{sink-one, put-cases, put-same, put-apart, place-other, place-apart, ended-subject, reap-more, file-keeps}
 use Rattle.model.specs.Invariant.{Wf}
 use Rattle.model.specs.Calls.{Call, admit, register, create, make-pipe, opens, access, fork, exec, close, exit, retire, maps, mark, freeze, connect, target, rereads, marking, lasting, sheds, channel, steps, effect, Test, alive, new, present, vacant, taken, apart, unlike, others, broken, tests, refusal, level-at, shown, refused, allowed, lowers, last-label, outcome, said, answer}
 use Rattle.model.specs.Calls.{Answer as Told}
@@ -544,7 +544,8 @@ pub read-does : (t : Tables) (w : Wf t) (s p : ℕ) (x : Subject) (h : Handle) (
 read-does t w s p x h y e q r z = subst (Does t (access reading s p) (outcome (ltb (fallen-by x (y .level) .level) (x .level)) (fallen-by x (y .level) .level)))
     (steady t (put (t .at) (cell t s) v) ∙ ap (λ (c : Thing). with-at t (put (t .at) c v)) (cell-self t s))
     (falls-in t (access reading s p) s (inl refl) x (object (h .object)) _ (y .level) e q (λ a. with-at t (put (t .at) (cell t s) a))
-    (ap (λ (o : Thing). with-at t (put (t .at) (cell t s) (fall (cell t s) (t .at (cell t s)) (t .at o))))
+    (ap (with-at t) (sink-one t (cell t s) (t .at (target (t .hand s p))))
+    ∙ ap (λ (o : Thing). with-at t (put (t .at) (cell t s) (fall (cell t s) (t .at (cell t s)) (t .at o))))
     (found-target t w (access reading s p) s p h e (inr (inl refl)) r)) refl (λ v. refl) (one-changed t (cell t s))
     (thing-is t (access reading s p) e (h .object) (found-live t w (access reading s p) s p h e (inr (inl refl)) r) y z))
   where
@@ -558,9 +559,13 @@ pub exec-does : (t : Tables) (s o : ℕ) (x : Subject) (y : Object) → refusal 
 unfolding sheds
 exec-does t s o x y e q z = subst (Does t (exec s o) (outcome (ltb (fallen-by x (y .level) .level) (x .level)) (fallen-by x (y .level) .level)))
     (ap (λ (c : Thing). reap (handles t) (u c (subject-entry (fallen-by x (y .level))))) (cell-self t s))
-    (falls-in t (exec s o) s (inl refl) x (object o) _ (y .level) e q (u (cell t s)) refl refl (λ v. refl)
+    (falls-in t (exec s o) s (inl refl) x (object o) _ (y .level) e q (u (cell t s))
+    (ap (with-at shed) (sink-one shed (cell t s) (t .at (object o)))) refl (λ v. refl)
     (λ d. stays d (cell t s) (sym (cell-self t s))) (thing-is t (exec s o) e o (present-live t (exec s o) e o (inr (inl refl))) y z))
   where
+    shed : Tables
+    shed = with-hand t (row (t .hand) s (λ p. lasting (t .hand s p)))
+
     u : Thing → Option Entry → Tables
     u c v = with-hand (with-at t (put (t .at) c v)) (row (t .hand) s (λ p. lasting (t .hand s p)))
 
@@ -577,10 +582,14 @@ pub map-does : (t : Tables) (s o p : ℕ) (x : Subject) (y : Object) → refusal
     (with-at t (put (t .at) (subject s) (subject-entry (fallen-by x (y .level))))) (place (t .hand) s p (some (mapping o))))
 map-does t s o p x y e q z = subst (Does t (maps s o p) (outcome (ltb (fallen-by x (y .level) .level) (x .level)) (fallen-by x (y .level) .level)))
     (still (subject-entry (fallen-by x (y .level))) ∙ ap (λ (c : Thing). u c (subject-entry (fallen-by x (y .level)))) (cell-self t s))
-    (falls-in t (maps s o p) s (inl refl) x (object o) _ (y .level) e q (u (cell t s)) refl refl (λ v. refl)
+    (falls-in t (maps s o p) s (inl refl) x (object o) _ (y .level) e q (u (cell t s))
+    (ap (with-at mapped) (sink-one mapped (cell t s) (t .at (object o)))) refl (λ v. refl)
     (λ d. ap (λ (v : Tables). v .at (cell t s)) (still (some d)) ∙ put-same (t .at) (cell t s) (some d))
     (thing-is t (maps s o p) e o (present-live t (maps s o p) e o (inr (inl refl))) y z))
   where
+    mapped : Tables
+    mapped = with-hand t (place (t .hand) s p (some (mapping o)))
+
     u : Thing → Option Entry → Tables
     u c v = with-hand (with-at t (put (t .at) c v)) (place (t .hand) s p (some (mapping o)))
 
@@ -625,7 +634,8 @@ write-does t w s p x h y after b e q r z f n = by (eqb (y .kind) 1) refl (ltb (x
     g = ap level-at to
 
     made : applies (steps t (access writing s p)) t ≡ applies (rereads t o) (with-at t (put (t .at) o (fall o (t .at o) (t .at (cell t s)))))
-    made = ap (λ (v : Thing). applies (rereads t v) (with-at t (put (t .at) v (fall v (t .at v) (t .at (cell t s)))))) to
+    made = ap (λ (a : Thing → Option Entry). applies (rereads t (target (t .hand s p))) (with-at t a)) (sink-one t (target (t .hand s p)) (t .at (cell t s)))
+        ∙ ap (λ (v : Thing). applies (rereads t v) (with-at t (put (t .at) v (fall v (t .at v) (t .at (cell t s)))))) to
 
     Written : Object → Type 0
     Written v = Does t (access writing s p) (outcome (ltb (v .level) (y .level) || b) (v .level)) (with-at after (put (after .at) o (object-entry v)))

@@ -10,8 +10,8 @@ use mathlib.Core.List.{List, [], _∷_}
 use Prim.Native.Nat.{ℕ, suc}
 use Rattle.model.specs.Label.{Label, _⊑_}
 use Rattle.model.specs.Flow.{Thing, same}
-use Rattle.model.specs.Tables.{Tables, empty}
-use Rattle.model.specs.Steps.{Origin, outside, blank, copied, Access, Step, enter, leave, hold, holds, mix, freezes}
+use Rattle.model.specs.Tables.{Tables, empty, whole}
+use Rattle.model.specs.Steps.{Origin, outside, blank, copied, Access, Step, enter, leave, hold, holds, mix, quits, freezes, apply}
 use Rattle.model.specs.Calls.{Call, Raw, decode, steps, refusal, effect, next, Answer, answer}
 pub mod Laws
 
@@ -40,6 +40,10 @@ Outside = ℕ → ℕ
 abbrev pub store : Contents → Thing → ℕ → Contents
 store c x v y = cond (same x y) v (c y)
 
+-- what x takes in, and who takes in what x does
+abbrev pub pour : Tables → Contents → Thing → (ℕ → ℕ) → Contents
+pour t c x f y = cond (whole t x y) (f (c y)) (c y)
+
 -- RULES B11, B12, B16: a new thing's content, by where it comes from
 abbrev pub born : Origin → ℕ → Contents → ℕ
 born outside o c = o
@@ -48,23 +52,24 @@ born (copied y) o c = c y
 
 -- RULES B13, B14, B15, B29: where data moves, the receiver's content is worked out from its own and the source's; RULES B17, B18: the source
 -- keeps its own, and no other step changes a content
-abbrev pub carry : Handling → ℕ → ℕ → Step → Contents → Contents
-carry h i o (enter x e g) c = store c x (born g o c)
-carry h i o (leave x) c = c
-carry h i o (hold s p v) c = c
-carry h i o (holds s r) c = c
-carry h i o (mix m a b y x) c = store c y (h i m a b (c y) (c x))
-carry h i o (freezes n) c = c
+abbrev pub carry : Handling → ℕ → ℕ → Tables → Step → Contents → Contents
+carry h i o t (enter x e g) c = store c x (born g o c)
+carry h i o t (leave x) c = c
+carry h i o t (hold s p v) c = c
+carry h i o t (holds s r) c = c
+carry h i o t (mix m a b y x) c = pour t c y (λ v. h i m a b v (c x))
+carry h i o t (quits g) c = c
+carry h i o t (freezes n) c = c
 
-abbrev pub carries : Handling → ℕ → ℕ → List Step → Contents → Contents
-carries h i o [] c = c
-carries h i o (k ∷ ks) c = carries h i o ks (carry h i o k c)
+abbrev pub carries : Handling → ℕ → ℕ → Tables → List Step → Contents → Contents
+carries h i o t [] c = c
+carries h i o t (k ∷ ks) c = carries h i o (apply k t) ks (carry h i o t k c)
 
 -- RULES B7, B8, B9, B10: refused by the book's own tables, a call changes nothing; any other has its effect on them. It stands at
 -- position i.
 abbrev pub turn : Handling → Outside → ℕ → Book → Call → Book
 turn h out i b c = elim (refusal (b .tables) c) [
-  | none ↦ record { tables = effect (b .tables) c; content = carries h i (out i) (steps (b .tables) c) (b .content) }
+  | none ↦ record { tables = effect (b .tables) c; content = carries h i (out i) (b .tables) (steps (b .tables) c) (b .content) }
   | some n ↦ b
 ]
 
@@ -94,6 +99,7 @@ brought-by (leave x ∷ ks) = brought-by ks
 brought-by (hold s p v ∷ ks) = brought-by ks
 brought-by (holds s r ∷ ks) = brought-by ks
 brought-by (mix m a b y x ∷ ks) = brought-by ks
+brought-by (quits g ∷ ks) = brought-by ks
 brought-by (freezes n ∷ ks) = brought-by ks
 
 -- RULES B21: a refused call brings nothing in

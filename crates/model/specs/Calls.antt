@@ -15,7 +15,7 @@ use Rattle.model.specs.Lists.{In, each, keep, any}
 use Rattle.model.specs.Flow.{Thing, subject, object, same}
 use Rattle.model.specs.Tables.{running, file, pipe, Dir, reading, writing, Entry, entry, Handle, handle, mapping, with-mark, Tables, no-freeze, subjects}
 use Rattle.model.specs.Tables.{places, in-range, is-some, used, live, label-of, is-file, a-file, is-pipe, cell, things, handles-of, handles, open-on, needs, safe}
-use Rattle.model.specs.Steps.{outside, blank, copied, reads, writes, runs, Step, enter, leave, hold, holds, mix, freezes, applies, reap}
+use Rattle.model.specs.Steps.{outside, blank, copied, reads, writes, runs, Step, enter, leave, hold, holds, mix, quits, freezes, applies, reap}
 pub mod Refusals
 pub mod Passed
 pub mod Dangling
@@ -149,7 +149,7 @@ steps t (access d s p) = moves d (subject s) (cell t s) (target (t .hand s p)) �
 steps t (fork s c) = enter (subject c) (entry running (label-of (t .at (cell t s)))) (copied (cell t s)) ∷ holds c (t .hand s) ∷ []
 steps t (exec s o) = sheds t s ++ (mix runs (subject s) (object o) (cell t s) (object o) ∷ [])
 steps t (close s p) = hold s p none ∷ []
-steps t (exit s) = holds s (λ p. none) ∷ leave (subject s) ∷ []
+steps t (exit s) = quits (same (subject s)) ∷ []
 steps t (retire o) = leave (object o) ∷ []
 steps t (maps s o p) = hold s p (some (mapping o)) ∷ mix reads (subject s) (object o) (cell t s) (object o) ∷ []
 steps t (mark s p) = hold s p (marking (t .hand s p)) ∷ []

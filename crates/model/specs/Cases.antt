@@ -11,7 +11,7 @@ use lib.Dec.{T, eqb}
 use Rattle.model.specs.Bools.{both-of}
 use Rattle.model.specs.Label.{Label, label, level, leq, meet, join, bot}
 use Rattle.model.specs.Flow.{need}
-use Rattle.model.specs.Tables.{empty, used, cell, speaks, things, handles, edges, safe}
+use Rattle.model.specs.Tables.{empty, used, cell, whole, speaks, things, handles, edges, safe}
 use Rattle.model.specs.Steps.{ended}
 use Rattle.model.specs.Calls.{Raw, decode, rereads, sheds, effect, refusal, Answer, allowed, lowered, refused, lowers, answer, answers}
 
@@ -108,7 +108,7 @@ table-called = tt
 
 -- the table is computed once, where no journal is asked
 computed : right (λ b. []) table ≡ true
-unfolding table Label label level leq meet join bot need used cell speaks things handles edges safe decode rereads sheds ended effect refusal lowers answer
+unfolding table Label label level leq meet join bot need used cell whole speaks things handles edges safe decode rereads sheds ended effect refusal lowers answer
 computed = refl
 
 -- K1 to K9

@@ -8,7 +8,7 @@ use mathlib.Core.Option.{Option, none, some}
 use Prim.Native.Nat.{ℕ, zero, suc, _+_, _*_}
 use Rattle.model.specs.Label.{Label, label, level, leq, meet, join, bot}
 use Rattle.model.specs.Flow.{Thing, subject, object, need}
-use Rattle.model.specs.Tables.{Kind, running, file, pipe, writing, Entry, entry, Handle, handle, mapping, Tables, no-freeze, label-of, empty, used, cell, speaks, things, handles, edges, safe}
+use Rattle.model.specs.Tables.{Kind, running, file, pipe, writing, Entry, entry, Handle, handle, mapping, Tables, no-freeze, label-of, empty, used, cell, whole, speaks, things, handles, edges, safe}
 use Rattle.model.specs.Steps.{Access, reads, writes, runs, mix, ended}
 use Rattle.model.specs.Calls.{access, Raw, decode, rereads, sheds, effect, refusal, next, Answer, allowed, lowered, lowers, answer, after}
 use Rattle.model.specs.Tally.{tally, tallied, zeroed}
@@ -97,7 +97,7 @@ answered-so t [] = true
 answered-so t (l ∷ ls) = equal (answer t (decode (l .given))) (l .answered) && answered-so (next t (decode (l .given))) ls
 
 pub rows-right : (answered-so empty base-lines && answered-so empty closed-lines && answered-so empty mapped-lines && answered-so empty channel-lines) ≡ true
-unfolding base-lines closed-lines mapped-lines channel-lines Label label level leq meet join bot need used cell speaks things handles edges safe decode rereads sheds ended effect refusal lowers answer
+unfolding base-lines closed-lines mapped-lines channel-lines Label label level leq meet join bot need used cell whole speaks things handles edges safe decode rereads sheds ended effect refusal lowers answer
 rows-right = refl
 
 -- ── contents ──
@@ -148,7 +148,7 @@ pub contents-right : (book telling from-10 reading-list .content (subject 2) ≡
     × (book telling from-10 mapped-list .content (subject 3) ≡ 216611308713311)
     × (book telling from-10 blank-list .content (object 3) ≡ 0) × (book telling from-10 blank-list .content (object 4) ≡ 0)
     × (book telling from-10 blank-list .content (object 5) ≡ 0) × (book telling from-10 blank-list .content (object 6) ≡ 0)
-unfolding Label label level leq meet join bot need used cell speaks things handles edges safe decode rereads sheds ended effect refusal lowers answer
+unfolding Label label level leq meet join bot need used cell whole speaks things handles edges safe decode rereads sheds ended effect refusal lowers answer
 contents-right = (refl, refl, refl, refl, refl, refl, refl, refl, refl, refl, refl, refl)
 
 -- the reads that follow the write, in their order; a marked mapping is one, and a handle that is no mapping is none
@@ -157,7 +157,7 @@ marked-list = mapping-list ++ call 15 (2 ∷ 0 ∷ []) ∷ call 1 (4 ∷ 2 ∷ [
 
 pub rereads-right : rereads (after empty marked-list) (object 1) ≡
     mix reads (subject 2) (object 1) (subject 2) (object 1) ∷ mix reads (subject 3) (object 1) (subject 3) (object 1) ∷ []
-unfolding Label label level leq meet join bot need used cell speaks things handles edges safe decode rereads sheds ended effect refusal
+unfolding Label label level leq meet join bot need used cell whole speaks things handles edges safe decode rereads sheds ended effect refusal
 rereads-right = refl
 
 -- ── tables that no calls made ──
@@ -175,7 +175,7 @@ level-after t = level (label-of (t .at (subject 1)))
 -- a write to the file lowers who has it mapped, and says so; a write to a pipe of that level is followed by no read
 pub above-right : (answer (above file) (access writing 0 0) ≡ lowered 2) × (level-after (effect (above file) (access writing 0 0)) ≡ 2)
     × (answer (above pipe) (access writing 0 0) ≡ allowed 2) × (level-after (effect (above pipe) (access writing 0 0)) ≡ 9)
-unfolding Label label level leq meet join bot need used cell speaks things handles edges safe decode rereads sheds ended effect refusal lowers answer
+unfolding Label label level leq meet join bot need used cell whole speaks things handles edges safe decode rereads sheds ended effect refusal lowers answer
 above-right = (refl, refl, refl, refl)
 
 -- ── the tally ──
@@ -198,5 +198,5 @@ channel-list = call 1 (0 ∷ 9 ∷ []) ∷ call 1 (1 ∷ 9 ∷ []) ∷ call 17 (
 pub tally-right : (tally empty zeroed reading-list ≡ record { made = 1; gone = 0 }) × (tally empty zeroed counting-list ≡ record { made = 4; gone = 3 })
     × (tally empty zeroed marking-list ≡ record { made = 2; gone = 1 }) × (tally empty zeroed mapped-away-list ≡ record { made = 3; gone = 2 })
     × (tally empty zeroed channel-list ≡ record { made = 4; gone = 2 })
-unfolding tallied Label label level leq meet join bot need used cell speaks things handles edges safe decode rereads sheds ended effect refusal lowers answer
+unfolding tallied Label label level leq meet join bot need used cell whole speaks things handles edges safe decode rereads sheds ended effect refusal lowers answer
 tally-right = (refl, refl, refl, refl, refl)

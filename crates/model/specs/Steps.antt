@@ -7,7 +7,7 @@ use Prim.Native.Nat.{ℕ}
 use lib.Dec.{eqb}
 use Rattle.model.specs.Label.{Label, meet}
 use Rattle.model.specs.Flow.{Thing, subject, object, same}
-use Rattle.model.specs.Tables.{Kind, running, file, pipe, Entry, entry, Handle, Tables, with-at, with-hand, with-freeze, is-pipe, handles, open-on}
+use Rattle.model.specs.Tables.{Kind, running, file, pipe, Entry, entry, Handle, Tables, with-at, with-hand, with-freeze, is-pipe, whole, handles, open-on}
 pub mod Laws
 
 -- RULES B11, B12, B16: where a new thing's content comes from
@@ -30,6 +30,8 @@ pub data Step : Type 0 where
   holds : ℕ → (ℕ → Option Handle) → Step
   -- data moves: how, the receiver's and the source's name, and where the receiver's and the source's label and content stand
   mix : Access → Thing → Thing → Thing → Thing → Step
+  -- these subjects end: their places are emptied, and they are gone
+  quits : (Thing → Bool) → Step
   -- the freeze is this number
   freezes : ℕ → Step
 
@@ -42,6 +44,13 @@ row h s r s′ p = cond (eqb s s′) (r p) (h s′ p)
 
 abbrev pub place : (ℕ → ℕ → Option Handle) → ℕ → ℕ → Option Handle → ℕ → ℕ → Option Handle
 place h s p v = row h s (λ q. cond (eqb p q) v (h s q))
+
+-- things gone, and the places of subjects emptied
+abbrev pub without : (Thing → Bool) → Tables → Tables
+without gone t = with-at t (λ x. cond (gone x) none (t .at x))
+
+abbrev pub vacated : (Thing → Bool) → (ℕ → ℕ → Option Handle) → ℕ → ℕ → Option Handle
+vacated gone h s p = cond (gone (subject s)) none (h s p)
 
 -- ── falling ──
 -- RULES T7, T8, T9: whose level may fall; a file's stays
@@ -60,13 +69,18 @@ fall x none d = none
 fall x (some e) none = some e
 fall x (some e) (some d) = some (entry (e .kind) (sunk x (e .kind) (e .label) (d .label)))
 
+-- the entries once x, and who takes in what x does, took in what has entry d
+abbrev pub sink : Tables → Thing → Option Entry → Thing → Option Entry
+sink t x d y = cond (whole t x y) (fall y (t .at y) d) (t .at y)
+
 -- ── what a step does to the tables ──
 abbrev pub apply : Step → Tables → Tables
 apply (enter x e g) t = with-at t (put (t .at) x (some e))
 apply (leave x) t = with-at t (put (t .at) x none)
 apply (hold s p v) t = with-hand t (place (t .hand) s p v)
 apply (holds s r) t = with-hand t (row (t .hand) s r)
-apply (mix m a b y x) t = with-at t (put (t .at) y (fall y (t .at y) (t .at x)))
+apply (mix m a b y x) t = with-at t (sink t y (t .at x))
+apply (quits g) t = without g (with-hand t (vacated g (t .hand)))
 apply (freezes n) t = with-freeze t n
 
 abbrev pub applies : List Step → Tables → Tables

@@ -11,7 +11,7 @@ use Prim.Native.Nat.{ℕ}
 use lib.Dec.{eqb, ltb}
 use Rattle.model.specs.Label.{Label, leq, bot}
 use Rattle.model.specs.Lists.{each, keep, any}
-use Rattle.model.specs.Flow.{Thing, subject, object, Edge, need}
+use Rattle.model.specs.Flow.{Thing, subject, object, same, Edge, need}
 pub mod Laws
 
 -- ── what is kept ──
@@ -124,6 +124,10 @@ is-pipe (object n) (some e) = elim (e .kind) [ running ↦ false | file ↦ fals
 -- where the label and the content of a subject stand
 unfoldable pub cell : Tables → ℕ → Thing
 cell t s = subject s
+
+-- who takes in what x takes in: in this version x alone
+unfoldable pub whole : Tables → Thing → Thing → Bool
+whole t x y = same x y
 
 -- ── the lists of live things and of handles ──
 abbrev pub live-objects : Tables → List Thing

@@ -6,7 +6,7 @@ use mathlib.Core.List.{List, [], _∷_, _++_, map}
 use Prim.Native.Nat.{ℕ}
 use Rattle.model.specs.Label.{Label, label, level, leq, meet, join, bot}
 use Rattle.model.specs.Flow.{need}
-use Rattle.model.specs.Tables.{empty, used, cell, speaks, things, handles, edges, safe}
+use Rattle.model.specs.Tables.{empty, used, cell, whole, speaks, things, handles, edges, safe}
 use Rattle.model.specs.Steps.{ended}
 use Rattle.model.specs.Calls.{Answer, decode, rereads, sheds, effect, refusal, lowers, answer}
 use Rattle.model.specs.Tally.{tallied}
@@ -28,7 +28,7 @@ unfoldable pub whole-table : List Case
 whole-table = table ++ case 10 (bytes (128 ∷ 0 ∷ [])) (R 11 ∷ []) ∷ case 11 (bytes (0 ∷ [])) (R 12 ∷ []) ∷ []
 
 pub all-cases-right : right journal-answers whole-table ≡ true
-unfolding whole-table table Label label level leq meet join bot need used cell speaks things handles edges safe decode rereads sheds ended effect refusal lowers answer groups encode numeral value padded number arity-of known filled entry-at numbers-in arguments-in body-in
+unfolding whole-table table Label label level leq meet join bot need used cell whole speaks things handles edges safe decode rereads sheds ended effect refusal lowers answer groups encode numeral value padded number arity-of known filled entry-at numbers-in arguments-in body-in
 all-cases-right = refl
 
 -- ── the journals of the rules ──
@@ -39,7 +39,7 @@ example = 3 ∷ 2 ∷ 0 ∷ 2 ∷ 3 ∷ 1 ∷ 0 ∷ 9 ∷ 4 ∷ 5 ∷ 0 ∷ 0 �
 -- `1 2 A 2`, `2 1 A 9`, `3 5 A 2`, `4 7 L 2`, `end 1 0 1`
 pub example-right : reply example ≡ 49 ∷ 32 ∷ 50 ∷ 32 ∷ 65 ∷ 32 ∷ 50 ∷ 10 ∷ 50 ∷ 32 ∷ 49 ∷ 32 ∷ 65 ∷ 32 ∷ 57 ∷ 10 ∷ 51 ∷ 32 ∷ 53 ∷ 32 ∷ 65 ∷ 32 ∷ 50 ∷ 10 ∷ 52 ∷ 32 ∷ 55 ∷ 32 ∷ 76 ∷ 32 ∷ 50 ∷ 10
     ∷ 101 ∷ 110 ∷ 100 ∷ 32 ∷ 49 ∷ 32 ∷ 48 ∷ 32 ∷ 49 ∷ 10 ∷ []
-unfolding reply line ending digits decimal tallied Label label level leq meet join bot need used cell speaks things handles edges safe decode rereads sheds ended effect refusal lowers answer groups encode numeral value padded number arity-of known filled entry-at numbers-in arguments-in body-in
+unfolding reply line ending digits decimal tallied Label label level leq meet join bot need used cell whole speaks things handles edges safe decode rereads sheds ended effect refusal lowers answer groups encode numeral value padded number arity-of known filled entry-at numbers-in arguments-in body-in
 example-right = refl
 
 -- RULES K16: `end 0 0 0`

@@ -11,9 +11,9 @@ use Rattle.model.specs.Lists.{In}
 use Rattle.model.specs.Label.{Label, _⊑_}
 use Rattle.model.specs.Label.Laws.{⊑-refl, ⊑-trans}
 use Rattle.model.specs.Flow.{Thing, subject, same}
-use Rattle.model.specs.Tables.{Dir, reading, writing, Entry, Handle, Tables, empty, label-of, cell, handles, arc, needs}
-use Rattle.model.specs.Tables.Laws.{cell-entry}
-use Rattle.model.specs.Steps.{outside, blank, copied, writes, Step, enter, leave, hold, holds, mix, freezes, put, fall, apply, applies, ended, reap}
+use Rattle.model.specs.Tables.{Dir, reading, writing, Entry, Handle, Tables, empty, label-of, cell, whole, handles, arc, needs}
+use Rattle.model.specs.Tables.Laws.{cell-entry, whole-alone}
+use Rattle.model.specs.Steps.{outside, blank, copied, writes, Step, enter, leave, hold, holds, mix, quits, freezes, put, fall, apply, applies, ended, reap}
 use Rattle.model.specs.Steps.Laws.{put-cases, fell}
 use Rattle.model.specs.Invariant.{Safe, Kept}
 use Rattle.model.specs.Invariant.Laws.{Pot, pot-safe, needs-pot, Less, less-wf, less-pot, Feeds}
@@ -31,7 +31,7 @@ turn-tables h out i b c = go (refusal (b .tables) c)
     go : (o : Option ℕ) → (elim o as (λ _. Book) [
       | none ↦ record {
         tables = effect (b .tables) c;
-        content = carries h i (out i)
+        content = carries h i (out i) (b .tables)
             (steps (b .tables) c) (b .content);
       }
       | some n ↦ b
@@ -68,6 +68,7 @@ Guard ℓ o₁ o₂ t (leave x) = Unit {0}
 Guard ℓ o₁ o₂ t (hold s p v) = Unit {0}
 Guard ℓ o₁ o₂ t (holds s r) = Unit {0}
 Guard ℓ o₁ o₂ t (mix m a b y x) = (φ : Thing → Label) × Pot t φ × Feeds t φ y x
+Guard ℓ o₁ o₂ t (quits g) = Unit {0}
 Guard ℓ o₁ o₂ t (freezes n) = Unit {0}
 
 abbrev Guards : Label → ℕ → ℕ → Tables → List Step → Type 0
@@ -94,7 +95,7 @@ store-agree ℓ t c d x n v w a h y e q l = go (same x y) q
     go false q = a .same-at y e q l
 
 module _ (ℓ : Label) (h : Handling) (i o₁ o₂ : ℕ) where
-  step-agree : (t : Tables) (c d : Contents) (k : Step) → Guard ℓ o₁ o₂ t k → Agree ℓ t c d → Agree ℓ (apply k t) (carry h i o₁ k c) (carry h i o₂ k d)
+  step-agree : (t : Tables) (c d : Contents) (k : Step) → Guard ℓ o₁ o₂ t k → Agree ℓ t c d → Agree ℓ (apply k t) (carry h i o₁ t k c) (carry h i o₂ t k d)
   step-agree t c d (enter x e outside) g a = record {
     same-at = store-agree ℓ t c d x (some e) o₁ o₂ a
         (λ f q l. g (subst (λ (z : Entry). ℓ ⊑ z .label) (sym (Option·some-injective e f q)) l));
@@ -111,24 +112,32 @@ module _ (ℓ : Label) (h : Handling) (i o₁ o₂ : ℕ) where
   step-agree t c d (hold s p v) g a = record { same-at = a .same-at }
   step-agree t c d (holds s r) g a = record { same-at = a .same-at }
   step-agree t c d (freezes n) g a = record { same-at = a .same-at }
-  step-agree t c d (mix m n o y x) g a = record {
-    same-at = store-agree ℓ t c d y (fall y (t .at y) (t .at x)) (h i m n o (c y) (c x))
-        (h i m n o (d y) (d x)) a equal;
-  }
+  step-agree t c d (quits g) r a = record { same-at = λ y e q l. left (g y) y e q l }
+    where
+      left : (b : Bool) (y : Thing) (e : Entry) → cond b none (t .at y) ≡ some e → ℓ ⊑ e .label → c y ≡ d y
+      left true y e q l = absurd (Option·none-ne-some e q)
+      left false y e q l = a .same-at y e q l
+  step-agree t c d (mix m n o y x) g a = record { same-at = λ z r q l. poured z r l (whole t y z) (whole-alone t y z) q }
     where
       w : Feeds t (g .0) y x
       w = g .2
 
-      equal : (r : Entry) → fall y (t .at y) (t .at x) ≡ some r → ℓ ⊑ r .label → h i m n o (c y) (c x) ≡ h i m n o (d y) (d x)
-      equal r q l = let f = fell y (t .at y) (t .at x) (w .source) r (w .source-is) q in
-          let own : c y ≡ d y = a .same-at y (f .was) (f .was-is) (⊑-trans l (f .under-was)) in
-          let fed : c x ≡ d x = a .same-at x (w .source) (w .source-is) (⊑-trans l (f .under-source (⊑-trans (g .1 .low y) (w .under)))) in
+      equal : (z : Thing) (r : Entry) → y ≡ z → fall z (t .at z) (t .at x) ≡ some r → ℓ ⊑ r .label → h i m n o (c z) (c x) ≡ h i m n o (d z) (d x)
+      equal z r b q l = let f = fell z (t .at z) (t .at x) (w .source) r (w .source-is) q in
+          let own : c z ≡ d z = a .same-at z (f .was) (f .was-is) (⊑-trans l (f .under-was)) in
+          let fed : c x ≡ d x = a .same-at x (w .source) (w .source-is)
+          (⊑-trans l (f .under-source (⊑-trans (g .1 .low z) (subst (λ (v : Thing). g .0 v ⊑ w .source .label) b (w .under))))) in
           ap₂ (λ u v. h i m n o u v) own fed
 
+      poured : (z : Thing) (r : Entry) → ℓ ⊑ r .label → (b : Bool) → (T b → y ≡ z) → cond b (fall z (t .at z) (t .at x)) (t .at z) ≡ some r
+          → cond b (h i m n o (c z) (c x)) (c z) ≡ cond b (h i m n o (d z) (d x)) (d z)
+      poured z r l true e q = equal z r (e tt) q l
+      poured z r l false e q = a .same-at z r q l
+
   steps-agree : (t : Tables) (c d : Contents) (ks : List Step) → Guards ℓ o₁ o₂ t ks → Agree ℓ t c d → Agree ℓ (applies ks t)
-      (carries h i o₁ ks c) (carries h i o₂ ks d)
+      (carries h i o₁ t ks c) (carries h i o₂ t ks d)
   steps-agree t c d [] g a = a
-  steps-agree t c d (k ∷ ks) g a = steps-agree (apply k t) (carry h i o₁ k c) (carry h i o₂ k d) ks (g .1) (step-agree t c d k (g .0) a)
+  steps-agree t c d (k ∷ ks) g a = steps-agree (apply k t) (carry h i o₁ t k c) (carry h i o₂ t k d) ks (g .1) (step-agree t c d k (g .0) a)
 
 reap-agree : (ℓ : Label) (before : List Handle) (t : Tables) (c d : Contents) → Agree ℓ t c d → Agree ℓ (reap before t) c d
 reap-agree ℓ before t c d a = record { same-at = λ y e q l. go (ended before (handles t) y (t .at y)) y e q l }
@@ -190,7 +199,7 @@ module _ (ℓ : Label) (o₁ o₂ : ℕ) (t : Tables) (v : Kept t) where
       safe : Safe u
       safe = pot-safe (less-pot (needs t) l (needs-pot (v .wf) (v .safe)))
   guarded (close s p) b m = (tt, tt)
-  guarded (exit s) b m = (tt, (tt, tt))
+  guarded (exit s) b m = (tt, tt)
   guarded (retire o) b m = (tt, tt)
   guarded (maps s o p) b m = let r = map-feeds t s o p (v .wf) m in (tt, ((r .potential, r .pot, r .feeds), tt))
   guarded (mark s p) b m = (tt, tt)
@@ -203,15 +212,15 @@ abbrev opened : Tables → Contents → Book
 opened t c = record { tables = t; content = c }
 
 abbrev content-next : Handling → Outside → ℕ → Tables → Contents → Call → Contents
-content-next h out i t c k = elim (refusal t k) as (λ _. Contents) [ none ↦ carries h i (out i) (steps t k) c | some n ↦ c ]
+content-next h out i t c k = elim (refusal t k) as (λ _. Contents) [ none ↦ carries h i (out i) t (steps t k) c | some n ↦ c ]
 
 turn-is : (h : Handling) (out : Outside) (i : ℕ) (t : Tables) (c : Contents) (k : Call) → turn h out i (opened t c) k ≡ opened (next t k)
     (content-next h out i t c k)
 turn-is h out i t c k = go (refusal t k)
   where
-    go : (o : Option ℕ) → (elim o as (λ _. Book) [ none ↦ opened (effect t k) (carries h i (out i) (steps t k) c) | some n ↦ opened t c ])
+    go : (o : Option ℕ) → (elim o as (λ _. Book) [ none ↦ opened (effect t k) (carries h i (out i) t (steps t k) c) | some n ↦ opened t c ])
         ≡ opened (elim o as (λ _. Tables) [ none ↦ effect t k | some n ↦ t ])
-        (elim o as (λ _. Contents) [ none ↦ carries h i (out i) (steps t k) c | some n ↦ c ])
+        (elim o as (λ _. Contents) [ none ↦ carries h i (out i) t (steps t k) c | some n ↦ c ])
     go none = refl
     go (some n) = refl
 
@@ -222,8 +231,8 @@ module _ (ℓ : Label) (h : Handling) (p q : Outside) where
   next-agree i t c d k v b a = go (refusal t k) refl
     where
       go : (o : Option ℕ) → refusal t k ≡ o → Agree ℓ (elim o as (λ _. Tables) [ none ↦ effect t k | some n ↦ t ])
-          (elim o as (λ _. Contents) [ none ↦ carries h i (p i) (steps t k) c | some n ↦ c ])
-          (elim o as (λ _. Contents) [ none ↦ carries h i (q i) (steps t k) d | some n ↦ d ])
+          (elim o as (λ _. Contents) [ none ↦ carries h i (p i) t (steps t k) c | some n ↦ c ])
+          (elim o as (λ _. Contents) [ none ↦ carries h i (q i) t (steps t k) d | some n ↦ d ])
       go none r = reap-agree ℓ (handles t) (applies (steps t k) t) _ _
           (steps-agree ℓ h i (p i) (q i) t c d (steps t k) (guarded ℓ (p i) (q i) t v k (λ l z. b l (brings ∙ z)) (allowed-iff t k .0 r)) a)
         where

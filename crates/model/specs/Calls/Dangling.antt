@@ -14,7 +14,7 @@ use Rattle.model.specs.Tables.Laws.{open-here}
 use Rattle.model.specs.Steps.{Origin, outside, blank, copied, reads, writes, runs, enter, hold, holds, mix, row, place, apply, applies}
 use Rattle.model.specs.Steps.Laws.{row-cases, live-hand, applies-append}
 use Rattle.model.specs.Invariant.{Ends, Wf}
-use Rattle.model.specs.Invariant.Laws.{row-below, less-close, less-row, less-freeze, less-wf, wf-enter, wf-hand, wf-hold, wf-without, wf-reap, wf-mix}
+use Rattle.model.specs.Invariant.Laws.{row-below, less-close, less-quits, less-freeze, less-wf, wf-enter, wf-hand, wf-hold, wf-without, wf-reap, wf-mix}
 use Rattle.model.specs.Calls.{Call, admit, register, create, make-pipe, opens, access, fork, exec, close, exit, retire, maps, mark, freeze, connect, unknown}
 use Rattle.model.specs.Calls.{target, marking, sheds, channel, steps, effect, next, alive, present, new, vacant, taken, idle, broken, In-order, refusal}
 use Rattle.model.specs.Calls.Refusals.{allowed-iff}
@@ -46,10 +46,7 @@ module _ (t : Tables) (w : Wf t) where
       (wf-mix (applies (sheds t s) t) runs (subject s) (object o) (cell t s) (object o) (less-wf (sheds-less t s) w))
 
   exit-wf : (s : ℕ) → Wf (applies (steps t (exit s)) t)
-  exit-wf s = wf-without (same (subject s)) (apply (holds s (λ p. none)) t) (less-wf (less-row t s) w) (λ s′ p k q. (apart-row s′ p k q, tt))
-    where
-      apart-row : (s′ p : ℕ) (k : Handle) → row (t .hand) s (λ p. none) s′ p ≡ some k → T (not (eqb s s′))
-      apart-row s′ p k q = elim (row-cases (t .hand) s (λ p. none) s′ p (some k) q) [ inl c ↦ absurd (Option·none-ne-some k (c .1)) | inr c ↦ c .0 ]
+  exit-wf s = less-wf (less-quits t (same (subject s)) (λ o. tt)) w
 
   retire-wf : (o : ℕ) → T (not (broken t (idle o))) → Wf (applies (steps t (retire o)) t)
   retire-wf o h = wf-without (same (object o)) t w (λ s p k q. (tt, unheld s p k q))

@@ -18,11 +18,11 @@ use Rattle.model.specs.Tables.{Kind, running, file, pipe, Dir, reading, 
 use Rattle.model.specs.Tables.{in-range, label-of, is-pipe, cell, handles, open-on, arc, flow, speaks, demand, needs, safe}
 use Rattle.model.specs.Tables.Laws.{speaks-at, speaks-hand, speaks-cell, cell-self, cell-same, cell-entry, object-entry, handles-at, open-here}
 use Rattle.model.specs.Tables.Laws.{thing-listed, listed-thing, demand-label, not-safe, safe-above}
-use Rattle.model.specs.Steps.{Origin, outside, blank, copied, Access, reads, writes, runs, enter, leave, hold, holds, mix, freezes, put, row}
-use Rattle.model.specs.Steps.{place, fall, apply, applies, ended, reap}
-use Rattle.model.specs.Steps.Laws.{put-cases, row-cases, place-same, place-other, applies-append, ended-last}
+use Rattle.model.specs.Steps.{Origin, outside, blank, copied, Access, reads, writes, runs, enter, leave, hold, holds, mix, quits, freezes, put, row}
+use Rattle.model.specs.Steps.{place, fall, sink, apply, applies, ended, reap}
+use Rattle.model.specs.Steps.Laws.{put-cases, sink-cases, row-cases, place-same, place-other, applies-append, ended-last}
 use Rattle.model.specs.Invariant.{Wf, Safe, Piped, Scaled, Frozen, Mapped, Kept}
-use Rattle.model.specs.Invariant.Laws.{Pot, pot-safe, needs-pot, row-below, Less, less-close, less-row, less-freeze, less-wf, less-pot, Feeds, flow-feeds}
+use Rattle.model.specs.Invariant.Laws.{Pot, pot-safe, needs-pot, row-below, Less, less-close, less-quits, less-freeze, less-wf, less-pot, Feeds, flow-feeds}
 use Rattle.model.specs.Invariant.Laws.{empty-wf, wf-reap, wf-mix}
 use Rattle.model.specs.Invariant.Laws.{empty-pot, but-other, pot-enter, pot-hand, pot-hold, pot-without, pot-reap, pot-mix}
 use Rattle.model.specs.Invariant.Laws.{empty-scaled, empty-frozen, scaled-without}
@@ -76,16 +76,11 @@ module _ (t : Tables) (v : Kept t) where
   less-stepped : (u : Tables) → Less t u → Stepped t u
   unfolding pot
   less-stepped u l = stepped (less-pot (needs t) l pot)
-      (old-pipes t u (v .piped) (λ o h. subst (λ (z : Option Entry). T (is-pipe (object o) z)) (l .same-at (object o)) h))
+      (old-pipes t u (v .piped) (λ o h. subst (λ (z : Option Entry). T (is-pipe (object o) z)) (l .objects-stay o) h))
 
   -- ── exit ──
   exit-stepped : (s : ℕ) → Stepped t (applies (steps t (exit s)) t)
-  unfolding pot
-  exit-stepped s = stepped (pot-without (same (subject s)) u (needs t) (less-pot (needs t) (less-row t s) pot))
-      (old-pipes t (apply (leave (subject s)) u) (v .piped) (λ o h. h))
-    where
-      u : Tables
-      u = apply (holds s (λ p. none)) t
+  exit-stepped s = less-stepped (apply (quits (same (subject s))) t) (less-quits t (same (subject s)) (λ o. tt))
 
   -- ── mark: the handle flows as it did ──
   mark-stepped : (s p : ℕ) → T (not (broken t (taken s p))) → Stepped t (applies (steps t (mark s p)) t)
@@ -129,23 +124,17 @@ module _ (t : Tables) (v : Kept t) where
   -- ── read and write ──
   mix-stepped : (φ : Thing → Label) (m : Access) (a b y x : Thing) (u : Tables) → Stepped t u → Pot u φ → Feeds u φ y x → Stepped t (apply (mix m a b y x) u)
   mix-stepped φ m a b y x u k i f = stepped (pot-mix u φ m a b y x i f)
-      (λ o h. subst (λ (hs : List Handle). T (open-on (handles t) o) ⊎ T (open-on hs o)) (sym (handles-at u (put (u .at) y new))) (k .pipes o (same-pipe o h)))
+      (λ o h. subst (λ (hs : List Handle). T (open-on (handles t) o) ⊎ T (open-on hs o)) (sym (handles-at u (sink u y (u .at x)))) (k .pipes o (same-pipe o h)))
     where
-      new : Option Entry
-      new = fall y (u .at y) (u .at x)
+      kind-kept : (o : ℕ) (c d : Option Entry) → T (is-pipe (object o) (fall (object o) c d)) → T (is-pipe (object o) c)
+      kind-kept o none d h = h
+      kind-kept o (some c) none h = h
+      kind-kept o (some c) (some d) h = h
 
-      kind-kept : (o : ℕ) (e : Option Entry) → T (is-pipe (object o) (fall (object o) (u .at (object o)) e)) → T (is-pipe (object o) (u .at (object o)))
-      kind-kept o e = go (u .at (object o)) e
-        where
-          go : (c d : Option Entry) → T (is-pipe (object o) (fall (object o) c d)) → T (is-pipe (object o) c)
-          go none d h = h
-          go (some c) none h = h
-          go (some c) (some d) h = h
-
-      same-pipe : (o : ℕ) → T (is-pipe (object o) (put (u .at) y new (object o))) → T (is-pipe (object o) (u .at (object o)))
-      same-pipe o h = elim (put-pipes u y new o h) [
-        | inl c ↦ kind-kept o (u .at x) (subst (λ (z : Thing). T (is-pipe (object o) (fall z (u .at z) (u .at x)))) (c .0) (c .1))
-        | inr c ↦ c
+      same-pipe : (o : ℕ) → T (is-pipe (object o) (sink u y (u .at x) (object o))) → T (is-pipe (object o) (u .at (object o)))
+      same-pipe o h = elim (sink-cases u y (u .at x) (object o) (sink u y (u .at x) (object o)) refl) [
+        | inl c ↦ kind-kept o (u .at (object o)) (u .at x) (subst (λ (z : Option Entry). T (is-pipe (object o) z)) (sym (c .1)) h)
+        | inr c ↦ subst (λ (z : Option Entry). T (is-pipe (object o) z)) (sym (c .1)) h
       ]
 
   none-stepped : Stepped t t
@@ -163,7 +152,7 @@ pub exec-feeds : (t : Tables) (s o : ℕ) → T (not (broken t (present o))) →
     (needs (applies (sheds t s) t)) (cell t s) (object o)
 exec-feeds t s o h g = let r = object-entry t o (is-present t o h) in record {
   source = r .0;
-  source-is = sheds-less t s .same-at (object o) ∙ r .1;
+  source-is = sheds-less t s .objects-stay o ∙ r .1;
   under = subst (λ (e : Option Entry). needs (applies (sheds t s) t) (cell t s) ⊑ label-of e) (r .1)
       (record { tested = not-not (leq (needs (applies (sheds t s) t) (cell t s)) (label-of (t .at (object o)))) g });
 }

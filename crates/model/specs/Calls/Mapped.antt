@@ -7,19 +7,19 @@ use mathlib.Core.Option.{Option, none, some, Option·none-ne-some, Option·some-
 use mathlib.Core.List.{List, [], _∷_}
 use Prim.Native.Nat.{ℕ}
 use lib.Dec.{T, T-not, not-T, eqb, eqb→eq}
-use Rattle.model.specs.Bools.{cond-no}
+use Rattle.model.specs.Bools.{cond-yes, cond-no}
 use Rattle.model.specs.Label.{label, _⊑_, meet}
-use Rattle.model.specs.Label.Laws.{⊑-refl, ⊑-trans, meet-right, meet-glb}
+use Rattle.model.specs.Label.Laws.{⊑-refl, ⊑-trans, meet-right, meet-glb, bot-least}
 use Rattle.model.specs.Flow.{Thing, subject, object, same}
 use Rattle.model.specs.Flow.Laws.{same→eq}
 use Rattle.model.specs.Tables.{Kind, running, file, pipe, Dir, reading, writing, Entry, entry, Handle, handle, mapping, with-mark, Tables, empty, with-hand}
-use Rattle.model.specs.Tables.{label-of, is-file, a-file, is-pipe, cell, handles, open-on}
-use Rattle.model.specs.Tables.Laws.{cell-self, cell-same, cell-entry, object-entry, open-here}
+use Rattle.model.specs.Tables.{label-of, is-file, a-file, is-pipe, cell, whole, handles, open-on}
+use Rattle.model.specs.Tables.Laws.{cell-self, cell-same, whole-self, whole-alone, cell-entry, object-entry, open-here}
 use Rattle.model.specs.Steps.{Origin, outside, blank, copied, Access, reads, writes, runs, enter, hold, holds, mix, put, row, place, fall, apply, applies}
-use Rattle.model.specs.Steps.{falls, sunk, ended, reap}
-use Rattle.model.specs.Steps.Laws.{put-same, put-apart, row-cases, place-cases, applies-append, ended-open, ended-subject, fall-label, file-keeps}
+use Rattle.model.specs.Steps.{falls, sunk, sink, without, ended, reap}
+use Rattle.model.specs.Steps.Laws.{put-same, put-apart, sink-by, row-cases, place-cases, applies-append, ended-open, ended-subject, fall-label, file-keeps}
 use Rattle.model.specs.Invariant.{Wf, Maps, Mapped}
-use Rattle.model.specs.Invariant.Laws.{row-below, Less, less-close, less-row, less-freeze, without, wf-enter}
+use Rattle.model.specs.Invariant.Laws.{row-below, Less, less-close, less-quits, less-freeze, wf-enter}
 use Rattle.model.specs.Calls.{Call, admit, register, create, make-pipe, opens, access, fork, exec, close, exit, retire, maps, mark, freeze, connect, unknown}
 use Rattle.model.specs.Calls.{target, moves, followed, marking, sheds, steps, effect, alive, present, new, unlike, taken, no-pipe, idle, broken, lowers}
 use Rattle.model.specs.Calls.Moving.{rereads-keep, lowers-none}
@@ -78,8 +78,13 @@ mapped-hold t s p k n v = mapped-hand t (place (t .hand) s p (some k)) v (λ s�
 less-mapped : {t u : Tables} → Less t u → Mapped t → Mapped u
 less-mapped {t} {u} l v = record {
   each = λ s p k q m. maps-from t u s s k k (v .each s p k (l .hands s p k q) m) refl refl
-      (stays-under t u s (cell-stays t u s (l .same-at (cell t s)))) (l .same-at (object (k .to)));
+      (subst (λ (z : Thing). label-of (u .at z) ⊑ label-of (t .at (cell t s))) (cell-same t u s) (under (u .at (cell t s)) (l .was-at (cell t s))))
+      (l .objects-stay (k .to));
 }
+  where
+    under : {o : Option Entry} (v : Option Entry) → ((e : Entry) → v ≡ some e → o ≡ some e) → label-of v ⊑ label-of o
+    under none f = bot-least
+    under {o} (some e) f = subst (λ (z : Option Entry). e .label ⊑ label-of z) (sym (f e refl)) ⊑-refl
 
 -- ── fewer things, same handles ──
 mapped-without : (gone : Thing → Bool) (t : Tables) → Mapped t →
@@ -104,25 +109,17 @@ mapped-reap before t w v = mapped-without (λ x. ended before (handles t) x (t .
 
 -- ── data moves ──
 -- what takes something in does not rise, and a file stays
-pub put-label : (t : Tables) (y x z : Thing) → label-of (put (t .at) y (fall y (t .at y) (t .at x)) z) ⊑ label-of (t .at z)
-put-label t y x z = go (same y z) (same→eq y z)
-  where
-    go : (b : Bool) → (T b → y ≡ z) → label-of (cond b (fall y (t .at y) (t .at x)) (t .at z)) ⊑ label-of (t .at z)
-    go true e = subst (λ (v : Thing). label-of (fall y (t .at y) (t .at x)) ⊑ label-of (t .at v)) (e tt) (fall-label y (t .at y) (t .at x))
-    go false e = ⊑-refl
+pub sink-label : (t : Tables) (y x z : Thing) → label-of (sink t y (t .at x) z) ⊑ label-of (t .at z)
+sink-label t y x z = sink-by (λ w o. label-of o ⊑ label-of (t .at w)) t y (t .at x) z ⊑-refl (λ b. fall-label z (t .at z) (t .at x))
 
-put-file : (t : Tables) (y x z : Thing) → T (a-file z (t .at z)) → put (t .at) y (fall y (t .at y) (t .at x)) z ≡ t .at z
-put-file t y x z f = go (same y z) (same→eq y z)
-  where
-    go : (b : Bool) → (T b → y ≡ z) → cond b (fall y (t .at y) (t .at x)) (t .at z) ≡ t .at z
-    go true e = subst (λ (v : Thing). fall v (t .at v) (t .at x) ≡ t .at z) (sym (e tt)) (file-keeps z (t .at z) (t .at x) f)
-    go false e = refl
+pub sink-file : (t : Tables) (y x z : Thing) → T (a-file z (t .at z)) → sink t y (t .at x) z ≡ t .at z
+sink-file t y x z f = sink-by (λ w o. o ≡ t .at w) t y (t .at x) z refl (λ b. file-keeps z (t .at z) (t .at x) f)
 
 mapped-mix : (t : Tables) (m : Access) (a b y x : Thing) → Mapped t → Mapped (apply (mix m a b y x) t)
 mapped-mix t m a b y x v = record {
   each = λ s p k q h. (let r = v .each s p k q h in maps-from t u s s k k r refl refl
-      (subst (λ (z : Thing). label-of (u .at z) ⊑ label-of (t .at (cell t s))) (cell-same t u s) (put-label t y x (cell t s)))
-      (put-file t y x (object (k .to)) (r .on-file)));
+      (subst (λ (z : Thing). label-of (u .at z) ⊑ label-of (t .at (cell t s))) (cell-same t u s) (sink-label t y x (cell t s)))
+      (sink-file t y x (object (k .to)) (r .on-file)));
 }
   where
     u : Tables
@@ -147,10 +144,7 @@ module _ (t : Tables) (w : Wf t) (v : Mapped t) where
       (mapped-mix t writes y x y c v)
 
   exit-mapped : (s : ℕ) → Mapped (applies (steps t (exit s)) t)
-  exit-mapped s = mapped-without (same (subject s)) (apply (holds s (λ p. none)) t) (less-mapped (less-row t s) v) (λ s′ p k q. (apart-row s′ p k q, tt))
-    where
-      apart-row : (s′ p : ℕ) (k : Handle) → row (t .hand) s (λ p. none) s′ p ≡ some k → T (not (eqb s s′))
-      apart-row s′ p k q = elim (row-cases (t .hand) s (λ p. none) s′ p (some k) q) [ inl c ↦ absurd (Option·none-ne-some k (c .1)) | inr c ↦ c .0 ]
+  exit-mapped s = less-mapped (less-quits t (same (subject s)) (λ o. tt)) v
 
   retire-mapped : (o : ℕ) → T (not (broken t (idle o))) → Mapped (applies (steps t (retire o)) t)
   retire-mapped o h = mapped-without (same (object o)) t v (λ s p k q. (tt, unheld s p k q))
@@ -208,13 +202,16 @@ module _ (t : Tables) (w : Wf t) (v : Mapped t) where
     each = λ s′ p′ k q h. elim (place-cases (t .hand) s p (some (mapping o)) s′ p′ (some k) q) [
       | inl c ↦ subst₂ (λ (z : ℕ) (j : Handle). Maps u z j) (c .0) (Option·some-injective (mapping o) k (c .2)) new
       | inr c ↦ (let r = v .each s′ p′ k c h in maps-from t u s′ s′ k k r refl refl
-          (subst (λ (z : Thing). label-of (u .at z) ⊑ label-of (t .at (cell t s′))) (cell-same t u s′) (put-label t (cell t s) (object o) (cell t s′)))
-          (put-file t (cell t s) (object o) (object (k .to)) (r .on-file)))
+          (subst (λ (z : Thing). label-of (u .at z) ⊑ label-of (t .at (cell t s′))) (cell-same t u s′) (sink-label u′ (cell t s) (object o) (cell t s′)))
+          (sink-file u′ (cell t s) (object o) (object (k .to)) (r .on-file)))
     ];
   }
     where
       u : Tables
       u = applies (steps t (maps s o p)) t
+
+      u′ : Tables
+      u′ = apply (hold s p (some (mapping o))) t
 
       there : (e : Entry) × (t .at (object o) ≡ some e)
       there = object-entry t o (is-present t o (m (present o) (inr (inl refl))))
@@ -234,10 +231,10 @@ module _ (t : Tables) (w : Wf t) (v : Mapped t) where
       new : Maps u s (mapping o)
       new = record {
         for-reading = refl;
-        on-file = subst (λ (e : Option Entry). T (a-file (object o) e)) (sym (put-file t (cell t s) (object o) (object o) is-a-file)) is-a-file;
+        on-file = subst (λ (e : Option Entry). T (a-file (object o) e)) (sym (sink-file u′ (cell t s) (object o) (object o) is-a-file)) is-a-file;
         under = subst₂ (λ (a b : Option Entry). label-of a ⊑ label-of b)
-            (sym (ap (u .at) (cell-same u t s) ∙ put-same (t .at) (cell t s) (fall (cell t s) (t .at (cell t s)) (t .at (object o)))))
-            (sym (put-file t (cell t s) (object o) (object o) is-a-file)) fell-to;
+            (sym (ap (u .at) (cell-same u t s) ∙ cond-yes (whole u′ (cell t s) (cell t s)) (fall (cell t s) (t .at (cell t s)) (t .at (object o))) (t .at (cell t s)) (whole-self u′ (cell t s))))
+            (sym (sink-file u′ (cell t s) (object o) (object o) is-a-file)) fell-to;
       }
 
   pub call-mapped : (c : Call) → Passed t c → Mapped (applies (steps t c) t)
@@ -300,9 +297,10 @@ record Upheld (t u : Tables) : Type 0 where
   at-least : (y : Thing) (e : Entry) → t .at y ≡ some e → (d : Entry) × (u .at y ≡ some d) × (e .label ⊑ d .label)
 
 -- s takes in x, and has no higher label than x in t
-upheld-mix : (t u : Tables) (s : ℕ) (x : Thing) (c : Entry) → t .at x ≡ some c → label-of (t .at (cell t s)) ⊑ c .label → Upheld t u
+upheld-mix : (t u : Tables) (s : ℕ) (x : Thing) (c : Entry) → t .at x ≡ some c
+    → ((y : Thing) (e : Entry) → T (whole u (cell t s) y) → t .at y ≡ some e → e .label ⊑ c .label) → Upheld t u
     → Upheld t (apply (mix reads (subject s) x (cell t s) x) u)
-upheld-mix t u s x c q l v = record { at-least = λ y e z. go (same (cell t s) y) y (same→eq (cell t s) y) e z (v .at-least y e z) }
+upheld-mix t u s x c q l v = record { at-least = λ y e z. go y e z (v .at-least y e z) (whole u (cell t s) y) (λ b. l y e b z) }
   where
     fed : (d : Entry) × (u .at x ≡ some d) × (c .label ⊑ d .label)
     fed = v .at-least x c q
@@ -311,14 +309,13 @@ upheld-mix t u s x c q l v = record { at-least = λ y e z. go (same (cell t s) y
     over true e d g h = meet-glb g h
     over false e d g h = g
 
-    go : (b : Bool) (y : Thing) → (T b → cell t s ≡ y) → (e : Entry) → t .at y ≡ some e → (d : Entry) × (u .at y ≡ some d) × (e .label ⊑ d .label)
-        → (d : Entry) × (cond b (fall (cell t s) (u .at (cell t s)) (u .at x)) (u .at y) ≡ some d) × (e .label ⊑ d .label)
-    go false y i e z r = r
-    go true y i e z (d, p, g) = (
-      entry (d .kind) (sunk (cell t s) (d .kind) (d .label) (fed .0 .label)),
-      ap (λ (o : Option Entry). fall (cell t s) o (u .at x)) (ap (u .at) (i tt) ∙ p) ∙ ap (fall (cell t s) (some d)) (fed .1),
-      over (falls (cell t s) (d .kind)) e d g
-          (⊑-trans (subst (λ (o : Option Entry). label-of o ⊑ c .label) (ap (t .at) (i tt) ∙ z) l) (fed .2)),
+    go : (y : Thing) (e : Entry) → t .at y ≡ some e → (d : Entry) × (u .at y ≡ some d) × (e .label ⊑ d .label) → (b : Bool) → (T b → e .label ⊑ c .label)
+        → (d : Entry) × (cond b (fall y (u .at y) (u .at x)) (u .at y) ≡ some d) × (e .label ⊑ d .label)
+    go y e z r false h = r
+    go y e z (d, p, g) true h = (
+      entry (d .kind) (sunk y (d .kind) (d .label) (fed .0 .label)),
+      ap (λ (o : Option Entry). fall y o (u .at x)) p ∙ ap (fall y (some d)) (fed .1),
+      over (falls y (d .kind)) e d g (⊑-trans (h tt) (fed .2)),
     )
 
 -- RULES C104, T38: where every mapping is as it is from empty tables, a write to a file makes no level smaller
@@ -344,16 +341,14 @@ write-lowers-none t w v s p o i f = lowers-none t (effect t (access writing s p)
     written : Upheld t (apply (mix writes x (subject s) x (cell t s)) t)
     written = record { at-least = λ y e q. (e, stays y ∙ q, ⊑-refl) }
       where
-        stays : (y : Thing) → put (t .at) x (fall x (t .at x) (t .at (cell t s))) y ≡ t .at y
-        stays y = go (same x y) (same→eq x y)
-          where
-            go : (b : Bool) → (T b → x ≡ y) → cond b (fall x (t .at x) (t .at (cell t s))) (t .at y) ≡ t .at y
-            go true e = file-keeps x (t .at x) (t .at (cell t s)) is-x ∙ ap (t .at) (e tt)
-            go false e = refl
+        stays : (y : Thing) → sink t x (t .at (cell t s)) y ≡ t .at y
+        stays y = sink-by (λ z o. o ≡ t .at z) t x (t .at (cell t s)) y refl
+            (λ b. file-keeps y (t .at y) (t .at (cell t s)) (subst (λ (z : Thing). T (a-file z (t .at z))) (whole-alone t x y b) is-x))
 
     all : Upheld t u
     all = rereads-keep (Upheld t) t x (λ m h a b. (let k = h .handle in let z = w .ends m (h .place) k (h .held) in
         let c = object-entry t (k .to) (z .to) in
         upheld-mix t a m x (c .0) (ap (t .at) (sym (h .on)) ∙ c .1)
-        (subst (λ (e : Option Entry). label-of (t .at (cell t m)) ⊑ label-of e) (c .1) (v .each m (h .place) k (h .held) (h .maps) .under)) b))
+        (λ y e i z. subst (λ (o : Option Entry). label-of o ⊑ c .0 .label) (ap (t .at) (whole-alone a (cell t m) y i) ∙ z)
+        (subst (λ (e : Option Entry). label-of (t .at (cell t m)) ⊑ label-of e) (c .1) (v .each m (h .place) k (h .held) (h .maps) .under))) b))
         (apply (mix writes x (subject s) x (cell t s)) t) written

@@ -20,8 +20,8 @@ use Rattle.model.specs.Flow.Laws.{same→eq, same-refl, need-flow}
 use Rattle.model.specs.Flow.Changes.{Sub, Adds, flow-to, Spare, spare-below, Total, Fresh, but, need-alone, need-agree, need-others, need-pipe, need-copied, remove-below, remove-thing, remove-thing-far, remove-thing-spare, add-quiet, adds-same, need-more}
 use Rattle.model.specs.Tables.{Kind, running, file, pipe, Dir, reading, writing, Entry, entry, Handle, handle, mapping, with-mark, Tables, with-at, subjects, places, label-of, is-pipe, cell, handles, open-on, arc, flow, speaks, flows-of, edges, demand, needs}
 use Rattle.model.specs.Tables.Laws.{open-here, speaks-at, speaks-cell, cell-self, object-entry, cell-entry, flow-edge, edge-flow}
-use Rattle.model.specs.Steps.{Origin, Access, reads, writes, runs, enter, leave, hold, holds, mix, put, place, fall, apply, applies, ended, reap}
-use Rattle.model.specs.Steps.Laws.{put-same, row-cases, place-cases, place-same, fall-demand}
+use Rattle.model.specs.Steps.{Origin, Access, reads, writes, runs, enter, leave, hold, holds, mix, quits, put, place, fall, sink, apply, applies, ended, reap}
+use Rattle.model.specs.Steps.Laws.{put-same, sink-by, row-cases, place-cases, place-same, fall-demand}
 use Rattle.model.specs.Invariant.{Wf}
 use Rattle.model.specs.Invariant.Laws.{row-below, less-close, less-row}
 use Rattle.model.specs.Calls.{Call, make-pipe, opens, maps, access, fork, exec, close, exit, retire, mark, freeze, target, marking, sheds, steps, effect}
@@ -74,8 +74,7 @@ effect-needs t c = needs-reap (handles t) (applies (steps t c) t)
 -- ── steps that change no need ──
 -- data moves and labels fall
 pub mix-needs : (t : Tables) (m : Access) (a b y x : Thing) (z : Thing) → needs (apply (mix m a b y x) t) z ≡ needs t z
-mix-needs t m a b y x = needs-at t (put (t .at) y (fall y (t .at y) (t .at x)))
-    (put-demand (t .at) y (fall y (t .at y) (t .at x)) (fall-demand y (t .at y) (t .at x)))
+mix-needs t m a b y x = needs-at t (sink t y (t .at x)) (λ z. sink-by (λ w o. demand w o ≡ demand w (t .at w)) t y (t .at x) z refl (λ b. fall-demand z (t .at z) (t .at x)))
 
 -- a read or a write, with the reads of mappers behind it
 pub access-needs : (t : Tables) (d : Dir) (s p : ℕ) (z : Thing) → needs (effect t (access d s p)) z ≡ needs t z

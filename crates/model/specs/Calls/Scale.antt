@@ -14,7 +14,7 @@ use Rattle.model.specs.Tables.{running, file, pipe, Dir, reading, writin
 use Rattle.model.specs.Steps.{outside, blank, copied, reads, writes, runs, enter, hold, holds, mix, apply, applies}
 use Rattle.model.specs.Steps.Laws.{applies-append}
 use Rattle.model.specs.Invariant.{Scaled, Frozen}
-use Rattle.model.specs.Invariant.Laws.{scaled-enter, scaled-same, scaled-without, scaled-mix}
+use Rattle.model.specs.Invariant.Laws.{scaled-enter, scaled-same, scaled-without, scaled-mix, less-quits, less-scaled}
 use Rattle.model.specs.Calls.{Call, admit, register, create, make-pipe, opens, access, fork, exec, close, exit, retire, maps, mark, freeze, connect, unknown}
 use Rattle.model.specs.Calls.{target, moves, followed, sheds, steps, leveled, freezable}
 use Rattle.model.specs.Calls.Moving.{rereads-keep}
@@ -44,9 +44,9 @@ module _ (t : Tables) (v : Scaled t) where
   call-scaled (fork s c) m = scaled-same (λ x. refl)
       (scaled-enter t (subject c) (entry running (label-of (t .at (cell t s)))) (copied (cell t s)) (own-in-scale s) v)
   call-scaled (exec s o) m = subst Scaled (sym (applies-append (sheds t s) (mix runs (subject s) (object o) (cell t s) (object o) ∷ []) t))
-      (scaled-mix (applies (sheds t s) t) runs (subject s) (object o) (cell t s) (object o) (scaled-same (sheds-less t s .same-at) v))
+      (scaled-mix (applies (sheds t s) t) runs (subject s) (object o) (cell t s) (object o) (less-scaled (sheds-less t s) v))
   call-scaled (close s p) m = scaled-same (λ x. refl) v
-  call-scaled (exit s) m = scaled-without (same (subject s)) (apply (holds s (λ p. none)) t) (scaled-same (λ x. refl) v)
+  call-scaled (exit s) m = less-scaled (less-quits t (same (subject s)) (λ o. tt)) v
   call-scaled (retire o) m = scaled-without (same (object o)) t v
   call-scaled (maps s o p) m = scaled-mix (apply (hold s p (some (mapping o))) t) reads (subject s) (object o) (cell t s) (object o) (scaled-same (λ x. refl) v)
   call-scaled (mark s p) m = scaled-same (λ x. refl) v

@@ -15,13 +15,13 @@ use Rattle.model.specs.Flow.Laws.{same→eq, reaches-in, reaches-snoc, n
 use Rattle.model.specs.Tables.{Dir, reading, Entry, Handle, handle, mapping, Tables, is-some, is-pipe, label-of, cell, arc, flow, speaks, edges, demand, needs, safe}
 use Rattle.model.specs.Tables.Laws.{some-of, some-is, speaks-hand, speaks-at, speaks-cell, flow-edge, edge-flow}
 use Rattle.model.specs.Steps.{reads, hold, holds, row, fall, apply, applies}
-use Rattle.model.specs.Steps.Laws.{fall-some, fall-demand}
+use Rattle.model.specs.Steps.Laws.{sink-by, fall-some, fall-demand}
 use Rattle.model.specs.Invariant.{Wf}
 use Rattle.model.specs.Invariant.Laws.{Pot, pot-safe, needs-pot, wf-mix, pot-mix}
 use Rattle.model.specs.Calls.{opens, maps, lasting, sheds, steps, Test, number, alive, present, no-pipe, vacant, enough, broken, order, earlier, In-order, refusal}
 use Rattle.model.specs.Calls.Refusals.{refusal-same}
 use Rattle.model.specs.Calls.Passed.{Passed}
-use Rattle.model.specs.Calls.Mapped.{put-label}
+use Rattle.model.specs.Calls.Mapped.{sink-label}
 use Rattle.model.specs.Calls.Dangling.{placed-wf}
 use Rattle.model.specs.Calls.Kept.{safe-sound, safe-complete, pot-swap, map-feeds}
 use Rattle.model.specs.Demand2.{opened}
@@ -157,20 +157,12 @@ map-either-way t w s o p f = (to, from)
     }
       where
         demanded : (x : Thing) → demand x (fallen .at x) ≡ demand x (t .at x)
-        demanded x = go (same (cell t s) x) (same→eq (cell t s) x)
-          where
-            go : (b : Bool) → (T b → cell t s ≡ x) → demand x (cond b (fall (cell t s) (t .at (cell t s)) (t .at (object o))) (t .at x)) ≡ demand x (t .at x)
-            go true e = subst (λ (y : Thing). demand y (fall (cell t s) (t .at (cell t s)) (t .at (object o))) ≡ demand y (t .at y)) (e tt)
-                (fall-demand (cell t s) (t .at (cell t s)) (t .at (object o)))
-            go false e = refl
+        demanded x = sink-by (λ w o. demand w o ≡ demand w (t .at w)) u (cell t s) (t .at (object o)) x refl (λ b. fall-demand x (t .at x) (t .at (object o)))
 
         there : (x : Thing) (e : Entry) → t .at x ≡ some e → (d : Entry) × (fallen .at x ≡ some d) × (d .label ⊑ e .label)
-        there x e q = let d = some-of (fallen .at x) (still (same (cell t s) x) (same→eq (cell t s) x)) in
-            (d .0, d .1, subst₂ (λ (a b : Option Entry). label-of a ⊑ label-of b) (d .1) q (put-label t (cell t s) (object o) x))
-          where
-            still : (b : Bool) → (T b → cell t s ≡ x) → T (is-some (cond b (fall (cell t s) (t .at (cell t s)) (t .at (object o))) (t .at x)))
-            still true i = fall-some (cell t s) (t .at (cell t s)) (t .at (object o)) (some-is (ap (t .at) (i tt) ∙ q))
-            still false i = some-is q
+        there x e q = let d = some-of (fallen .at x) (sink-by (λ w o. T (is-some o)) u (cell t s) (t .at (object o)) x (some-is q)
+            (λ b. fall-some x (t .at x) (t .at (object o)) (some-is q))) in
+            (d .0, d .1, subst₂ (λ (a b : Option Entry). label-of a ⊑ label-of b) (d .1) q (sink-label u (cell t s) (object o) x))
 
     from : T (safe fallen) → T (safe (opened t reading s o p))
     from h = safe-complete (opened t reading s o p) (pot-safe (pot-swap t (needs fallen) s p (mapping o) (handle reading o) refl refl

@@ -12,7 +12,7 @@ use Rattle.model.specs.Flow.{Thing, subject, object}
 use Rattle.model.specs.Tables.{reading, Entry, Handle, Tables, live, is-file, cell, handles, needs}
 use Rattle.model.specs.Tables.Laws.{cell-entry, cell-self}
 use Rattle.model.specs.Steps.{reads, mix, fall, apply, ended}
-use Rattle.model.specs.Steps.Laws.{put-cases, fell}
+use Rattle.model.specs.Steps.Laws.{sink-cases, fell}
 use Rattle.model.specs.Invariant.{Kept, Scaled}
 use Rattle.model.specs.Calls.{opens, access, target, enough, broken, effect, lowers}
 use Rattle.model.specs.Demand2.Reads.{reads-above}
@@ -58,9 +58,9 @@ module _ (t : Tables) (v : Kept t) where
       same-label y e d a b = subst (λ (z : Entry). e .label ⊑ z .label) (Option·some-injective e d (sym a ∙ b)) ⊑-refl
 
       none-lower : None-lower t (effect t (access reading s p))
-      none-lower y e d a b = elim (put-cases (t .at) (cell t s) (fall (cell t s) (t .at (cell t s)) (t .at x)) y (some d) (left-over (ended (handles t) (handles w) y (w .at y)) (w .at y) d b)) [
-        | inl c ↦ (let f = fell (cell t s) (t .at (cell t s)) (t .at x) (h .its) d there (c .1) in
-            f .over (e .label) (same-label (cell t s) e (f .was) (ap (t .at) (c .0) ∙ a) (f .was-is))
+      none-lower y e d a b = elim (sink-cases t (cell t s) (t .at x) y (some d) (left-over (ended (handles t) (handles w) y (w .at y)) (w .at y) d b)) [
+        | inl c ↦ (let f = fell y (t .at y) (t .at x) (h .its) d there (c .1) in
+            f .over (e .label) (same-label y e (f .was) a (f .was-is))
             (subst (λ (z : Label). e .label ⊑ z) (sym (h .top)) (under-top (v .scaled) y e a)))
         | inr c ↦ same-label y e d a (c .1)
       ]

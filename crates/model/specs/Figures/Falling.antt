@@ -6,6 +6,7 @@ use mathlib.Core.Option.{Option, none, some}
 use mathlib.Core.List.{List, [], _∷_}
 use Prim.Native.Nat.{ℕ}
 use lib.Dec.{T}
+use Rattle.model.specs.Bools.{cond-no}
 use Rattle.model.specs.Lists.{In}
 use Rattle.model.specs.Label.{Label, _⊑_, bot}
 use Rattle.model.specs.Label.Laws.{⊑-refl, ⊑-trans, bot-least}
@@ -14,8 +15,8 @@ use Rattle.model.specs.Flow.Laws.{same→eq, need-self, need-flow, need-
 use Rattle.model.specs.Flow.Changes.{Sub}
 use Rattle.model.specs.Tables.{Dir, reading, writing, Entry, Tables, empty, is-some, live, arc, edges, demand, needs}
 use Rattle.model.specs.Tables.Laws.{live-of, used-is}
-use Rattle.model.specs.Steps.{Step, enter, leave, hold, holds, mix, freezes, fall, put, apply, applies}
-use Rattle.model.specs.Steps.Laws.{put-same, fall-demand}
+use Rattle.model.specs.Steps.{Step, enter, leave, hold, holds, mix, quits, freezes, fall, put, sink, apply, applies}
+use Rattle.model.specs.Steps.Laws.{put-same, sink-by, fall-demand}
 use Rattle.model.specs.Invariant.{Wf, Kept}
 use Rattle.model.specs.Calls.{Call, admit, register, create, make-pipe, opens, access, fork, exec, close, exit, retire, maps, mark, freeze, connect, unknown, Raw, decode, target, rereads, sheds, steps, effect, broken, new, idle, refusal, next, after}
 use Rattle.model.specs.Calls.Refusals.{allowed-iff}
@@ -49,6 +50,7 @@ Calm t (leave z) = demand z (t .at z) ≡ bot
 Calm t (hold s p v) = Unit {0}
 Calm t (holds s r) = Unit {0}
 Calm t (mix m a b y z) = Unit {0}
+Calm t (quits g) = (o : ℕ) → T (not (g (object o)))
 Calm t (freezes n) = Unit {0}
 
 abbrev Grown : Tables → Tables → Type 0
@@ -70,8 +72,13 @@ step-grown t (enter z e g) c u f = put-grown t u z (some e) f (none-under c)
 step-grown t (leave z) c u f = put-grown t u z none f (none-under c)
 step-grown t (hold s p v) c u f = f
 step-grown t (holds s r) c u f = f
-step-grown t (mix m a b y z) c u f = put-grown t u y (fall y (u .at y) (u .at z)) f
-    (subst (λ (d : Label). demand y (t .at y) ⊑ d) (sym (fall-demand y (u .at y) (u .at z))) (f y))
+step-grown t (mix m a b y z) c u f = λ w. sink-by (λ v o. demand v (t .at v) ⊑ demand v o) u y (u .at z) w (f w)
+    (λ b. subst (λ (d : Label). demand w (t .at w) ⊑ d) (sym (fall-demand w (u .at w) (u .at z))) (f w))
+step-grown t (quits g) c u f = λ w. left w
+  where
+    left : (w : Thing) → demand w (t .at w) ⊑ demand w (cond (g w) none (u .at w))
+    left (subject n) = none-under (subject-demand n (t .at (subject n)))
+    left (object n) = subst (λ (o : Option Entry). demand (object n) (t .at (object n)) ⊑ demand (object n) o) (sym (cond-no (g (object n)) none (u .at (object n)) (c n))) (f (object n))
 step-grown t (freezes n) c u f = f
 
 abbrev Calms : Tables → List Step → Type 0
@@ -107,7 +114,7 @@ module _ (t : Tables) where
   calm (fork s c) m = inr (new-calm (subject c) (m (new (subject c)) (inr (inl refl))), (tt, tt))
   calm (exec s o) m = inr (tt, (tt, tt))
   calm (close s p) m = inr (tt, tt)
-  calm (exit s) m = inr (tt, (subject-demand s (t .at (subject s)), tt))
+  calm (exit s) m = inr ((λ o. tt), tt)
   calm (retire o) m = inl (o, refl)
   calm (maps s o p) m = inr (tt, (tt, tt))
   calm (mark s p) m = inr (tt, tt)

@@ -16,8 +16,8 @@ use Rattle.model.specs.Flow.Laws.{same→eq, same-refl}
 use Rattle.model.specs.Flow.Changes.{but, need-alone}
 use Rattle.model.specs.Tables.{Dir, reading, writing, Entry, handle, Tables, empty, with-at, in-range, is-some, used, live, label-of, cell, handles, edges, demand, needs}
 use Rattle.model.specs.Tables.Laws.{live-of, used-is}
-use Rattle.model.specs.Steps.{Origin, outside, blank, copied, Step, enter, leave, hold, holds, mix, freezes, put, fall, apply, applies, ended}
-use Rattle.model.specs.Steps.Laws.{put-same, applies-keep, some-fall}
+use Rattle.model.specs.Steps.{Origin, outside, blank, copied, Step, enter, leave, hold, holds, mix, quits, freezes, put, fall, sink, apply, applies, ended}
+use Rattle.model.specs.Steps.Laws.{put-same, sink-by, applies-keep, some-fall}
 use Rattle.model.specs.Invariant.{Wf}
 use Rattle.model.specs.Calls.{Call, admit, register, create, make-pipe, access, fork, exec, exit, retire, maps, mark, freeze, target, sheds, steps, effect, alive, new, vacant, apart, idle, tests, refusal}
 use Rattle.model.specs.Calls.Refusals.{allowed-iff}
@@ -34,6 +34,7 @@ Makes (leave z) x = ⊥
 Makes (hold s p v) x = ⊥
 Makes (holds s r) x = ⊥
 Makes (mix m a b y z) x = ⊥
+Makes (quits g) x = ⊥
 Makes (freezes n) x = ⊥
 
 -- entries that are there were there
@@ -57,12 +58,9 @@ step-lived (enter z e g) t x l = go (same z x) (same→eq z x) (lived-at t (put 
 step-lived (leave z) t x l = inl (lived-at t (put (t .at) z none) x (gone-some (same z x) (t .at x)) l)
 step-lived (hold s p v) t x l = inl l
 step-lived (holds s r) t x l = inl l
-step-lived (mix m a b y z) t x l = inl (lived-at t (put (t .at) y (fall y (t .at y) (t .at z))) x
-    (λ h. go (same y x) (same→eq y x) h) l)
-  where
-    go : (b : Bool) → (T b → y ≡ x) → T (is-some (cond b (fall y (t .at y) (t .at z)) (t .at x))) → T (is-some (t .at x))
-    go true q h = subst (λ (w : Thing). T (is-some (t .at w))) (q tt) (some-fall y (t .at y) (t .at z) h)
-    go false q h = h
+step-lived (mix m a b y z) t x l = inl (lived-at t (sink t y (t .at z)) x
+    (sink-by (λ w o. T (is-some o) → T (is-some (t .at w))) t y (t .at z) x (λ h. h) (λ b. some-fall x (t .at x) (t .at z))) l)
+step-lived (quits g) t x l = inl (lived-at t (λ y. cond (g y) none (t .at y)) x (gone-some (g x) (t .at x)) l)
 step-lived (freezes n) t x l = inl l
 
 -- and so after steps that make nothing at x

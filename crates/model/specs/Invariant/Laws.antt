@@ -16,10 +16,10 @@ use Rattle.model.specs.Label.Laws.{⊑-trans, bot-least, below-in-scale}
 use Rattle.model.specs.Flow.{Thing, subject, object, same, Edge}
 use Rattle.model.specs.Flow.Laws.{same→eq, need-self, need-flow, need-below}
 use Rattle.model.specs.Flow.Changes.{but}
-use Rattle.model.specs.Tables.{Dir, reading, writing, Entry, Handle, Tables, empty, with-at, with-hand, with-freeze, subjects, places, in-range, is-some, live, cell, handles, arc, flow, speaks, edges, demand, needs, counted, clean}
-use Rattle.model.specs.Tables.Laws.{some-of, some-is, live-of, speaks-at, speaks-hand, speaks-freeze, speaks-cell, cell-entry, object-entry, open-here, flow-edge, edge-flow}
-use Rattle.model.specs.Steps.{Origin, Access, enter, hold, holds, mix, put, row, place, fall, apply, ended, reap}
-use Rattle.model.specs.Steps.Laws.{put-cases, row-cases, place-cases, live-hand, live-freeze, live-at, ended-open, ended-subject}
+use Rattle.model.specs.Tables.{Dir, reading, writing, Entry, Handle, Tables, empty, with-at, with-hand, with-freeze, subjects, places, in-range, is-some, used, live, cell, handles, arc, flow, speaks, edges, demand, needs, counted, clean}
+use Rattle.model.specs.Tables.Laws.{some-of, some-is, live-of, speaks-at, speaks-hand, speaks-freeze, speaks-cell, whole-alone, cell-entry, object-entry, open-here, flow-edge, edge-flow}
+use Rattle.model.specs.Steps.{Origin, Access, enter, hold, holds, mix, quits, put, row, place, fall, without, vacated, sink, apply, ended, reap}
+use Rattle.model.specs.Steps.Laws.{put-cases, sink-cases, sink-by, row-cases, place-cases, live-hand, live-freeze, live-at, ended-open, ended-subject}
 use Rattle.model.specs.Steps.Laws.{fall-some, some-fall, fall-demand, fall-under, fell}
 use Rattle.model.specs.Invariant.{Ends, Wf, Safe, Scaled, Frozen}
 
@@ -201,16 +201,18 @@ pot-hold t φ s p k i f = pot-hand t φ (place (t .hand) s p (some k)) i (λ s�
   | inr c ↦ inl c
 ])
 
--- ── fewer handles, same entries ──
+-- ── fewer handles and subjects, the same objects ──
 pub record Less (t u : Tables) : Type 0 where
-  pub same-at : (x : Thing) → u .at x ≡ t .at x
+  pub was-at : (x : Thing) (e : Entry) → u .at x ≡ some e → t .at x ≡ some e
+  pub objects-stay : (o : ℕ) → u .at (object o) ≡ t .at (object o)
   pub hands : (s p : ℕ) (k : Handle) → u .hand s p ≡ some k → t .hand s p ≡ some k
   pub ends : (s p : ℕ) (k : Handle) → u .hand s p ≡ some k → Ends t s p k → Ends u s p k
   pub talks : (s p : ℕ) (x : Thing) (k : Handle) → u .hand s p ≡ some k → speaks u s ≡ some x → speaks t s ≡ some x
 
 pub less-hand : (t : Tables) (h : ℕ → ℕ → Option Handle) → ((s p : ℕ) (k : Handle) → h s p ≡ some k → t .hand s p ≡ some k) → Less t (with-hand t h)
 less-hand t h f = record {
-  same-at = λ x. refl;
+  was-at = λ x e q. q;
+  objects-stay = λ o. refl;
   hands = f;
   talks = λ s p x k q z. sym (speaks-hand t h s) ∙ z;
   ends = λ s p k q g. record { from = live-hand t h (subject s) (g .from); to = live-hand t h (object (k .to)) (g .to); place = g .place };
@@ -227,26 +229,60 @@ less-row t s = less-hand t (row (t .hand) s (λ p. none)) (λ s′ p k q. elim
 -- another freeze takes no handle away
 pub less-freeze : (t : Tables) (f : ℕ) → Less t (with-freeze t f)
 less-freeze t f = record {
-  same-at = λ x. refl;
+  was-at = λ x e q. q;
+  objects-stay = λ o. refl;
   hands = λ s p k q. q;
   talks = λ s p x k q z. sym (speaks-freeze t f s) ∙ z;
   ends = λ s p k q g. record { from = live-freeze t f (subject s) (g .from); to = live-freeze t f (object (k .to)) (g .to); place = g .place };
 }
 
 pub less-wf : {t u : Tables} → Less t u → Wf t → Wf u
-less-wf l w = record { ends = λ s p k q. l .ends s p k q (w .ends s p k (l .hands s p k q)); ranged = λ x e q. w .ranged x e (sym (l .same-at x) ∙ q) }
+less-wf l w = record { ends = λ s p k q. l .ends s p k q (w .ends s p k (l .hands s p k q)); ranged = λ x e q. w .ranged x e (l .was-at x e q) }
 
 pub less-pot : {t u : Tables} (φ : Thing → Label) → Less t u → Pot t φ → Pot u φ
-less-pot φ l i = record {
-  low = λ x. subst (λ (o : Option Entry). demand x o ⊑ φ x) (sym (l .same-at x)) (i .low x);
-  cap = λ x e q. i .cap x e (sym (l .same-at x) ∙ q);
+less-pot {t} {u} φ l i = record {
+  low = λ x. low′ x (u .at x) (l .was-at x);
+  cap = λ x e q. i .cap x e (l .was-at x e q);
   falls = λ s p x k z q. i .falls s p x k (l .talks s p x k q z) (l .hands s p k q);
 }
+  where
+    low′ : (x : Thing) (o : Option Entry) → ((e : Entry) → o ≡ some e → t .at x ≡ some e) → demand x o ⊑ φ x
+    low′ x none f = bot-least
+    low′ x (some e) f = subst (λ (o : Option Entry). demand x o ⊑ φ x) (f e refl) (i .low x)
+
+pub less-scaled : {t u : Tables} → Less t u → Scaled t → Scaled u
+less-scaled l v = record { within = λ x e q. v .within x e (l .was-at x e q) }
+
+-- ── subjects end ──
+pub less-quits : (t : Tables) (g : Thing → Bool) → ((o : ℕ) → T (not (g (object o)))) → Less t (apply (quits g) t)
+unfolding used
+less-quits t g n = record {
+  was-at = λ x e q. kept (g x) (t .at x) e q;
+  objects-stay = λ o. cond-no (g (object o)) none (t .at (object o)) (n o);
+  hands = λ s p k q. holds (g (subject s)) (t .hand s p) k q .1;
+  talks = λ s p x k q z. sym (speaks-hand t (vacated g (t .hand)) s) ∙ sym (speaks-at (with-hand t (vacated g (t .hand))) a s) ∙ z;
+  ends = λ s p k q f. record {
+    from = live-at t a (subject s) (stays (subject s) (holds (g (subject s)) (t .hand s p) k q .0)) (f .from);
+    to = live-at t a (object (k .to)) (stays (object (k .to)) (n (k .to))) (f .to);
+    place = f .place;
+  };
+}
+  where
+    a : Thing → Option Entry
+    a x = cond (g x) none (t .at x)
+
+    kept : (b : Bool) (o : Option Entry) (e : Entry) → cond b none o ≡ some e → o ≡ some e
+    kept true o e q = absurd (Option·none-ne-some e q)
+    kept false o e q = q
+
+    holds : (b : Bool) (o : Option Handle) (k : Handle) → cond b none o ≡ some k → T (not b) × (o ≡ some k)
+    holds true o k q = absurd (Option·none-ne-some k q)
+    holds false o k q = (tt, q)
+
+    stays : (x : Thing) → T (not (g x)) → T (is-some (t .at x)) → T (is-some (a x))
+    stays x h s = subst (λ (o : Option Entry). T (is-some o)) (sym (cond-no (g x) none (t .at x) h)) s
 
 -- ── fewer things, same handles: leave, and the end of a pipe ──
-abbrev pub without : (Thing → Bool) → Tables → Tables
-without gone t = with-at t (λ x. cond (gone x) none (t .at x))
-
 -- what is left was there
 left : (gone : Bool) (o : Option Entry) (e : Entry) → cond gone none o ≡ some e → o ≡ some e
 left true o e q = absurd (Option·none-ne-some e q)
@@ -308,27 +344,22 @@ wf-mix t m a b y x w = record {
         (object (k .to)) (more (object (k .to))) (f .to);
     place = f .place;
   });
-  ranged = λ z e q. elim (put-cases (t .at) y (fall y (t .at y) (t .at x)) z (some e) q) [
-    | inl d ↦ (let r = some-of (t .at y) (some-fall y (t .at y) (t .at x) (some-is (d .1))) in subst (λ (v : Thing). T (in-range v)) (d .0)
-        (w .ranged y (r .0) (r .1)))
+  ranged = λ z e q. elim (sink-cases t y (t .at x) z (some e) q) [
+    | inl d ↦ (let r = some-of (t .at z) (some-fall z (t .at z) (t .at x) (some-is (d .1))) in w .ranged z (r .0) (r .1))
     | inr d ↦ w .ranged z e (d .1)
   ];
 }
   where
     c : Thing → Option Entry
-    c = put (t .at) y (fall y (t .at y) (t .at x))
+    c = sink t y (t .at x)
 
     more : (z : Thing) → T (is-some (t .at z)) → T (is-some (c z))
-    more z h = go (same y z) (same→eq y z)
-      where
-        go : (d : Bool) → (T d → y ≡ z) → T (is-some (cond d (fall y (t .at y) (t .at x)) (t .at z)))
-        go true e = fall-some y (t .at y) (t .at x) (subst (λ (v : Thing). T (is-some (t .at v))) (sym (e tt)) h)
-        go false e = h
+    more z h = sink-by (λ v o. T (is-some o)) t y (t .at x) z h (λ b. fall-some z (t .at z) (t .at x) h)
 
 pub scaled-mix : (t : Tables) (m : Access) (a b y x : Thing) → Scaled t → Scaled (apply (mix m a b y x) t)
 scaled-mix t m a b y x v = record {
-  within = λ z e q. elim (put-cases (t .at) y (fall y (t .at y) (t .at x)) z (some e) q) [
-    | inl c ↦ (let f = fall-under y (t .at y) (t .at x) e (c .1) in below-in-scale (f .2) (v .within y (f .0) (f .1)))
+  within = λ z e q. elim (sink-cases t y (t .at x) z (some e) q) [
+    | inl c ↦ (let f = fall-under z (t .at z) (t .at x) e (c .1) in below-in-scale (f .2) (v .within z (f .0) (f .1)))
     | inr c ↦ v .within z e (c .1)
   ];
 }
@@ -341,23 +372,17 @@ pub record Feeds (t : Tables) (φ : Thing → Label) (y x : Thing) : Type 0 wher
 
 pub pot-mix : (t : Tables) (φ : Thing → Label) (m : Access) (a b y x : Thing) → Pot t φ → Feeds t φ y x → Pot (apply (mix m a b y x) t) φ
 pot-mix t φ m a b y x i v = record {
-  low = λ z. low′ z (same y z) (same→eq y z);
+  low = λ z. sink-by (λ w o. demand w o ⊑ φ w) t y (t .at x) z (i .low z)
+      (λ b. subst (λ (l : Label). l ⊑ φ z) (sym (fall-demand z (t .at z) (t .at x))) (i .low z));
   cap = cap′;
   falls = λ s p z k u q. i .falls s p z k
-      (sym (speaks-at t (put (t .at) y new) s) ∙ u) q;
+      (sym (speaks-at t (sink t y (t .at x)) s) ∙ u) q;
 }
   where
-    new : Option Entry
-    new = fall y (t .at y) (t .at x)
-
-    low′ : (z : Thing) (b : Bool) → (T b → y ≡ z) → demand z (cond b new (t .at z)) ⊑ φ z
-    low′ z true e = subst (λ (w : Thing). demand w new ⊑ φ w) (e tt) (subst (λ (l : Label). l ⊑ φ y) (sym (fall-demand y (t .at y) (t .at x))) (i .low y))
-    low′ z false e = i .low z
-
-    cap′ : (z : Thing) (r : Entry) → put (t .at) y new z ≡ some r → φ z ⊑ r .label
-    cap′ z r f = elim (put-cases (t .at) y new z (some r) f) [
-      | inl c ↦ (let g = fell y (t .at y) (t .at x) (v .source) r (v .source-is) (c .1) in subst (λ (w : Thing). φ w ⊑ r .label) (c .0)
-          (g .over (φ y) (i .cap y (g .was) (g .was-is)) (v .under)))
+    cap′ : (z : Thing) (r : Entry) → sink t y (t .at x) z ≡ some r → φ z ⊑ r .label
+    cap′ z r f = elim (sink-cases t y (t .at x) z (some r) f) [
+      | inl c ↦ (let g = fell z (t .at z) (t .at x) (v .source) r (v .source-is) (c .1) in
+          g .over (φ z) (i .cap z (g .was) (g .was-is)) (subst (λ (w : Thing). φ w ⊑ v .source .label) (whole-alone t y z (c .0)) (v .under)))
       | inr c ↦ i .cap z r (c .1)
     ]
 

@@ -7,16 +7,16 @@ use mathlib.Core.Option.{Option, none, some, Option·none-ne-some, Option·some-
 use mathlib.Core.List.{List, [], _∷_, _++_}
 use Prim.Native.Nat.{ℕ}
 use lib.Dec.{T, T-not, not-T, eqb, eqb→eq, eqb-refl}
-use Rattle.model.specs.Bools.{both, both-of, cond-yes, cond-no, cond-cases}
+use Rattle.model.specs.Bools.{test, both, both-of, cond-yes, cond-no, cond-cases}
 use Rattle.model.specs.Lists.{In}
 use Rattle.model.specs.Label.{Label, _⊑_, meet, bot}
-use Rattle.model.specs.Label.Laws.{⊑-refl, meet-left, meet-right, meet-glb}
+use Rattle.model.specs.Label.Laws.{⊑-refl, meet-left, meet-right, meet-glb, meet-stays}
 use Rattle.model.specs.Flow.{Thing, subject, object, same}
 use Rattle.model.specs.Flow.Laws.{same→eq, same-refl}
 use Rattle.model.specs.Tables.{Kind, running, file, pipe, Entry, entry, Handle, Tables, with-at, with-hand, with-freeze, in-range, is-some, used, live, label-of}
-use Rattle.model.specs.Tables.{is-file, a-file, is-pipe, handles, open-on, demand}
-use Rattle.model.specs.Tables.Laws.{used-is, live-of}
-use Rattle.model.specs.Steps.{Step, put, row, place, falls, sunk, fall, apply, applies, ended, reap}
+use Rattle.model.specs.Tables.{is-file, a-file, is-pipe, whole, handles, open-on, demand}
+use Rattle.model.specs.Tables.Laws.{used-is, live-of, whole-same, whole-alone}
+use Rattle.model.specs.Steps.{Step, put, row, place, falls, sunk, fall, sink, apply, applies, ended, reap}
 
 -- ── put, row, place ──
 pub put-cases : (a : Thing → Option Entry) (x : Thing) (v : Option Entry) (y : Thing) (e : Option Entry) → put a x v y ≡ e
@@ -25,6 +25,31 @@ put-cases a x v y e q = elim (cond-cases (same x y) v (a y) e q) [ inl p ↦ inl
 
 pub put-same : (a : Thing → Option Entry) (x : Thing) (v : Option Entry) → put a x v x ≡ v
 put-same a x v = cond-yes (same x x) v (a x) (same-refl x)
+
+-- who took something in, and who did not
+pub sink-cases : (t : Tables) (x : Thing) (d : Option Entry) (y : Thing) (e : Option Entry) → sink t x d y ≡ e
+    → (T (whole t x y) × (fall y (t .at y) d ≡ e)) ⊎ (T (not (whole t x y)) × (t .at y ≡ e))
+sink-cases t x d y e q = cond-cases (whole t x y) (fall y (t .at y) d) (t .at y) e q
+
+-- what holds of an entry before and after a fall holds of it
+pub sink-by : (P : Thing → Option Entry → Type 0) (t : Tables) (x : Thing) (d : Option Entry) (y : Thing) → P y (t .at y)
+    → (T (whole t x y) → P y (fall y (t .at y) d)) → P y (sink t x d y)
+sink-by P t x d y p f = go (whole t x y) f
+  where
+    go : (b : Bool) → (T b → P y (fall y (t .at y) d)) → P y (cond b (fall y (t .at y) d) (t .at y))
+    go true g = g tt
+    go false g = p
+
+-- where x takes in for itself alone, its entry alone is another
+pub sink-one : (t : Tables) (x : Thing) (d : Option Entry) → sink t x d ≡ put (t .at) x (fall x (t .at x) d)
+sink-one t x d = fun-ext (λ y. go y (test (same x y)))
+  where
+    go : (y : Thing) → T (same x y) ⊎ T (not (same x y)) → sink t x d y ≡ put (t .at) x (fall x (t .at x) d) y
+    go y (inl s) = cond-yes (whole t x y) (fall y (t .at y) d) (t .at y) (whole-same t x y s) ∙ ap (λ (z : Thing). fall z (t .at z) d) (sym (same→eq x y s))
+        ∙ sym (cond-yes (same x y) (fall x (t .at x) d) (t .at y) s)
+    go y (inr n) = cond-no (whole t x y) (fall y (t .at y) d) (t .at y)
+        (not-T (whole t x y) (λ w. T-not (same x y) n (subst (λ (z : Thing). T (same x z)) (whole-alone t x y w) (same-refl x))))
+        ∙ sym (cond-no (same x y) (fall x (t .at x) d) (t .at y) n)
 
 pub row-cases : (h : ℕ → ℕ → Option Handle) (s : ℕ) (r : ℕ → Option Handle) (s′ p : ℕ) (k : Option Handle) → row h s r s′ p ≡ k
     → ((s ≡ s′) × (r p ≡ k)) ⊎ (T (not (eqb s s′)) × (h s′ p ≡ k))
@@ -179,6 +204,17 @@ file-keeps x none b t = absurd t
 file-keeps x (some e) none t = refl
 file-keeps x (some e) (some d) t = ap (λ (l : Label). some (entry (e .kind) l))
     (cond-no (falls x (e .kind)) (meet (e .label) (d .label)) (e .label) (file-stays x (e .kind) t))
+
+-- who took something in and takes it in again stays as it is
+pub fall-twice : (x : Thing) (a b : Option Entry) → fall x (fall x a b) b ≡ fall x a b
+fall-twice x none b = refl
+fall-twice x (some e) none = refl
+fall-twice x (some e) (some d) = ap (λ (l : Label). some (entry (e .kind) l)) (go (falls x (e .kind)))
+  where
+    go : (f : Bool) → cond f (meet (cond f (meet (e .label) (d .label)) (e .label)) (d .label)) (cond f (meet (e .label) (d .label)) (e .label))
+        ≡ cond f (meet (e .label) (d .label)) (e .label)
+    go true = meet-stays (meet (e .label) (d .label)) (d .label) (meet-right (e .label) (d .label))
+    go false = refl
 
 -- what a receiver is after it took something in from an entry d: not above what it was, and not above d if d was at least its
 -- demand (a file keeps its label: it is its own demand)

@@ -12,8 +12,9 @@ use Rattle.model.specs.Lists.{In, each, keep, any}
 use Rattle.model.specs.Lists.Laws.{in-left, in-right, in-cases, in-each, each-in, keep-here, keep-cases, any-of, any-at}
 use Rattle.model.specs.Label.{leq, _⊑_, bot}
 use Rattle.model.specs.Label.Laws.{⊑-refl, bot-least}
-use Rattle.model.specs.Flow.{Thing, subject, object, Edge}
-use Rattle.model.specs.Tables.{Entry, Handle, Tables, with-at, with-hand, with-freeze, subjects, objects, places, in-range, is-some, used, live, label-of, is-file, cell, live-objects, live-subjects, things, one, handles-of, handles, open-on, flow, speaks, flows-of, edges, demand, needs, safe}
+use Rattle.model.specs.Flow.{Thing, subject, object, same, Edge}
+use Rattle.model.specs.Flow.Laws.{same→eq, same-refl}
+use Rattle.model.specs.Tables.{Entry, Handle, Tables, with-at, with-hand, with-freeze, subjects, objects, places, in-range, is-some, used, live, label-of, is-file, cell, whole, live-objects, live-subjects, things, one, handles-of, handles, open-on, flow, speaks, flows-of, edges, demand, needs, safe}
 
 -- ── is-some, live ──
 pub some-of : {A : Type 0} (o : Option A) → T (is-some o) → (a : A) × (o ≡ some a)
@@ -55,6 +56,23 @@ cell-self t s = refl
 
 pub cell-same : (t u : Tables) (s : ℕ) → cell t s ≡ cell u s
 cell-same t u s = cell-self t s ∙ sym (cell-self u s)
+
+-- ── whole: it goes by the entries and handles of no thing; in this version nobody takes in with another ──
+pub whole-at : (t : Tables) (a : Thing → Option Entry) (x y : Thing) → whole (with-at t a) x y ≡ whole t x y
+unfolding whole
+whole-at t a x y = refl
+
+pub whole-self : (t : Tables) (x : Thing) → T (whole t x x)
+unfolding whole
+whole-self t x = same-refl x
+
+pub whole-alone : (t : Tables) (x y : Thing) → T (whole t x y) → x ≡ y
+unfolding whole
+whole-alone t x y h = same→eq x y h
+
+pub whole-same : (t : Tables) (x y : Thing) → T (same x y) → T (whole t x y)
+unfolding whole
+whole-same t x y h = h
 
 -- a live subject's cell and a live object have an entry
 pub cell-entry : (t : Tables) (s : ℕ) → T (live t (subject s)) → (e : Entry) × (t .at (cell t s) ≡ some e)
