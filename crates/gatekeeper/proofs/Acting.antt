@@ -1,17 +1,22 @@
 -- How a method meets the rules: where it refuses, where it acts, and how the public calls settle what the inner ones say. Assumes nothing.
 use mathlib.Core.Path.{_≡_, refl, sym, _∙_, ap, subst, subst₂}
-use mathlib.Core.Bool.{Bool, cond}
-use mathlib.Core.Option.{Option, none, some, Option·none-ne-some}
+use mathlib.Core.Bool.{Bool, true, false, _||_, cond}
+use mathlib.Core.Option.{Option, none, some, Option·none-ne-some, Option·some-injective}
 use mathlib.Core.List.{List}
-use Prim.Native.Nat.{ℕ}
+use Prim.Native.Nat.{ℕ, _+_, _*_}
 use borrow.Author.Tests.{eq-eqb, ne-eqb}
-use Rattle.model.specs.Tables.{Tables, clean}
+use Rattle.model.specs.Tables.{Tables, clean, reading, writing, places}
+use Rattle.model.specs.Tables.{Handle as Held}
+use Rattle.tables.specs.declared.Handle.{Handle}
+use Rattle.tables.specs.Records.{joins, held, tables-of, no-handle}
+use lib.Dec.{T, eqb, ltb}
+use lib.ListN.{getD}
 use Rattle.model.specs.Calls.{Call, tests, first, refusal, effect, refused, allowed, lowered, answer}
 use Rattle.model.specs.Calls.{Answer as Told}
 use Rattle.model.specs.Calls.Refusals.{answered-refused}
 use Rattle.model.specs.Calls.Dangling.{effect-wf}
-use Rattle.model.specs.Calls.Kept.{effect-kept}
-use Rattle.model.specs.Invariant.{Wf, Safe, Kept}
+use Rattle.model.specs.Calls.Sound.{Sound, effect-safe}
+use Rattle.model.specs.Invariant.{Wf, Safe}
 use Rattle.model.specs.Invariant.Laws.{clean-same}
 use Rattle.model.specs.Figures.{Ready}
 use Rattle.model.specs.Promise.{Meets}
@@ -20,7 +25,7 @@ use Rattle.refusals.specs.Refusing.{late, Refuses, Refused}
 use Rattle.gatekeeper.specs.declared.Monitor.{Monitor}
 use Rattle.gatekeeper.specs.declared.Reply.{Reply}
 use Rattle.answers.specs.Telling.{told, refuses}
-use Rattle.gatekeeper.specs.View.{view, Honest, Right}
+use Rattle.gatekeeper.specs.View.{view, Steady, Honest, Right, monitors}
 use Rattle.gatekeeper.specs.Acting.{Firm, Acts, back, settled}
 use Rattle.gatekeeper.proofs.Doing.{Does}
 
@@ -64,6 +69,33 @@ acts m c a n u s d v k = record {
   kept = λ r. subst (λ (t : Tables). Ready t (figure-of (n .needs))) (sym (v ∙ d .made)) (k r);
   says = s;
 }
+
+-- ── steady tables ──
+-- a mapping is a reading handle, whatever the bytes are
+held-reads : (b : Bool) (h : Handle) (k : Held) → cond b (held h) none ≡ some k → T (k .mapped) → k .dir ≡ reading
+held-reads false h k q t = absurd (Option·none-ne-some k q)
+held-reads true h k q t = inner (eqb (h .way) 0) q
+  where
+    dirs : (a b : Bool) → T a → cond (b || a) reading writing ≡ reading
+    dirs true true x = refl
+    dirs true false x = refl
+    dirs false b x = absurd x
+
+    inner : (b : Bool) → cond b none (some (joins h)) ≡ some k → k .dir ≡ reading
+    inner true q = absurd (Option·none-ne-some k q)
+    inner false q = let e = Option·some-injective (joins h) k q in
+        sym (ap (λ (z : Held). z .dir) e) ∙ dirs (eqb (h .way) 3) (eqb (h .way) 1) (subst (λ (z : Held). T (z .mapped)) (sym e) t)
+
+view-reads : (m : Monitor) (s p : ℕ) (k : Held) → view m .hand s p ≡ some k → T (k .mapped) → k .dir ≡ reading
+unfolding tables-of
+view-reads m s p k q t = held-reads (ltb p places) (getD (m .handles) (s * 16 + p) no-handle) k q t
+
+steady-sound : (m : Monitor) → Steady (view m) → Sound (view m)
+steady-sound m v = record { wf = v .wf; safe = v .safe; for-reading = view-reads m }
+
+-- an allowed call leaves steady tables so
+steady-next : (t : Tables) (c : Call) → Sound t → refusal t c ≡ none → Steady (effect t c)
+steady-next t c v q = record { wf = effect-wf t c (v .wf) q; safe = effect-safe t c v q }
 
 -- ── settled ──
 -- m is the monitor that came, t its readied form, r the reply on t
@@ -120,27 +152,33 @@ module _ (m t : Monitor) (c : Call) (r a : Reply) (w : Wf (clean (view m))) (e :
 
     honest : (o : Option ℕ) → refusal (clean (view m)) c ≡ o → Honest (settled m r .monitor)
     honest none q = subst Honest (sym (allowed-is q (told (r .answer)) refl)) (λ s. let k = h (sym (done .says ∙ g) ∙ s) in let v = as-it-is (sym (done .says ∙ g) ∙ s) in (
-      subst Kept (sym (after q)) (effect-kept (clean (view m)) c (subst Kept (sym v) (k .0)) q),
+      subst Steady (sym (after q)) (steady-next (clean (view m)) c (subst Sound (sym v) (steady-sound m (k .0))) q),
       done .kept (begun (subst (λ (u : Tables). Ready u (figure-of (m .needs))) (sym v) (k .1))),
     ))
     honest (some j) q = subst Honest (sym (refused-is j q)) h
 
-  pub settles : a ≡ settled m r → Meets view Honest Right m c (told (a .answer)) (a .monitor)
-  settles q = subst (λ (x : Reply). Meets view Honest Right m c (told (x .answer)) (x .monitor)) (sym q) (record {
+    claims : (b : Bool) → cond b m (r .monitor) .sure ≡ m .sure
+    claims true = refl
+    claims false = done .says ∙ g
+
+  pub settles : a ≡ settled m r → Meets monitors m c (told (a .answer)) (a .monitor)
+  settles q = subst (λ (x : Reply). Meets monitors m c (told (x .answer)) (x .monitor)) (sym q) (record {
     unchanged = λ k p. ap (λ (b : Told). cond (refuses b) m (r .monitor)) p;
     answered = is;
     moved = λ h p. ap (λ (n : Monitor). view n) (allowed-is h p (told (r .answer)) refl) ∙ after h p;
     stays = λ h. honest h (refusal (clean (view m)) c) refl;
+    says = λ h. claims h (refuses (told (r .answer)));
     kept = λ h k. right h k (refusal (clean (view m)) c) refl;
   })
 
 -- ── a sure monitor, whose tables are read as they stand ──
-pub straight : (m n : Monitor) (c : Call) (a : Told) → m .sure ≡ 1 → ((k : ℕ) → a ≡ refused k → n ≡ m) → (Firm m → Acts m c a n) → Meets view Honest Right m c a n
+pub straight : (m n : Monitor) (c : Call) (a : Told) → m .sure ≡ 1 → ((k : ℕ) → a ≡ refused k → n ≡ m) → (Firm m → Acts m c a n) → Meets monitors m c a n
 straight m n c a s b z = record {
   unchanged = b;
   answered = λ h. done h .answered ∙ ap (λ (u : Tables). answer u c) (sym (same h));
   moved = λ h q. done h .moved (ap (λ (u : Tables). refusal u c) (sym (same h)) ∙ q) ∙ ap (λ (u : Tables). effect u c) (sym (same h));
   stays = λ h. honest h (refusal (view m) c) refl;
+  says = λ h. done h .says;
   kept = λ h r. right h (refusal (view m) c) refl;
 }
   where
@@ -150,8 +188,8 @@ straight m n c a s b z = record {
     done : Honest m → Acts m c a n
     done h = z (record { wf = h s .0 .wf; safe = λ q. (h s .0 .safe, h s .1) })
 
-    after : (h : Honest m) → refusal (view m) c ≡ none → Kept (view n) × Ready (view n) (figure-of (n .needs))
-    after h q = (subst Kept (sym (done h .moved q)) (effect-kept (view m) c (h s .0) q), done h .kept (h s .1))
+    after : (h : Honest m) → refusal (view m) c ≡ none → Steady (view n) × Ready (view n) (figure-of (n .needs))
+    after h q = (subst Steady (sym (done h .moved q)) (steady-next (view m) c (steady-sound m (h s .0)) q), done h .kept (h s .1))
 
     back : (h : Honest m) (k : ℕ) → refusal (view m) c ≡ some k → n ≡ m
     back h k q = b k (done h .answered ∙ answered-refused (view m) c k .1 q)

@@ -1,6 +1,6 @@
 -- The needs that a monitor keeps: what is told of them, and figures that are worked out for its tables as they are read. Assumes nothing.
 use mathlib.Core.Path.{_≡_, refl, sym, _∙_, ap, subst}
-use mathlib.Core.Bool.{Bool, true, false, _&&_, cond}
+use mathlib.Core.Bool.{Bool, true, false, not, _&&_, cond}
 use mathlib.Core.Option.{Option, none, some}
 use mathlib.Core.List.{List}
 use Prim.Native.Nat.{ℕ, _+_, _%_}
@@ -12,11 +12,12 @@ use Rattle.model.specs.Bools.{is-true, both}
 use Rattle.model.specs.Label.{label}
 use Rattle.model.specs.Label.Laws.{label-zero}
 use Rattle.model.specs.Flow.{Thing, subject, object}
-use Rattle.model.specs.Tables.{running, file, pipe, Entry, entry, Tables, empty, in-range, is-some, used, live, clean, needs}
+use Rattle.model.specs.Tables.{running, file, pipe, Entry, entry, Tables, empty, in-range, is-some, used, live, clean, needs, safe}
 use Rattle.model.specs.Tables.Laws.{used-is, some-is}
 use Rattle.model.specs.Steps.Laws.{live-hand}
-use Rattle.model.specs.Invariant.{Wf, Kept}
+use Rattle.model.specs.Invariant.{Wf, Safe}
 use Rattle.model.specs.Calls.Kept.{empty-kept}
+use Rattle.model.specs.Calls.Sound.{safe-sound}
 use Rattle.model.specs.Invariant.Laws.{clean-same, empty-wf}
 use Rattle.model.specs.Figures.{Ready}
 use Rattle.model.specs.Figures.Laws.{empty-ready, needs-none, ready-anew}
@@ -27,7 +28,7 @@ use Rattle.tables.specs.Records.{subject-entry, object-entry, tables-of}
 use Rattle.tables.specs.Records.Laws.{cleaned-wf}
 use Rattle.tables.specs.Needs.{node, figure-of, Needed}
 use Rattle.gatekeeper.specs.declared.Monitor.{Monitor}
-use Rattle.gatekeeper.specs.View.{beside, view, Right, kept-need}
+use Rattle.gatekeeper.specs.View.{beside, view, Steady, Right, Assured, kept-need}
 use Rattle.gatekeeper.proofs.Owned.{Long}
 
 -- nothing dangles in the tables as they are read
@@ -112,9 +113,44 @@ module _ (m : Monitor) (w : Wf (clean (view m))) where
   right-anew hs ns q f = ready-anew (clean (view m)) (tables-of (beside m) (m .subjects) (m .objects) hs) (figure-of ns)
       (f (beside m) (m .subjects) (subst Wf (sym q) w) .need-is) (λ x. ap (λ (t : Tables). needs t x) (sym q))
 
+  -- what dangles is gone and the needs are worked out anew: whether it has earned to be sure
+  pub assured-is : (hs : List Handle) (ns : List ℕ) (short : Bool) → tables-of (beside m) (m .subjects) (m .objects) hs ≡ clean (view m)
+      → ((rest : Tables) (ss : List Subject) → Wf (tables-of rest ss (m .objects) hs) → Needed (tables-of rest ss (m .objects) hs) ns)
+      → ((rest : Tables) (os : List Handle) → Wf (tables-of rest (m .subjects) (m .objects) os) → Ready (tables-of rest (m .subjects) (m .objects) os) (figure-of ns)
+      → short ≡ not (safe (tables-of rest (m .subjects) (m .objects) os)))
+      → (k : ℕ) → k ≡ cond short 0 1
+      → Assured m (record { subjects = m .subjects; objects = m .objects; handles = hs; freeze = m .freeze; needs = ns; sure = k })
+  assured-is hs ns short q f g k e = record {
+    same = refl;
+    tables = q;
+    right = subst (λ (u : Tables). Ready u (figure-of ns)) (sym (ap clean q ∙ clean-same t w)) ready;
+    claim = e ∙ ap (λ (b : Bool). cond {A = ℕ} b 0 1) tested ∙ turned (safe t);
+    honest = λ z. (record { wf = there w; safe = subst Safe (sym q) (safe-sound t w (earned (safe t) (ap (λ (b : Bool). cond {A = ℕ} b 0 1) (sym tested) ∙ sym e ∙ z))) }, subst (λ (u : Tables). Ready u (figure-of ns)) (sym q) ready);
+  }
+    where
+      t : Tables
+      t = clean (view m)
+
+      there : Wf t → Wf (tables-of (beside m) (m .subjects) (m .objects) hs)
+      there = subst Wf (sym q)
+
+      ready : Ready t (figure-of ns)
+      ready = right-anew hs ns q f
+
+      tested : short ≡ not (safe t)
+      tested = g (beside m) hs (there w) (subst (λ (u : Tables). Ready u (figure-of ns)) (sym q) ready) ∙ ap (λ (u : Tables). not (safe u)) q
+
+      turned : (b : Bool) → _≡_ {A = ℕ} (cond (not b) 0 1) (cond b 1 0)
+      turned true = refl
+      turned false = refl
+
+      earned : (b : Bool) → _≡_ {A = ℕ} (cond (not b) 0 1) 1 → T b
+      earned true z = tt
+      earned false z = absurd (omega (arith, z))
+
 -- ── the empty tables ──
 pub empty-right : (t : Tables) (ns : List ℕ) → t ≡ empty → Ready (clean t) (figure-of ns)
 empty-right t ns q = subst (λ (u : Tables). Ready u (figure-of ns)) (sym (ap clean q ∙ clean-same empty empty-wf)) (empty-ready (figure-of ns))
 
-pub empty-honest : (t : Tables) (ns : List ℕ) → t ≡ empty → Kept t × Ready t (figure-of ns)
-empty-honest t ns q = (subst Kept (sym q) empty-kept, subst (λ (u : Tables). Ready u (figure-of ns)) (sym q) (empty-ready (figure-of ns)))
+pub empty-honest : (t : Tables) (ns : List ℕ) → t ≡ empty → Steady t × Ready t (figure-of ns)
+empty-honest t ns q = (subst Steady (sym q) (record { wf = empty-kept .wf; safe = empty-kept .safe }), subst (λ (u : Tables). Ready u (figure-of ns)) (sym q) (empty-ready (figure-of ns)))

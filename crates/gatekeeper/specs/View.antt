@@ -5,10 +5,11 @@ use mathlib.Core.List.{[], _∷_}
 use Prim.Native.Nat.{ℕ}
 use lib.ListN.{getD}
 use Rattle.model.specs.Flow.{Thing}
-use Rattle.model.specs.Tables.{Tables, empty, with-freeze, live, clean}
+use Rattle.model.specs.Tables.{Tables, empty, with-freeze, live, clean, safe}
 use Rattle.model.specs.Calls.{Raw}
-use Rattle.model.specs.Invariant.{Kept}
+use Rattle.model.specs.Invariant.{Wf, Safe}
 use Rattle.model.specs.Figures.{Ready}
+use Rattle.model.specs.Promise.{Kind}
 use Rattle.tables.specs.Records.{tables-of}
 use Rattle.tables.specs.Needs.{node, figure-of}
 use Rattle.gatekeeper.specs.declared.Monitor.{Monitor}
@@ -28,9 +29,19 @@ view m = tables-of (beside m) (m .subjects) (m .objects) (m .handles)
 abbrev pub Right : Monitor → Type 0
 Right m = Ready (clean (view m)) (figure-of (m .needs))
 
--- RULES F19: a monitor is honest if, where it says that it is sure, it has what calls from the empty tables leave: the invariant, and kept needs that are right
+-- ── what a monitor claims of itself ──
+-- RULES F19: nothing dangles, and no level is below its need
+pub record Steady (t : Tables) : Type 0 where
+  pub wf : Wf t
+  pub safe : Safe t
+
+-- RULES F19: a monitor is honest if, where it says that it is sure, its tables are steady and its kept needs right
 abbrev pub Honest : Monitor → Type 0
-Honest m = m .sure ≡ 1 → Kept (view m) × Ready (view m) (figure-of (m .needs))
+Honest m = m .sure ≡ 1 → Steady (view m) × Ready (view m) (figure-of (m .needs))
+
+-- RULES T15, F11, F19, F20: the struct as a kind of monitor
+abbrev pub monitors : Kind Monitor
+monitors = record { view = view; honest = Honest; right = Right; claim = λ m. m .sure }
 
 -- RULES F16: the kept need of a live thing, 0 for any other
 abbrev pub kept-need : Monitor → Thing → ℕ
@@ -40,6 +51,15 @@ kept-need m x = cond (live (view m) x) (getD (m .needs) (node x) 0) 0
 pub record Righted (m n : Monitor) : Type 0 where
   pub same : n ≡ record { subjects = m .subjects; objects = m .objects; handles = m .handles; freeze = m .freeze; needs = n .needs; sure = m .sure }
   pub right : Right n
+
+-- RULES F21: n is m with each place emptied that counts as empty and its kept needs put right. It says that it is sure exactly where it has earned that: where no
+-- level is below its need
+pub record Assured (m n : Monitor) : Type 0 where
+  pub same : n ≡ record { subjects = m .subjects; objects = m .objects; handles = n .handles; freeze = m .freeze; needs = n .needs; sure = n .sure }
+  pub tables : view n ≡ clean (view m)
+  pub right : Right n
+  pub claim : n .sure ≡ cond (safe (clean (view m))) 1 0
+  pub honest : Honest n
 
 -- ── direct calls ──
 -- RULES C106: a code and six numbers

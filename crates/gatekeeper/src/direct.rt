@@ -5,7 +5,7 @@ ghost use Rattle.model.specs.Tables.{clean};
 ghost use Rattle.model.specs.Calls.{decode};
 ghost use Rattle.model.specs.Promise.{Meets};
 ghost use Rattle.answers.specs.Telling.{told};
-ghost use Rattle.gatekeeper.specs.View.{view, Honest, Right, direct};
+ghost use Rattle.gatekeeper.specs.View.{view, Honest, monitors, direct};
 ghost use Rattle.gatekeeper.specs.Acting.{Firm, Acts};
 use crate::Monitor;
 use crate::Reply;
@@ -59,7 +59,7 @@ impl Monitor {
     // any other hands back the rules' next tables, and its free part is any (model, `Promise`). Of a right monitor either is right. All but the first is promised of
     // honest monitors: of those that do not say that they are sure, and of those that say so and have what calls from the empty tables leave.
     pub fn call(self, code: u32, a: u32, b: u32, c: u32, d: u32, e: u32, f: u32) -> Reply
-        ensures { λ r. ⌜ Meets view Honest Right self (decode (direct code a b c d e f)) (told (r .answer)) (r .monitor) ⌝ }
+        ensures { λ r. ⌜ Meets monitors self (decode (direct code a b c d e f)) (told (r .answer)) (r .monitor) ⌝ }
     {
         let t = self.readied();
         let r = t.dispatch(code, a, b, c, d, e, f);

@@ -1,12 +1,24 @@
 // The needs that are kept beside the tables: what is told of them, and how those of any monitor value are put right.
 ghost use mathlib.Core.Path.{_≡_};
+ghost use mathlib.Core.Bool.{cond};
 ghost use Rattle.model.specs.Label.{label};
 ghost use Rattle.model.specs.Flow.{subject, object};
 ghost use Rattle.model.specs.Tables.{clean, needs};
-ghost use Rattle.gatekeeper.specs.View.{view, Right, kept-need, Righted};
+ghost use Rattle.gatekeeper.specs.View.{view, Right, kept-need, Righted, Assured};
 use crate::Monitor;
+use crate::SURE;
 use tables::FREE;
 use tables::looks;
+
+// What a monitor may say of itself, whose needs are right and in which nothing dangles: that it is sure, unless some level is below its need.
+fn earned(short: bool) -> u8
+    ensures { λ r. ⌜ r ≡ cond short 0 1 ⌝ }
+{
+    if short {
+        return 0;
+    }
+    SURE
+}
 
 impl Monitor {
     // The kept need of subject s, and of object o; 0 where it is not live. On a right monitor it is the need, and so that of whatever is not live.
@@ -46,6 +58,23 @@ impl Monitor {
         let counted = handles::cleaned(subjects, objects, handles);
         let needs = flows::figures(objects, counted);
         self.needs = needs;
+        self
+    }
+
+    // This monitor with what dangles emptied and its needs worked out anew, whatever they were; and SURE where that makes it one which calls may rely on. Then opens and closes
+    // go by the needs that it keeps. Where some level is below its need they do not, and it says nothing of itself.
+    pub fn assured(mut self) -> Monitor
+        ensures { λ r. ⌜ Assured self r ⌝ }
+    {
+        let subjects = self.subjects;
+        let objects = self.objects;
+        let handles = self.handles;
+        let counted = handles::cleaned(subjects, objects, handles);
+        let needs = flows::figures(objects, counted);
+        let short = flows::is_short(subjects, objects, needs);
+        self.handles = counted;
+        self.needs = needs;
+        self.sure = earned(short);
         self
     }
 }

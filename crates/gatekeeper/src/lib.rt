@@ -67,6 +67,7 @@ impl Monitor {
         ensures tables { λ r. ⌜ view r ≡ empty ⌝ }
         ensures needs { λ r. ⌜ Right r ⌝ }
         ensures honest { λ r. ⌜ Honest r ⌝ }
+        ensures sure { λ r. ⌜ r .sure ≡ 1 ⌝ }
     {
         let subjects = [Subject { live: 0, level: 0 }; SUBJECTS];
         let objects = [Object {

@@ -16,7 +16,7 @@ use Rattle.gatekeeper.specs.declared.Monitor.{Monitor}
 use Rattle.tally.specs.declared.Tally.{Tally}
 use Rattle.answers.specs.Telling.{letter-of}
 use Rattle.tables.specs.Needs.{figure-of}
-use Rattle.gatekeeper.specs.View.{view, Honest, Right}
+use Rattle.gatekeeper.specs.View.{view, Honest, monitors}
 use Rattle.tally.specs.Counting.{counts-of, Tallies}
 use Rattle.host.specs.State.{state-bytes, Sized, monitor-of, tally-of, Stands, state-view, Stored}
 use Rattle.host.specs.Numbers.{answer-number, answer-in, call-number}
@@ -32,11 +32,11 @@ r-refused (refused k) h = (k, refl)
 pub record Made (s : List ℕ) (c : Call) (m : Monitor) (y : Tally) (a : Answer) (n : Monitor) (z : Tally) : Type 0 where
   pub from-monitor : m ≡ monitor-of s
   pub from-tally : y ≡ tally-of s
-  pub meets : Meets view Honest Right m c a n
+  pub meets : Meets monitors m c a n
   pub counts : Tallies m y c a z
 
 pub made : (s : List ℕ) {c : Call} {m : Monitor} {y : Tally} {a : Answer} {n : Monitor} {z : Tally} → m ≡ monitor-of s → y ≡ tally-of s
-    → Meets view Honest Right m c a n → Tallies m y c a z → Made s c m y a n z
+    → Meets monitors m c a n → Tallies m y c a z → Made s c m y a n z
 made s em ey p q = record { from-monitor = em; from-tally = ey; meets = p; counts = q }
 
 module _ {s : List ℕ} {c : Call} {m : Monitor} {y : Tally} {a : Answer} {n : Monitor} {z : Tally} (p : Made s c m y a n z) where
@@ -57,8 +57,8 @@ module _ {s : List ℕ} {c : Call} {m : Monitor} {y : Tally} {a : Answer} {n : M
   unfolding call-number
   call-answered n h e = rw (eq-eqb (length s) state-bytes h) (e ∙ ap answer-number answered)
 
-  meets-here : Meets view Honest Right (monitor-of s) c a n
-  meets-here = subst (λ (x : Monitor). Meets view Honest Right x c a n) (p .from-monitor) (p .meets)
+  meets-here : Meets monitors (monitor-of s) c a n
+  meets-here = subst (λ (x : Monitor). Meets monitors x c a n) (p .from-monitor) (p .meets)
 
   -- a refused call leaves every byte
   call-refused : Sized s → letter-of a ≡ 82 → Stored s c s
@@ -68,7 +68,7 @@ module _ {s : List ℕ} {c : Call} {m : Monitor} {y : Tally} {a : Answer} {n : M
       let q : refusal t c ≡ some k = answered-refused t c k .0 (sym answered ∙ r) in
       record {
         size = size;
-        meets = record { unchanged = λ j w. refl; answered = λ u. refl; moved = λ u w. absurd (Option·none-ne-some k (sym w ∙ q)); stays = λ u. u; kept = λ u r. r };
+        meets = record { unchanged = λ j w. refl; answered = λ u. refl; moved = λ u w. absurd (Option·none-ne-some k (sym w ∙ q)); stays = λ u. u; says = λ u. refl; kept = λ u r. r };
         counts = rw (q, tallied);
         exact = λ w. absurd (Option·none-ne-some k (sym w ∙ q));
       }
@@ -82,6 +82,7 @@ module _ {s : List ℕ} {c : Call} {m : Monitor} {y : Tally} {a : Answer} {n : M
       answered = λ u. refl;
       moved = λ u w. k .tables ∙ meets-here .moved honest w;
       stays = λ u. u;
+      says = λ u. refl;
       kept = λ u r. subst₂ (λ (u : Tables) (ns : List ℕ). Ready (clean u) (figure-of ns)) (sym (k .tables)) (sym (k .needs)) (meets-here .kept honest r);
     };
     counts = ap counts-of (k .tally)

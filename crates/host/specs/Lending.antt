@@ -8,9 +8,9 @@ use mathlib.Core.List.{List, [], _∷_}
 use Prim.Native.Nat.{ℕ}
 use Rattle.model.specs.Tables.{Tables, empty, clean}
 use Rattle.model.specs.Calls.{Raw, decode, Answer}
-use Rattle.model.specs.Promise.{Meets}
+use Rattle.model.specs.Promise.{Kind, Meets}
 use Rattle.model.specs.Tally.{zeroed, tallied}
-use Rattle.gatekeeper.specs.View.{view, Honest, Right}
+use Rattle.gatekeeper.specs.View.{view, Honest, Right, Assured}
 use Rattle.tally.specs.Counting.{counts-of}
 use Rattle.quick.specs.Parts.{Done}
 use Rattle.host.specs.declared.lent.State.{State}
@@ -27,21 +27,33 @@ lent-honest x = Honest (x .monitor)
 abbrev pub lent-right : State → Type 0
 lent-right x = Right (x .monitor)
 
+-- RULES F20: the struct as a kind of monitor
+abbrev pub lent-kind : Kind State
+lent-kind = record { view = lent-view; honest = lent-honest; right = lent-right; claim = λ x. x .monitor .sure }
+
 -- `gatekeeper_monitor_call` of the call r on the state x returned n, and left the state y
 pub record Lends (x : State) (r : Raw) (n : ℕ) (y : State) : Type 0 where
   -- RULES H12: n is the number of the answer that the header's two functions read off it
   pub number : n ≡ answer-number (answer-in n)
   -- RULES T15, F12, F20, R102, R103: and that answer and the state left are what the rules promise of a call
-  pub meets : Meets lent-view lent-honest lent-right x (decode r) (answer-in n) y
+  pub meets : Meets lent-kind x (decode r) (answer-in n) y
   -- RULES Y9: the tally left is the history's
   pub counts : lent-honest x → counts-of (y .tally) ≡ tallied (clean (lent-view x)) (decode r) (counts-of (x .tally))
 
--- RULES T12, F12, F19, Y8: `gatekeeper_monitor_empty` leaves empty tables, which say of themselves what is so, kept needs that are right, and counts of 0
+-- RULES T12, F12, F19, Y8: `gatekeeper_monitor_empty` leaves empty tables, kept needs that are right, counts of 0, and a monitor that says that it is sure, as it is
 pub record Begins (x : State) : Type 0 where
   pub tables : lent-view x ≡ empty
   pub honest : lent-honest x
+  pub sure : x .monitor .sure ≡ 1
   pub right : lent-right x
   pub counts : counts-of (x .tally) ≡ zeroed
+
+-- RULES F21, H25: `gatekeeper_monitor_assure` of the state x returned n, and left the state y: what dangled is gone, the kept needs are right, and it says that it is sure, as
+-- n does, exactly where it has earned that. The tally stays
+pub record Assures (x : State) (n : ℕ) (y : State) : Type 0 where
+  pub assured : Assured (x .monitor) (y .monitor)
+  pub tally : y .tally ≡ x .tally
+  pub number : n ≡ y .monitor .sure
 
 -- RULES B24: a list of calls, each on the state that the one before left, by `gatekeeper_monitor_call` or done in place, with their answers
 pub data Lendings : State → List Raw → List Answer → State → Type 0 where

@@ -14,7 +14,7 @@ use lib.Dec.{ltb, eqb}
 use lib.ListN.{length, take, drop, getD, replicate}
 use Rattle.model.specs.Tables.{subjects, objects, places, no-freeze, Tables, empty, clean}
 use Rattle.model.specs.Calls.{Call, refusal, answer}
-use Rattle.model.specs.Promise.{Meets}
+use Rattle.model.specs.Promise.{Kind, Meets}
 use Rattle.model.specs.Tally.{zeroed, tallied}
 use Rattle.tables.specs.declared.Subject.{Subject}
 use Rattle.tables.specs.declared.Object.{Object}
@@ -205,6 +205,10 @@ state-right s = Right (monitor-of s)
 abbrev pub state-honest : List ℕ → Type 0
 state-honest s = Unit {0}
 
+-- RULES F19: the bytes as a kind of monitor, which claims nothing
+abbrev pub stored-kind : Kind (List ℕ)
+stored-kind = record { view = state-view; honest = state-honest; right = state-right; claim = λ s. 0 }
+
 -- as what it is stored: the freeze says that there is none, and all else is 0
 unfoldable pub blank-bytes : List ℕ
 blank-bytes = replicate freeze-at 0 ++ (no-freeze ∷ replicate (subjects + objects) 0)
@@ -221,7 +225,7 @@ pub record Blank (s : List ℕ) : Type 0 where
 -- Which level and kept need stand beside a number that is not in use, and which object and mark beside an empty place, is the free part of `Promise`.
 pub record Stored (s : List ℕ) (c : Call) (s′ : List ℕ) : Type 0 where
   pub size : Sized s′
-  pub meets : Meets state-view state-honest state-right s c (answer (clean (state-view s)) c) s′
+  pub meets : Meets stored-kind s c (answer (clean (state-view s)) c) s′
   pub counts : counts-of (tally-of s′) ≡ tallied (clean (state-view s)) c (counts-of (tally-of s))
   pub exact : refusal (clean (state-view s)) c ≡ none → s′ ≡ bytes-of (monitor-of s′) (tally-of s′)
 

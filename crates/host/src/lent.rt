@@ -2,7 +2,7 @@
 // laid out. It has bytes and two numbers of 64 bits, each value of which is one, so that a host can hand in nothing wrong.
 ghost use Rattle.gatekeeper.specs.View.{direct};
 ghost use Rattle.quick.specs.Parts.{Tried};
-ghost use Rattle.host.specs.Lending.{Lends, Begins};
+ghost use Rattle.host.specs.Lending.{Lends, Begins, Assures};
 use gatekeeper::Monitor;
 use tally::Tally;
 
@@ -34,6 +34,24 @@ fn step(state: State, code: u32, a: u32, b: u32, c: u32, d: u32, e: u32, f: u32)
     let next = State {
         monitor: monitor,
         tally: after,
+    };
+    Stepped {
+        state: next,
+        number: number,
+    }
+}
+
+// The work of `gatekeeper_monitor_assure`, with the state by value.
+fn assured(state: State) -> Stepped
+    ensures { λ r. ⌜ Assures state (r .number) (r .state) ⌝ }
+{
+    let m = state.monitor;
+    let t = state.tally;
+    let monitor = m.assured();
+    let number = monitor.sure as u32;
+    let next = State {
+        monitor: monitor,
+        tally: t,
     };
     Stepped {
         state: next,
@@ -79,6 +97,18 @@ pub extern "C" fn gatekeeper_monitor_call(
 {
     let was = *state;
     let out = step(was, code, a, b, c, d, e, f);
+    *state = out.state;
+    out.number
+}
+
+// A state that says nothing of itself, as one that was loaded from kept bytes or changed by the host, made one that calls may rely on: what dangles is emptied, the needs are
+// worked out anew, and 1 is returned. Where some level is below its need it cannot be, and 0 is returned; then calls on it go on working out what they go by.
+#[no_mangle]
+pub extern "C" fn gatekeeper_monitor_assure(state: &mut State) -> u32
+    ensures { λ r. ⌜ Assures (now (state .entry)) r (now (state .exit)) ⌝ }
+{
+    let was = *state;
+    let out = assured(was);
     *state = out.state;
     out.number
 }

@@ -18,7 +18,7 @@ use Rattle.model.specs.Steps.{hold, apply}
 use Rattle.model.specs.Invariant.{Ends, Wf, Safe}
 use Rattle.model.specs.Invariant.Laws.{wf-hold}
 use Rattle.model.specs.Calls.Needs.{hold-adds}
-use Rattle.model.specs.Calls.Kept.{safe-complete}
+use Rattle.model.specs.Calls.Sound.{safe-complete}
 use Rattle.model.specs.Figures.{Ready}
 use Rattle.model.specs.Figures.Laws.{step-lived, ready-same}
 use Rattle.tables.specs.declared.Handle.{Handle}

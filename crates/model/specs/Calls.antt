@@ -22,6 +22,7 @@ pub mod Dangling
 pub mod Scale
 pub mod Moving
 pub mod Mapped
+pub mod Sound
 pub mod Kept
 pub mod Needs
 pub mod Sayable

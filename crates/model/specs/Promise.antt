@@ -18,21 +18,32 @@ pub mod Laws
 abbrev pub Same-but-free : {M : Type 0} → (M → Tables) → M → M → Type 0
 Same-but-free view m n = view m ≡ view n
 
--- RULES T15: call c on monitor m is answered a, and monitor n is handed back. `honest` says of a monitor that what it claims of itself is so, `right` that what it
--- keeps beside the tables is right
-pub record Meets {M : Type 0} (view : M → Tables) (honest right : M → Type 0) (m : M) (c : Call) (a : Answer) (n : M) : Type 0 where
+-- a kind of monitor, whose values are of type M
+pub record Kind (M : Type 0) : Type 1 where
+  -- its tables
+  pub view : M → Tables
+  -- what it claims of itself is so
+  pub honest : M → Type 0
+  -- what it keeps beside the tables is right
+  pub right : M → Type 0
+  -- what it claims, as a number
+  pub claim : M → ℕ
+
+-- RULES T15: call c on monitor m, of kind k, is answered a, and monitor n is handed back
+pub record Meets {M : Type 0} (k : Kind M) (m : M) (c : Call) (a : Answer) (n : M) : Type 0 where
   -- RULES R102: a refused call hands the same monitor back, whatever that is
-  pub unchanged : (k : ℕ) → a ≡ refused k → n ≡ m
+  pub unchanged : (j : ℕ) → a ≡ refused j → n ≡ m
   -- RULES T16: the answer is the rules' on the tables as T17 and T18 read them
-  pub answered : honest m → a ≡ answer (clean (view m)) c
+  pub answered : k .honest m → a ≡ answer (clean (k .view m)) c
   -- RULES T19: any other hands back the rules' next tables, in which nothing dangles (`effect-wf` in Calls/Dangling); the free part is any
-  pub moved : honest m → refusal (clean (view m)) c ≡ none → view n ≡ effect (clean (view m)) c
-  -- RULES F20: what is honest stays so
-  pub stays : honest m → honest n
+  pub moved : k .honest m → refusal (clean (k .view m)) c ≡ none → k .view n ≡ effect (clean (k .view m)) c
+  -- RULES F20: what is honest stays so, and claims what it claimed
+  pub stays : k .honest m → k .honest n
+  pub says : k .honest m → k .claim n ≡ k .claim m
   -- RULES F12: where what is kept is right, it still is, whether the call is refused or not
-  pub kept : honest m → right m → right n
+  pub kept : k .honest m → k .right m → k .right n
 
 -- the calls of a list, made one after the other
-pub data Runs {M : Type 0} (view : M → Tables) (honest right : M → Type 0) : M → List Raw → List Answer → M → Type 0 where
-  done : {m : M} → Runs view honest right m [] [] m
-  then : {m n o : M} {r : Raw} {rs : List Raw} {a : Answer} {l : List Answer} → Meets view honest right m (decode r) a n → Runs view honest right n rs l o → Runs view honest right m (r ∷ rs) (a ∷ l) o
+pub data Runs {M : Type 0} (k : Kind M) : M → List Raw → List Answer → M → Type 0 where
+  done : {m : M} → Runs k m [] [] m
+  then : {m n o : M} {r : Raw} {rs : List Raw} {a : Answer} {l : List Answer} → Meets k m (decode r) a n → Runs k n rs l o → Runs k m (r ∷ rs) (a ∷ l) o

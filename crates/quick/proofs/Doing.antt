@@ -11,7 +11,7 @@ use Rattle.model.specs.Calls.{Answer as Told}
 use Rattle.model.specs.Promise.{Meets}
 use Rattle.model.specs.Tally.{makes, removes, wrapped}
 use Rattle.gatekeeper.specs.declared.Monitor.{Monitor}
-use Rattle.gatekeeper.specs.View.{view, Honest, Right}
+use Rattle.gatekeeper.specs.View.{view, monitors}
 use Rattle.gatekeeper.specs.Acting.{Firm, Acts}
 use Rattle.gatekeeper.proofs.Owned.{Long}
 use Rattle.gatekeeper.proofs.Acting.{straight}
@@ -29,7 +29,7 @@ module _ (sb ob hb nb cs : List ℕ) (fz su : ℕ) (r : Raw) (c : Call) (is : de
 
   -- a refusal leaves all as it was
   module _ (k : ℕ) (z : Firm (monitor-in sb ob hb nb fz su) → Acts (monitor-in sb ob hb nb fz su) c (refused k) (monitor-in sb ob hb nb fz su)) where
-    refused-meets : Meets view Honest Right m (decode r) (refused k) m
+    refused-meets : Meets monitors m (decode r) (refused k) m
     refused-meets = straight m m (decode r) (refused k) one (λ j w. refl) (subst (λ (d : Call). (Firm m → Acts m d (refused k) m)) (sym is) z)
 
     pub refusing : (n : ℕ) → n ≡ 20992 + k → k < 256 → Done (monitor-in sb ob hb nb fz su) (tally-in cs) r n (monitor-in sb ob hb nb fz su) (tally-in cs)
@@ -47,7 +47,7 @@ module _ (sb ob hb nb cs : List ℕ) (fz su : ℕ) (r : Raw) (c : Call) (is : de
   -- a call that is allowed; hb′ are the handles after it, and cs′ the counts
   module _ (l : ℕ) (hb′ cs′ : List ℕ) (z : Firm (monitor-in sb ob hb nb fz su) → Acts (monitor-in sb ob hb nb fz su) c (allowed l) (monitor-in sb ob hb′ nb fz su))
       (made : (t : Tables) → getD cs′ 0 0 ≡ wrapped (getD cs 0 0 + makes t c)) (gone : (t : Tables) → getD cs′ 1 0 ≡ wrapped (getD cs 1 0 + removes t c)) where
-    allowed-meets : Meets view Honest Right m (decode r) (allowed l) (monitor-in sb ob hb′ nb fz su)
+    allowed-meets : Meets monitors m (decode r) (allowed l) (monitor-in sb ob hb′ nb fz su)
     allowed-meets = straight m (monitor-in sb ob hb′ nb fz su) (decode r) (allowed l) one (λ j w. never w)
         (subst (λ (d : Call). (Firm m → Acts m d (allowed l) (monitor-in sb ob hb′ nb fz su))) (sym is) z)
 

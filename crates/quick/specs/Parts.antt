@@ -13,7 +13,7 @@ use Rattle.tables.specs.Records.{no-handle}
 use Rattle.handles.specs.Working.{on}
 use Rattle.answers.specs.Telling.{letter-of, value-of}
 use Rattle.gatekeeper.specs.declared.Monitor.{Monitor}
-use Rattle.gatekeeper.specs.View.{view, Honest, Right}
+use Rattle.gatekeeper.specs.View.{monitors}
 use Rattle.tally.specs.declared.Tally.{Tally}
 use Rattle.tally.specs.Counting.{Tallies}
 pub mod Laws
@@ -72,7 +72,7 @@ pub record Done (m : Monitor) (y : Tally) (r : Raw) (n : ℕ) (m′ : Monitor) (
   pub number : n ≡ 256 * letter-of answer + value-of answer
   pub small : value-of answer < 256
   -- RULES T15, R102
-  pub meets : Meets view Honest Right m (decode r) answer m′
+  pub meets : Meets monitors m (decode r) answer m′
   -- RULES Y9, R103
   pub counts : Tallies m y (decode r) answer y′
 

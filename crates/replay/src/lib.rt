@@ -101,6 +101,7 @@ fn records(journal: &[u8], out: &mut [u8]) -> Ran
     ensures end { λ r. ⌜ ((k : ℕ) → writing (r .written) ≡ some k → Ended (now (journal .entry)) (view (r .monitor)) (counts-of (r .tally))) ⌝ }
     ensures right { λ r. ⌜ Right (r .monitor) ⌝ }
     ensures honest { λ r. ⌜ Honest (r .monitor) ⌝ }
+    ensures sure { λ r. ⌜ r .monitor .sure ≡ 1 ⌝ }
 {
     let mut m = Monitor::empty();
     let mut tally = Tally { made: 0, gone: 0 };
@@ -185,8 +186,8 @@ fn too_long(out: &mut [u8]) -> Written
 }
 
 // A journal, run from empty tables: the text of its reply, how many bytes that has, and the monitor and tally at the end. Where the buffer has no
-// room for all of the text, that is the answer, its first lines stand there, and the monitor and tally are those of some of the calls. A buffer of
-// REPLY_ROOM bytes has room for every reply.
+// room for all of the text, that is the answer, and its first lines stand there; which monitor and tally are then handed back is left open, but that
+// the monitor is sure, honest and right. A buffer of REPLY_ROOM bytes has room for every reply.
 pub fn run(journal: &[u8], out: &mut [u8]) -> Ran
     ensures answer { λ r. ⌜ writing (r .written) ≡ fitted (reply (now (journal .entry))) (now (out .entry)) ⌝ }
     ensures buffer { λ r. ⌜ ((k : ℕ) → writing (r .written) ≡ some k → now (out .exit) ≡ put (reply (now (journal .entry))) (now (out .entry))) ⌝ }
@@ -195,6 +196,7 @@ pub fn run(journal: &[u8], out: &mut [u8]) -> Ran
     ensures end { λ r. ⌜ ((k : ℕ) → writing (r .written) ≡ some k → Ended (now (journal .entry)) (view (r .monitor)) (counts-of (r .tally))) ⌝ }
     ensures right { λ r. ⌜ Right (r .monitor) ⌝ }
     ensures honest { λ r. ⌜ Honest (r .monitor) ⌝ }
+    ensures sure { λ r. ⌜ r .monitor .sure ≡ 1 ⌝ }
 {
     if LARGEST_JOURNAL < journal.len() {
         let written = too_long(out);

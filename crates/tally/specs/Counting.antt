@@ -12,7 +12,7 @@ use Rattle.model.specs.Tally.{Tally as Counts}
 use Rattle.gatekeeper.specs.declared.Monitor.{Monitor}
 use Rattle.gatekeeper.specs.declared.Reply.{Reply}
 use Rattle.answers.specs.Telling.{told}
-use Rattle.gatekeeper.specs.View.{view, Honest, Right, direct}
+use Rattle.gatekeeper.specs.View.{view, Honest, monitors, direct}
 use Rattle.tally.specs.declared.Tally.{Tally}
 
 abbrev pub counts-of : Tally → Counts
@@ -28,7 +28,7 @@ pub record Tallies (m : Monitor) (y : Tally) (k : Call) (a : Told) (after : Tall
 abbrev pub Counting : Monitor → Tally → (code a b c d e f : ℕ) → Reply → Tally → Type 0
 Counting m y code a b c d e f reply after =
     let k = decode (direct code a b c d e f) in
-    Meets view Honest Right m k (told (reply .answer)) (reply .monitor) × Tallies m y k (told (reply .answer)) after
+    Meets monitors m k (told (reply .answer)) (reply .monitor) × Tallies m y k (told (reply .answer)) after
 
 -- ── by the code: inner functions alone cite these ──
 abbrev pub made-by : ℕ → ℕ → ℕ

@@ -9,4 +9,4 @@ use Rattle.gatekeeper.specs.declared.Monitor.{Monitor}
 use Rattle.gatekeeper.specs.View.{view, Honest, Right}
 
 pub kept-honest : (m : Monitor) → Kept (view m) → Right m → Honest m
-kept-honest m k r q = (k, subst (λ (t : Tables). Ready t (figure-of (m .needs))) (clean-same (view m) (k .wf)) r)
+kept-honest m k r q = (record { wf = k .wf; safe = k .safe }, subst (λ (t : Tables). Ready t (figure-of (m .needs))) (clean-same (view m) (k .wf)) r)

@@ -8,7 +8,7 @@ use Rattle.model.specs.Invariant.Laws.{empty-wf, clean-same}
 use Rattle.model.specs.Calls.{Raw, decode, Answer, answers}
 use Rattle.model.specs.Calls.Sayable.{always-sayable}
 use Rattle.model.specs.Promise.{Meets, Runs}
-use Rattle.model.specs.Promise.Laws.{cleaned-runs, runs-right}
+use Rattle.model.specs.Promise.Laws.{cleaned-runs, runs-right, runs-claim}
 use Rattle.model.specs.Promise.{done as stop, then as go}
 use Rattle.model.specs.Demand3.{Demand3}
 use Rattle.model.specs.Demand3.Laws.{demand3}
@@ -18,20 +18,21 @@ use Rattle.tally.specs.declared.Tally.{Tally}
 use Rattle.quick.specs.Parts.{Done}
 use Rattle.host.specs.Numbers.{answer-in}
 use Rattle.host.specs.Numbers.Laws.{answer-back}
-use Rattle.host.specs.Lending.{lent-view, lent-honest, lent-right, Begins, Lendings, done, called, quickly}
+use Rattle.host.specs.Lending.{lent-view, lent-honest, lent-right, lent-kind, Begins, Lendings, done, called, quickly}
 
 -- a call that was done in place: the answer is the one that a host reads off the number
-done-meets : {x y : State} {r : Raw} {n : ℕ} (d : Done (x .monitor) (x .tally) r n (y .monitor) (y .tally)) → Meets lent-view lent-honest lent-right x (decode r) (answer-in n) y
-done-meets {x} {y} {r} d = subst (λ (a : Answer). Meets lent-view lent-honest lent-right x (decode r) a y) (sym (answer-back (d .answer) (d .small)) ∙ ap answer-in (sym (d .number))) (record {
+done-meets : {x y : State} {r : Raw} {n : ℕ} (d : Done (x .monitor) (x .tally) r n (y .monitor) (y .tally)) → Meets lent-kind x (decode r) (answer-in n) y
+done-meets {x} {y} {r} d = subst (λ (a : Answer). Meets lent-kind x (decode r) a y) (sym (answer-back (d .answer) (d .small)) ∙ ap answer-in (sym (d .number))) (record {
   unchanged = λ k z. ap₂ (λ (m : Monitor) (t : Tally). record { monitor = m; tally = t }) (d .meets .unchanged k z) (d .counts .same k z);
   answered = d .meets .answered;
   moved = d .meets .moved;
   stays = d .meets .stays;
+  says = d .meets .says;
   kept = d .meets .kept;
 })
 
 -- the calls keep their promise towards the rules
-lent-run : (x y : State) (rs : List Raw) (l : List Answer) → Lendings x rs l y → Runs lent-view lent-honest lent-right x rs l y
+lent-run : (x y : State) (rs : List Raw) (l : List Answer) → Lendings x rs l y → Runs lent-kind x rs l y
 lent-run x y rs l done = stop
 lent-run x y rs l (called {y = z} {rs = rest} {l = k} p q) = go (p .meets) (lent-run z y rest k q)
 lent-run x y rs l (quickly {y = z} {rs = rest} {l = k} d q) = go (done-meets d) (lent-run z y rest k q)
@@ -39,11 +40,15 @@ lent-run x y rs l (quickly {y = z} {rs = rest} {l = k} d q) = go (done-meets d) 
 module _ (x y : State) (rs : List Raw) (l : List Answer) (b : Begins x) (c : Lendings x rs l y) where
   -- a host that keeps nothing but the struct, and starts from the empty state, has demand 3 for every list of calls,
   pub lent-demand3 : Demand3 rs l (lent-view y)
-  lent-demand3 = demand3 lent-view lent-honest lent-right x (b .tables) (b .honest) rs l y (lent-run x y rs l c)
+  lent-demand3 = demand3 lent-kind x (b .tables) (b .honest) rs l y (lent-run x y rs l c)
 
   -- RULES F12: the kept needs that then stand in the struct are right
   pub lent-needs : lent-right y
-  lent-needs = runs-right lent-view lent-honest lent-right rs x y l (b .honest) (lent-run x y rs l c) (b .right)
+  lent-needs = runs-right lent-kind rs x y l (b .honest) (lent-run x y rs l c) (b .right)
+
+  -- RULES F20: and the struct is honest and says that it is sure, so that calls on it go by what it keeps
+  pub lent-sure : lent-honest y × (y .monitor .sure ≡ 1)
+  lent-sure = let k = runs-claim lent-kind rs x y l (b .honest) (lent-run x y rs l c) in (k .0, k .1 ∙ b .sure)
 
   -- and each answer gives a level of 0 to 15, to a freeze 0 to 16, or the number of a refusal that calls have
   pub lent-sayable : All-sayable rs l
@@ -53,5 +58,5 @@ module _ (x y : State) (rs : List Raw) (l : List Answer) (b : Begins x) (c : Len
       start = ap clean (b .tables) ∙ clean-same empty empty-wf
 
       by-the-rules : l ≡ answers empty rs
-      by-the-rules = cleaned-runs lent-view lent-honest lent-right rs x y l (subst Wf (sym start) empty-wf) (b .honest) (lent-run x y rs l c) .0
+      by-the-rules = cleaned-runs lent-kind rs x y l (subst Wf (sym start) empty-wf) (b .honest) (lent-run x y rs l c) .0
           ∙ ap (λ (t : Tables). answers t rs) start

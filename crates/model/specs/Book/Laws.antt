@@ -21,7 +21,8 @@ use Rattle.model.specs.Calls.{Call, admit, register, create, make-pipe, 
 use Rattle.model.specs.Calls.Refusals.{allowed-iff}
 use Rattle.model.specs.Calls.Passed.{is-alive, is-facing, sheds-less}
 use Rattle.model.specs.Calls.Moving.{reread-of}
-use Rattle.model.specs.Calls.Kept.{access-feeds, exec-feeds, Going, going-written, reread-feeds, going-next, map-feeds, next-kept, empty-kept}
+use Rattle.model.specs.Calls.Sound.{mapped-read, access-feeds, exec-feeds, Going, going-written, reread-feeds, going-next, map-feeds}
+use Rattle.model.specs.Calls.Kept.{next-kept, empty-kept}
 use Rattle.model.specs.Book.{Contents, Book, blank-book, Handling, Outside, store, carry, carries, turn, book-from, answers-from, brought-by, brought, Alike-from, Alike, book, book-answers}
 
 -- ── the book's tables and answers are those of the rules ──
@@ -174,8 +175,8 @@ module _ (ℓ : Label) (o₁ o₂ : ℕ) (t : Tables) (v : Kept t) where
         (needs t, pot, f),
         guards-keep ℓ o₁ o₂ (Going t (needs t)) (rereads t x) (λ k i u g. let r = reread-of t x k i in
             subst (λ (j : Step). Guard ℓ o₁ o₂ u j × Going t (needs t) (apply j u)) (r .is) (
-              (needs t, g .pot, reread-feeds t (needs t) (v .mapped) x (r .by) (r .through) u g),
-              going-next t (needs t) (v .mapped) x (r .by) (r .through) u g,
+              (needs t, g .pot, reread-feeds t (needs t) (mapped-read (v .mapped)) x (r .by) (r .through) u g),
+              going-next t (needs t) (mapped-read (v .mapped)) x (r .by) (r .through) u g,
             )) (apply (mix writes x (subject s) x (cell t s)) t) (going-written t (needs t) (v .wf) pot s x f),
       )
   guarded (fork s c) b m = let r = cell-entry t s (is-alive t s (m (alive s) (inl refl))) in

@@ -2,7 +2,7 @@
 use mathlib.Core.Path.{_≡_, refl, sym, subst}
 use mathlib.Core.Bool.{not}
 use mathlib.Core.Logic.{_⊎_, inl, inr}
-use mathlib.Core.Option.{Option, none, some, Option·none-ne-some}
+use mathlib.Core.Option.{Option, none, some}
 use mathlib.Core.List.{[], _∷_}
 use Prim.Native.Nat.{ℕ}
 use lib.Dec.{T, T-not, not-T, eqb, eqb→eq}
@@ -11,7 +11,7 @@ use Rattle.model.specs.Flow.{Thing, subject, object, same}
 use Rattle.model.specs.Tables.{running, file, pipe, Dir, reading, writing, Entry, entry, Handle, handle, mapping, with-mark, Tables, in-range, live}
 use Rattle.model.specs.Tables.{label-of, cell, handles, open-on}
 use Rattle.model.specs.Tables.Laws.{open-here}
-use Rattle.model.specs.Steps.{Origin, outside, blank, copied, reads, writes, runs, enter, hold, holds, mix, row, place, apply, applies}
+use Rattle.model.specs.Steps.{Origin, outside, blank, copied, reads, writes, runs, enter, hold, mix, row, place, apply, applies}
 use Rattle.model.specs.Steps.Laws.{row-cases, live-hand, applies-append}
 use Rattle.model.specs.Invariant.{Ends, Wf}
 use Rattle.model.specs.Invariant.Laws.{row-below, less-close, less-quits, less-freeze, less-wf, wf-enter, wf-hand, wf-hold, wf-without, wf-reap, wf-mix}

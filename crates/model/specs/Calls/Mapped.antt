@@ -11,11 +11,10 @@ use Rattle.model.specs.Bools.{cond-yes, cond-no}
 use Rattle.model.specs.Label.{label, _⊑_, meet}
 use Rattle.model.specs.Label.Laws.{⊑-refl, ⊑-trans, meet-right, meet-glb, bot-least}
 use Rattle.model.specs.Flow.{Thing, subject, object, same}
-use Rattle.model.specs.Flow.Laws.{same→eq}
 use Rattle.model.specs.Tables.{Kind, running, file, pipe, Dir, reading, writing, Entry, entry, Handle, handle, mapping, with-mark, Tables, empty, with-hand}
 use Rattle.model.specs.Tables.{label-of, is-file, a-file, is-pipe, cell, whole, handles, open-on}
 use Rattle.model.specs.Tables.Laws.{cell-self, cell-same, whole-self, whole-alone, cell-entry, object-entry, open-here}
-use Rattle.model.specs.Steps.{Origin, outside, blank, copied, Access, reads, writes, runs, enter, hold, holds, mix, put, row, place, fall, apply, applies}
+use Rattle.model.specs.Steps.{Origin, outside, blank, copied, Access, reads, writes, runs, enter, hold, holds, mix, place, fall, apply, applies}
 use Rattle.model.specs.Steps.{falls, sunk, sink, without, ended, reap}
 use Rattle.model.specs.Steps.Laws.{put-same, put-apart, sink-by, row-cases, place-cases, applies-append, ended-open, ended-subject, fall-label, file-keeps}
 use Rattle.model.specs.Invariant.{Wf, Maps, Mapped}

@@ -20,7 +20,7 @@ use Rattle.model.specs.Flow.Laws.{same→eq, same-refl, need-flow}
 use Rattle.model.specs.Flow.Changes.{Sub, Adds, flow-to, Spare, spare-below, Total, Fresh, but, need-alone, need-agree, need-others, need-pipe, need-copied, remove-below, remove-thing, remove-thing-far, remove-thing-spare, add-quiet, adds-same, need-more}
 use Rattle.model.specs.Tables.{Kind, running, file, pipe, Dir, reading, writing, Entry, entry, Handle, handle, mapping, with-mark, Tables, with-at, subjects, places, label-of, is-pipe, cell, handles, open-on, arc, flow, speaks, flows-of, edges, demand, needs}
 use Rattle.model.specs.Tables.Laws.{open-here, speaks-at, speaks-cell, cell-self, object-entry, cell-entry, flow-edge, edge-flow}
-use Rattle.model.specs.Steps.{Origin, Access, reads, writes, runs, enter, leave, hold, holds, mix, quits, put, place, fall, sink, apply, applies, ended, reap}
+use Rattle.model.specs.Steps.{Origin, Access, reads, writes, runs, enter, leave, hold, holds, mix, put, place, sink, apply, applies, ended, reap}
 use Rattle.model.specs.Steps.Laws.{put-same, sink-by, row-cases, place-cases, place-same, fall-demand}
 use Rattle.model.specs.Invariant.{Wf}
 use Rattle.model.specs.Invariant.Laws.{row-below, less-close, less-row}

@@ -11,7 +11,7 @@ use Rattle.model.specs.Label.{label, in-scale}
 use Rattle.model.specs.Label.Laws.{label-in-scale, bot-in-scale}
 use Rattle.model.specs.Flow.{Thing, subject, object, same}
 use Rattle.model.specs.Tables.{running, file, pipe, Dir, reading, writing, Entry, entry, mapping, Tables, no-freeze, label-of, cell}
-use Rattle.model.specs.Steps.{outside, blank, copied, reads, writes, runs, enter, hold, holds, mix, apply, applies}
+use Rattle.model.specs.Steps.{outside, blank, copied, reads, writes, runs, enter, hold, mix, apply, applies}
 use Rattle.model.specs.Steps.Laws.{applies-append}
 use Rattle.model.specs.Invariant.{Scaled, Frozen}
 use Rattle.model.specs.Invariant.Laws.{scaled-enter, scaled-same, scaled-without, scaled-mix, less-quits, less-scaled}

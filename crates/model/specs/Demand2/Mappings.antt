@@ -10,11 +10,11 @@ use Rattle.model.specs.Bools.{yes-not-not, is-false}
 use Rattle.model.specs.Lists.{In}
 use Rattle.model.specs.Label.{Label, _⊑_}
 use Rattle.model.specs.Label.Laws.{⊑-trans, ⊑-antisym}
-use Rattle.model.specs.Flow.{Thing, subject, object, same, Edge, Reaches, here}
-use Rattle.model.specs.Flow.Laws.{same→eq, reaches-in, reaches-snoc, need-upper, need-least}
+use Rattle.model.specs.Flow.{Thing, subject, object, Edge, Reaches, here}
+use Rattle.model.specs.Flow.Laws.{reaches-in, reaches-snoc, need-upper, need-least}
 use Rattle.model.specs.Tables.{Dir, reading, Entry, Handle, handle, mapping, Tables, is-some, is-pipe, label-of, cell, arc, flow, speaks, edges, demand, needs, safe}
 use Rattle.model.specs.Tables.Laws.{some-of, some-is, speaks-hand, speaks-at, speaks-cell, flow-edge, edge-flow}
-use Rattle.model.specs.Steps.{reads, hold, holds, row, fall, apply, applies}
+use Rattle.model.specs.Steps.{reads, hold, holds, row, apply, applies}
 use Rattle.model.specs.Steps.Laws.{sink-by, fall-some, fall-demand}
 use Rattle.model.specs.Invariant.{Wf}
 use Rattle.model.specs.Invariant.Laws.{Pot, pot-safe, needs-pot, wf-mix, pot-mix}
@@ -23,7 +23,7 @@ use Rattle.model.specs.Calls.Refusals.{refusal-same}
 use Rattle.model.specs.Calls.Passed.{Passed}
 use Rattle.model.specs.Calls.Mapped.{sink-label}
 use Rattle.model.specs.Calls.Dangling.{placed-wf}
-use Rattle.model.specs.Calls.Kept.{safe-sound, safe-complete, pot-swap, map-feeds}
+use Rattle.model.specs.Calls.Sound.{safe-sound, safe-complete, pot-swap, map-feeds}
 use Rattle.model.specs.Demand2.{opened}
 
 -- ── a map is refused as the open for reading is ──

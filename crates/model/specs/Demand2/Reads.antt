@@ -17,7 +17,7 @@ use Rattle.model.specs.Invariant.{Kept}
 use Rattle.model.specs.Invariant.Laws.{needs-pot, pot-hold, pot-safe, wf-hold}
 use Rattle.model.specs.Calls.{opens, enough, broken}
 use Rattle.model.specs.Calls.Needs.{hold-adds}
-use Rattle.model.specs.Calls.Kept.{safe-sound, safe-complete}
+use Rattle.model.specs.Calls.Sound.{safe-sound, safe-complete}
 use Rattle.model.specs.Demand2.{opened}
 
 -- o is a file, with this entry

@@ -11,7 +11,7 @@ use Rattle.model.specs.Label.Laws.{⊑-refl, ⊑-trans, le→⊑, level-
 use Rattle.model.specs.Flow.{Thing, subject, object}
 use Rattle.model.specs.Tables.{reading, Entry, Handle, Tables, live, is-file, cell, handles, needs}
 use Rattle.model.specs.Tables.Laws.{cell-entry, cell-self}
-use Rattle.model.specs.Steps.{reads, mix, fall, apply, ended}
+use Rattle.model.specs.Steps.{reads, mix, apply, ended}
 use Rattle.model.specs.Steps.Laws.{sink-cases, fell}
 use Rattle.model.specs.Invariant.{Kept, Scaled}
 use Rattle.model.specs.Calls.{opens, access, target, enough, broken, effect, lowers}

@@ -21,7 +21,7 @@ use Rattle.model.specs.Calls.Kept.{next-kept, empty-kept, always-kept}
 use Rattle.model.specs.Book.{Handling, Outside, book}
 use Rattle.model.specs.Book.Laws.{book-tables, book-answered, unmoved}
 use Rattle.model.specs.Promise.Laws.{handed-back}
-use Rattle.model.specs.Promise.{Meets, Runs, done, then}
+use Rattle.model.specs.Promise.{Kind, Meets, Runs, done, then}
 use Rattle.model.specs.Demand3.{Held, Demand3}
 
 -- ── a held handle is never refused ──
@@ -85,26 +85,26 @@ answers-more t [] r = refl
 answers-more t (k ∷ rs) r = ap (λ (l : List Answer). answer t (decode k) ∷ l) (answers-more (next t (decode k)) rs r)
 
 -- ── a monitor ──
-module _ {M : Type 0} (view : M → Tables) (honest right : M → Type 0) where
+module _ {M : Type 0} (K : Kind M) where
   -- one more call, of a monitor whose tables are those that the list led to
-  pub meets-next : (m : M) (c : Call) (a : Answer) (n : M) (t : Tables) → view m ≡ t → Kept t → honest m → Meets view honest right m c a n
-      → (a ≡ answer t c) × (view n ≡ next t c)
+  pub meets-next : (m : M) (c : Call) (a : Answer) (n : M) (t : Tables) → K .view m ≡ t → Kept t → K .honest m → Meets K m c a n
+      → (a ≡ answer t c) × (K .view n ≡ next t c)
   meets-next m c a n t e v h k = (k .answered h ∙ ap (λ (u : Tables). answer u c) cleaned, go (refusal t c) refl)
     where
-      cleaned : clean (view m) ≡ t
+      cleaned : clean (K .view m) ≡ t
       cleaned = ap clean e ∙ clean-same t (v .wf)
 
-      go : (o : Option ℕ) → refusal t c ≡ o → view n ≡ elim o as (λ _. Tables) [ none ↦ effect t c | some j ↦ t ]
+      go : (o : Option ℕ) → refusal t c ≡ o → K .view n ≡ elim o as (λ _. Tables) [ none ↦ effect t c | some j ↦ t ]
       go none q = k .moved h (ap (λ (u : Tables). refusal u c) cleaned ∙ q) ∙ ap (λ (u : Tables). effect u c) cleaned
-      go (some j) q = ap view (handed-back view honest right m n c a h k j (ap (λ (u : Tables). refusal u c) cleaned ∙ q)) ∙ e
+      go (some j) q = ap (K .view) (handed-back K m n c a h k j (ap (λ (u : Tables). refusal u c) cleaned ∙ q)) ∙ e
 
-  runs-rules : (m : M) (rs : List Raw) (l : List Answer) (n : M) (t : Tables) → view m ≡ t → Kept t → honest m → Runs view honest right m rs l n →
-      (l ≡ answers t rs) × (view n ≡ after t rs)
+  runs-rules : (m : M) (rs : List Raw) (l : List Answer) (n : M) (t : Tables) → K .view m ≡ t → Kept t → K .honest m → Runs K m rs l n →
+      (l ≡ answers t rs) × (K .view n ≡ after t rs)
   runs-rules m rs l n t e v h done = (refl, e)
   runs-rules m rs l n t e v h (then {n = m′} {r = r} {rs = rs′} {a = a} {l = l′} k s) = let f = meets-next m (decode r) a m′ t e v h k in
       let g = runs-rules m′ rs′ l′ n (next t (decode r)) (f .1) (next-kept t (decode r) v) (k .stays h) s in
       (ap₂ (λ x y. x ∷ y) (f .0) (g .0), g .1)
 
   -- DEMAND 3: for every list of calls from empty tables, by any monitor whose calls keep their promise
-  pub demand3 : (m : M) → view m ≡ empty → honest m → (rs : List Raw) (l : List Answer) (n : M) → Runs view honest right m rs l n → Demand3 rs l (view n)
+  pub demand3 : (m : M) → K .view m ≡ empty → K .honest m → (rs : List Raw) (l : List Answer) (n : M) → Runs K m rs l n → Demand3 rs l (K .view n)
   demand3 m e h rs l n s = let r = runs-rules m rs l n empty e empty-kept h s in subst₂ (λ x y. Demand3 rs x y) (sym (r .0)) (sym (r .1)) (rules-demand3 rs)

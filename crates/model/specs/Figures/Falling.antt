@@ -15,7 +15,7 @@ use Rattle.model.specs.Flow.Laws.{same→eq, need-self, need-flow, need-
 use Rattle.model.specs.Flow.Changes.{Sub}
 use Rattle.model.specs.Tables.{Dir, reading, writing, Entry, Tables, empty, is-some, live, arc, edges, demand, needs}
 use Rattle.model.specs.Tables.Laws.{live-of, used-is}
-use Rattle.model.specs.Steps.{Step, enter, leave, hold, holds, mix, quits, freezes, fall, put, sink, apply, applies}
+use Rattle.model.specs.Steps.{Step, enter, leave, hold, holds, mix, quits, freezes, put, apply, applies}
 use Rattle.model.specs.Steps.Laws.{put-same, sink-by, fall-demand}
 use Rattle.model.specs.Invariant.{Wf, Kept}
 use Rattle.model.specs.Calls.{Call, admit, register, create, make-pipe, opens, access, fork, exec, close, exit, retire, maps, mark, freeze, connect, unknown, Raw, decode, target, rereads, sheds, steps, effect, broken, new, idle, refusal, next, after}

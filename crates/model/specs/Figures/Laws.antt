@@ -16,7 +16,7 @@ use Rattle.model.specs.Flow.Laws.{same→eq, same-refl}
 use Rattle.model.specs.Flow.Changes.{but, need-alone}
 use Rattle.model.specs.Tables.{Dir, reading, writing, Entry, handle, Tables, empty, with-at, in-range, is-some, used, live, label-of, cell, handles, edges, demand, needs}
 use Rattle.model.specs.Tables.Laws.{live-of, used-is}
-use Rattle.model.specs.Steps.{Origin, outside, blank, copied, Step, enter, leave, hold, holds, mix, quits, freezes, put, fall, sink, apply, applies, ended}
+use Rattle.model.specs.Steps.{Origin, outside, blank, copied, Step, enter, leave, hold, holds, mix, quits, freezes, put, sink, apply, applies, ended}
 use Rattle.model.specs.Steps.Laws.{put-same, sink-by, applies-keep, some-fall}
 use Rattle.model.specs.Invariant.{Wf}
 use Rattle.model.specs.Calls.{Call, admit, register, create, make-pipe, access, fork, exec, exit, retire, maps, mark, freeze, target, sheds, steps, effect, alive, new, vacant, apart, idle, tests, refusal}

@@ -16,9 +16,9 @@ use Rattle.model.specs.Label.Laws.{⊑-trans, bot-least, below-in-scale}
 use Rattle.model.specs.Flow.{Thing, subject, object, same, Edge}
 use Rattle.model.specs.Flow.Laws.{same→eq, need-self, need-flow, need-below}
 use Rattle.model.specs.Flow.Changes.{but}
-use Rattle.model.specs.Tables.{Dir, reading, writing, Entry, Handle, Tables, empty, with-at, with-hand, with-freeze, subjects, places, in-range, is-some, used, live, cell, handles, arc, flow, speaks, edges, demand, needs, counted, clean}
+use Rattle.model.specs.Tables.{Dir, reading, writing, Entry, Handle, Tables, empty, with-hand, with-freeze, subjects, places, in-range, is-some, used, live, cell, handles, arc, flow, speaks, edges, demand, needs, counted, clean}
 use Rattle.model.specs.Tables.Laws.{some-of, some-is, live-of, speaks-at, speaks-hand, speaks-freeze, speaks-cell, whole-alone, cell-entry, object-entry, open-here, flow-edge, edge-flow}
-use Rattle.model.specs.Steps.{Origin, Access, enter, hold, holds, mix, quits, put, row, place, fall, without, vacated, sink, apply, ended, reap}
+use Rattle.model.specs.Steps.{Origin, Access, enter, hold, holds, mix, quits, put, row, place, without, vacated, sink, apply, ended, reap}
 use Rattle.model.specs.Steps.Laws.{put-cases, sink-cases, sink-by, row-cases, place-cases, live-hand, live-freeze, live-at, ended-open, ended-subject}
 use Rattle.model.specs.Steps.Laws.{fall-some, some-fall, fall-demand, fall-under, fell}
 use Rattle.model.specs.Invariant.{Ends, Wf, Safe, Scaled, Frozen}

@@ -16,7 +16,7 @@ use Rattle.model.specs.Lists.{In, each}
 use Rattle.model.specs.Flow.{Thing, subject, object}
 use Rattle.model.specs.Tables.{running, pipe, Dir, reading, writing, Entry, entry, Handle, handle, mapping, Tables, empty, with-at, subjects, places, is-some, label-of, cell, one, handles-of, handles}
 use Rattle.model.specs.Tables.Laws.{some-of, live-of, used-is, handles-by, handles-at}
-use Rattle.model.specs.Steps.{blank, copied, writes, runs, enter, leave, hold, holds, mix, quits, freezes, put, apply, applies}
+use Rattle.model.specs.Steps.{blank, copied, writes, runs, enter, leave, hold, holds, mix, freezes, put, apply, applies}
 use Rattle.model.specs.Steps.Laws.{place-other, place-apart, applies-append}
 use Rattle.model.specs.Invariant.{Wf}
 use Rattle.model.specs.Invariant.Laws.{empty-wf}

@@ -24,7 +24,7 @@ use Rattle.journal.specs.Calls.{arity-of, known}
 use Rattle.journal.specs.Journal.{sized, entry-at, arguments-in, call-with, coded, body-in}
 use Rattle.gatekeeper.specs.declared.Monitor.{Monitor}
 use Rattle.answers.specs.Telling.{letter-of, value-of}
-use Rattle.gatekeeper.specs.View.{view, Honest, Right}
+use Rattle.gatekeeper.specs.View.{view, Honest, Right, monitors}
 use Rattle.tally.specs.declared.Tally.{Tally as Lent}
 use Rattle.tally.specs.Counting.{counts-of}
 use Rattle.text.specs.Reply.{line}
@@ -173,14 +173,14 @@ module _ (m n : Monitor) (y z : Tally) (code : ℕ) (a : Answer) (k : Kept (view
       x = tallied (view m) d y
 
       f : (a ≡ b) × (view n ≡ u)
-      f = meets-next view Honest Right m d a n (view m) refl k (o .1 .0) (o .1 .1)
+      f = meets-next monitors m d a n (view m) refl k (o .1 .0) (o .1 .1)
   left-more p (said c (bad j)) l v o =
       ap (λ (x : Tally). lines p (replies (view m) (said c (bad j) ∷ l)) ++ last-line x) (quiet (view m) y c j (calls-of l) v .1)
       ∙ append-assoc (line p c 82 j) (lines (suc p) (replies (view m) l)) (last-line (tally (view m) y (calls-of l)))
       ∙ same-all p l (o .0) (o .1) (ap view (o .2)) (o .3)
 
   pub kept-more : (s : Said) → Turned m y s code a n z → Kept (view n)
-  kept-more (said c (reads ns)) o = subst Kept (sym (meets-next view Honest Right m (decode (raw c ns)) a n (view m) refl k (o .1 .0) (o .1 .1) .1))
+  kept-more (said c (reads ns)) o = subst Kept (sym (meets-next monitors m (decode (raw c ns)) a n (view m) refl k (o .1 .0) (o .1 .1) .1))
       (next-kept (view m) (decode (raw c ns)) k)
   kept-more (said c (bad j)) o = subst Kept (ap view (sym (o .2))) k
 
@@ -189,7 +189,7 @@ module _ (m n : Monitor) (y z : Tally) (code : ℕ) (a : Answer) (k : Kept (view
       → (after (view m) (calls-of (s ∷ l)) ≡ after (view n) (calls-of l)) × (tally (view m) y (calls-of (s ∷ l)) ≡ tally (view n) z (calls-of l))
   ends-more (said c (reads ns)) l v o =
       let d = decode (raw c ns) in
-      let same = sym (meets-next view Honest Right m d a n (view m) refl k (o .1 .0) (o .1 .1) .1) in
+      let same = sym (meets-next monitors m d a n (view m) refl k (o .1 .0) (o .1 .1) .1) in
       let counted : tallied (view m) d y ≡ z = sym (o .2 ∙ ap (λ (w : Tables). tallied w d y) cleaned) in (
         ap (λ (u : Tables). after u (calls-of l)) same,
         ap (λ (u : Tables). tally u (tallied (view m) d y) (calls-of l)) same ∙ ap (λ (x : Tally). tally (view n) x (calls-of l)) counted,
@@ -205,6 +205,11 @@ module _ (m n : Monitor) (y z : Tally) (code : ℕ) (a : Answer) (k : Kept (view
 pub right-more : (m n : Monitor) (y z : Tally) (code : ℕ) (a : Answer) (s : Said) → Turned m y s code a n z → Right m → Right n
 right-more m n y z code a (said c (reads ns)) o h = o .1 .1 .kept (o .1 .0) h
 right-more m n y z code a (said c (bad j)) o h = subst Right (sym (o .2)) h
+
+-- and a monitor that is sure stays so
+pub sure-more : (m n : Monitor) (y z : Tally) (code : ℕ) (a : Answer) (s : Said) → Turned m y s code a n z → m .sure ≡ 1 → n .sure ≡ 1
+sure-more m n y z code a (said c (reads ns)) o h = o .1 .1 .says (o .1 .0) ∙ h
+sure-more m n y z code a (said c (bad j)) o h = ap (λ (x : Monitor). x .sure) (o .2) ∙ h
 
 -- what a record does to an honest monitor
 pub one-turned : (m n : Monitor) (y z : Lent) (code : ℕ) (a : Answer) (s : Said) → Honest m → One m y s code a n z → Turned m (counts-of y) s code a n (counts-of z)

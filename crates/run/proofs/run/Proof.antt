@@ -12,7 +12,7 @@ use Rattle.run.proofs.run.Statement.{statement}
 use Rattle.run.proofs.run.Tie as tie
 
 abbrev Inv-loop : tie.InvT-loop
-Inv-loop calls out₀ n m₀ i₀ out m i = (i ≤ n) × (n * 7 ≤ length calls) × (n * 2 ≤ length out₀) × (length out ≡ length out₀) × So-far calls out₀ out i (view m) × Right m
+Inv-loop calls out₀ n m₀ i₀ out m i = (i ≤ n) × (n * 7 ≤ length calls) × (n * 2 ≤ length out₀) × (length out ≡ length out₀) × So-far calls out₀ out i (view m) × Right m × (m .sure ≡ 1)
 
 abbrev μ-loop : tie.MeasureT-loop
 μ-loop calls out₀ n m₀ i₀ out m i = n - i
@@ -27,7 +27,7 @@ loop-holds : tie.Need-loop-holds Inv-loop μ-loop
 loop-holds c =
     let a = c .before .before .before .before .args in
     let fits : c .before .fewer .result ≡ lesser (length (a .calls .now) / 7) (length (a .out .now) / 2) = c .before .fewer .ensures in
-    (omega arith, omega (arith, lesser-left (length (a .calls .now) / 7) (length (a .out .now) / 2)), omega (arith, lesser-right (length (a .calls .now) / 7) (length (a .out .now) / 2)), refl, so-far-none (a .calls .now) (a .out .now) (view (c .empty .result)) (c .empty .ensures .0), c .empty .ensures .1 .0)
+    (omega arith, omega (arith, lesser-left (length (a .calls .now) / 7) (length (a .out .now) / 2)), omega (arith, lesser-right (length (a .calls .now) / 7) (length (a .out .now) / 2)), refl, so-far-none (a .calls .now) (a .out .now) (view (c .empty .result)) (c .empty .ensures .0), c .empty .ensures .1 .0, c .empty .ensures .1 .1 .1)
 
 mul-at : tie.Need-mul-at Inv-loop μ-loop
 mul-at c = search needs
@@ -132,6 +132,7 @@ loop-again c =
       subst₂ (λ (x y : ℕ). So-far (a .calls .now) (a .out .now) (set (set (l .out) (l .i * 2) x) (l .i * 2 + 1) y) (l .i + 1) (view (k .result .monitor))) (sym (c .before .before .letter .ensures)) (sym (c .before .value .ensures))
           (so-far-more (a .calls .now) (a .out .now) (l .out) (l .i) (l .m) (k .result .monitor) (told (k .result .answer)) (omega (arith, l .inv .2)) (l .inv .4) h (k .ensures)),
       k .ensures .kept h (l .inv .5),
+      k .ensures .says h ∙ l .inv .6,
     )
 
 same-length : tie.Need-same-length Inv-loop μ-loop
@@ -144,7 +145,7 @@ returns c =
     let s = l .inv .4 in
     let a = c .before .before .before .before .before .before .args in
     let so : So-far (a .calls .now) (a .out .now) (l .out) (c .before .before .before .fewer .result) (view (l .m)) = subst (λ (j : ℕ). So-far (a .calls .now) (a .out .now) (l .out) j (view (l .m))) all s in
-    (c .before .before .before .fewer .ensures, (so .written, (run-demand3 _ _ _ _ _ so, l .inv .5)))
+    (c .before .before .before .fewer .ensures, (so .written, (run-demand3 _ _ _ _ _ so, (l .inv .5, l .inv .6))))
 
 pub run-spec : {M : Type 1} → statement M
 run-spec =

@@ -18,7 +18,7 @@ use Rattle.model.specs.Demand3.Laws.{rules-demand3, after-more, answers-more, m
 use Rattle.gatekeeper.specs.declared.Monitor.{Monitor}
 use Rattle.answers.specs.Telling.{letter-of, value-of}
 use Rattle.model.specs.Invariant.{Kept}
-use Rattle.gatekeeper.specs.View.{view, Honest, Right}
+use Rattle.gatekeeper.specs.View.{view, Honest, Right, monitors}
 use Rattle.gatekeeper.specs.View.Laws.{kept-honest}
 use Rattle.run.specs.Buffers.{lesser, call-at, calls-in, bytes, answers-in}
 
@@ -77,7 +77,7 @@ module _ (calls first out : List ℕ) (i : ℕ) (m n : Monitor) (a : Answer) whe
   pub so-far-honest : So-far calls first out i (view m) → Right m → Honest m
   so-far-honest s r = kept-honest m (subst Kept (sym (s .tables)) (always-kept (calls-in calls i))) r
 
-  pub so-far-more : i * 2 + 2 ≤ length first → So-far calls first out i (view m) → Honest m → Meets view Honest Right m (decode (call-at calls i)) a n
+  pub so-far-more : i * 2 + 2 ≤ length first → So-far calls first out i (view m) → Honest m → Meets monitors m (decode (call-at calls i)) a n
       → So-far calls first (set (set out (i * 2) (letter-of a)) (i * 2 + 1) (value-of a)) (i + 1) (view n)
   so-far-more room s h k = subst (λ (j : ℕ). So-far calls first (set (set out (i * 2) (letter-of a)) (i * 2 + 1) (value-of a)) j (view n)) (sym (add-one i)) (record { written = written; tables = f .1 ∙ sym (after-more empty rs r) })
     where
@@ -94,7 +94,7 @@ module _ (calls first out : List ℕ) (i : ℕ) (m n : Monitor) (a : Answer) whe
       d = drop (i * 2) first
 
       f : (a ≡ answer (after empty rs) (decode r)) × (view n ≡ next (after empty rs) (decode r))
-      f = meets-next view Honest Right m (decode r) a n (after empty rs) (s .tables) (always-kept rs) h k
+      f = meets-next monitors m (decode r) a n (after empty rs) (s .tables) (always-kept rs) h k
 
       long : length w ≡ i * 2
       long = length-bytes (answers empty rs) ∙ ap (λ (j : ℕ). j * 2) (length-answers empty rs ∙ length-calls calls i)

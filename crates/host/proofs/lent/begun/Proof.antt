@@ -10,7 +10,7 @@ empty-requires c κs = search needs
 returns : tie.Need-returns
 returns c =
     let k = c .empty .ensures in
-    record { tables = k .0; honest = k .1 .1; right = k .1 .0; counts = refl }
+    record { tables = k .0; honest = k .1 .1 .0; sure = k .1 .1 .1; right = k .1 .0; counts = refl }
 
 pub begun-spec : {M : Type 1} → statement M
 begun-spec = tie.close (tie.spec empty-requires returns)

@@ -4,26 +4,27 @@ use Prim.Native.Nat.{ℕ}
 use borrow.Author.Needs.{needs}
 use Rattle.model.specs.Calls.{Raw, decode, Answer}
 use Rattle.model.specs.Promise.{Meets}
-use Rattle.gatekeeper.specs.View.{view, Honest, Right, direct}
+use Rattle.gatekeeper.specs.View.{monitors, direct}
 use Rattle.gatekeeper.specs.declared.Monitor.{Monitor}
 use Rattle.tally.specs.declared.Tally.{Tally}
 use Rattle.tally.specs.Counting.{Tallies}
 use Rattle.host.specs.declared.lent.State.{State}
 use Rattle.host.specs.Numbers.{answer-number, answer-in}
-use Rattle.host.specs.Lending.{lent-view, lent-honest, lent-right, Lends}
+use Rattle.host.specs.Lending.{lent-kind, Lends}
 use Rattle.host.proofs.lent.step.Statement.{statement}
 use Rattle.host.proofs.lent.step.Tie as tie
 
 -- a counted call from x to y, of which the answer a crosses as the number n
-lends : {x y : State} {r : Raw} {n : ℕ} (a : Answer) → Meets view Honest Right (x .monitor) (decode r) a (y .monitor)
+lends : {x y : State} {r : Raw} {n : ℕ} (a : Answer) → Meets monitors (x .monitor) (decode r) a (y .monitor)
     → Tallies (x .monitor) (x .tally) (decode r) a (y .tally) → n ≡ answer-number a → answer-in n ≡ a → Lends x r n y
 lends {x = x} {y = y} {r = r} a p q e back = record {
   number = e ∙ ap answer-number (sym back);
-  meets = subst (λ (w : Answer). Meets lent-view lent-honest lent-right x (decode r) w y) (sym back) (record {
+  meets = subst (λ (w : Answer). Meets lent-kind x (decode r) w y) (sym back) (record {
     unchanged = λ k z. ap₂ (λ (m : Monitor) (t : Tally). record { monitor = m; tally = t }) (p .unchanged k z) (q .same k z);
     answered = p .answered;
     moved = p .moved;
     stays = p .stays;
+    says = p .says;
     kept = p .kept;
   });
   counts = q .counts;
