@@ -312,18 +312,18 @@ uint32_t gatekeeper_frozen_from(const uint8_t *state, size_t len);
  *
  * So bytes of the one that hold such values are not to be copied into the other.
  *
- * What is promised goes by `sure`, which says that calls made the value, from the empty monitor on:
+ * What is promised goes by `sure`. Where it is 1, the monitor says of itself that no handle dangles, that its kept needs
+ * are right and that no level is below its need, and calls go by that:
  *
- *   1, and calls    On a monitor that gatekeeper_monitor_empty and after it gatekeeper_monitor_step and
- *   made it         gatekeeper_monitor_call alone have made, every answer is the rules'. `sure` stays 1: that is tested
- *                   and not proved, and only speed goes by it. A copy of such a monitor is one, too.
- *   0               For a host that fills the tables itself. Any bytes are a monitor, and every answer is the rules',
- *                   as for gatekeeper_call. But the call is slow, and `sure` stays 0 (tested, not proved).
- *   not 0, and no   The tables may have handles that dangle, kept needs that are wrong, or levels below needs. Then a
- *   calls made it   call ends and touches nothing but the struct, and a refused call leaves it as it was. Nothing else
- *                   is promised of the answer.
+ *   1, and it is    So of every monitor that these functions have made, by calls from the empty one on or by
+ *   so              gatekeeper_monitor_assure, and of a copy of one. Every answer is the rules', and `sure` stays 1.
+ *   1, and it is    A call ends and touches nothing but the struct, and a refused call leaves it as it was. Nothing else
+ *   not so          is promised of the answer.
+ *   any other       For a host that fills the tables itself. Any bytes are a monitor, and every answer is the rules', as
+ *                   for gatekeeper_call. But the call is slow, and `sure` stays what it is.
  *
- * So a host sets `sure` itself only to 0, and does so where it changes another field.
+ * So a host never sets `sure` to 1: it sets it to 0 where it changes another field, and lends the monitor to
+ * gatekeeper_monitor_assure once it has filled the tables.
  */
 struct gatekeeper_monitor {
     struct {
@@ -341,7 +341,7 @@ struct gatekeeper_monitor {
     } handles[GATEKEEPER_SUBJECTS * GATEKEEPER_PLACES]; /* place p of subject s is the (16 s + p)th */
     uint8_t freeze; /* the level from which on files are frozen; 16 and above: none is */
     uint8_t needs[GATEKEEPER_SUBJECTS + GATEKEEPER_OBJECTS]; /* the kept needs: of the subjects, then of the objects */
-    uint8_t sure;       /* 1: calls made this value, from the empty monitor on; a host sets it only to 0 */
+    uint8_t sure;       /* 1: calls go by what is kept, and look for no dangling handle; a host sets it only to 0 */
     uint64_t counts[2]; /* handles over all calls, modulo 2 to the 64th: at GATEKEEPER_MADE, and at GATEKEEPER_GONE */
 };
 
@@ -377,6 +377,13 @@ GATEKEEPER_HOLDS(offsetof(struct gatekeeper_monitor, counts) == 1832);
  * struct that is all 0 has no subject, object or handle either, but it freezes every file, and a call on it is slow. */
 void gatekeeper_monitor_empty(struct gatekeeper_monitor *monitor);
 
+/* Makes a monitor that a host has filled itself, as from bytes that it kept, one that calls may rely on: places whose
+ * handle dangles are emptied, the kept needs are worked out anew, and `sure` is 1, and so is what is returned. Where some
+ * level is below its need, which calls never make, it cannot be: then `sure` is 0, and 0 is returned. The entries, the
+ * freeze and the counts stay as they are. */
+GATEKEEPER_MUST_USE
+uint32_t gatekeeper_monitor_assure(struct gatekeeper_monitor *monitor);
+
 /* Makes one call on the lent monitor, and counts the handles it makes and removes. Its numbers and its answer are those
  * of gatekeeper_call, and gatekeeper_letter, gatekeeper_allows and gatekeeper_value read the answer. There is no length
  * that could be wrong. A refused call changes no field. A host makes its calls with gatekeeper_monitor_step, below. */
@@ -407,9 +414,9 @@ uint32_t gatekeeper_quick_close(const uint8_t *subjects, size_t subjects_len, co
 #define GATEKEEPER_PART(part) (uint8_t *)(part), sizeof(part)
 #endif
 
-/* Makes one call on the lent monitor. It has the answer of gatekeeper_monitor_call, and leaves the same tables and
- * counts: both ways that a call can take here are proved to go by the rules. It is faster for an open or a close that changes no
- * need; any other call goes to gatekeeper_monitor_call. */
+/* Makes one call on the lent monitor, which is as `sure` says of it: then it has the answer of gatekeeper_monitor_call,
+ * and leaves the same tables and counts, for both ways that a call can take here are proved to go by the rules. It is
+ * faster for an open or a close that changes no need; any other call goes to gatekeeper_monitor_call. */
 GATEKEEPER_MUST_USE
 GATEKEEPER_INLINE uint32_t gatekeeper_monitor_step(struct gatekeeper_monitor *monitor, uint32_t code, uint32_t a,
                                                    uint32_t b, uint32_t c, uint32_t d, uint32_t e, uint32_t f)

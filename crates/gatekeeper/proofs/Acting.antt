@@ -25,8 +25,9 @@ use Rattle.refusals.specs.Refusing.{late, Refuses, Refused}
 use Rattle.gatekeeper.specs.declared.Monitor.{Monitor}
 use Rattle.gatekeeper.specs.declared.Reply.{Reply}
 use Rattle.answers.specs.Telling.{told, refuses}
-use Rattle.gatekeeper.specs.View.{view, Steady, Honest, Right, monitors}
-use Rattle.gatekeeper.specs.Acting.{Firm, Acts, back, settled}
+use Rattle.gatekeeper.specs.View.{view, Steady, Honest, Tidy, Right, monitors}
+use Rattle.gatekeeper.specs.View.Laws.{honest-tidy}
+use Rattle.gatekeeper.specs.Acting.{Firm, Acts, Keeps, back, settled}
 use Rattle.gatekeeper.proofs.Doing.{Does}
 
 -- ── refused ──
@@ -70,6 +71,22 @@ acts m c a n u s d v k = record {
   says = s;
 }
 
+-- ── what is kept ──
+-- by a call that the rules allow, and by one that they refuse
+pub acts-keeps : {m n : Monitor} {c : Call} {a : Told} → Wf (view m) → Acts m c a n → Keeps m n
+acts-keeps {m} {n} {c} w d = record { whole = whole (refusal (view m) c) refl; kept = d .kept; says = d .says }
+  where
+    whole : (o : Option ℕ) → refusal (view m) c ≡ o → Wf (view n)
+    whole none q = subst Wf (sym (d .moved q)) (effect-wf (view m) c w q)
+    whole (some k) q = subst (λ (x : Monitor). Wf (view x)) (sym (d .unchanged k q)) w
+
+pub both : {m n : Monitor} {c : Call} {a : Told} → (Wf (view m) → Acts m c a n) → (Firm m → Acts m c a n) × (Wf (view m) → Keeps m n)
+both z = (λ f. z (f .wf), λ w. acts-keeps w (z w))
+
+-- by a refusal
+pub back-keeps : (m : Monitor) (n : ℕ) (r : Reply) → r ≡ back m n → Wf (view m) → Keeps m (r .monitor)
+back-keeps m n r q w = subst (λ (x : Reply). Keeps m (x .monitor)) (sym q) (record { whole = w; kept = λ h. h; says = refl })
+
 -- ── steady tables ──
 -- a mapping is a reading handle, whatever the bytes are
 held-reads : (b : Bool) (h : Handle) (k : Held) → cond b (held h) none ≡ some k → T (k .mapped) → k .dir ≡ reading
@@ -99,8 +116,11 @@ steady-next t c v q = record { wf = effect-wf t c (v .wf) q; safe = effect-safe 
 
 -- ── settled ──
 -- m is the monitor that came, t its readied form, r the reply on t
-module _ (m t : Monitor) (c : Call) (r a : Reply) (w : Wf (clean (view m))) (e : Honest m → view t ≡ clean (view m)) (f : t .needs ≡ m .needs) (g : t .sure ≡ m .sure)
-    (z : Firm t → Acts t c (told (r .answer)) (r .monitor)) where
+module _ (m t : Monitor) (c : Call) (r a : Reply) (w : Wf (clean (view m))) (tidied : Tidy m → view t ≡ clean (view m)) (f : t .needs ≡ m .needs) (g : t .sure ≡ m .sure)
+    (z : Firm t → Acts t c (told (r .answer)) (r .monitor)) (y : Wf (view t) → Keeps t (r .monitor)) where
+  e : Honest m → view t ≡ clean (view m)
+  e h = tidied (honest-tidy m h)
+
   -- what is said of a sure monitor is so
   module _ (h : Honest m) where
     sure-one : t .sure ≡ 1 → m .sure ≡ 1
@@ -138,17 +158,8 @@ module _ (m t : Monitor) (c : Call) (r a : Reply) (w : Wf (clean (view m))) (e :
     after : refusal (clean (view m)) c ≡ none → view (r .monitor) ≡ effect (clean (view m)) c
     after q = done .moved (free q) ∙ ap (λ (u : Tables). effect u c) (e h)
 
-    -- nothing dangles in what an allowed call hands back, so that its tables are read as they stand
-    clean-after : refusal (clean (view m)) c ≡ none → clean (view (r .monitor)) ≡ view (r .monitor)
-    clean-after q = clean-same (view (r .monitor)) (subst Wf (sym (after q)) (effect-wf (clean (view m)) c w q))
-
     begun : Ready (clean (view m)) (figure-of (m .needs)) → Ready (view t) (figure-of (t .needs))
     begun k = subst₂ (λ (u : Tables) (n : List ℕ). Ready u (figure-of n)) (sym (e h)) (sym f) k
-
-    right : Right m → (o : Option ℕ) → refusal (clean (view m)) c ≡ o → Right (settled m r .monitor)
-    right k none q = subst Right (sym (allowed-is q (told (r .answer)) refl))
-        (subst (λ (u : Tables). Ready u (figure-of (r .monitor .needs))) (sym (clean-after q)) (done .kept (begun k)))
-    right k (some j) q = subst Right (sym (refused-is j q)) k
 
     honest : (o : Option ℕ) → refusal (clean (view m)) c ≡ o → Honest (settled m r .monitor)
     honest none q = subst Honest (sym (allowed-is q (told (r .answer)) refl)) (λ s. let k = h (sym (done .says ∙ g) ∙ s) in let v = as-it-is (sym (done .says ∙ g) ∙ s) in (
@@ -157,9 +168,23 @@ module _ (m t : Monitor) (c : Call) (r a : Reply) (w : Wf (clean (view m))) (e :
     ))
     honest (some j) q = subst Honest (sym (refused-is j q)) h
 
+  -- what is tidy is kept right, whatever else it says
+  module _ (h : Tidy m) where
+    keeps : Keeps t (r .monitor)
+    keeps = y (subst Wf (sym (tidied h)) w)
+
     claims : (b : Bool) → cond b m (r .monitor) .sure ≡ m .sure
     claims true = refl
-    claims false = done .says ∙ g
+    claims false = keeps .says ∙ g
+
+    neatly : (b : Bool) → Tidy (cond b m (r .monitor))
+    neatly true = h
+    neatly false = λ q. keeps .whole
+
+    right : Right m → (b : Bool) → Right (cond b m (r .monitor))
+    right k true = k
+    right k false = subst (λ (u : Tables). Ready u (figure-of (r .monitor .needs))) (sym (clean-same (view (r .monitor)) (keeps .whole)))
+        (keeps .kept (subst₂ (λ (u : Tables) (n : List ℕ). Ready u (figure-of n)) (sym (tidied h)) (sym f) k))
 
   pub settles : a ≡ settled m r → Meets monitors m c (told (a .answer)) (a .monitor)
   settles q = subst (λ (x : Reply). Meets monitors m c (told (x .answer)) (x .monitor)) (sym q) (record {
@@ -167,19 +192,23 @@ module _ (m t : Monitor) (c : Call) (r a : Reply) (w : Wf (clean (view m))) (e :
     answered = is;
     moved = λ h p. ap (λ (n : Monitor). view n) (allowed-is h p (told (r .answer)) refl) ∙ after h p;
     stays = λ h. honest h (refusal (clean (view m)) c) refl;
+    neat = λ h. neatly h (refuses (told (r .answer)));
     says = λ h. claims h (refuses (told (r .answer)));
-    kept = λ h k. right h k (refusal (clean (view m)) c) refl;
+    kept = λ h k. right h k (refuses (told (r .answer)));
   })
 
 -- ── a sure monitor, whose tables are read as they stand ──
-pub straight : (m n : Monitor) (c : Call) (a : Told) → m .sure ≡ 1 → ((k : ℕ) → a ≡ refused k → n ≡ m) → (Firm m → Acts m c a n) → Meets monitors m c a n
-straight m n c a s b z = record {
+pub straight : (m n : Monitor) (c : Call) (a : Told) → m .sure ≡ 1 → ((k : ℕ) → a ≡ refused k → n ≡ m) → (Firm m → Acts m c a n)
+    → (Wf (view m) → Keeps m n) → Meets monitors m c a n
+straight m n c a s b z y = record {
   unchanged = b;
   answered = λ h. done h .answered ∙ ap (λ (u : Tables). answer u c) (sym (same h));
   moved = λ h q. done h .moved (ap (λ (u : Tables). refusal u c) (sym (same h)) ∙ q) ∙ ap (λ (u : Tables). effect u c) (sym (same h));
   stays = λ h. honest h (refusal (view m) c) refl;
-  says = λ h. done h .says;
-  kept = λ h r. right h (refusal (view m) c) refl;
+  neat = λ h q. y (h s) .whole;
+  says = λ h. y (h s) .says;
+  kept = λ h r. (let k = y (h s) in subst (λ (u : Tables). Ready u (figure-of (n .needs))) (sym (clean-same (view n) (k .whole)))
+      (k .kept (subst (λ (u : Tables). Ready u (figure-of (m .needs))) (clean-same (view m) (h s)) r)));
 }
   where
     same : Honest m → clean (view m) ≡ view m
@@ -197,7 +226,3 @@ straight m n c a s b z = record {
     honest : Honest m → (o : Option ℕ) → refusal (view m) c ≡ o → Honest n
     honest h none q = λ e. after h q
     honest h (some k) q = subst Honest (sym (back h k q)) h
-
-    right : Honest m → (o : Option ℕ) → refusal (view m) c ≡ o → Right n
-    right h none q = let r = after h q in subst (λ (u : Tables). Ready u (figure-of (n .needs))) (sym (clean-same (view n) (r .0 .wf))) (r .1)
-    right h (some k) q = subst Right (sym (back h k q)) (subst (λ (u : Tables). Ready u (figure-of (m .needs))) (sym (same h)) (h s .1))

@@ -15,19 +15,19 @@ use Rattle.model.specs.Label.{Label, leq, label, bot}
 use Rattle.model.specs.Label.Laws.{label-zero}
 use Rattle.model.specs.Flow.{subject, object}
 use Rattle.model.specs.Flow.Changes.{but}
-use Rattle.model.specs.Tables.{pipe, reading, writing, entry, handle, mapping, Tables, empty, with-at, with-hand, live, label-of, cell, handles, open-on, needs, safe}
+use Rattle.model.specs.Tables.{running, pipe, reading, writing, Entry, entry, handle, mapping, Tables, empty, with-at, with-hand, is-some, live, label-of, cell, handles, open-on, needs, safe}
 use Rattle.model.specs.Tables.{Handle as Held}
-use Rattle.model.specs.Tables.Laws.{live-of, cell-self, handles-by}
-use Rattle.model.specs.Steps.{hold, holds, put, row, place, apply, applies, reap}
+use Rattle.model.specs.Tables.Laws.{used-is, live-of, cell-self, handles-by}
+use Rattle.model.specs.Steps.{outside, enter, hold, holds, put, row, place, apply, applies, reap}
 use Rattle.model.specs.Invariant.{Ends, Wf, Safe}
-use Rattle.model.specs.Invariant.Laws.{less-wf}
+use Rattle.model.specs.Invariant.Laws.{wf-enter, wf-hold, less-wf}
 use Rattle.model.specs.Calls.{Call, admit, register, create, make-pipe, opens, access, fork, exec, close, exit, retire, maps, mark, freeze, connect, rereads, marking, lasting, sheds, channel, steps, effect, Test, number, known, alive, present, no-pipe, leveled, freezable, new, vacant, taken, apart, unlike, others, facing, enough, suits, idle, thawed, broken, tests, order, earlier, In-order, breaks, refusal, allowed, lowers, outcome}
 use Rattle.model.specs.Calls.{Answer as Told}
 use Rattle.model.specs.Calls.Refusals.{refused-by}
 use Rattle.model.specs.Calls.Passed.{is-alive, is-present, is-new, is-place, is-vacant, sheds-less}
 use Rattle.model.specs.Calls.Dangling.{connect-wf}
 use Rattle.model.specs.Figures.{Ready}
-use Rattle.model.specs.Figures.Laws.{access-ready, mark-ready, freeze-ready, retire-ready, admit-ready, register-ready, create-ready, pipe-ready, fork-ready, effect-ready, anew-ready, map-ready, exec-ready, exit-ready}
+use Rattle.model.specs.Figures.Laws.{access-ready, mark-ready, freeze-ready, retire-ready, admit-ready, register-ready, create-ready, pipe-ready, fork-ready, effect-ready, anew-ready, mapping-ready, map-ready, exec-ready, exit-ready}
 use Rattle.tables.specs.declared.Subject.{Subject}
 use Rattle.tables.specs.declared.Object.{Object}
 use Rattle.tables.specs.declared.Handle.{Handle}
@@ -42,7 +42,7 @@ use Rattle.keeping.proofs.Closing.{anew}
 use Rattle.tables.specs.Working.{subject-at, object-at, handle-at, joining, fallen-by, sunken-by, Outlives}
 use Rattle.gatekeeper.specs.declared.Monitor.{Monitor}
 use Rattle.gatekeeper.specs.View.{beside, view}
-use Rattle.gatekeeper.specs.Acting.{Acts, way-by}
+use Rattle.gatekeeper.specs.Acting.{Acts, Keeps, way-by}
 use Rattle.gatekeeper.proofs.Owned.{Long}
 use Rattle.gatekeeper.proofs.Doing.{Does, passed, row-low, live-low, new-row, new-column, place-low, found, found-place, found-to, found-live, full-subject, full-object, full-held, own, low-row-live, admit-does, register-does, create-does, pipe-does, open-does, read-does, write-does, fork-does, exec-does, map-does, connect-does, close-does, exit-does, retire-does, mark-does, freeze-does}
 use Rattle.gatekeeper.proofs.Acting.{acts}
@@ -138,8 +138,20 @@ Shorts ss os ns r = (rest : Tables) (hs : List Handle) → Wf (tables-of rest ss
 -- the figures once a handle came, and whether some level is below one
 abbrev pub Opening : Monitor → Bool → List Handle → ℕ → Handle → List ℕ → Bool → Type 0
 Opening m sure next s h ns short = (rest : Tables) (t : Tables) (p : ℕ) → Wf t → Ends t s p (joins h) → t .hand s p ≡ none
-    → tables-of rest (m .subjects) (m .objects) next ≡ apply (hold s p (some (joins h))) t → (sure ≡ true → Safe t × Ready t (figure-of (m .needs)))
-    → (short ≡ not (safe (tables-of rest (m .subjects) (m .objects) next))) × Ready (tables-of rest (m .subjects) (m .objects) next) (figure-of ns)
+    → tables-of rest (m .subjects) (m .objects) next ≡ apply (hold s p (some (joins h))) t → (sure ≡ true → Ready t (figure-of (m .needs)))
+    → Ready (tables-of rest (m .subjects) (m .objects) next) (figure-of ns) × ((sure ≡ true → Safe t) → short ≡ not (safe (tables-of rest (m .subjects) (m .objects) next)))
+
+-- who is live stays so where it falls
+fallen-lives : (y : Subject) (l : ℕ) → T (is-some (subject-entry y)) → subject-entry (fallen-by y l) ≡ some (entry running (label (fallen-by y l .level)))
+fallen-lives y l h = by (ltb l (y .level))
+  where
+    used-here : (f : Bool) → T (is-some (cond f none (some (entry running (label (y .level)))))) → f ≡ false
+    used-here true k = absurd k
+    used-here false k = refl
+
+    by : (b : Bool) → subject-entry (cond b (record { live = y .live; level = l }) y) ≡ some (entry running (label (cond b (record { live = y .live; level = l }) y .level)))
+    by true = ap (λ (f : Bool). cond f none (some (entry running (label l)))) (used-here (eqb (y .live) 0) h)
+    by false = ap (λ (f : Bool). cond f none (some (entry running (label (y .level))))) (used-here (eqb (y .live) 0) h)
 
 -- what a monitor that is sure says
 abbrev Says : Monitor → Type 0
@@ -444,7 +456,7 @@ module _ (m : Monitor) (g : Long m) where
       same-s = omega (arith, low-s)
 
   -- ── open ──
-  module _ (b : Bool) (s o p : ℕ) (x : Object) (h : Handle) (next : List Handle) (ns : List ℕ) (r : Bool) (w : Wf (view m)) (v : Says m)
+  module _ (b : Bool) (s o p : ℕ) (x : Object) (h : Handle) (next : List Handle) (ns : List ℕ) (r : Bool) (w : Wf (view m))
       (z : Refuses (view m) (opens (direction b) s o p) 0) (k : view m .at (object o) ≡ object-entry x) (i : h ≡ joining (way-by b) o)
       (y : next ≡ set (m .handles) (s % 32 * 16 + p % 16) h) (f : Opening m (eqb (m .sure) 1) next s h ns r) where
     lives : T (live (view m) (subject s))
@@ -488,25 +500,29 @@ module _ (m : Monitor) (g : Long m) where
         same = omega (arith, low-o)
 
     -- what the code works out
-    out : (r ≡ not (safe (tables-of (beside m) (m .subjects) (m .objects) next))) × Ready (tables-of (beside m) (m .subjects) (m .objects) next) (figure-of ns)
-    out = f (beside m) (view m) p w (subst (Ends (view m) s p) (sym joins-is) its-ends)
+    out : (m .sure ≡ 1 → Ready (view m) (figure-of (m .needs))) → Ready (tables-of (beside m) (m .subjects) (m .objects) next) (figure-of ns)
+        × ((eqb (m .sure) 1 ≡ true → Safe (view m)) → r ≡ not (safe (tables-of (beside m) (m .subjects) (m .objects) next)))
+    out k = f (beside m) (view m) p w (subst (Ends (view m) s p) (sym joins-is) its-ends)
         (is-vacant (view m) s p (early-passed (view m) (opens (direction b) s o p) z (vacant s p) (inr (inr (inl refl))) tt))
-        (placed ∙ ap (λ (j : Held). with-hand (view m) (place (view m .hand) s p (some j))) (sym joins-is)) (λ q. v (eqb→eq (m .sure) 1 (subst T (sym q) tt)))
+        (placed ∙ ap (λ (j : Held). with-hand (view m) (place (view m .hand) s p (some j))) (sym joins-is)) (λ q. k (eqb→eq (m .sure) 1 (subst T (sym q) tt)))
 
     -- its flow test is the rules'
-    tested : broken (view m) (enough (opens (direction b) s o p)) ≡ r
-    tested = sym (out .0 ∙ ap (λ (u : Tables). not (safe u)) placed)
+    tested : Says m → broken (view m) (enough (opens (direction b) s o p)) ≡ r
+    tested v = sym (out (λ q. v q .1) .1 (λ q. v (eqb→eq (m .sure) 1 (subst T (sym q) tt)) .0) ∙ ap (λ (u : Tables). not (safe u)) placed)
 
-    pub open-late : (q : Bool) → broken (view m) (thawed (direction b) o) ≡ q → Late (view m) (opens (direction b) s o p) r false q
-    open-late q e = record { nine = alone tested; ten = refl; fifteen = alone e }
+    pub open-late : Says m → (q : Bool) → broken (view m) (thawed (direction b) o) ≡ q → Late (view m) (opens (direction b) s o p) r false q
+    open-late v q e = record { nine = alone (tested v); ten = refl; fifteen = alone e }
 
     pub opens-acts : refusal (view m) (opens (direction b) s o p) ≡ none
         → Acts m (opens (direction b) s o p) (allowed (x .level)) (monitor m (m .subjects) (m .objects) next ns)
     opens-acts e = acts m (opens (direction b) s o p) (allowed (x .level)) _ _ refl (open-does (view m) (direction b) s o p x e k) placed
-        (λ k. effect-ready (view m) (opens (direction b) s o p) (figure-of ns) (subst (λ (t : Tables). Ready t (figure-of ns)) placed (out .1)))
+        (λ k. effect-ready (view m) (opens (direction b) s o p) (figure-of ns) (subst (λ (t : Tables). Ready t (figure-of ns)) placed (out (λ q. k) .0)))
+
+    pub opens-keeps : Keeps m (monitor m (m .subjects) (m .objects) next ns)
+    opens-keeps = record { whole = subst Wf (sym placed) (wf-hold (view m) s p (handle (direction b) o) w its-ends); kept = λ k. out (λ q. k) .0; says = refl }
 
   -- ── map ──
-  module _ (s o p : ℕ) (x : Object) (h : Handle) (next : List Handle) (ns : List ℕ) (r : Bool) (w : Wf (view m)) (v : Says m) (z : Refuses (view m) (maps s o p) 0)
+  module _ (s o p : ℕ) (x : Object) (h : Handle) (next : List Handle) (ns : List ℕ) (r : Bool) (w : Wf (view m)) (z : Refuses (view m) (maps s o p) 0)
       (k : view m .at (object o) ≡ object-entry x) (i : h ≡ joining 1 o) (y : next ≡ set (m .handles) (s % 32 * 16 + p % 16) h)
       (f : Opening m (eqb (m .sure) 1) next s h ns r) where
     map-lives : T (live (view m) (subject s))
@@ -533,14 +549,34 @@ module _ (m : Monitor) (g : Long m) where
     map-joins : joins h ≡ handle reading o
     map-joins = ap joins i ∙ ap (handle reading) same-o
 
-    -- what the code works out
-    map-out : (r ≡ not (safe (tables-of (beside m) (m .subjects) (m .objects) next))) × Ready (tables-of (beside m) (m .subjects) (m .objects) next) (figure-of ns)
-    map-out = f (beside m) (view m) p w (subst (Ends (view m) s p) (sym map-joins) (record { from = map-lives; to = map-there; place = map-low-p }))
-        (is-vacant (view m) s p (early-passed (view m) (maps s o p) z (vacant s p) (inr (inr (inr (inl refl)))) tt))
-        (map-placed ∙ ap (λ (j : Held). with-hand (view m) (place (view m .hand) s p (some j))) (sym map-joins)) (λ q. v (eqb→eq (m .sure) 1 (subst T (sym q) tt)))
+    map-ends : Ends (view m) s p (handle reading o)
+    map-ends = record { from = map-lives; to = map-there; place = map-low-p }
 
-    pub map-late : Late (view m) (maps s o p) r false false
-    map-late = record { nine = alone (sym (map-out .0 ∙ ap (λ (u : Tables). not (safe u)) map-placed)); ten = refl; fifteen = refl }
+    map-vacant : view m .hand s p ≡ none
+    map-vacant = is-vacant (view m) s p (early-passed (view m) (maps s o p) z (vacant s p) (inr (inr (inr (inl refl)))) tt)
+
+    -- what the code works out
+    map-out : (m .sure ≡ 1 → Ready (view m) (figure-of (m .needs))) → Ready (tables-of (beside m) (m .subjects) (m .objects) next) (figure-of ns)
+        × ((eqb (m .sure) 1 ≡ true → Safe (view m)) → r ≡ not (safe (tables-of (beside m) (m .subjects) (m .objects) next)))
+    map-out k = f (beside m) (view m) p w (subst (Ends (view m) s p) (sym map-joins) map-ends) map-vacant
+        (map-placed ∙ ap (λ (j : Held). with-hand (view m) (place (view m .hand) s p (some j))) (sym map-joins)) (λ q. k (eqb→eq (m .sure) 1 (subst T (sym q) tt)))
+
+    pub map-late : Says m → Late (view m) (maps s o p) r false false
+    map-late v = record {
+      nine = alone (sym (map-out (λ q. v q .1) .1 (λ q. v (eqb→eq (m .sure) 1 (subst T (sym q) tt)) .0) ∙ ap (λ (u : Tables). not (safe u)) map-placed));
+      ten = refl;
+      fifteen = refl;
+    }
+
+    -- the tables with the mapping and the subject that fell
+    map-stored : (v : Subject) → view (monitor m (set (m .subjects) (s % 32) v) (m .objects) (set (m .handles) (s % 32 * 16 + p % 16) (joining 3 o)) ns)
+        ≡ with-hand (with-at (view m) (put (view m .at) (subject s) (subject-entry v))) (place (view m .hand) s p (some (mapping o)))
+    map-stored v = store-handle (beside m) (set (m .subjects) (s % 32) v) (m .objects) (m .handles) s p (joining 3 o) (g .handles) map-low-s map-low-p
+        ∙ ap (λ (u : Tables). with-hand u (place (u .hand) s p (held (joining 3 o)))) (put-subject s v ns map-low-s)
+        ∙ ap (λ (n : ℕ). with-hand (with-at (view m) (put (view m .at) (subject s) (subject-entry v))) (place (view m .hand) s p (some (mapping n)))) same-o
+
+    map-ready-now : Ready (view m) (figure-of (m .needs)) → Ready (apply (hold s p (some (handle reading o))) (view m)) (figure-of ns)
+    map-ready-now k = subst (λ (t : Tables). Ready t (figure-of ns)) map-placed (map-out (λ q. k) .0)
 
     pub maps-acts : (y v : Subject) (ss : List Subject) (hs : List Handle) (b : Told) → view m .at (subject s) ≡ subject-entry y
         → refusal (view m) (maps s o p) ≡ none → v ≡ fallen-by y (x .level) → ss ≡ set (m .subjects) (s % 32) v
@@ -549,10 +585,27 @@ module _ (m : Monitor) (g : Long m) where
     maps-acts y v ss hs b q e d i j h = rw (i, j) (acts m (maps s o p) b _ _ refl (subst₂ (λ (c : Told) (z : Subject). Does (view m) (maps s o p) c
         (with-hand (with-at (view m) (put (view m .at) (subject s) (subject-entry z))) (place (view m .hand) s p (some (mapping o)))))
         (sym (h ∙ ap (λ (z : Subject). outcome (ltb (z .level) (y .level)) (z .level)) d)) (sym d) (map-does (view m) s o p y x e q k))
-        (store-handle (beside m) (set (m .subjects) (s % 32) v) (m .objects) (m .handles) s p (joining 3 o) (g .handles) map-low-s map-low-p
-        ∙ ap (λ (u : Tables). with-hand u (place (u .hand) s p (held (joining 3 o)))) (put-subject s v ns map-low-s)
-        ∙ ap (λ (n : ℕ). with-hand (with-at (view m) (put (view m .at) (subject s) (subject-entry v))) (place (view m .hand) s p (some (mapping n)))) same-o)
-        (λ k. map-ready (view m) s o p (figure-of ns) w e (subst (λ (t : Tables). Ready t (figure-of ns)) map-placed (map-out .1))))
+        (map-stored v) (λ k. map-ready (view m) s o p (figure-of ns) w e (map-ready-now k)))
+
+    pub maps-keeps : (y v : Subject) (ss : List Subject) (hs : List Handle) → view m .at (subject s) ≡ subject-entry y → v ≡ fallen-by y (x .level)
+        → ss ≡ set (m .subjects) (s % 32) v → hs ≡ set (m .handles) (s % 32 * 16 + p % 16) (joining 3 o) → Keeps m (monitor m ss (m .objects) hs ns)
+    maps-keeps y v ss hs q d i j = rw (i, j) (record {
+      whole = subst Wf (sym now) (wf-enter (apply (hold s p (some (mapping o))) (view m)) (subject s) e outside (lt→ltb s 32 map-low-s) (wf-hold (view m) s p (mapping o) w
+          (record { from = map-lives; to = map-there; place = map-low-p })));
+      kept = λ k. subst (λ (t : Tables). Ready t (figure-of ns)) (sym now) (mapping-ready (view m) s o p e (figure-of ns) w map-lives map-low-p map-vacant (map-ready-now k));
+      says = refl;
+    })
+      where
+        e : Entry
+        e = entry running (label (v .level))
+
+        lives-now : T (is-some (subject-entry y))
+        lives-now = subst (λ (o : Option Entry). T (is-some o)) q (subst T (used-is (view m) (subject s)) (live-of (view m) (subject s) map-lives .1))
+
+        now : view (monitor m (set (m .subjects) (s % 32) v) (m .objects) (set (m .handles) (s % 32 * 16 + p % 16) (joining 3 o)) ns)
+            ≡ apply (enter (subject s) e outside) (apply (hold s p (some (mapping o))) (view m))
+        now = map-stored v ∙ ap (λ (a : Option Entry). with-hand (with-at (view m) (put (view m .at) (subject s) a)) (place (view m .hand) s p (some (mapping o))))
+            (ap subject-entry d ∙ fallen-lives y (x .level) lives-now ∙ ap (λ (a : Subject). some (entry running (label (a .level)))) (sym d))
 
   -- ── exec ──
   module _ (s o : ℕ) (y : Object) (after : List Handle) (ns : List ℕ) (w : Wf (view m)) (z : Refuses (view m) (exec s o) 0)

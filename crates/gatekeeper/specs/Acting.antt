@@ -27,6 +27,12 @@ pub record Acts (m : Monitor) (c : Call) (a : Told) (n : Monitor) : Type 0 where
   pub kept : Ready (view m) (figure-of (m .needs)) → Ready (view n) (figure-of (n .needs))
   pub says : n .sure ≡ m .sure
 
+-- whatever m says of itself, n is such that nothing dangles, says what m said, and keeps needs that are right where those of m were
+pub record Keeps (m n : Monitor) : Type 0 where
+  pub whole : Wf (view n)
+  pub kept : Ready (view m) (figure-of (m .needs)) → Ready (view n) (figure-of (n .needs))
+  pub says : n .sure ≡ m .sure
+
 -- a refusal: its number, and the monitor as it came
 abbrev pub back : Monitor → ℕ → Reply
 back m n = record { monitor = m; answer = Refused n }

@@ -39,9 +39,13 @@ pub record Steady (t : Tables) : Type 0 where
 abbrev pub Honest : Monitor → Type 0
 Honest m = m .sure ≡ 1 → Steady (view m) × Ready (view m) (figure-of (m .needs))
 
--- RULES T15, F11, F19, F20: the struct as a kind of monitor
+-- RULES F12: and tidy if, where it says so, nothing dangles
+abbrev pub Tidy : Monitor → Type 0
+Tidy m = m .sure ≡ 1 → Wf (view m)
+
+-- RULES T15, F11, F12, F19, F20: the struct as a kind of monitor
 abbrev pub monitors : Kind Monitor
-monitors = record { view = view; honest = Honest; right = Right; claim = λ m. m .sure }
+monitors = record { view = view; honest = Honest; tidy = Tidy; right = Right; claim = λ m. m .sure }
 
 -- RULES F16: the kept need of a live thing, 0 for any other
 abbrev pub kept-need : Monitor → Thing → ℕ

@@ -3,10 +3,11 @@
 ghost use mathlib.Core.Path.{_≡_};
 ghost use Rattle.model.specs.Tables.{clean};
 ghost use Rattle.model.specs.Calls.{decode};
+ghost use Rattle.model.specs.Invariant.{Wf};
 ghost use Rattle.model.specs.Promise.{Meets};
 ghost use Rattle.answers.specs.Telling.{told};
-ghost use Rattle.gatekeeper.specs.View.{view, Honest, monitors, direct};
-ghost use Rattle.gatekeeper.specs.Acting.{Firm, Acts};
+ghost use Rattle.gatekeeper.specs.View.{view, Tidy, monitors, direct};
+ghost use Rattle.gatekeeper.specs.Acting.{Firm, Acts, Keeps};
 use crate::Monitor;
 use crate::Reply;
 use crate::SURE;
@@ -14,7 +15,7 @@ use crate::SURE;
 impl Monitor {
     // This monitor where it is sure; else no dangling handle remains.
     fn readied(mut self) -> Monitor
-        ensures tables { λ r. ⌜ (Honest self → view r ≡ clean (view self)) ⌝ }
+        ensures tables { λ r. ⌜ (Tidy self → view r ≡ clean (view self)) ⌝ }
         ensures needs { λ r. ⌜ r .needs ≡ self .needs ⌝ }
         ensures sure { λ r. ⌜ r .sure ≡ self .sure ⌝ }
     {
@@ -31,7 +32,8 @@ impl Monitor {
 
     // A code and six numbers; those that the code does not use are ignored. Nothing dangles in the tables.
     fn dispatch(self, code: u32, a: u32, b: u32, c: u32, d: u32, e: u32, f: u32) -> Reply
-        ensures { λ r. ⌜ (Firm self → Acts self (decode (direct code a b c d e f)) (told (r .answer)) (r .monitor)) ⌝ }
+        ensures acts { λ r. ⌜ (Firm self → Acts self (decode (direct code a b c d e f)) (told (r .answer)) (r .monitor)) ⌝ }
+        ensures keeps { λ r. ⌜ (Wf (view self) → Keeps self (r .monitor)) ⌝ }
     {
         match code {
             1 => self.admit(a, b),

@@ -1,7 +1,9 @@
 // The call that freezes files, on tables in which nothing dangles.
 ghost use Rattle.model.specs.Calls.{freeze};
 ghost use Rattle.answers.specs.Telling.{told};
-ghost use Rattle.gatekeeper.specs.Acting.{Firm, Acts};
+ghost use Rattle.model.specs.Invariant.{Wf};
+ghost use Rattle.gatekeeper.specs.View.{view};
+ghost use Rattle.gatekeeper.specs.Acting.{Acts};
 use crate::Monitor;
 use crate::Reply;
 use answers::Answer;
@@ -9,7 +11,7 @@ use answers::Answer;
 impl Monitor {
     // Call 16: the freeze is this number, in place of the one before it.
     pub(crate) fn freeze(mut self, level: u32) -> Reply
-        ensures { λ r. ⌜ (Firm self → Acts self (freeze level) (told (r .answer)) (r .monitor)) ⌝ }
+        ensures { λ r. ⌜ (Wf (view self) → Acts self (freeze level) (told (r .answer)) (r .monitor)) ⌝ }
     {
         let n = refusals::of_freeze(level);
         if n != 0 {

@@ -1,7 +1,9 @@
 // Calls by which handles and things go, on tables in which nothing dangles.
 ghost use Rattle.model.specs.Calls.{close, exit, retire};
 ghost use Rattle.answers.specs.Telling.{told};
-ghost use Rattle.gatekeeper.specs.Acting.{Firm, Acts};
+ghost use Rattle.model.specs.Invariant.{Wf};
+ghost use Rattle.gatekeeper.specs.View.{view};
+ghost use Rattle.gatekeeper.specs.Acting.{Acts};
 use crate::Monitor;
 use crate::Reply;
 use answers::Answer;
@@ -16,7 +18,7 @@ use tables::looks;
 impl Monitor {
     // Call 11: the place is empty; a pipe ends with its last handle.
     pub(crate) fn close(mut self, s: u32, p: u32) -> Reply
-        ensures { λ r. ⌜ (Firm self → Acts self (close s p) (told (r .answer)) (r .monitor)) ⌝ }
+        ensures { λ r. ⌜ (Wf (view self) → Acts self (close s p) (told (r .answer)) (r .monitor)) ⌝ }
     {
         let subjects = self.subjects;
         let objects = self.objects;
@@ -50,7 +52,7 @@ impl Monitor {
 
     // Call 12: all handles closed, number free; pipes end with their last handles.
     pub(crate) fn exit(mut self, s: u32) -> Reply
-        ensures { λ r. ⌜ (Firm self → Acts self (exit s) (told (r .answer)) (r .monitor)) ⌝ }
+        ensures { λ r. ⌜ (Wf (view self) → Acts self (exit s) (told (r .answer)) (r .monitor)) ⌝ }
     {
         let subjects = self.subjects;
         let x = looks::subject_of(subjects, s);
@@ -78,7 +80,7 @@ impl Monitor {
 
     // Call 13: file gone, number free.
     pub(crate) fn retire(mut self, o: u32) -> Reply
-        ensures { λ r. ⌜ (Firm self → Acts self (retire o) (told (r .answer)) (r .monitor)) ⌝ }
+        ensures { λ r. ⌜ (Wf (view self) → Acts self (retire o) (told (r .answer)) (r .monitor)) ⌝ }
     {
         let objects = self.objects;
         let y = looks::object_of(objects, o);

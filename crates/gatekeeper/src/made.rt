@@ -1,7 +1,9 @@
 // Calls that make things, and that place and mark handles, on tables in which nothing dangles.
 ghost use Rattle.model.specs.Calls.{admit, register, create, make-pipe, opens, fork, mark};
 ghost use Rattle.answers.specs.Telling.{told};
-ghost use Rattle.gatekeeper.specs.Acting.{Firm, Acts};
+ghost use Rattle.model.specs.Invariant.{Wf};
+ghost use Rattle.gatekeeper.specs.View.{view};
+ghost use Rattle.gatekeeper.specs.Acting.{Firm, Acts, Keeps};
 ghost use Rattle.refusals.specs.Refusing.{direction};
 use crate::Monitor;
 use crate::Reply;
@@ -17,7 +19,7 @@ use tables::looks;
 impl Monitor {
     // Call 1: a new subject from outside, with no handles, and so with no need.
     pub(crate) fn admit(mut self, s: u32, level: u32) -> Reply
-        ensures { λ r. ⌜ (Firm self → Acts self (admit s level) (told (r .answer)) (r .monitor)) ⌝ }
+        ensures { λ r. ⌜ (Wf (view self) → Acts self (admit s level) (told (r .answer)) (r .monitor)) ⌝ }
     {
         let before = self.subjects;
         let x = looks::subject_of(before, s);
@@ -40,7 +42,7 @@ impl Monitor {
 
     // Call 2: a new file from outside, which needs its level.
     pub(crate) fn register(mut self, o: u32, level: u32) -> Reply
-        ensures { λ r. ⌜ (Firm self → Acts self (register o level) (told (r .answer)) (r .monitor)) ⌝ }
+        ensures { λ r. ⌜ (Wf (view self) → Acts self (register o level) (told (r .answer)) (r .monitor)) ⌝ }
     {
         let before = self.objects;
         let y = looks::object_of(before, o);
@@ -66,7 +68,7 @@ impl Monitor {
 
     // Call 3: a new empty file at s's level, no handle.
     pub(crate) fn create(mut self, s: u32, o: u32) -> Reply
-        ensures { λ r. ⌜ (Firm self → Acts self (create s o) (told (r .answer)) (r .monitor)) ⌝ }
+        ensures { λ r. ⌜ (Wf (view self) → Acts self (create s o) (told (r .answer)) (r .monitor)) ⌝ }
     {
         let subjects = self.subjects;
         let before = self.objects;
@@ -93,7 +95,7 @@ impl Monitor {
 
     // Call 4: a new empty pipe at s's level; place r reads, w writes. It needs what s needs.
     pub(crate) fn pipe(mut self, s: u32, o: u32, r: u32, w: u32) -> Reply
-        ensures { λ a. ⌜ (Firm self → Acts self (make-pipe s o r w) (told (a .answer)) (a .monitor)) ⌝ }
+        ensures { λ a. ⌜ (Wf (view self) → Acts self (make-pipe s o r w) (told (a .answer)) (a .monitor)) ⌝ }
     {
         let subjects = self.subjects;
         let before = self.objects;
@@ -125,7 +127,8 @@ impl Monitor {
 
     // Calls 5 and 6: a reading or writing handle; no level falls.
     pub(crate) fn open(mut self, reads: bool, s: u32, o: u32, p: u32) -> Reply
-        ensures { λ r. ⌜ (Firm self → Acts self (opens (direction reads) s o p) (told (r .answer)) (r .monitor)) ⌝ }
+        ensures acts { λ r. ⌜ (Firm self → Acts self (opens (direction reads) s o p) (told (r .answer)) (r .monitor)) ⌝ }
+        ensures keeps { λ r. ⌜ (Wf (view self) → Keeps self (r .monitor)) ⌝ }
     {
         let subjects = self.subjects;
         let objects = self.objects;
@@ -159,7 +162,7 @@ impl Monitor {
 
     // Call 9: new subject c, with s's level and the same handles at the same places. It needs what s needs.
     pub(crate) fn fork(mut self, s: u32, c: u32) -> Reply
-        ensures { λ r. ⌜ (Firm self → Acts self (fork s c) (told (r .answer)) (r .monitor)) ⌝ }
+        ensures { λ r. ⌜ (Wf (view self) → Acts self (fork s c) (told (r .answer)) (r .monitor)) ⌝ }
     {
         let before = self.subjects;
         let x = looks::subject_of(before, s);
@@ -188,7 +191,7 @@ impl Monitor {
 
     // Call 15: the handle at place p of s is marked.
     pub(crate) fn mark(mut self, s: u32, p: u32) -> Reply
-        ensures { λ r. ⌜ (Firm self → Acts self (mark s p) (told (r .answer)) (r .monitor)) ⌝ }
+        ensures { λ r. ⌜ (Wf (view self) → Acts self (mark s p) (told (r .answer)) (r .monitor)) ⌝ }
     {
         let subjects = self.subjects;
         let held = self.handles;

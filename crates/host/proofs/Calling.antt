@@ -17,6 +17,7 @@ use Rattle.tally.specs.declared.Tally.{Tally}
 use Rattle.answers.specs.Telling.{letter-of}
 use Rattle.tables.specs.Needs.{figure-of}
 use Rattle.gatekeeper.specs.View.{view, Honest, monitors}
+use Rattle.gatekeeper.specs.View.Laws.{honest-tidy}
 use Rattle.tally.specs.Counting.{counts-of, Tallies}
 use Rattle.host.specs.State.{state-bytes, Sized, monitor-of, tally-of, Stands, state-view, Stored}
 use Rattle.host.specs.Numbers.{answer-number, answer-in, call-number}
@@ -68,7 +69,7 @@ module _ {s : List ℕ} {c : Call} {m : Monitor} {y : Tally} {a : Answer} {n : M
       let q : refusal t c ≡ some k = answered-refused t c k .0 (sym answered ∙ r) in
       record {
         size = size;
-        meets = record { unchanged = λ j w. refl; answered = λ u. refl; moved = λ u w. absurd (Option·none-ne-some k (sym w ∙ q)); stays = λ u. u; says = λ u. refl; kept = λ u r. r };
+        meets = record { unchanged = λ j w. refl; answered = λ u. refl; moved = λ u w. absurd (Option·none-ne-some k (sym w ∙ q)); stays = λ u. u; neat = λ u. u; says = λ u. refl; kept = λ u r. r };
         counts = rw (q, tallied);
         exact = λ w. absurd (Option·none-ne-some k (sym w ∙ q));
       }
@@ -82,8 +83,9 @@ module _ {s : List ℕ} {c : Call} {m : Monitor} {y : Tally} {a : Answer} {n : M
       answered = λ u. refl;
       moved = λ u w. k .tables ∙ meets-here .moved honest w;
       stays = λ u. u;
+      neat = λ u. u;
       says = λ u. refl;
-      kept = λ u r. subst₂ (λ (u : Tables) (ns : List ℕ). Ready (clean u) (figure-of ns)) (sym (k .tables)) (sym (k .needs)) (meets-here .kept honest r);
+      kept = λ u r. subst₂ (λ (u : Tables) (ns : List ℕ). Ready (clean u) (figure-of ns)) (sym (k .tables)) (sym (k .needs)) (meets-here .kept (honest-tidy (monitor-of s) honest) r);
     };
     counts = ap counts-of (k .tally)
         ∙ p .counts .counts honest-here

@@ -207,7 +207,7 @@ state-honest s = Unit {0}
 
 -- RULES F19: the bytes as a kind of monitor, which claims nothing
 abbrev pub stored-kind : Kind (List ℕ)
-stored-kind = record { view = state-view; honest = state-honest; right = state-right; claim = λ s. 0 }
+stored-kind = record { view = state-view; honest = state-honest; tidy = state-honest; right = state-right; claim = λ s. 0 }
 
 -- as what it is stored: the freeze says that there is none, and all else is 0
 unfoldable pub blank-bytes : List ℕ

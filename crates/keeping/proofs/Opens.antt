@@ -31,7 +31,7 @@ use Rattle.keeping.proofs.Closing.{mine-is, its-is}
 pub opened-wf : (t : Tables) (s p : ℕ) (h : Handle) → Wf t → Ends t s p (joins h) → Wf (apply (hold s p (some (joins h))) t)
 opened-wf t s p h w e = wf-hold t s p (joins h) w e
 
-module _ (n : List ℕ) (t : Tables) (s p : ℕ) (h : Handle) (w : Wf t) (e : Ends t s p (joins h)) (v : t .hand s p ≡ none) (f : Safe t) (k : Ready t (figure-of n))
+module _ (n : List ℕ) (t : Tables) (s p : ℕ) (h : Handle) (w : Wf t) (e : Ends t s p (joins h)) (v : t .hand s p ≡ none) (k : Ready t (figure-of n))
     (q : falls-by (reads-by (h .way)) (getD n (s % 32) 0) (getD n (32 + h .object % 64) 0) ≡ true) where
   u : Tables
   u = apply (hold s p (some (joins h))) t
@@ -59,9 +59,9 @@ module _ (n : List ℕ) (t : Tables) (s p : ℕ) (h : Handle) (w : Wf t) (e : En
   unfolding u
   quiet-ready = ready-same (λ x l. elim (step-lived (hold s p (some (joins h))) t x l) [ inl m ↦ (m, same x) | inr m ↦ absurd m ]) k
 
-  pub quiet-safe : false ≡ not (safe (apply (hold s p (some (joins h))) t))
+  pub quiet-safe : Safe t → false ≡ not (safe (apply (hold s p (some (joins h))) t))
   unfolding u
-  quiet-safe = ap not (sym (is-true (safe u) (safe-complete u (record { above = λ x d z. subst (λ (a : Label). a ⊑ d .label) (sym (same x)) (f .above x d z) }))))
+  quiet-safe f = ap not (sym (is-true (safe u) (safe-complete u (record { above = λ x d z. subst (λ (a : Label). a ⊑ d .label) (sym (same x)) (f .above x d z) }))))
 
 -- the quick test's two parts
 pub quiet-parts : (a b : Bool) → (a && b) ≡ true → (a ≡ true) × (b ≡ true)

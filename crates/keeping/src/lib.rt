@@ -105,8 +105,9 @@ pub fn opened(
     h: Handle,
 ) -> Opening
     ensures { λ r. ⌜ ((rest : Tables) (t : Tables) (p : ℕ) → Wf t → Ends t s p (joins h) → t .hand s p ≡ none →
-        tables-of rest subjects objects handles ≡ apply (hold s p (some (joins h))) t → (sure ≡ true → Safe t × Ready t (figure-of n)) →
-        (r .short ≡ not (safe (tables-of rest subjects objects handles))) × Ready (tables-of rest subjects objects handles) (figure-of (r .needs))) ⌝ }
+        tables-of rest subjects objects handles ≡ apply (hold s p (some (joins h))) t → (sure ≡ true → Ready t (figure-of n)) →
+        Ready (tables-of rest subjects objects handles) (figure-of (r .needs))
+        × ((sure ≡ true → Safe t) → r .short ≡ not (safe (tables-of rest subjects objects handles)))) ⌝ }
 {
     if is_quiet(sure, n, s, h) {
         return Opening {

@@ -18,12 +18,14 @@ pub mod Laws
 abbrev pub Same-but-free : {M : Type 0} → (M → Tables) → M → M → Type 0
 Same-but-free view m n = view m ≡ view n
 
--- a kind of monitor, whose values are of type M
+-- RULES F11, F12, F19: a kind of monitor, whose values are of type M
 pub record Kind (M : Type 0) : Type 1 where
   -- its tables
   pub view : M → Tables
   -- what it claims of itself is so
   pub honest : M → Type 0
+  -- of what it claims, that nothing dangles is so
+  pub tidy : M → Type 0
   -- what it keeps beside the tables is right
   pub right : M → Type 0
   -- what it claims, as a number
@@ -37,11 +39,12 @@ pub record Meets {M : Type 0} (k : Kind M) (m : M) (c : Call) (a : Answer) (n : 
   pub answered : k .honest m → a ≡ answer (clean (k .view m)) c
   -- RULES T19: any other hands back the rules' next tables, in which nothing dangles (`effect-wf` in Calls/Dangling); the free part is any
   pub moved : k .honest m → refusal (clean (k .view m)) c ≡ none → k .view n ≡ effect (clean (k .view m)) c
-  -- RULES F20: what is honest stays so, and claims what it claimed
+  -- RULES F20: what is honest stays so
   pub stays : k .honest m → k .honest n
-  pub says : k .honest m → k .claim n ≡ k .claim m
-  -- RULES F12: where what is kept is right, it still is, whether the call is refused or not
-  pub kept : k .honest m → k .right m → k .right n
+  -- RULES F12, F20: what is tidy stays so, and claims what it claimed; and where what is kept is right, it still is, whether the call is refused or not
+  pub neat : k .tidy m → k .tidy n
+  pub says : k .tidy m → k .claim n ≡ k .claim m
+  pub kept : k .tidy m → k .right m → k .right n
 
 -- the calls of a list, made one after the other
 pub data Runs {M : Type 0} (k : Kind M) : M → List Raw → List Answer → M → Type 0 where

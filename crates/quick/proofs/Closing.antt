@@ -32,10 +32,10 @@ use Rattle.passes.specs.Working.{demands}
 use Rattle.keeping.proofs.Closing.{apart-ready, zero-ready, backed-ready, object-then}
 use Rattle.gatekeeper.specs.declared.Monitor.{Monitor}
 use Rattle.gatekeeper.specs.View.{view, direct}
-use Rattle.gatekeeper.specs.Acting.{Firm, Acts, back}
+use Rattle.gatekeeper.specs.Acting.{Acts, back}
 use Rattle.gatekeeper.proofs.Owned.{Long}
 use Rattle.gatekeeper.proofs.Doing.{found-live}
-use Rattle.gatekeeper.proofs.Acting.{stops, goes}
+use Rattle.gatekeeper.proofs.Acting.{stops, goes, acts-keeps}
 use Rattle.gatekeeper.proofs.Storing.{subject-got, handle-got, closes}
 use Rattle.quick.specs.Parts.{Whole, subjects-in, objects-in, handles-in, monitor-in, tally-in, Beside, Done}
 use Rattle.quick.specs.Parts.Laws.{length-objects}
@@ -65,12 +65,12 @@ module _ (sb ob hb nb cs : List ℕ) (fz su s p : ℕ) (w : Whole sb ob hb nb cs
   g : Long m
   g = whole-long sb ob hb nb cs fz su w
 
-  asked : Firm m → Refuses (view m) c n
-  asked firm = f (view m) s p (firm .wf) (subject-got m g s x ex) (handle-got m g s p h eh) .0
+  asked : Wf (view m) → Refuses (view m) c n
+  asked v = f (view m) s p v (subject-got m g s x ex) (handle-got m g s p h eh) .0
 
   pub close-refused : (n ≡ 0 → ⊥) → (r : ℕ) → r ≡ 20992 + n → n < 256
       → Done (monitor-in sb ob hb nb fz su) (tally-in cs) (direct 11 s p 0 0 0 0) r (monitor-in sb ob hb nb fz su) (tally-in cs)
-  close-refused z = refusing sb ob hb nb cs fz su (direct 11 s p 0 0 0 0) c (close-is s p) one n (λ firm. stops m c n (back m n) (asked firm) z refl)
+  close-refused z = refusing sb ob hb nb cs fz su (direct 11 s p 0 0 0 0) c (close-is s p) one n (λ firm. stops m c n (back m n) (asked (firm .wf)) z refl)
 
   -- the object outlives the handle, and no need changes
   module _ (z : n ≡ 0) (y : Object) (ey : y ≡ object-at (h .object) (getD (objects-in ob) (h .object % 64) no-object))
@@ -102,11 +102,11 @@ module _ (sb ob hb nb cs : List ℕ) (fz su s p : ℕ) (w : Whole sb ob hb nb cs
         go (yes e) (no o) = backed-ready nb t s p h v j k y (object-then rest ss (objects-in ob) hs t s p (h .object) y (length-objects ob) q ey)
             (sym (ap₂ (λ (a b : Bool). not a || (b || (reads-by (h .way) && demands y (getD nb (s % 32) 0)))) (eq-eqb _ _ e) (ne-eqb _ 0 o)) ∙ quiet)
 
-    acted : (hb′ : List ℕ) → handles-in hb′ ≡ set (handles-in hb) (s % 32 * 16 + p % 16) no-handle → Firm m → Acts m c (allowed (x .level)) (monitor-in sb ob hb′ nb fz su)
+    acted : (hb′ : List ℕ) → handles-in hb′ ≡ set (handles-in hb) (s % 32 * 16 + p % 16) no-handle → Wf (view m) → Acts m c (allowed (x .level)) (monitor-in sb ob hb′ nb fz su)
     unfolding hs
-    acted hb′ put firm = subst (λ (l : List Handle). Acts m c (allowed (x .level)) (record { subjects = subjects-in sb; objects = objects-in ob; handles = l; freeze = fz; needs = nb; sure = su }))
+    acted hb′ put v = subst (λ (l : List Handle). Acts m c (allowed (x .level)) (record { subjects = subjects-in sb; objects = objects-in ob; handles = l; freeze = fz; needs = nb; sure = su }))
         (sym put)
-        (closes m g s p x h y y (objects-in ob) hs nb (firm .wf) free (subject-got m g s x ex) there ey refl outlives
+        (closes m g s p x h y y (objects-in ob) hs nb v free (subject-got m g s x ex) there ey refl outlives
         (same-set (objects-in ob) (h .object % 64) no-object y (omega (arith, length-objects ob)) (ey ∙ ap (λ (b : Bool). cond b (getD (objects-in ob) (h .object % 64) no-object) no-object) (lt-ltb (h .object) 64 low)))
         kept)
       where
@@ -114,13 +114,13 @@ module _ (sb ob hb nb cs : List ℕ) (fz su s p : ℕ) (w : Whole sb ob hb nb cs
         there = handle-got m g s p h eh
 
         free : refusal (view m) c ≡ none
-        free = goes (asked firm) z
+        free = goes (asked v) z
 
         low : h .object < 64
-        low = ltb→lt (h .object) 64 (live-of (view m) (object (h .object)) (found-live (view m) (firm .wf) c s p h free (inr (inl refl)) there) .0)
+        low = ltb→lt (h .object) 64 (live-of (view m) (object (h .object)) (found-live (view m) v c s p h free (inr (inl refl)) there) .0)
 
     pub close-done : (hb′ cs′ : List ℕ) → handles-in hb′ ≡ set (handles-in hb) (s % 32 * 16 + p % 16) no-handle
         → cs′ ≡ set (set cs 0 (wrapped (getD cs 0 0 + 0))) 1 (wrapped (getD cs 1 0 + 1)) → (r : ℕ) → r ≡ 16640 + x .level → x .level < 256
         → Done (monitor-in sb ob hb nb fz su) (tally-in cs) (direct 11 s p 0 0 0 0) r (monitor-in sb ob hb′ nb fz su) (tally-in cs′)
-    close-done hb′ cs′ put count = allowing sb ob hb nb cs fz su (direct 11 s p 0 0 0 0) c (close-is s p) one (x .level) hb′ cs′ (acted hb′ put)
+    close-done hb′ cs′ put count = allowing sb ob hb nb cs fz su (direct 11 s p 0 0 0 0) c (close-is s p) one (x .level) hb′ cs′ (λ firm. acted hb′ put (firm .wf)) (λ v. acts-keeps v (acted hb′ put v))
         (λ t. ap (λ (l : List ℕ). getD l 0 0) count ∙ counted-made cs (w .counts) _ _) (λ t. ap (λ (l : List ℕ). getD l 1 0) count ∙ counted-gone cs (w .counts) _ _)

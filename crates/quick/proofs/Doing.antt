@@ -8,11 +8,12 @@ use lib.Seq.{getD-set-same, getD-set-other}
 use Rattle.model.specs.Tables.{Tables, clean}
 use Rattle.model.specs.Calls.{Call, Raw, decode, refused, allowed, answer}
 use Rattle.model.specs.Calls.{Answer as Told}
+use Rattle.model.specs.Invariant.{Wf}
 use Rattle.model.specs.Promise.{Meets}
 use Rattle.model.specs.Tally.{makes, removes, wrapped}
 use Rattle.gatekeeper.specs.declared.Monitor.{Monitor}
 use Rattle.gatekeeper.specs.View.{view, monitors}
-use Rattle.gatekeeper.specs.Acting.{Firm, Acts}
+use Rattle.gatekeeper.specs.Acting.{Firm, Acts, Keeps}
 use Rattle.gatekeeper.proofs.Owned.{Long}
 use Rattle.gatekeeper.proofs.Acting.{straight}
 use Rattle.tally.specs.Counting.{counts-of}
@@ -31,6 +32,7 @@ module _ (sb ob hb nb cs : List ℕ) (fz su : ℕ) (r : Raw) (c : Call) (is : de
   module _ (k : ℕ) (z : Firm (monitor-in sb ob hb nb fz su) → Acts (monitor-in sb ob hb nb fz su) c (refused k) (monitor-in sb ob hb nb fz su)) where
     refused-meets : Meets monitors m (decode r) (refused k) m
     refused-meets = straight m m (decode r) (refused k) one (λ j w. refl) (subst (λ (d : Call). (Firm m → Acts m d (refused k) m)) (sym is) z)
+        (λ v. record { whole = v; kept = λ h. h; says = refl })
 
     pub refusing : (n : ℕ) → n ≡ 20992 + k → k < 256 → Done (monitor-in sb ob hb nb fz su) (tally-in cs) r n (monitor-in sb ob hb nb fz su) (tally-in cs)
     refusing n e b = record {
@@ -46,10 +48,11 @@ module _ (sb ob hb nb cs : List ℕ) (fz su : ℕ) (r : Raw) (c : Call) (is : de
 
   -- a call that is allowed; hb′ are the handles after it, and cs′ the counts
   module _ (l : ℕ) (hb′ cs′ : List ℕ) (z : Firm (monitor-in sb ob hb nb fz su) → Acts (monitor-in sb ob hb nb fz su) c (allowed l) (monitor-in sb ob hb′ nb fz su))
+      (y : Wf (view (monitor-in sb ob hb nb fz su)) → Keeps (monitor-in sb ob hb nb fz su) (monitor-in sb ob hb′ nb fz su))
       (made : (t : Tables) → getD cs′ 0 0 ≡ wrapped (getD cs 0 0 + makes t c)) (gone : (t : Tables) → getD cs′ 1 0 ≡ wrapped (getD cs 1 0 + removes t c)) where
     allowed-meets : Meets monitors m (decode r) (allowed l) (monitor-in sb ob hb′ nb fz su)
     allowed-meets = straight m (monitor-in sb ob hb′ nb fz su) (decode r) (allowed l) one (λ j w. never w)
-        (subst (λ (d : Call). (Firm m → Acts m d (allowed l) (monitor-in sb ob hb′ nb fz su))) (sym is) z)
+        (subst (λ (d : Call). (Firm m → Acts m d (allowed l) (monitor-in sb ob hb′ nb fz su))) (sym is) z) y
 
     pub allowing : (n : ℕ) → n ≡ 16640 + l → l < 256 → Done (monitor-in sb ob hb nb fz su) (tally-in cs) r n (monitor-in sb ob hb′ nb fz su) (tally-in cs′)
     allowing n e b = record {

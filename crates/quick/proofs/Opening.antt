@@ -28,7 +28,7 @@ use Rattle.gatekeeper.specs.View.{view, direct}
 use Rattle.gatekeeper.specs.Acting.{Firm, back, way-by}
 use Rattle.gatekeeper.proofs.Owned.{Long}
 use Rattle.gatekeeper.proofs.Acting.{stops, ends, waits, frees}
-use Rattle.gatekeeper.proofs.Storing.{subject-got, object-got, handle-got, Opening, open-late, opens-acts}
+use Rattle.gatekeeper.proofs.Storing.{subject-got, object-got, handle-got, Opening, open-late, opens-acts, opens-keeps}
 use Rattle.quick.specs.Parts.{Whole, subjects-in, objects-in, handles-in, monitor-in, tally-in, Done}
 use Rattle.quick.proofs.Doing.{refusing, allowing, whole-long, counted-made, counted-gone}
 
@@ -61,13 +61,13 @@ module _ (sb ob hb nb cs : List ℕ) (fz su code s o p : ℕ) (w : Whole sb ob h
   there : view m .at (object o) ≡ object-entry y
   there = object-got m g o y ey
 
-  asked : Firm m → Refuses (view m) c n
-  asked firm = f (view m) (direction b) s o (firm .wf) (subject-got m g s x ex) there (handle-got m g s p h eh)
+  asked : Wf (view m) → Refuses (view m) c n
+  asked v = f (view m) (direction b) s o v (subject-got m g s x ex) there (handle-got m g s p h eh)
 
   -- a row over records refuses it
   pub open-refused : (n ≡ 0 → ⊥) → (r : ℕ) → r ≡ 20992 + n → n < 256
       → Done (monitor-in sb ob hb nb fz su) (tally-in cs) (direct code s o p 0 0 0) r (monitor-in sb ob hb nb fz su) (tally-in cs)
-  open-refused z = refusing sb ob hb nb cs fz su (direct code s o p 0 0 0) c (opens-is code s o p e) one n (λ firm. stops m c n (back m n) (asked firm) z refl)
+  open-refused z = refusing sb ob hb nb cs fz su (direct code s o p 0 0 0) c (opens-is code s o p e) one n (λ firm. stops m c n (back m n) (asked (firm .wf)) z refl)
 
   -- the flow falls
   module _ (z : n ≡ 0) (new : Handle) (en : new ≡ joining (way-by (eqb code 5)) o) (down : falls-by (eqb code 5) (getD nb (s % 32) 0) (getD nb (32 + o % 64) 0) ≡ true)
@@ -83,8 +83,8 @@ module _ (sb ob hb nb cs : List ℕ) (fz su code s o p : ℕ) (w : Whole sb ob h
 
     quiet : (next : List Handle) → Opening m (eqb (m .sure) 1) next s new nb false
     quiet next rest t p w e v q k = let f = k (eq-eqb (m .sure) 1 one) in (
-      quiet-safe nb t s p new w e v (f .0) (f .1) down-new ∙ ap (λ (u : Tables). not (safe u)) (sym q),
-      subst (λ (u : Tables). Ready u (figure-of nb)) (sym q) (quiet-ready nb t s p new w e v (f .0) (f .1) down-new),
+      subst (λ (u : Tables). Ready u (figure-of nb)) (sym q) (quiet-ready nb t s p new w e v f down-new),
+      λ j. quiet-safe nb t s p new w e v f down-new (j (eq-eqb (m .sure) 1 one)) ∙ ap (λ (u : Tables). not (safe u)) (sym q),
     )
 
     next : List Handle
@@ -92,7 +92,7 @@ module _ (sb ob hb nb cs : List ℕ) (fz su code s o p : ℕ) (w : Whole sb ob h
 
     said : Firm m → Refused (view m) c late
     unfolding next tables-of
-    said firm = el (view m) c (waits (asked firm) z) (open-late m g b s o p y new next nb false (firm .wf) (firm .safe) (waits (asked firm) z) there en refl (quiet next) frozen
+    said firm = el (view m) c (waits (asked (firm .wf)) z) (open-late m g b s o p y new next nb false (firm .wf) (waits (asked (firm .wf)) z) there en refl (quiet next) (firm .safe) frozen
         (ef (view m) o refl there))
 
     pub open-frozen : (late ≡ 0 → ⊥) → (r : ℕ) → r ≡ 20992 + late → late < 256
@@ -104,6 +104,7 @@ module _ (sb ob hb nb cs : List ℕ) (fz su code s o p : ℕ) (w : Whole sb ob h
         → Done (monitor-in sb ob hb nb fz su) (tally-in cs) (direct code s o p 0 0 0) r (monitor-in sb ob hb′ nb fz su) (tally-in cs′)
     unfolding next
     open-done q hb′ cs′ put count = allowing sb ob hb nb cs fz su (direct code s o p 0 0 0) c (opens-is code s o p e) one (y .level) hb′ cs′
-        (λ firm. opens-acts m g b s o p y new (handles-in hb′) nb false (firm .wf) (firm .safe) (waits (asked firm) z) there en put (quiet (handles-in hb′)) (frees (said firm) q))
+        (λ firm. opens-acts m g b s o p y new (handles-in hb′) nb false (firm .wf) (waits (asked (firm .wf)) z) there en put (quiet (handles-in hb′)) (frees (said firm) q))
+        (λ v. opens-keeps m g b s o p y new (handles-in hb′) nb false v (waits (asked v) z) there en put (quiet (handles-in hb′)))
         (λ t. ap (λ (l : List ℕ). getD l 0 0) count ∙ counted-made cs (w .counts) _ _)
         (λ t. ap (λ (l : List ℕ). getD l 1 0) count ∙ counted-gone cs (w .counts) _ _)

@@ -39,6 +39,7 @@ mod c {
         pub fn gatekeeper_put_right(state: *mut u8, len: usize) -> bool;
         pub fn gatekeeper_frozen_from(state: *const u8, len: usize) -> u32;
         pub fn gatekeeper_monitor_empty(monitor: *mut State);
+        pub fn gatekeeper_monitor_assure(monitor: *mut State) -> u32;
         pub fn gatekeeper_monitor_call(
             monitor: *mut State,
             code: u32,
@@ -160,6 +161,11 @@ pub fn frozen_from(state: &[u8]) -> u32 {
 
 pub fn monitor_empty(monitor: &mut State) {
     unsafe { c::gatekeeper_monitor_empty(monitor) }
+}
+
+/// Whether calls may now rely on what the monitor keeps.
+pub fn monitor_assure(monitor: &mut State) -> bool {
+    unsafe { c::gatekeeper_monitor_assure(monitor) == 1 }
 }
 
 #[inline]

@@ -7,6 +7,7 @@ use crate::answer::Answer;
 use crate::archive;
 use crate::call::{Call, NO_FREEZE};
 use crate::look::{Handle, Kind, Object, Way, OBJECTS, PLACES, SUBJECTS};
+use crate::monitor::Monitor;
 
 /// The codes of the calls that are tried in place first.
 const OPEN_READ: u32 = 5;
@@ -152,8 +153,9 @@ impl State {
         (u32::from(self.freeze) < NO_FREEZE).then_some(self.freeze)
     }
 
-    /// Whether the state says of itself that calls made it, from the empty one on: the header's `sure`. It does, and
-    /// every call leaves that so: that is tested, not proved, and only speed goes by it.
+    /// Whether calls go by what the state keeps, and look for no dangling handle: the header's `sure`. They do, and
+    /// every call leaves that so, but for a state that was filled from bytes in which some level is below its need
+    /// ([`State::from`] a monitor), on which calls are slow.
     pub fn is_sure(&self) -> bool {
         self.sure == 1
     }
@@ -246,6 +248,59 @@ impl State {
     }
 }
 
+/// The state of the same tables, freeze and counts, as from bytes that were kept. It is put right and made sure, so
+/// that calls on it are as fast as on one that started empty; but where some level is below its need, which calls never
+/// make, it stays one that is not sure ([`State::is_sure`]) and has the rules' answers slowly.
+///
+/// ```
+/// use gatekeeper::{Call, Monitor, Refusal, State};
+///
+/// let mut monitor = Monitor::new();
+/// monitor.admit(0, 9).granted()?;
+/// monitor.register(1, 7).granted()?;
+/// monitor.open_write(0, 1, 4).granted()?;
+///
+/// let state = State::from(&monitor);
+/// assert!(state.is_sure());
+/// assert_eq!((state.subject(0), state.need_of_subject(0), state.open()), (Some(9), Some(7), 1));
+/// # Ok::<(), Refusal>(())
+/// ```
+impl From<&Monitor> for State {
+    fn from(monitor: &Monitor) -> State {
+        let mut state = State::new();
+        for s in 0..SUBJECTS {
+            if let Some(level) = monitor.subject(s) {
+                state.subjects[s as usize] = SubjectRecord { live: 1, level };
+            }
+            for p in 0..PLACES {
+                if let Some(Handle { way, object, marked }) = monitor.handle(s, p) {
+                    let way = match way {
+                        Way::Reads => 1,
+                        Way::Writes => 2,
+                        Way::Maps => 3,
+                    };
+                    state.handles[(PLACES * s + p) as usize] =
+                        HandleRecord { way, object, mark: marked.into() };
+                }
+            }
+        }
+        for o in 0..OBJECTS {
+            if let Some(Object { kind, level }) = monitor.object(o) {
+                let kind = match kind {
+                    Kind::File => 1,
+                    Kind::Pipe => 2,
+                };
+                state.objects[o as usize] = ObjectRecord { kind, level };
+            }
+        }
+        state.freeze = monitor.frozen_from().unwrap_or(NO_FREEZE as u8);
+        state.counts = [monitor.made(), monitor.gone()];
+        state.sure = 0;
+        archive::monitor_assure(&mut state);
+        state
+    }
+}
+
 impl Default for State {
     fn default() -> State {
         State::new()
@@ -314,6 +369,53 @@ mod tests {
         assert!((0..=SUBJECTS).all(|s| state.subject(s).is_none() && state.need_of_subject(s).is_none()));
         assert!((0..=OBJECTS).all(|o| state.object(o).is_none() && state.need_of_object(o).is_none()));
         assert!((0..=SUBJECTS).all(|s| (0..=PLACES).all(|p| state.handle(s, p).is_none())));
+    }
+
+    /// From a monitor that calls made: sure, with its tables and counts, and right.
+    #[test]
+    fn a_state_from_kept_bytes_is_sure() {
+        let calls = [
+            Call::Register { object: 0, level: 7 },
+            Call::Admit { subject: 0, level: 12 },
+            Call::Pipe { subject: 0, object: 5, reads: 0, writes: 1 },
+            Call::OpenWrite { subject: 0, object: 0, place: 2 },
+            Call::Mark { subject: 0, place: 0 },
+            Call::Freeze { level: 5 },
+        ];
+        let mut monitor = Monitor::new();
+        for call in calls {
+            assert!(monitor.call(call).granted().is_ok());
+        }
+        let state = State::from(&monitor);
+        assert!(state.is_sure() && state == after(&calls));
+        assert!(State::from(&Monitor::new()) == State::new());
+    }
+
+    /// From a monitor in which a step is below its need: not sure, and answered as the bytes are.
+    #[test]
+    fn a_state_below_its_need_is_not_sure() {
+        let mut monitor = Monitor::new();
+        for call in [
+            Call::Register { object: 0, level: 9 },
+            Call::Register { object: 1, level: 3 },
+            Call::Admit { subject: 0, level: 9 },
+            Call::OpenWrite { subject: 0, object: 0, place: 0 },
+        ] {
+            assert!(monitor.call(call).granted().is_ok());
+        }
+        let mut bytes = *monitor.as_bytes();
+        bytes[1] = 2; // the level of subject 0
+        let mut monitor = Monitor::from_bytes(bytes);
+        assert_eq!((monitor.subject(0), monitor.need_of_subject(0)), (Some(2), Some(9)));
+        let mut state = State::from(&monitor);
+        assert!(!state.is_sure());
+        // An open whose flow falls by the needs is refused all the same, since a step is below its need.
+        let open = Call::OpenWrite { subject: 0, object: 1, place: 1 };
+        assert_eq!(
+            (state.call(open), monitor.call(open)),
+            (Answer::Refused(Refusal::Flow), Answer::Refused(Refusal::Flow))
+        );
+        assert!(!state.is_sure());
     }
 
     #[test]

@@ -8,12 +8,13 @@ use Rattle.model.specs.Invariant.Laws.{empty-wf, clean-same}
 use Rattle.model.specs.Calls.{Raw, decode, Answer, answers}
 use Rattle.model.specs.Calls.Sayable.{always-sayable}
 use Rattle.model.specs.Promise.{Meets, Runs}
-use Rattle.model.specs.Promise.Laws.{cleaned-runs, runs-right, runs-claim}
+use Rattle.model.specs.Promise.Laws.{cleaned-runs, runs-right, runs-honest, runs-claim}
 use Rattle.model.specs.Promise.{done as stop, then as go}
 use Rattle.model.specs.Demand3.{Demand3}
 use Rattle.model.specs.Demand3.Laws.{demand3}
 use Rattle.host.specs.declared.lent.State.{State}
 use Rattle.gatekeeper.specs.declared.Monitor.{Monitor}
+use Rattle.gatekeeper.specs.View.Laws.{honest-tidy}
 use Rattle.tally.specs.declared.Tally.{Tally}
 use Rattle.quick.specs.Parts.{Done}
 use Rattle.host.specs.Numbers.{answer-in}
@@ -27,6 +28,7 @@ done-meets {x} {y} {r} d = subst (λ (a : Answer). Meets lent-kind x (decode r) 
   answered = d .meets .answered;
   moved = d .meets .moved;
   stays = d .meets .stays;
+  neat = d .meets .neat;
   says = d .meets .says;
   kept = d .meets .kept;
 })
@@ -44,11 +46,11 @@ module _ (x y : State) (rs : List Raw) (l : List Answer) (b : Begins x) (c : Len
 
   -- RULES F12: the kept needs that then stand in the struct are right
   pub lent-needs : lent-right y
-  lent-needs = runs-right lent-kind rs x y l (b .honest) (lent-run x y rs l c) (b .right)
+  lent-needs = runs-right lent-kind rs x y l (honest-tidy (x .monitor) (b .honest)) (lent-run x y rs l c) (b .right)
 
   -- RULES F20: and the struct is honest and says that it is sure, so that calls on it go by what it keeps
   pub lent-sure : lent-honest y × (y .monitor .sure ≡ 1)
-  lent-sure = let k = runs-claim lent-kind rs x y l (b .honest) (lent-run x y rs l c) in (k .0, k .1 ∙ b .sure)
+  lent-sure = (runs-honest lent-kind rs x y l (b .honest) (lent-run x y rs l c), runs-claim lent-kind rs x y l (honest-tidy (x .monitor) (b .honest)) (lent-run x y rs l c) ∙ b .sure)
 
   -- and each answer gives a level of 0 to 15, to a freeze 0 to 16, or the number of a refusal that calls have
   pub lent-sayable : All-sayable rs l

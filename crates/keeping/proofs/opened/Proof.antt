@@ -1,4 +1,4 @@
--- `flows::kept::opened` meets its contract. Assumes nothing.
+-- `keeping::opened` meets its contract. Assumes nothing.
 use mathlib.Core.Path.{sym, _∙_, ap, subst}
 use mathlib.Core.Bool.{not}
 use borrow.Author.Needs.{needs}
@@ -19,8 +19,8 @@ returns c =
     let a = c .before .before .args in
     let z = quiet-parts _ _ (sym (c .before .is-quiet .ensures) ∙ c .if1 .taken) in
     λ rest t p w e v q k. let f = k (z .0) in (
-      quiet-safe (a .n) t (a .s) p (a .h) w e v (f .0) (f .1) (z .1) ∙ ap (λ (u : Tables). not (safe u)) (sym q),
-      subst (λ (u : Tables). Ready u (figure-of (a .n))) (sym q) (quiet-ready (a .n) t (a .s) p (a .h) w e v (f .0) (f .1) (z .1)),
+      subst (λ (u : Tables). Ready u (figure-of (a .n))) (sym q) (quiet-ready (a .n) t (a .s) p (a .h) w e v f (z .1)),
+      λ g. quiet-safe (a .n) t (a .s) p (a .h) w e v f (z .1) (g (z .0)) ∙ ap (λ (u : Tables). not (safe u)) (sym q),
     )
 
 figures-requires : tie.Need-figures-requires
@@ -34,7 +34,7 @@ returns-2 c =
     let a = c .before .before .before .before .args in
     λ rest t p w e v q k. let u = subst Wf (sym q) (opened-wf t (a .s) p (a .h) w e) in
     let r = anew rest (a .subjects) (a .objects) (a .handles) _ (c .before .figures .ensures rest (a .subjects) u) in
-    (c .is-short .ensures rest (a .handles) u r, r)
+    (r, λ g. c .is-short .ensures rest (a .handles) u r)
 
 pub opened-spec : {M : Type 1} → statement M
 opened-spec = tie.close (tie.spec is-quiet-requires returns figures-requires is-short-requires returns-2)

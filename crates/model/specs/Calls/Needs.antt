@@ -76,6 +76,20 @@ effect-needs t c = needs-reap (handles t) (applies (steps t c) t)
 pub mix-needs : (t : Tables) (m : Access) (a b y x : Thing) (z : Thing) → needs (apply (mix m a b y x) t) z ≡ needs t z
 mix-needs t m a b y x = needs-at t (sink t y (t .at x)) (λ z. sink-by (λ w o. demand w o ≡ demand w (t .at w)) t y (t .at x) z refl (λ b. fall-demand z (t .at z) (t .at x)))
 
+-- a subject has another entry
+pub subject-needs : (t : Tables) (s : ℕ) (v : Option Entry) (x : Thing) → needs (with-at t (put (t .at) (subject s) v)) x ≡ needs t x
+subject-needs t s v = needs-at t (put (t .at) (subject s) v) demands
+  where
+    none-asked : (n : ℕ) (a b : Option Entry) → demand (subject n) a ≡ demand (subject n) b
+    none-asked n none none = refl
+    none-asked n none (some b) = refl
+    none-asked n (some a) none = refl
+    none-asked n (some a) (some b) = refl
+
+    demands : (y : Thing) → demand y (put (t .at) (subject s) v y) ≡ demand y (t .at y)
+    demands (subject n) = none-asked n (put (t .at) (subject s) v (subject n)) (t .at (subject n))
+    demands (object n) = refl
+
 -- a read or a write, with the reads of mappers behind it
 pub access-needs : (t : Tables) (d : Dir) (s p : ℕ) (z : Thing) → needs (effect t (access d s p)) z ≡ needs t z
 access-needs t d s p z = effect-needs t (access d s p) z ∙ went d z
@@ -198,10 +212,13 @@ pub map-quiet : (t : Tables) (s o p : ℕ) → Wf t → s < subjects → p < pla
 map-quiet t s o p w ls lp n h x = maps-needs t s o p x ∙ add-quiet (λ y. demand y (t .at y)) (hold-adds t s p (mapping o) w ls lp n) h x
 
 -- a map's handle makes the flow of the open for reading
+pub mapping-needs : (t : Tables) (s o p : ℕ) → Wf t → s < subjects → p < places → t .hand s p ≡ none → (x : Thing)
+    → needs (apply (hold s p (some (mapping o))) t) x ≡ needs (apply (hold s p (some (handle reading o))) t) x
+mapping-needs t s o p w ls lp n = adds-same (λ y. demand y (t .at y)) (hold-adds t s p (mapping o) w ls lp n) (hold-adds t s p (handle reading o) w ls lp n)
+
 pub maps-open-needs : (t : Tables) (s o p : ℕ) → Wf t → s < subjects → p < places → t .hand s p ≡ none → (x : Thing)
     → needs (effect t (maps s o p)) x ≡ needs (apply (hold s p (some (handle reading o))) t) x
-maps-open-needs t s o p w ls lp n x = maps-needs t s o p x
-    ∙ adds-same (λ y. demand y (t .at y)) (hold-adds t s p (mapping o) w ls lp n) (hold-adds t s p (handle reading o) w ls lp n) x
+maps-open-needs t s o p w ls lp n x = maps-needs t s o p x ∙ mapping-needs t s o p w ls lp n x
 
 -- a close where the two needs differ, where no two labels are apart; the other laws of a flow that goes are used in the same way
 pub close-below : Total → (t : Tables) (s p : ℕ) (k : Handle) → Wf t → t .hand s p ≡ some k

@@ -6,7 +6,7 @@ use mathlib.Core.Bool.{Bool, true, false, cond}
 use mathlib.Core.Logic.{_⊎_, inl, inr}
 use mathlib.Core.Option.{Option, none, some}
 use mathlib.Core.List.{List, [], _∷_}
-use Prim.Native.Nat.{ℕ}
+use Prim.Native.Nat.{ℕ, _<_}
 use lib.Dec.{T, T-not, eqb, eqb-refl, ltb→lt}
 use Rattle.model.specs.Bools.{both}
 use Rattle.model.specs.Lists.{In}
@@ -14,7 +14,7 @@ use Rattle.model.specs.Label.{Label, label, bot}
 use Rattle.model.specs.Flow.{Thing, subject, object, same}
 use Rattle.model.specs.Flow.Laws.{same→eq, same-refl}
 use Rattle.model.specs.Flow.Changes.{but, need-alone}
-use Rattle.model.specs.Tables.{Dir, reading, writing, Entry, handle, Tables, empty, with-at, in-range, is-some, used, live, label-of, cell, handles, edges, demand, needs}
+use Rattle.model.specs.Tables.{Dir, reading, writing, Entry, handle, mapping, Tables, empty, places, with-at, in-range, is-some, used, live, label-of, cell, handles, edges, demand, needs}
 use Rattle.model.specs.Tables.Laws.{live-of, used-is}
 use Rattle.model.specs.Steps.{Origin, outside, blank, copied, Step, enter, leave, hold, holds, mix, quits, freezes, put, sink, apply, applies, ended}
 use Rattle.model.specs.Steps.Laws.{put-same, sink-by, applies-keep, some-fall}
@@ -23,7 +23,7 @@ use Rattle.model.specs.Calls.{Call, admit, register, create, make-pipe, 
 use Rattle.model.specs.Calls.Refusals.{allowed-iff}
 use Rattle.model.specs.Calls.Passed.{is-alive, is-new, is-place, is-vacant, Passed}
 use Rattle.model.specs.Calls.Moving.{reread-of}
-use Rattle.model.specs.Calls.Needs.{effect-needs, access-needs, freeze-needs, mark-needs, retire-needs, enter-needs, pipe-needs, fork-needs, maps-open-needs, exec-needs, exit-needs, fresh-none}
+use Rattle.model.specs.Calls.Needs.{effect-needs, access-needs, freeze-needs, mark-needs, retire-needs, enter-needs, pipe-needs, fork-needs, subject-needs, mapping-needs, maps-open-needs, exec-needs, exit-needs, fresh-none}
 use Rattle.model.specs.Figures.{Ready}
 
 -- ── what is live after a step ──
@@ -216,6 +216,22 @@ effect-ready t c ψ = ready-same (λ x l. (effect-lived t c x l, effect-needs t 
 -- worked out after the steps
 pub anew-ready : (t : Tables) (c : Call) (ψ : Thing → Label) → ((x : Thing) → T (in-range x) → ψ x ≡ needs (applies (steps t c) t) x) → Ready (effect t c) ψ
 anew-ready t c ψ f = ready-anew (effect t c) (applies (steps t c) t) ψ f (effect-needs t c)
+
+-- a mapping's are right if they were with the handle of the open for reading, whatever entry its subject has
+pub mapping-ready : (t : Tables) (s o p : ℕ) (e : Entry) (ψ : Thing → Label) → Wf t → T (live t (subject s)) → p < places → t .hand s p ≡ none
+    → Ready (apply (hold s p (some (handle reading o))) t) ψ → Ready (apply (enter (subject s) e outside) (apply (hold s p (some (mapping o))) t)) ψ
+unfolding used
+mapping-ready t s o p e ψ w l lp n = ready-same {t = apply (hold s p (some (handle reading o))) t} (λ x h. (
+  lives x (step-lived (enter (subject s) e outside) u x h),
+  subject-needs u s (some e) x ∙ mapping-needs t s o p w (ltb→lt s 32 (live-of t (subject s) l .0)) lp n x,
+))
+  where
+    u : Tables
+    u = apply (hold s p (some (mapping o))) t
+
+    lives : (x : Thing) → T (live t x) ⊎ (subject s ≡ x) → T (live t x)
+    lives x (inl m) = m
+    lives x (inr q) = subst (λ (y : Thing). T (live t y)) q l
 
 -- a map's are right if they were with the handle of the open for reading
 pub map-ready : (t : Tables) (s o p : ℕ) (ψ : Thing → Label) → Wf t → refusal t (maps s o p) ≡ none

@@ -63,11 +63,15 @@ module _ {M : Type 0} (K : Kind M) where
 
   -- ── what is kept beside the tables ──
   -- RULES F12, over a list of calls
-  pub runs-right : (rs : List Raw) (m n : M) (l : List Answer) → K .honest m → Runs K m rs l n → K .right m → K .right n
+  pub runs-right : (rs : List Raw) (m n : M) (l : List Answer) → K .tidy m → Runs K m rs l n → K .right m → K .right n
   runs-right rs m n l h done r = r
-  runs-right rs m n l h (then {n = x} {rs = rest} {l = k} p s) r = runs-right rest x n k (p .stays h) s (p .kept h r)
+  runs-right rs m n l h (then {n = x} {rs = rest} {l = k} p s) r = runs-right rest x n k (p .neat h) s (p .kept h r)
 
-  -- RULES F20, over a list of calls: an honest monitor stays honest, and claims what it claimed
-  pub runs-claim : (rs : List Raw) (m n : M) (l : List Answer) → K .honest m → Runs K m rs l n → K .honest n × (K .claim n ≡ K .claim m)
-  runs-claim rs m n l h done = (h, refl)
-  runs-claim rs m n l h (then {n = x} {rs = rest} {l = k} p s) = let g = runs-claim rest x n k (p .stays h) s in (g .0, g .1 ∙ p .says h)
+  -- RULES F20, over a list of calls: an honest monitor stays honest, and a tidy one claims what it claimed
+  pub runs-honest : (rs : List Raw) (m n : M) (l : List Answer) → K .honest m → Runs K m rs l n → K .honest n
+  runs-honest rs m n l h done = h
+  runs-honest rs m n l h (then {n = x} {rs = rest} {l = k} p s) = runs-honest rest x n k (p .stays h) s
+
+  pub runs-claim : (rs : List Raw) (m n : M) (l : List Answer) → K .tidy m → Runs K m rs l n → K .claim n ≡ K .claim m
+  runs-claim rs m n l h done = refl
+  runs-claim rs m n l h (then {n = x} {rs = rest} {l = k} p s) = runs-claim rest x n k (p .neat h) s ∙ p .says h

@@ -25,6 +25,7 @@ use Rattle.journal.specs.Journal.{sized, entry-at, arguments-in, call-with, cod
 use Rattle.gatekeeper.specs.declared.Monitor.{Monitor}
 use Rattle.answers.specs.Telling.{letter-of, value-of}
 use Rattle.gatekeeper.specs.View.{view, Honest, Right, monitors}
+use Rattle.gatekeeper.specs.View.Laws.{honest-tidy}
 use Rattle.tally.specs.declared.Tally.{Tally as Lent}
 use Rattle.tally.specs.Counting.{counts-of}
 use Rattle.text.specs.Reply.{line}
@@ -203,12 +204,12 @@ module _ (m n : Monitor) (y z : Tally) (code : ℕ) (a : Answer) (k : Kept (view
 
 -- the needs that are kept stay right
 pub right-more : (m n : Monitor) (y z : Tally) (code : ℕ) (a : Answer) (s : Said) → Turned m y s code a n z → Right m → Right n
-right-more m n y z code a (said c (reads ns)) o h = o .1 .1 .kept (o .1 .0) h
+right-more m n y z code a (said c (reads ns)) o h = o .1 .1 .kept (honest-tidy m (o .1 .0)) h
 right-more m n y z code a (said c (bad j)) o h = subst Right (sym (o .2)) h
 
 -- and a monitor that is sure stays so
 pub sure-more : (m n : Monitor) (y z : Tally) (code : ℕ) (a : Answer) (s : Said) → Turned m y s code a n z → m .sure ≡ 1 → n .sure ≡ 1
-sure-more m n y z code a (said c (reads ns)) o h = o .1 .1 .says (o .1 .0) ∙ h
+sure-more m n y z code a (said c (reads ns)) o h = o .1 .1 .says (honest-tidy m (o .1 .0)) ∙ h
 sure-more m n y z code a (said c (bad j)) o h = ap (λ (x : Monitor). x .sure) (o .2) ∙ h
 
 -- what a record does to an honest monitor

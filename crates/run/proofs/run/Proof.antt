@@ -6,6 +6,7 @@ use borrow.Author.Needs.{needs}
 use lib.ListN.{length, set, length-set}
 use Rattle.answers.specs.Telling.{told}
 use Rattle.gatekeeper.specs.View.{view, Right}
+use Rattle.gatekeeper.specs.View.Laws.{honest-tidy}
 use Rattle.run.specs.Buffers.{lesser}
 use Rattle.run.specs.Buffers.Laws.{lesser-left, lesser-right, So-far, so-far-none, so-far-honest, so-far-more, run-demand3}
 use Rattle.run.proofs.run.Statement.{statement}
@@ -131,8 +132,8 @@ loop-again c =
       length-set (set (l .out) (l .i * 2) (c .before .before .letter .result)) (l .i * 2 + 1) (c .before .value .result) ∙ length-set (l .out) (l .i * 2) (c .before .before .letter .result) ∙ l .inv .3,
       subst₂ (λ (x y : ℕ). So-far (a .calls .now) (a .out .now) (set (set (l .out) (l .i * 2) x) (l .i * 2 + 1) y) (l .i + 1) (view (k .result .monitor))) (sym (c .before .before .letter .ensures)) (sym (c .before .value .ensures))
           (so-far-more (a .calls .now) (a .out .now) (l .out) (l .i) (l .m) (k .result .monitor) (told (k .result .answer)) (omega (arith, l .inv .2)) (l .inv .4) h (k .ensures)),
-      k .ensures .kept h (l .inv .5),
-      k .ensures .says h ∙ l .inv .6,
+      k .ensures .kept (honest-tidy (l .m) h) (l .inv .5),
+      k .ensures .says (honest-tidy (l .m) h) ∙ l .inv .6,
     )
 
 same-length : tie.Need-same-length Inv-loop μ-loop

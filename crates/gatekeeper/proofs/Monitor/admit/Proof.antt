@@ -25,7 +25,7 @@ returns c =
     let c5 = c3 .before .before in
     let a = c5 .args in
     let g = owned-long (a .self) (c5 .good .0) in
-    λ firm. let w = firm .wf in
+    λ w.
     stops (a .self) (admit (a .s) (a .level)) (c2 .of-admit .result) (c .refuse .result)
     (c2 .of-admit .ensures (view (a .self)) w (subject-got (a .self) g (a .s) (c3 .subject-of .result) (c3 .subject-of .ensures)))
     (c1 .if1 .taken) (c .refuse .ensures)
@@ -48,7 +48,7 @@ returns-2 c =
     let c7 = c5 .before .before in
     let a = c7 .args in
     let g = owned-long (a .self) (c7 .good .0) in
-    λ firm. let w = firm .wf in
+    λ w.
     let z = goes (c4 .of-admit .ensures (view (a .self)) w
     (subject-got (a .self) g (a .s) (c5 .subject-of .result) (c5 .subject-of .ensures))) (c3 .if1 .left) in
     admits (a .self) g (a .s) (a .level) (c2 .with-subject .result) (c .with-subject2 .result) w z (c2 .with-subject .ensures) (c .with-subject2 .ensures)

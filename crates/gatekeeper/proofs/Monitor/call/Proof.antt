@@ -23,7 +23,7 @@ returns c =
     let a = c2 .before .args in
     let k = c2 .readied .ensures in
     settles (a .self) (c2 .readied .result) (decode (direct (a .code) (a .a) (a .b) (a .c) (a .d) (a .e) (a .f)))
-    (c .before .dispatch .result) (c .settle .result) (read-wf (a .self) (owned-long (a .self) (c2 .before .good .0))) (k .0) (k .1 .0) (k .1 .1) (c .before .dispatch .ensures) (c .settle .ensures)
+    (c .before .dispatch .result) (c .settle .result) (read-wf (a .self) (owned-long (a .self) (c2 .before .good .0))) (k .0) (k .1 .0) (k .1 .1) (c .before .dispatch .ensures .0) (c .before .dispatch .ensures .1) (c .settle .ensures)
 
 pub call-spec : {M : Type 1} → statement M
 call-spec = tie.close (tie.spec readied-requires dispatch-requires settle-requires returns)

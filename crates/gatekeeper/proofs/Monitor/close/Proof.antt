@@ -29,7 +29,7 @@ returns c =
     let c8 = c4 .before .before .before .before in
     let a = c8 .args in
     let g = owned-long (a .self) (c8 .good .0) in
-    λ firm. let w = firm .wf in
+    λ w.
     stops (a .self) (close (a .s) (a .p)) (c2 .of-held .result) (c .refuse .result)
     (c2 .of-held .ensures (view (a .self)) (a .s) (a .p) w (subject-got (a .self) g (a .s) (c4 .subject-of .result) (c4 .subject-of .ensures))
     (handle-got (a .self) g (a .s) (a .p) (c3 .handle-of .result) (c3 .handle-of .ensures)) .0) (c1 .if1 .taken) (c .refuse .ensures)
@@ -65,7 +65,7 @@ returns-2 c =
     let c14 = c10 .before .before .before .before in
     let a = c14 .args in
     let g = owned-long (a .self) (c14 .good .0) in
-    λ firm. let w = firm .wf in
+    λ w.
     let x = subject-got (a .self) g (a .s) (c10 .subject-of .result) (c10 .subject-of .ensures) in
     let h = handle-got (a .self) g (a .s) (a .p) (c9 .handle-of .result) (c9 .handle-of .ensures) in
     let z = goes (c8 .of-held .ensures (view (a .self)) (a .s) (a .p) w x h .0) (c7 .if1 .left) in

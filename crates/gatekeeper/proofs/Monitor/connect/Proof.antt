@@ -53,7 +53,7 @@ returns c =
     let c14 = c10 .before .before .before .before in
     let a = c14 .args in
     let g = owned-long (a .self) (c14 .good .0) in
-    λ firm. let w = firm .wf in
+    λ w.
     stops (a .self) (connect (a .s) (a .u) (a .a) (a .b) (a .p) (a .q)) (c2 .of-connect .result) (c .refuse .result)
     (c2 .of-connect .ensures (view (a .self)) w (subject-got (a .self) g (a .s) (c10 .subject-of .result) (c10 .subject-of .ensures))
     (subject-got (a .self) g (a .u) (c9 .subject-of2 .result) (c9 .subject-of2 .ensures))
@@ -111,7 +111,7 @@ returns-2 c =
     let c22 = c18 .before .before .before .before in
     let a = c22 .args in
     let g = owned-long (a .self) (c22 .good .0) in
-    λ firm. let w = firm .wf in
+    λ w.
     let x = subject-got (a .self) g (a .s) (c18 .subject-of .result) (c18 .subject-of .ensures) in
     let y = subject-got (a .self) g (a .u) (c17 .subject-of2 .result) (c17 .subject-of2 .ensures) in
     let z = waits (c10 .of-connect .ensures (view (a .self)) w x y
@@ -150,7 +150,7 @@ returns-3 c =
     let c21 = c17 .before .before .before .before in
     let a = c21 .args in
     let g = owned-long (a .self) (c21 .good .0) in
-    λ firm. let w = firm .wf in
+    λ w.
     let x = subject-got (a .self) g (a .s) (c17 .subject-of .result) (c17 .subject-of .ensures) in
     let y = subject-got (a .self) g (a .u) (c16 .subject-of2 .result) (c16 .subject-of2 .ensures) in
     let z = waits (c9 .of-connect .ensures (view (a .self)) w x y

@@ -29,7 +29,7 @@ returns c =
     let c7 = c4 .before .before .before in
     let a = c7 .args in
     let g = owned-long (a .self) (c7 .good .0) in
-    λ firm. let w = firm .wf in
+    λ w.
     stops (a .self) (create (a .s) (a .o)) (c2 .of-create .result) (c .refuse .result)
     (c2 .of-create .ensures (view (a .self)) (a .s) w (subject-got (a .self) g (a .s) (c4 .subject-of .result) (c4 .subject-of .ensures))
     (object-got (a .self) g (a .o) (c3 .object-of .result) (c3 .object-of .ensures))) (c1 .if1 .taken) (c .refuse .ensures)
@@ -50,7 +50,7 @@ returns-2 c =
     let c9 = c6 .before .before .before in
     let a = c9 .args in
     let g = owned-long (a .self) (c9 .good .0) in
-    λ firm. let w = firm .wf in
+    λ w.
     let x = subject-got (a .self) g (a .s) (c6 .subject-of .result) (c6 .subject-of .ensures) in
     let z = goes (c4 .of-create .ensures (view (a .self)) (a .s) w x
     (object-got (a .self) g (a .o) (c5 .object-of .result) (c5 .object-of .ensures))) (c3 .if1 .left) in

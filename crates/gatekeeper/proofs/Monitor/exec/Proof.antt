@@ -29,7 +29,7 @@ returns c =
     let c7 = c4 .before .before .before in
     let a = c7 .args in
     let g = owned-long (a .self) (c7 .good .0) in
-    λ firm. let w = firm .wf in
+    λ w.
     stops (a .self) (exec (a .s) (a .o)) (c2 .of-exec .result) (c .refuse .result)
     (c2 .of-exec .ensures (view (a .self)) (a .s) (a .o) w (subject-got (a .self) g (a .s) (c4 .subject-of .result) (c4 .subject-of .ensures))
     (object-got (a .self) g (a .o) (c3 .object-of .result) (c3 .object-of .ensures))) (c1 .if1 .taken) (c .refuse .ensures)
@@ -63,7 +63,7 @@ returns-2 c =
     let c14 = c11 .before .before .before in
     let a = c14 .args in
     let g = owned-long (a .self) (c14 .good .0) in
-    λ firm. let w = firm .wf in
+    λ w.
     let x = subject-got (a .self) g (a .s) (c11 .subject-of .result) (c11 .subject-of .ensures) in
     let y = object-got (a .self) g (a .o) (c10 .object-of .result) (c10 .object-of .ensures) in
     let z = waits (c9 .of-exec .ensures (view (a .self)) (a .s) (a .o) w x y) (c8 .if1 .left) in
@@ -101,7 +101,7 @@ returns-3 c =
     let c19 = c16 .before .before .before in
     let a = c19 .args in
     let g = owned-long (a .self) (c19 .good .0) in
-    λ firm. let w = firm .wf in
+    λ w.
     let x = subject-got (a .self) g (a .s) (c16 .subject-of .result) (c16 .subject-of .ensures) in
     let y = object-got (a .self) g (a .o) (c15 .object-of .result) (c15 .object-of .ensures) in
     let z = waits (c14 .of-exec .ensures (view (a .self)) (a .s) (a .o) w x y) (c13 .if1 .left) in

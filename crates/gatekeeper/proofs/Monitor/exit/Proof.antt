@@ -25,7 +25,7 @@ returns c =
     let c5 = c3 .before .before in
     let a = c5 .args in
     let g = owned-long (a .self) (c5 .good .0) in
-    λ firm. let w = firm .wf in
+    λ w.
     stops (a .self) (exit (a .s)) (c2 .of-exit .result) (c .refuse .result)
     (c2 .of-exit .ensures (view (a .self)) (a .s) w (subject-got (a .self) g (a .s) (c3 .subject-of .result) (c3 .subject-of .ensures))) (c1 .if1 .taken)
     (c .refuse .ensures)
@@ -53,7 +53,7 @@ returns-2 c =
     let c11 = c9 .before .before in
     let a = c11 .args in
     let g = owned-long (a .self) (c11 .good .0) in
-    λ firm. let w = firm .wf in
+    λ w.
     let x = subject-got (a .self) g (a .s) (c9 .subject-of .result) (c9 .subject-of .ensures) in
     let z = goes (c8 .of-exit .ensures (view (a .self)) (a .s) w x) (c7 .if1 .left) in
     exits (a .self) g (a .s) (c9 .subject-of .result) (c .with-subject .result) (c4 .vacated .result) (c3 .reaped .result) (c1 .vacated2 .result) w z x

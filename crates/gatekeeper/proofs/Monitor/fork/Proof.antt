@@ -29,7 +29,7 @@ returns c =
     let c6 = c4 .before .before in
     let a = c6 .args in
     let g = owned-long (a .self) (c6 .good .0) in
-    λ firm. let w = firm .wf in
+    λ w.
     stops (a .self) (fork (a .s) (a .c)) (c2 .of-fork .result) (c .refuse .result)
     (c2 .of-fork .ensures (view (a .self)) (a .s) w (subject-got (a .self) g (a .s) (c4 .subject-of .result) (c4 .subject-of .ensures))
     (subject-got (a .self) g (a .c) (c3 .subject-of2 .result) (c3 .subject-of2 .ensures))) (c1 .if1 .taken) (c .refuse .ensures)
@@ -58,7 +58,7 @@ returns-2 c =
     let c11 = c9 .before .before in
     let a = c11 .args in
     let g = owned-long (a .self) (c11 .good .0) in
-    λ firm. let w = firm .wf in
+    λ w.
     let x = subject-got (a .self) g (a .s) (c9 .subject-of .result) (c9 .subject-of .ensures) in
     let z = goes (c7 .of-fork .ensures (view (a .self)) (a .s) w x
     (subject-got (a .self) g (a .c) (c8 .subject-of2 .result) (c8 .subject-of2 .ensures))) (c6 .if1 .left) in

@@ -19,7 +19,7 @@ returns c =
     let c2 = c .before .before in
     let c3 = c2 .before in
     let a = c3 .args in
-    λ firm. stops (a .self) (freeze (a .level)) (c2 .of-freeze .result) (c .refuse .result) (c2 .of-freeze .ensures (view (a .self)) (firm .wf))
+    λ w. stops (a .self) (freeze (a .level)) (c2 .of-freeze .result) (c .refuse .result) (c2 .of-freeze .ensures (view (a .self)) w)
     (c .before .if1 .taken) (c .refuse .ensures)
 
 cast-l : tie.Need-cast-l
@@ -30,7 +30,7 @@ returns-2 c =
     let c1 = c .before in
     let c2 = c1 .before in
     let a = c2 .args in
-    λ firm. freezes (a .self) (owned-long (a .self) (c2 .good .0)) (a .level) (firm .wf) (goes (c1 .of-freeze .ensures (view (a .self)) (firm .wf)) (c .if1 .left))
+    λ w. freezes (a .self) (owned-long (a .self) (c2 .good .0)) (a .level) w (goes (c1 .of-freeze .ensures (view (a .self)) w) (c .if1 .left))
 
 pub freeze-spec : {M : Type 1} → statement M
 freeze-spec = tie.close (tie.spec of-freeze-requires refuse-requires returns cast-l returns-2)

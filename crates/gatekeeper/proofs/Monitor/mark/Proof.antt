@@ -29,7 +29,7 @@ returns c =
     let c7 = c4 .before .before .before in
     let a = c7 .args in
     let g = owned-long (a .self) (c7 .good .0) in
-    λ firm. let w = firm .wf in
+    λ w.
     stops (a .self) (mark (a .s) (a .p)) (c2 .of-held .result) (c .refuse .result)
     (c2 .of-held .ensures (view (a .self)) (a .s) (a .p) w (subject-got (a .self) g (a .s) (c4 .subject-of .result) (c4 .subject-of .ensures))
     (handle-got (a .self) g (a .s) (a .p) (c3 .handle-of .result) (c3 .handle-of .ensures)) .1) (c1 .if1 .taken) (c .refuse .ensures)
@@ -46,7 +46,7 @@ returns-2 c =
     let c7 = c4 .before .before .before in
     let a = c7 .args in
     let g = owned-long (a .self) (c7 .good .0) in
-    λ firm. let w = firm .wf in
+    λ w.
     let x = subject-got (a .self) g (a .s) (c4 .subject-of .result) (c4 .subject-of .ensures) in
     let h = handle-got (a .self) g (a .s) (a .p) (c3 .handle-of .result) (c3 .handle-of .ensures) in
     let z = goes (c2 .of-held .ensures (view (a .self)) (a .s) (a .p) w x h .1) (c1 .if1 .left) in

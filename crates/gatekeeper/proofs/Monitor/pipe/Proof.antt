@@ -37,7 +37,7 @@ returns c =
     let c10 = c6 .before .before .before .before in
     let a = c10 .args in
     let g = owned-long (a .self) (c10 .good .0) in
-    λ firm. let w = firm .wf in
+    λ w.
     stops (a .self) (make-pipe (a .s) (a .o) (a .r) (a .w)) (c2 .of-pipe .result) (c .refuse .result)
     (c2 .of-pipe .ensures (view (a .self)) (a .s) w (subject-got (a .self) g (a .s) (c6 .subject-of .result) (c6 .subject-of .ensures))
     (object-got (a .self) g (a .o) (c5 .object-of .result) (c5 .object-of .ensures))
@@ -70,7 +70,7 @@ returns-2 c =
     let c14 = c10 .before .before .before .before in
     let a = c14 .args in
     let g = owned-long (a .self) (c14 .good .0) in
-    λ firm. let w = firm .wf in
+    λ w.
     let x = subject-got (a .self) g (a .s) (c10 .subject-of .result) (c10 .subject-of .ensures) in
     let z = goes (c6 .of-pipe .ensures (view (a .self)) (a .s) w x
     (object-got (a .self) g (a .o) (c9 .object-of .result) (c9 .object-of .ensures))

@@ -30,7 +30,7 @@ returns c =
     let c7 = c4 .before .before .before in
     let a = c7 .args in
     let g = owned-long (a .self) (c7 .good .0) in
-    λ firm. let w = firm .wf in
+    λ w.
     stops (a .self) (access reading (a .s) (a .p)) (c2 .of-read .result) (c .refuse .result)
     (c2 .of-read .ensures (view (a .self)) (a .s) (a .p) w (subject-got (a .self) g (a .s) (c4 .subject-of .result) (c4 .subject-of .ensures))
     (handle-got (a .self) g (a .s) (a .p) (c3 .handle-of .result) (c3 .handle-of .ensures))) (c1 .if1 .taken) (c .refuse .ensures)
@@ -62,7 +62,7 @@ returns-2 c =
     let c14 = c11 .before .before .before in
     let a = c14 .args in
     let g = owned-long (a .self) (c14 .good .0) in
-    λ firm. let w = firm .wf in
+    λ w.
     let x = subject-got (a .self) g (a .s) (c11 .subject-of .result) (c11 .subject-of .ensures) in
     let h = handle-got (a .self) g (a .s) (a .p) (c10 .handle-of .result) (c10 .handle-of .ensures) in
     let z = goes (c9 .of-read .ensures (view (a .self)) (a .s) (a .p) w x h) (c8 .if1 .left) in

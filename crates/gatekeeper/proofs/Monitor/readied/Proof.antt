@@ -7,7 +7,7 @@ use Rattle.gatekeeper.proofs.Monitor.readied.Statement.{statement}
 use Rattle.gatekeeper.proofs.Monitor.readied.Tie as tie
 
 returns : tie.Need-returns
-returns c = let m = c .before .before .args .self in (λ h. sym (clean-same (view m) (h (c .if1 .taken) .0 .wf)), (refl, refl))
+returns c = let m = c .before .before .args .self in (λ h. sym (clean-same (view m) (h (c .if1 .taken))), (refl, refl))
 
 cleaned-requires : tie.Need-cleaned-requires
 cleaned-requires c κs = search needs

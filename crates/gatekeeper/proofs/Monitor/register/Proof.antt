@@ -25,7 +25,7 @@ returns c =
     let c5 = c3 .before .before in
     let a = c5 .args in
     let g = owned-long (a .self) (c5 .good .0) in
-    λ firm. let w = firm .wf in
+    λ w.
     stops (a .self) (register (a .o) (a .level)) (c2 .of-register .result) (c .refuse .result)
     (c2 .of-register .ensures (view (a .self)) w (object-got (a .self) g (a .o) (c3 .object-of .result) (c3 .object-of .ensures)))
     (c1 .if1 .taken) (c .refuse .ensures)
@@ -48,7 +48,7 @@ returns-2 c =
     let c7 = c5 .before .before in
     let a = c7 .args in
     let g = owned-long (a .self) (c7 .good .0) in
-    λ firm. let w = firm .wf in
+    λ w.
     let z = goes (c4 .of-register .ensures (view (a .self)) w
     (object-got (a .self) g (a .o) (c5 .object-of .result) (c5 .object-of .ensures))) (c3 .if1 .left) in
     registers (a .self) g (a .o) (a .level) (c2 .with-object .result) (c .with-object2 .result) w z (c2 .with-object .ensures) (c .with-object2 .ensures)

@@ -25,7 +25,7 @@ returns c =
     let c5 = c3 .before .before in
     let a = c5 .args in
     let g = owned-long (a .self) (c5 .good .0) in
-    λ firm. let w = firm .wf in
+    λ w.
     stops (a .self) (retire (a .o)) (c2 .of-retire .result) (c .refuse .result)
     (c2 .of-retire .ensures (view (a .self)) (a .o) w (object-got (a .self) g (a .o) (c3 .object-of .result) (c3 .object-of .ensures))) (c1 .if1 .taken)
     (c .refuse .ensures)
@@ -53,7 +53,7 @@ returns-2 c =
     let c9 = c7 .before .before in
     let a = c9 .args in
     let g = owned-long (a .self) (c9 .good .0) in
-    λ firm. let w = firm .wf in
+    λ w.
     let y = object-got (a .self) g (a .o) (c7 .object-of .result) (c7 .object-of .ensures) in
     let z = waits (c6 .of-retire .ensures (view (a .self)) (a .o) w y) (c5 .if1 .left) in
     let e = c2 .last .ensures (view (a .self)) (retire (a .o)) z
@@ -74,7 +74,7 @@ returns-3 c =
     let c9 = c7 .before .before in
     let a = c9 .args in
     let g = owned-long (a .self) (c9 .good .0) in
-    λ firm. let w = firm .wf in
+    λ w.
     let y = object-got (a .self) g (a .o) (c7 .object-of .result) (c7 .object-of .ensures) in
     let z = waits (c6 .of-retire .ensures (view (a .self)) (a .o) w y) (c5 .if1 .left) in
     let e = c2 .last .ensures (view (a .self)) (retire (a .o)) z

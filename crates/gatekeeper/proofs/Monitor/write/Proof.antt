@@ -33,7 +33,7 @@ returns c =
     let c7 = c4 .before .before .before in
     let a = c7 .args in
     let g = owned-long (a .self) (c7 .good .0) in
-    λ firm. let w = firm .wf in
+    λ w.
     stops (a .self) (access writing (a .s) (a .p)) (c2 .of-write .result) (c .refuse .result)
     (c2 .of-write .ensures (view (a .self)) (a .s) (a .p) w (subject-got (a .self) g (a .s) (c4 .subject-of .result) (c4 .subject-of .ensures))
     (handle-got (a .self) g (a .s) (a .p) (c3 .handle-of .result) (c3 .handle-of .ensures))) (c1 .if1 .taken) (c .refuse .ensures)
@@ -77,7 +77,7 @@ returns-2 c =
     let c17 = c14 .before .before .before in
     let a = c17 .args in
     let g = owned-long (a .self) (c17 .good .0) in
-    λ firm. let w = firm .wf in
+    λ w.
     let x = subject-got (a .self) g (a .s) (c14 .subject-of .result) (c14 .subject-of .ensures) in
     let h = handle-got (a .self) g (a .s) (a .p) (c13 .handle-of .result) (c13 .handle-of .ensures) in
     let z = goes (c12 .of-write .ensures (view (a .self)) (a .s) (a .p) w x h) (c11 .if1 .left) in

@@ -24,6 +24,7 @@ lends {x = x} {y = y} {r = r} a p q e back = record {
     answered = p .answered;
     moved = p .moved;
     stays = p .stays;
+    neat = p .neat;
     says = p .says;
     kept = p .kept;
   });
