@@ -144,8 +144,9 @@ enum gatekeeper_outcome {
 };
 
 /* Why a call, a record or a journal is refused. Where several hold, the smallest number is given, but 14 goes before
- * all others, 12 before 2 to 10, and 16 right after 2. So an open that is refused with 15 is one that nothing but the
- * freeze forbids. */
+ * all others, 12 before 2 to 10, 15 and 16, 16 right after 2, and 15 just before 9. So an open that is refused with 9 is
+ * one that no freeze forbids, and one that is refused with 15 may be refused with 9 once the freeze is lifted. Up to
+ * version 4.1.0 an open that offends both was refused with 9. */
 enum gatekeeper_refusal {
     GATEKEEPER_UNKNOWN_CODE = 1,      /* the code is none of 1 to 17 */
     GATEKEEPER_NO_SUBJECT = 2,        /* a subject that asks, or is to be connected, is out of range or not live */

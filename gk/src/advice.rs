@@ -9,6 +9,7 @@ mod numbers;
 mod places;
 
 use gatekeeper::{Answer, Call, Monitor, Refusal, NO_FREEZE};
+use gk_chain::is_nine_once_open;
 
 use crate::explain::scene::{listed, Scene};
 use crate::things::{is_frozen, Held, HIGHEST};
@@ -156,6 +157,20 @@ fn once_open(calls: &[Call]) -> &'static str {
 /// What a call would be refused with, in words, to follow "it would be".
 fn refused_words(refusal: Refusal) -> String {
     format!("refused with {}: {}", refusal.number(), refusal.words())
+}
+
+/// What a call would be refused with here, to follow "it would be"; where that is 15, also the 9 behind it.
+fn refused_here(monitor: &Monitor, call: Call) -> Option<String> {
+    let refusal = refusal_of(monitor, call)?;
+    let words = refused_words(refusal);
+    let is_nine = refusal == Refusal::Frozen && is_nine_once_open(monitor, call.code(), call.numbers());
+    Some(if is_nine { format!("{words}, and {}", nine_once_open("with")) } else { words })
+}
+
+/// RULES R117: what comes once the books are open, where the freeze is said first; `with` leads up to the number.
+pub fn nine_once_open(with: &str) -> String {
+    let nine = Refusal::Flow;
+    format!("once the books are open again (freeze {NO_FREEZE}) {with} {}: {}", nine.number(), nine.words())
 }
 
 /// Some of these, with "for example" where there are more.

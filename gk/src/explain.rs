@@ -30,7 +30,7 @@ pub struct Told {
     pub names: Vec<(&'static str, String)>,
     /// Sentences about what happened, or what did not.
     pub facts: Vec<String>,
-    /// The chain behind a 9, with what each thing is called.
+    /// The chain behind a 9, or behind a 15 that is a 9 once the books are open, with what each thing is called.
     pub chain: Vec<(Link, String)>,
     pub counsel: Counsel,
 }

@@ -54,7 +54,8 @@ Usage: gk explain [--refused] [--json] [--names FILE] [-o FILE] [FILE]
 Says who asked what and what was answered; for a refusal, what did not happen, why, and what can be done.
 Every answer is the proved gatekeeper's. What to do is not proved, but tried: calls that are advised
 were made on a copy of the tables as they were before the record, and were allowed there. For refusal 9 it
-shows a chain that data could have taken from a low thing to a higher file, which is not proved either.
+shows a chain that data could have taken from a low thing to a higher file, which is not proved either;
+for refusal 15, too, where the open would be refused with 9 once the books are open.
 
   --refused     only the records that were refused, those that are alike in one paragraph, and the end
   --summary     for each step its levels over time, what it held, and what it was refused

@@ -4,7 +4,7 @@
 mod common;
 
 use common::journals;
-use gatekeeper::{Answer, Call, Monitor, Refusal};
+use gatekeeper::{Answer, Call, Monitor, Refusal, NO_FREEZE};
 use gk::advice::Advice;
 use gk::calls::with_number;
 use gk::explain::{tell, Told, Which};
@@ -47,6 +47,23 @@ fn cases() -> Vec<Case> {
         tell(&journal, &Names::new(), Which::Refused, told).unwrap();
     }
     cases
+}
+
+impl Case {
+    /// Whether it is a 9, or a 15 that is a 9 once the books are open (RULES R117). The answer is a monitor's.
+    fn is_nine(&self) -> bool {
+        match self.refusal {
+            Refusal::Flow => true,
+            Refusal::Frozen => with_open_books(&self.monitor).call(self.call) == FLOW,
+            _ => false,
+        }
+    }
+}
+
+const FLOW: Answer = Answer::Refused(Refusal::Flow);
+
+fn with_open_books(monitor: &Monitor) -> Monitor {
+    after(monitor, &[Call::Freeze { level: NO_FREEZE }]).unwrap()
 }
 
 /// The monitor after some calls; none where one of them is refused.
@@ -136,7 +153,7 @@ fn what_a_note_says_to_be_refused_is_refused() {
 #[test]
 fn a_9_has_a_whole_set_of_closes_or_is_said_to_have_none() {
     let (mut with, mut without) = (0, 0);
-    for case in cases().into_iter().filter(|case| case.refusal == Refusal::Flow) {
+    for case in cases().into_iter().filter(Case::is_nine) {
         let at = format!("{}, record {}: {}", case.journal, case.told.step.position, case.told.text());
         let says_none =
             case.told.counsel.notes.iter().any(|note| note.starts_with("No closing of handles helps"));
@@ -176,8 +193,8 @@ fn nothing_helps(case: &Case, at: &str) {
     };
     for kept in kept {
         let set: Vec<Held> = all.iter().copied().filter(|held| Some(*held) != kept).collect();
-        let answer = closed(&case.monitor, &set).call(case.call);
-        assert_eq!(answer, Answer::Refused(Refusal::Flow), "{at}");
+        let answer = with_open_books(&closed(&case.monitor, &set)).call(case.call);
+        assert_eq!(answer, FLOW, "{at}");
     }
 }
 
@@ -185,7 +202,7 @@ fn nothing_helps(case: &Case, at: &str) {
 #[test]
 fn no_cheaper_set_of_closes_is_enough() {
     let mut compared = 0;
-    for case in cases().into_iter().filter(|case| case.refusal == Refusal::Flow) {
+    for case in cases().into_iter().filter(Case::is_nine) {
         let Some(advice) = case.told.counsel.ways.iter().find(|way| way.text.starts_with("close ")) else {
             continue;
         };
@@ -212,7 +229,7 @@ fn no_cheaper_set_of_closes_is_enough() {
 #[test]
 fn the_chain_of_a_9_is_one() {
     let mut seen = 0;
-    for case in cases().into_iter().filter(|case| case.refusal == Refusal::Flow) {
+    for case in cases().into_iter().filter(Case::is_nine) {
         let at = format!("{}, record {}: {}", case.journal, case.told.step.position, case.told.text());
         let chain: Vec<_> = case.told.chain.iter().map(|(link, _)| *link).collect();
         let (low, high) = (chain.first().unwrap(), chain.last().unwrap());
@@ -226,6 +243,24 @@ fn the_chain_of_a_9_is_one() {
         seen += 1;
     }
     assert!(seen >= 100, "{seen}");
+}
+
+/// RULES R117: a 15 tells of a 9 exactly where one comes once the books are open, and waiting is advised elsewhere.
+#[test]
+fn a_15_tells_of_a_9_where_there_is_one() {
+    let mut seen = [0; 2];
+    for case in cases().into_iter().filter(|case| case.refusal == Refusal::Frozen) {
+        let text = case.told.text();
+        let flat = text.split_whitespace().collect::<Vec<_>>().join(" ");
+        let at = format!("{}, record {}: {text}", case.journal, case.told.step.position);
+        let is_nine = case.is_nine();
+        assert!(flat.contains(": the books are closed from level "), "{at}");
+        assert_eq!(flat.contains("it would be refused with 9: "), is_nine, "{at}");
+        assert_eq!(case.told.chain.is_empty(), !is_nine, "{at}");
+        assert_eq!(flat.contains("What to do: wait until the books are open again"), !is_nine, "{at}");
+        seen[usize::from(is_nine)] += 1;
+    }
+    assert!(seen.iter().all(|&count| count >= 5), "{seen:?}");
 }
 
 fn is_sought(call: Call, flow: (Thing, Thing)) -> bool {

@@ -161,18 +161,71 @@ fn closed_books_are_explained() {
     );
 }
 
+/// RULES R117: of the two the freeze is said; that a 9 comes once the books are open is said with it.
 #[test]
-fn a_9_while_the_books_are_closed_says_so() {
+fn a_15_tells_of_the_9_behind_it() {
     let text = explained(&format!("{BOOKS}freeze 9\nopen-read 0 1 0\nopen-write 0 0 1\n"));
     sees(
         &text,
         &[
-            "What to do: close place 0 (reading file 1) of step 0; open it after that once the books are open again \
-             (freeze 16).",
-            "Also: the books are closed from level 9 up since record 5, so that the open is refused with 15 when \
-             nothing else is in the way",
+            "7. Step 0 may not open file 0 for writing at place 1: the books are closed from level 9 up since record 5, \
+             and it has level 9. Refused (15): the file is frozen while the books are closed. Nothing is opened. Once \
+             the books are open again (freeze 16) it would be refused with 9: low data could reach a higher file. File \
+             1 has level 2, and file 0 takes nothing from below level 9. The chain, found by gk and not proved: file 1 \
+             (level 2) → step 0 (level 9) → file 0 (level 9) What to do: close place 0 (reading file 1) of step 0; \
+             open it after that once the books are open again (freeze 16). Or: let step 0 fork",
+            "Or: open a file that is not frozen: file 1. Nobody has file 0 open for writing. End",
         ],
     );
+    // To wait is not advised where that is not enough.
+    assert!(!text.contains("wait until"), "{text}");
+    let journal = gk(&["assemble"], format!("{BOOKS}freeze 9\nopen-write 1 0 0\n").as_bytes()).stdout;
+    let chain = concat!(
+        r#""chain":{"proved":false,"links":[{"kind":"step","number":1,"level":8,"called":"step 1"},"#,
+        r#"{"kind":"file","number":0,"level":9,"called":"file 0"}]}"#
+    );
+    let then = "Once the books are open again (freeze 16) it would be refused with 9: low data could reach";
+    let calls = r#""calls":["freeze 16","open-write 0 0 0"]}"#;
+    let lines = out(&gk(&["explain", "--json", "--refused"], &journal));
+    sees(&lines, &[r#""refusal":15,"#, then, chain, calls]);
+
+    // A step that is too low itself: others may, and a handle that is held goes on writing.
+    let text = explained(&format!("{BOOKS}open-write 0 0 3\nfreeze 0\nopen-write 1 0 0\n"));
+    sees(
+        &text,
+        &[
+            "What to do: let another step open it once the books are open again (freeze 16): step 0 may. Or: admit a \
+             step at level 9 or above, number 2 is free, and let it open it once the books are open again (freeze 16). \
+             Or: use a handle that is held and goes on writing: place 3 of step 0. No closing of handles helps: step \
+             1 has level 8 itself, which is too low for file 0. End",
+        ],
+    );
+    // The freeze alone, and the flow alone.
+    let text = explained(&format!("{BOOKS}freeze 9\nopen-write 0 0 0\n"));
+    sees(&text, &["What to do: wait until the books are open again (freeze 16) and open it then."]);
+    assert!(!text.contains("refused with 9") && !text.contains("The chain"), "{text}");
+    let text = explained(&format!("{BOOKS}freeze 10\nopen-write 1 0 0\n"));
+    sees(&text, &["Refused (9): low data could reach a higher file."]);
+    assert!(!text.contains("books are"), "{text}");
+}
+
+/// The same where another number is said, and it is told what comes after that.
+#[test]
+fn what_would_be_refused_with_15_and_then_with_9_is_told_so() {
+    let text = explained(&format!("{BOOKS}freeze 9\nopen-write 1 0 16\n"));
+    sees(
+        &text,
+        &[
+            "At an empty place, for example 0, it would be refused with 15: the file is frozen while the books are \
+             closed, and once the books are open again (freeze 16) with 9: low data could reach a higher file. Also: \
+             the books are closed from level 9 up since record 5, so that the open is refused with 15 when nothing \
+             else is in the way",
+        ],
+    );
+}
+
+#[test]
+fn a_handle_that_is_not_had_again_is_minded() {
     let text = explained(&format!("{BOOKS}open-write 0 0 0\nfreeze 9\nopen-read 0 1 1\n"));
     sees(&text, &["Mind: file 0, once closed, is not opened for writing again before the books are open."]);
     let text = explained(&format!("{BOOKS}open-write 0 0 0\nopen-read 0 1 1\n"));

@@ -163,9 +163,34 @@ const AFTER_START: &[(&str, &str, &str, &str)] = &[
     ),
     (
         "freeze-flow",
-        "an open that offends the flow and the freeze: 9",
+        "an open that offends the flow and the freeze: 15",
         "admit 1 8; freeze 9; open-write 1 0 0; open-read 0 1 0; open-write 0 0 1",
-        "4 1 A 8; 5 16 A 9; 6 6 R 9; 7 5 A 2; 8 6 R 9; end 1 0 1",
+        "4 1 A 8; 5 16 A 9; 6 6 R 15; 7 5 A 2; 8 6 R 15; end 1 0 1",
+    ),
+    (
+        "freeze-flow-lifted",
+        "where the freeze is raised or lifted, such an open offends the flow alone: 9; then the flow is put right",
+        "admit 1 8; freeze 9; open-read 0 1 0; open-write 1 0 0; open-write 0 0 1; freeze 10; open-write 1 0 0; \
+         open-write 0 0 1; freeze 16; open-write 1 0 0; open-write 0 0 1; close 0 0; open-write 0 0 1",
+        "4 1 A 8; 5 16 A 9; 6 5 A 2; 7 6 R 15; 8 6 R 15; 9 16 A 10; 10 6 R 9; 11 6 R 9; 12 16 A 16; 13 6 R 9; \
+         14 6 R 9; 15 11 A 9; 16 6 A 9; end 2 1 1",
+    ),
+    (
+        "freeze-flow-order",
+        "2, 4, 7 and 12 are said before 15 where 9 holds as well, and 9 after it",
+        "admit 1 8; freeze 0; open-write 2 0 0; open-write 1 2 0; open-write 1 0 16; call 6 1 0 0 0; open-write 1 0 0; \
+         freeze 16; open-write 1 0 0",
+        "4 1 A 8; 5 16 A 0; 6 6 R 2; 7 6 R 4; 8 6 R 7; 9 6 R 12; 10 6 R 15; 11 16 A 16; 12 6 R 9; end 0 0 0",
+    ),
+    (
+        "freeze-flow-alone",
+        "9 is said of what the freeze asks nothing of: opens for reading, maps and execs of a frozen file, a pipe, a \
+         lower file, a connect",
+        "register 2 15; admit 1 15; open-write 1 2 0; open-write 0 0 0; admit 2 8; pipe 0 5 1 2; register 3 9; \
+         freeze 9; open-read 1 0 1; map 1 0 1; exec 1 0; open-write 2 5 0; connect 1 0 6 7 3 4; freeze 10; \
+         open-write 2 3 0; freeze 9; open-write 2 3 0",
+        "4 2 A 15; 5 1 A 15; 6 6 A 15; 7 6 A 9; 8 1 A 8; 9 4 A 9; 10 2 A 9; 11 16 A 9; 12 5 R 9; 13 14 R 9; 14 10 R 9; \
+         15 6 R 9; 16 17 R 9; 17 16 A 10; 18 6 R 9; 19 16 A 9; 20 6 R 15; end 4 0 4",
     ),
     (
         "freeze-lifted",

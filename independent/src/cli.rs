@@ -231,18 +231,20 @@ fn read_journal(file: Option<&OsStr>) -> Result<Vec<u8>, Failure> {
 
 fn run(arguments: Vec<OsString>) -> Done {
     let arguments = Arguments::sort("run", arguments, &["--variant"], &[])?;
-    let rules = match arguments.value("--variant") {
-        None => Rules::default(),
-        Some(name) => {
-            let name = name.to_string_lossy();
-            let unknown = || {
-                Failure::Usage(format!("there is no variant \"{}\". Type: second variants", shown(&name)))
-            };
-            Rules::named(&name).ok_or_else(unknown)?
-        }
-    };
+    let rules = rules_of(&arguments)?;
     let journal = read_journal(arguments.file()?)?;
     write_output(replies_by(&journal, rules).as_bytes())
+}
+
+/// The rules to answer by: a variant where one is asked for.
+fn rules_of(arguments: &Arguments) -> Result<Rules, Failure> {
+    let Some(name) = arguments.value("--variant") else {
+        return Ok(Rules::default());
+    };
+    let name = name.to_string_lossy();
+    let unknown =
+        || Failure::Usage(format!("there is no variant \"{}\". Type: second variants", shown(&name)));
+    Rules::named(&name).ok_or_else(unknown)
 }
 
 fn cases_command(arguments: Vec<OsString>) -> Done {
@@ -353,7 +355,7 @@ fn bite_command(arguments: Vec<OsString>) -> Done {
 }
 
 fn compare_command(arguments: Vec<OsString>) -> Done {
-    let valued = ["--program", "--seed", "--journals", "--jobs", "--seconds", "--save"];
+    let valued = ["--program", "--seed", "--journals", "--jobs", "--seconds", "--save", "--variant"];
     let arguments = Arguments::sort("compare", arguments, &valued, &[])?;
     arguments.no_files()?;
     let path = arguments.value("--program").ok_or_else(|| arguments.wrong("expected --program PATH"))?;
@@ -361,6 +363,7 @@ fn compare_command(arguments: Vec<OsString>) -> Done {
         path: path.clone(),
         arguments: arguments.behind_dashes.clone(),
         patience: Duration::from_secs(arguments.number("--seconds")?.unwrap_or(10)),
+        rules: rules_of(&arguments)?,
     };
     let seed = arguments.number("--seed")?.unwrap_or_else(clock_seed);
     let journals = arguments.number("--journals")?.unwrap_or(2000);

@@ -11,9 +11,10 @@ use std::time::{Duration, Instant};
 
 use crate::cases;
 use crate::generate::{journal, Wish};
-use crate::replies::replies;
+use crate::replies::replies_by;
 use crate::shrink::shrink;
 use crate::text::indented;
+use crate::variants::Rules;
 use crate::words::words_of;
 
 /// Runs of the other program that a search for a shorter journal may take.
@@ -30,6 +31,8 @@ pub struct Program {
     pub arguments: Vec<OsString>,
     /// How long it may take for one journal.
     pub patience: Duration,
+    /// The rules that its replies are held against: those of docs/RULES.md, or a variant of them.
+    pub rules: Rules,
 }
 
 /// What the other program did with a journal.
@@ -79,8 +82,13 @@ impl Program {
         })
     }
 
+    /// What it is to reply.
+    fn right(&self, journal: &[u8]) -> String {
+        replies_by(journal, self.rules)
+    }
+
     fn differs(&self, journal: &[u8]) -> Result<bool, String> {
-        let right = replies(journal).into_bytes();
+        let right = self.right(journal).into_bytes();
         Ok(self.run(journal)? != Reaction::Replied(right))
     }
 }
@@ -141,7 +149,7 @@ pub fn compare(program: &Program, seed: u64, journals: u64, jobs: usize) -> Resu
                 return;
             }
             let (origin, journal) = nth(index);
-            let right = replies(&journal);
+            let right = program.right(&journal);
             let found = match program.run(&journal) {
                 Ok(Reaction::Replied(bytes)) if bytes == right.as_bytes() => None,
                 Ok(_) => Some(Ok(Difference { origin, journal: journal.clone() })),
@@ -207,7 +215,7 @@ pub fn shortest(program: &Program, journal: &[u8]) -> Result<Vec<u8>, String> {
 
 /// A journal on which the programs differ, as text with both replies.
 pub fn report(program: &Program, journal: &[u8]) -> Result<String, String> {
-    let right = replies(journal);
+    let right = program.right(journal);
     let (note, theirs) = match program.run(journal)? {
         Reaction::Replied(bytes) => (String::new(), bytes),
         Reaction::Crashed(bytes) => (" (it was ended by a signal)".to_string(), bytes),

@@ -90,7 +90,7 @@ const COMPARE: &str = "\
 second compare - another program beside this one
 
 Usage: second compare --program PATH [--seed N] [--journals N] [--jobs N] [--seconds N] [--save FILE]
-                  [-- ARGUMENT ...]
+                  [--variant NAME] [-- ARGUMENT ...]
 
 The program at PATH reads a journal from standard input and writes the replies to standard output. It is
 run on the worked cases and on generated journals, and its replies are compared byte for byte. At a
@@ -100,6 +100,9 @@ difference the journal is made shorter while the two still differ, and shown wit
   --jobs N      how many at a time (as many as there are processors, at most 2)
   --seconds N   how long the program may take for one journal (10)
   --save FILE   where to write the short journal at a difference
+  --variant NAME
+                hold it against this variant in place of the rules: one from before request (j), which put 15
+                before 9, answers as order-15-9 does
   -- ARGUMENT   what to hand to the program
 
 Example: a wrong program is found out

@@ -36,8 +36,8 @@ pub fn meaning(number: u32) -> &'static str {
 /// A row's number and whether its condition holds.
 pub type Condition = (u32, bool);
 
-/// RULES R2 to R10, R15 and R16 for a call, in the order in which they are tested: RULES R105, R117; R16 comes
-/// right after R2. `needs` are those of `needs_for`.
+/// RULES R2 to R10, R15 and R16 for a call, in the order in which they are tested: RULES R105; R16 comes right after
+/// R2 (RULES R120), and R15 just before R9 (RULES R117). `needs` are those of `needs_for`.
 pub fn conditions(tables: &Tables, call: Call, needs: &Needs) -> [Condition; 11] {
     [
         (2, subject_is_missing(tables, call)),
@@ -48,13 +48,13 @@ pub fn conditions(tables: &Tables, call: Call, needs: &Needs) -> [Condition; 11]
         (6, level_is_too_high(tables, call)),
         (7, place_is_unfit(tables, call)),
         (8, direction_is_wrong(tables, call)),
+        (15, file_is_frozen(tables, call)),
         (9, flow_is_unsafe(tables, call, needs)),
         (10, retired_file_is_held(tables, call)),
-        (15, file_is_frozen(tables, call)),
     ]
 }
 
-/// RULES R105, R117: of several, the one that is tested first.
+/// RULES R105, R117, R120: of several, the one that is tested first.
 pub fn refusal(tables: &Tables, call: Call, needs: &Needs, rules: Rules) -> Option<u32> {
     let mut conditions = conditions(tables, call, needs);
     rules.bend_conditions(tables, call, needs, &mut conditions);

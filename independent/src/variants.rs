@@ -85,6 +85,15 @@ variants! {
     FreezeRegisters "freeze-registers" "no file is registered at or above the freeze";
     FreezeExecs "freeze-execs" "a frozen file is not run";
     FreezeRetires "freeze-retires" "a frozen file is not retired";
+    // The same calls are refused, and 15 is said of one that offends the flow rule alone.
+    Reads15 "15-for-reads" "says 15 of an open for reading of a frozen file that offends the flow";
+    Maps15 "15-for-maps" "says 15 of a map of a frozen file that offends the flow";
+    Execs15 "15-for-execs" "says 15 of an exec of a frozen file that offends the flow";
+    Pipes15 "15-for-pipes" "says 15 of an open for writing of a pipe at or above the freeze that offends the flow";
+    Lower15 "15-for-lower-files" "says 15 of an open for writing of a file below the freeze that offends the flow";
+    Connects15 "15-for-connects" "says 15 of a connect that offends the flow, while there is a freeze";
+    // The other way round: the freeze is said, and is not a reason of its own.
+    FreezeWithFlow "freeze-with-flow" "a frozen file may be opened for writing where the flow is not offended";
     // Marks: what is refused.
     MarkedTested "marked-tested" "exec tests the need with the caller's marked handles in";
     OthersLeftOut "others-left-out" "exec leaves the marked handles of all subjects out of its test";
@@ -173,7 +182,7 @@ variants! {
     SixteenLast "16-last" "says 16 by its number, after all others";
     Order215 "order-2-15" "says 15 before 2";
     Order715 "order-7-15" "says 15 before 7";
-    Order915 "order-9-15" "says 15 before 9";
+    Order159 "order-15-9" "says 9 before 15, as it was before request (j)";
     TwelveLast "12-last" "a left-over number is 12 only if 2 to 10, 15 and 16 do not hold";
     FifteenBefore12 "15-before-12" "a left-over number is 12 only if 15 does not hold";
     // Effects.
@@ -532,12 +541,13 @@ impl Rules {
         let Some(variant) = self.variant else {
             return;
         };
+        let offends_flow = conditions.contains(&(9, true));
         let mut set = |number: u32, holds: bool| {
             for condition in conditions.iter_mut().filter(|condition| condition.0 == number) {
                 condition.1 = holds;
             }
         };
-        if let Some(holds) = bend_frozen(variant, tables, call) {
+        if let Some(holds) = bend_frozen(variant, tables, call, offends_flow) {
             set(15, holds);
         }
         if let Some((number, holds)) = bend_marked(variant, tables, call) {
@@ -621,11 +631,14 @@ impl Rules {
 
     /// The order in which the conditions are tested.
     pub fn bend_order(self, conditions: &mut [Condition]) {
-        // Tests the later of two numbers just before the earlier.
+        // Says the later of two numbers where the earlier would be said and both hold, and changes nothing else.
         let mut swap = |earlier: u32, later: u32| {
             let place = |number: u32| conditions.iter().position(|condition| condition.0 == number);
+            let said = conditions.iter().position(|&(_, holds)| holds);
             if let (Some(first), Some(last)) = (place(earlier), place(later)) {
-                conditions[first..=last].rotate_right(1);
+                if said == Some(first) && conditions[last].1 {
+                    conditions[first..=last].rotate_right(1);
+                }
             }
         };
         match self.variant {
@@ -642,12 +655,12 @@ impl Rules {
             Some(Variant::Order216) => swap(2, 16),
             Some(Variant::Order163) => swap(16, 3),
             Some(Variant::Order167) => swap(16, 7),
-            Some(Variant::SixteenLast) => conditions.sort_by_key(|condition| condition.0),
+            Some(Variant::SixteenLast) => conditions.sort_by_key(|condition| condition.0 == 16),
             Some(Variant::Order59) => swap(5, 9),
             Some(Variant::Order79) => swap(7, 9),
             Some(Variant::Order215) => swap(2, 15),
             Some(Variant::Order715) => swap(7, 15),
-            Some(Variant::Order915) => swap(9, 15),
+            Some(Variant::Order159) => swap(15, 9),
             _ => {}
         }
     }

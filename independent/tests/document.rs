@@ -37,6 +37,9 @@ fn the_cases_are_all_there() {
         "freeze-pipe",
         "freeze-held",
         "freeze-flow",
+        "freeze-flow-lifted",
+        "freeze-flow-order",
+        "freeze-flow-alone",
         "freeze-lifted",
         "freeze-replaced",
         "mark-answer",
@@ -715,15 +718,17 @@ fn a_freeze_empties_places_that_count_as_empty_and_a_refused_one_does_not() {
 }
 
 #[test]
-fn where_a_thing_is_below_its_need_already_9_is_said_of_a_frozen_file_too() {
+fn where_a_thing_is_below_its_need_already_15_is_said_of_a_frozen_file_all_the_same() {
     let mut monitor = made_up(|tables| {
         tables.set_subject(1, Some(Subject { level: 2 }));
         tables.set_handle(1, 0, handle(0, WRITING));
         tables.set_freeze(0);
     });
+    assert_eq!(monitor.call(6, [0, 0, 0, 0, 0, 0]), Answer::Refused(15));
+    assert_eq!(monitor.call(16, [16, 0, 0, 0, 0, 0]), Answer::Allowed(16));
     assert_eq!(monitor.call(6, [0, 0, 0, 0, 0, 0]), Answer::Refused(9));
     assert_eq!(monitor.call(11, [1, 0, 0, 0, 0, 0]), Answer::Allowed(2));
-    assert_eq!(monitor.call(6, [0, 0, 0, 0, 0, 0]), Answer::Refused(15));
+    assert_eq!(monitor.call(6, [0, 0, 0, 0, 0, 0]), Answer::Allowed(9));
 }
 
 #[test]

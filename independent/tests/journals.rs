@@ -8,7 +8,8 @@ use gatekeeper_independent::generate::{journal, Wish};
 use gatekeeper_independent::monitor::Answer;
 use gatekeeper_independent::needs::{level, live_things, Flow, Needs, Thing};
 use gatekeeper_independent::records::Body;
-use gatekeeper_independent::replies::{replies, Content, Run};
+use gatekeeper_independent::refusals::{conditions, needs_for};
+use gatekeeper_independent::replies::{replies, replies_by, Content, Run};
 use gatekeeper_independent::tables::{Direction, Handle, Kind, Object, Subject, Tables};
 use gatekeeper_independent::variants::Rules;
 use gatekeeper_independent::words::{journal_of, words_of};
@@ -136,7 +137,6 @@ fn freeze_met(call: Call, answer: Answer, before: &Tables, newer: &[u32]) -> Opt
         (Call::Freeze { level }, _) if Some(level) < freeze => "made lower",
         (Call::OpenWrite { o, .. }, Answer::Refused(15)) if newer.contains(&o) => "15, of a newer file",
         (Call::OpenWrite { .. }, Answer::Refused(15)) => "15",
-        (Call::OpenWrite { o, .. }, Answer::Refused(9)) if before.is_frozen(o) => "9 and 15",
         (Call::OpenWrite { o, .. }, Answer::Allowed(_)) if is_file(o) => "a lower file opened",
         (Call::OpenWrite { .. }, Answer::Allowed(_)) => "a pipe opened",
         (Call::OpenRead { o, .. }, Answer::Allowed(_)) if before.is_frozen(o) => "opened for reading",
@@ -166,8 +166,72 @@ fn the_freeze_is_met_often() {
             }
         });
     }
-    assert_eq!(met.len(), 16, "{met:?}");
+    assert_eq!(met.len(), 15, "{met:?}");
     assert!(met.values().all(|&times| times >= 10), "{met:?}");
+}
+
+/// What a call is about that offends the flow rule while there is a freeze; `holding` has the numbers of all
+/// refusals that hold.
+fn flow_met(call: Call, answer: Answer, before: &Tables, holding: &[u32]) -> Option<&'static str> {
+    let freeze = before.frozen_from()?;
+    if !holding.contains(&9) {
+        return None;
+    }
+    let (kind, level) = match call.named_object().and_then(|o| before.object(o)) {
+        Some(Object { kind, level }) => (Some(kind), level),
+        None => (None, 0),
+    };
+    let is_file = kind == Some(Kind::File);
+    Some(match (call, answer) {
+        (Call::OpenWrite { .. }, Answer::Refused(15)) => "15, and 9 holds",
+        (Call::OpenWrite { .. }, Answer::Refused(7)) if holding.contains(&15) => "7, and 15 and 9 hold",
+        (_, Answer::Refused(number)) if number != 9 => return None,
+        (Call::OpenWrite { .. }, _) if is_file => "9 of a lower file",
+        (Call::OpenWrite { .. }, _) if level >= freeze => "9 of a pipe at or above the freeze",
+        (Call::OpenWrite { .. }, _) => "9 of a lower pipe",
+        (Call::OpenRead { .. }, _) if is_file && level >= freeze => "9 of a frozen file, for reading",
+        (Call::Map { .. }, _) if level >= freeze => "9 of a frozen file, mapped",
+        (Call::Exec { .. }, _) if level >= freeze => "9 of a frozen file, run",
+        (Call::Connect { .. }, _) => "9 of a connect",
+        _ => return None,
+    })
+}
+
+/// RULES R117: opens that offend both the freeze and the flow rule stand in the journals often enough to be
+/// compared, and so do all calls that offend the flow rule alone while there is a freeze.
+#[test]
+fn the_freeze_and_the_flow_rule_are_met_together_often() {
+    let mut met = BTreeMap::new();
+    for journal in mixed(300) {
+        each_call(&journal, |call, answer, before| {
+            let needs = needs_for(before, call, Rules::default(), &Needs::none(before));
+            let rows = conditions(before, call, &needs);
+            let holding: Vec<u32> = rows.iter().filter(|row| row.1).map(|row| row.0).collect();
+            if let Some(what) = flow_met(call, answer, before, &holding) {
+                *met.entry(what).or_insert(0) += 1;
+            }
+        });
+    }
+    assert_eq!(met.len(), 9, "{met:?}");
+    assert!(met.values().all(|&times| times >= 10), "{met:?}");
+}
+
+/// Request (j): opens for writing that offend both the freeze and the flow rule change from 9 to 15, and no other
+/// reply does. A refused call leaves everything as it was, so that the two runs stay side by side.
+#[test]
+fn request_j_changed_9_to_15_for_opens_for_writing_and_nothing_else() {
+    let as_before = Rules::named("order-15-9").unwrap();
+    let mut changed = 0;
+    for journal in mixed(600) {
+        let (old, new) = (replies_by(&journal, as_before), replies(&journal));
+        assert_eq!(old.lines().count(), new.lines().count());
+        for (old, new) in old.lines().zip(new.lines()).filter(|(old, new)| old != new) {
+            let position = old.strip_suffix(" 6 R 9");
+            assert!(position.is_some() && position == new.strip_suffix(" 6 R 15"), "{old}, then {new}");
+            changed += 1;
+        }
+    }
+    assert!(changed >= 100, "{changed}");
 }
 
 /// RULES T35, C9, C15: the marks, kept beside the journal by its calls and their answers alone.

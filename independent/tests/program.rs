@@ -242,6 +242,21 @@ fn a_wrong_program_is_found_out_with_a_short_journal() {
     assert!(out(&output).contains("The replies differ: "), "{}", out(&output));
 }
 
+/// As one would hold a program from before request (j) against the rules of then.
+#[test]
+fn a_program_can_be_held_against_a_variant() {
+    let program = env!("CARGO_BIN_EXE_second");
+    let start =
+        ["compare", "--program", program, "--seed", "4", "--journals", "60", "--variant", "order-15-9"];
+    let output = second(&[&start[..], &["--", "run", "--variant", "order-15-9"]].concat(), b"");
+    assert_eq!(output.status.code(), Some(0), "{}{}", out(&output), err(&output));
+    let output = second(&[&start[..], &["--", "run"]].concat(), b"");
+    assert_eq!(output.status.code(), Some(1), "{}", out(&output));
+    assert!(out(&output).contains("The replies differ: case freeze-flow."), "{}", out(&output));
+    let output = second(&["compare", "--program", program, "--variant", "none"], b"");
+    assert_eq!(output.status.code(), Some(2), "{}", err(&output));
+}
+
 #[test]
 fn a_program_that_cannot_be_started_is_said() {
     let output = second(&["compare", "--program", "no/such/program"], b"");

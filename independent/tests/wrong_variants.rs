@@ -52,13 +52,13 @@ fn every_pair_of_conditions_that_can_hold_together_has_a_variant() {
             let needs = needs_for(&tables, call, Rules::default(), &Needs::none(&tables));
             let conditions = conditions(&tables, call, &needs);
             let holding: Vec<u32> = conditions.iter().filter(|row| row.1).map(|row| row.0).collect();
-            for (index, smaller) in holding.iter().enumerate() {
-                pairs.extend(holding[index + 1..].iter().map(|larger| (*smaller, *larger)));
+            for (index, earlier) in holding.iter().enumerate() {
+                pairs.extend(holding[index + 1..].iter().map(|later| (*earlier, *later)));
             }
         }
     }
-    let expected = "2-3 2-4 2-5 2-7 2-15 2-16 3-6 3-7 3-9 4-7 5-7 5-9 7-9 7-15 9-15 16-3 16-7";
-    let pairs: Vec<String> = pairs.iter().map(|(smaller, larger)| format!("{smaller}-{larger}")).collect();
+    let expected = "2-3 2-4 2-5 2-7 2-15 2-16 3-6 3-7 3-9 4-7 5-7 5-9 7-9 7-15 15-9 16-3 16-7";
+    let pairs: Vec<String> = pairs.iter().map(|(earlier, later)| format!("{earlier}-{later}")).collect();
     assert_eq!(pairs.join(" "), expected);
     for pair in pairs {
         assert!(Rules::named(&format!("order-{pair}")).is_some());

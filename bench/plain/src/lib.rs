@@ -15,8 +15,8 @@
 //! | [`journal`] | numbers and records |
 //! | [`mod@replies`] | the reply to a whole journal |
 //!
-//! To add a call: its variant, its code and its numbers in [`calls`]; a method in [`monitor`] that first refuses, by
-//! rising number, and then takes effect; a refusal of its own in [`refusals`].
+//! To add a call: its variant, its code and its numbers in [`calls`]; a method in [`monitor`] that first refuses, in
+//! the order that [`refusals`] tells, and then takes effect; a refusal of its own in [`refusals`].
 
 #![forbid(unsafe_code)]
 

@@ -1,4 +1,4 @@
-//! The monitor: each call is a method that first refuses, by rising refusal number, and then takes effect.
+//! The monitor: each call is a method that first refuses, in the order that `refusals` tells, and then takes effect.
 
 use crate::calls::{Answer, Call, NUMBERS};
 use crate::needs::Needs;
@@ -115,10 +115,10 @@ impl Monitor {
         let (s, _) = self.tables.subject(s)?;
         let (o, object) = self.tables.object(o)?;
         let p = self.tables.empty_place(s, p)?;
-        self.test_flow([Place::of(s, o, direction)])?;
         if direction == Direction::Writing {
             self.tables.writable(object)?;
         }
+        self.test_flow([Place::of(s, o, direction)])?;
         self.tables.fill(s, p, o, direction);
         Ok(Answer::Allowed(object.level))
     }
@@ -333,8 +333,24 @@ mod tests {
         assert_eq!(after(&[(16, [0; 4]), (16, [16; 4]), (6, file)]), Answer::Allowed(9));
         assert_eq!(after(&[(16, [0; 4]), (16, [17; 4])]), Answer::Refused(6));
         assert_eq!(after(&[(16, [0; 4]), (16, [17; 4]), (6, file)]), Answer::Refused(15));
-        // Below the file's level: that is said first.
-        assert_eq!(after(&[(1, [1, 8, 0, 0]), (16, [0; 4]), (6, [1, 0, 0, 0])]), Answer::Refused(9));
+    }
+
+    #[test]
+    fn the_freeze_is_said_before_the_flow() {
+        let start = [(1, [0, 9, 0, 0]), (2, [0, 9, 0, 0]), (4, [0, 1, 0, 1]), (1, [1, 8, 0, 0])];
+        let after = |calls: &[(u32, [u32; 4])]| last(&[&start[..], calls].concat());
+        let (held, freeze) = ((6, [0, 0, 2, 0]), |level| (16, [level, 0, 0, 0]));
+        // Subject 1 is below file 0.
+        assert_eq!(after(&[freeze(9), (6, [1, 0, 0, 0])]), Answer::Refused(15));
+        assert_eq!(after(&[freeze(9), (6, [1, 0, 16, 0])]), Answer::Refused(7));
+        assert_eq!(after(&[freeze(10), (6, [1, 0, 0, 0])]), Answer::Refused(9));
+        assert_eq!(after(&[freeze(9), freeze(16), (6, [1, 0, 0, 0])]), Answer::Refused(9));
+        // A pipe is not frozen.
+        assert_eq!(after(&[held, freeze(0), (6, [1, 1, 0, 0])]), Answer::Refused(9));
+        // Nor is anything for reading.
+        let low = (2, [2, 8, 0, 0]);
+        assert_eq!(after(&[held, low, freeze(0), (5, [0, 2, 3, 0])]), Answer::Refused(9));
+        assert_eq!(after(&[held, low, freeze(0), (14, [0, 2, 3, 0])]), Answer::Refused(9));
     }
 
     #[test]

@@ -1,6 +1,7 @@
 //! What refuses a call's numbers: each function gives what a number names, or the refusal.
 //!
-//! A call goes through them by rising refusal number, so that the smallest is given; but that 16 comes right after 2.
+//! A call goes through them by rising refusal number, so that the smallest is given; but that 16 comes right after 2,
+//! and 15 just before 9.
 
 use crate::tables::{Direction, Kind, Level, Object, Place, Tables, LEVELS, NO_FREEZE};
 

@@ -64,42 +64,42 @@ all-handles m = handles-by (view m) (with-hand empty (hands (m .handles))) refl
 abbrev then : Bool → ℕ → Option ℕ → Option ℕ
 then b n o = elim b as (λ _. Option ℕ) [ true ↦ some n | false ↦ o ]
 
--- what comes before 9 comes before 10 and 15, too
-before-nine : (d : Test) → T (earlier (number d) 9 order) → T (earlier (number d) 10 order) × T (earlier (number d) 15 order)
-before-nine known h = (tt, tt)
-before-nine (alive s) h = (tt, tt)
-before-nine (present o) h = (tt, tt)
-before-nine (no-pipe o) h = (tt, tt)
-before-nine (leveled n) h = (tt, tt)
-before-nine (freezable n) h = (tt, tt)
-before-nine (new x) h = (tt, tt)
-before-nine (vacant s p) h = (tt, tt)
-before-nine (taken s p) h = (tt, tt)
-before-nine (apart p q) h = (tt, tt)
-before-nine (unlike a b) h = (tt, tt)
-before-nine (others s u) h = (tt, tt)
-before-nine (facing d s p) h = (tt, tt)
-before-nine (enough c) h = absurd h
-before-nine (suits s o) h = absurd h
-before-nine (idle o) h = absurd h
-before-nine (thawed d o) h = absurd h
+-- what comes before 15 comes before 9 and 10, too
+before-late : (d : Test) → T (earlier (number d) 15 order) → T (earlier (number d) 9 order) × T (earlier (number d) 10 order)
+before-late known h = (tt, tt)
+before-late (alive s) h = (tt, tt)
+before-late (present o) h = (tt, tt)
+before-late (no-pipe o) h = (tt, tt)
+before-late (leveled n) h = (tt, tt)
+before-late (freezable n) h = (tt, tt)
+before-late (new x) h = (tt, tt)
+before-late (vacant s p) h = (tt, tt)
+before-late (taken s p) h = (tt, tt)
+before-late (apart p q) h = (tt, tt)
+before-late (unlike a b) h = (tt, tt)
+before-late (others s u) h = (tt, tt)
+before-late (facing d s p) h = (tt, tt)
+before-late (enough c) h = absurd h
+before-late (suits s o) h = absurd h
+before-late (idle o) h = absurd h
+before-late (thawed d o) h = absurd h
 
 -- where no early row refuses, the tests of the early rows pass
-early-passed : (t : Tables) (c : Call) → Refuses t c 0 → In-order t c 9
+early-passed : (t : Tables) (c : Call) → Refuses t c 0 → In-order t c 15
 early-passed t c z d i h = go (refusal t c) refl
   where
-    b : T (earlier (number d) 10 order) × T (earlier (number d) 15 order)
-    b = before-nine d h
+    b : T (earlier (number d) 9 order) × T (earlier (number d) 10 order)
+    b = before-late d h
 
-    before : (b9 b10 b15 : Bool) (n : ℕ) → then b9 9 (then b10 10 (then b15 15 none)) ≡ some n → T (earlier (number d) n order)
-    before true b10 b15 n q = subst (λ (k : ℕ). T (earlier (number d) k order)) (Option·some-injective 9 n q) h
-    before false true b15 n q = subst (λ (k : ℕ). T (earlier (number d) k order)) (Option·some-injective 10 n q) (b .0)
-    before false false true n q = subst (λ (k : ℕ). T (earlier (number d) k order)) (Option·some-injective 15 n q) (b .1)
+    before : (b15 b9 b10 : Bool) (n : ℕ) → then b15 15 (then b9 9 (then b10 10 none)) ≡ some n → T (earlier (number d) n order)
+    before true b9 b10 n q = subst (λ (k : ℕ). T (earlier (number d) k order)) (Option·some-injective 15 n q) h
+    before false true b10 n q = subst (λ (k : ℕ). T (earlier (number d) k order)) (Option·some-injective 9 n q) (b .0)
+    before false false true n q = subst (λ (k : ℕ). T (earlier (number d) k order)) (Option·some-injective 10 n q) (b .1)
     before false false false n q = absurd (Option·none-ne-some n q)
 
     go : (o : Option ℕ) → refusal t c ≡ o → T (not (broken t d))
     go none q = passed t c q d i
-    go (some n) q = refused-by t c n q .1 d i (before (breaks t 9 (tests c)) (breaks t 10 (tests c)) (breaks t 15 (tests c)) n (sym (z .said) ∙ q))
+    go (some n) q = refused-by t c n q .1 d i (before (breaks t 15 (tests c)) (breaks t 9 (tests c)) (breaks t 10 (tests c)) n (sym (z .said) ∙ q))
 
 -- the ends of pipes at two places of a subject: one reads and one writes
 abbrev joined : (ℕ → ℕ → Option Held) → ℕ → ℕ → ℕ → ℕ → ℕ → ℕ → ℕ → Option Held
@@ -302,7 +302,7 @@ module _ (m : Monitor) (g : Long m) where
       (f : Joins (m .handles) (s % 32) (p % 16) (q % 16) (b % 64) (a % 64) one) (g′ : Joins one (u % 32) (p % 16) (q % 16) (a % 64) (b % 64) next)
       (is-one : os₁ ≡ set (m .objects) (a % 64) (record { kind = 2; level = x .level }))
       (is-both : os ≡ set os₁ (b % 64) (record { kind = 2; level = z .level })) (h : Works os next ns) where
-    passes : In-order (view m) (connect s u a b p q) 9
+    passes : In-order (view m) (connect s u a b p q) 15
     passes = early-passed (view m) (connect s u a b p q) k
 
     low-row : (v : ℕ) → In (alive v) (tests (connect s u a b p q)) → v < 32

@@ -82,7 +82,7 @@ finds {t} {c} {n} {b2} {b16} {b3} {b4} {b5} {b6} {b7} {b8} z e = record { said =
 
 -- ── the late rows ──
 abbrev pub found-late : Bool → Bool → Bool → ℕ
-found-late short busy frozen = cond short 9 (cond busy 10 (cond frozen 15 0))
+found-late short busy frozen = cond frozen 15 (cond short 9 (cond busy 10 0))
 
 pub ends : {n : ℕ} {b9 b10 b15 : Bool} → n ≡ found-late b9 b10 b15 → (t : Tables) (c : Call) → Refuses t c 0 → Late t c b9 b10 b15 → Refused t c n
 ends {n} {b9} {b10} {b15} e t c z l = record { is = z .said ∙ each ∙ go b9 b10 b15 ∙ ap by (sym e) }
@@ -90,11 +90,11 @@ ends {n} {b9} {b10} {b15} e t c z l = record { is = z .said ∙ each ∙ go b9 b
     by : ℕ → Option ℕ
     by k = cond (eqb k 0) none (some k)
 
-    each : first t (tests c) late ≡ then b9 9 (then b10 10 (then b15 15 none))
-    each = λ i. then (l .nine i) 9 (then (l .ten i) 10 (then (l .fifteen i) 15 none))
+    each : first t (tests c) late ≡ then b15 15 (then b9 9 (then b10 10 none))
+    each = λ i. then (l .fifteen i) 15 (then (l .nine i) 9 (then (l .ten i) 10 none))
 
-    go : (b9 b10 b15 : Bool) → then b9 9 (then b10 10 (then b15 15 none)) ≡ cond (eqb (found-late b9 b10 b15) 0) none (some (found-late b9 b10 b15))
-    go true b10 b15 = refl
-    go false true b15 = refl
-    go false false true = refl
+    go : (b9 b10 b15 : Bool) → then b15 15 (then b9 9 (then b10 10 none)) ≡ cond (eqb (found-late b9 b10 b15) 0) none (some (found-late b9 b10 b15))
+    go b9 b10 true = refl
+    go true b10 false = refl
+    go false true false = refl
     go false false false = refl

@@ -15,7 +15,7 @@ found absent same used missing pipe high place turned =
 
 -- the rows that are asked when those have passed, in their order
 abbrev pub late : List ℕ
-late = 9 ∷ 10 ∷ 15 ∷ []
+late = 15 ∷ 9 ∷ 10 ∷ []
 
 -- n is the number of the call's refusal; or n is 0, and what refuses it, if anything, is one of the late rows
 pub record Refuses (t : Tables) (c : Call) (n : ℕ) : Type 0 where

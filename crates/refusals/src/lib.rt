@@ -1,5 +1,6 @@
 // The conditions of RULES R2 to R8 and R16 over the few records that a call looks at: for each call the number of its refusal, 0 where
-// none of them holds. R9 and R10 ask whole tables: the caller asks them next, and `last` has their order and that of R15.
+// none of them holds. R9 and R10 ask whole tables: the caller asks them next, and `last` has their order and that of R15, which
+// goes before them.
 //
 // The records are those at the numbers that the call names, empty ones where a number is out of range (`looks`).
 ghost use mathlib.Core.Path.{_≡_};
@@ -302,14 +303,14 @@ pub fn is_frozen(freeze: u8, reads: bool, y: Object) -> bool
 pub fn last(short: bool, busy: bool, frozen: bool) -> u8
     ensures { λ r. ⌜ ((t : Tables) (c : Call) → Refuses t c 0 → Late t c short busy frozen → Refused t c r) ⌝ }
 {
+    if frozen {
+        return 15;
+    }
     if short {
         return 9;
     }
     if busy {
         return 10;
-    }
-    if frozen {
-        return 15;
     }
     0
 }

@@ -1,8 +1,9 @@
 //! The chain behind a refusal 9: how something low could reach a higher file if the call were let through.
 //!
-//! That a call is refused with 9 exactly where there is such a chain is proved (RULES R9). Which one it is,
-//! [`behind`] finds, and that is NOT PROVED. `gk explain` and the duty screen both show what it finds, so
-//! that they show the same.
+//! That a call is refused with 9 exactly where there is such a chain is proved (RULES R9), but that an open which
+//! offends the freeze as well is refused with 15 (RULES R117). Which chain it is, [`behind`] finds, and that is
+//! NOT PROVED. `gk explain` and the duty screen both show what it finds, so that they show the same; which
+//! refusals have one, [`chain_of`] says for both.
 //!
 //! ```
 //! use gatekeeper::{Answer, Call, Monitor, Refusal};
@@ -24,7 +25,7 @@
 
 mod thing;
 
-use gatekeeper::{Kind, Monitor, Way, PLACES, SUBJECTS};
+use gatekeeper::{Answer, Kind, Monitor, Refusal, Way, NO_FREEZE, PLACES, SUBJECTS};
 
 pub use thing::{flow, Thing};
 
@@ -56,6 +57,23 @@ pub fn sought(code: u32, numbers: [u32; 6]) -> Vec<(Thing, Thing)> {
             let (peer, to, from) = (Thing::Step(other), Thing::Object(to), Thing::Object(from));
             vec![(step, to), (to, peer), (peer, from), (from, step)]
         }
+        _ => Vec::new(),
+    }
+}
+
+/// Whether a call that is refused with 15 would be refused with 9 once the books are open: of the two, the freeze is
+/// said (RULES R117). It is asked of a copy of the monitor, and so the proved answer.
+pub fn is_nine_once_open(monitor: &Monitor, code: u32, numbers: [u32; 6]) -> bool {
+    let mut open = monitor.clone();
+    open.freeze(NO_FREEZE).granted().is_ok() && open.direct(code, numbers) == Answer::Refused(Refusal::Flow)
+}
+
+/// The chain that is told of a refusal, in the monitor before the call: at a 9 the one behind it, at a 15 the one behind
+/// the 9 that comes once the books are open, where it does. Other refusals have none.
+pub fn chain_of(monitor: &Monitor, refusal: Refusal, code: u32, numbers: [u32; 6]) -> Vec<Link> {
+    match refusal {
+        Refusal::Flow => behind(monitor, code, numbers),
+        Refusal::Frozen if is_nine_once_open(monitor, code, numbers) => behind(monitor, code, numbers),
         _ => Vec::new(),
     }
 }
@@ -162,7 +180,6 @@ fn way_to(mut at: usize, reached: &[(Link, usize)]) -> Vec<Link> {
 #[cfg(test)]
 mod tests {
     use super::*;
-    use gatekeeper::{Answer, Refusal};
     use Thing::{Object, Step};
 
     fn found(monitor: &mut Monitor, code: u32, numbers: [u32; 6]) -> Vec<(Thing, u8)> {
@@ -193,6 +210,33 @@ mod tests {
         assert_eq!(found(&mut monitor, OPEN_WRITE, [1, 0, 0, 0, 0, 0]), [(Step(1), 5), (Object(0), 9)]);
         let channel = found(&mut monitor, CONNECT, [0, 1, 5, 6, 1, 2]);
         assert_eq!(channel, [(Step(1), 5), (Object(6), 5), (Step(0), 9), (Object(0), 9)]);
+        Ok(())
+    }
+
+    /// RULES R117: a 15 has the chain of the 9 behind it, and none where there is no 9.
+    #[test]
+    fn a_fifteen_has_the_chain_of_the_nine_behind_it() -> Result<(), Refusal> {
+        let mut monitor = book()?;
+        monitor.admit(1, 5).granted()?;
+        monitor.freeze(9).granted()?;
+        let (own, low) = ([0, 0, 1, 0, 0, 0], [1, 0, 0, 0, 0, 0]);
+        for numbers in [own, low] {
+            assert_eq!(monitor.direct(OPEN_WRITE, numbers), Answer::Refused(Refusal::Frozen));
+        }
+        let things = |numbers| -> Vec<Thing> {
+            let chain = chain_of(&monitor, Refusal::Frozen, OPEN_WRITE, numbers);
+            chain.iter().map(|link| link.thing).collect()
+        };
+        assert_eq!(things(own), []);
+        assert_eq!(things(low), [Step(1), Object(0)]);
+        // It is the chain that the 9 has then.
+        let mut open = monitor.clone();
+        open.freeze(NO_FREEZE).granted()?;
+        let then = chain_of(&open, Refusal::Flow, OPEN_WRITE, low);
+        assert_eq!(chain_of(&monitor, Refusal::Frozen, OPEN_WRITE, low), then);
+        assert_eq!(open.direct(OPEN_WRITE, low), Answer::Refused(Refusal::Flow));
+        // A refusal that says something else has none.
+        assert!(chain_of(&monitor, Refusal::PlaceUnfit, OPEN_WRITE, low).is_empty());
         Ok(())
     }
 

@@ -1,8 +1,8 @@
 //! Drawn calls: each that is refused with 9 has a chain, and it is the one that is to be chosen, which is
-//! told in another way here.
+//! told in another way here; and so has each that is refused with 15 and would be with 9 once the books are open.
 
-use gatekeeper::{Answer, Kind, Monitor, Refusal, Way, OBJECTS, PLACES, SUBJECTS};
-use gk_chain::{behind, flow, sought, Link, Thing};
+use gatekeeper::{Answer, Kind, Monitor, Refusal, Way, NO_FREEZE, OBJECTS, PLACES, SUBJECTS};
+use gk_chain::{behind, chain_of, flow, sought, Link, Thing};
 
 const RUNS: u64 = 500;
 const CALLS: usize = 600;
@@ -35,6 +35,7 @@ fn drawn(draw: &mut Draw, size: &Size, monitor: &Monitor) -> (u32, [u32; 6]) {
     let codes = [1, 1, 2, 2, 4, 4, 5, 5, 6, 6, 9, 10, 14, 15, 17, 17, 17, 11, 3, 7, 8];
     let code = match draw.below(80) {
         0 => [12, 13][draw.below(2) as usize],
+        1 | 2 => 16,
         _ => codes[draw.below(codes.len() as u32) as usize],
     };
     let (s, t) = (draw.below(size.steps), draw.below(size.steps));
@@ -52,6 +53,8 @@ fn drawn(draw: &mut Draw, size: &Size, monitor: &Monitor) -> (u32, [u32; 6]) {
         7 | 8 | 11 | 15 => [s, p, 0, 0, 0, 0],
         12 => [s, 0, 0, 0, 0, 0],
         13 => [o, 0, 0, 0, 0, 0],
+        // As often as not the books are open.
+        16 => [level + draw.below(2) * (NO_FREEZE - level), 0, 0, 0, 0, 0],
         17 => [s, t, to, from, one, other],
         _ => [s, o, one, 0, 0, 0],
     };
@@ -172,6 +175,8 @@ fn holds(monitor: &Monitor, code: u32, numbers: [u32; 6]) -> usize {
 #[test]
 fn each_nine_has_its_chain_and_nothing_else_has_one() {
     let (mut nines, mut lengths) = ([0; 18], [0; Thing::COUNT + 1]);
+    // Of the calls refused with 15: those that are then refused with 9, and those that are then let through.
+    let mut fifteens = [0; 2];
     for run in 0..RUNS {
         let mut draw = Draw(run);
         let size = Size { steps: draw.between(3, SUBJECTS), objects: draw.between(4, OBJECTS) };
@@ -184,6 +189,19 @@ fn each_nine_has_its_chain_and_nothing_else_has_one() {
                     nines[code as usize] += 1;
                     lengths[holds(&before, code, numbers)] += 1;
                 }
+                Answer::Refused(Refusal::Frozen) => {
+                    let mut open = before.clone();
+                    open.freeze(NO_FREEZE).granted().expect("no freeze is a freeze");
+                    let chain = chain_of(&before, Refusal::Frozen, code, numbers);
+                    let is_nine = open.clone().direct(code, numbers) == Answer::Refused(Refusal::Flow);
+                    if is_nine {
+                        assert_eq!(chain, behind(&open, code, numbers));
+                        holds(&open, code, numbers);
+                    } else {
+                        assert!(chain.is_empty() && open.direct(code, numbers).granted().is_ok());
+                    }
+                    fifteens[usize::from(!is_nine)] += 1;
+                }
                 Answer::Refused(_) => {}
                 _ => assert!(behind(&before, code, numbers).is_empty(), "code {code}, {numbers:?}"),
             }
@@ -191,4 +209,5 @@ fn each_nine_has_its_chain_and_nothing_else_has_one() {
     }
     assert!([5, 6, 10, 14, 17].iter().all(|&code| nines[code] > 100), "{nines:?}");
     assert!(lengths[2..8].iter().all(|&count| count > 10), "{lengths:?}");
+    assert!(fifteens.iter().all(|&count| count > 100), "{fifteens:?}");
 }

@@ -7,6 +7,8 @@ const PLACES = 16;
 const THINGS = 96;
 const FREEZE = 96;
 const NO_FREEZE = 16;
+/** The refusal of an open for writing while the books are closed. */
+const FROZEN = 15;
 const READS = 1;
 const WRITES = 2;
 const MAPS = 3;

@@ -96,7 +96,10 @@ function showSaid(to, said, state) {
   byId("live").textContent = `${aloud.join(". ")}.`;
 }
 
-/** The chain of a refusal 9, from the low thing to the high file; the middle of a long one is left out. */
+/**
+ * The chain of a refusal 9, or of the 9 behind a 15, from the low thing to the high file; the middle of a long one is
+ * left out.
+ */
 function showChain(to, said, state) {
   const links = said.chain;
   const isSought = (from, there) => said.sought.some(([one, other]) => one === from && other === there);
@@ -123,6 +126,8 @@ function showChain(to, said, state) {
     }
   }
   byId("chain").replaceChildren(...kept);
+  const isFrozen = said.letter === "R" && said.value === FROZEN;
+  byId("chain-title").textContent = `The way that it would open${isFrozen ? ", were the books open" : ""}`;
   byId("chain-part").hidden = links.length === 0;
 }
 

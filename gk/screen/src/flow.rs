@@ -1,7 +1,8 @@
 //! Refusal 9: what stands in the way, and the ways out. Each way that names a handle or a step is tried on a copy of
-//! the monitor, by the archive's own calls, before it is named.
+//! the monitor with the books open, by the archive's own calls, before it is named: a freeze would hide a 9 (RULES
+//! R117). A way starts with a small letter, since other words may stand before it.
 
-use gatekeeper::{Answer, Kind, Monitor, Refusal, Way};
+use gatekeeper::{Answer, Kind, Monitor, Way, NO_FREEZE};
 use gk_chain::Link;
 
 use crate::phrase::{phrase, Phrase, Piece};
@@ -52,7 +53,7 @@ impl Asked<'_> {
         ways.extend(self.one_way());
         if let (Thing::Object(o), Some(Kind::File)) = (low.thing, low.kind) {
             ways.push(phrase![
-                "Have ",
+                "have ",
                 Piece::File(o),
                 " looked over; then retire it and register it again at level ",
                 high.level,
@@ -81,7 +82,7 @@ impl Asked<'_> {
             };
             if is_own_exec && self.passes(|monitor| each(monitor, Monitor::mark)) {
                 ways.push(phrase![
-                    "Mark ",
+                    "mark ",
                     place,
                     Piece::List(places.clone()),
                     " of ",
@@ -93,7 +94,7 @@ impl Asked<'_> {
                 let what = carriers.what.clone();
                 ways.push(
                     phrase![
-                        "Close ",
+                        "close ",
                         place,
                         Piece::List(places.clone()),
                         " of ",
@@ -114,7 +115,7 @@ impl Asked<'_> {
         if let (true, Some(carriers)) = (ways.is_empty(), carried.first()) {
             let (places, step) = (Piece::List(carriers.places.clone()), Piece::Step(carriers.step));
             ways.push(phrase![
-                "More than one way leads there. Close place ",
+                "more than one way leads there. Close place ",
                 places,
                 " of ",
                 step,
@@ -133,7 +134,7 @@ impl Asked<'_> {
             self.passes(|monitor| places.iter().all(|&p| monitor.close(s, p).granted().is_ok()));
         is_enough.then(|| {
             phrase![
-                "Close places ",
+                "close places ",
                 Piece::List(places),
                 " of ",
                 Piece::Step(s),
@@ -151,10 +152,18 @@ impl Asked<'_> {
         Some(Carriers { step, places, what: crate::words::does(handle, self.before) })
     }
 
-    /// Whether the call passes the flow rule once something else was done; it may then still be frozen.
+    /// Whether the call passes the flow rule once something else was done.
     fn passes(&self, first: impl FnOnce(&mut Monitor) -> bool) -> bool {
-        let mut tried = self.monitor.clone();
-        first(&mut tried) && does_pass(tried.direct(self.code, self.numbers))
+        let mut tried = self.with_open_books();
+        first(&mut tried) && tried.direct(self.code, self.numbers).granted().is_ok()
+    }
+
+    /// A copy of the monitor without a freeze.
+    fn with_open_books(&self) -> Monitor {
+        let mut open = self.monitor.clone();
+        // No freeze is a freeze that is never refused.
+        let _ = open.freeze(NO_FREEZE);
+        open
     }
 
     /// Another step that may make the open or the map, the one that holds least first.
@@ -168,21 +177,21 @@ impl Asked<'_> {
         others.sort_by_key(|&other| self.before.held(other).count());
         let fit = others.into_iter().take(MOST_TRIED).find(|&other| {
             let place = (0..PLACES).find(|&p| self.before.handle(other, p).is_none());
-            let mut tried = self.monitor.clone();
-            place.is_some_and(|p| does_pass(tried.direct(self.code, [other, o, p, 0, 0, 0])))
+            let mut tried = self.with_open_books();
+            place.is_some_and(|p| tried.direct(self.code, [other, o, p, 0, 0, 0]).granted().is_ok())
         });
         vec![match (fit, self.code) {
-            (Some(fit), 6) => phrase!["Let another step write it: ", Piece::Step(fit), " may."],
+            (Some(fit), 6) => phrase!["let another step write it: ", Piece::Step(fit), " may."],
             (None, 6) => phrase![
-                "Let a step of level ",
+                "let a step of level ",
                 high.level,
                 or_above(high),
                 " write it, one that takes in nothing lower."
             ],
             (Some(fit), _) => {
-                phrase!["Let another step read it, one with no way up: ", Piece::Step(fit), " may."]
+                phrase!["let another step read it, one with no way up: ", Piece::Step(fit), " may."]
             }
-            (None, _) => phrase!["Let another step read it, one with no way to ", named(high), "."],
+            (None, _) => phrase!["let another step read it, one with no way to ", named(high), "."],
         }]
     }
 
@@ -201,7 +210,7 @@ impl Asked<'_> {
         free.into_iter()
             .map(|(from, to)| {
                 phrase![
-                    "If data need only go from ",
+                    "if data need only go from ",
                     from.clone(),
                     " to ",
                     to.clone(),
@@ -221,10 +230,6 @@ struct Carriers {
     step: u32,
     places: Vec<u32>,
     what: Phrase,
-}
-
-fn does_pass(answer: Answer) -> bool {
-    matches!(answer, Answer::Allowed(_) | Answer::Lowered(_) | Answer::Refused(Refusal::Frozen))
 }
 
 fn named(link: &Link) -> Piece {

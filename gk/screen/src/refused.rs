@@ -105,7 +105,7 @@ impl Asked<'_> {
                     phrase![object(a, self.before), " is open: "].then(self.holders(a)).then(phrase!["."]);
                 one(why, phrase!["Close these handles, or let the steps exit; then retire it."])
             }
-            Refusal::Frozen => self.frozen(b, closing),
+            Refusal::Frozen => self.frozen(b, chain, closing),
             Refusal::SameSubject => one(
                 phrase!["Both ends would be ", Piece::Step(a), "."],
                 phrase![
@@ -244,11 +244,12 @@ impl Asked<'_> {
         (vec![phrase!["The handle at place ", p, " of ", Piece::Step(s), " ", why]], vec![way])
     }
 
-    fn frozen(&self, o: u32, closing: Option<Closing>) -> Both {
+    /// A 15; where it is a 9 once the books are open (RULES R117), `chain` is the one behind that.
+    fn frozen(&self, o: u32, chain: &[Link], closing: Option<Closing>) -> Both {
         let state = self.before;
         let level = state.object(o).map_or(0, |object| object.level);
         let (from, since) = closing.map_or((level, 0), |closing| (closing.level, closing.record));
-        let why = phrase![
+        let mut why = vec![phrase![
             "The books are closed from level ",
             from,
             " up since record ",
@@ -258,8 +259,20 @@ impl Asked<'_> {
             " has level ",
             level,
             "."
-        ];
+        ]];
         let mut ways = vec![phrase!["Wait until the books are open again, and open it then."]];
+        if !chain.is_empty() {
+            let (flow, out) = self.flow(chain);
+            let then = phrase![
+                " Once they are open again, this open would be refused with 9: ",
+                Refusal::Flow.words(),
+                "."
+            ];
+            why = vec![why.remove(0).then(then)];
+            why.extend(flow);
+            ways =
+                out.into_iter().map(|way| phrase!["once the books are open again, "].then(way)).collect();
+        }
         let held: Vec<Phrase> = state
             .holders(o)
             .filter(|(_, _, handle)| handle.way == Way::Writes)
@@ -276,7 +289,7 @@ impl Asked<'_> {
         if from > 0 {
             ways.push(phrase!["Write to a file below level ", from, "."]);
         }
-        (vec![why], ways)
+        (why, ways)
     }
 
     fn holders(&self, o: u32) -> Phrase {

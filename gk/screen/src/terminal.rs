@@ -2,7 +2,7 @@
 
 use std::collections::VecDeque;
 
-use gatekeeper::{Answer, Way};
+use gatekeeper::{Answer, Refusal, Way};
 use gk_chain::Link;
 
 use crate::names::Names;
@@ -124,8 +124,10 @@ impl Screen {
             return lines;
         }
         let chain = (!told.chain.is_empty()).then(|| self.chain(&told.chain));
-        let why = chain.into_iter().chain(told.why.iter().take(1).map(|why| self.said(why)));
-        for text in why {
+        let why = told.why.first().map(|why| self.said(why));
+        // At a 15 the books come first, and the chain of the 9 behind it after them.
+        let both = if turn.refusal() == Some(Refusal::Frozen) { [why, chain] } else { [chain, why] };
+        for text in both.into_iter().flatten() {
             lines.extend(wrapped(&" ".repeat(7), &text, 9).into_iter().map(|line| Line(Look::Plain, line)));
         }
         lines

@@ -3,7 +3,7 @@
 use std::collections::HashMap;
 
 use gatekeeper::{Answer, Refusal};
-use gk_chain::{behind, sought, Link};
+use gk_chain::{chain_of, sought, Link};
 
 use crate::names::Names;
 use crate::phrase::{object, phrase, Phrase, Piece};
@@ -19,9 +19,9 @@ pub struct Told {
     pub why: Vec<Phrase>,
     pub ways: Vec<Phrase>,
     pub changed: Vec<Phrase>,
-    /// The chain behind a 9, from the low thing to the higher file.
+    /// The chain behind a 9, or behind a 15 that is a 9 once the books are open, from the low thing to the higher file.
     pub chain: Vec<Link>,
-    /// The flows that a call refused with 9 would have added.
+    /// The flows that such a call would have added.
     pub sought: Vec<(Thing, Thing)>,
     /// The things that the record is about.
     pub about: Vec<Thing>,
@@ -63,9 +63,11 @@ impl Memory {
             ..Told::default()
         };
         if let Some(refusal) = turn.refusal() {
-            if let (Refusal::Flow, Body::Call { code, numbers }) = (refusal, turn.body) {
-                told.chain = behind(&turn.before, code, numbers);
-                told.sought = sought(code, numbers);
+            if let Body::Call { code, numbers } = turn.body {
+                told.chain = chain_of(&turn.before, refusal, code, numbers);
+                if !told.chain.is_empty() {
+                    told.sought = sought(code, numbers);
+                }
             }
             (told.why, told.ways) = reasons(turn, refusal, before, &told.chain, self.closing);
         } else {
@@ -245,11 +247,54 @@ mod tests {
         let held = "Use a handle that is open, which goes on writing: step 0 at place 0.";
         let wait = "Wait until the books are open again, and open it then.";
         assert_eq!(ways, [wait, held, "Write to a file below level 9."]);
-        // A 9 comes before the freeze, which is told as well.
-        let low = Call::Admit { subject: 1, level: 2 };
-        let (why, _) =
-            said(&[STEP, BOOK, freeze, low, Call::OpenWrite { subject: 1, object: 0, place: 0 }]);
-        assert_eq!(why[2], "Also, the books are closed from level 9 up since record 3.");
+        // Where another number is said first, the books are told of as well.
+        let (why, _) = said(&[STEP, BOOK, WRITES, freeze, WRITES]);
+        assert_eq!(
+            why,
+            ["Place 0 of step 0 is taken.", "Also, the books are closed from level 9 up since record 4."]
+        );
+    }
+
+    /// RULES R117: the freeze is said, and what comes once the books are open is told with it.
+    #[test]
+    fn a_fifteen_tells_of_the_nine_behind_it() {
+        let freeze = Call::Freeze { level: 9 };
+        let (reads, asks) = (
+            Call::OpenRead { subject: 0, object: 1, place: 1 },
+            Call::OpenWrite { subject: 0, object: 0, place: 4 },
+        );
+        let (why, ways) = said(&[STEP, BOOK, SHEET, reads, freeze, asks]);
+        assert_eq!(
+            why[..2],
+            [
+                "The books are closed from level 9 up since record 5, and file 0 has level 9. Once they are open again, \
+                 this open would be refused with 9: low data could reach a higher file.",
+                "File 1 has level 2, and file 0 takes nothing from below level 9.",
+            ]
+        );
+        assert_eq!(
+            ways,
+            [
+                "Once the books are open again, close place 1 of step 0, which reads file 1; then ask again.",
+                "Once the books are open again, let a step of level 9 or above write it, one that takes in nothing lower.",
+                "Once the books are open again, have file 1 looked over; then retire it and register it again at level 9 \
+                 or above.",
+                "Write to a file below level 9.",
+            ]
+        );
+        // Another step that may; a closing that does not help is not advised.
+        let (low, other) =
+            (Call::Admit { subject: 1, level: 2 }, Call::OpenWrite { subject: 1, object: 0, place: 0 });
+        let (why, ways) = said(&[STEP, BOOK, WRITES, freeze, low, other]);
+        assert_eq!(why[1], "Step 1 has level 2, and file 0 takes nothing from below level 9.");
+        assert_eq!(
+            ways,
+            [
+                "Once the books are open again, let another step write it: step 0 may.",
+                "Use a handle that is open, which goes on writing: step 0 at place 0.",
+                "Write to a file below level 9.",
+            ]
+        );
     }
 
     #[test]

@@ -1,7 +1,8 @@
 //! Trials on generated journals of a fixed seed: what is shown beside the independent program, and that nothing fails.
 
-use gatekeeper::{replay, Kind, Way, JOURNAL_BYTES};
+use gatekeeper::{replay, Kind, Way, JOURNAL_BYTES, NO_FREEZE};
 use gatekeeper_independent::generate::{journal, Style, Wish, STYLES};
+use gatekeeper_independent::monitor::{Answer as OtherAnswer, Monitor as OtherMonitor};
 use gatekeeper_independent::needs::{Needs, Thing as Other};
 use gatekeeper_independent::replies;
 use gatekeeper_independent::tables::{Direction, Kind as OtherKind, Tables};
@@ -66,7 +67,7 @@ fn agrees(state: &State, tables: &Tables) {
 
 #[test]
 fn what_is_shown_is_what_the_independent_program_has() {
-    let (mut records, mut nines) = (0, 0);
+    let (mut records, mut nines, mut hidden) = (0, 0, 0);
     for journal in journals() {
         let mut run = Run::new();
         let mut other = replies::Run::new(&journal, Rules::default());
@@ -85,7 +86,9 @@ fn what_is_shown_is_what_the_independent_program_has() {
             lines.push('\n');
             let told = memory.tell(&turn, &before, &state);
             let is_nine = lines.ends_with(" R 9\n");
-            assert_eq!(!told.chain.is_empty(), is_nine, "{}", turn.line());
+            let is_hidden = lines.ends_with(" R 15\n") && is_nine_once_open(other.monitor(), turn.body);
+            assert_eq!(!told.chain.is_empty(), is_nine || is_hidden, "{}", turn.line());
+            hidden += u32::from(is_hidden);
             if let (Body::Call { code, numbers }, [low, .., high]) = (turn.body, &told.chain[..]) {
                 is_a_way(
                     code,
@@ -104,6 +107,17 @@ fn what_is_shown_is_what_the_independent_program_has() {
         assert!(other.next_step().is_none());
     }
     assert!(records > 50_000 && nines > 1_500, "{records} records, {nines} nines");
+    assert!(hidden > 100, "{hidden} nines behind a fifteen");
+}
+
+/// Whether the independent program refuses a call with 9 once there is no freeze.
+fn is_nine_once_open(monitor: &OtherMonitor, body: Body) -> bool {
+    let Body::Call { code, numbers } = body else {
+        return false;
+    };
+    let mut open = monitor.clone();
+    let _ = open.call(16, [NO_FREEZE, 0, 0, 0, 0, 0]);
+    open.call(code, numbers) == OtherAnswer::Refused(9)
 }
 
 /// Each link of a chain is a handle that is open or a flow that the call asks for, and one of these is among them.

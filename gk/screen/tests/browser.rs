@@ -11,8 +11,10 @@ use std::time::{Duration, Instant};
 use devtools::json::Json;
 use devtools::Browser;
 use gatekeeper_independent::generate::{journal, Style, Wish};
+use gatekeeper_independent::monitor::Answer;
 use gatekeeper_independent::needs::{Needs, Thing};
-use gatekeeper_independent::replies::Run;
+use gatekeeper_independent::records::Body;
+use gatekeeper_independent::replies::{Content, Run};
 use gatekeeper_independent::tables::{Direction, Kind, Tables};
 use gatekeeper_independent::variants::Rules;
 
@@ -30,7 +32,7 @@ const SAID: &str = "(() => {
   return {
     line: text('line'), asked: text('asked'), answer: text('answer'), books: text('books'), live: text('live'),
     why: list('why'), ways: isShown('ways-part') ? list('ways') : [], changed: list('changed'),
-    chain: isShown('chain-part') ? list('chain') : [],
+    chain: isShown('chain-part') ? list('chain') : [], way: text('chain-title'),
     steps: table('steps'), objects: table('objects'), slider: document.getElementById('slider').value,
     things: document.querySelectorAll('#graph .thing:not(.ghost)').length,
     chained: document.querySelectorAll('#graph .edge.chain, #graph .edge.sought').length,
@@ -179,8 +181,20 @@ fn count(cell: &str) -> usize {
     }
 }
 
-/// Goes through all records with the right arrow, and back a few with the left one.
-fn walk(browser: &mut Browser, paged: &Paged) {
+/// Whether the independent program refuses a record's call with 9 once there is no freeze.
+fn is_nine_once_open(run: &Run, content: Content) -> bool {
+    let Content::Body(_, Body::Call { code, numbers }) = content else {
+        return false;
+    };
+    let mut open = run.monitor().clone();
+    let _ = open.call(16, [gatekeeper::NO_FREEZE, 0, 0, 0, 0, 0]);
+    open.call(code, numbers) == Answer::Refused(9)
+}
+
+/// Goes through all records with the right arrow, and back a few with the left one. Says how many were a 15 behind
+/// which a 9 stands.
+fn walk(browser: &mut Browser, paged: &Paged) -> usize {
+    let mut hidden = 0;
     browser.open(&paged.page, "#0");
     let mut run = Run::new(&paged.journal, Rules::default());
     let mut replies = gatekeeper::replay(&paged.journal);
@@ -190,7 +204,7 @@ fn walk(browser: &mut Browser, paged: &Paged) {
     assert_eq!(browser.value(SAID).get("line").text(), "");
     for ((reply, line), sentences) in replies.iter().zip(&paged.lines).zip(&paged.sentences) {
         browser.press("ArrowRight", 39, false);
-        run.next_step().expect("a record");
+        let step = run.next_step().expect("a record");
         let said = browser.value(SAID);
         assert_eq!(said.get("line").text(), *reply);
         assert_eq!(&as_line(&said), line);
@@ -204,9 +218,15 @@ fn walk(browser: &mut Browser, paged: &Paged) {
         assert_eq!(said.get("slider").text(), reply.split(' ').next().unwrap_or(""));
         assert!(said.get("live").text().contains(said.get("asked").text()), "{said:?}");
         tables_agree(&said, run.monitor().tables());
-        let is_nine = reply.ends_with(" R 9");
-        assert_eq!(!said.get("chain").list().is_empty(), is_nine, "{reply}");
-        assert_eq!(said.get("chained").number() > Some(0.0), is_nine, "{reply}");
+        let is_hidden = reply.ends_with(" R 15") && is_nine_once_open(&run, step.content);
+        let has_chain = reply.ends_with(" R 9") || is_hidden;
+        assert_eq!(!said.get("chain").list().is_empty(), has_chain, "{reply}");
+        assert_eq!(said.get("chained").number() > Some(0.0), has_chain, "{reply}");
+        if has_chain {
+            let way = said.get("way").text();
+            assert_eq!(way.ends_with(", were the books open"), is_hidden, "{reply}: {way}");
+        }
+        hidden += usize::from(is_hidden);
     }
     browser.press("ArrowRight", 39, false);
     assert_eq!(
@@ -218,6 +238,7 @@ fn walk(browser: &mut Browser, paged: &Paged) {
         browser.press("ArrowLeft", 37, false);
         assert_eq!(browser.value(SAID).get("line").text(), *reply);
     }
+    hidden
 }
 
 #[test]
@@ -269,12 +290,16 @@ fn march_is_walked_by_keyboard() {
 #[ignore = "needs a browser: tools/screen-browser"]
 fn generated_journals_are_walked_by_keyboard() {
     let mut browser = browser();
-    for (name, style, calls) in
-        [("calls", Style::Calls, 500), ("rings", Style::Rings, 300), ("garbled", Style::Garbled, 150)]
-    {
-        let journal = journal(7, 3, Wish { style, calls: Some(calls), bytes: None });
-        walk(&mut browser, &Paged::new(name, journal, &[]));
+    let mut hidden = 0;
+    for (name, style, index, calls) in [
+        ("calls", Style::Calls, 2, 500),
+        ("rings", Style::Rings, 3, 300),
+        ("garbled", Style::Garbled, 3, 150),
+    ] {
+        let journal = journal(7, index, Wish { style, calls: Some(calls), bytes: None });
+        hidden += walk(&mut browser, &Paged::new(name, journal, &[]));
     }
+    assert!(hidden > 0, "no 9 behind a 15 was walked over");
 }
 
 #[test]

@@ -1,13 +1,16 @@
 //! Ways out of a refusal 15: wait until the books are open, go on with a handle that is held, or write somewhere lower.
+//! Where the open would be refused with 9 once they are open (RULES R117), to wait is not enough: the ways out of that
+//! 9 take its place.
 
 use gatekeeper::{Call, NO_FREEZE};
 
-use super::{some_of, tried, Counsel, MOST_NAMED};
+use super::{flow, some_of, tried, Counsel, MOST_NAMED};
 use crate::explain::scene::Scene;
 use crate::things::{handles_on, is_file, objects};
 
 pub fn counsel(call: Call, scene: Scene) -> Counsel {
     let mut counsel = Counsel::default();
+    let mut later = Counsel::default();
     let Call::OpenWrite { subject, object, place } = call else {
         return counsel;
     };
@@ -18,6 +21,9 @@ pub fn counsel(call: Call, scene: Scene) -> Counsel {
             format!("wait until the books are open again (freeze {NO_FREEZE}) and open it then."),
             calls,
         );
+    } else {
+        later = flow::counsel(call, scene);
+        counsel.ways.append(&mut later.ways);
     }
 
     // A handle that is held is never cut off (RULES R118); those of the step that asks first.
@@ -56,5 +62,6 @@ pub fn counsel(call: Call, scene: Scene) -> Counsel {
             vec![Call::OpenWrite { subject, object: first, place }],
         );
     }
+    counsel.notes.append(&mut later.notes);
     counsel
 }

@@ -3,7 +3,10 @@
 use gatekeeper::{Call, NO_FREEZE};
 
 use super::closing::handle_words;
-use super::{aim, aim_after, close_calls, once_open, refusal_of, refused_words, some_of, tried, Counsel};
+use super::{
+    aim, aim_after, close_calls, once_open, refusal_of, refused_here, refused_words, some_of, tried,
+    Counsel,
+};
 use crate::calls::{number_of, with_number};
 use crate::explain::scene::Scene;
 use crate::things::{handles_on, is_file, is_pipe, objects, steps, Held, HIGHEST, OBJECTS, STEPS};
@@ -58,8 +61,7 @@ pub fn missing_step(call: Call, scene: Scene) -> Counsel {
             }
             None => {
                 let after = tried(monitor, &admits(HIGHEST)).ok();
-                if let Some(refusal) = after.and_then(|after| refusal_of(&after, call)) {
-                    let refused = refused_words(refusal);
+                if let Some(refused) = after.and_then(|after| refused_here(&after, call)) {
                     counsel.note(format!("With {words} there, at level {HIGHEST}, it would be {refused}."));
                 }
             }
@@ -242,10 +244,9 @@ pub fn missing_object(call: Call, scene: Scene) -> Counsel {
             }
             None => {
                 let after = tried(monitor, &[register(HIGHEST)]).ok();
-                if let Some(refusal) = after.and_then(|after| refusal_of(&after, call)) {
+                if let Some(refused) = after.and_then(|after| refused_here(&after, call)) {
                     counsel.note(format!(
-                        "With a file {object} there, at level {HIGHEST}, it would be {}.",
-                        refused_words(refusal)
+                        "With a file {object} there, at level {HIGHEST}, it would be {refused}."
                     ));
                 }
             }

@@ -2,7 +2,7 @@
 
 use gatekeeper::Call;
 
-use super::{aim, aim_after, once_open, refusal_of, refused_words, Counsel};
+use super::{aim, aim_after, once_open, refusal_of, refused_here, Counsel};
 use crate::calls::{number_of, with_number};
 use crate::explain::scene::{capital, listed, Scene};
 use crate::things::{empty_places, handles_of, Held, PLACES};
@@ -85,8 +85,8 @@ fn empty_place(call: Call, scene: Scene) -> Counsel {
 
 /// What the same call would be refused with at places that are empty.
 fn then_refused(call: Call, places: &str, scene: Scene, counsel: &mut Counsel) {
-    if let Some(refusal) = refusal_of(scene.monitor, call) {
-        counsel.note(format!("At {places}, it would be {}.", refused_words(refusal)));
+    if let Some(refused) = refused_here(scene.monitor, call) {
+        counsel.note(format!("At {places}, it would be {refused}."));
     }
 }
 
@@ -232,8 +232,8 @@ pub fn wrong_direction(call: Call, scene: Scene) -> Counsel {
             );
         }
         None => {
-            if let Some(refusal) = refusal_of(monitor, open) {
-                counsel.note(format!("To open it for {word} as well would be {}.", refused_words(refusal)));
+            if let Some(refused) = refused_here(monitor, open) {
+                counsel.note(format!("To open it for {word} as well would be {refused}."));
             }
         }
     }

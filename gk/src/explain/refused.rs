@@ -1,11 +1,11 @@
-//! A refusal in words: what did not happen and why, the chain behind a 9, and the ways out.
+//! A refusal in words: what did not happen and why, the chain behind a 9, also one that a 15 hides, and the ways out.
 
 use gatekeeper::{Call, Refusal, NO_FREEZE};
-use gk_chain::{behind, Link};
+use gk_chain::{chain_of, Link};
 
 use super::asked::{asked, not_done};
 use super::scene::{listed, sentence, way_word, Scene};
-use crate::advice::{counsel, or_above, Closing, Counsel};
+use crate::advice::{counsel, nine_once_open, or_above, Closing, Counsel};
 use crate::calls::{number_of, SHAPES};
 use crate::names::Kind;
 use crate::records::{body_words, length_words};
@@ -22,18 +22,19 @@ pub struct Refused {
 
 /// A call that was refused; `scene` is the moment before it.
 pub fn refused(call: Call, refusal: Refusal, scene: Scene, closing: Option<Closing>) -> Refused {
-    let chain = match refusal {
-        Refusal::Flow => behind(scene.monitor, call.code(), call.numbers()),
-        _ => Vec::new(),
-    };
-    let chain: Vec<(Link, String)> =
-        chain.into_iter().map(|link| (link, link_name(link, call, scene))).collect();
+    let chain: Vec<(Link, String)> = chain_of(scene.monitor, refusal, call.code(), call.numbers())
+        .into_iter()
+        .map(|link| (link, link_name(link, call, scene)))
+        .collect();
     let why = why(call, refusal, scene, closing, &chain);
     let asked = asked(call, scene, false);
     let title = if why.is_empty() { format!("{asked}.") } else { format!("{asked}: {why}.") };
     let mut facts =
         vec![format!("Refused ({}): {}. {}", refusal.number(), refusal.words(), not_done(call))];
     if let (Some((low, low_name)), Some((high, high_name))) = (chain.first(), chain.last()) {
+        if refusal == Refusal::Frozen {
+            facts.push(format!("{}.", sentence(&nine_once_open("it would be refused with"))));
+        }
         facts.push(format!(
             "{} has level {}, and {high_name} takes nothing from below level {}.",
             super::scene::capital(low_name),

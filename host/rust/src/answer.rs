@@ -42,8 +42,8 @@ impl Answer {
 }
 
 /// Why a call, a record or a journal was refused. Where several hold, the smallest number is given, but 14 goes
-/// before all others, 12 before 2 to 10, and 16 right after 2. So an open that is `Frozen` is one that nothing but the
-/// freeze forbids.
+/// before all others, 12 before 2 to 10, 15 and 16, 16 right after 2, and 15 just before 9. So an open that is `Flow` is
+/// one that no freeze forbids, and one that is `Frozen` may be `Flow` once the freeze is lifted.
 #[non_exhaustive]
 #[derive(Clone, Copy, Debug, PartialEq, Eq, PartialOrd, Ord, Hash)]
 pub enum Refusal {

@@ -531,4 +531,24 @@ mod tests {
         let close = Call::Close { subject: 0, place: 5 };
         assert_eq!(state.quickly(close.code(), close.numbers()), None);
     }
+
+    /// Both ways that a call can take here say the same.
+    #[test]
+    fn an_open_that_offends_the_freeze_and_the_flow_is_frozen() {
+        let mut state = State::new();
+        assert_eq!(state.call(Call::Admit { subject: 0, level: 8 }), Answer::Allowed(8));
+        assert_eq!(state.call(Call::Register { object: 0, level: 9 }), Answer::Allowed(9));
+        let open = Call::OpenWrite { subject: 0, object: 0, place: 0 };
+        for (freeze, refusal) in
+            [(9, Refusal::Frozen), (0, Refusal::Frozen), (10, Refusal::Flow), (16, Refusal::Flow)]
+        {
+            assert_eq!(state.call(Call::Freeze { level: freeze }), Answer::Allowed(freeze as u8));
+            assert_eq!(state.call(open), Answer::Refused(refusal), "freeze {freeze}");
+            let quick = state.quickly(open.code(), open.numbers());
+            assert!(
+                quick.is_none_or(|quick| quick == Answer::Refused(refusal)),
+                "freeze {freeze}: {quick:?}"
+            );
+        }
+    }
 }

@@ -305,8 +305,9 @@ mod tests {
         assert_eq!(monitor.exit(1), Answer::Allowed(2));
         assert_eq!(monitor.retire(1), Answer::Allowed(2));
         assert_eq!((monitor.made(), monitor.gone(), monitor.open()), (6, 4, 2));
-        assert_eq!(monitor.freeze(2), Answer::Allowed(2));
         assert_eq!(monitor.open_write(0, 2, 2), Answer::Refused(Refusal::Flow));
+        assert_eq!(monitor.freeze(2), Answer::Allowed(2));
+        assert_eq!(monitor.open_write(0, 2, 2), Answer::Refused(Refusal::Frozen));
         assert_eq!(monitor.register(1, 2), Answer::Allowed(2));
         assert_eq!(monitor.open_write(0, 1, 2), Answer::Refused(Refusal::Frozen));
         assert_eq!((monitor.made(), monitor.gone(), monitor.open()), (6, 4, 2));
@@ -597,6 +598,27 @@ mod tests {
         assert_eq!(monitor.frozen_from(), Some(0));
         assert_eq!(monitor.freeze(NO_FREEZE), Answer::Allowed(16));
         assert_eq!(monitor.open_write(1, 1, 7), Answer::Allowed(8));
+    }
+
+    #[test]
+    fn an_open_that_offends_the_freeze_and_the_flow_is_frozen() {
+        let mut monitor = Monitor::new();
+        assert_eq!(monitor.admit(0, 8), Answer::Allowed(8));
+        assert_eq!(monitor.register(0, 9), Answer::Allowed(9));
+        for (freeze, refusal) in
+            [(9, Refusal::Frozen), (0, Refusal::Frozen), (10, Refusal::Flow), (16, Refusal::Flow)]
+        {
+            assert_eq!(monitor.freeze(freeze), Answer::Allowed(freeze as u8));
+            let before = monitor.clone();
+            assert_eq!(monitor.open_write(0, 0, 0), Answer::Refused(refusal), "freeze {freeze}");
+            // What comes before both is said first.
+            assert_eq!(
+                monitor.open_write(0, 0, 16),
+                Answer::Refused(Refusal::PlaceUnfit),
+                "freeze {freeze}"
+            );
+            assert_eq!(monitor, before);
+        }
     }
 
     /// Subjects 0 at level 9 and 1 at level 5; file 0 at level 9; subject 0 has it open for writing at place 2.

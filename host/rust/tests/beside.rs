@@ -581,19 +581,26 @@ fn calls_on_any_state_are_answered_alike() {
 #[test]
 fn opens_at_any_level_with_any_freeze_are_answered_alike() {
     let mut frozen = 0;
-    for (freeze, level) in (0..=255).flat_map(|freeze| (0..=255).map(move |level| (freeze, level))) {
+    for (freeze, level) in (0..=255).flat_map(|freeze| (0..=255u8).map(move |level| (freeze, level))) {
         let mut state = [0; STATE_BYTES];
         state[..2].copy_from_slice(&[1, 255]); // subject 0
+        state[2..4].copy_from_slice(&[1, level.saturating_sub(1)]); // subject 1, below the file
         state[64..66].copy_from_slice(&[1, level]); // file 0
         state[66..68].copy_from_slice(&[2, level]); // pipe 1
         state[FREEZE_AT] = freeze;
         let mut pair = Pair::of_bytes(state);
-        let mut open = |object, place| {
-            let answer = pair.call(OPEN_WRITE, filled(&[0, object, place]));
+        let mut open = |subject, object, place| {
+            let answer = pair.call(OPEN_WRITE, filled(&[subject, object, place]));
             answer.unwrap_or_else(|difference| panic!("freeze {freeze}, level {level}: {difference}"))
         };
-        assert_eq!(open(1, 0), Answer::Allowed(level), "a pipe, with the freeze {freeze}");
-        frozen += usize::from(open(0, 1) == Answer::Refused(Refusal::Frozen));
+        assert_eq!(open(0, 1, 0), Answer::Allowed(level), "a pipe, with the freeze {freeze}");
+        let is_frozen = open(0, 0, 1) == Answer::Refused(Refusal::Frozen);
+        frozen += usize::from(is_frozen);
+        // The flow is said where the file is not frozen.
+        if level > 0 {
+            let said = if is_frozen { Refusal::Frozen } else { Refusal::Flow };
+            assert_eq!(open(1, 0, 0), Answer::Refused(said), "freeze {freeze}, level {level}");
+        }
     }
     // By a freeze of 0 all 256 levels, by one of 1 all but one, and so on up to a freeze of 15.
     assert_eq!(frozen, (0..16).map(|freeze| 256 - freeze).sum());

@@ -150,13 +150,13 @@ impl Draft {
         }
     }
 
-    /// The books are closed: files, new ones too, and pipes are opened all the same, what is held is written
-    /// to, the freeze is replaced; then they are opened again, as a rule.
+    /// The books are closed: files, new ones too, and pipes are opened all the same, also where that would offend the
+    /// flow rule, what is held is written to, the freeze is replaced; then they are opened again, as a rule.
     pub(super) fn closed_books(&mut self) {
         let numbers = self.numbers_for(16);
         self.record(16, &numbers);
-        for _ in 0..self.random.between(2, 9) {
-            let (code, numbers) = match self.random.below(10) {
+        for _ in 0..self.random.between(2, 13) {
+            let (code, numbers) = match self.random.below(16) {
                 0..=2 => (6, self.open_but_for_freeze(6, Kind::File)),
                 3 => (6, self.open_but_for_freeze(6, Kind::Pipe)),
                 4 => (5, self.open_but_for_freeze(5, Kind::File)),
@@ -166,6 +166,16 @@ impl Draft {
                     let made = self.numbers_for(3);
                     self.record(3, &made);
                     (6, vec![made[0], made[1], self.free_place(made[0])])
+                }
+                8 | 9 => (6, self.open_against_flow(6, Kind::File)),
+                10 => (6, self.open_against_flow(6, Kind::Pipe)),
+                11 | 12 => {
+                    let code = self.random.pick(&[5, 14, 14]).unwrap_or(5);
+                    (code, self.open_against_flow(code, Kind::File))
+                }
+                13 => {
+                    let code = self.random.pick(&[10, 17]).unwrap_or(10);
+                    (code, self.numbers_for(code))
                 }
                 _ => {
                     self.any_call();

@@ -216,13 +216,24 @@ impl Draft {
         numbers
     }
 
-    /// An open, most often one that is refused with 15 or not at all.
+    /// An open that nothing but the freeze refuses, most often.
     pub(super) fn open_but_for_freeze(&mut self, code: u32, kind: Kind) -> Vec<u32> {
+        self.open_answered(code, kind, |answer| matches!(answer, Answer::Allowed(_)))
+    }
+
+    /// An open or a map that offends the flow rule, most often; whether it meets the freeze as well is left to chance.
+    pub(super) fn open_against_flow(&mut self, code: u32, kind: Kind) -> Vec<u32> {
+        self.open_answered(code, kind, |answer| answer == Answer::Refused(9))
+    }
+
+    /// An open or a map that would get such an answer if there were no freeze; after a few tries, any.
+    fn open_answered(&mut self, code: u32, kind: Kind, fits: impl Fn(Answer) -> bool) -> Vec<u32> {
+        let mut lifted = self.picture.clone();
+        let _ = lifted.call(16, filled(&[NO_FREEZE]));
         let mut numbers = Vec::new();
-        for _ in 0..3 {
+        for _ in 0..4 {
             numbers = self.one_open(Some(kind));
-            let answer = self.picture.clone().call(code, filled(&numbers));
-            if matches!(answer, Answer::Allowed(_) | Answer::Refused(15)) {
+            if fits(lifted.clone().call(code, filled(&numbers))) {
                 break;
             }
         }

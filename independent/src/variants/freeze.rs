@@ -1,11 +1,12 @@
-//! Variants of what the freeze refuses: RULES R15 and R118.
+//! Variants of what the freeze refuses, and of what it is said of: RULES R15, R117 and R118.
 
 use super::Variant;
 use crate::calls::Call;
 use crate::tables::{Direction, Kind, Tables};
 
-/// Whether a call is refused with 15; none where the variant leaves that as it is, or there is no freeze.
-pub fn bend_frozen(variant: Variant, tables: &Tables, call: Call) -> Option<bool> {
+/// Whether 15 holds of a call, `offends_flow` being whether 9 does; none where the variant leaves that as it is, or
+/// there is no freeze.
+pub fn bend_frozen(variant: Variant, tables: &Tables, call: Call, offends_flow: bool) -> Option<bool> {
     let freeze = tables.frozen_from()?;
     let subject_level = |s| tables.subject(s).map(|subject| subject.level);
     let object_level = |o| tables.object(o).map(|object| object.level);
@@ -30,6 +31,17 @@ pub fn bend_frozen(variant: Variant, tables: &Tables, call: Call) -> Option<bool
         (Variant::FreezeExecs, Call::Exec { o, .. }) => Some(tables.is_frozen(o)),
         (Variant::FreezeMaps, Call::Map { o, .. }) => Some(tables.is_frozen(o)),
         (Variant::FreezeRetires, Call::Retire { o }) => Some(tables.is_frozen(o)),
+        (Variant::Reads15, Call::OpenRead { o, .. }) => Some(offends_flow && tables.is_frozen(o)),
+        (Variant::Maps15, Call::Map { o, .. }) => Some(offends_flow && tables.is_frozen(o)),
+        (Variant::Execs15, Call::Exec { o, .. }) => Some(offends_flow && tables.is_frozen(o)),
+        (Variant::Pipes15, Call::OpenWrite { o, .. }) if file_level(o).is_none() => {
+            object_level(o).map(|level| offends_flow && level >= freeze)
+        }
+        (Variant::Lower15, Call::OpenWrite { o, .. }) => {
+            file_level(o).map(|level| offends_flow || level >= freeze)
+        }
+        (Variant::Connects15, Call::Connect { .. }) => Some(offends_flow),
+        (Variant::FreezeWithFlow, Call::OpenWrite { o, .. }) => Some(offends_flow && tables.is_frozen(o)),
         _ => None,
     }
 }

@@ -120,7 +120,7 @@ module _ (t : Tables) (w : Wf t) where
       }
 
   -- (its flow test is asked of these tables)
-  pub connect-wf : (s r a b p q : ℕ) → In-order t (connect s r a b p q) 9 → Wf (applies (channel t s r a b p q) t)
+  pub connect-wf : (s r a b p q : ℕ) → In-order t (connect s r a b p q) 15 → Wf (applies (channel t s r a b p q) t)
   connect-wf s r a b p q m = wf-hold u₃ r q (handle writing b) w₃ (still-ends u₂ r p (some (handle reading a)) r q (handle writing b)
       (beyond r q (handle writing b) (ends′ r q (handle writing b) in-r at-b (m (vacant r q) (inr (inr (inr (inr (inr (inr (inr (inr (inr (inl refl)))))))))) tt))))
     where
