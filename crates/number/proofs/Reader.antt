@@ -1,8 +1,8 @@
--- What each way through the number reader answers. In order: nothing to read, and a last group; a first group before the rest; two
--- bytes; two groups before the rest; the value alone, where 0 stands for a malformed number; how many bytes a number takes.
--- Assumes nothing.
-use mathlib.Core.Path.{_≡_, refl, sym, ap, _∙_, subst}
-use mathlib.Core.Logic.{_⊎_, inl, inr, ⊎-elim}
+-- What each way through the number reader answers. In order: nothing to read, and a last group; a first group before the
+-- rest; two bytes; a limit that is asked about afterwards; the rest as the call of itself reads it, and what is made of that
+-- call's answer. Assumes nothing.
+use mathlib.Core.Path.{_≡_, refl, sym, ap, _∙_}
+use mathlib.Core.Logic.{⊎-elim}
 use Prim.Native.Nat.{ℕ, zero, suc, _+_, _-_, _*_, _/_, _%_, _≤_, _<_}
 use native.Mathlib.Omega.{arith}
 use native.Mathlib.Numerals.{add-one}
@@ -11,10 +11,10 @@ use mathlib.Core.List.{List, [], _∷_}
 use mathlib.Core.Option.{Option, none, some, Option·map}
 use lib.Dec.{ltb, leb·suc-suc}
 use lib.ListN.{length, take, drop, getD, length-take, length-drop}
+use lib.Seq.{getD-take, getD-drop}
 use borrow.Author.Tests.{lt-ltb, le-ltb}
-use Rattle.number.specs.Leb.{AreBytes, largest, longest, encode, Reading, good, malformed, numeral, value, padded, judged, number}
-use Rattle.number.specs.Leb.Laws.{split, encode-one, encode-more, encode-next, numeral-some, number-good, number-within, number-only, number-take}
-use Rattle.number.specs.Parts.{worth, after, Long}
+use Rattle.number.specs.Leb.{largest, longest, encode, Reading, good, malformed, numeral, value, padded, judged, number}
+use Rattle.number.specs.Leb.Laws.{split, clash, encode-one, encode-next, numeral-some, number-within, number-take}
 use Rattle.number.specs.Put.Laws.{rest-is}
 
 -- ---- nothing to read, and a last group
@@ -34,18 +34,11 @@ judged-one most b l =
     by-test true = refl
     by-test false = refl
 
-number-last : (most : ℕ) (s : List ℕ) → 0 < length s → getD s 0 0 < 128
-    → number most s ≡ cond (ltb most (getD s 0 0)) malformed (good (getD s 0 0) 1)
+pub number-one : (most : ℕ) (s : List ℕ) → 0 < length s → getD s 0 0 < 128 → getD s 0 0 ≤ most
+    → number most s ≡ good (getD s 0 0) 1
 unfolding number numeral
-number-last most [] h l = absurd (omega arith)
-number-last most (b ∷ s) h l = simp (lt-ltb b 128 l) (judged-one most b l)
-
-module _ (most : ℕ) (s : List ℕ) (h : 0 < length s) (l : getD s 0 0 < 128) where
-  pub number-one : getD s 0 0 ≤ most → number most s ≡ good (getD s 0 0) 1
-  number-one k = number-last most s h l ∙ simp (le-ltb most (getD s 0 0) k)
-
-  pub number-one-over : most < getD s 0 0 → number most s ≡ malformed
-  number-one-over k = number-last most s h l ∙ simp (lt-ltb most (getD s 0 0) k)
+number-one most [] h l fits = absurd (omega arith)
+number-one most (b ∷ s) h l fits = simp (lt-ltb b 128 l) (judged-one most b l ∙ simp (le-ltb most b fits))
 
 -- ---- a first group g, then the rest
 
@@ -62,6 +55,12 @@ joined-zero g (suc v) k h = absurd (omega arith)
 joined-some : (g v k : ℕ) → 0 < v → joined g (good v k) ≡ good (g + 128 * v) (k + 1)
 joined-some g zero k h = absurd (omega arith)
 joined-some g (suc v) k h = refl
+
+-- what is joined so is not 0
+joined-worth : (g : ℕ) (r : Reading) (v k : ℕ) → joined g r ≡ good v k → 0 < v
+joined-worth g malformed v k e = clash (cc)
+joined-worth g (good zero j) v k e = clash (cc)
+joined-worth g (good (suc w) j) v k e = let same : g + 128 * suc w ≡ v = cc in omega arith
 
 -- what is left of a limit for the rest
 over-rest : (most g v : ℕ) → g ≤ most → ltb most (g + 128 * v) ≡ ltb ((most - g) / 128) v
@@ -126,16 +125,6 @@ number-more most (b ∷ s) h l byte fits = simp (le-ltb b 128 l) (by-numeral (nu
     by-numeral (some bs) q =
         ap (λ (x : ℕ). judged most (some (x ∷ bs))) (omega arith) ∙ judged-more most (b - 128) bs (omega arith) fits (numeral-some s bs q)
 
-number-over : (most : ℕ) (s : List ℕ) → 0 < length s → 128 ≤ getD s 0 0 → getD s 0 0 < 256 → most < getD s 0 0 - 128
-    → number most s ≡ malformed
-unfolding number numeral value
-number-over most [] h l byte over = absurd (omega arith)
-number-over most (b ∷ s) h l byte over = simp (le-ltb b 128 l) (by-numeral (numeral s))
-  where
-    by-numeral : (o : Option (List ℕ)) → judged most (Option·map (λ (t : List ℕ). b ∷ t) o) ≡ malformed
-    by-numeral none = refl
-    by-numeral (some bs) = simp (lt-ltb most (b % 128 + 128 * value bs) (omega arith))
-
 -- ---- two bytes
 
 pub number-cut : (most : ℕ) (s : List ℕ) → length s ≡ 1 → 128 ≤ getD s 0 0 → number most s ≡ malformed
@@ -150,164 +139,118 @@ pub record Begun (s : List ℕ) : Type 0 where
   pub long : 128 ≤ getD s 0 0
   pub byte : getD s 0 0 < 256
 
--- its group, and what is left of the limit for the rest
-abbrev group : List ℕ → ℕ
+-- its group, and what that leaves of the limit for the rest
+abbrev pub group : List ℕ → ℕ
 group s = getD s 0 0 - 128
 
-abbrev left : ℕ → List ℕ → ℕ
-left most s = (most - group s) / 128
+abbrev pub left : List ℕ → ℕ
+left s = (largest - group s) / 128
 
 second : (s : List ℕ) → getD (drop 1 s) 0 0 ≡ getD s 1 0
-second [] = refl
-second (b ∷ []) = refl
-second (b ∷ d ∷ s) = refl
+second s = getD-drop 1 s 0 0
 
-module _ (most : ℕ) (s : List ℕ) (b : Begun s) where
-  begun-over : most < group s → number most s ≡ malformed
-  begun-over over = number-over most s (omega (arith, b .full)) (b .long) (b .byte) over
+module _ {s : List ℕ} (b : Begun s) where
+  begun-more : (r : Reading) → number (left s) (drop 1 s) ≡ r → number largest s ≡ joined (group s) r
+  begun-more r e =
+      number-more largest s (omega (arith, b .full)) (b .long) (b .byte) (omega (arith, b .byte)) ∙ ap (joined (group s)) e
 
-  begun-more : (r : Reading) → group s ≤ most → number (left most s) (drop 1 s) ≡ r → number most s ≡ joined (group s) r
-  begun-more r fits e = number-more most s (omega (arith, b .full)) (b .long) (b .byte) fits ∙ ap (joined (group s)) e
+  rest-one : getD s 1 0 < 128 → number (left s) (drop 1 s) ≡ good (getD s 1 0) 1
+  rest-one last =
+      number-one (left s) (drop 1 s) (omega (arith, b .full, length-drop 1 s)) (omega (arith, second s))
+      (omega (arith, second s, b .byte))
+      ∙ ap (λ (x : ℕ). good x 1) (second s)
 
-  rest-full : 0 < length (drop 1 s)
-  rest-full = omega (arith, b .full, length-drop 1 s)
+  pub number-padded : getD s 1 0 ≡ 0 → number largest s ≡ malformed
+  number-padded z =
+      begun-more (good (getD s 1 0) 1) (rest-one (omega arith)) ∙ joined-zero (group s) (getD s 1 0) 1 (omega arith)
 
-  module _ (last : getD s 1 0 < 128) where
-    rest-one : getD s 1 0 ≤ left most s → number (left most s) (drop 1 s) ≡ good (getD s 1 0) 1
-    rest-one fits =
-        number-one (left most s) (drop 1 s) rest-full (omega (arith, second s)) (omega (arith, second s))
-        ∙ ap (λ (x : ℕ). good x 1) (second s)
+  pub number-two : getD s 1 0 < 128 → 0 < getD s 1 0 → number largest s ≡ good (group s + 128 * getD s 1 0) 2
+  number-two last p = begun-more (good (getD s 1 0) 1) (rest-one last) ∙ joined-some (group s) (getD s 1 0) 1 p
 
-    pub number-padded : getD s 1 0 ≡ 0 → number most s ≡ malformed
-    number-padded z = ⊎-elim begun-over
-        (λ fits. begun-more (good (getD s 1 0) 1) fits (rest-one (omega arith)) ∙ joined-zero (group s) (getD s 1 0) 1 (omega arith))
-        (split most (group s))
+-- ---- a limit that is asked about afterwards
 
-    pub number-two : 0 < getD s 1 0 → group s + 128 * getD s 1 0 ≤ most → number most s ≡ good (group s + 128 * getD s 1 0) 2
-    number-two p fits =
-        begun-more (good (getD s 1 0) 1) (omega arith) (rest-one (omega arith)) ∙ joined-some (group s) (getD s 1 0) 1 p
+-- what is read within a larger limit, held to a smaller one
+abbrev held : ℕ → Reading → Reading
+held less malformed = malformed
+held less (good v k) = cond (ltb less v) malformed (good v k)
 
-    pub number-two-over : most < group s + 128 * getD s 1 0 → number most s ≡ malformed
-    number-two-over over = ⊎-elim begun-over
-        (λ fits. begun-more malformed fits
-        (number-one-over (left most s) (drop 1 s) rest-full (omega (arith, second s)) (omega (arith, second s))))
-        (split most (group s))
-
--- ---- two groups, then the rest
-
-joined-twice : (g h : ℕ) (r : Reading) → joined g (joined h r) ≡ after (g + 128 * h) r
-joined-twice g h malformed = refl
-joined-twice g h (good zero k) = refl
-joined-twice g h (good (suc v) k) =
-    let worth : g + 128 * (h + 128 * suc v) ≡ g + 128 * h + 16384 * suc v = omega arith in
-    let bytes : k + 1 + 1 ≡ k + 2 = omega arith in
-    joined-some g (h + 128 * suc v) (k + 1) (omega arith)
-    ∙ ap (λ (x : ℕ). good x (k + 1 + 1)) worth
-    ∙ ap (good (g + 128 * h + 16384 * suc v)) bytes
-
-drop-twice : (s : List ℕ) → drop 1 (drop 1 s) ≡ drop 2 s
-drop-twice [] = refl
-drop-twice (b ∷ []) = refl
-drop-twice (b ∷ d ∷ s) = refl
-
--- the value of two groups
-abbrev groups : List ℕ → ℕ
-groups s = group s + 128 * (getD s 1 0 - 128)
-
-module _ (most : ℕ) (s : List ℕ) (b : Begun s) (long : 128 ≤ getD s 1 0) (byte : getD s 1 0 < 256) where
-  pub number-long : groups s ≤ most → Long most s (groups s)
-  number-long fits = record {
-    full = b .full;
-    small = omega (arith, b .byte);
-    fits = fits;
-    goes-on =
-        begun-more most s b (number (left most s) (drop 1 s)) (omega arith) refl
-        ∙ ap (joined (group s)) (begun-rest (omega (arith, second s)))
-        ∙ joined-twice (group s) (group (drop 1 s)) (number ((left most s - group (drop 1 s)) / 128) (drop 1 (drop 1 s)))
-        ∙ ap (λ (x : ℕ). after (group s + 128 * (x - 128)) (number ((left most s - (x - 128)) / 128) (drop 1 (drop 1 s)))) (second s)
-        ∙ ap (λ (x : ℕ). after (groups s) (number x (drop 1 (drop 1 s)))) (omega arith)
-        ∙ ap (λ (t : List ℕ). after (groups s) (number ((most - groups s) / 16384) t)) (drop-twice s);
-  }
-    where
-      begun-rest : group (drop 1 s) ≤ left most s
-          → number (left most s) (drop 1 s)
-          ≡ joined (group (drop 1 s)) (number ((left most s - group (drop 1 s)) / 128) (drop 1 (drop 1 s)))
-      begun-rest = number-more (left most s) (drop 1 s) (rest-full most s b) (omega (arith, second s)) (omega (arith, second s))
-
-  pub number-long-over : most < groups s → number most s ≡ malformed
-  number-long-over over = ⊎-elim (begun-over most s b)
-      (λ fits. begun-more most s b malformed fits
-      (number-over (left most s) (drop 1 s) (rest-full most s b) (omega (arith, second s)) (omega (arith, second s)) (omega (arith, second s))))
-      (split most (group s))
-
--- ---- the value alone
-
-pub worth-fits : (most : ℕ) (s : List ℕ) → worth (number most s) ≤ most
-worth-fits most s = by-reading (number most s) refl
+number-held : (less most : ℕ) (s : List ℕ) → less ≤ most → number less s ≡ held less (number most s)
+unfolding number
+number-held less most s h = by-numeral (numeral s)
   where
-    by-reading : (r : Reading) → number most s ≡ r → worth r ≤ most
-    by-reading malformed e = omega arith
-    by-reading (good v k) e = let (bs, is) = number-good most s v k e in is .fits
+    by-tests : (bs : List ℕ) (long : Bool)
+        → cond (ltb less (value bs) || long) malformed (good (value bs) (length bs))
+        ≡ held less (cond (ltb most (value bs) || long) malformed (good (value bs) (length bs)))
+    by-tests bs long = ⊎-elim
+        (λ over. simp (lt-ltb most (value bs) over, lt-ltb less (value bs) (omega arith)))
+        (λ fits. simp (le-ltb most (value bs) fits) (by-test long (ltb less (value bs)) refl))
+        (split most (value bs))
+      where
+        by-test : (long over : Bool) → ltb less (value bs) ≡ over
+            → cond (over || long) malformed (good (value bs) (length bs))
+            ≡ held less (cond long malformed (good (value bs) (length bs)))
+        by-test true true q = refl
+        by-test true false q = refl
+        by-test false true q = simp q
+        by-test false false q = simp q
 
-pub after-nothing : (g : ℕ) (r : Reading) → worth r ≡ 0 → 0 ≡ worth (after g r)
-after-nothing g malformed z = refl
-after-nothing g (good zero k) z = refl
-after-nothing g (good (suc v) k) z = absurd (omega arith)
+    by-numeral : (o : Option (List ℕ)) → judged less o ≡ held less (judged most o)
+    by-numeral none = refl
+    by-numeral (some bs) = by-tests bs (padded bs)
 
-pub after-some : (g : ℕ) (r : Reading) → 0 < worth r → g + 16384 * worth r ≡ worth (after g r)
-after-some g malformed p = absurd (omega arith)
-after-some g (good zero k) p = absurd (omega arith)
-after-some g (good (suc v) k) p = refl
+-- ---- the rest, as the call of itself reads it
 
--- no good number of three bytes or more is worth less than 16,384
-after-worth : (g : ℕ) (r : Reading) → (after g r ≡ malformed) ⊎ (16384 ≤ worth (after g r))
-after-worth g malformed = inl refl
-after-worth g (good zero k) = inl refl
-after-worth g (good (suc v) k) = inr (omega arith)
+-- what the call is handed: the rest of the slice, up to the longest good number
+abbrev pub rest : List ℕ → List ℕ
+rest s = take (length (take longest s) - 1) (drop 1 s)
 
-pub long-worth : {most g : ℕ} {s : List ℕ} → Long most s g → (number most s ≡ malformed) ⊎ (16384 ≤ worth (number most s))
-long-worth {most} {g} {s} l = ⊎-elim
-    (λ e. inl (l .goes-on ∙ e))
-    (λ h. inr (subst (λ (r : Reading). 16384 ≤ worth r) (sym (l .goes-on)) h))
-    (after-worth g (number ((most - g) / 16384) (drop 2 s)))
+module _ {s : List ℕ} (b : Begun s) where
+  -- no byte past it matters: what is left of the limit takes a byte less than the limit
+  reached : number (left s) (rest s) ≡ number (left s) (drop 1 s)
+  reached = ⊎-elim
+      (λ more.
+      let less : length (take longest s) - 1 ≡ longest - 1 = omega (arith, length-take longest s) in
+      ap (λ (k : ℕ). number (left s) (take k (drop 1 s))) less ∙ number-take (left s) (longest - 1) (drop 1 s) (omega arith) (omega arith))
+      (λ all.
+      let whole : length (take longest s) - 1 ≡ length s - 1 = omega (arith, length-take longest s) in
+      ap (λ (k : ℕ). number (left s) (take k (drop 1 s))) whole ∙ ap (number (left s)) (rest-is 1 s))
+      (split longest (length s))
 
--- ---- how many bytes
+  rest-full : 0 < length (rest s)
+  rest-full =
+      omega (arith, b .full, length-take longest s, length-drop 1 s, length-take (length (take longest s) - 1) (drop 1 s))
 
--- a number that is read takes as many bytes as its coding
-pub number-length : (most : ℕ) (s : List ℕ) → AreBytes s → 0 < worth (number most s)
-    → number most s ≡ good (worth (number most s)) (length (encode (worth (number most s))))
-number-length most s are = by-reading (number most s) refl
-  where
-    by-reading : (r : Reading) → number most s ≡ r → 0 < worth r → r ≡ good (worth r) (length (encode (worth r)))
-    by-reading malformed e p = absurd (omega arith)
-    by-reading (good v k) e p =
-        let coded = ap length (number-only most s are v k e) in
-        ap (good v) (omega (arith, coded, number-within most s v k e, length-take k s))
+  pub rest-shorter : length (rest s) < length s
+  rest-shorter =
+      omega (arith, b .full, length-take longest s, length-drop 1 s, length-take (length (take longest s) - 1) (drop 1 s))
 
-longer : (n : ℕ) → 128 ≤ n → length (encode n) ≡ suc (length (encode (n / 128)))
-longer n h = ap length (encode-more n h)
+  rest-front : getD (rest s) 0 0 ≡ getD s 1 0
+  rest-front = getD-take (length (take longest s) - 1) (drop 1 s) 0 0 (omega (arith, b .full, length-take longest s)) ∙ second s
 
-pub three-bytes : (n : ℕ) → 16384 ≤ n → n < 2097152 → 3 ≡ length (encode n)
-three-bytes n h l =
-    let last = ap length (encode-one (n / 128 / 128) (omega arith)) in
-    omega (arith, longer n (omega arith), longer (n / 128) (omega arith), last)
+  -- RULES J3, J5
+  number-rest : (r : Reading) → r ≡ number largest (rest s) → joined (group s) (held (left s) r) ≡ number largest s
+  number-rest r e =
+      ap (λ (x : Reading). joined (group s) (held (left s) x)) e
+      ∙ ap (joined (group s)) (sym (number-held (left s) largest (rest s) (omega arith)) ∙ reached)
+      ∙ sym (begun-more b (number (left s) (drop 1 s)) refl)
 
-pub four-bytes : (n : ℕ) → 2097152 ≤ n → n < 268435456 → 4 ≡ length (encode n)
-four-bytes n h l = omega (arith, longer n (omega arith), three-bytes (n / 128) (omega arith) (omega arith))
+  pub rest-malformed : malformed ≡ number largest (rest s) → malformed ≡ number largest s
+  rest-malformed e = number-rest malformed e
 
-pub five-bytes : (n : ℕ) → 268435456 ≤ n → n ≤ largest → 5 ≡ length (encode n)
-five-bytes n h l = omega (arith, longer n (omega arith), four-bytes (n / 128) (omega arith) (omega arith))
+  module _ (v u : ℕ) (e : good v u ≡ number largest (rest s)) where
+    pub rest-over : left s < v → malformed ≡ number largest s
+    rest-over over = simp (lt-ltb (left s) v over) at (number-rest (good v u) e)
 
--- ---- no byte past the longest number matters
+    pub rest-used : u < length s
+    rest-used = omega (arith, number-within largest (rest s) v u (sym e), rest-shorter)
 
--- the limit leaves three bytes at most for the rest of two groups
-pub reached : (most : ℕ) (s : List ℕ) → 2 ≤ length s → most < 2097152
-    → number most (take (length (take longest s) - 2) (drop 2 s)) ≡ number most (drop 2 s)
-reached most s h l = ⊎-elim
-    (λ more.
-    let three : length (take longest s) - 2 ≡ 3 = omega (arith, length-take longest s) in
-    ap (λ (k : ℕ). number most (take k (drop 2 s))) three ∙ number-take most 3 (drop 2 s) (omega arith) l)
-    (λ all.
-    let whole : length (take longest s) - 2 ≡ length s - 2 = omega (arith, length-take longest s) in
-    ap (λ (k : ℕ). number most (take k (drop 2 s))) whole ∙ ap (number most) (rest-is 2 s))
-    (split longest (length s))
+    module _ (long : 128 ≤ getD s 1 0) (byte : getD s 1 0 < 256) where
+      -- a number of two bytes or more is not 0
+      rest-some : 0 < v
+      rest-some =
+          joined-worth (group (rest s)) (number (left (rest s)) (drop 1 (rest s))) v u
+          (sym (number-more largest (rest s) rest-full (omega (arith, rest-front)) (omega (arith, rest-front)) (omega (arith, rest-front))) ∙ sym e)
+
+      pub rest-good : v ≤ left s → good (group s + 128 * v) (u + 1) ≡ number largest s
+      rest-good fits =
+          sym (joined-some (group s) v u rest-some) ∙ (simp (le-ltb (left s) v fits) at (number-rest (good v u) e))

@@ -1,12 +1,10 @@
 // The journal's numbers: unsigned LEB128 (RULES J1 to J7, G10), read from a slice and written into a lent one.
 // What the bytes mean is in specs/Leb.antt, and what each answer means in specs/Answers.antt.
 ghost use mathlib.Core.Path.{_≡_};
-ghost use Prim.Native.Nat.{_+_, _*_, _≤_};
 ghost use lib.ListN.{length, take};
 ghost use Rattle.number.specs.Leb.{largest, longest, encode, number};
 ghost use Rattle.number.specs.Put.{put, fitted};
 ghost use Rattle.number.specs.Answers.{reading, writing};
-ghost use Rattle.number.specs.Parts.{Starts, worth, after};
 
 // The largest number of the format.
 pub const LARGEST: u32 = 4294967295;
@@ -22,74 +20,6 @@ pub enum Number {
     Malformed,
 }
 
-// What the first two bytes of a number settle.
-enum Start {
-    // All of it: its value, and how many bytes it takes.
-    Short { value: u32, used: usize },
-    // That it is malformed.
-    Bad,
-    // The value of its first two groups; another group follows.
-    Longer { groups: u32 },
-}
-
-// Numbers of one or two bytes, whole, and the first two groups of those that are longer. It calls nothing.
-fn read_short(from: &[u8], most: u32) -> Start
-    ensures { λ r. ⌜ Starts most (now (from .entry)) r ⌝ }
-{
-    if from.len() == 0 {
-        return Start::Bad;
-    }
-    let first = from[0] as u32;
-    if first < 128 {
-        if first <= most {
-            return Start::Short {
-                value: first,
-                used: 1,
-            };
-        }
-        return Start::Bad;
-    }
-    if from.len() == 1 {
-        return Start::Bad;
-    }
-    let second = from[1] as u32;
-    if second < 128 {
-        // A last group of 0 adds nothing: the number is longer than it need be.
-        if second == 0 {
-            return Start::Bad;
-        }
-        let value = first - 128 + 128 * second;
-        if value <= most {
-            return Start::Short { value, used: 2 };
-        }
-        return Start::Bad;
-    }
-    let groups = first - 128 + 128 * (second - 128);
-    if most < groups {
-        return Start::Bad;
-    }
-    Start::Longer { groups }
-}
-
-// The value of a number whose first two groups are worth `groups` and whose rest, of at most `most`, stands at the front of
-// `from`; 0 where it is malformed, as no such number is worth 0. It calls itself on the rest of the slice, and hands back one
-// number alone, which stays in a register.
-fn read_rest(groups: u32, from: &[u8], most: u32) -> u32
-    requires { ⌜ groups + 16384 * most ≤ largest ⌝ }
-    ensures { λ r. ⌜ r ≡ worth (after groups (number most (now (from .entry)))) ⌝ }
-{
-    let rest = match read_short(from, most) {
-        Start::Short { value, used } => value,
-        Start::Bad => 0,
-        Start::Longer { groups: more } => read_rest(more, &from[2..], (most - more) / 16384),
-    };
-    // A last group of 0 adds nothing, as in `read_short`.
-    if rest == 0 {
-        return 0;
-    }
-    groups + 16384 * rest
-}
-
 // How many bytes of `from` a good number can take.
 fn reach(from: &[u8]) -> usize
     ensures { λ r. ⌜ r ≡ length (take longest (now (from .entry))) ⌝ }
@@ -100,46 +30,51 @@ fn reach(from: &[u8]) -> usize
     LONGEST
 }
 
-// How many bytes a number of more than two bytes takes: as `number_len` has it, without a loop.
-fn long_len(n: u32) -> usize
-    requires { ⌜ 16384 ≤ n ⌝ }
-    ensures { λ r. ⌜ r ≡ length (encode n) ⌝ }
-{
-    if n < 2097152 {
-        return 3;
-    }
-    if n < 268435456 {
-        return 4;
-    }
-    5
-}
-
-// A number of at most `most` at the front of `from`: one of one or two bytes before any call of `read_rest`, which calls itself,
-// and a longer one by such a call on the rest. No byte past the longest good number is looked at, so the calls of `read_rest`
-// are at most two deep, whatever the slice holds.
-fn read_upto(from: &[u8], most: u32) -> Number
-    ensures { λ r. ⌜ reading r ≡ number most (now (from .entry)) ⌝ }
-{
-    match read_short(from, most) {
-        Start::Short { value, used } => Number::Good { value, used },
-        Start::Bad => Number::Malformed,
-        Start::Longer { groups } => {
-            let end = reach(from);
-            let value = read_rest(groups, &from[2..end], (most - groups) / 16384);
-            if value == 0 {
-                return Number::Malformed;
-            }
-            let used = long_len(value);
-            Number::Good { value, used }
-        }
-    }
-}
-
-// The number at the front of `from`.
+// The number at the front of `from`: one of one or two bytes before any call of itself, and a longer one by a call of
+// itself on the rest of the slice, as its value is the first group plus 128 times the value of the rest. No byte past the
+// longest good number is looked at, so that the calls are at most four deep, whatever the slice holds.
 pub fn read_number(from: &[u8]) -> Number
     ensures { λ r. ⌜ reading r ≡ number largest (now (from .entry)) ⌝ }
 {
-    read_upto(from, LARGEST)
+    if from.len() == 0 {
+        return Number::Malformed;
+    }
+    let first = from[0] as u32;
+    if first < 128 {
+        return Number::Good {
+            value: first,
+            used: 1,
+        };
+    }
+    if from.len() == 1 {
+        return Number::Malformed;
+    }
+    let group = first - 128;
+    let second = from[1] as u32;
+    if second < 128 {
+        // A last group of 0 adds nothing: the number is longer than it need be.
+        if second == 0 {
+            return Number::Malformed;
+        }
+        let value = group + 128 * second;
+        return Number::Good { value, used: 2 };
+    }
+    let end = reach(from);
+    match read_number(&from[1..end]) {
+        Number::Good { value, used } => {
+            // What the first group leaves of the limit for the rest.
+            if (LARGEST - group) / 128 < value {
+                return Number::Malformed;
+            }
+            let whole = group + 128 * value;
+            let bytes = used + 1;
+            Number::Good {
+                value: whole,
+                used: bytes,
+            }
+        }
+        Number::Malformed => Number::Malformed,
+    }
 }
 
 // What writing a number answers.
