@@ -61,7 +61,7 @@ const NEEDS_AT: usize = FREEZE_AT + 1;
 const STATE_BYTES: usize = NEEDS_AT + THINGS;
 
 // The version, its three parts in one number (specs/Numbers.antt).
-const VERSION: u32 = 65536 * 4 + 256 * 1 + 0;
+const VERSION: u32 = 65536 * 5 + 256 * 0 + 0;
 
 // The answer to a call on bytes of another length, which is no answer of a call.
 const UNSIZED: u32 = 0;
