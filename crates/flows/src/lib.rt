@@ -1,5 +1,5 @@
-// Needs, from whole arrays: what each thing demands, the need of each, and
-// whether some level is below one. Needs that are kept are in `kept`.
+// Needs, from whole arrays: what each thing demands, the need of each, and whether some level is below one. Passes over
+// the flows are in the crate `passes`, needs that are kept in `keeping`.
 ghost use mathlib.Core.Path.{_≡_};
 ghost use mathlib.Core.Bool.{not};
 ghost use mathlib.Core.List.{List};

@@ -1,3 +1,3 @@
--- Figures when handles go (Closing), and when one comes (Opening). Assumes nothing.
+-- Figures when handles go (Closing), and when one comes (Opens). Assumes nothing.
 pub mod Closing
 pub mod Opens

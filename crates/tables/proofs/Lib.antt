@@ -1,4 +1,4 @@
--- The laws that the proofs of this crate and of those above it cite: loops over arrays (Maps), a test of some number below another (Below); what records tell of
--- tests (Testing), the first test that fails (Finding). Assumes nothing.
+-- The laws that the proofs of this crate and of those above it cite: loops over arrays (Maps), a test of some number below another (Below).
+-- Assumes nothing.
 pub mod Maps
 pub mod Below

@@ -1,4 +1,4 @@
--- `flows::kept::closed` meets its contract. Assumes nothing.
+-- `keeping::closed` meets its contract. Assumes nothing.
 use mathlib.Core.Path.{_≡_, _∙_, ap, sym, subst}
 use mathlib.Core.Bool.{_&&_}
 use borrow.Author.Needs.{needs}

@@ -1,4 +1,4 @@
--- `flows::kept::falls` meets its contract. Assumes nothing.
+-- `keeping::falls` meets its contract. Assumes nothing.
 use Rattle.keeping.proofs.falls.Statement.{statement}
 use Rattle.keeping.proofs.falls.Tie as tie
 

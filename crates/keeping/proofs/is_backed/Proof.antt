@@ -1,4 +1,4 @@
--- `flows::kept::is_backed` meets its contract. Assumes nothing.
+-- `keeping::is_backed` meets its contract. Assumes nothing.
 use mathlib.Core.Path.{_∙_, ap₂}
 use mathlib.Core.Bool.{_&&_}
 use borrow.Author.Needs.{needs}

@@ -1,4 +1,4 @@
--- `flows::kept::is_demanding` meets its contract. Assumes nothing.
+-- `keeping::is_demanding` meets its contract. Assumes nothing.
 use borrow.Author.Needs.{needs}
 use Rattle.keeping.proofs.is_demanding.Statement.{statement}
 use Rattle.keeping.proofs.is_demanding.Tie as tie

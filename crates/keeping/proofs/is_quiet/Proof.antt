@@ -1,4 +1,4 @@
--- `flows::kept::is_quiet` meets its contract. Assumes nothing.
+-- `keeping::is_quiet` meets its contract. Assumes nothing.
 use mathlib.Core.Path.{_∙_}
 use borrow.Author.Needs.{needs}
 use Rattle.keeping.proofs.is_quiet.Statement.{statement}

@@ -1,4 +1,4 @@
--- `flows::kept::source` meets its contract. Assumes nothing.
+-- `keeping::source` meets its contract. Assumes nothing.
 use mathlib.Core.Path.{sym, _∙_}
 use borrow.Author.Needs.{needs}
 use Rattle.keeping.proofs.source.Statement.{statement}

@@ -1,4 +1,4 @@
--- `flows::kept::sunk` meets its contract. Assumes nothing.
+-- `keeping::sunk` meets its contract. Assumes nothing.
 use mathlib.Core.Path.{_≡_, sym, _∙_, subst}
 use borrow.Author.Needs.{needs}
 use Prim.Native.Nat.{ℕ, _≤_}

@@ -1,4 +1,4 @@
--- `flows::kept::vacated` meets its contract. Assumes nothing.
+-- `keeping::vacated` meets its contract. Assumes nothing.
 use mathlib.Core.Path.{_∙_, sym, subst}
 use borrow.Author.Needs.{needs}
 use Rattle.model.specs.Tables.{Tables}

@@ -1,4 +1,4 @@
--- `flows::passes::listed` meets its contract. Assumes nothing.
+-- `passes::listed` meets its contract. Assumes nothing.
 use mathlib.Core.Path.{_≡_, refl, sym, _∙_, ap}
 use mathlib.Core.Logic.{⊎-elim}
 use Prim.Native.Nat.{_+_, _*_, _-_, _≤_}

@@ -1,4 +1,4 @@
--- `flows::passes::pass` meets its contract. Assumes nothing.
+-- `passes::pass` meets its contract. Assumes nothing.
 use mathlib.Core.Path.{_≡_, refl}
 use mathlib.Core.Logic.{⊎-elim}
 use Prim.Native.Nat.{ℕ, _-_, _≤_, _<_}

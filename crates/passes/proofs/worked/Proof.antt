@@ -1,4 +1,4 @@
--- `flows::passes::worked` meets its contract. Assumes nothing.
+-- `passes::worked` meets its contract. Assumes nothing.
 use mathlib.Core.Path.{sym}
 use Prim.Native.Nat.{ℕ, _-_, _<_}
 use native.Mathlib.Omega.{arith}
