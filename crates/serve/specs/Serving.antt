@@ -1,25 +1,39 @@
 -- What comes of a run of the program over standard input (RULES P1, P15, P17 to P21). Two things are left to the host and are
--- free here: what the reads bring, by the name `read`, and whether the writes take all that they are handed, which is whether a run is `Replied` or
--- `Unwritten`. What is made of the bytes that were read is settled. In order: what reading comes to; the reply to some bytes; a run. The laws are in
+-- free here: what the reads bring, and whether the writes take all that they are handed. What is made of the bytes that were read, what is handed to
+-- which port, and what is said is settled. In order: reading that is over; the reply to some bytes; a run. The ports are in Ports, the laws in
 -- Serving/Laws. Assumes nothing.
 use Prim.Native.Nat.{ℕ, _+_, _≤_, _<_}
 use mathlib.Core.Path.{_≡_}
+use mathlib.Core.Bool.{true, false}
 use mathlib.Core.List.{List}
 use lib.ListN.{length, take}
 use Rattle.number.specs.Put.{put}
 use Rattle.replay.specs.Replay.{reply, Begun, largest-journal, reply-room}
-use Rattle.serve.specs.declared.Filled.{Filled}
-use Rattle.serve.specs.declared.Filled.the-variants.{Ended, Full, Failed}
+use Rattle.serve.specs.Ports.{goes, filled, Sending, Saying}
+use Rattle.serve.specs.declared.ports.Port.the-variants.{Input, Output, Error}
+use Rattle.serve.specs.declared.ports.Intake.{Intake}
+use Rattle.serve.specs.declared.ports.Sent.{Sent}
+use Rattle.serve.specs.declared.ports.Filled.{Filled}
+use Rattle.serve.specs.declared.ports.Filled.the-variants.{Ended, Full, Failed}
+use Rattle.serve.specs.declared.ports.Message.the-variants as message-is
+use Rattle.serve.specs.declared.Run.{Run}
 use Rattle.serve.specs.declared.Served.{Served}
 use Rattle.serve.specs.declared.Served.the-variants.{Replied, Unwritten, NoRoom, Unended, Unread}
 pub mod Laws
 
--- ── what reading comes to ──
+-- ── reading that is over ──
 -- bytes that were read before the input ended lie inside the buffer, and do not fill it
 abbrev pub Within : Filled → List ℕ → Type 0
 Within (Ended n) journal = n < length journal
 Within Full journal = Unit {0}
 Within Failed journal = Unit {0}
+
+-- RULES P1: it is standard input that was read, and no read is left to make
+pub record Finished (at : Intake) (journal : List ℕ) : Type 0 where
+  pub from : at .from ≡ Input
+  pub over : goes at (length journal) ≡ false
+  pub room : at .done ≤ length journal
+  pub within : Within (filled at) journal
 
 -- ── the reply ──
 -- to the first n bytes of `journal`: it stands in the buffer that was `first`
@@ -33,27 +47,50 @@ pub record Cut (n : ℕ) (journal first out : List ℕ) : Type 0 where
   pub small : length first < reply-room
   pub begun : Begun (reply (take n journal)) first out
 
--- a run that replies to these n bytes, and to no others; what is written is the reply's length
+-- RULES P1: it was handed to standard output, whole
+abbrev pub Handed : ℕ → Sent → List ℕ → Type 0
+Handed n s journal = Sending Output n (length (reply (take n journal))) s
+
+-- a run that replies to these n bytes, and to no others. RULES P16: what fails is said on standard error
 abbrev pub Replying : ℕ → Served → (journal first out : List ℕ) → Type 0
-Replying n (Replied m k) journal first out = (m ≡ n) × ((k ≡ length (reply (take n journal))) × Whole n journal first out)
-Replying n (Unwritten m) journal first out = (m ≡ n) × Whole n journal first out
-Replying n (NoRoom m) journal first out = (m ≡ n) × Cut n journal first out
-Replying n Unended journal first out = ⊥
-Replying n Unread journal first out = ⊥
+Replying n (Replied s) journal first out = (s .whole ≡ true) × Handed n s journal × Whole n journal first out
+Replying n (Unwritten s d) journal first out =
+    (s .whole ≡ false) × Saying Error message-is.Unwritten d × Handed n s journal × Whole n journal first out
+Replying n (NoRoom m d) journal first out = (m ≡ n) × Saying Error message-is.NoRoom d × Cut n journal first out
+Replying n (Unended d) journal first out = ⊥
+Replying n (Unread d) journal first out = ⊥
 
 -- ── a run ──
+-- the journal's buffer is full and too short to tell: that is said, and nothing is run
+abbrev pub Stopped : Served → (first out : List ℕ) → Type 0
+Stopped (Replied s) first out = ⊥
+Stopped (Unwritten s d) first out = ⊥
+Stopped (NoRoom m d) first out = ⊥
+Stopped (Unended d) first out = Saying Error message-is.Unended d × (out ≡ first)
+Stopped (Unread d) first out = ⊥
+
+-- RULES P15: a read failed: that is said, and nothing is run
+abbrev pub Blind : Served → (first out : List ℕ) → Type 0
+Blind (Replied s) first out = ⊥
+Blind (Unwritten s d) first out = ⊥
+Blind (NoRoom m d) first out = ⊥
+Blind (Unended d) first out = ⊥
+Blind (Unread d) first out = Saying Error message-is.Unread d × (out ≡ first)
+
 -- RULES P1, P15, P17, P18: by what reading came to. A full buffer is a journal that is too long, or says nothing of where the journal ends
-abbrev pub Answering : Filled → Served → (journal first out : List ℕ) → Type 0
-Answering (Ended n) r journal first out = Replying n r journal first out
-Answering Full r journal first out = (length journal ≤ largest-journal → (r ≡ Unended) × (out ≡ first))
+abbrev pub Answering-by : Filled → Served → (journal first out : List ℕ) → Type 0
+Answering-by (Ended n) r journal first out = Replying n r journal first out
+Answering-by Full r journal first out = (length journal ≤ largest-journal → Stopped r first out)
     × (largest-journal < length journal → Replying (length journal) r journal first out)
-Answering Failed r journal first out = (r ≡ Unread) × (out ≡ first)
+Answering-by Failed r journal first out = Blind r first out
+
+abbrev pub Answering : Intake → Served → (journal first out : List ℕ) → Type 0
+Answering at r journal first out = Answering-by (filled at) r journal first out
 
 -- for the buffers of a run
-pub record Serving (r : Served) (journal first out : List ℕ) : Type 0 where
-  pub read : Filled
-  pub within : Within read journal
-  pub answered : Answering read r journal first out
+pub record Serving (r : Run) (journal first out : List ℕ) : Type 0 where
+  pub finished : Finished (r .read) journal
+  pub answered : Answering (r .read) (r .came) journal first out
 
 -- RULES P19: room for the longest journal and one byte more
 abbrev pub journal-room : ℕ
@@ -64,7 +101,7 @@ pub record Sized (n : ℕ) (bytes : List ℕ) : Type 0 where
   pub size : n ≡ length bytes
 
 -- for buffers of the run's own, with room for every journal and every reply
-pub record Ran (r : Served) : Type 0 where
+pub record Ran (r : Run) : Type 0 where
   pub journal : List ℕ
   pub first : List ℕ
   pub out : List ℕ
@@ -73,9 +110,12 @@ pub record Ran (r : Served) : Type 0 where
   pub served : Serving r journal first out
 
 -- RULES P19, P21: a run that never lacks room, for the journal or for the reply
-abbrev pub Roomy : Served → Type 0
-Roomy (Replied n k) = Unit {0}
-Roomy (Unwritten n) = Unit {0}
-Roomy (NoRoom n) = ⊥
-Roomy Unended = ⊥
-Roomy Unread = Unit {0}
+abbrev pub Roomy-by : Served → Type 0
+Roomy-by (Replied s) = Unit {0}
+Roomy-by (Unwritten s d) = Unit {0}
+Roomy-by (NoRoom m d) = ⊥
+Roomy-by (Unended d) = ⊥
+Roomy-by (Unread d) = Unit {0}
+
+abbrev pub Roomy : Run → Type 0
+Roomy r = Roomy-by (r .came)

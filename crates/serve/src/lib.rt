@@ -3,68 +3,52 @@
 ghost use mathlib.Core.Path.{_≡_};
 ghost use Prim.Native.Nat.{_≤_};
 ghost use lib.ListN.{length};
-ghost use Rattle.replay.specs.Replay.{reply, reply-room};
-ghost use Rattle.serve.specs.Serving.{Within, journal-room, Sized, Replying, Answering, Serving, Ran, Roomy};
+ghost use Rattle.replay.specs.Replay.{reply-room};
+ghost use Rattle.serve.specs.Serving.{Finished, journal-room, Sized, Replying, Answering, Serving, Ran, Roomy};
+
+mod ports;
+
 use number::Written;
+use ports::Filled;
+use ports::Intake;
+use ports::Message;
+use ports::Port;
+use ports::Said;
+use ports::Sent;
 use replay::LARGEST_JOURNAL;
 
 // Room for the longest journal and one byte more, by which a longer one is known.
 const JOURNAL_ROOM: usize = LARGEST_JOURNAL + 1;
 
-// What reading came to.
-enum Filled {
-    // So many bytes stand at the start of the buffer, and then the input ended.
-    Ended(usize),
-    // The buffer is full. Whether the input goes on is not known.
-    Full,
-    // A read failed.
-    Failed,
-}
-
-// What came of a run.
+// What came of what was read.
 pub enum Served {
-    // So many bytes were read, and the reply to them, of so many bytes, was written.
-    Replied { read: usize, wrote: usize },
-    // So many bytes were read, and a write of the reply to them failed.
-    Unwritten(usize),
-    // So many bytes were read, and the reply to them has no room in its buffer.
-    NoRoom(usize),
+    // The reply to it was written.
+    Replied(Sent),
+    // A write of the reply to it failed, and that was said.
+    Unwritten { sent: Sent, said: Said },
+    // The reply to so many bytes has no room in its buffer.
+    NoRoom { read: usize, said: Said },
     // The journal's buffer is full, and no longer than the longest journal: whether the journal ends there is not known, and nothing is run.
-    Unended,
+    Unended(Said),
     // A read failed.
-    Unread,
+    Unread(Said),
 }
 
-// Reads until the input ends or the buffer is full.
-fn fill(fd: i32, buf: &mut [u8]) -> Filled
-    ensures { λ r. ⌜ Within r (now (buf .exit)) ⌝ }
+// What came of a run: how far reading came, and what was made of what was read.
+pub struct Run {
+    read: Intake,
+    came: Served,
+}
+
+// Reads standard input until it ends, a read fails or the buffer is full.
+fn fill(buf: &mut [u8]) -> Intake
+    ensures { λ r. ⌜ Finished r (now (buf .exit)) ⌝ }
 {
-    let mut done: usize = 0;
-    while done < buf.len() {
-        let got = libc::read(fd, &mut buf[done..]);
-        if got < 0 {
-            return Filled::Failed;
-        }
-        let n = io::count(got, &buf[done..]);
-        if n == 0 {
-            return Filled::Ended(done);
-        }
-        done = done + n;
+    let mut at = ports::start(Port::Input);
+    while ports::goes_on(at, buf.len()) {
+        at = ports::more(at, buf);
     }
-    Filled::Full
-}
-
-// Writes a message to standard error; where that fails too, nothing is left to say it to.
-fn say(message: &[u8]) {
-    io::write_all(libc::STDERR_FILENO, message);
-}
-
-// Writes a reply to standard output, and says whether all of it was taken. Nothing else here writes there, and nothing but the reply to
-// `journal`, whole, can be handed to it.
-fn send(text: &[u8], journal: &[u8]) -> bool
-    requires { ⌜ now text ≡ reply (now journal) ⌝ }
-{
-    io::write_all(libc::STDOUT_FILENO, text)
+    at
 }
 
 // Replies to the first `n` bytes of `journal`, by way of `out`.
@@ -74,46 +58,73 @@ fn respond(journal: &[u8], n: usize, out: &mut [u8]) -> Served
 {
     match replay::replay(&journal[..n], out) {
         Written::Bytes(k) => {
-            if send(&out[..k], &journal[..n]) {
-                return Served::Replied { read: n, wrote: k };
+            let sent = ports::send(Port::Output, &out[..k], &journal[..n]);
+            if ports::is_whole(sent) {
+                return Served::Replied(sent);
             }
-            say(b"payrun: standard output could not be written\n");
-            Served::Unwritten(n)
+            let said = ports::say(
+                Port::Error,
+                b"payrun: standard output could not be written\n",
+                Message::Unwritten,
+            );
+            Served::Unwritten {
+                sent: sent,
+                said: said,
+            }
         }
         Written::NoRoom => {
-            say(b"payrun: the reply is longer than the room for it\n");
-            Served::NoRoom(n)
+            let said = ports::say(
+                Port::Error,
+                b"payrun: the reply is longer than the room for it\n",
+                Message::NoRoom,
+            );
+            Served::NoRoom {
+                read: n,
+                said: said,
+            }
         }
     }
 }
 
 // What the program makes of its input, once that is read: all of the program but the read.
-fn answer(journal: &[u8], read: Filled, out: &mut [u8]) -> Served
-    requires { ⌜ Within read (now journal) ⌝ }
+fn answer(journal: &[u8], read: Intake, out: &mut [u8]) -> Served
+    requires { ⌜ Finished read (now journal) ⌝ }
     ensures { λ r. ⌜ Answering read r (now (journal .entry)) (now (out .entry)) (now (out .exit)) ⌝ }
 {
-    match read {
+    match ports::came_to(read) {
         Filled::Ended(n) => respond(journal, n, out),
         Filled::Full => {
             if journal.len() <= LARGEST_JOURNAL {
-                say(b"payrun: the journal may go on after the room for it\n");
-                return Served::Unended;
+                let said = ports::say(
+                    Port::Error,
+                    b"payrun: the journal may go on after the room for it\n",
+                    Message::Unended,
+                );
+                return Served::Unended(said);
             }
             respond(journal, journal.len(), out)
         }
         Filled::Failed => {
-            say(b"payrun: standard input could not be read\n");
-            Served::Unread
+            let said = ports::say(
+                Port::Error,
+                b"payrun: standard input could not be read\n",
+                Message::Unread,
+            );
+            Served::Unread(said)
         }
     }
 }
 
 // Standard input to its end, or until the first buffer is full; the replies to standard output, by way of the second. What fails is said on standard error.
-pub fn serve(journal: &mut [u8], out: &mut [u8]) -> Served
+pub fn serve(journal: &mut [u8], out: &mut [u8]) -> Run
     ensures { λ r. ⌜ Serving r (now (journal .exit)) (now (out .entry)) (now (out .exit)) ⌝ }
 {
-    let read = fill(libc::STDIN_FILENO, journal);
-    answer(journal, read, out)
+    let read = fill(journal);
+    let came = answer(journal, read, out);
+    Run {
+        read: read,
+        came: came,
+    }
 }
 
 fn journal_space() -> [u8; JOURNAL_ROOM]
@@ -130,7 +141,7 @@ fn reply_space() -> [u8; replay::REPLY_ROOM]
 }
 
 // The whole program: a run with room for every journal and every reply.
-pub fn program() -> Served
+pub fn program() -> Run
     ensures ran { λ r. ⌜ Ran r ⌝ }
     ensures roomy { λ r. ⌜ Roomy r ⌝ }
 {

@@ -1,70 +1,55 @@
--- `serve::fill` meets its contract. Assumes nothing.
-use Prim.Native.Nat.{_≤_, _-_}
-use mathlib.Core.Path.{_≡_}
+-- `serve::fill` meets its contract: it reads while there is a read to make, and each takes something of what is left. Assumes nothing.
+use Prim.Native.Nat.{ℕ, _<_}
+use mathlib.Core.Path.{sym, subst, _∙_}
 use lib.ListN.{length}
-use borrow.Author.Needs.{needs}
+use Rattle.serve.specs.declared.ports.Intake.{Intake}
+use Rattle.serve.specs.Ports.Laws.{left, left-less}
+use Rattle.serve.specs.Serving.Laws.{Reading, reading-begun, reading-next, reading-over}
 use Rattle.serve.proofs.fill.Statement.{statement}
 use Rattle.serve.proofs.fill.Tie as tie
 
 abbrev Inv-loop : tie.InvT-loop
-Inv-loop fd buf₀ done₀ buf done = (done ≤ length buf) × (length buf ≡ length buf₀)
+Inv-loop buf₀ at₀ buf at = Reading at buf₀ buf
 
 abbrev μ-loop : tie.MeasureT-loop
-μ-loop fd buf₀ done₀ buf done = length buf₀ - done
+μ-loop buf₀ at₀ buf at = left at (length buf₀)
+
+start-requires : tie.Need-start-requires Inv-loop μ-loop
+start-requires c κs = tt
 
 loop-holds : tie.Need-loop-holds Inv-loop μ-loop
-loop-holds c = search needs
+loop-holds c =
+    let b = c .before .before .args .buf .now in
+    subst (λ (i : Intake). Reading i b b) (sym (c .start .ensures)) (reading-begun b)
 
-sub-read : tie.Need-sub-read Inv-loop μ-loop
-sub-read c = search needs
+goes-on-requires : tie.Need-goes-on-requires Inv-loop μ-loop
+goes-on-requires c κs = tt
 
-part-read-start : tie.Need-part-read-start Inv-loop μ-loop
-part-read-start c = search needs
-
-part-read-end : tie.Need-part-read-end Inv-loop μ-loop
-part-read-end c = search needs
-
-read-requires : tie.Need-read-requires Inv-loop μ-loop
-read-requires c κs = search needs
-
-same-length : tie.Need-same-length Inv-loop μ-loop
-same-length c = search needs
-
-returns : tie.Need-returns Inv-loop μ-loop
-returns c = tt
-
-sub-count : tie.Need-sub-count Inv-loop μ-loop
-sub-count c = search needs
-
-part-count-start : tie.Need-part-count-start Inv-loop μ-loop
-part-count-start c = search needs
-
-part-count-end : tie.Need-part-count-end Inv-loop μ-loop
-part-count-end c = search needs
-
-count-requires : tie.Need-count-requires Inv-loop μ-loop
-count-requires c κs = search needs
-
-same-length-2 : tie.Need-same-length-2 Inv-loop μ-loop
-same-length-2 c = search needs
-
-returns-2 : tie.Need-returns-2 Inv-loop μ-loop
-returns-2 c = search needs
-
-add-done : tie.Need-add-done Inv-loop μ-loop
-add-done c = search needs
+more-requires : tie.Need-more-requires Inv-loop μ-loop
+more-requires c κs = c .before .before .before .loop .inv .room
 
 loop-less : tie.Need-loop-less Inv-loop μ-loop
-loop-less c = search needs
+loop-less c =
+    let m = c .before .before in
+    let l = m .before .before .before .before .loop in
+    subst (λ (n : ℕ). left (m .more .result) n < left (l .at) n) (l .inv .size)
+    (left-less (l .at) (m .more .result) (l .buf) (m .more .last .1 .0) (sym (m .before .before .before .goes-on .ensures) ∙ m .before .before .if1 .taken)
+    (m .more .ensures))
 
 loop-again : tie.Need-loop-again Inv-loop μ-loop
-loop-again c = search needs
+loop-again c =
+    let m = c .before .before in
+    let l = m .before .before .before .before .loop in
+    reading-next (l .at) (m .more .result) _ (l .buf) (m .more .last .1 .0) (m .more .kept .1 .0)
+    (sym (m .before .before .before .goes-on .ensures) ∙ m .before .before .if1 .taken) (m .more .ensures) (l .inv)
 
-same-length-3 : tie.Need-same-length-3 Inv-loop μ-loop
-same-length-3 c = search needs
+same-length : tie.Need-same-length Inv-loop μ-loop
+same-length c = c .before .before .loop .inv .size
 
-returns-3 : tie.Need-returns-3 Inv-loop μ-loop
-returns-3 c = tt
+returns : tie.Need-returns Inv-loop μ-loop
+returns c =
+    let l = c .before .before .loop in
+    reading-over (l .at) _ (l .buf) (l .inv) (sym (c .before .goes-on .ensures) ∙ c .if1 .left)
 
 pub fill-spec : {M : Type 1} → statement M
 fill-spec =
@@ -72,21 +57,11 @@ fill-spec =
     (tie.spec
     Inv-loop
     μ-loop
+    start-requires
     loop-holds
-    sub-read
-    part-read-start
-    part-read-end
-    read-requires
-    same-length
-    returns
-    sub-count
-    part-count-start
-    part-count-end
-    count-requires
-    same-length-2
-    returns-2
-    add-done
+    goes-on-requires
+    more-requires
     loop-less
     loop-again
-    same-length-3
-    returns-3)
+    same-length
+    returns)

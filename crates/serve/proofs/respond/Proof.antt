@@ -1,21 +1,23 @@
--- `serve::respond` meets its contract: what is handed to `send` is the reply, and the result says how long it is. Assumes nothing.
+-- `serve::respond` meets its contract: what is handed to `ports::send` is the reply, and what it hands back says so. Assumes nothing.
 use mathlib.Core.Path.{refl, sym, ap, _∙_}
 use native.Mathlib.Omega.{arith}
 use Rattle.number.specs.Put.Laws.{put-within, prefix-size}
 use Rattle.number.specs.Answers.{writing}
-use Rattle.serve.specs.Serving.Laws.{Put, sent-is, whole-as, cut-as}
+use Rattle.serve.specs.Serving.{Handed, Whole}
+use Rattle.serve.specs.Serving.Laws.{Put, sent-is, handed-as, cut-as}
 use borrow.Author.Needs.{needs}
 use Rattle.serve.proofs.respond.Statement.{statement}
 use Rattle.serve.proofs.respond.Tie as tie
 use Rattle.serve.proofs.respond.Reads as reads
 use Rattle.serve.proofs.respond.Lts as lts
 use Rattle.replay.proofs.replay.Reads as replay-reads
-use Rattle.serve.proofs.say.Reads as say-reads
-use Rattle.serve.proofs.send.Reads as send-reads
+use Rattle.serve.proofs.ports.is_whole.Reads as is-whole-reads
+use Rattle.serve.proofs.ports.say.Reads as say-reads
+use Rattle.serve.proofs.ports.send.Reads as send-reads
 
 -- the reply has its place in the buffer
 replied :
-    (c : lts.After-k (replay-reads.Asked, replay-reads.Learnt, send-reads.Asked, send-reads.Learnt, say-reads.Asked, say-reads.Learnt) reads.Pre reads.Post) →
+    (c : lts.After-k (replay-reads.Asked, replay-reads.Learnt, send-reads.Asked, send-reads.Learnt, is-whole-reads.Asked, is-whole-reads.Learnt, say-reads.Asked, say-reads.Learnt) reads.Pre reads.Post) →
     let a = c .before .before .before .before .before .before .before .before .before .args in
     Put (a .n) (a .journal .now) (a .out .now) (c .before .before .before .before .replay .last .1 .0) (c .k .given .0 .0)
 replied c =
@@ -23,8 +25,20 @@ replied c =
     let k = c .k .given in
     (ap writing (sym (k .1)) ∙ w .ensures .0, w .ensures .1 .0 (k .0 .0) (ap writing (k .1)))
 
+-- and was handed on
+handed :
+    (c : lts.After-send (replay-reads.Asked, replay-reads.Learnt, send-reads.Asked, send-reads.Learnt, is-whole-reads.Asked, is-whole-reads.Learnt, say-reads.Asked, say-reads.Learnt) reads.Pre reads.Post) →
+    let b = c .before .before .before .before in
+    let a = b .before .before .before .before .before .before .before .before .before .args in
+    Handed (a .n) (c .send .result) (a .journal .now) × Whole (a .n) (a .journal .now) (a .out .now) (b .before .before .before .before .replay .last .1 .0)
+handed c =
+    let b = c .before .before .before .before in
+    let e = b .before .before .before .before .before .before .before .before .before in
+    handed-as (e .args .n) (e .args .journal .now) (e .args .out .now) _ _ (e .pre) (replied b) (c .send .result) (c .send .ensures)
+
 slice-aggregate-replay : tie.Need-slice-aggregate-replay
-slice-aggregate-replay c = prefix-size _ (c .before .before .before .args .journal .now) (omega (arith, c .before .before .before .pre))
+slice-aggregate-replay c =
+    prefix-size _ (c .before .before .before .args .journal .now) (omega (arith, c .before .before .before .pre))
 
 replay-requires : tie.Need-replay-requires
 replay-requires c κs = search needs
@@ -50,11 +64,16 @@ send-requires c κs =
     let a = c .before .before .before .before .before .before .before .before .before .before .before .before .args in
     sent-is (a .n) (a .journal .now) (a .out .now) _ _ (replied (c .before .before .before))
 
+is-whole-requires : tie.Need-is-whole-requires
+is-whole-requires c κs = search needs
+
 same-length : tie.Need-same-length
 same-length c = search needs
 
 returns : tie.Need-returns
-returns c = (refl, whole-as _ _ _ _ _ (replied (c .before .before .before .before .before)))
+returns c =
+    let h = handed (c .before .before) in
+    (sym (c .before .is-whole .ensures) ∙ c .if1 .taken, h .0, h .1)
 
 slice-aggregate-say : tie.Need-slice-aggregate-say
 slice-aggregate-say c = search needs
@@ -75,15 +94,21 @@ same-length-2 : tie.Need-same-length-2
 same-length-2 c = search needs
 
 returns-2 : tie.Need-returns-2
-returns-2 c = (refl, whole-as _ _ _ _ _ (replied (c .before .before .before .before .before .before .before)) .1)
+returns-2 c =
+    let b = c .before .before in
+    let h = handed (b .before .before) in
+    (sym (b .before .is-whole .ensures) ∙ b .if1 .left, c .say .ensures, h .0, h .1)
 
 same-length-3 : tie.Need-same-length-3
 same-length-3 c = search needs
 
 returns-3 : tie.Need-returns-3
 returns-3 c =
-    let w = c .before .before .before .before .before .before .replay in
-    (refl, cut-as _ _ _ _ (ap writing (sym (c .before .before .enum-told .given .1)) ∙ w .ensures .0) (w .ensures .1 .1 .0) (w .ensures .1 .1 .1))
+    let w = c .before .before .before .before .before .before .replay in (
+      refl,
+      c .say2 .ensures,
+      cut-as _ _ _ _ (ap writing (sym (c .before .before .enum-told .given .1)) ∙ w .ensures .0) (w .ensures .1 .1 .0) (w .ensures .1 .1 .1),
+    )
 
 pub respond-spec : {M : Type 1} → statement M
 respond-spec =
@@ -96,6 +121,7 @@ respond-spec =
     slice-aggregate-send
     slice-aggregate-send-2
     send-requires
+    is-whole-requires
     same-length
     returns
     slice-aggregate-say
