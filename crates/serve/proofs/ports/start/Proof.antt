@@ -1,0 +1,10 @@
+-- `serve::ports::start` meets its contract. Assumes nothing.
+use mathlib.Core.Path.{refl}
+use Rattle.serve.proofs.ports.start.Statement.{statement}
+use Rattle.serve.proofs.ports.start.Tie as tie
+
+returns : tie.Need-returns
+returns c = refl
+
+pub start-spec : {M : Type 1} → statement M
+start-spec = tie.close (tie.spec returns)
