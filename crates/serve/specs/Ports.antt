@@ -1,5 +1,6 @@
--- What the program's ports come to (RULES P1, P15, P16, P18). In order: the ports; reading; writing; messages. The laws are in Ports/Laws. Assumes nothing.
-use Prim.Native.Nat.{ℕ, zero, suc, _+_, _≤_, _<_}
+-- What the program's ports come to (RULES P1, P15, P16). In order: the ports; reading; writing; messages. The laws are in
+-- Ports/Laws. Assumes nothing.
+use Prim.Native.Nat.{ℕ, zero, suc, _+_, _≤_}
 use Prim.Native.String.{String, [] as []ˢ, _∷_ as _∷ˢ_}
 use Prim.Native.Char.{code}
 use mathlib.Core.Path.{_≡_}
@@ -30,7 +31,8 @@ number-of Output = pos 1
 number-of Error = pos 2
 
 -- ── reading ──
--- RULES P1, P15: what the number means that a read answers. Below 0 it failed, at 0 the input has ended, any other is so many bytes more
+-- RULES P1, P15: what the number means that a read answers. Below 0 it failed, at 0 the input has ended, any other is
+-- so many bytes more
 abbrev pub step : ℤ → Step
 step (negsuc k) = step-is.Failed
 step (pos zero) = step-is.Ended
@@ -52,7 +54,7 @@ pub record Advanced (at r : Intake) (buf buf′ : List ℕ) : Type 0 where
   pub room : r .done ≤ length buf
   pub kept : take (at .done) buf′ ≡ take (at .done) buf
 
--- whether reading goes on, with so much room
+-- RULES P1: whether reading goes on, with so much room: while reads bring bytes, and there is room
 abbrev pub goes-by : Step → ℕ → ℕ → Bool
 goes-by step-is.Failed done room = false
 goes-by step-is.Ended done room = false
@@ -61,7 +63,7 @@ goes-by (Brought n) done room = ltb done room
 abbrev pub goes : Intake → ℕ → Bool
 goes at room = goes-by (at .last) (at .done) room
 
--- what reading came to that does not go on
+-- RULES P1, P15: what reading came to that does not go on
 abbrev pub filled-by : Step → ℕ → Filled
 filled-by step-is.Failed done = Failed
 filled-by step-is.Ended done = Ended done

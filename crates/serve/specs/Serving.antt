@@ -1,7 +1,7 @@
--- What comes of a run of the program over standard input (RULES P1, P15, P17 to P21). Two things are left to the host and are
--- free here: what the reads bring, and whether the writes take all that they are handed. What is made of the bytes that were read, what is handed to
--- which port, and what is said is settled. In order: reading that is over; the reply to some bytes; a run. The ports are in Ports, the laws in
--- Serving/Laws. Assumes nothing.
+-- What comes of a run of the program over standard input (RULES P1, P15 to P21). Two things are left to the host and are
+-- free here: what the reads bring, and whether the writes take all that they are handed. What is made of the bytes that
+-- were read, what is handed to which port, and what is said is settled. In order: reading that is over; the reply to some
+-- bytes; a run. The ports are in Ports, the laws in Serving/Laws. Assumes nothing.
 use Prim.Native.Nat.{ℕ, _+_, _≤_, _<_}
 use mathlib.Core.Path.{_≡_}
 use mathlib.Core.Bool.{true, false}
@@ -77,7 +77,8 @@ Blind (NoRoom m d) first out = ⊥
 Blind (Unended d) first out = ⊥
 Blind (Unread d) first out = Saying Error message-is.Unread d × (out ≡ first)
 
--- RULES P1, P15, P17, P18: by what reading came to. A full buffer is a journal that is too long, or says nothing of where the journal ends
+-- RULES P1, P15, P17, P18: by what reading came to. A full buffer is a journal that is too long, or says nothing of where
+-- the journal ends
 abbrev pub Answering-by : Filled → Served → (journal first out : List ℕ) → Type 0
 Answering-by (Ended n) r journal first out = Replying n r journal first out
 Answering-by Full r journal first out = (length journal ≤ largest-journal → Stopped r first out)

@@ -1,6 +1,6 @@
-// The program over standard input (RULES S1, P1, P15, P16): a journal in, the replies out. Which bytes come in, and which of the bytes
-// handed to a write it takes, is the host's. What is made of the bytes that came, and what is handed to the write, is promised here.
-ghost use mathlib.Core.Path.{_≡_};
+// The program over standard input (RULES S1, P1, P15, P16): a journal in, the replies out. Which bytes come in, and which
+// of the bytes handed to a write it takes, is the host's. What is made of the bytes that came, and what is handed to which
+// port, is promised here.
 ghost use Prim.Native.Nat.{_≤_};
 ghost use lib.ListN.{length};
 ghost use Rattle.replay.specs.Replay.{reply-room};
@@ -28,7 +28,8 @@ pub enum Served {
     Unwritten { sent: Sent, said: Said },
     // The reply to so many bytes has no room in its buffer.
     NoRoom { read: usize, said: Said },
-    // The journal's buffer is full, and no longer than the longest journal: whether the journal ends there is not known, and nothing is run.
+    // The journal's buffer is full, and no longer than the longest journal: whether the journal ends there is not known,
+    // and nothing is run.
     Unended(Said),
     // A read failed.
     Unread(Said),
@@ -115,7 +116,8 @@ fn answer(journal: &[u8], read: Intake, out: &mut [u8]) -> Served
     }
 }
 
-// Standard input to its end, or until the first buffer is full; the replies to standard output, by way of the second. What fails is said on standard error.
+// Standard input to its end, or until the first buffer is full; the replies to standard output, by way of the second.
+// What fails is said on standard error.
 pub fn serve(journal: &mut [u8], out: &mut [u8]) -> Run
     ensures { λ r. ⌜ Serving r (now (journal .exit)) (now (out .entry)) (now (out .exit)) ⌝ }
 {

@@ -1,12 +1,13 @@
-// The program's ports, standard input, output and error: all that it reads and writes (RULES P1, P15, P16). No contract can say that a read
-// or a write was made, so this file is kept short and is to be read: three lines make them, one in `more`, one in `send`, one in `say`.
-// `Intake`, `Sent` and `Said` have private fields: only this file makes one, and each that `more`, `send` or `say` makes stands for a read or
-// write that was made. Whoever hands one on has called them; what was read, sent or said by it is in the contracts.
+// The program's ports, standard input, output and error: all that it reads and writes (RULES P1, P15, P16). No contract
+// can say that a read or a write was made. Three lines of this file make them, one in `more`, one in `send` and one in
+// `say`, and have to be believed. `Intake`, `Sent` and `Said` have private fields: only this file makes one, and who hands
+// one on has called these functions. What was read, sent or said with it is in their contracts.
 ghost use mathlib.Core.Path.{_≡_};
 ghost use Prim.Native.Nat.{_≤_};
 ghost use lib.ListN.{length};
 ghost use Rattle.replay.specs.Replay.{reply};
-ghost use Rattle.serve.specs.Ports.{number-of, step, brought-by, begun, Advanced, goes, filled, words, Sending, Saying};
+ghost use Rattle.serve.specs.Ports.{number-of, step, brought-by, begun, Advanced, goes, filled};
+ghost use Rattle.serve.specs.Ports.{words, Sending, Saying};
 
 pub enum Port {
     Input,
@@ -24,7 +25,8 @@ pub enum Step {
     Brought(usize),
 }
 
-// How far reading has come: from which port, how many bytes stand at the start of the buffer, and what the last read came to.
+// How far reading has come: from which port, how many bytes stand at the start of the buffer, and what the last read
+// came to.
 pub struct Intake {
     from: Port,
     done: usize,
@@ -41,7 +43,8 @@ pub enum Filled {
     Failed,
 }
 
-// A reply that was handed to a port: to which one, to how many bytes of a journal it replies, how many bytes it has, and whether all were taken.
+// A reply that was handed to a port: to which one, to how many bytes of a journal it replies, how many bytes it has, and
+// whether all of them were taken.
 pub struct Sent {
     to: Port,
     read: usize,

@@ -18,7 +18,9 @@ respond-requires : tie.Need-respond-requires
 respond-requires c κs =
     let b = c .before .before in
     let e = b .before .before .before .before .before in
-    omega (arith, subst (λ (f : Filled). Within f (e .args .journal .now)) (sym (b .before .before .came-to .ensures) ∙ b .n .given .1) (e .pre .within))
+    let h = subst (λ (f : Filled). Within f (e .args .journal .now))
+    (sym (b .before .before .came-to .ensures) ∙ b .n .given .1) (e .pre .within) in
+    omega (arith, h)
 
 enum-told : tie.Need-enum-told
 enum-told c = search needs

@@ -1,4 +1,5 @@
--- `serve::fill` meets its contract: it reads while there is a read to make, and each takes something of what is left. Assumes nothing.
+-- `serve::fill` meets its contract: it reads while there is a read to make, and each takes something of what is left.
+-- Assumes nothing.
 use Prim.Native.Nat.{ℕ, _<_}
 use mathlib.Core.Path.{sym, subst, _∙_}
 use lib.ListN.{length}
@@ -33,8 +34,8 @@ loop-less c =
     let m = c .before .before in
     let l = m .before .before .before .before .loop in
     subst (λ (n : ℕ). left (m .more .result) n < left (l .at) n) (l .inv .size)
-    (left-less (l .at) (m .more .result) (l .buf) (m .more .last .1 .0) (sym (m .before .before .before .goes-on .ensures) ∙ m .before .before .if1 .taken)
-    (m .more .ensures))
+    (left-less (l .at) (m .more .result) (l .buf) (m .more .last .1 .0)
+    (sym (m .before .before .before .goes-on .ensures) ∙ m .before .before .if1 .taken) (m .more .ensures))
 
 loop-again : tie.Need-loop-again Inv-loop μ-loop
 loop-again c =

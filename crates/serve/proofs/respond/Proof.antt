@@ -1,4 +1,5 @@
--- `serve::respond` meets its contract: what is handed to `ports::send` is the reply, and what it hands back says so. Assumes nothing.
+-- `serve::respond` meets its contract: what is handed to `ports::send` is the reply, and the result says so.
+-- Assumes nothing.
 use mathlib.Core.Path.{refl, sym, ap, _∙_}
 use native.Mathlib.Omega.{arith}
 use Rattle.number.specs.Put.Laws.{put-within, prefix-size}
@@ -17,7 +18,16 @@ use Rattle.serve.proofs.ports.send.Reads as send-reads
 
 -- the reply has its place in the buffer
 replied :
-    (c : lts.After-k (replay-reads.Asked, replay-reads.Learnt, send-reads.Asked, send-reads.Learnt, is-whole-reads.Asked, is-whole-reads.Learnt, say-reads.Asked, say-reads.Learnt) reads.Pre reads.Post) →
+    (c : lts.After-k (
+      replay-reads.Asked,
+      replay-reads.Learnt,
+      send-reads.Asked,
+      send-reads.Learnt,
+      is-whole-reads.Asked,
+      is-whole-reads.Learnt,
+      say-reads.Asked,
+      say-reads.Learnt,
+    ) reads.Pre reads.Post) →
     let a = c .before .before .before .before .before .before .before .before .before .args in
     Put (a .n) (a .journal .now) (a .out .now) (c .before .before .before .before .replay .last .1 .0) (c .k .given .0 .0)
 replied c =
@@ -27,14 +37,25 @@ replied c =
 
 -- and was handed on
 handed :
-    (c : lts.After-send (replay-reads.Asked, replay-reads.Learnt, send-reads.Asked, send-reads.Learnt, is-whole-reads.Asked, is-whole-reads.Learnt, say-reads.Asked, say-reads.Learnt) reads.Pre reads.Post) →
+    (c : lts.After-send (
+      replay-reads.Asked,
+      replay-reads.Learnt,
+      send-reads.Asked,
+      send-reads.Learnt,
+      is-whole-reads.Asked,
+      is-whole-reads.Learnt,
+      say-reads.Asked,
+      say-reads.Learnt,
+    ) reads.Pre reads.Post) →
     let b = c .before .before .before .before in
     let a = b .before .before .before .before .before .before .before .before .before .args in
-    Handed (a .n) (c .send .result) (a .journal .now) × Whole (a .n) (a .journal .now) (a .out .now) (b .before .before .before .before .replay .last .1 .0)
+    Handed (a .n) (c .send .result) (a .journal .now)
+    × Whole (a .n) (a .journal .now) (a .out .now) (b .before .before .before .before .replay .last .1 .0)
 handed c =
     let b = c .before .before .before .before in
     let e = b .before .before .before .before .before .before .before .before .before in
-    handed-as (e .args .n) (e .args .journal .now) (e .args .out .now) _ _ (e .pre) (replied b) (c .send .result) (c .send .ensures)
+    handed-as (e .args .n) (e .args .journal .now) (e .args .out .now) _ _ (e .pre) (replied b)
+    (c .send .result) (c .send .ensures)
 
 slice-aggregate-replay : tie.Need-slice-aggregate-replay
 slice-aggregate-replay c =

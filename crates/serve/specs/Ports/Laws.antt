@@ -12,7 +12,7 @@ use Rattle.libc.specs.Io.{Moved}
 use Rattle.serve.specs.declared.ports.Intake.{Intake}
 use Rattle.serve.specs.declared.ports.Step.{Step}
 use Rattle.serve.specs.declared.ports.Step.the-variants.{Failed, Ended, Brought}
-use Rattle.serve.specs.Ports.{step, brought-by, Advanced, goes-by, goes, filled-by, filled}
+use Rattle.serve.specs.Ports.{step, brought-by, Advanced, goes-by, goes}
 
 -- ── what a read's number means ──
 pub step-below : (z : ℤ) → ltZ z (pos 0) ≡ true → Failed ≡ step z
@@ -36,8 +36,8 @@ brought-room m (pos (suc k)) h = h
 brought-room m (negsuc k) h = zero-le
 
 -- and one that is lent what lies behind `done` bytes keeps within the whole
-pub reached-room : (done : ℕ) (buf : List ℕ) (z : ℤ) → done ≤ length buf → Moved (length (take (length buf - done) (drop done buf))) z
-    → done + brought-by (step z) ≤ length buf
+pub reached-room : (done : ℕ) (buf : List ℕ) (z : ℤ) → done ≤ length buf
+    → Moved (length (take (length buf - done) (drop done buf))) z → done + brought-by (step z) ≤ length buf
 reached-room done buf z h m =
     omega (arith, h, brought-room _ z m, length-take (length buf - done) (drop done buf), length-drop done buf)
 
@@ -61,8 +61,10 @@ goes-room at room = by (at .last)
     by (Brought n) e = ltb-true (at .done) room e
 
 -- and has something left, of which the next read takes some
-pub left-less : (at r : Intake) (buf buf′ : List ℕ) → goes at (length buf) ≡ true → Advanced at r buf buf′ → left r (length buf) < left at (length buf)
-left-less at r buf buf′ g a = subst (λ (i : Intake). left i (length buf) < left at (length buf)) (sym (a .next)) (by (at .last) g (a .number))
+pub left-less : (at r : Intake) (buf buf′ : List ℕ) → goes at (length buf) ≡ true → Advanced at r buf buf′
+    → left r (length buf) < left at (length buf)
+left-less at r buf buf′ g a =
+    subst (λ (i : Intake). left i (length buf) < left at (length buf)) (sym (a .next)) (by (at .last) g (a .number))
   where
     by : (s : Step) → goes-by s (at .done) (length buf) ≡ true → (z : ℤ)
         → left-by (step z) (at .done + brought-by (step z)) (length buf) < left-by s (at .done) (length buf)

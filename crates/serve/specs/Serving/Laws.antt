@@ -1,4 +1,5 @@
--- Laws of the program's buffers. In order: zeros of any number; the reply, as it is handed on; a run with room for everything. Assumes nothing.
+-- Laws of the program's buffers. In order: zeros of any number; reading, step by step; the reply, as it is handed on; a
+-- run with room for everything. Assumes nothing.
 use Prim.Native.Nat.{ℕ, zero, suc, _+_, _≤_, _<_, zero-le}
 use native.Mathlib.Omega.{arith}
 use mathlib.Core.Path.{_≡_, refl, sym, ap, subst, _∙_}
@@ -23,7 +24,8 @@ use Rattle.serve.specs.declared.ports.Filled.the-variants.{Ended, Full, 
 use Rattle.serve.specs.declared.Run.{Run}
 use Rattle.serve.specs.declared.Served.{Served}
 use Rattle.serve.specs.declared.Served.the-variants.{Replied, Unwritten, NoRoom, Unended, Unread}
-use Rattle.serve.specs.Serving.{Within, Finished, Whole, Cut, Handed, Replying, Blind, Answering-by, Sized, Ran, Roomy, Roomy-by}
+use Rattle.serve.specs.Serving.{Within, Finished, Whole, Cut, Handed, Replying, Blind, Answering-by}
+use Rattle.serve.specs.Serving.{Sized, Ran, Roomy, Roomy-by}
 
 pub zeros-sized : (n : ℕ) → Sized n (replicate n 0)
 zeros-sized n = record { size = sym (length-replicate n 0) }
@@ -40,8 +42,8 @@ pub reading-begun : (buf : List ℕ) → Reading (begun Input) buf buf
 reading-begun buf = record { from = refl; room = zero-le; within = tt; size = refl }
 
 -- a read where there is one to make
-pub reading-next : (at r : Intake) (buf₀ buf buf′ : List ℕ) → length buf′ ≡ length buf → goes at (length buf) ≡ true → Advanced at r buf buf′
-    → Reading at buf₀ buf → Reading r buf₀ buf′
+pub reading-next : (at r : Intake) (buf₀ buf buf′ : List ℕ) → length buf′ ≡ length buf → goes at (length buf) ≡ true
+    → Advanced at r buf buf′ → Reading at buf₀ buf → Reading r buf₀ buf′
 reading-next at r buf₀ buf buf′ long g a h = record {
   from = ap (λ (i : Intake). i .from) (a .next) ∙ h .from;
   room = omega (arith, a .room, long);
@@ -72,8 +74,8 @@ module _ (n : ℕ) (journal first out : List ℕ) where
       ∙ take-at (reply (take n journal)) (drop (length (reply (take n journal))) first) k (sym count)
 
   -- and that it was handed on
-  pub handed-as : (k : ℕ) → n ≤ length journal → Put k → (s : Sent) → Sending Output (length (take n journal)) (length (take k out)) s
-      → Handed n s journal × Whole n journal first out
+  pub handed-as : (k : ℕ) → n ≤ length journal → Put k → (s : Sent)
+      → Sending Output (length (take n journal)) (length (take k out)) s → Handed n s journal × Whole n journal first out
   handed-as k inside w s h = (
     record { port = h .port; read = h .read ∙ length-take-le n journal inside; wrote = h .wrote ∙ ap length (sent-is k w) },
     let (count, room) = fits (reply (take n journal)) first k (sym (w .0)) in record { fits = room; wrote = w .1 },

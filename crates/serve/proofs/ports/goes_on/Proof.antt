@@ -24,7 +24,8 @@ returns-2 c = search needs
 returns-3 : tie.Need-returns-3
 returns-3 c =
     let b = c .before .before in
-    ap (λ (s : Step). goes-by s (b .before .before .args .at .done) (b .before .before .args .room)) (sym (b .last .given .1))
+    let a = b .before .before .args in
+    ap (λ (s : Step). goes-by s (a .at .done) (a .room)) (sym (b .last .given .1))
 
 pub goes-on-spec : {M : Type 1} → statement M
 goes-on-spec =

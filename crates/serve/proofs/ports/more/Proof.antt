@@ -18,22 +18,36 @@ use Rattle.serve.proofs.ports.brought.Reads as brought-reads
 use Rattle.serve.proofs.ports.descriptor.Reads as descriptor-reads
 use Rattle.serve.proofs.ports.step_of.Reads as step-of-reads
 
-module _ (c : lts.After-brought (descriptor-reads.Asked, descriptor-reads.Learnt, read-reads.Asked, read-reads.Learnt, step-of-reads.Asked, step-of-reads.Learnt, brought-reads.Asked, brought-reads.Learnt) reads.Pre reads.Post) where
-  -- what the last step is
-  stepped : c .before .step-of .result ≡ step (c .before .before .before .before .read .result)
-  stepped = c .before .step-of .ensures ∙ ap step (toZ-ofZ {w = w64} {z = c .before .before .before .before .read .result} (record { sfits = c .before .before .before .before .read .ok }))
+module _
+    (c : lts.After-brought (
+      descriptor-reads.Asked,
+      descriptor-reads.Learnt,
+      read-reads.Asked,
+      read-reads.Learnt,
+      step-of-reads.Asked,
+      step-of-reads.Learnt,
+      brought-reads.Asked,
+      brought-reads.Learnt,
+    ) reads.Pre reads.Post)
+  where
+    -- what the last step is
+    stepped : c .before .step-of .result ≡ step (c .before .before .before .before .read .result)
+    stepped =
+        let r = c .before .before .before .before .read in
+        c .before .step-of .ensures ∙ ap step (toZ-ofZ {w = w64} {z = r .result} (record { sfits = r .ok }))
 
-  -- how much it brought
-  counted : c .brought .result ≡ brought-by (step (c .before .before .before .before .read .result))
-  counted = c .brought .ensures ∙ ap brought-by stepped
+    -- how much it brought
+    counted : c .brought .result ≡ brought-by (step (c .before .before .before .before .read .result))
+    counted = c .brought .ensures ∙ ap brought-by stepped
 
-  -- and that it keeps within the buffer
-  kept-within : c .before .before .before .before .before .before .before .before .args .at .done + c .brought .result
-      ≤ length (c .before .before .before .before .before .before .before .before .args .buf .now)
-  kept-within =
-      let b = c .before .before .before .before in
-      let a = b .before .before .before .before in
-      omega (arith, counted, reached-room (a .args .at .done) (a .args .buf .now) (b .read .result) (a .pre) (b .read .ensures))
+    -- and that it keeps within the buffer
+    kept-within : c .before .before .before .before .before .before .before .before .args .at .done + c .brought .result
+        ≤ length (c .before .before .before .before .before .before .before .before .args .buf .now)
+    kept-within =
+        let b = c .before .before .before .before in
+        let a = b .before .before .before .before in
+        let h = reached-room (a .args .at .done) (a .args .buf .now) (b .read .result) (a .pre) (b .read .ensures) in
+        omega (arith, counted, h)
 
 descriptor-requires : tie.Need-descriptor-requires
 descriptor-requires c κs = search needs
@@ -70,7 +84,9 @@ returns c =
       number = b .read .result;
       next = λ i. record { from = a .args .at .from; done = a .args .at .done + counted c i; last = stepped c i };
       room = kept-within c;
-      kept = take-put (a .args .at .done) (length (a .args .buf .now) - a .args .at .done) (a .args .buf .now) (b .read .last .1 .0) (a .pre);
+      kept =
+          take-put (a .args .at .done) (length (a .args .buf .now) - a .args .at .done) (a .args .buf .now)
+          (b .read .last .1 .0) (a .pre);
     }
 
 pub more-spec : {M : Type 1} → statement M
