@@ -395,8 +395,10 @@ uint32_t gatekeeper_monitor_call(struct gatekeeper_monitor *monitor, uint32_t co
 /* An open (code 5 or 6) and a close that change no need, done in place on the parts of one struct, each lent with its
  * size in bytes, but `counts` with 2, for it has two numbers. They return the number that gatekeeper_monitor_call
  * returns. Or 0, and nothing is touched: the call is not that simple, `sure` is not 1, the code is another, or a size
- * is wrong. Then gatekeeper_monitor_call is to be made. A host does not call them itself: gatekeeper_monitor_step
- * does. */
+ * is wrong. Then gatekeeper_monitor_call is to be made. With the right code and sizes, on a struct that is as its `sure`
+ * of 1 says, 0 is not returned for what is refused with a number other than 9, for an open that changes no need, nor for
+ * a close that ends no pipe where the needs of the step and the object differ, the step's is 0, or it reads a file whose
+ * level is at least that need. A host does not call them itself: gatekeeper_monitor_step does. */
 GATEKEEPER_MUST_USE
 uint32_t gatekeeper_quick_open(const uint8_t *subjects, size_t subjects_len, const uint8_t *objects, size_t objects_len,
                                uint8_t *handles, size_t handles_len, const uint8_t *needs, size_t needs_len,

@@ -1,5 +1,6 @@
 // A monitor and its tally as a struct that a host keeps and lends, in place of the lent bytes (RULES S1, H12, H23, H24): nothing is parsed at a call, and nothing
 // laid out. It has bytes and two numbers of 64 bits, each value of which is one, so that a host can hand in nothing wrong.
+ghost use mathlib.Core.List.{[], _∷_};
 ghost use Rattle.gatekeeper.specs.View.{direct};
 ghost use Rattle.quick.specs.Parts.{Tried};
 ghost use Rattle.host.specs.Lending.{Lends, Begins, Assures};
@@ -129,7 +130,7 @@ pub extern "C" fn gatekeeper_quick_open(
     o: u32,
     p: u32,
 ) -> u32
-    ensures { λ r. ⌜ Tried (now (subjects .entry)) (now (objects .entry)) (now (handles .entry)) (now (needs .entry)) (now (counts .entry)) freeze sure
+    ensures { λ r. ⌜ Tried (5 ∷ 6 ∷ []) (now (subjects .entry)) (now (objects .entry)) (now (handles .entry)) (now (needs .entry)) (now (counts .entry)) freeze sure
         (direct code s o p 0 0 0) r (now (handles .exit)) (now (counts .exit)) ⌝ }
 {
     quick::opened(
@@ -159,7 +160,7 @@ pub extern "C" fn gatekeeper_quick_close(
     s: u32,
     p: u32,
 ) -> u32
-    ensures { λ r. ⌜ Tried (now (subjects .entry)) (now (objects .entry)) (now (handles .entry)) (now (needs .entry)) (now (counts .entry)) freeze sure
+    ensures { λ r. ⌜ Tried (11 ∷ []) (now (subjects .entry)) (now (objects .entry)) (now (handles .entry)) (now (needs .entry)) (now (counts .entry)) freeze sure
         (direct 11 s p 0 0 0 0) r (now (handles .exit)) (now (counts .exit)) ⌝ }
 {
     quick::closed(

@@ -1,44 +1,50 @@
 -- A close that changes no need and ends no pipe, on a monitor's parts. Assumes nothing.
-use mathlib.Core.Path.{_≡_, refl, sym, _∙_, ap, ap₂, subst}
-use mathlib.Core.Bool.{Bool, true, not, _&&_, _||_, cond}
+use mathlib.Core.Path.{_≡_, refl, sym, _∙_, ap, ap₂, subst, subst₂}
+use mathlib.Core.Bool.{Bool, true, false, not, _&&_, _||_, cond}
 use mathlib.Core.Logic.{_⊎_, inl, inr}
-use mathlib.Core.Option.{none, some}
+use mathlib.Core.Option.{none, some, Option·none-ne-some, Option·some-injective}
 use mathlib.Core.List.{List}
-use Prim.Native.Nat.{ℕ, _+_, _*_, _%_, _<_}
+use Prim.Native.Nat.{ℕ, _+_, _*_, _%_, _≤_, _<_}
 use native.Mathlib.Omega.{arith}
 use native.Mathlib.Decide.{ℕ-discrete, decLt}
-use borrow.Author.Tests.{eq-eqb, ne-eqb, lt-ltb, le-ltb}
+use borrow.Author.Tests.{eq-eqb, ne-eqb, lt-ltb, le-ltb, le-leb}
 use lib.ListN.{length, getD, set, length-set}
 use lib.Seq.{getD-set-same, getD-set-other, ext-getD}
 use lib.Dec.{eqb, ltb, ltb→lt}
+use Rattle.model.specs.Label.{Label, label, level, _⊑_, bot}
+use Rattle.model.specs.Label.Laws.{level-label, ⊑→le, ⊑-antisym, label-zero, bot-least}
 use Rattle.model.specs.Flow.{subject, object}
-use Rattle.model.specs.Tables.{Tables, empty, with-hand, handles, open-on}
+use Rattle.model.specs.Tables.{file, pipe, reading, writing, entry, Tables, empty, with-hand, handles, open-on, demand, needs}
+use Rattle.model.specs.Tables.{Handle as Held}
 use Rattle.model.specs.Tables.Laws.{live-of}
+use Rattle.model.specs.Tables.Laws.{object-entry as live-entry}
 use Rattle.model.specs.Steps.{hold, apply}
-use Rattle.model.specs.Invariant.{Wf}
+use Rattle.model.specs.Invariant.{Ends, Wf}
 use Rattle.model.specs.Figures.{Ready}
-use Rattle.model.specs.Calls.{Call, close, mark, decode, refusal, allowed}
+use Rattle.model.specs.Calls.{Call, close, mark, decode, refusal, effect, allowed}
 use Rattle.model.specs.Tally.{wrapped}
 use Rattle.tables.specs.declared.Subject.{Subject}
 use Rattle.tables.specs.declared.Object.{Object}
 use Rattle.tables.specs.declared.Handle.{Handle}
-use Rattle.tables.specs.Records.{subject-entry, joins, held, reads-by, no-subject, no-object, no-handle, hands, tables-of}
+use Rattle.tables.specs.Records.{subject-entry, object-entry, joins, held, reads-by, no-subject, no-object, no-handle, hands, tables-of}
+use Rattle.tables.specs.Records.Laws.{object-there, store-close}
 use Rattle.tables.specs.Needs.{figure-of}
 use Rattle.refusals.specs.Refusing.{Refuses}
 use Rattle.tables.specs.Working.{subject-at, object-at, handle-at, Outlives}
 use Rattle.handles.specs.Working.{on}
-use Rattle.handles.proofs.Opening.{found}
+use Rattle.handles.proofs.Opening.{found, none-found}
 use Rattle.passes.specs.Working.{demands}
-use Rattle.keeping.proofs.Closing.{apart-ready, zero-ready, backed-ready, object-then}
+use Rattle.passes.proofs.Raising.{true-false}
+use Rattle.keeping.proofs.Closing.{mine-is, its-is, apart-ready, zero-ready, backed-ready, object-then}
 use Rattle.gatekeeper.specs.declared.Monitor.{Monitor}
-use Rattle.gatekeeper.specs.View.{view, direct}
+use Rattle.gatekeeper.specs.View.{beside, view, Honest, direct}
 use Rattle.gatekeeper.specs.Acting.{Acts, back}
 use Rattle.gatekeeper.proofs.Owned.{Long}
-use Rattle.gatekeeper.proofs.Doing.{found-live}
+use Rattle.gatekeeper.proofs.Doing.{found-live, full-held}
 use Rattle.gatekeeper.proofs.Acting.{stops, goes, acts-keeps}
-use Rattle.gatekeeper.proofs.Storing.{subject-got, handle-got, closes}
-use Rattle.quick.specs.Parts.{Whole, subjects-in, objects-in, handles-in, monitor-in, tally-in, Beside, Done}
-use Rattle.quick.specs.Parts.Laws.{length-objects}
+use Rattle.gatekeeper.proofs.Storing.{subject-got, object-got, handle-got, closes}
+use Rattle.quick.specs.Parts.{Whole, subjects-in, objects-in, handles-in, monitor-in, tally-in, Beside, Done, Loose, Settles}
+use Rattle.quick.specs.Parts.Laws.{length-objects, length-handles}
 use Rattle.quick.proofs.Doing.{refusing, allowing, whole-long, counted-made, counted-gone}
 
 close-is : (s p : ℕ) → decode (direct 11 s p 0 0 0 0) ≡ close s p
@@ -71,6 +77,161 @@ module _ (sb ob hb nb cs : List ℕ) (fz su s p : ℕ) (w : Whole sb ob hb nb cs
   pub close-refused : (n ≡ 0 → ⊥) → (r : ℕ) → r ≡ 20992 + n → n < 256
       → Done (monitor-in sb ob hb nb fz su) (tally-in cs) (direct 11 s p 0 0 0 0) r (monitor-in sb ob hb nb fz su) (tally-in cs)
   close-refused z = refusing sb ob hb nb cs fz su (direct 11 s p 0 0 0 0) c (close-is s p) one n (λ firm. stops m c n (back m n) (asked (firm .wf)) z refl)
+
+  -- ── it is left ──
+  module _ (z : n ≡ 0) (y : Object) (ey : y ≡ object-at (h .object) (getD (objects-in ob) (h .object % 64) no-object)) (i : Honest (monitor-in sb ob hb nb fz su)) where
+    at-place : view m .hand s p ≡ held h
+    at-place = handle-got m g s p h eh
+
+    none-refuses : refusal (view m) c ≡ none
+    none-refuses = goes (asked (i one .0 .wf)) z
+
+    left : ((k : Held) → view m .hand s p ≡ some k → Loose (view m) s k → effect (view m) c .at (object (k .to)) ≡ view m .at (object (k .to)) → ⊥)
+        → Settles (view m) (decode (direct 11 s p 0 0 0 0)) 0
+    left f = subst (λ (d : Call). Settles (view m) d 0) (sym (close-is s p)) (record {
+      refusing = λ k q l. absurd (Option·none-ne-some k (sym none-refuses ∙ q));
+      opening = λ d s′ o p′ e. let q : _≡_ {A = ℕ} 0 1 = cc in absurd (omega arith);
+      closing = λ s′ p′ k e q there loose stays. (let a : s′ ≡ s = cc in let b : p′ ≡ p = cc in
+          absurd (f k (subst₂ (λ (x v : ℕ). view m .hand x v ≡ some k) a b there) (subst (λ (x : ℕ). Loose (view m) x k) a loose) stays));
+    })
+
+    -- the handle at the place
+    module _ (k : Held) (there : view m .hand s p ≡ some k) where
+      standing : view m .hand s p ≡ some (joins h)
+      standing = at-place ∙ full-held h k (sym at-place ∙ there)
+
+      same-handle : k ≡ joins h
+      same-handle = Option·some-injective k (joins h) (sym there ∙ standing)
+
+      its-ends : Ends (view m) s p (joins h)
+      its-ends = i one .0 .wf .ends s p (joins h) standing
+
+      low-o : h .object < 64
+      low-o = ltb→lt (h .object) 64 (live-of (view m) (object (h .object)) (its-ends .to) .0)
+
+    abbrev mine : ℕ
+    mine = getD nb (s % 32) 0
+
+    abbrev its : ℕ
+    its = getD nb (32 + h .object % 64) 0
+
+    abbrev quiet-test : Bool
+    quiet-test = not (eqb mine its) || (eqb mine 0 || (reads-by (h .way) && demands y mine))
+
+    -- what the ends tell is what the quick tests ask
+    module _ (e : Ends (view m) s p (joins h)) where
+      own-is : label mine ≡ needs (view m) (subject s)
+      own-is = mine-is nb (view m) s p h e (i one .1)
+
+      other-is : label its ≡ needs (view m) (object (h .object))
+      other-is = its-is nb (view m) s p h e (i one .1)
+
+      by-least : needs (view m) (subject s) ≡ bot → quiet-test ≡ true
+      by-least b = second (not (eqb mine its)) (eqb mine 0) (reads-by (h .way) && demands y mine)
+          (eq-eqb mine 0 (sym (level-label mine) ∙ ap level (own-is ∙ b ∙ sym label-zero) ∙ level-label 0))
+        where
+          second : (a b c : Bool) → b ≡ true → (a || (b || c)) ≡ true
+          second true b c q = refl
+          second false true c q = refl
+          second false false c q = true-false (sym q)
+
+      by-file : (joins h .dir ≡ reading) × (needs (view m) (subject s) ⊑ demand (object (h .object)) (view m .at (object (h .object)))) → quiet-test ≡ true
+      by-file (d, v) = go (ℕ-discrete (y .kind) 1)
+        where
+          entry-is : view m .at (object (h .object)) ≡ object-entry y
+          entry-is = object-got m g (h .object) y ey
+
+          third : (a b c : Bool) → c ≡ true → (a || (b || c)) ≡ true
+          third true b c q = refl
+          third false true c q = refl
+          third false false c q = q
+
+          reads-it : (r : Bool) → cond r reading writing ≡ reading → r ≡ true
+          reads-it true q = refl
+          reads-it false q = let w : _≡_ {A = ℕ} 0 1 = cc in absurd (omega arith)
+
+          no-file : (b : Bool) → demand (object (h .object)) (cond b none (some (entry pipe (label (y .level))))) ≡ bot
+          no-file true = refl
+          no-file false = refl
+
+          go : Dec (y .kind ≡ 1) → quiet-test ≡ true
+          go (yes q) = third (not (eqb mine its)) (eqb mine 0) (reads-by (h .way) && demands y mine)
+              (ap₂ (λ (a b : Bool). a && b) (reads-it (reads-by (h .way)) d) (ap₂ (λ (a b : Bool). a && b) (eq-eqb (y .kind) 1 q) (le-leb mine (y .level) enough)))
+            where
+              asks : demand (object (h .object)) (view m .at (object (h .object))) ≡ label (y .level)
+              asks = ap (demand (object (h .object))) entry-is ∙ rw q
+
+              under : label mine ⊑ label (y .level)
+              under = subst₂ (λ (a b : Label). a ⊑ b) (sym own-is) asks v
+
+              enough : mine ≤ y .level
+              enough = omega (arith, ⊑→le (label mine) (label (y .level)) under, level-label mine, level-label (y .level))
+          go (no q) = by-least (⊑-antisym (subst (λ (a : Label). needs (view m) (subject s) ⊑ a) asks v) bot-least)
+            where
+              asks : demand (object (h .object)) (view m .at (object (h .object))) ≡ bot
+              asks = ap (demand (object (h .object))) entry-is
+                  ∙ ap (λ (b : Bool). demand (object (h .object)) (cond (eqb (y .kind) 0) none (some (entry (cond b file pipe) (label (y .level)))))) (ne-eqb (y .kind) 1 q)
+                  ∙ no-file (eqb (y .kind) 0)
+
+      by-loose : Loose (view m) s (joins h) → quiet-test ≡ true
+      by-loose (inl d) = ap (λ (b : Bool). not b || (eqb mine 0 || (reads-by (h .way) && demands y mine))) (ne-eqb mine its (λ q. d (sym own-is ∙ ap label q ∙ other-is)))
+      by-loose (inr (inl b)) = by-least b
+      by-loose (inr (inr f)) = by-file f
+
+    pub close-loud : (not (eqb (getD nb (s % 32) 0) (getD nb (32 + h .object % 64) 0)) || (eqb (getD nb (s % 32) 0) 0 || (reads-by (h .way) && demands y (getD nb (s % 32) 0)))) ≡ false
+        → Settles (view (monitor-in sb ob hb nb fz su)) (decode (direct 11 s p 0 0 0 0)) 0
+    close-loud q = left (λ k there loose stays. true-false (sym (by-loose (its-ends k there) (subst (Loose (view m) s) (same-handle k there) loose)) ∙ q))
+
+    -- no other handle is on a pipe: it ends
+    module _ (at : ℕ) (ea : at ≡ s % 32 * 16 + p % 16) (alone : (y .kind < 2) ⊎ Beside (handles-in hb) (h .object) at → ⊥) (k : Held) (there : view m .hand s p ≡ some k) where
+      hs-after : List Handle
+      hs-after = set (handles-in hb) (s % 32 * 16 + p % 16) no-handle
+
+      none-on : (j : ℕ) → j < 512 → on (getD hs-after j no-handle) (h .object) ≡ false
+      unfolding hs-after
+      none-on j l = go (ℕ-discrete j (s % 32 * 16 + p % 16))
+        where
+          off : (b : Bool) → on (getD (handles-in hb) j no-handle) (h .object) ≡ b → (j ≡ at → ⊥) → on (getD (handles-in hb) j no-handle) (h .object) ≡ false
+          off true q ne = absurd (alone (inr (record { index = j; below = l; apart = ne; is-on = q })))
+          off false q ne = q
+
+          go : Dec (j ≡ s % 32 * 16 + p % 16) → on (getD (set (handles-in hb) (s % 32 * 16 + p % 16) no-handle) j no-handle) (h .object) ≡ false
+          go (yes q) = ap (λ (f : Handle). on f (h .object)) (ap (λ (i : ℕ). getD (set (handles-in hb) (s % 32 * 16 + p % 16) no-handle) i no-handle) q
+              ∙ getD-set-same (handles-in hb) (s % 32 * 16 + p % 16) no-handle no-handle (omega (arith, length-handles hb)))
+          go (no q) = ap (λ (f : Handle). on f (h .object)) (getD-set-other (handles-in hb) (s % 32 * 16 + p % 16) j no-handle no-handle q)
+              ∙ off (on (getD (handles-in hb) j no-handle) (h .object)) refl (λ r. q (r ∙ ea))
+
+      record-is : y ≡ getD (objects-in ob) (h .object % 64) no-object
+      record-is = ey ∙ ap (λ (b : Bool). cond b (getD (objects-in ob) (h .object % 64) no-object) no-object) (lt-ltb (h .object) 64 (low-o k there))
+
+      gone : Outlives hs-after y (h .object) no-object
+      gone = record { is = rw (le-ltb (y .kind) 2 (pipe-kind (decLt (y .kind) 2)), sym (none-found hs-after (h .object) none-on)) }
+        where
+          pipe-kind : Dec (y .kind < 2) → 2 ≤ y .kind
+          pipe-kind (yes l) = absurd (alone (inl l))
+          pipe-kind (no l) = omega arith
+
+      ends-it : effect (view m) c .at (object (h .object)) ≡ none
+      unfolding effect hs-after
+      ends-it = ap (λ (u : Tables). u .at (object (h .object)))
+          (sym (store-close (beside m) (m .subjects) (m .objects) (m .handles) s p (h .object) (joins h) no-handle no-object (g .objects) (g .handles)
+          (ltb→lt s 32 (live-of (view m) (subject s) (its-ends k there .from) .0)) (its-ends k there .place) (low-o k there) (standing k there) refl
+          (subst (λ (o : Object). Outlives hs-after o (h .object) no-object) record-is gone)))
+          ∙ object-there (beside m) (m .subjects) (set (m .objects) (h .object % 64) no-object) hs-after (h .object) (length-set (m .objects) (h .object % 64) no-object ∙ g .objects)
+          ∙ ap (λ (o : Object). object-entry (object-at (h .object) o)) (getD-set-same (m .objects) (h .object % 64) no-object no-object (omega (arith, g .objects)))
+          ∙ none-there (ltb (h .object) 64)
+        where
+          none-there : (b : Bool) → object-entry (cond b no-object no-object) ≡ none
+          none-there true = refl
+          none-there false = refl
+
+      ended-not : effect (view m) c .at (object (k .to)) ≡ view m .at (object (k .to)) → ⊥
+      ended-not stays = let q = subst (λ (j : Held). effect (view m) c .at (object (j .to)) ≡ view m .at (object (j .to))) (same-handle k there) stays in
+          let v = live-entry (view m) (h .object) (its-ends k there .to) in Option·none-ne-some (v .0) (sym ends-it ∙ q ∙ v .1)
+
+    pub close-ended : (at : ℕ) → at ≡ s % 32 * 16 + p % 16 → ((y .kind < 2) ⊎ Beside (handles-in hb) (h .object) at → ⊥)
+        → Settles (view (monitor-in sb ob hb nb fz su)) (decode (direct 11 s p 0 0 0 0)) 0
+    close-ended at ea alone = left (λ k there loose. ended-not at ea alone k there)
 
   -- the object outlives the handle, and no need changes
   module _ (z : n ≡ 0) (y : Object) (ey : y ≡ object-at (h .object) (getD (objects-in ob) (h .object % 64) no-object))

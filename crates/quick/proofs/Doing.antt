@@ -1,24 +1,28 @@
 -- A call on a sure monitor that is refused, and one that is allowed and counts one handle. Assumes nothing.
-use mathlib.Core.Path.{_≡_, refl, sym, _∙_, subst}
+use mathlib.Core.Path.{_≡_, refl, sym, _∙_, ap, subst}
 use mathlib.Core.List.{List}
-use Prim.Native.Nat.{ℕ, _+_, _<_}
+use Prim.Native.Nat.{ℕ, _+_, _*_, _<_}
 use native.Mathlib.Omega.{arith}
 use lib.ListN.{length, getD, set, length-set}
 use lib.Seq.{getD-set-same, getD-set-other}
 use Rattle.model.specs.Tables.{Tables, clean}
 use Rattle.model.specs.Calls.{Call, Raw, decode, refused, allowed, answer}
 use Rattle.model.specs.Calls.{Answer as Told}
+use Rattle.model.specs.Calls.Refusals.{answered-refused}
 use Rattle.model.specs.Invariant.{Wf}
+use Rattle.model.specs.Invariant.Laws.{clean-same}
 use Rattle.model.specs.Promise.{Meets}
 use Rattle.model.specs.Tally.{makes, removes, wrapped}
 use Rattle.gatekeeper.specs.declared.Monitor.{Monitor}
-use Rattle.gatekeeper.specs.View.{view, monitors}
+use Rattle.answers.specs.Telling.{letter-of, value-of}
+use Rattle.gatekeeper.specs.View.{view, Honest, monitors}
 use Rattle.gatekeeper.specs.Acting.{Firm, Acts, Keeps}
 use Rattle.gatekeeper.proofs.Owned.{Long}
 use Rattle.gatekeeper.proofs.Acting.{straight}
+use Rattle.tally.specs.declared.Tally.{Tally}
 use Rattle.tally.specs.Counting.{counts-of}
 use Rattle.tally.proofs.Counting.{tally-same, tally-moved}
-use Rattle.quick.specs.Parts.{Whole, monitor-in, tally-in, Done}
+use Rattle.quick.specs.Parts.{Whole, monitor-in, tally-in, Done, Settles}
 use Rattle.quick.specs.Parts.Laws.{length-subjects, length-objects, length-handles}
 
 never : {X : Type 0} {l k : ℕ} → _≡_ {A = Told} (allowed l) (refused k) → X
@@ -67,6 +71,15 @@ module _ (sb ob hb nb cs : List ℕ) (fz su : ℕ) (r : Raw) (c : Call) (is : de
             (subst (λ (d : Call). getD cs′ 1 0 ≡ wrapped (getD cs 1 0 + removes (clean (view m)) d)) (sym is) (gone (clean (view m))));
       };
     }
+
+-- what was done is settled: its number is the answer's
+pub done-settles : (m : Monitor) {y y′ : Tally} {m′ : Monitor} {r : Raw} {n : ℕ} → m .sure ≡ 1 → Honest m → 0 < n → Done m y r n m′ y′ → Settles (view m) (decode r) n
+done-settles m {r = r} one h l d = record {
+  refusing = λ k q z. d .number ∙ ap (λ (a : Told). 256 * letter-of a + value-of a)
+      (d .meets .answered h ∙ ap (λ (u : Tables). answer u (decode r)) (clean-same (view m) (h one .0 .wf)) ∙ answered-refused (view m) (decode r) k .1 q);
+  opening = λ d s o p e f g. l;
+  closing = λ s p k e f g i j. l;
+}
 
 -- the parts' arrays have their lengths
 pub whole-long : (sb ob hb nb cs : List ℕ) (fz su : ℕ) → Whole sb ob hb nb cs → Long (monitor-in sb ob hb nb fz su)

@@ -1,10 +1,18 @@
 -- A monitor's parts as the bytes that they are in memory, and a call that was done on them. States RULES H24 and H12, and T15, Y9 and R102 of such a call. Assumes nothing.
 use mathlib.Core.Path.{_≡_}
 use mathlib.Core.Bool.{true}
+use mathlib.Core.Logic.{_⊎_}
+use mathlib.Core.Option.{none, some}
 use mathlib.Core.List.{List, [], _∷_}
 use Prim.Native.Nat.{ℕ, zero, suc, _+_, _*_, _<_}
 use lib.ListN.{length, getD}
-use Rattle.model.specs.Calls.{Raw, decode, Answer}
+use lib.Dec.{T}
+use Rattle.model.specs.Label.{_⊑_, bot}
+use Rattle.model.specs.Lists.{In}
+use Rattle.model.specs.Flow.{Thing, subject, object}
+use Rattle.model.specs.Tables.{Dir, reading, Tables, live, demand, needs}
+use Rattle.model.specs.Tables.{Handle as Held}
+use Rattle.model.specs.Calls.{Call, opens, close, Raw, decode, refusal, effect, Answer}
 use Rattle.model.specs.Promise.{Meets}
 use Rattle.tables.specs.declared.Subject.{Subject}
 use Rattle.tables.specs.declared.Object.{Object}
@@ -13,7 +21,7 @@ use Rattle.tables.specs.Records.{no-handle}
 use Rattle.handles.specs.Working.{on}
 use Rattle.answers.specs.Telling.{letter-of, value-of}
 use Rattle.gatekeeper.specs.declared.Monitor.{Monitor}
-use Rattle.gatekeeper.specs.View.{monitors}
+use Rattle.gatekeeper.specs.View.{view, Honest, monitors}
 use Rattle.tally.specs.declared.Tally.{Tally}
 use Rattle.tally.specs.Counting.{Tallies}
 pub mod Laws
@@ -76,12 +84,38 @@ pub record Done (m : Monitor) (y : Tally) (r : Raw) (n : ℕ) (m′ : Monitor) (
   -- RULES Y9, R103
   pub counts : Tallies m y (decode r) answer y′
 
--- RULES H24: the call r was tried on these parts, n was returned, and hb′ and cs′ are the handles and counts left: any number but 0 is the answer to a call that was done, on parts that are
--- whole; and 0 says that all is as it was
-abbrev pub Tried : (sb ob hb nb cs : List ℕ) (fz su : ℕ) (r : Raw) (n : ℕ) (hb′ cs′ : List ℕ) → Type 0
-Tried sb ob hb nb cs fz su r n hb′ cs′ =
+-- ── what is settled ──
+-- what is live in t needs the same in u
+abbrev pub Needs-stay : Tables → Tables → Type 0
+Needs-stay t u = (x : Thing) → T (live t x) → needs u x ≡ needs t x
+
+-- the ends of handle k of subject s tell that its close changes no need: they need different labels; or s needs the least one; or k reads a file
+-- that demands as much as s needs
+abbrev pub Loose : Tables → ℕ → Held → Type 0
+Loose t s k = (needs t (subject s) ≡ needs t (object (k .to)) → ⊥) ⊎ (needs t (subject s) ≡ bot)
+    ⊎ ((k .dir ≡ reading) × (needs t (subject s) ⊑ demand (object (k .to)) (t .at (object (k .to)))))
+
+-- RULES H24: n was returned for call c on tables t. Free is the rest, which may be done or left (n is 0): an open by which some need changes, be it
+-- in order or refused with 9; a close by which a pipe ends; and a close whose ends need the same label, not the least, unless it reads a file that
+-- demands as much
+pub record Settles (t : Tables) (c : Call) (n : ℕ) : Type 0 where
+  -- what the rules refuse, but for 9, is refused with that number
+  pub refusing : (k : ℕ) → refusal t c ≡ some k → (k ≡ 9 → ⊥) → n ≡ 256 * 82 + k
+  -- an open that is in order and changes no need is done
+  pub opening : (d : Dir) (s o p : ℕ) → c ≡ opens d s o p → refusal t c ≡ none → Needs-stay t (effect t c) → 0 < n
+  -- a close that is in order, whose ends tell that it changes no need, and that ends no pipe, is done
+  pub closing : (s p : ℕ) (k : Held) → c ≡ close s p → refusal t c ≡ none → t .hand s p ≡ some k → Loose t s k
+      → effect t c .at (object (k .to)) ≡ t .at (object (k .to)) → 0 < n
+
+-- RULES H24: the call r was tried on these parts, n was returned, and hb′ and cs′ are the handles and counts left: any number but 0 is the answer to
+-- a call that was done, on parts that are whole; 0 says that all is as it was; and a call of one of these codes, on whole parts of a monitor that is
+-- sure and honest, is settled as above
+abbrev pub Tried : (codes sb ob hb nb cs : List ℕ) (fz su : ℕ) (r : Raw) (n : ℕ) (hb′ cs′ : List ℕ) → Type 0
+Tried codes sb ob hb nb cs fz su r n hb′ cs′ =
     (0 < n → Whole sb ob hb nb cs × Done (monitor-in sb ob hb nb fz su) (tally-in cs) r n (monitor-in sb ob hb′ nb fz su) (tally-in cs′))
     × (n ≡ 0 → (hb′ ≡ hb) × (cs′ ≡ cs))
+    × (In (r .code) codes → Whole sb ob hb nb cs → su ≡ 1 → Honest (monitor-in sb ob hb nb fz su)
+    → Settles (view (monitor-in sb ob hb nb fz su)) (decode r) n)
 
 -- ── inner functions alone cite this ──
 -- a handle other than that at index `at` is on object o

@@ -1,10 +1,11 @@
 // Opens and closes that change no need, in place: on the bytes of the struct's parts, of which they read and store the few that the call is about. Whatever else a call
-// may be, it is left alone, and 0 says so: then the monitor's own call is to be made.
+// may be, it is left alone, and 0 says so: then the monitor's own call is to be made. What is never left is said by `Settles` in specs/Parts.antt.
 //
 // The parts are those of the monitor (`gatekeeper::Monitor`) as they lie in memory, and the two counts. What they stand for is in specs/Parts.antt.
 ghost use mathlib.Core.Path.{_≡_};
-ghost use mathlib.Core.Bool.{true, not, _&&_, _||_};
-ghost use mathlib.Core.Logic.{_⊎_};
+ghost use mathlib.Core.Bool.{true, false, not, _&&_, _||_, cond};
+ghost use mathlib.Core.Logic.{_⊎_, _↔_};
+ghost use mathlib.Core.List.{[], _∷_};
 ghost use Prim.Native.Nat.{_+_, _*_, _%_, _<_};
 ghost use lib.Dec.{eqb};
 ghost use lib.ListN.{length, getD, set};
@@ -35,6 +36,9 @@ const NOT_DONE: u32 = 0;
 const ALLOWED: u32 = 256 * 65;
 
 const REFUSED: u32 = 256 * 82;
+
+// The refusal that is told before the flow is asked about: the file is frozen.
+const FROZEN: u32 = REFUSED + 15;
 
 // How many bytes each part has; the counts are two numbers.
 const SUBJECT_BYTES: usize = 2 * SUBJECTS;
@@ -142,7 +146,7 @@ fn way_of(reads: bool) -> u8
 
 // The parts have their lengths.
 fn are_whole(subjects: usize, objects: usize, handles: usize, needs: usize, counts: usize) -> bool
-    ensures { λ r. ⌜ (r ≡ true → (subjects ≡ 64) × (objects ≡ 128) × (handles ≡ 1536) × (needs ≡ 96) × (counts ≡ 2)) ⌝ }
+    ensures { λ r. ⌜ (r ≡ true) ↔ ((subjects ≡ 64) × (objects ≡ 128) × (handles ≡ 1536) × (needs ≡ 96) × (counts ≡ 2)) ⌝ }
 {
     if subjects != SUBJECT_BYTES {
         return false;
@@ -159,10 +163,20 @@ fn are_whole(subjects: usize, objects: usize, handles: usize, needs: usize, coun
     counts == 2
 }
 
+// A handle of this way and object is on object o.
+fn is_on(way: u8, object: u8, o: u8) -> bool
+    ensures { λ r. ⌜ r ≡ cond (eqb way 0) false (eqb object o) ⌝ }
+{
+    if way == EMPTY {
+        return false;
+    }
+    object == o
+}
+
 // A handle other than that at index `at` is on object o. It looks from there on, and then from the front.
 fn is_beside(handles: &[u8], o: u8, at: usize) -> bool
     requires { ⌜ (length (now handles) ≡ 1536) × (at < 512) ⌝ }
-    ensures { λ r. ⌜ (r ≡ true → Beside (handles-in (now (handles .entry))) o at) ⌝ }
+    ensures { λ r. ⌜ (r ≡ true) ↔ Beside (handles-in (now (handles .entry))) o at ⌝ }
 {
     let mut k: usize = 1;
     while k < HANDLES {
@@ -171,10 +185,8 @@ fn is_beside(handles: &[u8], o: u8, at: usize) -> bool
         let way = handles[first];
         let next = first + 1;
         let object = handles[next];
-        if way != EMPTY {
-            if object == o {
-                return true;
-            }
+        if is_on(way, object, o) {
+            return true;
         }
         k += 1;
     }
@@ -198,7 +210,7 @@ pub fn opened(
     o: u32,
     p: u32,
 ) -> u32
-    ensures { λ r. ⌜ Tried (now (subjects .entry)) (now (objects .entry)) (now (handles .entry)) (now (needs .entry)) (now (counts .entry)) freeze sure
+    ensures { λ r. ⌜ Tried (5 ∷ 6 ∷ []) (now (subjects .entry)) (now (objects .entry)) (now (handles .entry)) (now (needs .entry)) (now (counts .entry)) freeze sure
         (direct code s o p 0 0 0) r (now (handles .exit)) (now (counts .exit)) ⌝ }
 {
     let whole = are_whole(
@@ -227,16 +239,15 @@ pub fn opened(
     if n != 0 {
         return REFUSED + n as u32;
     }
+    let frozen = refusals::is_frozen(freeze, reads, y);
+    if frozen {
+        return FROZEN;
+    }
     let mine = subject_need(needs, s);
     let its = object_need(needs, o);
     let down = keeping::falls(reads, mine, its);
     if !down {
         return NOT_DONE;
-    }
-    let frozen = refusals::is_frozen(freeze, reads, y);
-    let late = refusals::last(false, false, frozen);
-    if late != 0 {
-        return REFUSED + late as u32;
     }
     let way = way_of(reads);
     let new = looks::joining(way, o);
@@ -261,7 +272,7 @@ fn is_quiet(h: Handle, y: Object, mine: u8, its: u8) -> bool
 // The object y of a handle outlives it: it is a file, or another handle is on it.
 fn is_outlived(handles: &[u8], y: Object, o: u8, at: usize) -> bool
     requires { ⌜ (length (now handles) ≡ 1536) × (at < 512) ⌝ }
-    ensures { λ r. ⌜ (r ≡ true → (y .kind < 2) ⊎ Beside (handles-in (now (handles .entry))) o at) ⌝ }
+    ensures { λ r. ⌜ (r ≡ true) ↔ ((y .kind < 2) ⊎ Beside (handles-in (now (handles .entry))) o at) ⌝ }
 {
     if y.kind <= FILE {
         return true;
@@ -281,7 +292,7 @@ pub fn closed(
     s: u32,
     p: u32,
 ) -> u32
-    ensures { λ r. ⌜ Tried (now (subjects .entry)) (now (objects .entry)) (now (handles .entry)) (now (needs .entry)) (now (counts .entry)) freeze sure
+    ensures { λ r. ⌜ Tried (11 ∷ []) (now (subjects .entry)) (now (objects .entry)) (now (handles .entry)) (now (needs .entry)) (now (counts .entry)) freeze sure
         (direct 11 s p 0 0 0 0) r (now (handles .exit)) (now (counts .exit)) ⌝ }
 {
     let whole = are_whole(

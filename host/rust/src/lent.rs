@@ -490,12 +490,13 @@ mod tests {
             let (answer, left) = tried(call);
             assert_eq!((answer, left.counts), (Some(Answer::Allowed(level)), counts), "{call:?}");
         }
-        // What is refused before flows are asked about.
+        // What is refused with another number than 9.
         for (call, refusal) in [
             (Call::OpenWrite { subject: 1, object: 0, place: 4 }, Refusal::NoSubject),
             (Call::OpenRead { subject: 0, object: 2, place: 4 }, Refusal::NoObject),
             (Call::OpenRead { subject: 0, object: 0, place: 16 }, Refusal::PlaceUnfit),
             (Call::OpenWrite { subject: 0, object: 0, place: 0 }, Refusal::PlaceUnfit),
+            (Call::OpenWrite { subject: 0, object: 0, place: 4 }, Refusal::Frozen),
             (Call::Close { subject: 32, place: 0 }, Refusal::NoSubject),
             (Call::Close { subject: 0, place: 4 }, Refusal::PlaceUnfit),
         ] {
@@ -504,7 +505,6 @@ mod tests {
         }
         // A need rises, or the call is another.
         for call in [
-            Call::OpenWrite { subject: 0, object: 0, place: 4 },
             Call::OpenWrite { subject: 0, object: 1, place: 4 },
             Call::Map { subject: 0, object: 0, place: 4 },
             Call::Read { subject: 0, place: 2 },
@@ -522,7 +522,7 @@ mod tests {
         assert_eq!(state.call(Call::Freeze { level: NO_FREEZE }), Answer::Allowed(16));
         let open = Call::OpenWrite { subject: 0, object: 0, place: 4 };
         assert_eq!((state.call(open), state.need_of_subject(0)), (Answer::Allowed(9), Some(9)));
-        // Now that the need is there, a second handle is quick, and frozen is what is quick but for the freeze.
+        // Now that the need is there, a second handle is quick; frozen is refused with the need and without it.
         let second = Call::OpenWrite { subject: 0, object: 0, place: 5 };
         let mut frozen = state.clone();
         assert_eq!(frozen.call(Call::Freeze { level: 9 }), Answer::Allowed(9));

@@ -4,13 +4,15 @@ use mathlib.Core.Bool.{not, _&&_, _||_}
 use Prim.Native.Nat.{ℕ}
 use native.Mathlib.Omega.{arith}
 use borrow.Author.Needs.{needs}
-use borrow.Author.Tests.{not-false}
+use borrow.Author.Tests.{not-true, not-false}
 use denote.Ref.{now}
 use lib.Dec.{eqb}
 use Rattle.tables.specs.Records.{reads-by}
 use Rattle.passes.specs.Working.{demands}
-use Rattle.quick.specs.Parts.{Whole}
-use Rattle.quick.proofs.Closing.{close-refused, close-done}
+use Rattle.passes.proofs.Raising.{true-false}
+use Rattle.quick.specs.Parts.{Whole, monitor-in}
+use Rattle.quick.proofs.Doing.{done-settles}
+use Rattle.quick.proofs.Closing.{close-refused, close-loud, close-ended, close-done}
 use Rattle.quick.proofs.closed.Statement.{statement}
 use Rattle.quick.proofs.closed.Tie as tie
 
@@ -18,16 +20,16 @@ are-whole-requires : tie.Need-are-whole-requires
 are-whole-requires c κs = search needs
 
 returns : tie.Need-returns
-returns c = (λ l. absurd (omega arith), λ e. (refl, refl))
+returns c = (λ l. absurd (omega arith), λ e. (refl, refl), λ i w one h. true-false (sym (c .before .are-whole .ensures .1 (w .subjects, w .objects, w .handles, w .needs, w .counts)) ∙ not-true _ (c .if1 .taken)))
 
 returns-2 : tie.Need-returns-2
-returns-2 c = (λ l. absurd (omega arith), λ e. (refl, refl))
+returns-2 c = (λ l. absurd (omega arith), λ e. (refl, refl), λ i w one h. absurd (c .if2 .taken one))
 
 subject-in-requires : tie.Need-subject-in-requires
-subject-in-requires c κs = c .before .before .are-whole .ensures (not-false _ (c .before .if1 .left)) .0
+subject-in-requires c κs = c .before .before .are-whole .ensures .0 (not-false _ (c .before .if1 .left)) .0
 
 handle-in-requires : tie.Need-handle-in-requires
-handle-in-requires c κs = c .before .before .before .before .are-whole .ensures (not-false _ (c .before .before .before .if1 .left)) .2
+handle-in-requires c κs = c .before .before .before .before .are-whole .ensures .0 (not-false _ (c .before .before .before .if1 .left)) .2
 
 of-held-requires : tie.Need-of-held-requires
 of-held-requires c κs = search needs
@@ -50,21 +52,22 @@ returns-3 c =
     let o6 = o5 .before in
     let o7 = o6 .before in
     let a = o7 .before .before .before .before .before .before .args in
-    let v = o7 .are-whole .ensures (not-false _ (o6 .if1 .left)) in
+    let v = o7 .are-whole .ensures .0 (not-false _ (o6 .if1 .left)) in
     let w : Whole (now (a .subjects)) (now (a .objects)) (now (a .handles)) (now (a .needs)) (now (a .counts)) = record { subjects = v .0; objects = v .1; handles = v .2; needs = v .3; counts = v .4 } in
-    (λ l. (w, close-refused (now (a .subjects)) (now (a .objects)) (now (a .handles)) (now (a .needs)) (now (a .counts)) (a .freeze) (a .sure) (a .s) (a .p) w (o5 .if2 .left) (o4 .subject-in .result) (o2 .handle-in .result) (o1 .of-held .result) (o4 .subject-in .ensures .0) (o2 .handle-in .ensures) (o1 .of-held .ensures) (c .if3 .taken) _ refl (omega arith)), λ e. absurd (omega arith))
+    let done = close-refused (now (a .subjects)) (now (a .objects)) (now (a .handles)) (now (a .needs)) (now (a .counts)) (a .freeze) (a .sure) (a .s) (a .p) w (o5 .if2 .left) (o4 .subject-in .result) (o2 .handle-in .result) (o1 .of-held .result) (o4 .subject-in .ensures .0) (o2 .handle-in .ensures) (o1 .of-held .ensures) (c .if3 .taken) _ refl (omega arith) in
+    (λ l. (w, done), λ e. absurd (omega arith), λ i w′ one h. done-settles (monitor-in (now (a .subjects)) (now (a .objects)) (now (a .handles)) (now (a .needs)) (a .freeze) (a .sure)) one h (omega arith) done)
 
 cast-number : tie.Need-cast-number
 cast-number c = search needs
 
 object-in-requires : tie.Need-object-in-requires
-object-in-requires c κs = c .before .before .before .before .before .before .before .before .are-whole .ensures (not-false _ (c .before .before .before .before .before .before .before .if1 .left)) .1
+object-in-requires c κs = c .before .before .before .before .before .before .before .before .are-whole .ensures .0 (not-false _ (c .before .before .before .before .before .before .before .if1 .left)) .1
 
 subject-need-requires : tie.Need-subject-need-requires
-subject-need-requires c κs = c .before .before .before .before .before .before .before .before .before .are-whole .ensures (not-false _ (c .before .before .before .before .before .before .before .before .if1 .left)) .3
+subject-need-requires c κs = c .before .before .before .before .before .before .before .before .before .are-whole .ensures .0 (not-false _ (c .before .before .before .before .before .before .before .before .if1 .left)) .3
 
 object-need-requires : tie.Need-object-need-requires
-object-need-requires c κs = c .before .before .before .before .before .before .before .before .before .before .are-whole .ensures (not-false _ (c .before .before .before .before .before .before .before .before .before .if1 .left)) .3
+object-need-requires c κs = c .before .before .before .before .before .before .before .before .before .before .are-whole .ensures .0 (not-false _ (c .before .before .before .before .before .before .before .before .before .if1 .left)) .3
 
 is-quiet-requires : tie.Need-is-quiet-requires
 is-quiet-requires c κs = search needs
@@ -73,25 +76,50 @@ same-length-2 : tie.Need-same-length-2
 same-length-2 c = search needs
 
 returns-4 : tie.Need-returns-4
-returns-4 c = (λ l. absurd (omega arith), λ e. (refl, refl))
+returns-4 c =
+    let o1 = c .before .before .before .before .before .before .before in
+    let o2 = o1 .before in
+    let o4 = o2 .before .before in
+    let a = o4 .before .before .before .before .before .before .before .before .before .args in
+    let c1 = c .before in
+    let c2 = c1 .before in
+    let c3 = c2 .before in
+    let c4 = c3 .before in
+    let loud = sym (c1 .is-quiet .ensures ∙ ap₂ (λ (i j : ℕ). not (eqb i j) || (eqb i 0 || (reads-by (o2 .handle-in .result .way) && demands (c4 .object-in .result) i)))
+    (c3 .subject-need .ensures) (c2 .object-need .ensures)) ∙ not-true _ (c .if4 .taken) in (
+      λ l. absurd (omega arith),
+      λ e. (refl, refl),
+      λ i w one h. close-loud (now (a .subjects)) (now (a .objects)) (now (a .handles)) (now (a .needs)) (now (a .counts)) (a .freeze) (a .sure) (a .s) (a .p) w one (o4 .subject-in .result) (o2 .handle-in .result) (o1 .of-held .result) (o4 .subject-in .ensures .0) (o2 .handle-in .ensures) (o1 .of-held .ensures) (c4 .before .before .if3 .left) (c4 .object-in .result) (c4 .object-in .ensures .0) h loud,
+    )
 
 slot-of-requires : tie.Need-slot-of-requires
 slot-of-requires c κs = search needs
 
 is-outlived-requires : tie.Need-is-outlived-requires
-is-outlived-requires c κs = (c .before .before .before .before .before .before .before .before .before .before .before .before .before .before .before .are-whole .ensures (not-false _ (c .before .before .before .before .before .before .before .before .before .before .before .before .before .before .if1 .left)) .2, omega (arith, c .before .slot-of .ensures))
+is-outlived-requires c κs = (c .before .before .before .before .before .before .before .before .before .before .before .before .before .before .before .are-whole .ensures .0 (not-false _ (c .before .before .before .before .before .before .before .before .before .before .before .before .before .before .if1 .left)) .2, omega (arith, c .before .slot-of .ensures))
 
 same-length-3 : tie.Need-same-length-3
 same-length-3 c = search needs
 
 returns-5 : tie.Need-returns-5
-returns-5 c = (λ l. absurd (omega arith), λ e. (refl, refl))
+returns-5 c =
+    let o1 = c .before .before .before .before .before .before .before .before .before .before .before in
+    let o2 = o1 .before in
+    let o4 = o2 .before .before in
+    let a = o4 .before .before .before .before .before .before .before .before .before .args in
+    let c1 = c .before in
+    let c3 = c1 .before .before in
+    let c8 = c3 .before .before .before .before .before in (
+      λ l. absurd (omega arith),
+      λ e. (refl, refl),
+      λ i w one h. close-ended (now (a .subjects)) (now (a .objects)) (now (a .handles)) (now (a .needs)) (now (a .counts)) (a .freeze) (a .sure) (a .s) (a .p) w one (o4 .subject-in .result) (o2 .handle-in .result) (o1 .of-held .result) (o4 .subject-in .ensures .0) (o2 .handle-in .ensures) (o1 .of-held .ensures) (c8 .before .before .if3 .left) (c8 .object-in .result) (c8 .object-in .ensures .0) h (c3 .slot-of .result) (c3 .slot-of .ensures) (λ v. true-false (sym (c1 .is-outlived .ensures .1 v) ∙ not-true _ (c .if5 .taken))),
+    )
 
 put-requires : tie.Need-put-requires
-put-requires c κs = c .before .before .before .before .before .before .before .before .before .before .before .before .before .before .before .before .before .before .are-whole .ensures (not-false _ (c .before .before .before .before .before .before .before .before .before .before .before .before .before .before .before .before .before .if1 .left)) .2
+put-requires c κs = c .before .before .before .before .before .before .before .before .before .before .before .before .before .before .before .before .before .before .are-whole .ensures .0 (not-false _ (c .before .before .before .before .before .before .before .before .before .before .before .before .before .before .before .before .before .if1 .left)) .2
 
 count-requires : tie.Need-count-requires
-count-requires c κs = c .before .before .before .before .before .before .before .before .before .before .before .before .before .before .before .before .before .before .before .before .before .before .are-whole .ensures (not-false _ (c .before .before .before .before .before .before .before .before .before .before .before .before .before .before .before .before .before .before .before .before .before .if1 .left)) .4
+count-requires c κs = c .before .before .before .before .before .before .before .before .before .before .before .before .before .before .before .before .before .before .before .before .before .before .are-whole .ensures .0 (not-false _ (c .before .before .before .before .before .before .before .before .before .before .before .before .before .before .before .before .before .before .before .before .before .if1 .left)) .4
 
 cast-result-2 : tie.Need-cast-result-2
 cast-result-2 c = search needs
@@ -114,7 +142,7 @@ returns-6 c =
     let o6 = o5 .before in
     let o7 = o6 .before in
     let a = o7 .before .before .before .before .before .before .args in
-    let v = o7 .are-whole .ensures (not-false _ (o6 .if1 .left)) in
+    let v = o7 .are-whole .ensures .0 (not-false _ (o6 .if1 .left)) in
     let w : Whole (now (a .subjects)) (now (a .objects)) (now (a .handles)) (now (a .needs)) (now (a .counts)) = record { subjects = v .0; objects = v .1; handles = v .2; needs = v .3; counts = v .4 } in
     let c3 = c .before .before .before in
     let c7 = c3 .before .before .before .before in
@@ -127,14 +155,10 @@ returns-6 c =
     let c16 = c15 .before in
     let c17 = c16 .before in
     let quiet = sym (c14 .is-quiet .ensures ∙ ap₂ (λ (i j : ℕ). not (eqb i j) || (eqb i 0 || (reads-by (o2 .handle-in .result .way) && demands (c17 .object-in .result) i)))
-    (c16 .subject-need .ensures) (c15 .object-need .ensures)) ∙ not-false _ (c13 .if4 .left) in (
-      λ l. (
-        w,
-        close-done (now (a .subjects)) (now (a .objects)) (now (a .handles)) (now (a .needs)) (now (a .counts)) (a .freeze) (a .sure) (a .s) (a .p) w (o5 .if2 .left) (o4 .subject-in .result) (o2 .handle-in .result) (o1 .of-held .result) (o4 .subject-in .ensures .0) (o2 .handle-in .ensures) (o1 .of-held .ensures) (c17 .before .before .if3 .left) (c17 .object-in .result) (c17 .object-in .ensures .0) quiet (c12 .slot-of .result) (c12 .slot-of .ensures)
-            (c10 .is-outlived .ensures (not-false _ (c9 .if5 .left))) (c7 .put .last .0) (c3 .count .last .0) (c7 .put .ensures .0) (c3 .count .ensures) _ refl (o4 .subject-in .ensures .1),
-      ),
-      λ e. absurd (omega arith),
-    )
+    (c16 .subject-need .ensures) (c15 .object-need .ensures)) ∙ not-false _ (c13 .if4 .left) in
+    let done = close-done (now (a .subjects)) (now (a .objects)) (now (a .handles)) (now (a .needs)) (now (a .counts)) (a .freeze) (a .sure) (a .s) (a .p) w (o5 .if2 .left) (o4 .subject-in .result) (o2 .handle-in .result) (o1 .of-held .result) (o4 .subject-in .ensures .0) (o2 .handle-in .ensures) (o1 .of-held .ensures) (c17 .before .before .if3 .left) (c17 .object-in .result) (c17 .object-in .ensures .0) quiet (c12 .slot-of .result) (c12 .slot-of .ensures)
+    (c10 .is-outlived .ensures .0 (not-false _ (c9 .if5 .left))) (c7 .put .last .0) (c3 .count .last .0) (c7 .put .ensures .0) (c3 .count .ensures) _ refl (o4 .subject-in .ensures .1) in
+    (λ l. (w, done), λ e. absurd (omega arith), λ i w′ one h. done-settles (monitor-in (now (a .subjects)) (now (a .objects)) (now (a .handles)) (now (a .needs)) (a .freeze) (a .sure)) one h (omega arith) done)
 
 pub closed-spec : {M : Type 1} → statement M
 closed-spec =

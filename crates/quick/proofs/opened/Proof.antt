@@ -3,14 +3,15 @@ use mathlib.Core.Path.{refl, sym, _∙_, ap, ap₂}
 use Prim.Native.Nat.{ℕ}
 use native.Mathlib.Omega.{arith}
 use borrow.Author.Needs.{needs}
-use borrow.Author.Tests.{not-false}
+use borrow.Author.Tests.{not-true, not-false}
 use denote.Ref.{now}
 use lib.Dec.{eqb}
 use Rattle.tables.specs.Working.{joining}
 use Rattle.passes.specs.Working.{falls-by}
-use Rattle.gatekeeper.specs.Acting.{way-by}
-use Rattle.quick.specs.Parts.{Whole}
-use Rattle.quick.proofs.Opening.{open-refused, open-frozen, open-done}
+use Rattle.passes.proofs.Raising.{true-false}
+use Rattle.quick.specs.Parts.{Whole, monitor-in}
+use Rattle.quick.proofs.Doing.{done-settles}
+use Rattle.quick.proofs.Opening.{code-opens, open-refused, open-left, open-frozen, open-done}
 use Rattle.quick.proofs.opened.Statement.{statement}
 use Rattle.quick.proofs.opened.Tie as tie
 
@@ -18,25 +19,25 @@ are-whole-requires : tie.Need-are-whole-requires
 are-whole-requires c κs = search needs
 
 returns : tie.Need-returns
-returns c = (λ l. absurd (omega arith), λ e. (refl, refl))
+returns c = (λ l. absurd (omega arith), λ e. (refl, refl), λ i w one h. true-false (sym (c .before .are-whole .ensures .1 (w .subjects, w .objects, w .handles, w .needs, w .counts)) ∙ not-true _ (c .if1 .taken)))
 
 returns-2 : tie.Need-returns-2
-returns-2 c = (λ l. absurd (omega arith), λ e. (refl, refl))
+returns-2 c = (λ l. absurd (omega arith), λ e. (refl, refl), λ i w one h. absurd (c .if2 .taken one))
 
 either-requires : tie.Need-either-requires
 either-requires c κs = search needs
 
 returns-3 : tie.Need-returns-3
-returns-3 c = (λ l. absurd (omega arith), λ e. (refl, refl))
+returns-3 c = (λ l. absurd (omega arith), λ e. (refl, refl), λ i w one h. true-false (sym (code-opens _ i) ∙ sym (c .before .either .ensures) ∙ not-true _ (c .if3 .taken)))
 
 subject-in-requires : tie.Need-subject-in-requires
-subject-in-requires c κs = c .before .before .before .before .are-whole .ensures (not-false _ (c .before .before .before .if1 .left)) .0
+subject-in-requires c κs = c .before .before .before .before .are-whole .ensures .0 (not-false _ (c .before .before .before .if1 .left)) .0
 
 object-in-requires : tie.Need-object-in-requires
-object-in-requires c κs = c .before .before .before .before .before .are-whole .ensures (not-false _ (c .before .before .before .before .if1 .left)) .1
+object-in-requires c κs = c .before .before .before .before .before .are-whole .ensures .0 (not-false _ (c .before .before .before .before .if1 .left)) .1
 
 handle-in-requires : tie.Need-handle-in-requires
-handle-in-requires c κs = c .before .before .before .before .before .before .before .are-whole .ensures (not-false _ (c .before .before .before .before .before .before .if1 .left)) .2
+handle-in-requires c κs = c .before .before .before .before .before .before .before .are-whole .ensures .0 (not-false _ (c .before .before .before .before .before .before .if1 .left)) .2
 
 of-open-requires : tie.Need-of-open-requires
 of-open-requires c κs = search needs
@@ -62,44 +63,21 @@ returns-4 c =
     let o9 = o8 .before in
     let o10 = o9 .before in
     let a = o10 .before .before .before .before .before .before .args in
-    let v = o10 .are-whole .ensures (not-false _ (o9 .if1 .left)) in
+    let v = o10 .are-whole .ensures .0 (not-false _ (o9 .if1 .left)) in
     let w : Whole (now (a .subjects)) (now (a .objects)) (now (a .handles)) (now (a .needs)) (now (a .counts)) = record { subjects = v .0; objects = v .1; handles = v .2; needs = v .3; counts = v .4 } in
     let d = sym (o7 .either .ensures) ∙ not-false _ (o6 .if3 .left) in
-    (λ l. (w, open-refused (now (a .subjects)) (now (a .objects)) (now (a .handles)) (now (a .needs)) (now (a .counts)) (a .freeze) (a .sure) (a .code) (a .s) (a .o) (a .p) w (o8 .if2 .left) d (o5 .subject-in .result) (o4 .object-in .result) (o2 .handle-in .result) (o1 .of-open .result) (o5 .subject-in .ensures .0) (o4 .object-in .ensures .0) (o2 .handle-in .ensures) (o1 .of-open .ensures) (c .if4 .taken) _ refl (omega arith)), λ e. absurd (omega arith))
+    let done = open-refused (now (a .subjects)) (now (a .objects)) (now (a .handles)) (now (a .needs)) (now (a .counts)) (a .freeze) (a .sure) (a .code) (a .s) (a .o) (a .p) w (o8 .if2 .left) d (o5 .subject-in .result) (o4 .object-in .result) (o2 .handle-in .result) (o1 .of-open .result) (o5 .subject-in .ensures .0) (o4 .object-in .ensures .0) (o2 .handle-in .ensures) (o1 .of-open .ensures) (c .if4 .taken) _ refl (omega arith) in
+    (λ l. (w, done), λ e. absurd (omega arith), λ i w′ one h. done-settles (monitor-in (now (a .subjects)) (now (a .objects)) (now (a .handles)) (now (a .needs)) (a .freeze) (a .sure)) one h (omega arith) done)
 
-subject-need-requires : tie.Need-subject-need-requires
-subject-need-requires c κs = c .before .before .before .before .before .before .before .before .before .before .are-whole .ensures (not-false _ (c .before .before .before .before .before .before .before .before .before .if1 .left)) .3
-
-object-need-requires : tie.Need-object-need-requires
-object-need-requires c κs = c .before .before .before .before .before .before .before .before .before .before .before .are-whole .ensures (not-false _ (c .before .before .before .before .before .before .before .before .before .before .if1 .left)) .3
-
-falls-requires : tie.Need-falls-requires
-falls-requires c κs = search needs
+is-frozen-requires : tie.Need-is-frozen-requires
+is-frozen-requires c κs = search needs
 
 same-length-2 : tie.Need-same-length-2
 same-length-2 c = search needs
 
 returns-5 : tie.Need-returns-5
-returns-5 c = (λ l. absurd (omega arith), λ e. (refl, refl))
-
-is-frozen-requires : tie.Need-is-frozen-requires
-is-frozen-requires c κs = search needs
-
-last-requires : tie.Need-last-requires
-last-requires c κs = search needs
-
-cast-result-2 : tie.Need-cast-result-2
-cast-result-2 c = search needs
-
-add-result-2 : tie.Need-add-result-2
-add-result-2 c = search needs
-
-same-length-3 : tie.Need-same-length-3
-same-length-3 c = search needs
-
-returns-6 : tie.Need-returns-6
-returns-6 c =
-    let o1 = c .before .before .before .before .before .before .before .before in
+returns-5 c =
+    let o1 = c .before .before .before in
     let o2 = o1 .before in
     let o4 = o2 .before .before in
     let o5 = o4 .before in
@@ -109,21 +87,45 @@ returns-6 c =
     let o9 = o8 .before in
     let o10 = o9 .before in
     let a = o10 .before .before .before .before .before .before .args in
-    let v = o10 .are-whole .ensures (not-false _ (o9 .if1 .left)) in
+    let d = sym (o7 .either .ensures) ∙ not-false _ (o6 .if3 .left) in
+    let v = o10 .are-whole .ensures .0 (not-false _ (o9 .if1 .left)) in
     let w : Whole (now (a .subjects)) (now (a .objects)) (now (a .handles)) (now (a .needs)) (now (a .counts)) = record { subjects = v .0; objects = v .1; handles = v .2; needs = v .3; counts = v .4 } in
+    let done = open-frozen (now (a .subjects)) (now (a .objects)) (now (a .handles)) (now (a .needs)) (now (a .counts)) (a .freeze) (a .sure) (a .code) (a .s) (a .o) (a .p) w (o8 .if2 .left) d (o5 .subject-in .result) (o4 .object-in .result) (o2 .handle-in .result) (o1 .of-open .result) (o5 .subject-in .ensures .0) (o4 .object-in .ensures .0) (o2 .handle-in .ensures) (o1 .of-open .ensures) (c .before .before .if4 .left) (c .before .is-frozen .result) (c .before .is-frozen .ensures) (c .if5 .taken) _ refl in
+    (λ l. (w, done), λ e. absurd (omega arith), λ i w′ one h. done-settles (monitor-in (now (a .subjects)) (now (a .objects)) (now (a .handles)) (now (a .needs)) (a .freeze) (a .sure)) one h (omega arith) done)
+
+subject-need-requires : tie.Need-subject-need-requires
+subject-need-requires c κs = c .before .before .before .before .before .before .before .before .before .before .before .before .are-whole .ensures .0 (not-false _ (c .before .before .before .before .before .before .before .before .before .before .before .if1 .left)) .3
+
+object-need-requires : tie.Need-object-need-requires
+object-need-requires c κs = c .before .before .before .before .before .before .before .before .before .before .before .before .before .are-whole .ensures .0 (not-false _ (c .before .before .before .before .before .before .before .before .before .before .before .before .if1 .left)) .3
+
+falls-requires : tie.Need-falls-requires
+falls-requires c κs = search needs
+
+same-length-3 : tie.Need-same-length-3
+same-length-3 c = search needs
+
+returns-6 : tie.Need-returns-6
+returns-6 c =
+    let o1 = c .before .before .before .before .before .before .before in
+    let o2 = o1 .before in
+    let o4 = o2 .before .before in
+    let o5 = o4 .before in
+    let o6 = o5 .before in
+    let o7 = o6 .before in
+    let o8 = o7 .before in
+    let o9 = o8 .before in
+    let o10 = o9 .before in
+    let a = o10 .before .before .before .before .before .before .args in
     let d = sym (o7 .either .ensures) ∙ not-false _ (o6 .if3 .left) in
     let c1 = c .before in
     let c2 = c1 .before in
-    let c4 = c2 .before .before in
-    let c5 = c4 .before in
-    let c6 = c5 .before in
-    let down = sym (c4 .falls .ensures ∙ ap₂ (falls-by (eqb (a .code) 5)) (c6 .subject-need .ensures) (c5 .object-need .ensures)) ∙ not-false _ (c2 .before .if5 .left) in (
-      λ l. (
-        w,
-        open-frozen (now (a .subjects)) (now (a .objects)) (now (a .handles)) (now (a .needs)) (now (a .counts)) (a .freeze) (a .sure) (a .code) (a .s) (a .o) (a .p) w (o8 .if2 .left) d (o5 .subject-in .result) (o4 .object-in .result) (o2 .handle-in .result) (o1 .of-open .result) (o5 .subject-in .ensures .0) (o4 .object-in .ensures .0) (o2 .handle-in .ensures) (o1 .of-open .ensures) (c6 .before .if4 .left) (joining (way-by (eqb (a .code) 5)) (a .o)) refl down (c2 .is-frozen .result) (c1 .last .result) (c2 .is-frozen .ensures) (c1 .last .ensures)
-            (c .if6 .taken) _ refl (omega arith),
-      ),
-      λ e. absurd (omega arith),
+    let c3 = c2 .before in
+    let c5 = c3 .before .before in
+    let up = sym (c1 .falls .ensures ∙ ap₂ (falls-by (eqb (a .code) 5)) (c3 .subject-need .ensures) (c2 .object-need .ensures)) ∙ not-true _ (c .if6 .taken) in (
+      λ l. absurd (omega arith),
+      λ e. (refl, refl),
+      λ i w one. open-left (now (a .subjects)) (now (a .objects)) (now (a .handles)) (now (a .needs)) (now (a .counts)) (a .freeze) (a .sure) (a .code) (a .s) (a .o) (a .p) w one d (o5 .subject-in .result) (o4 .object-in .result) (o2 .handle-in .result) (o1 .of-open .result) (o5 .subject-in .ensures .0) (o4 .object-in .ensures .0) (o2 .handle-in .ensures) (o1 .of-open .ensures) (c5 .before .if4 .left) (c5 .is-frozen .result) (c5 .is-frozen .ensures) (c3 .before .if5 .left) up,
     )
 
 way-of-requires : tie.Need-way-of-requires
@@ -133,16 +135,16 @@ joining-requires : tie.Need-joining-requires
 joining-requires c κs = search needs
 
 put-requires : tie.Need-put-requires
-put-requires c κs = c .before .before .before .before .before .before .before .before .before .before .before .before .before .before .before .before .before .before .before .before .are-whole .ensures (not-false _ (c .before .before .before .before .before .before .before .before .before .before .before .before .before .before .before .before .before .before .before .if1 .left)) .2
+put-requires c κs = c .before .before .before .before .before .before .before .before .before .before .before .before .before .before .before .before .before .before .before .are-whole .ensures .0 (not-false _ (c .before .before .before .before .before .before .before .before .before .before .before .before .before .before .before .before .before .before .if1 .left)) .2
 
 count-requires : tie.Need-count-requires
-count-requires c κs = c .before .before .before .before .before .before .before .before .before .before .before .before .before .before .before .before .before .before .before .before .before .before .before .before .are-whole .ensures (not-false _ (c .before .before .before .before .before .before .before .before .before .before .before .before .before .before .before .before .before .before .before .before .before .before .before .if1 .left)) .4
+count-requires c κs = c .before .before .before .before .before .before .before .before .before .before .before .before .before .before .before .before .before .before .before .before .before .before .before .are-whole .ensures .0 (not-false _ (c .before .before .before .before .before .before .before .before .before .before .before .before .before .before .before .before .before .before .before .before .before .before .if1 .left)) .4
 
-cast-result-3 : tie.Need-cast-result-3
-cast-result-3 c = search needs
+cast-result-2 : tie.Need-cast-result-2
+cast-result-2 c = search needs
 
-add-result-3 : tie.Need-add-result-3
-add-result-3 c = search needs
+add-result-2 : tie.Need-add-result-2
+add-result-2 c = search needs
 
 same-length-4 : tie.Need-same-length-4
 same-length-4 c = search needs
@@ -152,7 +154,7 @@ same-length-5 c = search needs
 
 returns-7 : tie.Need-returns-7
 returns-7 c =
-    let o1 = c .before .before .before .before .before .before .before .before .before .before .before .before .before .before .before .before .before .before .before in
+    let o1 = c .before .before .before .before .before .before .before .before .before .before .before .before .before .before .before .before .before .before in
     let o2 = o1 .before in
     let o4 = o2 .before .before in
     let o5 = o4 .before in
@@ -162,9 +164,9 @@ returns-7 c =
     let o9 = o8 .before in
     let o10 = o9 .before in
     let a = o10 .before .before .before .before .before .before .args in
-    let v = o10 .are-whole .ensures (not-false _ (o9 .if1 .left)) in
-    let w : Whole (now (a .subjects)) (now (a .objects)) (now (a .handles)) (now (a .needs)) (now (a .counts)) = record { subjects = v .0; objects = v .1; handles = v .2; needs = v .3; counts = v .4 } in
     let d = sym (o7 .either .ensures) ∙ not-false _ (o6 .if3 .left) in
+    let v = o10 .are-whole .ensures .0 (not-false _ (o9 .if1 .left)) in
+    let w : Whole (now (a .subjects)) (now (a .objects)) (now (a .handles)) (now (a .needs)) (now (a .counts)) = record { subjects = v .0; objects = v .1; handles = v .2; needs = v .3; counts = v .4 } in
     let c3 = c .before .before .before in
     let c7 = c3 .before .before .before .before in
     let c9 = c7 .before .before in
@@ -172,17 +174,12 @@ returns-7 c =
     let c11 = c10 .before in
     let c12 = c11 .before in
     let c13 = c12 .before in
-    let c15 = c13 .before .before in
+    let c14 = c13 .before in
+    let c15 = c14 .before in
     let c16 = c15 .before in
-    let c17 = c16 .before in
-    let down = sym (c15 .falls .ensures ∙ ap₂ (falls-by (eqb (a .code) 5)) (c17 .subject-need .ensures) (c16 .object-need .ensures)) ∙ not-false _ (c13 .before .if5 .left) in (
-      λ l. (
-        w,
-        open-done (now (a .subjects)) (now (a .objects)) (now (a .handles)) (now (a .needs)) (now (a .counts)) (a .freeze) (a .sure) (a .code) (a .s) (a .o) (a .p) w (o8 .if2 .left) d (o5 .subject-in .result) (o4 .object-in .result) (o2 .handle-in .result) (o1 .of-open .result) (o5 .subject-in .ensures .0) (o4 .object-in .ensures .0) (o2 .handle-in .ensures) (o1 .of-open .ensures) (c17 .before .if4 .left) (c9 .joining .result) (c9 .joining .ensures ∙ ap (λ (i : ℕ). joining i (a .o)) (c10 .way-of .ensures)) down (c13 .is-frozen .result)
-            (c12 .last .result) (c13 .is-frozen .ensures) (c12 .last .ensures) (c11 .if6 .left) (c7 .put .last .0) (c3 .count .last .0) (c7 .put .ensures .0) (c3 .count .ensures) _ refl (o4 .object-in .ensures .1),
-      ),
-      λ e. absurd (omega arith),
-    )
+    let down = sym (c12 .falls .ensures ∙ ap₂ (falls-by (eqb (a .code) 5)) (c14 .subject-need .ensures) (c13 .object-need .ensures)) ∙ not-false _ (c11 .if6 .left) in
+    let done = open-done (now (a .subjects)) (now (a .objects)) (now (a .handles)) (now (a .needs)) (now (a .counts)) (a .freeze) (a .sure) (a .code) (a .s) (a .o) (a .p) w (o8 .if2 .left) d (o5 .subject-in .result) (o4 .object-in .result) (o2 .handle-in .result) (o1 .of-open .result) (o5 .subject-in .ensures .0) (o4 .object-in .ensures .0) (o2 .handle-in .ensures) (o1 .of-open .ensures) (c16 .before .if4 .left) (c16 .is-frozen .result) (c16 .is-frozen .ensures) (c15 .if5 .left) (c9 .joining .result) (c9 .joining .ensures ∙ ap (λ (i : ℕ). joining i (a .o)) (c10 .way-of .ensures)) down (c7 .put .last .0) (c3 .count .last .0) (c7 .put .ensures .0) (c3 .count .ensures) _ refl (o4 .object-in .ensures .1) in
+    (λ l. (w, done), λ e. absurd (omega arith), λ i w′ one h. done-settles (monitor-in (now (a .subjects)) (now (a .objects)) (now (a .handles)) (now (a .needs)) (a .freeze) (a .sure)) one h (omega arith) done)
 
 pub opened-spec : {M : Type 1} → statement M
 opened-spec =
@@ -201,23 +198,20 @@ opened-spec =
     add-result
     same-length
     returns-4
+    is-frozen-requires
+    same-length-2
+    returns-5
     subject-need-requires
     object-need-requires
     falls-requires
-    same-length-2
-    returns-5
-    is-frozen-requires
-    last-requires
-    cast-result-2
-    add-result-2
     same-length-3
     returns-6
     way-of-requires
     joining-requires
     put-requires
     count-requires
-    cast-result-3
-    add-result-3
+    cast-result-2
+    add-result-2
     same-length-4
     same-length-5
     returns-7)

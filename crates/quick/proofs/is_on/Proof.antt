@@ -1,0 +1,13 @@
+-- `quick::is_on` meets its contract. Assumes nothing.
+use borrow.Author.Tests.{eq-eqb, ne-eqb}
+use Rattle.quick.proofs.is_on.Statement.{statement}
+use Rattle.quick.proofs.is_on.Tie as tie
+
+returns : tie.Need-returns
+returns c = rw (eq-eqb _ _ (c .if1 .taken))
+
+returns-2 : tie.Need-returns-2
+returns-2 c = rw (ne-eqb _ _ (c .if1 .left))
+
+pub is-on-spec : {M : Type 1} → statement M
+is-on-spec = tie.close (tie.spec returns returns-2)
