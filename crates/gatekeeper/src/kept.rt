@@ -69,10 +69,10 @@ impl Monitor {
         let subjects = self.subjects;
         let objects = self.objects;
         let handles = self.handles;
-        let counted = handles::cleaned(subjects, objects, handles);
-        let needs = flows::figures(objects, counted);
+        let emptied = handles::cleaned(subjects, objects, handles);
+        let needs = flows::figures(objects, emptied);
         let short = flows::is_short(subjects, objects, needs);
-        self.handles = counted;
+        self.handles = emptied;
         self.needs = needs;
         self.sure = earned(short);
         self
