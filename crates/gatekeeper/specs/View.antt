@@ -1,4 +1,5 @@
--- The monitor seen as the tables of the rules, and the needs that it keeps beside them. States RULES T13, T33, F10, F11, F15, F16, F19 and C106. Assumes nothing.
+-- The monitor seen as the tables of the rules, and the needs that it keeps beside them. States RULES T13, T15, T33, F10 to F12, F15, F16,
+-- F19 to F21 and C106. Assumes nothing.
 use mathlib.Core.Path.{_≡_}
 use mathlib.Core.Bool.{cond}
 use mathlib.Core.List.{[], _∷_}
@@ -57,7 +58,7 @@ pub record Righted (m n : Monitor) : Type 0 where
   pub right : Right n
 
 -- RULES F21: n is m with each place emptied that counts as empty and its kept needs put right. It says that it is sure exactly where it has earned that: where no
--- level is below its need
+-- level is below its need. What stands beside an empty place, and which of the bytes that mean the same a handle has, is free (RULES T23)
 pub record Assured (m n : Monitor) : Type 0 where
   pub same : n ≡ record { subjects = m .subjects; objects = m .objects; handles = n .handles; freeze = m .freeze; needs = n .needs; sure = n .sure }
   pub tables : view n ≡ clean (view m)

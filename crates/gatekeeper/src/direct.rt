@@ -58,8 +58,9 @@ impl Monitor {
     }
 
     // A code and six numbers; those that the code does not use are ignored. A refused call hands the same struct back, free part included;
-    // any other hands back the rules' next tables, and its free part is any (model, `Promise`). Of a right monitor either is right. All but the first is promised of
-    // honest monitors: of those that do not say that they are sure, and of those that say so and have what calls from the empty tables leave.
+    // any other hands back the rules' next tables, and its free part is any (model, `Promise`). The first is promised of every monitor; the answer and the tables of
+    // honest ones, that is, of those that do not say that they are sure, and of those that say so and of which it is so; and that kept needs stay right and `sure`
+    // what it is also of any other in which nothing dangles.
     pub fn call(self, code: u32, a: u32, b: u32, c: u32, d: u32, e: u32, f: u32) -> Reply
         ensures { λ r. ⌜ Meets monitors self (decode (direct code a b c d e f)) (told (r .answer)) (r .monitor) ⌝ }
     {

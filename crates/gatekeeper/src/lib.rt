@@ -30,7 +30,8 @@ mod made;
 mod moved;
 
 // The tables, and beside them the kept needs, of the subjects and then of the objects. Place p of subject s is handle 16 s + p. A freeze of NO_FREEZE
-// and above says that no file is frozen. `sure` is SURE where calls from the empty tables made this value: then calls go by the kept needs, and look for no
+// and above says that no file is frozen. `sure` is SURE where this value says of itself that nothing dangles in it, that its kept needs are right and that no
+// level is below its need, as it is of what calls from the empty tables make, and of what `assured` does: then calls go by the kept needs, and look for no
 // dangling handle. Any other byte says nothing, and calls work out what they go by.
 #[repr(C)]
 pub struct Monitor {
@@ -42,7 +43,7 @@ pub struct Monitor {
     pub sure: u8,
 }
 
-// What `sure` is in the empty tables, and in all that calls make of them.
+// What `sure` is in the empty tables and in all that calls make of them, and what `assured` sets where it is earned.
 pub const SURE: u8 = 1;
 
 pub struct Reply {

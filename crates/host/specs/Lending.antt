@@ -1,5 +1,5 @@
--- A monitor and its tally as the struct that a host lends: what a call leaves there and returns, what the empty state is, and a list of calls. States RULES H12, H23, T12,
--- T15, F12, F19, F20, Y8, Y9, R102, R103 and B24 of it.
+-- A monitor and its tally as the struct that a host lends: what a call leaves there and returns, what the empty state is, and a list of calls. States RULES H12, H23,
+-- H25, T12, T15, F12, F19 to F21, Y8, Y9, R102, R103 and B24 of it.
 --
 -- Every value of the struct is a state, and there is no length that could be another: nothing is asked of what is lent but that it is honest, and of any other a refused call
 -- still leaves every field (RULES R102, R103). Assumes nothing.

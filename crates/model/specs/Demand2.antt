@@ -1,4 +1,5 @@
--- Demand 2, the flow rule both ways: what RULES R9, R109, R110 and R121 say, in terms of chains of flows (RULES F4); and what a file that is frozen is (RULES R15).
+-- Demand 2, the flow rule both ways: what RULES R9, R109, R110 and R121 say, in terms of chains of flows (RULES F4); what a file that is frozen is (RULES R15), and an
+-- open whose numbers are all in order (RULES R2, R4, R7).
 -- `Demand2.Laws` proves that the refusals of the definitions are exactly these. Assumes nothing.
 use mathlib.Core.Path.{_≡_}
 use mathlib.Core.Bool.{not}
@@ -10,6 +11,7 @@ use Rattle.model.specs.Label.{Label, leq, level}
 use Rattle.model.specs.Flow.{Thing, object, Reaches}
 use Rattle.model.specs.Tables.{Dir, Entry, handle, Tables, no-freeze, label-of, is-file, things, edges}
 use Rattle.model.specs.Steps.{hold, apply}
+use Rattle.model.specs.Calls.{alive, present, vacant, broken}
 pub mod Laws
 pub mod Mappings
 pub mod Reads
@@ -42,3 +44,9 @@ pub record Closed (t : Tables) (o : ℕ) : Type 0 where
   pub is-a-file : T (is-file (object o) (entry .kind))
   pub set : t .freeze < no-freeze
   pub at-or-above : t .freeze ≤ level (entry .label)
+
+-- RULES R2, R4, R7: subject s is live, object o is live and place p of s is empty, so that of an open of these numbers no row before R15 and R9 speaks
+pub record Named (t : Tables) (s o p : ℕ) : Type 0 where
+  pub caller : T (not (broken t (alive s)))
+  pub file : T (not (broken t (present o)))
+  pub place : T (not (broken t (vacant s p)))

@@ -7,7 +7,7 @@ ghost use lib.ListN.{length, take, drop};
 ghost use Rattle.model.specs.Tables.{empty};
 ghost use Rattle.model.specs.Calls.{answers};
 ghost use Rattle.model.specs.Demand3.{Demand3};
-ghost use Rattle.gatekeeper.specs.View.{view, Right};
+ghost use Rattle.gatekeeper.specs.View.{view, Honest, Right};
 ghost use Rattle.run.specs.Buffers.{lesser, calls-in, bytes, answers-in};
 use gatekeeper::Monitor;
 
@@ -33,6 +33,7 @@ pub fn run(calls: &[u32], out: &mut [u8]) -> Ran
     ensures written { λ r. ⌜ now (out .exit) ≡ bytes (answers empty (calls-in (now (calls .entry)) (r .made))) ++ drop (r .made * 2) (now (out .entry)) ⌝ }
     ensures demand3 { λ r. ⌜ Demand3 (calls-in (now (calls .entry)) (r .made)) (answers-in (take (r .made * 2) (now (out .exit)))) (view (r .monitor)) ⌝ }
     ensures right { λ r. ⌜ Right (r .monitor) ⌝ }
+    ensures honest { λ r. ⌜ Honest (r .monitor) ⌝ }
     ensures sure { λ r. ⌜ r .monitor .sure ≡ 1 ⌝ }
 {
     let n = fewer(calls.len() / 7, out.len() / 2);

@@ -1,6 +1,6 @@
 -- Refusal 9, both ways: an open, a map or a connect that is otherwise in order is refused with 9 if and only if after it some live thing reaches, through
 -- open handles, a file of a higher level; an exec if and only if the file's level is below the subject's need, that is, if and only if
--- the subject reaches a file of a higher level than the program's. Refusal 15, likewise. For every tables, also those that no calls made. Assumes nothing.
+-- the subject reaches a file of a higher level than the program's. Refusal 15, likewise; and which of the two is said of an open. For every tables, also those that no calls made. Assumes nothing.
 use mathlib.Core.Path.{_≡_, refl, sym, _∙_, ap, subst}
 use mathlib.Core.Bool.{Bool, true, false, not, _&&_, cond}
 use mathlib.Core.Logic.{inl, inr, _↔_}
@@ -15,9 +15,9 @@ use Rattle.model.specs.Flow.Laws.{need-upper, need-over}
 use Rattle.model.specs.Tables.{Dir, reading, writing, Entry, Tables, no-freeze, label-of, is-file, cell, edges, demand, needs, safe}
 use Rattle.model.specs.Tables.Laws.{not-safe}
 use Rattle.model.specs.Steps.{applies}
-use Rattle.model.specs.Calls.{opens, exec, maps, connect, sheds, channel, enough, suits, thawed, others, shut, broken, tests, In-order, refusal}
+use Rattle.model.specs.Calls.{opens, exec, maps, connect, sheds, channel, Test, number, alive, present, vacant, enough, suits, thawed, others, shut, broken, tests, order, earlier, In-order, refusal}
 use Rattle.model.specs.Calls.Refusals.{refused-is, refused-by, only}
-use Rattle.model.specs.Demand2.{Leaks, Offends, opened, Closed}
+use Rattle.model.specs.Demand2.{Leaks, Offends, opened, Named, Closed}
 
 -- ── a need that a label does not reach up to, as a chain of flows ──
 pub over-leaks : (u : Tables) (a : Label) (x : Thing) → T (not (leq (needs u x) a)) → Leaks u a x
@@ -144,3 +144,43 @@ frozen-refused-iff t d s o p = (
       let c = shut-iff t d o .0 (only t (thawed d o) (tests (opens d s o p)) (inl tt, (inl tt, (inl tt, (inl tt, (inr refl, tt))))) (r .0)) in (r .1, c .0, c .1)),
   λ r. refused-is t (opens d s o p) (thawed d o) (inr (inr (inr (inr (inl refl))))) (shut-iff t d o .1 (r .1, r .2)) (r .0),
 )
+
+-- ── which of the two is said ──
+-- RULES R15, R117: an open is refused with 15 if and only if no number of it is wrong, it is for writing and the file is frozen, whatever flow it would make
+pub frozen-said-iff : (t : Tables) (d : Dir) (s o p : ℕ) → (refusal t (opens d s o p) ≡ some 15) ↔ (Named t s o p × (d ≡ writing) × Closed t o)
+frozen-said-iff t d s o p = (
+  λ q. (let r = frozen-refused-iff t d s o p .0 q in (named (r .0), r .1, r .2)),
+  λ r. frozen-refused-iff t d s o p .1 (passed (r .0), r .1, r .2),
+)
+  where
+    named : In-order t (opens d s o p) 15 → Named t s o p
+    named f = record { caller = f (alive s) (inl refl) tt; file = f (present o) (inr (inl refl)) tt; place = f (vacant s p) (inr (inr (inl refl))) tt }
+
+    passed : Named t s o p → In-order t (opens d s o p) 15
+    passed n e (inl z) h = subst (λ (k : Test). T (not (broken t k))) z (n .caller)
+    passed n e (inr (inl z)) h = subst (λ (k : Test). T (not (broken t k))) z (n .file)
+    passed n e (inr (inr (inl z))) h = subst (λ (k : Test). T (not (broken t k))) z (n .place)
+    passed n e (inr (inr (inr (inl z)))) h = absurd (subst (λ (k : Test). T (earlier (number k) 15 order)) (sym z) h)
+    passed n e (inr (inr (inr (inr (inl z))))) h = absurd (subst (λ (k : Test). T (earlier (number k) 15 order)) (sym z) h)
+
+-- RULES R9, R117: and with 9 if and only if no number of it is wrong, it is for reading or the file is not frozen, and some thing would have a level below its need
+pub flow-said-iff : (t : Tables) (d : Dir) (s o p : ℕ) → (refusal t (opens d s o p) ≡ some 9) ↔
+    (Named t s o p × ((d ≡ writing) × Closed t o → ⊥) × Offends (opened t d s o p))
+flow-said-iff t d s o p = (
+  λ q. (let r = open-refused-iff t d s o p .0 q in (named (r .0), thaws (r .0), r .1)),
+  λ r. open-refused-iff t d s o p .1 (passed (r .0) (r .1), r .2),
+)
+  where
+    named : In-order t (opens d s o p) 9 → Named t s o p
+    named f = record { caller = f (alive s) (inl refl) tt; file = f (present o) (inr (inl refl)) tt; place = f (vacant s p) (inr (inr (inl refl))) tt }
+
+    thaws : In-order t (opens d s o p) 9 → (d ≡ writing) × Closed t o → ⊥
+    thaws f c = T-not (broken t (thawed d o)) (f (thawed d o) (inr (inr (inr (inr (inl refl))))) tt) (shut-iff t d o .1 c)
+
+    passed : Named t s o p → ((d ≡ writing) × Closed t o → ⊥) → In-order t (opens d s o p) 9
+    passed n f e (inl z) h = subst (λ (k : Test). T (not (broken t k))) z (n .caller)
+    passed n f e (inr (inl z)) h = subst (λ (k : Test). T (not (broken t k))) z (n .file)
+    passed n f e (inr (inr (inl z))) h = subst (λ (k : Test). T (not (broken t k))) z (n .place)
+    passed n f e (inr (inr (inr (inl z)))) h = absurd (subst (λ (k : Test). T (earlier (number k) 9 order)) (sym z) h)
+    passed n f e (inr (inr (inr (inr (inl z))))) h =
+        subst (λ (k : Test). T (not (broken t k))) z (not-T (broken t (thawed d o)) (λ b. f (shut-iff t d o .0 b)))

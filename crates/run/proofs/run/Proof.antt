@@ -125,7 +125,7 @@ loop-again c =
     let l = c .before .before .before .before .before .before .before .before .before .before .before .before .loop in
     let a = c .before .before .before .before .before .before .before .before .before .before .before .before .before .before .before .before .before .args in
     let k = c .before .before .before .call in
-    let h = so-far-honest (a .calls .now) (a .out .now) (l .out) (l .i) (l .m) (k .result .monitor) (told (k .result .answer)) (l .inv .4) (l .inv .5) in (
+    let h = so-far-honest (a .calls .now) (a .out .now) (l .out) (l .i) (l .m) (l .inv .4) (l .inv .5) in (
       omega arith,
       l .inv .1,
       l .inv .2,
@@ -146,7 +146,7 @@ returns c =
     let s = l .inv .4 in
     let a = c .before .before .before .before .before .before .args in
     let so : So-far (a .calls .now) (a .out .now) (l .out) (c .before .before .before .fewer .result) (view (l .m)) = subst (λ (j : ℕ). So-far (a .calls .now) (a .out .now) (l .out) j (view (l .m))) all s in
-    (c .before .before .before .fewer .ensures, (so .written, (run-demand3 _ _ _ _ _ so, (l .inv .5, l .inv .6))))
+    (c .before .before .before .fewer .ensures, (so .written, (run-demand3 _ _ _ _ _ so, (l .inv .5, (so-far-honest (a .calls .now) (a .out .now) (l .out) (l .i) (l .m) s (l .inv .5), l .inv .6)))))
 
 pub run-spec : {M : Type 1} → statement M
 run-spec =

@@ -72,11 +72,11 @@ pub record So-far (calls first out : List ℕ) (i : ℕ) (t : Tables) : Type 0 w
 pub so-far-none : (calls first : List ℕ) (t : Tables) → t ≡ empty → So-far calls first first 0 t
 so-far-none calls first t e = record { written = refl; tables = e }
 
-module _ (calls first out : List ℕ) (i : ℕ) (m n : Monitor) (a : Answer) where
-  -- the monitor is honest
-  pub so-far-honest : So-far calls first out i (view m) → Right m → Honest m
-  so-far-honest s r = kept-honest m (subst Kept (sym (s .tables)) (always-kept (calls-in calls i))) r
+-- a monitor that has them, and whose needs are right, is honest
+pub so-far-honest : (calls first out : List ℕ) (i : ℕ) (m : Monitor) → So-far calls first out i (view m) → Right m → Honest m
+so-far-honest calls first out i m s r = kept-honest m (subst Kept (sym (s .tables)) (always-kept (calls-in calls i))) r
 
+module _ (calls first out : List ℕ) (i : ℕ) (m n : Monitor) (a : Answer) where
   pub so-far-more : i * 2 + 2 ≤ length first → So-far calls first out i (view m) → Honest m → Meets monitors m (decode (call-at calls i)) a n
       → So-far calls first (set (set out (i * 2) (letter-of a)) (i * 2 + 1) (value-of a)) (i + 1) (view n)
   so-far-more room s h k = subst (λ (j : ℕ). So-far calls first (set (set out (i * 2) (letter-of a)) (i * 2 + 1) (value-of a)) j (view n)) (sym (add-one i)) (record { written = written; tables = f .1 ∙ sym (after-more empty rs r) })
