@@ -15,7 +15,7 @@
 //! | `world`, `files`, `journal` | steps, files and pipes with their numbers; the journal |
 //! | `open`, `data`, `table`, `maps`, `moves`, `steps`, `paths` | what each call comes to |
 //! | `kinds`, `report` | what is left out, and the report |
-//! | `names` | the names file |
+//! | [`names`] | the names file |
 //! | [`cli`], `output` | the command `gk trace` |
 
 mod call;
@@ -30,7 +30,7 @@ mod levels;
 mod line;
 mod maps;
 mod moves;
-mod names;
+pub mod names;
 mod open;
 mod output;
 mod paths;
@@ -42,7 +42,8 @@ mod text;
 mod world;
 
 pub use cli::main;
-pub use levels::{Fault, Levels};
+pub use levels::{Fault, Found, Level, Levels, LONGEST_FILE, TOP};
 pub use report::Report;
 pub use run::{journal_of, Failure, Written};
+pub use text::{counted, shown};
 pub use world::{Options, Stop};

@@ -1,0 +1,495 @@
+//! What the gatekeeper is told.
+//!
+//! There is no table of descriptors here. A step's handles are those of the proved monitor, at most one for each object,
+//! direction and mark. They may be more than the process has, never less; what is too much is found where an answer
+//! could hang on it ([`Told::put_right`]).
+
+use std::collections::HashMap;
+
+use gatekeeper::{Answer, Call, Kind, Monitor, Refusal, State, Way, OBJECTS, PLACES, SUBJECTS};
+use gk_chain::Thing;
+use gk_trace::names;
+
+use crate::journal::Journal;
+use crate::proc::{Held, Key};
+use crate::words::{fail, shown};
+
+pub struct Told {
+    state: State,
+    pub journal: Journal,
+    numbers: HashMap<Key, u32>,
+    keys: Vec<Option<Key>>,
+    paths: Vec<Vec<u8>>,
+    /// The folder that the run was started in: files there go by their path from it.
+    folder: Vec<u8>,
+    /// What each step runs.
+    programs: Vec<String>,
+    /// Keys for files that are not made yet.
+    fresh: u64,
+    pub refused: u64,
+    /// The same monitor as bytes, for the chain behind a refusal; it is a few calls behind until one is asked for.
+    bytes: Monitor,
+    behind: Vec<Call>,
+}
+
+/// What a step would do to its handles at an exec.
+#[derive(Clone, Debug, Default)]
+pub struct Ends {
+    /// Handles that the program is not to get.
+    marks: Vec<u32>,
+    /// Handles that the process no longer has.
+    gone: Vec<u32>,
+}
+
+impl Told {
+    pub fn new(journal: Journal, folder: Vec<u8>) -> Told {
+        Told {
+            state: State::new(),
+            journal,
+            numbers: HashMap::new(),
+            keys: vec![None; OBJECTS as usize],
+            paths: vec![Vec::new(); OBJECTS as usize],
+            folder,
+            programs: vec![String::new(); SUBJECTS as usize],
+            fresh: 0,
+            refused: 0,
+            bytes: Monitor::new(),
+            behind: Vec::new(),
+        }
+    }
+
+    /// Makes a call: its record goes out, then it is answered. A refusal that is not for the flow is the guard's fault.
+    pub fn make(&mut self, call: Call) -> Answer {
+        if let Err(message) = self.journal.write(call) {
+            fail(&format!("{message}: nothing more is answered, and the run ends"));
+        }
+        let answer = self.state.call(call);
+        self.journal.answered(call, answer);
+        match answer {
+            Answer::Refused(Refusal::Flow) => self.refused += 1,
+            Answer::Refused(why) => fail(&format!("its own tables are wrong: {call:?}: {why}")),
+            Answer::Allowed(_) | Answer::Lowered(_) => self.behind.push(call),
+        }
+        answer
+    }
+
+    /// The tally, as the last line of the replies has it.
+    pub fn tally(&self) -> String {
+        format!("end {} {} {}\n", self.state.made(), self.state.gone(), self.state.open())
+    }
+
+    /// The chain behind a call that the gatekeeper has just refused for the flow, in words; found, and not proved.
+    pub fn chain(&mut self, call: Call) -> String {
+        for call in self.behind.drain(..) {
+            let _ = self.bytes.call(call);
+        }
+        let links = gk_chain::behind(&self.bytes, call.code(), call.numbers());
+        let name = |link: &gk_chain::Link| match link.thing {
+            Thing::Step(s) => format!("{} (level {})", self.program(s), link.level),
+            Thing::Object(o) => format!("{} (level {})", self.object_name(o), link.level),
+        };
+        links.iter().map(name).collect::<Vec<_>>().join(" → ")
+    }
+
+    // Steps.
+
+    pub fn level(&self, step: u32) -> u8 {
+        self.state.subject(step).unwrap_or(0)
+    }
+
+    pub fn free_step(&self) -> Option<u32> {
+        (0..SUBJECTS).find(|&s| self.state.subject(s).is_none())
+    }
+
+    pub fn admit(&mut self, step: u32, level: u32, name: &str) {
+        self.name_step(step, name);
+        let _ = self.make(Call::Admit { subject: step, level });
+    }
+
+    pub fn fork(&mut self, step: u32, child: u32) {
+        let name = self.programs[step as usize].clone();
+        self.name_step(child, &name);
+        let _ = self.make(Call::Fork { subject: step, child });
+    }
+
+    pub fn exit(&mut self, step: u32) {
+        let _ = self.make(Call::Exit { subject: step });
+    }
+
+    pub fn name_step(&mut self, step: u32, name: &str) {
+        self.programs[step as usize] = name.to_string();
+        self.journal.name(names::Kind::Step, step, name);
+    }
+
+    pub fn program(&self, step: u32) -> &str {
+        self.programs.get(step as usize).map_or("", |name| name.as_str())
+    }
+
+    // Files and pipes.
+
+    pub fn object_name(&self, object: u32) -> String {
+        self.paths.get(object as usize).map_or_else(String::new, |path| self.short(path))
+    }
+
+    /// A path as people know it.
+    pub fn short(&self, path: &[u8]) -> String {
+        let own = path.strip_prefix(self.folder.as_slice()).and_then(|rest| rest.strip_prefix(b"/"));
+        shown(own.unwrap_or(path))
+    }
+
+    pub fn number(&self, key: Key) -> Option<u32> {
+        let found = self.numbers.get(&key).copied();
+        found.filter(|&o| self.keys[o as usize] == Some(key) && self.state.object(o).is_some())
+    }
+
+    fn is_held(&self, object: u32) -> bool {
+        let holds = |s, p| self.state.handle(s, p).is_some_and(|handle| u32::from(handle.object) == object);
+        (0..SUBJECTS).any(|s| (0..PLACES).any(|p| holds(s, p)))
+    }
+
+    /// A number for a new file or pipe; a file that nobody holds gives up its own. None where 64 are held.
+    fn free_number(&mut self) -> Option<u32> {
+        if let Some(free) = (0..OBJECTS).find(|&o| self.state.object(o).is_none()) {
+            return Some(free);
+        }
+        let idle = (0..OBJECTS).find(|&o| !self.is_held(o))?;
+        let _ = self.make(Call::Retire { object: idle });
+        Some(idle)
+    }
+
+    pub fn has_number(&self) -> bool {
+        (0..OBJECTS).any(|o| self.state.object(o).is_none() || !self.is_held(o))
+    }
+
+    /// Says which file an object is. Another object with this key was a file that is gone by now: its inode is used
+    /// again, so nobody has it open, and its handles are closed when tables are put right.
+    pub fn seat(&mut self, object: u32, key: Key) {
+        if let Some(old) = self.numbers.insert(key, object) {
+            if old != object && self.keys[old as usize] == Some(key) {
+                self.keys[old as usize] = None;
+            }
+        }
+        if let Some(old) = self.keys[object as usize].replace(key).filter(|&old| old != key) {
+            self.numbers.remove(&old);
+        }
+    }
+
+    /// The number of a file that is there; it is registered where it has none. None where there is no number for it.
+    pub fn file(&mut self, key: Key, level: u32, path: &[u8]) -> Option<u32> {
+        if let Some(object) = self.number(key) {
+            if self.state.object(object).is_some_and(|found| u32::from(found.level) == level) {
+                return Some(object);
+            }
+            if self.is_held(object) {
+                return None;
+            }
+            let _ = self.make(Call::Retire { object });
+        }
+        let object = self.free_number()?;
+        self.named(object, path);
+        let _ = self.make(Call::Register { object, level });
+        self.seat(object, key);
+        Some(object)
+    }
+
+    /// The number of a file that is about to be made, at its level, or at the step's where none is given.
+    pub fn new_file(&mut self, step: u32, level: Option<u32>, path: &[u8]) -> Option<u32> {
+        let object = self.free_number()?;
+        self.named(object, path);
+        let _ = match level {
+            Some(level) => self.make(Call::Register { object, level }),
+            None => self.make(Call::Create { subject: step, object }),
+        };
+        self.fresh += 1;
+        self.seat(object, (u64::MAX, self.fresh));
+        Some(object)
+    }
+
+    fn named(&mut self, object: u32, path: &[u8]) {
+        self.paths[object as usize] = path.to_vec();
+        let name = self.short(path);
+        self.journal.name(names::Kind::File, object, &name);
+    }
+
+    // Handles.
+
+    /// The place of a handle of the step that an exec does not end by a mark.
+    fn hold(&self, step: u32, object: u32, writes: bool) -> Option<u32> {
+        (0..PLACES).find(|&p| {
+            self.state.handle(step, p).is_some_and(|handle| {
+                u32::from(handle.object) == object
+                    && !handle.marked
+                    && (handle.way == Way::Writes) == writes
+            })
+        })
+    }
+
+    fn free_place(&self, step: u32) -> Option<u32> {
+        (0..PLACES).find(|&p| self.state.handle(step, p).is_none())
+    }
+
+    /// Whether the step has room for so many more handles.
+    pub fn has_places(&self, step: u32, count: usize) -> bool {
+        (0..PLACES).filter(|&p| self.state.handle(step, p).is_none()).count() >= count
+    }
+
+    /// How many handles an open in these directions adds.
+    pub fn adds(&self, step: u32, object: u32, reads: bool, writes: bool) -> usize {
+        let adds = |is_wanted, writes| usize::from(is_wanted && self.hold(step, object, writes).is_none());
+        adds(reads, false) + adds(writes, true)
+    }
+
+    fn open_call(step: u32, object: u32, place: u32, writes: bool) -> Call {
+        match writes {
+            true => Call::OpenWrite { subject: step, object, place },
+            false => Call::OpenRead { subject: step, object, place },
+        }
+    }
+
+    /// Whether an open would be granted, asked of a copy.
+    pub fn would_open(&self, step: u32, object: u32, reads: bool, writes: bool) -> bool {
+        let mut copy = self.state.clone();
+        [(reads, false), (writes, true)].into_iter().all(|(is_wanted, writes)| {
+            if !is_wanted || self.hold(step, object, writes).is_some() {
+                return true;
+            }
+            let place = (0..PLACES).find(|&p| copy.handle(step, p).is_none());
+            place.is_some_and(|place| {
+                copy.call(Told::open_call(step, object, place, writes)).granted().is_ok()
+            })
+        })
+    }
+
+    /// The open for real; where it is refused, the call that was.
+    pub fn open(&mut self, step: u32, object: u32, reads: bool, writes: bool) -> Result<(), Call> {
+        let mut made = None;
+        for (is_wanted, writes) in [(reads, false), (writes, true)] {
+            if !is_wanted || self.hold(step, object, writes).is_some() {
+                continue;
+            }
+            let Some(place) = self.free_place(step) else { fail("no place is left where one was") };
+            let call = Told::open_call(step, object, place, writes);
+            if self.make(call).granted().is_err() {
+                if let Some(place) = made {
+                    let _ = self.make(Call::Close { subject: step, place });
+                }
+                return Err(call);
+            }
+            made = Some(place);
+        }
+        Ok(())
+    }
+
+    /// A pipe that the step has made; the caller has seen to a number and two places.
+    pub fn pipe(&mut self, step: u32, key: Key) {
+        let places: Vec<u32> =
+            (0..PLACES).filter(|&p| self.state.handle(step, p).is_none()).take(2).collect();
+        let (Some(object), &[reads, writes]) = (self.free_number(), &places[..]) else {
+            fail("no number or place is left for a pipe where one was")
+        };
+        self.paths[object as usize] = format!("pipe of {}", self.program(step)).into_bytes();
+        let name = self.object_name(object);
+        self.journal.name(names::Kind::Pipe, object, &name);
+        let _ = self.make(Call::Pipe { subject: step, object, reads, writes });
+        self.seat(object, key);
+    }
+
+    /// Closes what the step no longer has.
+    pub fn put_right(&mut self, step: u32, held: &[Held]) {
+        for place in 0..PLACES {
+            let Some(handle) = self.state.handle(step, place) else { continue };
+            let (key, path) =
+                (self.keys[usize::from(handle.object)], &self.paths[usize::from(handle.object)]);
+            let writes = handle.way == Way::Writes;
+            if !held.iter().any(|held| key.is_some_and(|key| held.is(key, path, writes))) {
+                let _ = self.make(Call::Close { subject: step, place });
+            }
+        }
+    }
+
+    /// A read or a write on an object. Where nobody would fall it changes nothing, and is left out. Whether one fell.
+    pub fn data(&mut self, step: u32, object: u32, writes: bool) -> bool {
+        let (Some(found), Some(level)) = (self.state.object(object), self.state.subject(step)) else {
+            return false;
+        };
+        let lowers = match writes {
+            true => found.kind == Kind::Pipe && level < found.level,
+            false => found.level < level,
+        };
+        let Some(place) = self.hold(step, object, writes).filter(|_| lowers) else { return false };
+        let _ = self.make(match writes {
+            true => Call::Write { subject: step, place },
+            false => Call::Read { subject: step, place },
+        });
+        true
+    }
+
+    /// Whether some read or write of the step would lower somebody.
+    pub fn is_loud(&self, step: u32) -> bool {
+        let Some(level) = self.state.subject(step) else { return false };
+        (0..PLACES).any(|place| {
+            let Some(handle) = self.state.handle(step, place) else { return false };
+            let Some(object) = self.state.object(handle.object.into()) else { return false };
+            match handle.way {
+                Way::Writes => object.kind == Kind::Pipe && level < object.level,
+                Way::Reads | Way::Maps => object.level < level,
+            }
+        })
+    }
+
+    // Programs.
+
+    /// Handles that are marked and that the program would get all the same have their mark taken off: each is opened at
+    /// another place. False where there is no place for one.
+    pub fn unmark(&mut self, step: u32, held: &[Held]) -> bool {
+        for place in 0..PLACES {
+            let Some(handle) = self.state.handle(step, place).filter(|handle| handle.marked) else {
+                continue;
+            };
+            let object = usize::from(handle.object);
+            let writes = handle.way == Way::Writes;
+            let stays = |held: &Held| {
+                !held.ends && self.keys[object].is_some_and(|key| held.is(key, &self.paths[object], writes))
+            };
+            if held.iter().any(stays) && self.hold(step, object as u32, writes).is_none() {
+                let Some(free) = self.free_place(step) else { return false };
+                let call = Told::open_call(step, object as u32, free, writes);
+                if self.make(call).granted().is_err() {
+                    fail("a handle that is held cannot be opened again");
+                }
+            }
+        }
+        true
+    }
+
+    /// What an exec would end, by what the process holds.
+    pub fn ends(&self, step: u32, held: &[Held]) -> Ends {
+        let mut ends = Ends::default();
+        for place in 0..PLACES {
+            let Some(handle) = self.state.handle(step, place) else { continue };
+            let object = usize::from(handle.object);
+            let writes = handle.way == Way::Writes;
+            let is = |held: &&Held| {
+                self.keys[object].is_some_and(|key| held.is(key, &self.paths[object], writes))
+            };
+            let mut own = held.iter().filter(is).peekable();
+            if own.peek().is_none() {
+                ends.gone.push(place);
+            } else if !handle.marked && own.all(|held| held.ends) {
+                ends.marks.push(place);
+            }
+        }
+        ends
+    }
+
+    fn exec_calls(step: u32, files: &[u32], ends: &Ends) -> Vec<Call> {
+        let gone = ends.gone.iter().map(|&place| Call::Close { subject: step, place });
+        let marks = ends.marks.iter().map(|&place| Call::Mark { subject: step, place });
+        let runs = files.iter().map(|&object| Call::Exec { subject: step, object });
+        gone.chain(marks).chain(runs).collect()
+    }
+
+    /// Whether an exec of these files, a script and then its interpreter, would be granted; asked of a copy.
+    pub fn would_exec(&self, step: u32, files: &[u32], ends: &Ends) -> bool {
+        let mut copy = self.state.clone();
+        Told::exec_calls(step, files, ends).into_iter().all(|call| copy.call(call).granted().is_ok())
+    }
+
+    /// The exec for real; where it is refused, the call that was.
+    pub fn exec(&mut self, step: u32, files: &[u32], ends: &Ends) -> Result<(), Call> {
+        for call in Told::exec_calls(step, files, ends) {
+            if self.make(call).granted().is_err() {
+                return Err(call);
+            }
+        }
+        Ok(())
+    }
+}
+
+#[cfg(test)]
+mod tests {
+    use super::*;
+
+    fn told() -> Told {
+        let mut told = Told::new(Journal::none(), b"/run".to_vec());
+        told.admit(0, 15, "sh");
+        told
+    }
+
+    fn held(key: Key, reads: bool, writes: bool, ends: bool) -> Held {
+        Held { key, reads, writes, ends, path: None }
+    }
+
+    #[test]
+    fn one_handle_for_each_object_and_direction() {
+        let mut told = told();
+        let file = told.file((1, 1), 5, b"/f").unwrap();
+        assert_eq!(told.adds(0, file, true, true), 2);
+        assert!(told.would_open(0, file, true, false));
+        assert_eq!(told.open(0, file, true, true), Ok(()));
+        assert_eq!(told.open(0, file, true, true), Ok(()));
+        assert_eq!((told.adds(0, file, true, true), told.state.open()), (0, 2));
+        assert!(told.is_loud(0) && told.data(0, file, false) && !told.is_loud(0));
+        assert!(!told.data(0, file, false) && !told.data(0, file, true));
+    }
+
+    #[test]
+    fn what_is_gone_is_closed_and_a_chain_is_said() {
+        let mut told = told();
+        let (low, book) = (told.file((1, 1), 2, b"/low").unwrap(), told.file((1, 2), 9, b"/book").unwrap());
+        told.open(0, book, false, true).unwrap();
+        assert!(!told.would_open(0, low, true, false));
+        let call = told.open(0, low, true, false).unwrap_err();
+        assert_eq!(told.chain(call), "/low (level 2) → sh (level 15) → /book (level 9)");
+        told.put_right(0, &[held((1, 2), true, false, false)]);
+        assert!(told.would_open(0, low, true, false) && told.refused == 1);
+    }
+
+    #[test]
+    fn an_inode_that_is_used_again_is_another_file() {
+        let mut told = told();
+        let old = told.file((1, 7), 9, b"/old").unwrap();
+        told.open(0, old, false, true).unwrap();
+        let new = told.new_file(0, Some(2), b"/new").unwrap();
+        told.seat(new, (1, 7));
+        assert_eq!(told.number((1, 7)), Some(new));
+        told.put_right(0, &[held((1, 7), true, true, false)]);
+        assert_eq!(told.state.open(), 0);
+        // Held, and another level: there is no number for it.
+        told.open(0, new, true, false).unwrap();
+        assert_eq!(told.file((1, 7), 9, b"/new"), None);
+    }
+
+    #[test]
+    fn marks_come_from_what_is_held() {
+        let mut told = told();
+        let (low, book) = (told.file((1, 1), 2, b"/low").unwrap(), told.file((1, 2), 9, b"/book").unwrap());
+        told.open(0, book, false, true).unwrap();
+        let stays = told.ends(0, &[held((1, 2), false, true, true), held((1, 2), false, true, false)]);
+        assert!(!told.would_exec(0, &[low], &stays));
+        let ends = told.ends(0, &[held((1, 2), false, true, true)]);
+        assert!(told.would_exec(0, &[low], &ends));
+        let gone = told.ends(0, &[]);
+        assert!(told.would_exec(0, &[low], &gone));
+        // A refused exec leaves a mark; where the descriptor stays, it is taken off.
+        let other = told.file((1, 3), 9, b"/other").unwrap();
+        told.open(0, other, false, true).unwrap();
+        let both = told.ends(0, &[held((1, 2), false, true, true), held((1, 3), false, true, false)]);
+        assert!(told.exec(0, &[low], &both).is_err());
+        assert!(told.hold(0, book, true).is_none());
+        assert!(told.unmark(0, &[held((1, 2), false, true, false)]) && told.hold(0, book, true).is_some());
+    }
+
+    #[test]
+    fn numbers_are_found_again() {
+        let mut told = told();
+        for n in 0..200 {
+            let file = told.file((2, n), 15, b"/f").unwrap();
+            assert!(told.open(0, file, false, true).is_ok() && told.has_number());
+            told.put_right(0, &[]);
+        }
+        let many: Vec<u32> = (0..16).map(|n| told.file((3, n), 15, b"/f").unwrap()).collect();
+        assert!(many.iter().all(|&file| told.open(0, file, false, true).is_ok()));
+        assert!(!told.has_places(0, 1));
+    }
+}
