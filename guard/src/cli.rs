@@ -191,6 +191,10 @@ fn finish(guard: &Guard, arguments: &Arguments) -> Result<(), Failure> {
             Failure::Fault(format!("cannot write {}: {error}", shown(path.as_os_str().as_bytes())))
         })?;
     }
+    if guard.told.refused > 0 {
+        let word = if guard.is_dry { "would have been refused" } else { "refused" };
+        say(&format!("{} calls {word} in all", counted(guard.told.refused)));
+    }
     if guard.files.left_out > 0 {
         say(&format!(
             "NOT SEEN: {} opens of files that the levels file leaves out",

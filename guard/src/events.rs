@@ -94,7 +94,10 @@ impl Guard {
     /// A new thread or process.
     pub fn forked(&mut self, maker: Tid, child: Tid) {
         let process = process_of(child).unwrap_or(child);
-        self.tasks.insert(child, Task { process, runs: true, leaves: false });
+        // Its first stop may have come before: then it stands still until that is dealt with.
+        let is_parked = self.parked.remove(&child);
+        let runs = !is_parked && self.backlog.iter().all(|&(tid, _)| tid != child);
+        self.tasks.insert(child, Task { process, runs, leaves: false });
         if process == child {
             let parent = self.must_step(maker);
             // Its entry has seen to a number.
@@ -103,14 +106,13 @@ impl Guard {
             };
             self.told.fork(parent, number);
             self.counts.steps += 1;
-            self.steps.insert(child, Step { number, is_loud: false, is_over: false });
+            self.steps.insert(child, Step { number, loud: Default::default(), is_over: false });
         }
         self.settle(maker);
         if self.dead.remove(&child) {
             return self.ended(child, Stop::Killed(sys::SIGKILL));
         }
-        if self.parked.remove(&child) {
-            self.stopped(child);
+        if is_parked {
             self.resume(child, 0);
         }
     }

@@ -32,6 +32,24 @@ pub struct Told {
     behind: Vec<Call>,
 }
 
+/// The objects on which a step is loud, a bit for each number.
+#[derive(Clone, Copy, Debug, Default, PartialEq, Eq)]
+pub struct Loud {
+    reads: u64,
+    writes: u64,
+}
+
+impl Loud {
+    pub fn is_quiet(self) -> bool {
+        self == Loud::default()
+    }
+
+    /// Whether there is an object on which it was not before.
+    pub fn exceeds(self, before: Loud) -> bool {
+        self.reads & !before.reads != 0 || self.writes & !before.writes != 0
+    }
+}
+
 /// What a step would do to its handles at an exec.
 #[derive(Clone, Debug, Default)]
 pub struct Ends {
@@ -324,17 +342,20 @@ impl Told {
         true
     }
 
-    /// Whether some read or write of the step would lower somebody.
-    pub fn is_loud(&self, step: u32) -> bool {
-        let Some(level) = self.state.subject(step) else { return false };
-        (0..PLACES).any(|place| {
-            let Some(handle) = self.state.handle(step, place) else { return false };
-            let Some(object) = self.state.object(handle.object.into()) else { return false };
-            match handle.way {
-                Way::Writes => object.kind == Kind::Pipe && level < object.level,
-                Way::Reads | Way::Maps => object.level < level,
-            }
-        })
+    /// The objects that a read or a write of the step would lower somebody on.
+    pub fn loud(&self, step: u32) -> Loud {
+        let mut loud = Loud::default();
+        let Some(level) = self.state.subject(step) else { return loud };
+        for place in 0..PLACES {
+            let Some(handle) = self.state.handle(step, place) else { continue };
+            let Some(object) = self.state.object(handle.object.into()) else { continue };
+            let (set, lowers) = match handle.way {
+                Way::Writes => (&mut loud.writes, object.kind == Kind::Pipe && level < object.level),
+                Way::Reads | Way::Maps => (&mut loud.reads, object.level < level),
+            };
+            *set |= u64::from(lowers) << handle.object;
+        }
+        loud
     }
 
     // Programs.
@@ -429,7 +450,7 @@ mod tests {
         assert_eq!(told.open(0, file, true, true), Ok(()));
         assert_eq!(told.open(0, file, true, true), Ok(()));
         assert_eq!((told.adds(0, file, true, true), told.state.open()), (0, 2));
-        assert!(told.is_loud(0) && told.data(0, file, false) && !told.is_loud(0));
+        assert!(!told.loud(0).is_quiet() && told.data(0, file, false) && told.loud(0).is_quiet());
         assert!(!told.data(0, file, false) && !told.data(0, file, true));
     }
 

@@ -20,19 +20,19 @@ int main(int count, char **words)
         sprintf(name, "many/%d", n);
         printf("after closes: %s\n", open(name, O_WRONLY | O_CREAT, 0644) < 0 ? strerror(errno) : "open");
     } else if (!strcmp(what, "files")) {
-        int p[2]; if (pipe(p)) return 2;
+        int p[2], told[2]; if (pipe(p) || pipe(told)) return 2;
         for (int s = 0; s < 8; s++)
             if (!fork()) {
                 for (int i = 0; i < 9; i++) {
                     sprintf(name, "many/%d-%d", s, i);
-                    if (open(name, O_WRONLY | O_CREAT, 0644) < 0) { if (write(p[1], &errno, 4) != 4) _exit(1); break; }
+                    if (open(name, O_WRONLY | O_CREAT, 0644) < 0) { if (write(told[1], &errno, 4) != 4) _exit(1); break; }
                 }
-                close(p[1]); char c; if (read(p[0], &c, 1) < 0) _exit(1); _exit(0);
+                close(told[1]); close(p[1]); char c; if (read(p[0], &c, 1) < 0) _exit(1); _exit(0);
             }
-        usleep(300000); close(p[1]);
-        int e = 0; if (read(p[0], &e, 4) != 4) e = 0;
-        errno = e; said("files of all steps", 0);
-        while (wait(0) > 0) if (0) break;
+        close(told[1]);
+        int e = 0; if (read(told[0], &e, 4) != 4) e = 0;
+        close(p[1]); while (wait(0) > 0) ;
+        errno = e; said("files of all steps", 64);
     } else {
         int p[2]; if (pipe(p)) return 2;
         for (n = 0; n < 100; n++) { pid_t c = fork(); if (c < 0) break; if (!c) { char x; close(p[1]); if (read(p[0], &x, 1) < 0) _exit(1); _exit(0); } }
