@@ -102,11 +102,22 @@ impl Told {
             let _ = self.bytes.call(call);
         }
         let links = gk_chain::behind(&self.bytes, call.code(), call.numbers());
-        let name = |link: &gk_chain::Link| match link.thing {
-            Thing::Step(s) => format!("{} (level {})", self.program(s), link.level),
-            Thing::Object(o) => format!("{} (level {})", self.object_name(o), link.level),
+        // Pipes between steps go without saying; levels are those of the two ends.
+        let last = links.len().saturating_sub(1);
+        let is_said = |at: usize| at == 0 || at == last || links[at].kind != Some(Kind::Pipe);
+        let name = |at: usize| {
+            let name = match links[at].thing {
+                Thing::Step(s) => self.program(s).to_string(),
+                Thing::Object(o) => self.object_name(o),
+            };
+            let is_end = at == 0 || at == last;
+            if is_end {
+                format!("{name} (level {})", links[at].level)
+            } else {
+                name
+            }
         };
-        links.iter().map(name).collect::<Vec<_>>().join(" → ")
+        (0..links.len()).filter(|&at| is_said(at)).map(name).collect::<Vec<_>>().join(" → ")
     }
 
     // Steps.
@@ -461,7 +472,7 @@ mod tests {
         told.open(0, book, false, true).unwrap();
         assert!(!told.would_open(0, low, true, false));
         let call = told.open(0, low, true, false).unwrap_err();
-        assert_eq!(told.chain(call), "/low (level 2) → sh (level 15) → /book (level 9)");
+        assert_eq!(told.chain(call), "/low (level 2) → sh → /book (level 9)");
         told.put_right(0, &[held((1, 2), true, false, false)]);
         assert!(told.would_open(0, low, true, false) && told.refused == 1);
     }
@@ -509,8 +520,10 @@ mod tests {
             assert!(told.open(0, file, false, true).is_ok() && told.has_number());
             told.put_right(0, &[]);
         }
-        let many: Vec<u32> = (0..16).map(|n| told.file((3, n), 15, b"/f").unwrap()).collect();
-        assert!(many.iter().all(|&file| told.open(0, file, false, true).is_ok()));
+        for n in 0..16 {
+            let file = told.file((3, n), 15, b"/f").unwrap();
+            assert!(told.open(0, file, false, true).is_ok());
+        }
         assert!(!told.has_places(0, 1));
     }
 }
