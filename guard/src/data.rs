@@ -39,9 +39,12 @@ impl Guard {
     pub fn enters(&mut self, tid: Tid, info: &CallInfo) {
         let step = self.must_step(tid);
         if renumbers(info.number, &info.arguments) {
-            // A thread on its way to that number begins its call again.
-            if let Some(process) = self.tasks.get(&tid).map(|task| task.process) {
+            // Other threads stand still until it is done: one on its way to that number begins its call again, and none
+            // is looked at before.
+            let process = self.tasks.get(&tid).map_or(tid, |task| task.process);
+            if self.threads(process).len() > 1 {
                 self.halt_others(process, tid);
+                self.see_through(tid);
             }
             return;
         }
