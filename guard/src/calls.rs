@@ -120,9 +120,9 @@ const QUIET: &[(i32, &[u32])] = &[
     // clone3 keeps its flags in memory, where no filter sees them: the C library goes on with clone.
     (ENOSYS, &[435]),
     (ENOTTY, &[IOCTL]),
-    // Attributes that carry contents; inotify, pidfd_open, landlock: programs do without.
+    // Attributes that carry contents; inotify, epoll, pidfd_open, landlock: programs do without.
     (EOPNOTSUPP, &[188, 189, 190, 191, 192, 193, 194, 195, 196, 197, 198, 199, 463, 464, 465, 466]),
-    (ENOSYS, &[253, 254, 255, 294, 434, 444, 445, 446, 451]),
+    (ENOSYS, &[253, 254, 255, 294, 213, 291, 434, 444, 445, 446, 451]),
 ];
 
 /// Calls that are refused, and why.
@@ -133,8 +133,8 @@ const REFUSED: &[(i32, &str, &[u32])] = &[
         MESSAGES,
         &[
             41, 42, 43, 44, 45, 46, 47, 48, 49, 50, 53, 54, 288, 299, 307, 64, 65, 66, 220, 68, 69, 70, 71,
-            240, 241, 242, 243, 244, 245, 248, 249, 250, 284, 290, 283, 286, 287, 213, 214, 215, 232, 233,
-            281, 291, 441, 129, 297, 424, 300, 301,
+            240, 241, 242, 243, 244, 245, 248, 249, 250, 284, 290, 283, 286, 287, 214, 215, 232, 233, 281,
+            441, 129, 297, 424, 300, 301,
         ],
     ),
     (EPERM, OTHERS, &[101, 310, 311, 312, 438, 440, 448, 256, 279, 274, 298]),
@@ -254,7 +254,6 @@ pub fn name(call: u32) -> String {
         (161, "chroot"),
         (165, "mount"),
         (206, "io_setup"),
-        (213, "epoll_create"),
         (240, "mq_open"),
         (250, "keyctl"),
         (259, "mknodat"),
@@ -263,7 +262,6 @@ pub fn name(call: u32) -> String {
         (283, "timerfd_create"),
         (284, "eventfd"),
         (290, "eventfd2"),
-        (291, "epoll_create1"),
         (293, "pipe2"),
         (302, "prlimit64"),
         (304, "open_by_handle_at"),

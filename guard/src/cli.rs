@@ -5,8 +5,9 @@ use std::fs;
 use std::io::{self, Write};
 use std::os::fd::AsFd;
 use std::os::unix::ffi::{OsStrExt, OsStringExt};
-use std::path::PathBuf;
+use std::path::{Path, PathBuf};
 
+use gk_names::files::{replaces, REPLACES};
 use gk_trace::{counted, Levels, LONGEST_FILE, TOP};
 
 use crate::files::Files;
@@ -151,6 +152,12 @@ fn run(arguments: Arguments) -> Result<i32, Failure> {
         .map_err(|error| Failure::Fault(format!("cannot find the folder: {error}")))?;
     let folder = folder.into_os_string().into_vec();
     let mut files = Files::new(levels, folder.clone());
+    let outputs: Vec<PathBuf> =
+        arguments.journal.iter().flat_map(|path| [path.clone(), gk_names::beside(path)]).collect();
+    let outputs: Vec<&Path> = outputs.iter().chain(&arguments.replies).map(PathBuf::as_path).collect();
+    if replaces(&outputs, &[arguments.levels.as_deref().unwrap_or(Path::new(""))]) {
+        return Err(Failure::Usage(REPLACES.to_string()));
+    }
     let journal = match &arguments.journal {
         None => Ok(Journal::none()),
         Some(path) => Journal::create(path).map_err(|error| {

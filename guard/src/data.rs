@@ -51,9 +51,14 @@ impl Guard {
         let (from, to) = ends(info.number, &info.arguments);
         let mut has_fallen = false;
         for (descriptor, writes) in [(from, false), (to, true)] {
-            let Some(key) = descriptor.and_then(|number| key_of(tid, number as i32)) else { continue };
-            if let Some(object) = self.told.number(key) {
-                has_fallen |= self.told.data(step, object, writes);
+            let Some(number) = descriptor else { continue };
+            match key_of(tid, number as i32) {
+                Ok(key) => {
+                    if let Some(object) = key.and_then(|key| self.told.number(key)) {
+                        has_fallen |= self.told.data(step, object, writes);
+                    }
+                }
+                Err(_) => self.end(tid, "what it reads or writes cannot be looked at"),
             }
         }
         if has_fallen {

@@ -81,9 +81,9 @@ impl Guard {
         if let Outcome::Back(0) = self.see_through(tid) {
             let mut ends = [0u8; 4];
             let is_read = sys::memory(tid, info.arguments[0], &mut ends) == 4;
-            match key_of(tid, i32::from_le_bytes(ends)).filter(|_| is_read) {
-                Some(key) => self.told.pipe(step, key),
-                None => self.end(process, "a pipe of it cannot be looked at"),
+            match key_of(tid, i32::from_le_bytes(ends)) {
+                Ok(Some(key)) if is_read => self.told.pipe(step, key),
+                _ => self.end(process, "a pipe of it cannot be looked at"),
             }
             self.settle(tid);
         }
