@@ -22,7 +22,11 @@ int main(int count, char **words)
     long n = atol(words[2]);
     static char bytes[4096];
     double start = 0;
-    if (!strcmp(what, "open")) {
+    if (!strcmp(what, "open") || !strcmp(what, "loud")) {
+        /* a step that has read the file is as low as it: no read of it changes anything any more */
+        int first = open(file, O_RDONLY);
+        if (first < 0 || (*what == 'o' && read(first, bytes, 1) != 1)) fail(file);
+        close(first);
         start = now();
         for (long i = 0; i < n; i++) { int f = open(file, O_RDONLY); if (f < 0) fail(file); close(f); }
     } else if (!strcmp(what, "read")) {

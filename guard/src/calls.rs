@@ -3,6 +3,8 @@
 //! A call that is not named here is refused. `Free` are those that move no contents of files from one step to another
 //! but through handles that are held; what they may carry besides (names, sizes, times, signals) is said on the page.
 
+use std::sync::OnceLock;
+
 /// What becomes of a call.
 #[derive(Clone, Copy, Debug, PartialEq, Eq)]
 pub enum Rule {
@@ -160,8 +162,13 @@ const fn case(call: u32, argument: u32, mask: u32, value: u32, rule: Rule) -> Ca
     Case { call, argument, mask, value, rule }
 }
 
-/// The cases of a call, in the order in which they are tried.
-pub fn cases() -> Vec<Case> {
+/// The cases of all calls, in the order in which they are tried.
+pub fn cases() -> &'static [Case] {
+    static CASES: OnceLock<Vec<Case>> = OnceLock::new();
+    CASES.get_or_init(all_cases)
+}
+
+fn all_cases() -> Vec<Case> {
     let refused = |why| Rule::Refused(EPERM, why);
     let mut cases = vec![
         case(CLONE, 0, CLONE_UNTRACED, CLONE_UNTRACED, refused(FOLLOWED)),
