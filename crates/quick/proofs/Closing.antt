@@ -1,4 +1,4 @@
--- A close that changes no need and ends no pipe, on a monitor's parts. Assumes nothing.
+-- A close on a monitor's parts: refused, left where its ends do not tell that no need changes or where it ends a pipe, and done else. Assumes nothing.
 use mathlib.Core.Path.{_≡_, refl, sym, _∙_, ap, ap₂, subst, subst₂}
 use mathlib.Core.Bool.{Bool, true, false, not, _&&_, _||_, cond}
 use mathlib.Core.Logic.{_⊎_, inl, inr}

@@ -1,4 +1,4 @@
--- A call on a sure monitor that is refused, and one that is allowed and counts one handle. Assumes nothing.
+-- A call on a sure monitor that is refused, and one that is allowed and counts one handle; what was done is settled. Assumes nothing.
 use mathlib.Core.Path.{_≡_, refl, sym, _∙_, ap, subst}
 use mathlib.Core.List.{List}
 use Prim.Native.Nat.{ℕ, _+_, _*_, _<_}

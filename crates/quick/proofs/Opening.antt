@@ -1,4 +1,5 @@
--- An open whose flow falls by the kept needs, on a monitor's parts. Assumes nothing.
+-- An open on a monitor's parts: refused by a row over records or by the freeze, left where its flow does not fall by the kept needs, done where it does.
+-- Assumes nothing.
 use mathlib.Core.Path.{_≡_, refl, sym, _∙_, ap, ap₂, subst, subst₂}
 use mathlib.Core.Bool.{Bool, true, false, not, _||_}
 use mathlib.Core.Logic.{inl, inr}
