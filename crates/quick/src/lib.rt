@@ -163,16 +163,6 @@ fn are_whole(subjects: usize, objects: usize, handles: usize, needs: usize, coun
     counts == 2
 }
 
-// A handle of this way and object is on object o.
-fn is_on(way: u8, object: u8, o: u8) -> bool
-    ensures { λ r. ⌜ r ≡ cond (eqb way 0) false (eqb object o) ⌝ }
-{
-    if way == EMPTY {
-        return false;
-    }
-    object == o
-}
-
 // A handle other than that at index `at` is on object o. It looks from there on, and then from the front.
 fn is_beside(handles: &[u8], o: u8, at: usize) -> bool
     requires { ⌜ (length (now handles) ≡ 1536) × (at < 512) ⌝ }
@@ -185,7 +175,11 @@ fn is_beside(handles: &[u8], o: u8, at: usize) -> bool
         let way = handles[first];
         let next = first + 1;
         let object = handles[next];
-        if is_on(way, object, o) {
+        if object != o {
+            k += 1;
+            continue;
+        }
+        if way != EMPTY {
             return true;
         }
         k += 1;
