@@ -424,6 +424,7 @@ GATEKEEPER_MUST_USE
 GATEKEEPER_INLINE uint32_t gatekeeper_monitor_step(struct gatekeeper_monitor *monitor, uint32_t code, uint32_t a,
                                                    uint32_t b, uint32_t c, uint32_t d, uint32_t e, uint32_t f)
 {
+    /* tools/step writes this: from here */
     uint32_t answer = 0;
     if (code == GATEKEEPER_OPEN_READ || code == GATEKEEPER_OPEN_WRITE)
         answer = gatekeeper_quick_open(GATEKEEPER_PART(monitor->subjects), GATEKEEPER_PART(monitor->objects),
@@ -434,6 +435,7 @@ GATEKEEPER_INLINE uint32_t gatekeeper_monitor_step(struct gatekeeper_monitor *mo
                                         GATEKEEPER_PART(monitor->handles), monitor->needs, sizeof monitor->needs,
                                         monitor->counts, 2, monitor->freeze, monitor->sure, a, b);
     return answer != 0 ? answer : gatekeeper_monitor_call(monitor, code, a, b, c, d, e, f);
+    /* tools/step writes this: to here */
 }
 #undef GATEKEEPER_PART
 

@@ -125,12 +125,15 @@ impl State {
     /// touched, where it is not that simple.
     #[inline]
     fn quick(&mut self, code: u32, numbers: [u32; 6]) -> u32 {
+        // tools/step writes this: from here
         let [a, b, c, ..] = numbers;
         match code {
             OPEN_READ | OPEN_WRITE => archive::quick_open(self, code, a, b, c),
             CLOSE => archive::quick_close(self, a, b),
             _ => 0,
         }
+        // tools/step writes this: to here
+    }
     }
 
     /// Handles made over all calls, modulo 2 to the 64th.
