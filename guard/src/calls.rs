@@ -32,6 +32,7 @@ pub struct Case {
 pub const EPERM: i32 = 1;
 pub const ENOENT: i32 = 2;
 pub const EIO: i32 = 5;
+pub const ENXIO: i32 = 6;
 pub const EAGAIN: i32 = 11;
 pub const EACCES: i32 = 13;
 pub const EFAULT: i32 = 14;
@@ -98,7 +99,8 @@ const SYSTEM: &str = "it changes the system and not the run";
 const FIFO: &str = "named pipes and devices that a step makes are not followed";
 const UNKNOWN: &str = "the guard does not know this call";
 
-/// Calls that the kernel carries out: on memory and handles that the step has, on names and attributes, on itself.
+/// Calls that the kernel carries out: on memory and handles that the step has, on names and attributes, on itself. setuid
+/// and its kin are among them: the guard runs only where each would leave a step as it is.
 const FREE: &[u32] = &[
     0, 1, 3, 4, 5, 6, 7, 8, 9, 10, 11, 12, 13, 14, 15, 17, 18, 19, 20, 21, 23, 24, 25, 26, 27, 28, 32, 33,
     34, 35, 36, 37, 38, 39, 40, 51, 52, 55, 60, 61, 62, 63, 72, 73, 74, 75, 77, 78, 79, 80, 81, 83, 84, 87,
@@ -108,7 +110,7 @@ const FREE: &[u32] = &[
     217, 218, 219, 221, 222, 223, 224, 225, 226, 228, 229, 230, 231, 234, 235, 237, 238, 239, 247, 251,
     252, 258, 260, 261, 262, 263, 266, 267, 268, 269, 270, 271, 273, 275, 276, 277, 280, 282, 285, 289,
     292, 295, 296, 302, 306, 309, 314, 315, 317, 318, 324, 325, 326, 327, 328, 329, 330, 331, 332, 334,
-    436, 439, 449, 452, 454, 455, 456, 462,
+    436, 439, 449, 452, 454, 455, 456, 462, 105, 106, 113, 114, 117, 119, 122, 123,
 ];
 
 /// Calls that the guard carries out.
@@ -146,7 +148,7 @@ const REFUSED: &[(i32, &str, &[u32])] = &[
         ELSEWHERE,
         &[303, 304, 134, 161, 155, 165, 166, 272, 308, 428, 429, 430, 431, 432, 433, 442, 467],
     ),
-    (EPERM, RIGHTS, &[105, 106, 113, 114, 116, 117, 119, 122, 123, 126]),
+    (EPERM, RIGHTS, &[116, 126]),
     (EPERM, FIFO, &[133, 259]),
     (
         EPERM,
@@ -249,11 +251,7 @@ pub fn name(call: u32) -> String {
         (68, "msgget"),
         (72, "fcntl"),
         (101, "ptrace"),
-        (105, "setuid"),
-        (106, "setgid"),
         (116, "setgroups"),
-        (117, "setresuid"),
-        (119, "setresgid"),
         (126, "capset"),
         (129, "rt_sigqueueinfo"),
         (133, "mknod"),

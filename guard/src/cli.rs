@@ -147,6 +147,11 @@ fn run(arguments: Arguments) -> Result<i32, Failure> {
                        ordinary user, as: setpriv --reuid 65534 --regid 65534 --clear-groups guard …";
         return Err(Failure::Fault(message.to_string()));
     }
+    if !proc::is_one_user() {
+        let message =
+            "not with the rights of two users or groups: a step could change from one to the other";
+        return Err(Failure::Fault(message.to_string()));
+    }
     let levels = read_levels(&arguments)?;
     let folder = fs::canonicalize(".")
         .map_err(|error| Failure::Fault(format!("cannot find the folder: {error}")))?;

@@ -221,7 +221,7 @@ impl Guard {
         let level = match self.files.standing(&seen.path, &seen.meta, is_proc, false) {
             Standing::At(level) => level,
             Standing::Out => gk_trace::TOP,
-            Standing::Harmless => return Err(Errno(EACCES)),
+            Standing::Absent | Standing::Harmless => return Err(Errno(EACCES)),
             Standing::No(why) => return Err(refused(self, why)),
         };
         let Ok(file) = seen.open(0) else {

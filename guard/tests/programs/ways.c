@@ -105,8 +105,8 @@ int main(int count, char **words)
     SAY("chroot", chroot("."));
     SAY("mount", syscall(165, "none", ".", "tmpfs", 0, 0));
     SAY("setns", syscall(308, 0, 0));
-    SAY("setuid", setuid(getuid()));
-    SAY("setgid", setgid(getgid()));
+    SAY("setuid", setuid(0));
+    SAY("setgroups", syscall(116, 0, 0));
     SAY("mkfifo", fifo());
     SAY("xattr", syscall(188, ".", "user.x", "y", 1, 0));
     SAY("lease", fcntl(0, F_SETLEASE, F_RDLCK));
