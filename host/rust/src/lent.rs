@@ -134,7 +134,6 @@ impl State {
         }
         // tools/step writes this: to here
     }
-    }
 
     /// Handles made over all calls, modulo 2 to the 64th.
     pub fn made(&self) -> u64 {
