@@ -11,7 +11,7 @@
  *
  * What a host owes each function: a pointer has the given number of bytes behind it, or a whole struct, and is not null
  * even where that number is 0; a struct lies as its type is aligned; no two buffers of one call overlap; and no other
- * thread uses what is lent meanwhile. The functions keep nothing, allocate nothing and always return.
+ * thread uses what is lent meanwhile. Every function returns.
  */
 #ifndef GATEKEEPER_H
 #define GATEKEEPER_H

@@ -1,5 +1,6 @@
 // A monitor and its tally as a struct that a host keeps and lends, in place of the lent bytes (RULES S1, H12, H23, H24): nothing is parsed at a call, and nothing
-// laid out. It has bytes and two numbers of 64 bits, each value of which is one, so that a host can hand in nothing wrong.
+// laid out. It has bytes and two numbers of 64 bits, each value of which is one, so that every value is a state. What can be false of it is what it says of itself
+// (RULES F19).
 ghost use mathlib.Core.List.{[], _∷_};
 ghost use Rattle.gatekeeper.specs.View.{direct};
 ghost use Rattle.quick.specs.Parts.{Tried};
