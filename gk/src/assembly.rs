@@ -9,10 +9,10 @@
 
 mod words;
 
-use crate::calls::{shape_of_word, Role, Shape, SHAPES};
 use crate::names::{Kind, Name, Names};
-use crate::records::{write_any, Records};
 use crate::text::{meant, shown};
+use gk_advice::calls::{shape_of_word, Role, Shape, SHAPES};
+use gk_advice::records::{write_any, Records};
 use words::fault;
 pub use words::{words_of, Fault, Word};
 

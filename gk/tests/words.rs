@@ -161,7 +161,7 @@ fn every_journal_comes_back_with_names() {
     };
     for (name, journal) in journals() {
         let mut names = Names::new();
-        let records = gk::records::Records::new(&journal).count() as u64;
+        let records = gk_advice::records::Records::new(&journal).count() as u64;
         for _ in 0..60 {
             let kind = Kind::ALL[drawn(3) as usize];
             let called = ["a", "b 2", "c", "d", "e-5", "f"][drawn(6) as usize];

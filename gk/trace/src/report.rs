@@ -3,6 +3,11 @@
 use std::collections::BTreeMap;
 
 use gatekeeper::{Answer, Call};
+use gk_advice::calls::shape_of_code;
+use gk_advice::refused::of_record;
+use gk_advice::run::Run;
+use gk_advice::scene::Past;
+use gk_names::Names;
 
 use crate::text::{counted, shown};
 
@@ -125,6 +130,9 @@ struct Refused {
     count: u64,
     /// The first of them: the file or pipe, and the line of the trace.
     first: Vec<(String, u64)>,
+    /// The record of the first one, and what is said of it.
+    record: u64,
+    told: Vec<String>,
 }
 
 /// Refusals of a kind that are named.
@@ -148,14 +156,34 @@ impl Report {
     /// A call on this file or pipe, by a step that runs this program, is refused.
     pub fn refused(&mut self, program: &str, code: u32, what: String, line: u64) {
         let is_same = |kind: &Refused| kind.program == program && kind.code == code;
+        let record = self.made.values().sum();
         let index = self.refused.iter().position(is_same).unwrap_or_else(|| {
-            self.refused.push(Refused { program: program.to_string(), code, count: 0, first: Vec::new() });
+            let (program, first, told) = (program.to_string(), Vec::new(), Vec::new());
+            self.refused.push(Refused { program, code, count: 0, first, record, told });
             self.refused.len() - 1
         });
         let kind = &mut self.refused[index];
         kind.count += 1;
         if kind.first.len() < MOST_REFUSED {
             kind.first.push((what, line));
+        }
+    }
+
+    /// Says of the first refusal of each kind what `gk explain` says of it: its title and the first way out.
+    pub fn tell(&mut self, journal: &[u8], names: &Names) {
+        let mut past = Past::default();
+        for step in Run::new(journal) {
+            let kinds: Vec<&mut Refused> =
+                self.refused.iter_mut().filter(|kind| kind.record == step.position).collect();
+            if !kinds.is_empty() {
+                let refused = of_record(&step, past.before(&step, names), past.closing);
+                let told = refused.map_or(Vec::new(), |refused| {
+                    let way = refused.counsel.ways.first().map(|way| format!("What to do: {}", way.text));
+                    std::iter::once(refused.title).chain(way).collect()
+                });
+                kinds.into_iter().for_each(|kind| kind.told.clone_from(&told));
+            }
+            past.follow(&step);
         }
     }
 
@@ -190,7 +218,7 @@ impl Report {
             text.push_str(&wrapped(&format!("  written: {}", kinds.join(", "))));
         }
         text.push_str(&format!("  answers: {allowed} allowed, {lowered} lowered, {refused} refused\n"));
-        for Refused { program, code, count, first } in &self.refused {
+        for Refused { program, code, count, first, record, told } in &self.refused {
             let named: Vec<String> =
                 first.iter().map(|(what, line)| format!("{what} (line {line})")).collect();
             let more = count - first.len() as u64;
@@ -198,6 +226,10 @@ impl Report {
             let (program, kind) = (shown(program.as_bytes()), kind(*code));
             let (count, named) = (counted(*count), named.join(", "));
             text.push_str(&wrapped(&format!("  {count:>9}  refused: {program}, {kind} of {named}{more}")));
+            if !told.is_empty() {
+                let indent = " ".repeat(INDENT);
+                text.push_str(&wrapped(&format!("{indent}Record {record}: {}", told.join(" "))));
+            }
         }
         if let Some(line) = self.stopped_at {
             text.push_str(&format!("  read up to line {line}, as --until says\n"));
@@ -251,28 +283,9 @@ fn wrapped(line: &str) -> String {
 const MOST_COLUMNS: usize = 110;
 const INDENT: usize = 13;
 
+/// The word of a call.
 fn kind(code: u32) -> &'static str {
-    const KINDS: [&str; 18] = [
-        "",
-        "admit",
-        "register",
-        "create",
-        "pipe",
-        "open-read",
-        "open-write",
-        "read",
-        "write",
-        "fork",
-        "exec",
-        "close",
-        "exit",
-        "retire",
-        "map",
-        "mark",
-        "freeze",
-        "connect",
-    ];
-    KINDS.get(code as usize).copied().unwrap_or("other")
+    shape_of_code(code).map_or("other", |shape| shape.word)
 }
 
 #[cfg(test)]

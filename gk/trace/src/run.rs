@@ -77,7 +77,9 @@ pub fn journal_of(
     }
     let mut names = std::mem::take(&mut world.journal.names);
     world.files.name_pipes(&mut names);
-    Ok(Written { journal: world.journal.bytes().to_vec(), names: names.text(), report: world.report })
+    let journal = world.journal.bytes().to_vec();
+    world.report.tell(&journal, names.given());
+    Ok(Written { journal, names: names.text(), report: world.report })
 }
 
 struct Reader<'a, T> {

@@ -10,7 +10,7 @@ mod places;
 
 use gatekeeper::{Answer, Call, Monitor, Refusal, NO_FREEZE};
 
-use crate::explain::scene::{listed, Scene};
+use crate::scene::{listed, Closing, Scene};
 use crate::things::{is_frozen, Held, HIGHEST};
 
 /// Things of a kind that are named one by one.
@@ -56,20 +56,6 @@ pub fn or_above(level: u32) -> String {
         level.to_string()
     } else {
         format!("{level} or above")
-    }
-}
-
-/// The freeze that is set, and the record that set it.
-#[derive(Clone, Copy, Debug, PartialEq, Eq)]
-pub struct Closing {
-    pub level: u8,
-    pub record: u64,
-}
-
-impl Closing {
-    /// To follow "the books are" or "they were".
-    pub fn words(self) -> String {
-        format!("closed from level {} up since record {}", self.level, self.record)
     }
 }
 
@@ -137,6 +123,11 @@ fn aim(monitor: &Monitor, call: Call) -> Option<Vec<Call>> {
 fn aim_after(monitor: &Monitor, first: &[Call], call: Call) -> Option<Vec<Call>> {
     let then = aim(&tried(monitor, first).ok()?, call)?;
     Some(first.iter().copied().chain(then).collect())
+}
+
+/// The least level from which on, up to the highest, there are calls; and those of that level.
+fn from_level(calls_at: impl Fn(u32) -> Option<Vec<Call>>) -> Option<(u32, Vec<Call>)> {
+    (0..=HIGHEST).rev().map_while(|level| calls_at(level).map(|calls| (level, calls))).last()
 }
 
 /// Whether the calls of an [`aim`] open the books.

@@ -5,7 +5,7 @@ use gatekeeper::{Call, NO_FREEZE};
 use super::closing::handle_words;
 use super::{aim, aim_after, close_calls, once_open, refusal_of, refused_words, some_of, tried, Counsel};
 use crate::calls::{number_of, with_number};
-use crate::explain::scene::Scene;
+use crate::scene::Scene;
 use crate::things::{handles_on, is_file, is_pipe, objects, steps, Held, HIGHEST, OBJECTS, STEPS};
 
 /// The same call with each of some numbers in the place of the one that is called so: those that are let through, and
