@@ -315,8 +315,9 @@ impl World<'_> {
                 let pipes = OBJECTS as usize - files;
                 self.stop(format!(
                     "{wanted} would be the 65th file or pipe that is open at once, and the gatekeeper has numbers for \
-                     64 ({files} files and {pipes} pipes are open). Leave files out: a line with the word out in the \
-                     levels file; or trace a part of the run"
+                     64 ({files} files and {pipes} pipes are open). Let the run open fewer files at once, or trace a \
+                     part of it (--until {}): a file that is left out is not seen",
+                    self.line - 1
                 ))
             }
         }

@@ -43,6 +43,6 @@ mod world;
 
 pub use cli::main;
 pub use levels::{Fault, Levels};
-pub use report::Report;
+pub use report::{Report, Verdict};
 pub use run::{journal_of, Failure, Written};
 pub use world::{Options, Stop};
