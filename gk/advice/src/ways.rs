@@ -130,6 +130,27 @@ fn from_level(calls_at: impl Fn(u32) -> Option<Vec<Call>>) -> Option<(u32, Vec<C
     (0..=HIGHEST).rev().map_while(|level| calls_at(level).map(|calls| (level, calls))).last()
 }
 
+/// The lowest level at which there are calls, the highest up to which there are at all between, and the calls of the
+/// lowest.
+fn between_levels(calls_at: impl Fn(u32) -> Option<Vec<Call>>) -> Option<(u32, u32, Vec<Call>)> {
+    let (low, calls) = (0..=HIGHEST).find_map(|level| calls_at(level).map(|calls| (level, calls)))?;
+    let high = (low..=HIGHEST).take_while(|&level| calls_at(level).is_some()).last()?;
+    Some((low, high, calls))
+}
+
+/// These levels, and what a level means to who gives one.
+fn level_words(low: u32, high: u32) -> String {
+    match (low, high) {
+        (0, HIGHEST) => "at any level".to_string(),
+        (_, HIGHEST) => format!("at level {}", or_above(low)),
+        _ if low == high => format!("at level {low}"),
+        _ => format!("at level {low} to {high}"),
+    }
+}
+
+/// Said where a thing from outside is to get a level.
+const NO_HIGHER: &str = "A level says how well a thing has been looked over: give it no higher one.";
+
 /// Whether the calls of an [`aim`] open the books.
 fn opens_books(calls: &[Call]) -> bool {
     calls.contains(&Call::Freeze { level: NO_FREEZE })

@@ -29,6 +29,9 @@ impl Advised {
             let Some((kind, lists)) = read(call, &text, &turn.before) else {
                 panic!("nothing in these words can be followed: {at}");
             };
+            if let ("admit first" | "register first", Some(lowest)) = (kind, lists.first()) {
+                self.is_lowest(&turn.before, lowest, &at);
+            }
             for calls in lists {
                 // "… once the books are open again": before the open that the freeze is in the way of.
                 let opens = |call: &Call| matches!(call, Call::OpenWrite { .. });
@@ -39,6 +42,24 @@ impl Advised {
                 assert!(is_allowed(&turn.before, &calls), "{at}, as {calls:?}");
             }
             *self.0.entry(kind).or_insert(0) += 1;
+        }
+    }
+
+    /// That a thing from outside is proposed no higher a level than it needs.
+    fn is_lowest(&self, monitor: &Monitor, calls: &[Call], at: &str) {
+        let lower = |call: &Call, by: u32| {
+            let level = number_of(*call, "level")
+                .filter(|_| matches!(call, Call::Admit { .. } | Call::Register { .. }));
+            level.map_or(*call, |level| with_number(*call, "level", level - by))
+        };
+        let level = calls.iter().find_map(|call| number_of(*call, "level")).unwrap_or(0);
+        for by in 1..=level {
+            let calls: Vec<Call> = calls.iter().map(|call| lower(call, by)).collect();
+            let opened: Vec<Call> = [&[OPEN], &calls[..]].concat();
+            assert!(
+                !is_allowed(monitor, &calls) && !is_allowed(monitor, &opened),
+                "{at}: {by} less is enough"
+            );
         }
     }
 
@@ -126,11 +147,16 @@ fn frees(text: &str) -> Vec<Call> {
     closes(text).into_iter().chain(retired).collect()
 }
 
-/// From a level on, as "12 or above"; one level alone is that one.
+/// The levels of "at level 12 or above", "at level 0 to 9", "at any level", or "at level 9", which is one.
 fn levels(text: &str) -> std::ops::RangeInclusive<u32> {
+    if text.contains("at any level") {
+        return 0..=HIGHEST;
+    }
     let least = behind(text, "at level ").expect("a level");
-    let is_more = text.contains(&format!("at level {least} or above"));
-    least..=if is_more { HIGHEST } else { least }
+    if text.contains(&format!("at level {least} or above")) {
+        return least..=HIGHEST;
+    }
+    least..=behind(text, &format!("at level {least} to ")).unwrap_or(least)
 }
 
 type Lists = Vec<Vec<Call>>;

@@ -7,8 +7,10 @@ use gk_advice::calls::shape_of_code;
 use gk_advice::refused::of_record;
 use gk_advice::run::Run;
 use gk_advice::scene::Past;
+use gk_advice::things::Thing;
 use gk_names::Names;
 
+use crate::files::Files;
 use crate::text::{counted, shown};
 
 /// Why something of the trace is not in the journal.
@@ -236,8 +238,9 @@ impl Report {
         }
     }
 
-    /// Says of the first refusal of each kind what `gk explain` says of it: its title and the first way out.
-    pub fn tell(&mut self, journal: &[u8], names: &Names) {
+    /// Says of the first refusal of each kind what `gk explain` says of it: its title and the first way out; and where
+    /// a file at an end of its chain has its level from `else` alone, that.
+    pub fn tell(&mut self, journal: &[u8], names: &Names, files: &Files) {
         let mut past = Past::default();
         for step in Run::new(journal) {
             let kinds: Vec<&mut Refused> =
@@ -245,8 +248,18 @@ impl Report {
             if !kinds.is_empty() {
                 let refused = of_record(&step, past.before(&step, names), past.closing);
                 let told = refused.map_or(Vec::new(), |refused| {
+                    let ends = [
+                        refused.chain.first().map(|end| (end, false)),
+                        refused.chain.last().map(|end| (end, true)),
+                    ];
+                    let unlisted =
+                        ends.into_iter().flatten().filter_map(|((link, _), is_high)| match link.thing {
+                            Thing::Object(object) => files.unlisted(object, step.position, is_high),
+                            Thing::Step(_) => None,
+                        });
+                    let unlisted: Vec<String> = unlisted.collect();
                     let way = refused.counsel.ways.first().map(|way| format!("What to do: {}", way.text));
-                    std::iter::once(refused.title).chain(way).collect()
+                    std::iter::once(refused.title).chain(unlisted).chain(way).collect()
                 });
                 kinds.into_iter().for_each(|kind| kind.told.clone_from(&told));
             }

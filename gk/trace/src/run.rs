@@ -89,7 +89,7 @@ pub fn journal_of(
     let mut names = std::mem::take(&mut world.journal.names);
     world.files.name_pipes(&mut names);
     let journal = world.journal.bytes().to_vec();
-    world.report.tell(&journal, names.given());
+    world.report.tell(&journal, names.given(), &world.files);
     Ok(Written { journal, names: names.text(), report: world.report })
 }
 

@@ -123,6 +123,40 @@ fn a_trace_without_what_every_run_does_was_filtered() {
     is_clear("1 pipe([3, 4]) = 0\n1 write(4, \"\", 1) = 1");
 }
 
+/// A file behind a refusal whose level nobody has given: that is said, and the line.
+#[test]
+fn a_level_from_else_behind_a_refusal_is_said() {
+    let lines = [
+        "1 getcwd(\"/run\", 9) = 5",
+        &open("low1", "O_RDONLY", 3),
+        "1 read(3, \"\", 9) = 9",
+        &open("/tmp/sortAb1", "O_RDWR|O_CREAT|O_EXCL", 4),
+    ]
+    .join("\n");
+    let said = |levels: &str| {
+        let (found, report) = verdict(&lines, levels);
+        (found, report.split_whitespace().collect::<Vec<_>>().join(" "))
+    };
+    let (found, report) = said(LEVELS);
+    assert_eq!(found, Verdict::Refused);
+    let words = "No line of the levels file names /tmp/sortAb1: it has level 15 from the line else. Give it a line, \
+                 as: /tmp/* step (a file that the run makes has the level of its maker).";
+    assert!(report.contains(words), "{report}");
+    // With that line nothing is refused, and with a line of its own nothing is said of else.
+    let (found, report) = said(&format!("/tmp/* step\n{LEVELS}"));
+    assert_eq!(found, Verdict::Clear, "{report}");
+    let (found, report) = said(&format!("/tmp/* 15\n{LEVELS}"));
+    assert!(found == Verdict::Refused && !report.contains("No line of the levels file"), "{report}");
+    // The low end of a chain, where else is low.
+    let lines = [open("low1", "O_RDONLY", 3), open("high", "O_WRONLY", 4)].join("\n");
+    let (_, report) = verdict(&lines, "high* 12\nelse 3\n");
+    let report = report.split_whitespace().collect::<Vec<_>>().join(" ");
+    assert!(
+        report.contains("names low1: it has level 3 from the line else. Give it a line, as: low1 LEVEL."),
+        "{report}"
+    );
+}
+
 /// More files at once than a step has places: the advice is never to leave out what decides, and who does so all the
 /// same gets no all-clear.
 #[test]
