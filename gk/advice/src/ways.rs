@@ -131,10 +131,12 @@ fn from_level(calls_at: impl Fn(u32) -> Option<Vec<Call>>) -> Option<(u32, Vec<C
 }
 
 /// The lowest level at which there are calls, the highest up to which there are at all between, and the calls of the
-/// lowest.
+/// lowest. Where these do not open the books, those between do not, either.
 fn between_levels(calls_at: impl Fn(u32) -> Option<Vec<Call>>) -> Option<(u32, u32, Vec<Call>)> {
     let (low, calls) = (0..=HIGHEST).find_map(|level| calls_at(level).map(|calls| (level, calls)))?;
-    let high = (low..=HIGHEST).take_while(|&level| calls_at(level).is_some()).last()?;
+    let is_like =
+        |level: &u32| calls_at(*level).is_some_and(|others| opens_books(&others) == opens_books(&calls));
+    let high = (low..=HIGHEST).take_while(is_like).last()?;
     Some((low, high, calls))
 }
 
