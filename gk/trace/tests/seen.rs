@@ -148,8 +148,9 @@ fn a_level_from_else_behind_a_refusal_is_said() {
     let (found, report) = said(&format!("/tmp/* 15\n{LEVELS}"));
     assert!(found == Verdict::Refused && !report.contains("No line of the levels file"), "{report}");
     // The low end of a chain, where else is low.
-    let lines = [open("low1", "O_RDONLY", 3), open("high", "O_WRONLY", 4)].join("\n");
-    let (_, report) = verdict(&lines, "high* 12\nelse 3\n");
+    let lines = ["1 getcwd(\"/run\", 9) = 5", &open("low1", "O_RDONLY", 3), &open("high", "O_WRONLY", 4)]
+        .join("\n");
+    let (_, report) = verdict(&lines, "high* 12\n/lib/** 15\n/bin/** 15\nelse 3\n");
     let report = report.split_whitespace().collect::<Vec<_>>().join(" ");
     assert!(
         report.contains("names low1: it has level 3 from the line else. Give it a line, as: low1 LEVEL."),
