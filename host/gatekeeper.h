@@ -172,7 +172,7 @@ GATEKEEPER_INLINE const char *gatekeeper_refusal_text(uint32_t refusal)
 {
     switch (refusal) {
     case GATEKEEPER_UNKNOWN_CODE: return "no call has this code";
-    case GATEKEEPER_NO_SUBJECT: return "the step that asks is not there";
+    case GATEKEEPER_NO_SUBJECT: return "the step that asks, or is to be connected, is not there";
     case GATEKEEPER_NUMBER_TAKEN: return "the number for the new thing cannot be used";
     case GATEKEEPER_NO_OBJECT: return "the file or pipe is not there";
     case GATEKEEPER_IS_PIPE: return "a pipe cannot be run, retired or mapped";

@@ -9,10 +9,10 @@
 
 mod words;
 
-use crate::calls::{shape_of_word, Role, Shape, SHAPES};
 use crate::names::{Kind, Name, Names};
-use crate::records::{write_any, Records};
 use crate::text::{meant, shown};
+use gk_advice::calls::{shape_of_word, Role, Shape, SHAPES};
+use gk_advice::records::{write_any, Records};
 use words::fault;
 pub use words::{words_of, Fault, Word};
 
@@ -93,17 +93,20 @@ impl Assembler {
             };
             numbers.push(self.number(word, name, role, &usage)?);
         }
-        if let Some(word) = words.get(shape.numbers.len()) {
-            let given: Vec<&str> = words.iter().map(|word| word.text).collect();
-            return Err(fault(
-                word.column,
-                &format!("expected the end of the line, found \"{}\"", shown(word.text)),
-                &format!(
-                    "Type: {usage}. For a record with numbers left over: call {} {}",
-                    shape.code,
-                    shown(&given.join(" "))
-                ),
-            ));
+        if let Some((word, _)) = words.get(shape.numbers.len()..).and_then(<[Word]>::split_first) {
+            let more = words[shape.numbers.len()..].iter().map(|word| decimal(*word, "", "").ok());
+            let advice = match more.collect::<Option<Vec<u32>>>() {
+                // What is advised assembles: names are numbers there.
+                Some(more) if more.len() <= MOST_LEFT_OVER => {
+                    let all: Vec<String> = numbers.iter().chain(&more).map(u32::to_string).collect();
+                    let (code, all) = (shape.code, all.join(" "));
+                    format!("Type: {usage}. For a record with numbers left over: call {code} {all}")
+                }
+                Some(_) => format!("Type: {usage}"),
+                None => format!("Type: {usage}. A comment starts with #"),
+            };
+            let found = format!("expected the end of the line, found \"{}\"", shown(word.text));
+            return Err(fault(word.column, &found, &advice));
         }
         write_any(shape.code, &numbers, &mut self.journal);
         Ok(())
@@ -272,6 +275,9 @@ impl Assembler {
         Ok(())
     }
 }
+
+/// Numbers left over that are written out in an advice.
+const MOST_LEFT_OVER: usize = 10;
 
 fn decimal(word: Word, what: &str, usage: &str) -> Result<u32, Fault> {
     let is_decimal = !word.is_quoted && word.text.chars().all(|character| character.is_ascii_digit());

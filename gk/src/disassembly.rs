@@ -6,9 +6,9 @@
 
 use gatekeeper::{Call, JOURNAL_BYTES};
 
-use crate::calls::{shape_of_code, Role};
 use crate::names::{Entry, Kind, Name, Names};
-use crate::records::{all_numbers, body_words, length_words, Body, Records};
+use gk_advice::calls::{shape_of_code, Role};
+use gk_advice::records::{all_numbers, body_words, length_words, Body, Records};
 
 /// A record with more numbers than this is shown as bytes.
 const MOST_NUMBERS: usize = 8;

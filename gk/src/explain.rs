@@ -2,24 +2,22 @@
 //! where it was refused, and what can be done about it.
 
 mod alike;
-mod asked;
 pub mod json;
 mod outcome;
-mod refused;
-pub mod scene;
 pub mod summary;
 
-use gatekeeper::{Answer, Call, Monitor};
+use gatekeeper::{Answer, Monitor};
+use gk_advice::asked;
+use gk_advice::refused::{of_record, Refused};
+use gk_advice::run::{agrees, Content, Run, Step};
+use gk_advice::scene::{Past, Scene};
+use gk_advice::things::Thing;
+use gk_advice::ways::Counsel;
 use gk_chain::Link;
 
-use crate::advice::{Closing, Counsel};
 use crate::names::Names;
-use crate::run::{agrees, Content, Run, Step};
 use crate::text::{paragraph, wrapped};
-use crate::things::Thing;
 use alike::Alike;
-use refused::{refused, Refused};
-use scene::{Lives, Scene};
 
 /// What is said of a record.
 pub struct Told {
@@ -71,16 +69,14 @@ pub fn tell(
 struct Moment<'a> {
     step: &'a Step,
     names: &'a Names,
-    lives: &'a Lives,
-    closing: Option<Closing>,
+    past: &'a Past,
 }
 
 /// Goes through a journal record by record, as [`tell`] does.
 fn look(journal: &[u8], names: &Names, which: Which, mut each: impl FnMut(Moment)) -> Result<End, Differs> {
     let mut end = End::default();
     let mut lines = String::new();
-    let mut lives = Lives::default();
-    let mut closing: Option<Closing> = None;
+    let mut past = Past::default();
     let mut run = Run::new(journal);
     for step in &mut run {
         lines.push_str(&step.line());
@@ -91,13 +87,9 @@ fn look(journal: &[u8], names: &Names, which: Which, mut each: impl FnMut(Moment
             Answer::Refused(_) => end.refused += 1,
         }
         if which == Which::All || step.refusal().is_some() {
-            each(Moment { step: &step, names, lives: &lives, closing });
+            each(Moment { step: &step, names, past: &past });
         }
-        lives.follow(&step);
-        if let (Content::Call(Call::Freeze { .. }), None) = (step.content, step.refusal()) {
-            let frozen_from = step.after.frozen_from();
-            closing = frozen_from.map(|level| Closing { level, record: step.position });
-        }
+        past.follow(&step);
     }
     let monitor: &Monitor = run.monitor();
     (end.made, end.gone, end.open) = (monitor.made(), monitor.gone(), monitor.open());
@@ -113,8 +105,7 @@ fn look(journal: &[u8], names: &Names, which: Which, mut each: impl FnMut(Moment
 impl<'a> Moment<'a> {
     /// The tables before the record.
     fn before(&self) -> Scene<'a> {
-        let Moment { step, names, lives, .. } = *self;
-        Scene { monitor: &step.before, record: step.position, names, lives, unnamed: None }
+        self.past.before(self.step, self.names)
     }
 
     /// What is said of the record.
@@ -133,27 +124,27 @@ impl<'a> Moment<'a> {
             Content::Call(call) => asked::names_in(call, before),
             _ => Vec::new(),
         };
-        match (step.content, step.refusal()) {
-            (Content::Call(call), Some(refusal)) => {
-                let Refused { title, facts, chain, counsel } = refused(call, refusal, before, self.closing);
-                Told { title, names, facts, chain, counsel, step }
+        if let Some(refused) = of_record(&step, before, self.past.closing) {
+            let Refused { title, answer, mut facts, chain, counsel } = refused;
+            match facts.first_mut() {
+                Some(first) => *first = format!("{answer} {first}"),
+                None if !answer.is_empty() => facts.push(answer),
+                None => {}
             }
-            (Content::Call(call), None) => {
-                let title = format!("{}.", asked::asked(call, before, true));
-                let mut facts = outcome::outcome(call, before, &step.after, self.closing);
-                let letter =
-                    if matches!(step.answer, Answer::Lowered(_)) { "Lowered." } else { "Allowed." };
-                match facts.first_mut() {
-                    Some(first) => *first = format!("{letter} {first}"),
-                    None => facts.push(letter.to_string()),
-                }
-                Told { title, names, facts, chain: Vec::new(), counsel: Counsel::default(), step }
-            }
-            (content, _) => {
-                let (title, facts, counsel) = refused::no_call(content);
-                Told { title, names, facts, chain: Vec::new(), counsel, step }
-            }
+            return Told { title, names, facts, chain, counsel, step };
         }
+        let Content::Call(call) = step.content else {
+            let (title, facts) = (String::new(), Vec::new());
+            return Told { title, names, facts, chain: Vec::new(), counsel: Counsel::default(), step };
+        };
+        let title = format!("{}.", asked::asked(call, before, true));
+        let mut facts = outcome::outcome(call, before, &step.after, self.past.closing);
+        let letter = if matches!(step.answer, Answer::Lowered(_)) { "Lowered." } else { "Allowed." };
+        match facts.first_mut() {
+            Some(first) => *first = format!("{letter} {first}"),
+            None => facts.push(letter.to_string()),
+        }
+        Told { title, names, facts, chain: Vec::new(), counsel: Counsel::default(), step }
     }
 }
 

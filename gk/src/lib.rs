@@ -2,28 +2,20 @@
 //!
 //! Every answer is the proved gatekeeper's: each record's call is made on `gatekeeper::Monitor`, which calls the proved
 //! archive, and levels, kinds, handles and the freeze are asked of it. What is worked out here, and not proved, is the
-//! wording, the chain behind a refusal 9 ([`gk_chain`]) and the search for a way out ([`advice`]); each way out has been
-//! tried on a copy of the monitor before it is given.
+//! wording, the chain behind a refusal 9 ([`gk_chain`]) and the search for a way out ([`gk_advice`]); each way out has
+//! been tried on a copy of the monitor before it is given.
 //!
 //! | module | has |
 //! |---|---|
 //! | [`cli`], [`help`] | the commands, in one table, and their help |
 //! | [`names`] | names for steps, files and pipes, and the file that keeps them |
-//! | [`calls`], [`records`] | the words of the calls; a journal cut into records |
 //! | [`assembly`], [`disassembly`] | journals as text |
-//! | [`run`] | a journal answered record by record |
-//! | [`advice`] | ways out of a refusal, which were tried |
 //! | [`explain`] | all of it in sentences, as a summary, or as JSON |
 
-pub mod advice;
 pub mod assembly;
-pub mod calls;
 pub mod cli;
 pub mod disassembly;
 pub mod explain;
 pub mod help;
 pub mod names;
-pub mod records;
-pub mod run;
 pub mod text;
-pub mod things;

@@ -5,13 +5,13 @@ mod common;
 
 use common::journals;
 use gatekeeper::{Answer, Call, Monitor, Refusal, NO_FREEZE};
-use gk::advice::Advice;
-use gk::calls::with_number;
 use gk::explain::{tell, Told, Which};
 use gk::names::Names;
-use gk::records::{Body, Records};
-use gk::run::Content;
-use gk::things::{handles, handles_on, is_file, is_pipe, Held, Thing};
+use gk_advice::calls::with_number;
+use gk_advice::records::{Body, Records};
+use gk_advice::run::Content;
+use gk_advice::things::{handles, handles_on, is_file, is_pipe, Held, Thing};
+use gk_advice::ways::Advice;
 
 /// A refusal of a stored journal, with the monitor before it.
 struct Case {

@@ -452,7 +452,8 @@ Step 1, from record 4 to the end.
   Held nothing.
   Never refused.
 Asked by no step that was there.
-  Refused at record 11: Step 7 may not read at place 0 (2, the step that asks is not there).
+  Refused at record 11: Step 7 may not read at place 0 (2, the step that asks, or is to be
+    connected, is not there).
   Refused at record 12: The freeze is not set to 17 (6, the level is above 15, or a freeze above
     16).
   Refused at record 13: no call (12, the record is not well formed).

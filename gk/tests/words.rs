@@ -102,6 +102,27 @@ fn a_fault_is_shown_with_its_line() {
     assert!(message.contains("    \tadmit\t0 x\n    \t     \t  ^\n"), "{message}");
 }
 
+/// What is advised for words that are left over assembles as it stands, or is no line to type at all.
+#[test]
+fn what_is_advised_for_words_left_over_assembles() {
+    let advised = |text: &str| {
+        let (_, _, message) = wrong(text);
+        message.split_once("numbers left over: ").map(|(_, line)| line.to_string())
+    };
+    assert_eq!(advised("register 1 2 7").as_deref(), Some("call 2 1 2 7"));
+    let named = advised("name file 9 \"pay book\"\nregister \"pay book\" 2 3 4").unwrap();
+    assert_eq!(named, "call 2 9 2 3 4");
+    for line in ["call 2 1 2 7", &named] {
+        assert!(assemble(line.as_bytes()).is_ok(), "{line}");
+    }
+    for text in ["register 1 2 // comment", "register 1 2 -- 3", "exit 1 and then"] {
+        assert_eq!(advised(text), None, "{text}");
+        assert!(wrong(text).2.ends_with("A comment starts with #"), "{}", wrong(text).2);
+    }
+    let many = format!("exit 1 {}", "7 ".repeat(400));
+    assert_eq!(advised(&many), None);
+}
+
 #[test]
 fn a_journal_that_will_be_refused_is_written_with_a_word() {
     let line = b"admit 0 9\n";
@@ -161,7 +182,7 @@ fn every_journal_comes_back_with_names() {
     };
     for (name, journal) in journals() {
         let mut names = Names::new();
-        let records = gk::records::Records::new(&journal).count() as u64;
+        let records = gk_advice::records::Records::new(&journal).count() as u64;
         for _ in 0..60 {
             let kind = Kind::ALL[drawn(3) as usize];
             let called = ["a", "b 2", "c", "d", "e-5", "f"][drawn(6) as usize];

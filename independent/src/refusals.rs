@@ -14,7 +14,7 @@ use crate::variants::Rules;
 pub fn meaning(number: u32) -> &'static str {
     match number {
         1 => "no call has this code",
-        2 => "the step that asks is not there",
+        2 => "the step that asks, or is to be connected, is not there",
         3 => "the number for the new thing cannot be used",
         4 => "the file or pipe is not there",
         5 => "a pipe cannot be run, retired or mapped",

@@ -85,8 +85,8 @@ function unpacked(text, at) {
 
 /** A record by its position, with the fields of its list named. */
 function record(position) {
-  const [letter, value, code, changes, asked, why, ways, changed, about, chain, sought] = RECORDS[position - 1];
-  const said = { asked, why, ways, changed, about, chain: pairs(chain), sought: pairs(sought) };
+  const [letter, value, code, changes, asked, why, ways, notes, changed, about, chain, sought] = RECORDS[position - 1];
+  const said = { asked, why, ways, notes, changed, about, chain: pairs(chain), sought: pairs(sought) };
   return { position, letter, value, code, changes, ...said };
 }
 
@@ -154,10 +154,10 @@ function nameOf(plain, position) {
 
 const KINDS = { s: "step", f: "file", p: "pipe", o: "file or pipe" };
 
-/** A text with a capital. */
+/** A text at the front of a sentence: with a capital, but that a name stays as it is, an article at its front apart. */
 function capital(text) {
-  const [first = "", ...rest] = text;
-  return first.toUpperCase() + rest.join("");
+  const isFront = /^(?:(?:step|file|pipe|file or pipe) \d|(?:the|an?) )/.test(text);
+  return isFront ? text[0].toUpperCase() + text.slice(1) : text;
 }
 
 /** A phrase written out: its words, with the numbers put in. */
@@ -176,7 +176,7 @@ function text(phrase, position) {
     const name = nameOf(plain, position);
     return name ? `${name} (${plain})` : plain;
   });
-  return capital(written);
+  return DATA.words[phrase[0]].startsWith("{") ? capital(written) : written;
 }
 
 /** Rising numbers in short: "1 to 4, 7". */

@@ -32,7 +32,7 @@ function answerWords({ letter, value }) {
   return letter === "L" ? `↓ Lowered: level ${value} now` : `✓ Allowed, level ${value}`;
 }
 
-const NOTHING = { letter: "", chain: [], sought: [], about: [], why: [], ways: [], changed: [] };
+const NOTHING = { letter: "", chain: [], sought: [], about: [], why: [], ways: [], notes: [], changed: [] };
 
 function show(position) {
   const to = Math.min(LAST, Math.max(0, Math.round(position) || 0));
@@ -87,8 +87,9 @@ function showSaid(to, said, state) {
   byId("answer").className = said.letter || "none";
   showChain(to, said, state);
   items(byId("why"), said.why.map((phrase) => text(phrase, to)));
-  items(byId("ways"), said.ways.map((phrase) => text(phrase, to)));
-  byId("ways-part").hidden = said.ways.length === 0;
+  const notes = said.notes.map((phrase) => made("li", text(phrase, to), "note"));
+  byId("ways").replaceChildren(...said.ways.map((phrase) => made("li", text(phrase, to))), ...notes);
+  byId("ways-part").hidden = said.ways.length + said.notes.length === 0;
   const nothing = said.letter === "R" ? "Nothing: a refused call changes nothing." : "No level, no handle and no need.";
   items(byId("changed"), said.changed.length > 0 ? said.changed.map((phrase) => text(phrase, to)) : [nothing]);
   byId("changed-part").hidden = isStart;

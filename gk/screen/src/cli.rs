@@ -5,15 +5,14 @@ use std::io::{self, IsTerminal, Read, Write};
 use std::path::Path;
 
 use gatekeeper::{replay, JOURNAL_BYTES};
+use gk_advice::run::Run;
 use gk_names::files::{is_input_open, INPUT_CLOSED};
 use gk_names::Fault;
 
 use crate::follow::follow;
-use crate::names::Names;
 use crate::page::page;
-use crate::records::Run;
 use crate::state::State;
-use crate::terminal::Screen;
+use crate::terminal::{Screen, MOST_REFUSALS};
 use crate::text::{meant, shown};
 
 const HELP: &str = "\
@@ -190,7 +189,7 @@ fn perform(wish: &Wish) -> Result<(), Failure> {
         return follow(path, Screen::new(shown(&title), names, State::empty()), is_coloured);
     }
     let journal = read(path, JOURNAL_BYTES as u64 + 1)?;
-    let records = checked(&journal)?;
+    let (records, refused) = checked(&journal)?;
     if let Some(at) = wish.at.filter(|&at| at > records) {
         return Err(Failure::Usage(format!("there is no record {at}: the journal has {records}")));
     }
@@ -201,30 +200,36 @@ fn perform(wish: &Wish) -> Result<(), Failure> {
         return write(page(&journal, &title, &names, wish.at).as_bytes());
     }
     let mut screen = Screen::new(shown(&title), names, State::empty());
-    let mut run = Run::new();
-    for _ in 0..wish.at.unwrap_or(records) {
-        if let Some(turn) = run.next(&journal) {
+    let last = wish.at.unwrap_or(records);
+    let shown = refused.iter().rev().skip_while(|&&position| position > last).take(MOST_REFUSALS);
+    let first = shown.last().copied().unwrap_or(last);
+    for turn in Run::new(&journal).take_while(|turn| turn.position <= last) {
+        if turn.position < first {
+            screen.pass(&turn);
+        } else {
             screen.take(&turn);
         }
     }
     write(screen.text(Some(records), None, is_coloured, None).as_bytes())
 }
 
-/// How many records a journal has; and that the archive's replay of it is, byte for byte, what its calls answer here.
-fn checked(journal: &[u8]) -> Result<u64, Failure> {
-    let mut run = Run::new();
+/// How many records a journal has, and which are refused; and that the archive's replay of it is, byte for byte, what its calls answer here.
+fn checked(journal: &[u8]) -> Result<(u64, Vec<u64>), Failure> {
+    let mut run = Run::new(journal);
     let mut text = String::new();
     let mut records = 0;
-    while let Some(turn) = run.next(journal) {
+    let mut refused = Vec::new();
+    for turn in &mut run {
         text.push_str(&turn.line());
         text.push('\n');
         records = turn.position;
+        refused.extend(turn.refusal().map(|_| records));
     }
-    let end = run.monitor();
-    text.push_str(&format!("end {} {} {}\n", end.made(), end.gone(), end.open()));
+    text.push_str(&run.end_line());
+    text.push('\n');
     let reply = replay(journal);
     if text == reply {
-        return Ok(records);
+        return Ok((records, refused));
     }
     let same = text.lines().zip(reply.lines()).take_while(|(one, other)| one == other).count();
     Err(Failure::Failed(format!(
@@ -240,14 +245,14 @@ fn looks_like_text(journal: &[u8]) -> bool {
 }
 
 /// The names of the file that is asked for, or of the one beside the journal.
-fn names(wish: &Wish, path: &str) -> Result<Names, Failure> {
+fn names(wish: &Wish, path: &str) -> Result<gk_names::Names, Failure> {
     let beside = gk_names::beside(Path::new(path));
     let (file, is_asked) = match &wish.names {
         Some(file) => (file.clone(), true),
         None if path != "-" && beside.is_file() && beside != Path::new(path) => {
             (beside.to_string_lossy().into_owned(), false)
         }
-        None => return Ok(Names::default()),
+        None => return Ok(gk_names::Names::new()),
     };
     let wrong = |fault: Fault| match fault {
         Fault::Unread(error) => Failure::Failed(format!("cannot read '{}': {error}", shown(&file))),
@@ -256,11 +261,11 @@ fn names(wish: &Wish, path: &str) -> Result<Names, Failure> {
     if is_asked && Path::new(&file).is_dir() {
         return Err(Failure::Failed(format!("cannot read '{}': it is a folder", shown(&file))));
     }
-    let read = gk_names::Names::load(Path::new(&file)).map(|names| Names::given(&names)).map_err(wrong);
+    let read = gk_names::Names::load(Path::new(&file)).map_err(wrong);
     match read {
         Err(Failure::Failed(message)) if !is_asked => {
             remark(&format!("shown without names: {message}"));
-            Ok(Names::default())
+            Ok(gk_names::Names::new())
         }
         read => read,
     }

@@ -7,9 +7,9 @@ use std::thread::sleep;
 use std::time::Duration;
 
 use gatekeeper::JOURNAL_BYTES;
+use gk_advice::run::{Content, Growing, Next};
 
 use crate::cli::{open, unread, write, Failure};
-use crate::records::{Body, Next, Run};
 use crate::terminal::Screen;
 
 /// How often a file is looked at.
@@ -21,7 +21,7 @@ const TOP: &str = "\u{1b}[H\u{1b}[2J";
 pub fn follow(path: &str, mut screen: Screen, is_coloured: bool) -> Result<(), Failure> {
     let is_terminal = io::stdout().is_terminal();
     let mut source = Source::of(path)?;
-    let mut run = Run::new();
+    let mut run = Growing::new();
     let mut journal = Vec::new();
     let mut notice = None;
     let mut is_first = true;
@@ -30,16 +30,16 @@ pub fn follow(path: &str, mut screen: Screen, is_coloured: bool) -> Result<(), F
         let mut lines = String::new();
         let mut is_over = more == More::End;
         let now = loop {
-            let next = match run.next_growing(&journal) {
-                Next::Unfinished if more == More::End => run.break_off(),
+            let next = match run.next(&journal) {
+                Next::Unfinished if more == More::End => run.break_off(&journal),
                 // What was read of the record that is not whole belongs to a journal that is gone.
                 Next::Unfinished if more == More::Cut => Next::End,
                 next => next,
             };
             match next {
-                Next::Turn(turn) => {
+                Next::Step(turn) => {
                     lines.push_str(&screen.take(&turn));
-                    if matches!(turn.body, Body::Broken { .. }) {
+                    if matches!(turn.content, Content::Stop(..)) {
                         is_over = true;
                         break Some("The journal is broken here: nothing behind it is read.");
                     }

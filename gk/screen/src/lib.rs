@@ -1,25 +1,24 @@
 //! The duty screen: a pay run to look at, in the terminal and as a page for a browser.
 //!
 //! What it shows comes from the proved archive through the crate `gatekeeper`: records and answers, levels, kinds,
-//! handles, needs and the freeze. It works none of that out. Only the chain behind a refusal 9 is looked for, by
-//! `gk_chain`, and is said to be not proved; a way out of a 9 is tried on a copy of the monitor before it is named.
+//! handles, needs and the freeze. It works none of that out. What is said of a refusal, the ways out and the chain
+//! behind a 9 are those of `gk_advice`, word for word as `gk explain` has them; the screen has no advice of its own.
 //!
 //! ```text
 //! cli ── follow ──┐
-//!  ├── terminal ──┼── told ── words, refused, flow, gk_chain
+//!  ├── terminal ──┼── told ── words, gk_advice, gk_chain
 //!  └── page ──────┘    └── phrase ── names
-//!        └── order          records, state ── the archive
+//!        └── order                   state ── the archive
 //! ```
 
+#[cfg(test)]
+mod advised;
 mod cli;
-mod flow;
 mod follow;
 mod names;
 mod order;
 mod page;
 mod phrase;
-mod records;
-mod refused;
 mod state;
 mod terminal;
 mod text;

@@ -5,11 +5,11 @@ use std::collections::HashMap;
 use std::fmt::Write;
 
 use gatekeeper::{Kind, Refusal, Way, NO_FREEZE};
+use gk_advice::run::{letter_and_value, Run, Step};
 
 use crate::names::Names;
 use crate::order::Joins;
 use crate::phrase::Phrase;
-use crate::records::{letter_and_value, Run, Turn};
 use crate::state::{State, Thing, OBJECTS, PLACES, STEPS};
 use crate::told::{Memory, Told};
 
@@ -19,7 +19,7 @@ const SCRIPTS: [&str; 3] =
     [include_str!("../page/run.js"), include_str!("../page/graph.js"), include_str!("../page/view.js")];
 
 /// The page of a journal, which opens at a record: at this one, or else at the first refusal.
-pub fn page(journal: &[u8], title: &str, names: &Names, at: Option<u64>) -> String {
+pub fn page(journal: &[u8], title: &str, names: &gk_names::Names, at: Option<u64>) -> String {
     let data = data(journal, names, at);
     let script = SCRIPTS.join("\n");
     let mut page = String::with_capacity(data.len() + script.len() + STYLE.len() + PAGE.len());
@@ -75,16 +75,16 @@ fn quoted(text: &str) -> String {
 }
 
 /// The run as numbers.
-fn data(journal: &[u8], names: &Names, at: Option<u64>) -> String {
-    let mut names = names.clone();
+fn data(journal: &[u8], names: &gk_names::Names, at: Option<u64>) -> String {
+    let mut memory = Memory::new(names.clone());
+    let mut names = Names::given(names);
     let mut words = Words::default();
     let mut joins = Joins::new();
     let mut records = String::new();
-    let mut run = Run::new();
-    let mut memory = Memory::default();
+    let mut run = Run::new(journal);
     let mut state = State::of(run.monitor());
     let mut since = 0;
-    while let Some(turn) = run.next(journal) {
+    for turn in &mut run {
         let before = state.clone();
         if turn.before != turn.after {
             joins.hold(&state, since, turn.position - since);
@@ -152,16 +152,17 @@ impl Words {
     }
 }
 
-/// A record: letter, value, code, changes, what is asked, why, ways out, what changed, about whom, chain, flows sought.
-fn record(turn: &Turn, told: &Told, changes: &str, words: &mut Words) -> String {
+/// A record: letter, value, code, changes, what is asked, why, ways out, notes on them, what changed, about whom, chain,
+/// flows sought.
+fn record(turn: &Step, told: &Told, changes: &str, words: &mut Words) -> String {
     let (letter, value) = letter_and_value(turn.answer);
     let asked = words.phrase(&told.asked);
-    let (why, ways, changed) =
-        (words.phrases(&told.why), words.phrases(&told.ways), words.phrases(&told.changed));
+    let [why, ways, notes, changed] =
+        [&told.why, &told.ways, &told.notes, &told.changed].map(|part| words.phrases(part));
     let about: Vec<String> = told.about.iter().filter_map(|&thing| index(thing)).collect();
     let mut fields = vec![format!(
-        "\"{letter}\",{value},{},\"{changes}\",{asked},{why},{ways},{changed},[{}]",
-        turn.body.code(),
+        "\"{letter}\",{value},{},\"{changes}\",{asked},{why},{ways},{notes},{changed},[{}]",
+        turn.code,
         about.join(",")
     )];
     if !told.chain.is_empty() {

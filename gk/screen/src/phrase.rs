@@ -1,9 +1,11 @@
 //! Sentences with numbers in them. The terminal writes them out; the page keeps the words of each once, and for each
 //! record only the numbers, so that nothing but numbers gets from a journal into the page.
 
+use std::borrow::Cow;
 use std::fmt::Write;
 
 use gatekeeper::Kind;
+use gk_advice::scene::capital;
 
 use crate::names::Names;
 use crate::state::State;
@@ -11,7 +13,7 @@ use crate::state::State;
 /// A piece of a sentence.
 #[derive(Clone, Debug, PartialEq, Eq)]
 pub enum Piece {
-    Words(&'static str),
+    Words(Cow<'static, str>),
     Step(u32),
     File(u32),
     Pipe(u32),
@@ -28,7 +30,7 @@ pub struct Phrase(pub Vec<Piece>);
 
 impl From<&'static str> for Piece {
     fn from(words: &'static str) -> Piece {
-        Piece::Words(words)
+        Piece::Words(Cow::Borrowed(words))
     }
 }
 
@@ -71,16 +73,33 @@ pub fn object(o: u32, state: &State) -> Piece {
     }
 }
 
+/// A digit's run of at most so many is a number; a longer one stays a word.
+const MOST_DIGITS: usize = 15;
+
 impl Phrase {
-    /// Joins phrases with words between them.
-    pub fn joined(parts: Vec<Phrase>, between: &'static str) -> Phrase {
+    /// A text of `gk_advice` as it stands, its numbers apart from its words.
+    pub fn of_text(text: &str) -> Phrase {
         let mut pieces = Vec::new();
-        for (index, part) in parts.into_iter().enumerate() {
-            if index > 0 {
-                pieces.push(Piece::Words(between));
+        let mut words = String::new();
+        let mut rest = text;
+        while let Some(start) = rest.find(|letter: char| letter.is_ascii_digit()) {
+            let digits = rest[start..].find(|letter: char| !letter.is_ascii_digit());
+            let end = digits.map_or(rest.len(), |digits| start + digits);
+            let run = &rest[start..end];
+            // What is written otherwise than the number would be, as 007, is no number.
+            let number = run.parse::<u64>().ok().filter(|number| number.to_string() == run);
+            words.push_str(&rest[..start]);
+            match number.filter(|_| run.len() <= MOST_DIGITS) {
+                Some(number) => {
+                    pieces.push(Piece::Words(Cow::Owned(std::mem::take(&mut words))));
+                    pieces.push(Piece::Number(number));
+                }
+                None => words.push_str(run),
             }
-            pieces.extend(part.0);
+            rest = &rest[end..];
         }
+        words.push_str(rest);
+        pieces.push(Piece::Words(Cow::Owned(words)));
         Phrase(pieces)
     }
 
@@ -92,7 +111,7 @@ impl Phrase {
     /// The words, with a mark in braces for each thing and number.
     pub fn template(&self) -> String {
         let marks = self.0.iter().map(|piece| match piece {
-            Piece::Words(words) => words,
+            Piece::Words(words) => words.as_ref(),
             Piece::Step(_) => "{s}",
             Piece::File(_) => "{f}",
             Piece::Pipe(_) => "{p}",
@@ -116,11 +135,14 @@ impl Phrase {
         numbers.collect::<Vec<_>>().join(",")
     }
 
-    /// The sentence written out, with the names that hold at a record; it starts with a capital.
+    /// The sentence written out, with the names that hold at a record. A thing at its front has a capital as `capital`
+    /// gives it: a name stays as it is.
     pub fn text(&self, names: &Names, record: u64) -> String {
         let text = self.middle(names, record);
-        let mut letters = text.chars();
-        letters.next().map_or(String::new(), |first| first.to_uppercase().chain(letters).collect())
+        match self.0.first() {
+            Some(Piece::Words(_)) | None => text,
+            Some(_) => capital(&text),
+        }
     }
 
     /// The same as it stands within a sentence.
@@ -189,6 +211,21 @@ mod tests {
         assert_eq!(said.template(), "{s} opens {f} at {n}: {l}");
         assert_eq!(said.numbers(), "3,1,5,[1,2,3,7]");
         assert_eq!(said.text(&Names::default(), 1), "Step 3 opens file 1 at 5: 1 to 3, 7");
+    }
+
+    #[test]
+    fn a_text_is_taken_apart_and_comes_out_as_it_was() {
+        for (text, template, numbers) in [
+            ("", "", ""),
+            ("close place 1 of cat", "close place {n} of cat", "1"),
+            ("7 of 9", "{n} of {n}", "7,9"),
+            ("007 and 0, of 1234567890123456", "007 and {n}, of 1234567890123456", "0"),
+            ("In/1.csv (file 18)", "In/{n}.csv (file {n})", "1,18"),
+        ] {
+            let phrase = Phrase::of_text(text);
+            assert_eq!((phrase.template().as_str(), phrase.numbers().as_str()), (template, numbers));
+            assert_eq!(phrase.text(&Names::default(), 1), text);
+        }
     }
 
     #[test]

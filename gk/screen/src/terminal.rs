@@ -3,17 +3,17 @@
 use std::collections::VecDeque;
 
 use gatekeeper::{Answer, Refusal, Way};
+use gk_advice::run::Step;
 use gk_chain::Link;
 
 use crate::names::Names;
 use crate::phrase::{ranges, Phrase, Piece};
-use crate::records::{letter_and_value, Turn};
 use crate::state::{State, Thing};
 use crate::text::{fitted, width, wrapped, COLUMNS};
 use crate::told::{Memory, Told};
 
 /// Refusals that are kept on the screen.
-const MOST_REFUSALS: usize = 5;
+pub const MOST_REFUSALS: usize = 5;
 
 /// Links of a chain that are shown; the middle of a longer one is left out.
 const MOST_LINKS: usize = 9;
@@ -59,27 +59,44 @@ impl Look {
 }
 
 impl Screen {
-    pub fn new(title: String, names: Names, state: State) -> Screen {
-        let (memory, refusals) = (Memory::default(), VecDeque::new());
+    pub fn new(title: String, file: gk_names::Names, state: State) -> Screen {
+        let names = Names::given(&file);
+        let (memory, refusals) = (Memory::new(file), VecDeque::new());
         Screen { title, names, state, memory, position: 0, last: None, refusals }
     }
 
-    /// Takes the next record onto the screen, and says it in a line.
-    pub fn take(&mut self, turn: &Turn) -> String {
+    /// Takes the next record, of which nothing will be shown but what it has changed.
+    pub fn pass(&mut self, turn: &Step) {
+        self.follow(turn);
+        self.memory.note(turn, &self.state);
+    }
+
+    /// The state before a record, which is followed.
+    fn follow(&mut self, turn: &Step) -> State {
         let before = self.state.clone();
         if turn.before != turn.after {
             self.state = State::of(&turn.after);
         }
         self.names.follow(turn.position, &before, &self.state);
-        let told = self.memory.tell(turn, &before, &self.state);
         self.position = turn.position;
+        before
+    }
+
+    /// Takes the next record onto the screen, and says it in a line.
+    pub fn take(&mut self, turn: &Step) -> String {
+        let before = self.follow(turn);
+        let told = self.memory.tell(turn, &before, &self.state);
         self.last = Some(self.record(turn, &told));
         if matches!(turn.answer, Answer::Refused(_)) {
             let said = [self.refusal(turn, &told, true), self.refusal(turn, &told, false)];
             self.refusals.push_front(said);
             self.refusals.truncate(MOST_REFUSALS);
         }
-        let way = told.ways.first().map_or(String::new(), |way| format!(" Way out: {}", self.said(way)));
+        let way = match (told.ways.first(), told.notes.first()) {
+            (Some(way), _) => format!(" Way out: {}", self.said(way)),
+            (None, Some(note)) => format!(" {}", self.said(note)),
+            (None, None) => String::new(),
+        };
         format!("{}  {}. {}.{way}\n", turn.line(), self.said(&told.asked), answer_words(turn.answer))
     }
 
@@ -88,7 +105,7 @@ impl Screen {
     }
 
     /// The record and its answer.
-    fn record(&self, turn: &Turn, told: &Told) -> Vec<Line> {
+    fn record(&self, turn: &Step, told: &Told) -> Vec<Line> {
         let asked = wrapped("", &format!("{}.", self.said(&told.asked)), 2);
         let mut lines: Vec<Line> = asked.into_iter().map(|line| Line(Look::Strong, line)).collect();
         let look = match turn.answer {
@@ -98,7 +115,8 @@ impl Screen {
         };
         let answer = wrapped("  ", &format!("{}.", answer_words(turn.answer)), 2);
         lines.extend(answer.into_iter().map(|line| Line(look, line)));
-        for phrase in told.changed.iter().chain(if told.ways.is_empty() { &told.why[..] } else { &[] }) {
+        let is_refused = matches!(turn.answer, Answer::Refused(_));
+        for phrase in told.changed.iter().chain(if is_refused { &[] } else { &told.why[..] }) {
             lines.extend(
                 wrapped("  ", &self.said(phrase), 4).into_iter().map(|line| Line(Look::Plain, line)),
             );
@@ -107,7 +125,7 @@ impl Screen {
     }
 
     /// A refusal, the way out first; in full with all ways, the chain and why.
-    fn refusal(&self, turn: &Turn, told: &Told, is_full: bool) -> Vec<Line> {
+    fn refusal(&self, turn: &Step, told: &Told, is_full: bool) -> Vec<Line> {
         let mut lines = Vec::new();
         let mut start = format!("{:>5}  ", turn.position);
         let mut word = "Way out: ";
@@ -116,18 +134,26 @@ impl Screen {
             lines.extend(said.into_iter().map(|line| Line(Look::Plain, line)));
             (start, word) = (" ".repeat(7), "Or: ");
         }
-        let (_, number) = letter_and_value(turn.answer);
-        let asked = self.said(&told.asked);
-        let what = format!("{asked}: refused ({number}), {}.", refusal_words(turn.answer));
+        if told.ways.is_empty() || is_full {
+            for note in &told.notes {
+                let said = wrapped(&start, &self.said(note), 9);
+                lines.extend(said.into_iter().map(|line| Line(Look::Plain, line)));
+                start = " ".repeat(7);
+            }
+        }
+        let what = format!("{}. {}.", self.said(&told.asked), answer_words(turn.answer));
         lines.extend(wrapped(&start, &what, 9).into_iter().map(|line| Line(Look::Refused, line)));
         if !is_full {
             return lines;
         }
         let chain = (!told.chain.is_empty()).then(|| self.chain(&told.chain));
-        let why = told.why.first().map(|why| self.said(why));
-        // At a 15 the books come first, and the chain of the 9 behind it after them.
-        let both = if turn.refusal() == Some(Refusal::Frozen) { [why, chain] } else { [chain, why] };
-        for text in both.into_iter().flatten() {
+        let why = told.why.iter().map(|why| self.said(why));
+        // At a 15 the chain is that of the 9 behind it, of which the words speak first.
+        let texts: Vec<String> = match turn.refusal() {
+            Some(Refusal::Frozen) => why.chain(chain).collect(),
+            _ => chain.into_iter().chain(why).collect(),
+        };
+        for text in texts {
             lines.extend(wrapped(&" ".repeat(7), &text, 9).into_iter().map(|line| Line(Look::Plain, line)));
         }
         lines
@@ -325,8 +351,4 @@ fn answer_words(answer: Answer) -> String {
         Answer::Lowered(level) => format!("Lowered: level {level} now"),
         Answer::Refused(refusal) => format!("Refused ({}): {}", refusal.number(), refusal.words()),
     }
-}
-
-fn refusal_words(answer: Answer) -> &'static str {
-    answer.granted().err().map_or("", |refusal| refusal.words())
 }

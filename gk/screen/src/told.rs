@@ -3,21 +3,27 @@
 use std::collections::HashMap;
 
 use gatekeeper::{Answer, Refusal};
-use gk_chain::{chain_of, sought, Link};
+use gk_advice::asked::asked;
+use gk_advice::refused::of_record;
+use gk_advice::run::{Content, Run, Step};
+use gk_advice::scene::{sentence, Past};
+use gk_advice::ways::Counsel;
+use gk_chain::{sought, Link};
 
 use crate::names::Names;
 use crate::phrase::{object, phrase, Phrase, Piece};
-use crate::records::{Body, Run, Turn};
-use crate::refused::{reasons, Closing};
 use crate::state::{State, Thing};
 use crate::words;
 
 /// What is said of a record.
 #[derive(Default)]
 pub struct Told {
+    /// Who asks what, or may not do what and why; without its full stop.
     pub asked: Phrase,
     pub why: Vec<Phrase>,
     pub ways: Vec<Phrase>,
+    /// What else is to be known about ways out.
+    pub notes: Vec<Phrase>,
     pub changed: Vec<Phrase>,
     /// The chain behind a 9, or behind a 15 that is a 9 once the books are open, from the low thing to the higher file.
     pub chain: Vec<Link>,
@@ -25,21 +31,24 @@ pub struct Told {
     pub sought: Vec<(Thing, Thing)>,
     /// The things that the record is about.
     pub about: Vec<Thing>,
+    /// The ways and notes as `gk_advice` gives them, with the calls that were tried.
+    pub counsel: Counsel,
 }
 
-/// All sentences about each record of a journal, by their part: what is asked, why, the ways out, what changed. With
-/// these the page's words can be compared; the names are the bytes of a names file, or none.
-pub fn sentences(journal: &[u8], names: &[u8]) -> Vec<[Vec<String>; 4]> {
-    let mut names =
-        gk_names::Names::read(names).map_or_else(|_| Names::default(), |file| Names::given(&file));
-    let (mut run, mut memory, mut state) = (Run::new(), Memory::default(), State::empty());
+/// All sentences about each record of a journal, by their part: what is asked, why, the ways out, what else is to be
+/// known about them, what changed. With these the page's words can be compared; the names are the bytes of a names
+/// file, or none.
+pub fn sentences(journal: &[u8], names: &[u8]) -> Vec<[Vec<String>; 5]> {
+    let file = gk_names::Names::read(names).unwrap_or_default();
+    let mut names = Names::given(&file);
+    let (mut memory, mut state) = (Memory::new(file), State::empty());
     let mut all = Vec::new();
-    while let Some(turn) = run.next(journal) {
-        let after = State::of(&turn.after);
-        names.follow(turn.position, &state, &after);
-        let Told { asked, why, ways, changed, .. } = memory.tell(&turn, &state, &after);
-        let said = |part: Vec<Phrase>| part.iter().map(|each| each.text(&names, turn.position)).collect();
-        all.push([said(vec![asked]), said(why), said(ways), said(changed)]);
+    for step in Run::new(journal) {
+        let after = State::of(&step.after);
+        names.follow(step.position, &state, &after);
+        let Told { asked, why, ways, notes, changed, .. } = memory.tell(&step, &state, &after);
+        let said = |part: Vec<Phrase>| part.iter().map(|each| each.text(&names, step.position)).collect();
+        all.push([said(vec![asked]), said(why), said(ways), said(notes), said(changed)]);
         state = after;
     }
     all
@@ -48,40 +57,50 @@ pub fn sentences(journal: &[u8], names: &[u8]) -> Vec<[Vec<String>; 4]> {
 /// What a later record looks back on.
 #[derive(Default)]
 pub struct Memory {
-    closing: Option<Closing>,
+    names: gk_names::Names,
+    past: Past,
     /// For each file or pipe the last record that was refused its reading with 9, and the step that asked.
     refused: HashMap<u32, (u64, u32)>,
 }
 
 impl Memory {
+    pub fn new(names: gk_names::Names) -> Memory {
+        Memory { names, ..Memory::default() }
+    }
+
     /// Tells of the next record.
-    pub fn tell(&mut self, turn: &Turn, before: &State, after: &State) -> Told {
+    pub fn tell(&mut self, step: &Step, before: &State, after: &State) -> Told {
+        let scene = self.past.before(step, &self.names);
         let mut told = Told {
-            asked: words::asked(turn.body, before),
             changed: words::changed(before, after),
-            about: about(turn.body, before),
+            about: about(step.content, before),
             ..Told::default()
         };
-        if let Some(refusal) = turn.refusal() {
-            if let Body::Call { code, numbers } = turn.body {
-                told.chain = chain_of(&turn.before, refusal, code, numbers);
-                if !told.chain.is_empty() {
-                    told.sought = sought(code, numbers);
-                }
+        if let Some(refused) = of_record(step, scene, self.past.closing) {
+            let texts = |list: &[String]| list.iter().map(|text| Phrase::of_text(text)).collect();
+            let ways: Vec<String> = refused.counsel.ways.iter().map(|way| sentence(&way.text)).collect();
+            told.asked = Phrase::of_text(refused.title.trim_end_matches('.'));
+            (told.why, told.ways) = (texts(&refused.facts), texts(&ways));
+            told.notes = texts(&refused.counsel.notes);
+            told.chain = refused.chain.into_iter().map(|(link, _)| link).collect();
+            told.counsel = refused.counsel;
+            if let (false, Content::Call(call)) = (told.chain.is_empty(), step.content) {
+                told.sought = sought(call.code(), call.numbers());
             }
-            (told.why, told.ways) = reasons(turn, refusal, before, &told.chain, self.closing);
-        } else {
-            told.why = self.why_it_may(turn, before);
+        } else if let Content::Call(call) = step.content {
+            told.asked = Phrase::of_text(&asked(call, scene, true));
+            told.why = self.why_it_may(step, before);
         }
-        self.note(turn, after);
+        self.note(step, after);
         told
     }
 
     /// Why something low may be read: nothing that the step reaches is above it.
-    fn why_it_may(&self, turn: &Turn, before: &State) -> Vec<Phrase> {
-        let Body::Call { code, numbers: [s, b, ..] } = turn.body else {
+    fn why_it_may(&self, step: &Step, before: &State) -> Vec<Phrase> {
+        let Content::Call(call) = step.content else {
             return Vec::new();
         };
+        let (code, [s, b, ..]) = (call.code(), call.numbers());
         let o = match code {
             5 | 10 | 14 => b,
             7 => before.handle(s, b).map_or(u32::MAX, |handle| handle.object.into()),
@@ -133,29 +152,27 @@ impl Memory {
         why
     }
 
-    fn note(&mut self, turn: &Turn, after: &State) {
-        let Body::Call { code, numbers: [a, b, ..] } = turn.body else {
+    /// Takes note of a record, of which nothing is told.
+    pub fn note(&mut self, step: &Step, after: &State) {
+        self.past.follow(step);
+        let Content::Call(call) = step.content else {
             return;
         };
         // A number that is free may be another thing's later.
         self.refused.retain(|&o, _| after.object(o).is_some());
-        match (code, turn.answer) {
-            (16, Answer::Allowed(_)) => {
-                self.closing = after.frozen_from.map(|level| Closing { level, record: turn.position });
-            }
-            (5 | 14, Answer::Refused(Refusal::Flow)) => {
-                self.refused.insert(b, (turn.position, a));
-            }
-            _ => {}
+        let (code, [a, b, ..]) = (call.code(), call.numbers());
+        if let (5 | 14, Answer::Refused(Refusal::Flow)) = (code, step.answer) {
+            self.refused.insert(b, (step.position, a));
         }
     }
 }
 
 /// The things that a call names.
-fn about(body: Body, state: &State) -> Vec<Thing> {
-    let Body::Call { code, numbers: [a, b, c, d, ..] } = body else {
+fn about(content: Content, state: &State) -> Vec<Thing> {
+    let Content::Call(call) = content else {
         return Vec::new();
     };
+    let (code, [a, b, c, d, ..]) = (call.code(), call.numbers());
     let (step, object) = (Thing::Step, Thing::Object);
     let at_place = || state.handle(a, b).map(|handle| object(handle.object.into()));
     match code {
@@ -174,12 +191,19 @@ mod tests {
     use super::*;
     use gatekeeper::Call;
 
-    /// What is said of the last of these calls: why, and the ways out.
+    /// What is said of the last of these calls: what is asked, why, the ways out and the notes.
     #[track_caller]
-    fn said(calls: &[Call]) -> (Vec<String>, Vec<String>) {
+    fn all_said(calls: &[Call]) -> [Vec<String>; 4] {
         let mut journal = Vec::new();
         calls.iter().for_each(|call| call.write_record(&mut journal));
-        let [_, why, ways, _] = sentences(&journal, b"").pop().expect("a record");
+        let [asked, why, ways, notes, _] = sentences(&journal, b"").pop().expect("a record");
+        [asked, why, ways, notes]
+    }
+
+    /// Why, and the ways out.
+    #[track_caller]
+    fn said(calls: &[Call]) -> (Vec<String>, Vec<String>) {
+        let [_, why, ways, _] = all_said(calls);
         (why, ways)
     }
 
@@ -190,33 +214,57 @@ mod tests {
     const READS: Call = Call::OpenRead { subject: 0, object: 1, place: 1 };
 
     #[test]
-    fn a_nine_has_its_reason_and_ways_that_were_tried() {
-        let (why, ways) = said(&[STEP, BOOK, SHEET, WRITES, READS]);
-        assert_eq!(why[0], "File 1 has level 2, and file 0 takes nothing from below level 9.");
-        assert_eq!(ways[0], "Close place 0 of step 0, which writes file 0; then ask again.");
-        assert_eq!(ways[1], "Let another step read it, one with no way to file 0.");
+    fn a_refusal_is_told_in_the_words_of_explain() {
+        let [asked, why, ways, _] = all_said(&[STEP, BOOK, SHEET, WRITES, READS]);
+        assert_eq!(asked, ["Step 0 may not open file 1 for reading at place 1: it writes file 0"]);
+        assert_eq!(why[0], "Nothing is opened.");
+        assert_eq!(why[1], "File 1 has level 2, and file 0 takes nothing from below level 9.");
+        assert_eq!(ways[0], "Close place 0 (writing file 0) of step 0; open it after that.");
         let (_, ways) = said(&[STEP, Call::Admit { subject: 7, level: 9 }, BOOK, SHEET, WRITES, READS]);
-        assert_eq!(ways[1], "Let another step read it, one with no way up: step 7 may.");
+        assert_eq!(ways[1], "Let another step open it: step 7 may.");
+        let refused = [STEP, Call::Mark { subject: 0, place: 12 }];
+        assert_eq!(
+            all_said(&refused)[0],
+            ["Step 0 may not mark place 12, where it has nothing: that place is empty"]
+        );
+    }
 
-        // Two ways up: one closed handle is not enough, both are.
-        let other = Call::Register { object: 2, level: 9 };
-        let both = Call::OpenWrite { subject: 0, object: 2, place: 5 };
-        let (_, ways) = said(&[STEP, BOOK, SHEET, other, WRITES, both, READS]);
-        assert_eq!(ways[0], "Close places 0, 5 of step 0, all that it writes; then ask again.");
-
-        let (_, ways) = said(&[STEP, BOOK, SHEET, WRITES, Call::Exec { subject: 0, object: 1 }]);
-        let mark = "Mark place 0 of step 0, if the program does not need it: the exec closes it.";
-        assert_eq!(ways[0], mark);
+    /// What the screen says of each refusal of these journals is what `gk explain` says, word for word: both ask one
+    /// function, and nothing is lost on the way.
+    #[test]
+    fn nothing_is_said_in_other_words_than_those_of_the_engine() {
+        let march = std::fs::read(concat!(env!("CARGO_MANIFEST_DIR"), "/../../crates/payrun/stdin"));
+        let march = march.expect("the journal of March");
+        let file = gk_names::Names::load(std::path::Path::new(concat!(
+            env!("CARGO_MANIFEST_DIR"),
+            "/examples/march.names"
+        )));
+        let file = file.expect("the names of March");
+        let mut past = Past::default();
+        let mut refusals = 0;
+        for (step, said) in Run::new(&march).zip(sentences(&march, file.text().as_bytes())) {
+            if let Some(refused) = of_record(&step, past.before(&step, &file), past.closing) {
+                let [asked, why, ways, notes, _] = said;
+                assert_eq!(format!("{}.", asked[0]), refused.title);
+                assert_eq!((why, notes), (refused.facts, refused.counsel.notes));
+                let words: Vec<String> =
+                    refused.counsel.ways.iter().map(|way| sentence(&way.text)).collect();
+                assert_eq!(ways, words);
+                refusals += 1;
+            }
+            past.follow(&step);
+        }
+        assert!(refusals >= 2, "{refusals}");
     }
 
     #[test]
-    fn a_connect_has_a_direction_that_is_free() {
-        let low = Call::Admit { subject: 1, level: 5 };
-        let connect = Call::Connect { subject: 0, peer: 1, to: 5, from: 6, reading: 2, writing: 3 };
-        let (why, ways) = said(&[STEP, low, BOOK, WRITES, connect]);
-        assert!(why[0].ends_with(" has level 5, and file 0 takes nothing from below level 9."), "{why:?}");
-        let one = "If data need only go from step 0 to step 1: let step 0 make a pipe, and step 1 open it for reading.";
-        assert_eq!(ways.last().map(String::as_str), Some(one));
+    fn a_name_keeps_its_case() {
+        let mut journal = Vec::new();
+        [STEP, SHEET, READS].iter().for_each(|call| call.write_record(&mut journal));
+        let said = sentences(&journal, b"names 1\nstep 0 1 cat\nfile 1 1 In/1.csv\n");
+        assert_eq!(said[1][4], ["In/1.csv (file 1) is new, at level 2 for good."]);
+        assert_eq!(said[2][0], ["cat (step 0) opens In/1.csv (file 1) for reading at place 1"]);
+        assert_eq!(said[2][4], ["cat (step 0) reads In/1.csv (file 1), at place 1."]);
     }
 
     #[test]
@@ -242,89 +290,55 @@ mod tests {
     fn the_books_are_told_of() {
         let freeze = Call::Freeze { level: 9 };
         let again = Call::OpenWrite { subject: 0, object: 0, place: 4 };
-        let (why, ways) = said(&[STEP, BOOK, WRITES, freeze, again]);
-        assert_eq!(why, ["The books are closed from level 9 up since record 4, and file 0 has level 9."]);
-        let held = "Use a handle that is open, which goes on writing: step 0 at place 0.";
-        let wait = "Wait until the books are open again, and open it then.";
-        assert_eq!(ways, [wait, held, "Write to a file below level 9."]);
-        // Where another number is said first, the books are told of as well.
-        let (why, _) = said(&[STEP, BOOK, WRITES, freeze, WRITES]);
-        assert_eq!(
-            why,
-            ["Place 0 of step 0 is taken.", "Also, the books are closed from level 9 up since record 4."]
+        let [asked, _, ways, _] = all_said(&[STEP, BOOK, WRITES, freeze, again]);
+        assert!(
+            asked[0].ends_with(": the books are closed from level 9 up since record 4, and it has level 9"),
+            "{asked:?}"
         );
+        let held = "Use a handle that is held and goes on writing: place 0 of step 0.";
+        assert_eq!(ways, ["Wait until the books are open again (freeze 16) and open it then.", held]);
     }
 
     /// RULES R117: the freeze is said, and what comes once the books are open is told with it.
     #[test]
     fn a_fifteen_tells_of_the_nine_behind_it() {
         let freeze = Call::Freeze { level: 9 };
-        let (reads, asks) = (
-            Call::OpenRead { subject: 0, object: 1, place: 1 },
-            Call::OpenWrite { subject: 0, object: 0, place: 4 },
-        );
-        let (why, ways) = said(&[STEP, BOOK, SHEET, reads, freeze, asks]);
-        assert_eq!(
-            why[..2],
-            [
-                "The books are closed from level 9 up since record 5, and file 0 has level 9. Once they are open again, \
-                 this open would be refused with 9: low data could reach a higher file.",
-                "File 1 has level 2, and file 0 takes nothing from below level 9.",
-            ]
-        );
+        let asks = Call::OpenWrite { subject: 0, object: 0, place: 4 };
+        let [asked, why, ways, _] = all_said(&[STEP, BOOK, SHEET, READS, freeze, asks]);
+        assert!(asked[0].contains(": the books are closed from level 9 up since record 5"), "{asked:?}");
+        let then =
+            "Once the books are open again (freeze 16) it would be refused with 9: low data could reach a higher file.";
+        let low = "File 1 has level 2, and file 0 takes nothing from below level 9.";
+        assert_eq!(why, ["Nothing is opened.", then, low]);
         assert_eq!(
             ways,
             [
-                "Once the books are open again, close place 1 of step 0, which reads file 1; then ask again.",
-                "Once the books are open again, let a step of level 9 or above write it, one that takes in nothing lower.",
-                "Once the books are open again, have file 1 looked over; then retire it and register it again at level 9 \
-                 or above.",
-                "Write to a file below level 9.",
+                "Close place 1 (reading file 1) of step 0; open it after that once the books are open again (freeze 16).",
+                "Let step 0 fork a step, number 1 is free, which closes place 1 and opens it once the books are open \
+                 again (freeze 16).",
+                "Admit a step at level 9 or above, number 1 is free, and let it open it once the books are open again \
+                 (freeze 16).",
+                "Open a file that is not frozen: file 1.",
             ]
         );
         // Another step that may; a closing that does not help is not advised.
-        let (low, other) =
-            (Call::Admit { subject: 1, level: 2 }, Call::OpenWrite { subject: 1, object: 0, place: 0 });
-        let (why, ways) = said(&[STEP, BOOK, WRITES, freeze, low, other]);
-        assert_eq!(why[1], "Step 1 has level 2, and file 0 takes nothing from below level 9.");
+        let step = Call::Admit { subject: 1, level: 2 };
+        let asks = Call::OpenWrite { subject: 1, object: 0, place: 0 };
+        let [_, why, ways, notes] = all_said(&[STEP, BOOK, WRITES, freeze, step, asks]);
+        assert_eq!(why[1..], [then, "Step 1 has level 2, and file 0 takes nothing from below level 9."]);
         assert_eq!(
             ways,
             [
-                "Once the books are open again, let another step write it: step 0 may.",
-                "Use a handle that is open, which goes on writing: step 0 at place 0.",
-                "Write to a file below level 9.",
+                "Let another step open it once the books are open again (freeze 16): step 0 may.",
+                "Admit a step at level 9 or above, number 2 is free, and let it open it once the books are open again \
+                 (freeze 16).",
+                "Use a handle that is held and goes on writing: place 0 of step 0.",
             ]
         );
-    }
-
-    #[test]
-    fn other_refusals_have_a_way_out() {
-        let pipe = |reads, writes| Call::Pipe { subject: 0, object: 3, reads, writes };
-        for (calls, way) in [
-            (vec![Call::Exit { subject: 40 }], "Admit a step first: none runs."),
-            (vec![STEP, Call::Exit { subject: 3 }], "Admit or fork step 3 first."),
-            (vec![STEP, STEP], "Take a free number: 1 to 31."),
-            (vec![STEP, READS], "Register, create or make it first, or name another."),
-            (
-                vec![STEP, pipe(0, 1), Call::Retire { object: 3 }],
-                "Name a file. A pipe is opened and read, and ends by itself with its last handle.",
-            ),
-            (vec![Call::Freeze { level: 17 }], "Give 0 to 15, or 16 to open the books."),
-            (vec![STEP, pipe(4, 4)], "Take two of the empty places: 0 to 15."),
-            (
-                vec![STEP, Call::Close { subject: 0, place: 1 }],
-                "Open something first: step 0 holds no handle.",
-            ),
-            (
-                vec![STEP, pipe(0, 1), Call::Read { subject: 0, place: 1 }],
-                "Use a handle of step 0 that reads: at place 0.",
-            ),
-            (
-                vec![STEP, BOOK, WRITES, Call::Retire { object: 0 }],
-                "Close these handles, or let the steps exit; then retire it.",
-            ),
-        ] {
-            assert_eq!(said(&calls).1[0], way, "{calls:?}");
-        }
+        let none = "No closing of handles helps: step 1 has level 2 itself, which is too low for file 0.";
+        assert_eq!(notes, [none]);
+        // Where another number is said first, the books are told of as well.
+        let [_, _, _, notes] = all_said(&[STEP, BOOK, WRITES, freeze, WRITES]);
+        assert!(notes.iter().any(|note| note.starts_with("Also: the books are closed from level 9 up")));
     }
 }

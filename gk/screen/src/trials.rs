@@ -1,17 +1,18 @@
 //! Trials on generated journals of a fixed seed: what is shown beside the independent program, and that nothing fails.
 
-use gatekeeper::{replay, Kind, Way, JOURNAL_BYTES, NO_FREEZE};
+use gatekeeper::{replay, Call, Kind, Way, JOURNAL_BYTES, NO_FREEZE};
 use gatekeeper_independent::generate::{journal, Style, Wish, STYLES};
 use gatekeeper_independent::monitor::{Answer as OtherAnswer, Monitor as OtherMonitor};
 use gatekeeper_independent::needs::{Needs, Thing as Other};
 use gatekeeper_independent::replies;
 use gatekeeper_independent::tables::{Direction, Kind as OtherKind, Tables};
 use gatekeeper_independent::variants::Rules;
+use gk_advice::run::{Content, Run};
 use gk_chain::sought;
+use gk_names::Names;
 
-use crate::names::Names;
+use crate::advised::Advised;
 use crate::page::page;
-use crate::records::{Body, Run};
 use crate::state::{flow, State, Thing, OBJECTS, PLACES, STEPS};
 use crate::terminal::Screen;
 use crate::text::{width, COLUMNS};
@@ -65,16 +66,18 @@ fn agrees(state: &State, tables: &Tables) {
     assert_eq!(state.frozen_from.map(u32::from), tables.frozen_from());
 }
 
+/// The tables are the independent program's, and every advice that is given is followed, by its calls and by its words
+/// alone, and is allowed.
 #[test]
-fn what_is_shown_is_what_the_independent_program_has() {
+fn what_is_shown_is_so_and_what_is_advised_holds() {
     let (mut records, mut nines, mut hidden) = (0, 0, 0);
+    let mut advised = Advised::default();
     for journal in journals() {
-        let mut run = Run::new();
         let mut other = replies::Run::new(&journal, Rules::default());
         let mut memory = Memory::default();
         let mut state = State::empty();
         let mut lines = String::new();
-        while let Some(turn) = run.next(&journal) {
+        for turn in Run::new(&journal) {
             assert!(other.next_step().is_some());
             let before = state.clone();
             state = if turn.before == turn.after { state } else { State::of(&turn.after) };
@@ -86,21 +89,22 @@ fn what_is_shown_is_what_the_independent_program_has() {
             lines.push('\n');
             let told = memory.tell(&turn, &before, &state);
             let is_nine = lines.ends_with(" R 9\n");
-            let is_hidden = lines.ends_with(" R 15\n") && is_nine_once_open(other.monitor(), turn.body);
+            let is_hidden = lines.ends_with(" R 15\n") && is_nine_once_open(other.monitor(), turn.content);
             assert_eq!(!told.chain.is_empty(), is_nine || is_hidden, "{}", turn.line());
             hidden += u32::from(is_hidden);
-            if let (Body::Call { code, numbers }, [low, .., high]) = (turn.body, &told.chain[..]) {
+            if let (Content::Call(call), [low, .., high]) = (turn.content, &told.chain[..]) {
                 is_a_way(
-                    code,
-                    numbers,
+                    call.code(),
+                    call.numbers(),
                     &before,
                     &told.chain.iter().map(|link| link.thing).collect::<Vec<_>>(),
                 );
                 assert!(low.level < high.level && high.kind == Some(Kind::File));
-                assert!(!told.ways.is_empty());
                 nines += 1;
             }
-            assert_eq!(told.ways.is_empty(), turn.refusal().is_none(), "{}", turn.line());
+            let has_advice = !(told.ways.is_empty() && told.notes.is_empty());
+            assert_eq!(has_advice, turn.refusal().is_some(), "{}", turn.line());
+            advised.follow(&turn, &told);
             records += 1;
         }
         assert!(replay(&journal).starts_with(&lines));
@@ -108,16 +112,17 @@ fn what_is_shown_is_what_the_independent_program_has() {
     }
     assert!(records > 50_000 && nines > 1_500, "{records} records, {nines} nines");
     assert!(hidden > 100, "{hidden} nines behind a fifteen");
+    advised.is_enough();
 }
 
 /// Whether the independent program refuses a call with 9 once there is no freeze.
-fn is_nine_once_open(monitor: &OtherMonitor, body: Body) -> bool {
-    let Body::Call { code, numbers } = body else {
+fn is_nine_once_open(monitor: &OtherMonitor, content: Content) -> bool {
+    let Content::Call(call) = content else {
         return false;
     };
     let mut open = monitor.clone();
     let _ = open.call(16, [NO_FREEZE, 0, 0, 0, 0, 0]);
-    open.call(code, numbers) == OtherAnswer::Refused(9)
+    open.call(call.code(), call.numbers()) == OtherAnswer::Refused(9)
 }
 
 /// Each link of a chain is a handle that is open or a flow that the call asks for, and one of these is among them.
@@ -132,19 +137,22 @@ fn is_a_way(code: u32, numbers: [u32; 6], before: &State, things: &[Thing]) {
 #[test]
 fn no_journal_is_too_much_for_the_screen_and_the_page() {
     for journal in journals() {
-        let mut run = Run::new();
-        let mut screen = Screen::new("a journal".to_string(), Names::default(), State::empty());
+        let mut screen = Screen::new("a journal".to_string(), Names::new(), State::empty());
         let mut records = 0;
-        while let Some(turn) = run.next(&journal) {
-            screen.take(&turn);
+        for turn in Run::new(&journal) {
             records = turn.position;
+            if records % 97 > 1 {
+                screen.pass(&turn);
+            } else {
+                screen.take(&turn);
+            }
             if records % 97 == 1 {
                 fits(&screen.text(Some(records), Some("a notice"), false, None), usize::MAX);
                 fits(&screen.text(None, None, false, Some(24)), 24);
             }
         }
         fits(&screen.text(Some(records), None, false, None), usize::MAX);
-        let page = page(&journal, "a journal", &Names::default(), None);
+        let page = page(&journal, "a journal", &Names::new(), None);
         assert!(page.len() < 6_000_000, "{} bytes for {records} records", page.len());
         assert_eq!(page.matches("</script>").count(), 2);
     }
@@ -160,10 +168,9 @@ fn fits(text: &str, most: usize) {
 
 #[test]
 fn colours_only_stand_beside_words() {
-    let mut run = Run::new();
-    let mut screen = Screen::new("a journal".to_string(), Names::default(), State::empty());
+    let mut screen = Screen::new("a journal".to_string(), Names::new(), State::empty());
     let journal = journal(SEED, 3, Wish { style: Style::Payrun, ..Wish::default() });
-    while let Some(turn) = run.next(&journal) {
+    for turn in Run::new(&journal) {
         screen.take(&turn);
         let plain = screen.text(None, None, false, None);
         let coloured = screen.text(None, None, true, None);
@@ -174,5 +181,37 @@ fn colours_only_stand_beside_words() {
             })
             .collect();
         assert_eq!(stripped, plain);
+    }
+}
+
+/// RULES R117: the terminal has the books first, then that a 9 comes once they are open, and its chain after that.
+#[test]
+fn a_fifteen_is_shown_with_the_nine_behind_it() {
+    let mut journal = Vec::new();
+    for call in [
+        Call::Admit { subject: 0, level: 9 },
+        Call::Register { object: 0, level: 9 },
+        Call::Register { object: 1, level: 2 },
+        Call::OpenRead { subject: 0, object: 1, place: 0 },
+        Call::Freeze { level: 9 },
+        Call::OpenWrite { subject: 0, object: 0, place: 1 },
+    ] {
+        call.write_record(&mut journal);
+    }
+    let mut screen = Screen::new("a journal".to_string(), Names::new(), State::empty());
+    for turn in Run::new(&journal) {
+        screen.take(&turn);
+    }
+    let text = screen.text(None, None, false, None);
+    let text = text.split_whitespace().collect::<Vec<_>>().join(" ");
+    let mut rest = text.split_once("The last refusals").expect("refusals").1;
+    for part in [
+        "Way out: Close place 0 (reading file 1) of step 0; open it after that once the books are open again",
+        "the books are closed from level 9 up since record 5",
+        "Refused (15): ",
+        "it would be refused with 9: ",
+        "file 1 at 2 → step 0 at 9 → file 0 at 9 (looked for, not proved)",
+    ] {
+        rest = rest.split_once(part).unwrap_or_else(|| panic!("{part}: not in its place: {text}")).1;
     }
 }

@@ -1,76 +1,15 @@
-//! A record in words: what is asked, and what has changed. The changes are read off the states before and after it.
+//! What a record has changed, in words. The changes are read off the states before and after it.
 
-use gatekeeper::{Handle, Kind, Way, NO_FREEZE};
+use gatekeeper::{Handle, Kind, Way};
 
 use crate::phrase::{object, phrase, Phrase, Piece};
-use crate::records::Body;
 use crate::state::{State, OBJECTS, PLACES, STEPS};
 
 /// Handles of one step that are named one by one.
 const MOST_HANDLES: usize = 4;
 
-/// Who asks what.
-pub fn asked(body: Body, state: &State) -> Phrase {
-    let (code, numbers) = match body {
-        Body::Call { code, numbers } => (code, numbers),
-        Body::None { code: 0 } => return phrase!["A record without a call"],
-        Body::None { code } => return phrase!["A record with code ", code],
-        Body::Broken { offset } => {
-            return phrase!["Byte ", offset, " of the journal should start a record"]
-        }
-        Body::TooLong => return phrase!["The journal is read as a whole"],
-    };
-    let [a, b, c, d, e, f] = numbers;
-    let step = Piece::Step;
-    let at = |verb: &'static str| match state.handle(a, b) {
-        Some(handle) => phrase![step(a), verb, object(handle.object.into(), state), ", at place ", b],
-        None => phrase![step(a), verb, "at place ", b, ", where nothing is"],
-    };
-    match code {
-        1 => phrase![step(a), " is admitted from outside at level ", b],
-        2 => phrase![Piece::File(a), " is registered from outside at level ", b],
-        3 => phrase![step(a), " creates ", Piece::File(b)],
-        4 => phrase![
-            step(a),
-            " makes ",
-            Piece::Pipe(b),
-            ", reading at place ",
-            c,
-            " and writing at place ",
-            d
-        ],
-        5 => phrase![step(a), " opens ", object(b, state), " for reading at place ", c],
-        6 => phrase![step(a), " opens ", object(b, state), " for writing at place ", c],
-        7 => at(" reads "),
-        8 => at(" writes "),
-        9 => phrase![step(a), " forks ", step(b)],
-        10 => phrase![step(a), " runs ", object(b, state)],
-        11 => at(" closes "),
-        12 => phrase![step(a), " exits"],
-        13 => phrase![object(a, state), " is retired"],
-        14 => phrase![step(a), " maps ", object(b, state), " at place ", c],
-        15 => at(" marks its handle on "),
-        16 if a == NO_FREEZE => phrase!["The books are opened: nothing is frozen"],
-        16 => phrase!["The books are closed from level ", a, " up"],
-        17 => phrase![
-            step(a),
-            " is connected to ",
-            step(b),
-            " by ",
-            Piece::Pipe(c),
-            " and back by ",
-            Piece::Pipe(d),
-            ", both reading at place ",
-            e,
-            " and writing at place ",
-            f
-        ],
-        _ => phrase!["A record with code ", code],
-    }
-}
-
 /// What a handle does.
-pub fn does(handle: Handle, state: &State) -> Phrase {
+fn does(handle: Handle, state: &State) -> Phrase {
     let o = object(handle.object.into(), state);
     match handle.way {
         Way::Reads => phrase!["reads ", o],

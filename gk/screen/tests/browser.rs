@@ -31,7 +31,9 @@ const SAID: &str = "(() => {
   const isShown = (id) => !document.getElementById(id).hidden;
   return {
     line: text('line'), asked: text('asked'), answer: text('answer'), books: text('books'), live: text('live'),
-    why: list('why'), ways: isShown('ways-part') ? list('ways') : [], changed: list('changed'),
+    why: list('why'), changed: list('changed'), hasWays: isShown('ways-part'),
+    ways: [...document.querySelectorAll('#ways li:not(.note)')].map((item) => item.textContent),
+    notes: [...document.querySelectorAll('#ways li.note')].map((item) => item.textContent),
     chain: isShown('chain-part') ? list('chain') : [], way: text('chain-title'),
     steps: table('steps'), objects: table('objects'), slider: document.getElementById('slider').value,
     things: document.querySelectorAll('#graph .thing:not(.ghost)').length,
@@ -59,7 +61,7 @@ struct Paged {
     /// The lines of the terminal, one for each record.
     lines: Vec<String>,
     /// All sentences about each record, as the terminal would write them.
-    sentences: Vec<[Vec<String>; 4]>,
+    sentences: Vec<[Vec<String>; 5]>,
 }
 
 impl Paged {
@@ -96,7 +98,11 @@ impl Drop for Paged {
 fn as_line(said: &Json) -> String {
     let answer = said.get("answer").text();
     let answer = answer.split_once(' ').map_or(answer, |(_, words)| words);
-    let way = said.get("ways").texts().first().map_or(String::new(), |way| format!(" Way out: {way}"));
+    let way = match (said.get("ways").texts().first(), said.get("notes").texts().first()) {
+        (Some(way), _) => format!(" Way out: {way}"),
+        (None, Some(note)) => format!(" {note}"),
+        (None, None) => String::new(),
+    };
     format!("{}  {}. {answer}.{way}", said.get("line").text(), said.get("asked").text())
 }
 
@@ -208,9 +214,12 @@ fn walk(browser: &mut Browser, paged: &Paged) -> usize {
         let said = browser.value(SAID);
         assert_eq!(said.get("line").text(), *reply);
         assert_eq!(&as_line(&said), line);
-        let [asked, why, ways, changed] = sentences;
+        let [asked, why, ways, notes, changed] = sentences;
         assert_eq!([said.get("asked").text()], asked[..]);
         assert_eq!((said.get("why").texts(), said.get("ways").texts()), (texts(why), texts(ways)));
+        assert_eq!(said.get("notes").texts(), texts(notes));
+        let is_refused = reply.contains(" R ");
+        assert_eq!(said.get("hasWays"), &Json::Bool(is_refused), "{reply}");
         // Where nothing has changed, the page says so.
         if !changed.is_empty() {
             assert_eq!(said.get("changed").texts(), texts(changed));
@@ -343,7 +352,7 @@ fn bad_journals_have_a_page_that_says_so() {
     for (name, journal, words) in [
         ("empty", vec![], "The journal is empty"),
         ("broken", vec![0x80, 0x00], "Byte 0 of the journal should start a record"),
-        ("long", vec![0; gatekeeper::JOURNAL_BYTES + 1], "The journal is read as a whole"),
+        ("long", vec![0; gatekeeper::JOURNAL_BYTES + 1], "The journal is refused (14)"),
     ] {
         let paged = Paged::new(name, journal, &["--title", "</title><script>alert(1)</script>"]);
         browser.open(&paged.page, "");
@@ -357,7 +366,7 @@ fn bad_journals_have_a_page_that_says_so() {
     let paged = Paged::new("named", vec![3, 1, 0, 9], &["--names", &folder.to_string_lossy()]);
     fs::remove_file(&folder).expect("it is there");
     browser.open(&paged.page, "");
-    let asked = "R&d's 100% é 日本 b-script/b (step 0) is admitted from outside at level 9";
+    let asked = "r&d's 100% é 日本 b-script/b (step 0) is admitted from outside at level 9";
     assert_eq!(browser.value(SAID).get("asked").text(), asked);
 }
 

@@ -81,9 +81,10 @@ fn march_is_shown_after_a_record() {
     let text = shown(&["--at", "196", MARCH], b"");
     assert!(text.starts_with("stdin: record 196 of 306 "), "{text}");
     for words in [
-        "Step 17 opens file 1 for reading at place 5.\n  Refused (9): low data could reach a higher file.",
+        "Step 17 may not open file 1 for reading at place 5: it writes file 0.\n  Refused (9): low data could reach",
         "17       12           12  1: writes pipe 37; 2: reads pipe 36; 4: writes file 0",
-        "  196  Way out: Close places 1, 4 of step 17, all that it writes; then ask\n         again.",
+        "  196  Way out: Close place 1 (writing pipe 37) and place 4 (writing file 0) of\n         step 17; open it after that.",
+        "retire it, register it at level\n         12 or above, and open it then.",
         "file 1 at 2 → step 17 at 12 → file 0 at 9 (looked for, not proved)",
         "pipe 37             12  17                    18",
     ] {
@@ -92,7 +93,7 @@ fn march_is_shown_after_a_record() {
     let text = shown(&["--at", "205", "--names", NAMES, MARCH], b"");
     let text = text.split_whitespace().collect::<Vec<_>>().join(" ");
     assert!(
-        text.contains("Sheet reader (step 1) falls from level 12 to level 2. Nothing else falls."),
+        text.contains("sheet reader (step 1) falls from level 12 to level 2. Nothing else falls."),
         "{text}"
     );
     assert!(text.contains("at record 198: from there a way led up."), "{text}");
@@ -112,7 +113,7 @@ fn broken_journals_are_shown_up_to_where_they_hold() {
     assert!(cut.contains("record 306 of 306") && cut.contains("Refused (11)"), "{cut}");
     assert!(cut.contains("Way out: Look at how the journal was written"), "{cut}");
     let long = shown(&["-"], &vec![0; 70_000]);
-    assert!(long.contains("Refused (14)") && long.contains("Way out: Split it"), "{long}");
+    assert!(long.contains("Refused (14)") && long.contains("Way out: Split the journal"), "{long}");
     let page = shown(&["--page", "-"], &vec![0; 70_000]);
     assert!(page.contains("[\"R\",14,0,"), "{page}");
     let text = run(&["-"], b"register 0 9\n");
@@ -162,7 +163,7 @@ fn names_beside_the_journal_are_found() {
     let journal = scratch.write("run.journal", &[3, 1, 0, 9]);
     assert!(shown(&[&journal], b"").contains("Step 0 is admitted"));
     scratch.write("run.names", b"names 1\nstep 0 1 shell\n");
-    assert!(shown(&[&journal], b"").contains("Shell (step 0) is admitted"));
+    assert!(shown(&[&journal], b"").contains("shell (step 0) is admitted"));
     scratch.write("run.names", b"names 1\nstep zero 1 shell\n");
     let output = run(&[&journal], b"");
     assert_eq!(output.status.code(), Some(0));
@@ -268,7 +269,10 @@ fn following_says_when_a_journal_grows_too_long() {
     assert!(text.contains("! The journal has grown too long"), "{}", &text[text.len() - 300..]);
     assert!(text.contains("\n70000 0 R 12"));
     let text = shown(&["--follow", "-"], &[3, 1, 0]);
-    assert!(text.contains("1 0 R 11  Byte 0 of the journal should start a record."), "{text}");
+    assert!(
+        text.contains("1 0 R 11  Byte 0 of the journal should start a record, and does not."),
+        "{text}"
+    );
     let text = shown(&["--follow", "-"], &[3, 1, 0, 9, 0x80, 0, 3, 1, 1, 9]);
     assert!(
         text.contains("\n2 0 R 11  ")

@@ -13,8 +13,8 @@ use crate::disassembly;
 use crate::explain::{self, json, summary, Differs, Which};
 use crate::names::files::no_names;
 use crate::names::{self, Names};
-use crate::records::{Body, Record, Records};
 use crate::text::{excerpt, shown};
+use gk_advice::records::{Body, Record, Records};
 
 /// The longest text that is assembled, in bytes: comments take room, but input without end is no text.
 const LONGEST_TEXT: usize = 1 << 24;

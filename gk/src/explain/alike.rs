@@ -8,11 +8,11 @@ use std::collections::BTreeMap;
 
 use gatekeeper::Call;
 
-use super::scene::{listed, sentence};
 use super::Moment;
-use crate::run::Content;
 use crate::text::{paragraph, wrapped};
-use crate::things::Thing;
+use gk_advice::run::Content;
+use gk_advice::scene::{listed, sentence};
+use gk_advice::things::Thing;
 
 /// Refused records, those that are alike together, in the order of their first ones.
 #[derive(Default)]

@@ -4,11 +4,11 @@ use gatekeeper::{Answer, Call, Kind as ObjectKind};
 use gk_chain::Link;
 
 use super::{tell, Differs, Told, Which};
-use crate::advice::Advice;
-use crate::calls::{assembly_of, shape_of_code};
 use crate::names::{Kind, Names};
-use crate::run::Content;
-use crate::things::Thing;
+use gk_advice::calls::{assembly_of, shape_of_code};
+use gk_advice::run::Content;
+use gk_advice::things::Thing;
+use gk_advice::ways::Advice;
 
 /// The whole journal.
 pub fn json(journal: &[u8], names: &Names, which: Which) -> Result<String, Differs> {

@@ -2,9 +2,8 @@
 
 use gatekeeper::{Call, Monitor, NO_FREEZE};
 
-use super::scene::{capital, listed, way_word, Scene};
-use crate::advice::Closing;
-use crate::things::{handles_of, has_mapped, level, objects, steps, Held, Thing};
+use gk_advice::scene::{capital, listed, way_word, Closing, Scene};
+use gk_advice::things::{handles_of, has_mapped, level, objects, steps, Held, Thing};
 
 /// The sentences; `before` is the moment before the call, `after` the monitor after it, `closing` the freeze before it.
 pub fn outcome(call: Call, before: Scene, after: &Monitor, closing: Option<Closing>) -> Vec<String> {

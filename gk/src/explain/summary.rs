@@ -2,14 +2,14 @@
 
 use gatekeeper::{Call, Way};
 
-use super::asked::asked;
-use super::scene::{capital, way_word, Lives, Scene};
 use super::{Differs, End};
-use crate::calls::{shape_of_code, Role};
 use crate::names::Names;
-use crate::run::{agrees, Content, Run, Step};
 use crate::text::paragraph;
-use crate::things::{Thing, PLACES, STEPS};
+use gk_advice::asked::asked;
+use gk_advice::calls::{shape_of_code, Role};
+use gk_advice::run::{agrees, Content, Run, Step};
+use gk_advice::scene::{capital, way_word, Lives, Scene};
+use gk_advice::things::{Thing, PLACES, STEPS};
 
 /// The time of one step under its number.
 struct Stay {

@@ -8,6 +8,7 @@ use gk_names::files::{is_input_open, no_names, replaces, INPUT, INPUT_CLOSED, RE
 
 use crate::levels::{Levels, LONGEST_FILE, TOP};
 use crate::output::write_whole;
+use crate::report::Verdict;
 use crate::run::{journal_of, Failure as RunFailure};
 use crate::text::shown;
 use crate::world::Options;
@@ -27,8 +28,8 @@ TRACE is what strace -f -o TRACE has written, with or without -y; - or nothing i
 becomes a step, each file and pipe gets a number, and the calls are written in their order. -y has strace write
 real paths, and -s 2 no more of what is read and written than two characters; less than 2 is not enough.
 
-A report goes to standard error: which calls were written, which of them the gatekeeper refuses, and what was left
-out, with the first line of each kind.
+A report goes to standard error: which calls were written, which of them the gatekeeper refuses, what was NOT SEEN
+and what was left out, with the first line of each kind.
 
   --levels FILE   which level each file has; needed
   -o FILE         write the journal there; the names go to the same path with .names in the place of its ending
@@ -38,6 +39,7 @@ out, with the first line of each kind.
   --until LINE    read the trace up to this line
   --all-files     keep files of level 15 that are only read (harmless: docs/TRACE.md says why)
   --repeats       keep reads and writes that come again and lower nobody
+  --report-only   status 0 wherever the journal is written, whatever was refused or not seen
   --quiet         no report
 
 The levels file has a line for each pattern; the first that fits counts:
@@ -46,14 +48,16 @@ The levels file has a line for each pattern; the first that fits counts:
   paybook.csv      9
   bank.csv         12
   \"month end/**\"   step     # files that the run makes: the level of the step that makes them
-  /var/log/**      out      # left out, and reported
+  /var/log/**      out      # left out; where the run reads one, that is reported as NOT SEEN
   <stdin>          2        # what the run is started with: <stdin>, <stdout>, <stderr>
   else             15       # every other file; the last line
 A pattern is matched with the path from the starting folder and with the absolute path: * and ? are any
 characters but /, ** is any at all, [a-z] is one of a set, \\ takes the next character as it is.
 
-Exit status: 0 the journal is written; 1 something could not be read or written, or the trace does not fit into
-a journal: then nothing is written; 2 bad usage; 141, without a word, where the reader of the output has stopped.
+Exit status: 0 nothing is refused, and everything was seen; 3 there are refusals; 4 nothing is refused of what
+was seen, and something was NOT SEEN: the report says what. The journal is written in these three cases, and with
+--report-only the status is 0. 1 something could not be read or written, or the trace does not fit into a journal:
+then nothing is written; 2 bad usage; 141, without a word, where the reader of the output has stopped.
 ";
 
 enum Failure {
@@ -65,7 +69,9 @@ enum Failure {
 /// Runs `gk trace` with what stands behind it on the command line; the exit status.
 pub fn main(arguments: &[String]) -> i32 {
     let (message, status) = match command(arguments) {
-        Ok(()) => return 0,
+        Ok(Verdict::Clear) => return 0,
+        Ok(Verdict::Refused) => return 3,
+        Ok(Verdict::Unseen) => return 4,
         Err(Failure::Unread) => return 141,
         Err(Failure::Usage(message)) => (format!("gk trace: {message}. Type: gk trace --help"), 2),
         Err(Failure::Failed(message)) => (format!("gk trace: {message}"), 1),
@@ -83,13 +89,14 @@ struct Arguments {
     names: Option<String>,
     until: Option<u64>,
     is_quiet: bool,
+    is_report_only: bool,
     options: Options,
 }
 
-fn command(arguments: &[String]) -> Result<(), Failure> {
+fn command(arguments: &[String]) -> Result<Verdict, Failure> {
     let before_dashes = arguments.iter().take_while(|argument| *argument != "--");
     if before_dashes.clone().any(|argument| argument == "--help" || argument == "-h") {
-        return write_output(HELP.as_bytes());
+        return write_output(HELP.as_bytes()).map(|()| Verdict::Clear);
     }
     let arguments = sorted(arguments)?;
     let Some(path) = &arguments.levels else {
@@ -135,7 +142,7 @@ fn command(arguments: &[String]) -> Result<(), Failure> {
     if !arguments.is_quiet {
         let _ = io::stderr().write_all(written.report.text(written.journal.len()).as_bytes());
     }
-    Ok(())
+    Ok(if arguments.is_report_only { Verdict::Clear } else { written.report.verdict() })
 }
 
 fn sorted(arguments: &[String]) -> Result<Arguments, Failure> {
@@ -171,6 +178,7 @@ fn sorted(arguments: &[String]) -> Result<Arguments, Failure> {
             "--all-files" => sorted.options.all_files = true,
             "--repeats" => sorted.options.repeats = true,
             "--quiet" => sorted.is_quiet = true,
+            "--report-only" => sorted.is_report_only = true,
             "--" => files.extend(rest.by_ref().cloned()),
             option if option.starts_with('-') && option != "-" => {
                 return Err(Failure::Usage(format!("there is no option \"{}\"", shown(option.as_bytes()))));

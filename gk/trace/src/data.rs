@@ -105,16 +105,25 @@ impl World<'_> {
             if end.is_none() {
                 descriptor.left = opened.left;
             }
+            let moved = opened.left.moved(way, descriptor.path.as_deref());
+            if end.is_none() && moved.is_unseen() {
+                self.left(moved);
+            }
+            let descriptor = self.step_mut(step)?.table.entry(fd.number).or_insert_with(unknown);
             let is_marked = descriptor.ends_at_exec;
             if let (Some(end), true) = (end, is_marked) {
                 self.make(Call::Mark { subject: step, place: end.place })?;
+            }
+            // A descriptor that the run was not started with was opened by a call which is not in the trace.
+            if own.left == Left::Unknown {
+                self.left(Left::UnknownData);
             }
             if end.is_some() {
                 self.note(Note::Named);
             }
             return Ok(end);
         }
-        self.left(own.left);
+        self.left(own.left.moved(way, own.path.as_deref()));
         Ok(None)
     }
 

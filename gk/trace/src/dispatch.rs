@@ -3,7 +3,7 @@
 use crate::call::{self, Outcome, Sys};
 use crate::kinds::{gives_descriptor, kind_of};
 use crate::open::new_fd;
-use crate::report::{Left, Note};
+use crate::report::Left;
 use crate::steps::FORKS;
 use crate::world::{Child, Descriptor, Done, Move, Pending, World};
 
@@ -29,7 +29,7 @@ impl World<'_> {
         let Some(pending) = self.tasks.get_mut(&process).and_then(|task| task.pending.take()) else {
             return Ok(());
         };
-        self.note(Note::Unresumed);
+        self.left(Left::Unresumed);
         if let Some(child) = pending.child.filter(|child| !child.is_bound) {
             self.orphans.push(child);
         }
@@ -91,7 +91,7 @@ impl World<'_> {
             (_, Outcome::Unsaid) => {
                 self.settle()?;
                 if !self.moves_data(step, call)? {
-                    self.note(Note::Unresumed);
+                    self.left(Left::Unresumed);
                 }
                 Ok(())
             }

@@ -40,7 +40,18 @@ enum Slot {
     Pipe(usize),
 }
 
+/// A file under a number, from a record on.
+pub struct Seat {
+    object: u32,
+    from: u64,
+    path: String,
+    level: u32,
+    /// Whether a line of the levels file names it, and not only `else`.
+    is_named: bool,
+}
+
 pub struct Files {
+    seats: Vec<Seat>,
     files: Vec<File>,
     pipes: Vec<Pipe>,
     by_key: BTreeMap<Key, usize>,
@@ -50,7 +61,7 @@ pub struct Files {
 impl Default for Files {
     fn default() -> Files {
         let slots = [Slot::Free; OBJECTS as usize];
-        Files { files: Vec::new(), pipes: Vec::new(), by_key: BTreeMap::new(), slots }
+        Files { seats: Vec::new(), files: Vec::new(), pipes: Vec::new(), by_key: BTreeMap::new(), slots }
     }
 }
 
@@ -131,6 +142,27 @@ impl Files {
             Some(&Slot::Pipe(id)) => format!("the pipe of line {}", self.pipes[id].line),
             _ => format!("number {object}"),
         }
+    }
+
+    /// Where the file under a number has its level from `else` alone at a record: that, and the line that is missing.
+    /// `is_high` says that it takes nothing lower; then it is one that the run writes.
+    pub fn unlisted(&self, object: u32, record: u64, is_high: bool) -> Option<String> {
+        let seat = self.seats.iter().rev().find(|seat| seat.object == object && seat.from <= record)?;
+        if seat.is_named {
+            return None;
+        }
+        let temporary = ["/tmp/", "/var/tmp/"].into_iter().find(|folder| seat.path.starts_with(folder));
+        let pattern = temporary.map_or(seat.path.clone(), |folder| format!("{folder}*"));
+        let pattern = if pattern.contains(' ') { format!("\"{pattern}\"") } else { pattern };
+        let line = match is_high {
+            true => format!("{pattern} step (a file that the run makes has the level of its maker)"),
+            false => format!("{pattern} LEVEL"),
+        };
+        let (path, level) = (&seat.path, seat.level);
+        Some(format!(
+            "No line of the levels file names {path}: it has level {level} from the line else. Give it a line, as: \
+             {line}."
+        ))
     }
 
     /// Says that a step of this program has written to, or read, what is under a number.
@@ -268,6 +300,12 @@ impl World<'_> {
     /// Puts a file under a number, by the call just written.
     fn seat(&mut self, id: usize, object: u32) {
         let from = self.journal.next() - 1;
+        if let Some(key) = self.files.files[id].keys.first().cloned() {
+            let is_named =
+                self.level_of(&key).map_or(true, |found| found.is_named) || key.starts_with(b"<");
+            let (path, level) = (shown(&key), self.files.files[id].level);
+            self.files.seats.push(Seat { object, from, path, level, is_named });
+        }
         let file = &mut self.files.files[id];
         file.number = Some(object);
         self.files.slots[object as usize] = Slot::File(id);
@@ -315,8 +353,9 @@ impl World<'_> {
                 let pipes = OBJECTS as usize - files;
                 self.stop(format!(
                     "{wanted} would be the 65th file or pipe that is open at once, and the gatekeeper has numbers for \
-                     64 ({files} files and {pipes} pipes are open). Leave files out: a line with the word out in the \
-                     levels file; or trace a part of the run"
+                     64 ({files} files and {pipes} pipes are open). Let the run open fewer files at once, or trace a \
+                     part of it (--until {}): a file that is left out is not seen",
+                    self.line - 1
                 ))
             }
         }

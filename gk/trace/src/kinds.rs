@@ -250,9 +250,9 @@ pub fn kind_of(name: &str) -> Option<Left> {
         (NO_DATA, Left::NoData),
         (ATTRIBUTES, Left::Attributes),
         (SIGNALS, Left::Signals),
-        (SOCKETS, Left::Sockets),
+        (SOCKETS, Left::SocketCalls),
         (QUEUES, Left::Queues),
-        (EVENTS, Left::Events),
+        (EVENTS, Left::EventCalls),
         (&["shmat", "shmctl", "shmdt", "shmget"], Left::SharedMemory),
         (&["ptrace", "process_vm_readv", "process_vm_writev", "kcmp", "pidfd_getfd"], Left::OtherMemory),
         (
@@ -274,6 +274,65 @@ pub fn gives_descriptor(name: &str) -> Option<Left> {
         "io_uring_setup" => Some(Left::Rings),
         name if EVENTS.contains(&name) => Some(Left::Events),
         _ => None,
+    }
+}
+
+/// Kinds of calls that every run of a program makes, by what a reader knows them as: where there is none of a kind, the
+/// trace was made with a filter, and what else it hides is not known.
+const EVERY_RUN: [(&str, &[&str]); 5] = [
+    ("execve", &["execve", "execveat"]),
+    ("open", &["open", "openat", "openat2", "creat"]),
+    ("read", &["read"]),
+    ("close", &["close", "close_range"]),
+    ("mmap", &["mmap", "mmap2"]),
+];
+
+/// Calls that make pipes, and those that write to them.
+const PIPES: &[&str] = &["pipe", "pipe2", "socketpair"];
+const WRITES: &[&str] = &[
+    "write",
+    "writev",
+    "sendto",
+    "sendmsg",
+    "send",
+    "splice",
+    "tee",
+    "sendfile",
+    "sendfile64",
+    "vmsplice",
+];
+
+/// Which kinds of calls a trace has.
+#[derive(Default)]
+pub struct Seen {
+    kinds: [bool; EVERY_RUN.len()],
+    has_no_data: bool,
+    has_pipes: bool,
+    has_writes: bool,
+}
+
+impl Seen {
+    /// Takes a call in by its name.
+    pub fn take(&mut self, name: &str) {
+        for (is_seen, (_, names)) in self.kinds.iter_mut().zip(EVERY_RUN) {
+            *is_seen |= names.contains(&name);
+        }
+        self.has_no_data |= NO_DATA.contains(&name);
+        self.has_pipes |= PIPES.contains(&name);
+        self.has_writes |= WRITES.contains(&name);
+    }
+
+    /// The kinds that are missing.
+    pub fn missing(&self) -> Vec<&'static str> {
+        let every = self.kinds.iter().zip(EVERY_RUN).filter(|(is_seen, _)| !**is_seen);
+        let mut missing: Vec<&'static str> = every.map(|(_, (kind, _))| kind).collect();
+        if self.has_pipes && !self.has_writes {
+            missing.push("write");
+        }
+        if !self.has_no_data {
+            missing.push("brk and others without data");
+        }
+        missing
     }
 }
 

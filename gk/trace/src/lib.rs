@@ -43,7 +43,7 @@ mod world;
 
 pub use cli::main;
 pub use levels::{Fault, Found, Level, Levels, LONGEST_FILE, TOP};
-pub use report::Report;
+pub use report::{Report, Verdict};
 pub use run::{journal_of, Failure, Written};
 pub use text::{counted, shown};
 pub use world::{Options, Stop};

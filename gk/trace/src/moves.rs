@@ -101,8 +101,12 @@ impl World<'_> {
     /// refused.
     fn copies(&mut self, step: u32, from: &[u8], to: &[u8], note: Note) -> Done<bool> {
         let (before, after) = (self.level_of(from)?.level, self.level_of(to)?.level);
-        if (before == Level::Out) != (after == Level::Out) {
-            self.left(Left::ByLevels);
+        match (before, after) {
+            (Level::Out, Level::Out) => {}
+            // What nobody has seen comes under a path that has a level.
+            (Level::Out, _) => self.left(Left::Hidden),
+            (_, Level::Out) => self.left(Left::ByLevels),
+            _ => {}
         }
         if !self.is_between_levels(from, to)? {
             return Ok(true);
@@ -190,6 +194,9 @@ impl World<'_> {
         }
         match self.files.find(&from) {
             Some(id) => self.files.add_key(id, to),
+            None if level == Level::Out && self.level_of(&to)?.level != Level::Out => {
+                self.left(Left::Hidden)
+            }
             None => self.left(Left::ByLevels),
         }
         Ok(())
@@ -209,7 +216,7 @@ impl World<'_> {
     fn links_own(&mut self, step: u32, own: Descriptor, to: Key) -> Done {
         let object = own.reads.or(own.writes).map(|end| end.object);
         let Some(source) = object.and_then(|object| self.files.at(object)) else {
-            self.left(own.left);
+            self.left(own.left.moved(Way::Reads, own.path.as_deref()));
             return Ok(());
         };
         let before = Level::At(self.files.file(source).level);

@@ -14,20 +14,20 @@ const ROOM: usize = 16;
 pub struct Names {
     names: gk_names::Names,
     /// For each name that was given, how often.
-    given: BTreeMap<String, u32>,
+    counts: BTreeMap<String, u32>,
 }
 
 impl Names {
     /// Gives a thing a name that no other has: the name, or with a number behind it. Says which.
     pub fn give_new(&mut self, kind: Kind, number: u32, from: u64, text: &str) -> String {
         let mut name = fitted(text, LONGEST);
-        let count = self.given.entry(name.to_string()).or_insert(0);
+        let count = self.counts.entry(name.to_string()).or_insert(0);
         *count += 1;
         let mut again = *count;
         while again > 1 {
             let other = Name::fitted(&format!("{}-{again}", fitted(text, LONGEST - ROOM)));
-            if !self.given.contains_key(other.as_str()) {
-                self.given.insert(other.to_string(), 1);
+            if !self.counts.contains_key(other.as_str()) {
+                self.counts.insert(other.to_string(), 1);
                 name = other;
                 break;
             }
@@ -40,6 +40,11 @@ impl Names {
     /// Gives a thing the name that it has had under another number.
     pub fn give_again(&mut self, kind: Kind, number: u32, from: u64, name: &str) {
         self.names.give(kind, number, from, Name::fitted(name));
+    }
+
+    /// All that were given.
+    pub fn given(&self) -> &gk_names::Names {
+        &self.names
     }
 
     /// The text of the file.

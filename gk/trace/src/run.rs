@@ -6,7 +6,7 @@ use std::io::{self, BufRead, Read};
 use crate::call;
 use crate::levels::Levels;
 use crate::line::{self, Event};
-use crate::report::{Note, Report};
+use crate::report::{Left, Report};
 use crate::steps::FORKS;
 use crate::world::{Options, Stop, World};
 
@@ -73,11 +73,24 @@ pub fn journal_of(
     world.settle()?;
     let begun = world.tasks.values().filter(|task| task.pending.is_some()).count();
     for _ in 0..begun {
-        world.note(Note::Unresumed);
+        world.left(Left::Unresumed);
+    }
+    let unmet = world.tasks.values().filter(|task| !task.is_shown).count() + world.orphans.len();
+    for _ in 0..unmet {
+        world.left(Left::Unfollowed);
+    }
+    if world.report.is_cut || world.report.stopped_at.is_some() {
+        world.left(Left::Cut);
+    }
+    world.report.missing = world.seen.missing();
+    if !world.report.missing.is_empty() {
+        world.left(Left::Filter);
     }
     let mut names = std::mem::take(&mut world.journal.names);
     world.files.name_pipes(&mut names);
-    Ok(Written { journal: world.journal.bytes().to_vec(), names: names.text(), report: world.report })
+    let journal = world.journal.bytes().to_vec();
+    world.report.tell(&journal, names.given(), &world.files);
+    Ok(Written { journal, names: names.text(), report: world.report })
 }
 
 struct Reader<'a, T> {
@@ -172,8 +185,16 @@ impl<T: BufRead> Reader<'_, T> {
             return Ok(());
         }
         let is_quiet = matches!(line.event, Event::Nothing | Event::Superseded);
+        let name = match line.event {
+            Event::Call { name, .. } | Event::Begun { name, .. } => name,
+            _ => "",
+        };
+        self.world.seen.take(name);
         if !self.world.tasks.contains_key(&process) && !is_quiet {
-            self.meet(process, line.event == Event::Ended)?;
+            self.meet(process, line.event == Event::Ended, name.starts_with("execve"))?;
+        }
+        if let Some(task) = self.world.tasks.get_mut(&process) {
+            task.is_shown = true;
         }
         match line.event {
             Event::Nothing => {}
@@ -214,13 +235,13 @@ impl<T: BufRead> Reader<'_, T> {
     }
 
     /// A process is new here: it is the child of a fork that has begun, or comes from outside.
-    fn meet(&mut self, process: u32, is_end: bool) -> Result<(), Failure> {
+    fn meet(&mut self, process: u32, is_end: bool, is_start: bool) -> Result<(), Failure> {
         self.world.gone.remove(&process);
         let makers = self.world.makers();
         let orphans = self.world.orphans.len();
         match (makers.as_slice(), orphans) {
             ([], 0) if is_end => Ok(()),
-            ([], 0) => Ok(self.world.admit(process)?),
+            ([], 0) => Ok(self.world.admit(process, is_start)?),
             ([], 1) => {
                 let child = self.world.orphans.remove(0);
                 Ok(self.world.bind(process, 0, child)?)

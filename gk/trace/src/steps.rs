@@ -14,10 +14,11 @@ use crate::world::{Child, Descriptor, Done, Step, Task, World, PLACES};
 pub const FORKS: [&str; 4] = ["fork", "vfork", "clone", "clone3"];
 
 impl World<'_> {
-    /// Admits the first process, or one whose start is not in the trace.
-    pub fn admit(&mut self, process: u32) -> Done {
-        if self.journal.next() > 1 {
-            self.note(Note::Outside);
+    /// Admits the first process, or one whose start is not in the trace: the first one of a whole trace starts with an
+    /// exec.
+    pub fn admit(&mut self, process: u32, is_start: bool) -> Done {
+        if self.journal.next() > 1 || !is_start {
+            self.left(Left::Outside);
         }
         let step = self.free_step(&format!("process {process}"))?;
         self.make(Call::Admit { subject: step, level: self.options.start })?;
@@ -32,7 +33,7 @@ impl World<'_> {
             unnamed_from: Some(admitted),
             used: [false; PLACES as usize],
         });
-        self.tasks.insert(process, Task { step, group: process, pending: None });
+        self.tasks.insert(process, Task { step, group: process, pending: None, is_shown: true });
         for (number, which) in ["stdin", "stdout", "stderr"].into_iter().enumerate() {
             let descriptor = match self.levels.standard(number) {
                 None => Descriptor::left(Left::Standard, None),
@@ -113,7 +114,7 @@ impl World<'_> {
             // Its end was not seen, and the number is used again.
             self.ends(process)?;
         }
-        self.tasks.insert(process, Task { step: child.step, group, pending: None });
+        self.tasks.insert(process, Task { step: child.step, group, pending: None, is_shown: false });
         let Some(maker) = self.tasks.get(&parent).map(|task| task.step).filter(|&step| step != child.step)
         else {
             return Ok(());
@@ -195,7 +196,7 @@ impl World<'_> {
         let is_granted = match (object, self.level_of(&key)?.level) {
             (Some(object), _) => self.make(Call::Exec { subject: step, object })?,
             (None, Level::Out) => {
-                self.note(Note::Hidden);
+                self.left(Left::Hidden);
                 false
             }
             (None, level) => {

@@ -22,7 +22,7 @@ impl World<'_> {
             };
             (own.reads, own.writes) = (reads, writes);
         } else {
-            self.left(own.left);
+            self.left(own.left.unmoved());
         }
         own.ends_at_exec = false;
         self.put(step, to, own)?;
@@ -66,7 +66,7 @@ impl World<'_> {
             Some(own) if birth.is_some_and(|birth| birth != own.birth) => Ok(()),
             Some(own) => {
                 if !own.is_held() {
-                    let why = own.left;
+                    let why = own.left.unmoved();
                     self.left(why);
                 }
                 self.drop_fd(step, fd.number)

@@ -9,6 +9,7 @@ use gatekeeper::{Call, Way};
 
 use crate::files::Files;
 use crate::journal::{Journal, Trouble};
+use crate::kinds::Seen;
 use crate::levels::Levels;
 use crate::paths::{Key, Paths};
 use crate::report::{Left, Note, Report};
@@ -92,6 +93,8 @@ pub struct Task {
     /// The process that a thread belongs to.
     pub group: u32,
     pub pending: Option<Pending>,
+    /// Whether a line of its own has come.
+    pub is_shown: bool,
 }
 
 /// A call whose rest has not come yet.
@@ -132,6 +135,8 @@ pub struct World<'a> {
     pub orphans: Vec<Child>,
     pub files: Files,
     pub paths: Paths,
+    /// Which kinds of calls have come.
+    pub seen: Seen,
     pub line: u64,
     clock: u64,
 }
@@ -153,6 +158,7 @@ impl<'a> World<'a> {
             orphans: Vec::new(),
             files: Files::default(),
             paths,
+            seen: Seen::default(),
             line: 0,
             clock: 0,
         }
@@ -236,7 +242,9 @@ impl<'a> World<'a> {
                 let called = self.called(step);
                 self.stop(format!(
                     "{called} needs a 17th place for {wanted}, and a step has 16. It holds {holds}. \
-                     Leave some of these files out: a line with the word out in the levels file"
+                     Let the run open fewer files at once, or trace a part of it (--until {}): a file that is left \
+                     out is not seen",
+                    self.line - 1
                 ))
             }
         }

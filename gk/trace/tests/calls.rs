@@ -309,6 +309,5 @@ fn mappings_are_maps() {
     let lines = "1 mmap(NULL, 4096, PROT_READ|PROT_WRITE, MAP_SHARED|MAP_ANONYMOUS, -1, 0) = 0x1000\n\
                  1 shmget(1, 2, 3) = 4";
     assert_eq!(calls(lines), [""; 0]);
-    assert!(report(lines)
-        .contains("2  shared memory without a file: NOT SEEN by the gatekeeper; first at line 2\n"));
+    assert!(report(lines).contains("2  shared memory without a file; first at line 2\n"));
 }

@@ -7,9 +7,11 @@ mod common;
 use std::collections::BTreeMap;
 
 use common::{attempt, refused};
-use gk_trace::{Failure, Options};
+use gk_trace::{Failure, Options, Verdict};
 
 const LEVELS: &str = "f1 1\nf2 5\nf3 9\nf4 12\np1 5\nelse 15\n";
+/// The lowest file, from which everything can leak and to which nothing can, is left out.
+const WITHOUT_LOWEST: &str = "f1 out\nf2 5\nf3 9\nf4 12\np1 5\nelse 15\n";
 const FILES: [(&str, u8); 6] = [("f1", 1), ("f2", 5), ("f3", 9), ("f4", 12), ("p1", 5), ("p2", 15)];
 
 struct Random(u64);
@@ -69,7 +71,17 @@ impl Kernel {
         }
         kernel.memories.push(15);
         kernel.processes.insert(100, Process { fds: BTreeMap::new(), memory: 0, maps: Vec::new() });
-        kernel.lines.push("100 execve(\"p2\", [], 0x1) = 0".to_string());
+        // What every program does when it starts: without it the trace is taken for a filtered one.
+        for line in [
+            "execve(\"p2\", [], 0x1) = 0",
+            "brk(NULL) = 0x1000",
+            "openat(AT_FDCWD, \"/lib/libc.so\", O_RDONLY) = 3",
+            "read(3, \"\", 832) = 832",
+            "mmap(NULL, 4096, PROT_READ, MAP_PRIVATE, 3, 0) = 0x1000",
+            "close(3) = 0",
+        ] {
+            kernel.lines.push(format!("100 {line}"));
+        }
         kernel
     }
 
@@ -349,14 +361,28 @@ impl Kernel {
 fn what_really_leaks_is_refused() {
     let mut random = Random(5);
     let (mut leaks, mut quiet, mut stopped, mut clean_refusals) = (0, 0, 0, 0);
+    let (mut hidden, mut clear) = (0, 0);
     for round in 0..6000 {
         let mut kernel = Kernel::new();
         for _ in 0..10 + random.below(60) {
             kernel.step(&mut random, 0, &[]);
         }
+        let ends: Vec<u32> = kernel.threads.keys().chain(kernel.processes.keys()).copied().collect();
+        kernel.lines.extend(ends.into_iter().map(|process| format!("{process} +++ exited with 0 +++")));
         let trace = kernel.lines.join("\n") + "\n";
+        // Where a file is left out, what leaks from it is not refused; but nobody takes that for an all-clear.
+        if let Ok(written) = attempt(trace.as_bytes(), WITHOUT_LOWEST, Options::default()) {
+            match (kernel.has_leaked, written.report.verdict()) {
+                (true, Verdict::Clear) => panic!("round {round}: a leak without a word\n{trace}"),
+                (true, Verdict::Unseen) => hidden += 1,
+                (false, Verdict::Clear) => clear += 1,
+                _ => {}
+            }
+        }
         match attempt(trace.as_bytes(), LEVELS, Options::default()) {
             Ok(written) => {
+                let is_clear = written.report.verdict() == Verdict::Clear;
+                assert!(!(is_clear && kernel.has_leaked), "round {round}\n{trace}");
                 let refused = refused(&written.journal);
                 assert!(refused.iter().all(|(_, number)| *number == 9), "round {round}\n{trace}");
                 match (kernel.has_leaked, refused.is_empty()) {
@@ -383,4 +409,5 @@ fn what_really_leaks_is_refused() {
     let counts =
         format!("{leaks} leaks, {quiet} quiet, {clean_refusals} only could have leaked, {stopped} stopped");
     assert!(leaks > 500 && quiet > 500 && clean_refusals > 100 && stopped < 600, "{counts}");
+    assert!(hidden > 200 && clear > 200, "{hidden} leaks from what is left out, {clear} clear");
 }

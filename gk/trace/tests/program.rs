@@ -60,12 +60,99 @@ fn a_trace_by_name_or_on_standard_input() {
         (&["--levels", "pay.levels", "--", "pay.trace"][..], &b""[..]),
     ] {
         let output = run(arguments, input);
-        assert_eq!(output.status.code(), Some(0), "{}", errors(&output));
+        assert_eq!(output.status.code(), Some(3), "{}", errors(&output));
         assert!(output.stdout == journal, "{arguments:?}");
         assert_eq!(errors(&output), report);
     }
     let quiet = run(&["pay.trace", "--levels", "pay.levels", "--quiet"], b"");
-    assert_eq!((quiet.status.code(), errors(&quiet)), (Some(0), String::new()));
+    assert_eq!((quiet.status.code(), errors(&quiet)), (Some(3), String::new()));
+}
+
+#[test]
+fn the_status_is_the_verdict() {
+    let room = Room::new("status");
+    let hidden = room.path("hidden.levels");
+    fs::write(&hidden, "sheets/*.csv out\nhours/* 12\npaybook.csv 9\nbank.csv 12\nelse 15\n").unwrap();
+    let all_clear = "  nothing is refused, and everything was seen\n";
+    for (trace, levels, status, words) in [
+        ("apart.trace", "apart.levels", 0, all_clear),
+        ("pay.trace", "pay.levels", 3, "  there are refusals\n"),
+        ("pay.trace", &hidden, 4, "  nothing is refused, but not everything was seen"),
+        ("apart.trace", &hidden, 4, "  nothing is refused, but not everything was seen"),
+    ] {
+        let output = run(&[trace, "--levels", levels], b"");
+        assert_eq!(output.status.code(), Some(status), "{trace}, {levels}: {}", errors(&output));
+        assert!(errors(&output).contains(words), "{}", errors(&output));
+        assert_eq!(errors(&output).contains(all_clear), status == 0, "{}", errors(&output));
+        assert_eq!(errors(&output).contains("NOT SEEN by the gatekeeper:\n"), status == 4);
+        let only = run(&[trace, "--levels", levels, "--report-only"], b"");
+        assert_eq!((only.status.code(), only.stdout), (Some(0), output.stdout));
+        assert_eq!(only.stderr, output.stderr);
+    }
+}
+
+/// Each kind of call is taken out of a trace that is clear, as a filter of strace does: nobody gets an all-clear.
+#[test]
+fn a_filtered_trace_is_no_all_clear() {
+    let whole = fs::read_to_string(runs().join("apart.trace")).unwrap();
+    let name_of = |line: &str| {
+        let rest = line.split_once(' ').map_or("", |(_, rest)| rest.trim_start());
+        let rest = rest.strip_prefix("<... ").unwrap_or(rest);
+        rest.split(['(', ' ']).next().unwrap_or("").to_string()
+    };
+    let without = |is_out: &dyn Fn(&str) -> bool| -> String {
+        whole.lines().filter(|line| !is_out(&name_of(line))).map(|line| format!("{line}\n")).collect()
+    };
+    let status = |trace: &str| {
+        let output = run(&["--levels", "apart.levels"], trace.as_bytes());
+        (output.status.code(), errors(&output))
+    };
+    assert_eq!(status(&whole).0, Some(0));
+    // strace has written these since it was asked to follow; they are no calls.
+    let is_call = |name: &str| !name.starts_with('+') && !name.starts_with('-');
+    for hidden in ["read", "write", "openat", "close", "mmap", "execve", "clone", "pipe2", "dup2"] {
+        let trace = without(&|name| name == hidden);
+        assert!(trace.len() < whole.len(), "{hidden} is in the trace");
+        let (code, said) = status(&trace);
+        assert!(matches!(code, Some(1 | 3 | 4)), "without {hidden}: {said}");
+    }
+    for kept in [
+        &["openat", "read", "write", "close"][..],
+        &["openat", "close", "execve", "clone", "exit_group"],
+        &[
+            "execve",
+            "openat",
+            "read",
+            "write",
+            "close",
+            "mmap",
+            "clone",
+            "dup2",
+            "pipe2",
+            "exit_group",
+            "fcntl",
+        ],
+    ] {
+        let (code, said) = status(&without(&|name| is_call(name) && !kept.contains(&name)));
+        assert!(matches!(code, Some(1 | 3 | 4)), "with {kept:?} alone: {said}");
+    }
+}
+
+#[test]
+fn what_strace_does_not_follow_is_not_seen() {
+    // Without -f: the processes that the shell starts have no line.
+    let whole = fs::read_to_string(runs().join("apart.trace")).unwrap();
+    let first = whole.split(' ').next().unwrap();
+    let alone: String =
+        whole.lines().filter(|line| line.starts_with(first)).map(|line| format!("{line}\n")).collect();
+    let output = run(&["--levels", "apart.levels"], alone.as_bytes());
+    assert_eq!(output.status.code(), Some(4), "{}", errors(&output));
+    assert!(errors(&output).contains("trace with strace -f; first at"), "{}", errors(&output));
+    // From the middle on, as of a process that strace was told to join.
+    let later: String = whole.lines().skip(10).map(|line| format!("{line}\n")).collect();
+    let output = run(&["--levels", "apart.levels", "--folder", "/tmp/payrun"], later.as_bytes());
+    assert!(matches!(output.status.code(), Some(3 | 4)), "{}", errors(&output));
+    assert!(errors(&output).contains("processes whose start is not in the trace"), "{}", errors(&output));
 }
 
 #[test]
@@ -74,12 +161,12 @@ fn the_journal_and_the_names_go_to_files() {
     let names = fs::read(runs().join("pay.names")).unwrap();
     let journal = room.path("march.journal");
     let output = run(&["pay.trace", "--levels", "pay.levels", "-o", &journal], b"");
-    assert_eq!((output.status.code(), output.stdout.len()), (Some(0), 0));
+    assert_eq!((output.status.code(), output.stdout.len()), (Some(3), 0));
     assert_eq!(fs::read(&journal).unwrap(), fs::read(runs().join("pay.journal")).unwrap());
     assert_eq!(fs::read(room.path("march.names")).unwrap(), names);
     let other = room.path("other.txt");
     let output = run(&["pay.trace", "--levels", "pay.levels", "--names", &other], b"");
-    assert_eq!(output.status.code(), Some(0));
+    assert_eq!(output.status.code(), Some(3));
     assert_eq!(fs::read(other).unwrap(), names);
 }
 
@@ -118,7 +205,7 @@ fn no_file_is_lost_by_what_is_written() {
     // A names file is replaced by a new one, and a dash is standard output.
     fs::write(&other, "names 1\nstep 1 1 old\n").unwrap();
     let journal = beside("other");
-    assert_eq!(run(&[&trace, "--levels", &levels, "-o", &journal], b"").status.code(), Some(0));
+    assert_eq!(run(&[&trace, "--levels", &levels, "-o", &journal], b"").status.code(), Some(3));
     assert_eq!(fs::read(&other).unwrap(), fs::read(runs().join("pay.names")).unwrap());
     let dash = run(&[&trace, "--levels", &levels, "-o", "-"], b"");
     assert_eq!(dash.stdout, fs::read(&journal).unwrap());
@@ -200,6 +287,7 @@ fn until_and_start_are_heeded() {
     let output = run(&["pay.trace", "--levels", "pay.levels", "--until", "5", "--start", "9"], b"");
     assert_eq!(output.stdout, [3, 1, 0, 9, 3, 2, 0, 15, 3, 10, 0, 0]);
     assert!(errors(&output).contains("read up to line 5, as --until says"), "{}", errors(&output));
+    assert_eq!(output.status.code(), Some(4), "what comes later is not seen");
 }
 
 #[test]

@@ -106,7 +106,7 @@ impl Refusal {
     pub fn words(self) -> &'static str {
         match self {
             Refusal::UnknownCode => "no call has this code",
-            Refusal::NoSubject => "the step that asks is not there",
+            Refusal::NoSubject => "the step that asks, or is to be connected, is not there",
             Refusal::NumberTaken => "the number for the new thing cannot be used",
             Refusal::NoObject => "the file or pipe is not there",
             Refusal::IsPipe => "a pipe cannot be run, retired or mapped",

@@ -70,6 +70,7 @@ pub fn stop(lines: &str, levels: &str) -> (u64, String) {
 }
 
 /// The records that are refused, in words, with the refusal.
+#[allow(dead_code)]
 pub fn refused(journal: &[u8]) -> Vec<(String, u32)> {
     let words = words(journal);
     let replies = gatekeeper::replay(journal);

@@ -3,21 +3,34 @@
 use gatekeeper::{Call, Refusal, NO_FREEZE};
 use gk_chain::{chain_of, Link};
 
-use super::asked::{asked, not_done};
-use super::scene::{listed, sentence, way_word, Scene};
-use crate::advice::{counsel, nine_once_open, or_above, Closing, Counsel};
+use crate::asked::{asked, not_done};
 use crate::calls::{number_of, SHAPES};
-use crate::names::Kind;
-use crate::records::{body_words, length_words};
-use crate::run::Content;
+use crate::records::{body_words, length_words, Body};
+use crate::run::{Content, Step};
+use crate::scene::{listed, sentence, way_word, Closing, Scene};
 use crate::things::{handles_on, Thing, HIGHEST, OBJECTS, PLACES, STEPS};
+use crate::ways::{counsel, nine_once_open, or_above, Counsel};
+use gk_names::Kind;
 
-/// What is said of a call that was refused.
+/// What is said of a record that was refused.
 pub struct Refused {
+    /// Who may not do what, and why, with its full stop.
     pub title: String,
+    /// "Refused (9): low data could reach a higher file."; empty where the title says it.
+    pub answer: String,
+    /// What did not happen, and what stands in the way.
     pub facts: Vec<String>,
     pub chain: Vec<(Link, String)>,
     pub counsel: Counsel,
+}
+
+/// What is said of a record that was refused, by every tool; `scene` is the moment before it. None where it was not.
+pub fn of_record(step: &Step, scene: Scene, closing: Option<Closing>) -> Option<Refused> {
+    let refusal = step.refusal()?;
+    Some(match step.content {
+        Content::Call(call) => refused(call, refusal, scene, closing),
+        content => no_call(content),
+    })
 }
 
 /// A call that was refused; `scene` is the moment before it.
@@ -29,21 +42,26 @@ pub fn refused(call: Call, refusal: Refusal, scene: Scene, closing: Option<Closi
     let why = why(call, refusal, scene, closing, &chain);
     let asked = asked(call, scene, false);
     let title = if why.is_empty() { format!("{asked}.") } else { format!("{asked}: {why}.") };
-    let mut facts =
-        vec![format!("Refused ({}): {}. {}", refusal.number(), refusal.words(), not_done(call))];
+    let answer = answer_words(refusal);
+    let mut facts = vec![not_done(call).to_string()];
     if let (Some((low, low_name)), Some((high, high_name))) = (chain.first(), chain.last()) {
         if refusal == Refusal::Frozen {
             facts.push(format!("{}.", sentence(&nine_once_open("it would be refused with"))));
         }
         facts.push(format!(
             "{} has level {}, and {high_name} takes nothing from below level {}.",
-            super::scene::capital(low_name),
+            crate::scene::capital(low_name),
             low.level,
             high.level
         ));
         facts.extend(floor(call, scene));
     }
-    Refused { title, facts, chain, counsel: counsel(call, refusal, scene, closing) }
+    Refused { title, answer, facts, chain, counsel: counsel(call, refusal, scene, closing) }
+}
+
+/// The answer with its number, as a sentence.
+pub fn answer_words(refusal: Refusal) -> String {
+    format!("Refused ({}): {}.", refusal.number(), refusal.words())
 }
 
 /// RULES F5: how far the step that asks to read may fall, as the monitor has it.
@@ -70,43 +88,44 @@ fn link_name(link: Link, call: Call, scene: Scene) -> String {
 }
 
 /// A record that is no call, or a journal that breaks off or is too long.
-pub fn no_call(content: Content) -> (String, Vec<String>, Counsel) {
-    let advice = |text: &str| Counsel::without_calls(text.to_string());
-    let said = |refusal: Refusal, more: &str| {
-        format!("Refused ({}): {}. {}.", refusal.number(), refusal.words(), sentence(more))
-    };
-    match content {
+fn no_call(content: Content) -> Refused {
+    let (title, answer, fact, way) = match content {
         Content::TooLong => (
             format!(
                 "The journal is refused (14): {}. Nothing of it is run.",
                 Refusal::JournalTooLong.words()
             ),
-            Vec::new(),
-            advice("split the journal into runs of at most 65,536 bytes."),
+            String::new(),
+            None,
+            "split the journal into runs of at most 65,536 bytes.",
         ),
         Content::Stop(offset, fault) => (
             format!("Byte {offset} of the journal should start a record, and does not."),
-            vec![said(Refusal::JournalBroken, &format!("{}; the run stops here", length_words(fault)))],
-            advice("look at how the journal was written or copied from there on."),
+            answer_words(Refusal::JournalBroken),
+            Some(format!("{}; the run stops here.", length_words(fault))),
+            "look at how the journal was written or copied from there on.",
         ),
-        Content::NoCall(body) => {
-            let fact = match body {
-                crate::records::Body::UnknownCode(_) => format!(
-                    "Refused ({}): {}; calls have 1 to {}.",
-                    Refusal::UnknownCode.number(),
-                    body_words(body),
-                    SHAPES.len()
-                ),
-                _ => said(Refusal::RecordBroken, &body_words(body)),
-            };
-            (
-                "A record that is no call.".to_string(),
-                vec![fact],
-                advice("look at the program that wrote the journal; the next record is read."),
-            )
-        }
-        Content::Call(_) => (String::new(), Vec::new(), Counsel::default()),
-    }
+        Content::NoCall(body @ Body::UnknownCode(_)) => (
+            "A record that is no call.".to_string(),
+            format!(
+                "Refused ({}): {}; calls have 1 to {}.",
+                Refusal::UnknownCode.number(),
+                body_words(body),
+                SHAPES.len()
+            ),
+            None,
+            "look at the program that wrote the journal; the next record is read.",
+        ),
+        Content::NoCall(body) => (
+            "A record that is no call.".to_string(),
+            answer_words(Refusal::RecordBroken),
+            Some(format!("{}.", body_words(body))),
+            "look at the program that wrote the journal; the next record is read.",
+        ),
+        Content::Call(_) => (String::new(), String::new(), None, ""),
+    };
+    let facts = fact.into_iter().map(|fact| sentence(&fact)).collect();
+    Refused { title, answer, facts, chain: Vec::new(), counsel: Counsel::without_calls(way.to_string()) }
 }
 
 /// Why a call was refused, in a few words.

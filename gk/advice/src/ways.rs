@@ -11,7 +11,7 @@ mod places;
 use gatekeeper::{Answer, Call, Monitor, Refusal, NO_FREEZE};
 use gk_chain::is_nine_once_open;
 
-use crate::explain::scene::{listed, Scene};
+use crate::scene::{listed, Closing, Scene};
 use crate::things::{is_frozen, Held, HIGHEST};
 
 /// Things of a kind that are named one by one.
@@ -57,20 +57,6 @@ pub fn or_above(level: u32) -> String {
         level.to_string()
     } else {
         format!("{level} or above")
-    }
-}
-
-/// The freeze that is set, and the record that set it.
-#[derive(Clone, Copy, Debug, PartialEq, Eq)]
-pub struct Closing {
-    pub level: u8,
-    pub record: u64,
-}
-
-impl Closing {
-    /// To follow "the books are" or "they were".
-    pub fn words(self) -> String {
-        format!("closed from level {} up since record {}", self.level, self.record)
     }
 }
 
@@ -139,6 +125,34 @@ fn aim_after(monitor: &Monitor, first: &[Call], call: Call) -> Option<Vec<Call>>
     let then = aim(&tried(monitor, first).ok()?, call)?;
     Some(first.iter().copied().chain(then).collect())
 }
+
+/// The least level from which on, up to the highest, there are calls; and those of that level.
+fn from_level(calls_at: impl Fn(u32) -> Option<Vec<Call>>) -> Option<(u32, Vec<Call>)> {
+    (0..=HIGHEST).rev().map_while(|level| calls_at(level).map(|calls| (level, calls))).last()
+}
+
+/// The lowest level at which there are calls, the highest up to which there are at all between, and the calls of the
+/// lowest. Where these do not open the books, those between do not, either.
+fn between_levels(calls_at: impl Fn(u32) -> Option<Vec<Call>>) -> Option<(u32, u32, Vec<Call>)> {
+    let (low, calls) = (0..=HIGHEST).find_map(|level| calls_at(level).map(|calls| (level, calls)))?;
+    let is_like =
+        |level: &u32| calls_at(*level).is_some_and(|others| opens_books(&others) == opens_books(&calls));
+    let high = (low..=HIGHEST).take_while(is_like).last()?;
+    Some((low, high, calls))
+}
+
+/// These levels, and what a level means to who gives one.
+fn level_words(low: u32, high: u32) -> String {
+    match (low, high) {
+        (0, HIGHEST) => "at any level".to_string(),
+        (_, HIGHEST) => format!("at level {}", or_above(low)),
+        _ if low == high => format!("at level {low}"),
+        _ => format!("at level {low} to {high}"),
+    }
+}
+
+/// Said where a thing from outside is to get a level.
+const NO_HIGHER: &str = "A level says how well a thing has been looked over: give it no higher one.";
 
 /// Whether the calls of an [`aim`] open the books.
 fn opens_books(calls: &[Call]) -> bool {

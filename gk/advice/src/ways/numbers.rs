@@ -4,11 +4,11 @@ use gatekeeper::{Call, NO_FREEZE};
 
 use super::closing::handle_words;
 use super::{
-    aim, aim_after, close_calls, once_open, refusal_of, refused_here, refused_words, some_of, tried,
-    Counsel,
+    aim, aim_after, between_levels, close_calls, level_words, once_open, refusal_of, refused_here,
+    refused_words, some_of, tried, Counsel, NO_HIGHER,
 };
 use crate::calls::{number_of, with_number};
-use crate::explain::scene::Scene;
+use crate::scene::Scene;
 use crate::things::{handles_on, is_file, is_pipe, objects, steps, Held, HIGHEST, OBJECTS, STEPS};
 
 /// The same call with each of some numbers in the place of the one that is called so: those that are let through, and
@@ -48,14 +48,11 @@ pub fn missing_step(call: Call, scene: Scene) -> Counsel {
         };
         let words: Vec<String> = missing.iter().map(|&(_, s)| format!("step {s}")).collect();
         let words = words.join(" and ");
-        let fit = (0..=HIGHEST)
-            .rev()
-            .find_map(|level| aim_after(monitor, &admits(level), call).map(|calls| (level, calls)));
-        match fit {
-            Some((level, calls)) => {
-                let when = once_open(&calls);
+        match between_levels(|level| aim_after(monitor, &admits(level), call)) {
+            Some((low, high, calls)) => {
+                let (at, when) = (level_words(low, high), once_open(&calls));
                 counsel.way(
-                    format!("admit {words} first, for example at level {level}; then the call is allowed{when}."),
+                    format!("admit {words} first, {at}; then the call is allowed{when}. {NO_HIGHER}"),
                     calls,
                 );
             }
@@ -228,16 +225,12 @@ pub fn missing_object(call: Call, scene: Scene) -> Counsel {
     }
     if object < OBJECTS {
         let register = |level: u32| Call::Register { object, level };
-        let fit = (0..=HIGHEST)
-            .rev()
-            .find_map(|level| aim_after(monitor, &[register(level)], call).map(|calls| (level, calls)));
-        match fit {
-            Some((level, calls)) => {
-                let when = once_open(&calls);
+        match between_levels(|level| aim_after(monitor, &[register(level)], call)) {
+            Some((low, high, calls)) => {
+                let (at, when) = (level_words(low, high), once_open(&calls));
                 counsel.way(
                     format!(
-                        "register file {object} first, for example at level {level}; then the call is allowed\
-                         {when}."
+                        "register file {object} first, {at}; then the call is allowed{when}. {NO_HIGHER}"
                     ),
                     calls,
                 );

@@ -4,7 +4,7 @@ use gatekeeper::Call;
 
 use super::{aim, aim_after, once_open, refusal_of, refused_here, Counsel};
 use crate::calls::{number_of, with_number};
-use crate::explain::scene::{capital, listed, Scene};
+use crate::scene::{capital, listed, Scene};
 use crate::things::{empty_places, handles_of, Held, PLACES};
 
 fn spaced(places: &[u32]) -> String {

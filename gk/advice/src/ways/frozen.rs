@@ -5,7 +5,7 @@
 use gatekeeper::{Call, NO_FREEZE};
 
 use super::{flow, some_of, tried, Counsel, MOST_NAMED};
-use crate::explain::scene::Scene;
+use crate::scene::Scene;
 use crate::things::{handles_on, is_file, objects};
 
 pub fn counsel(call: Call, scene: Scene) -> Counsel {

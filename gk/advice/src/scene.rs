@@ -1,10 +1,10 @@
 //! A moment of a run, and what things are called at it.
 
-use gatekeeper::{Handle, Kind as ObjectKind, Monitor, Way};
+use gatekeeper::{Call, Handle, Kind as ObjectKind, Monitor, Way};
 
-use crate::names::{Entry, Kind, Names};
-use crate::run::Step;
+use crate::run::{Content, Step};
 use crate::things::{level, Thing, OBJECTS, STEPS};
+use gk_names::{Entry, Kind, Names};
 
 /// At which records the things of each number went, so that a name is not taken for that of the next one.
 #[derive(Clone, Debug)]
@@ -58,6 +58,43 @@ impl Lives {
             Thing::Object(o) => self.objects.get(o as usize),
         };
         life.copied().unwrap_or_default()
+    }
+}
+
+/// What a later record looks back on.
+#[derive(Clone, Debug, Default)]
+pub struct Past {
+    pub lives: Lives,
+    pub closing: Option<Closing>,
+}
+
+impl Past {
+    /// Takes note of a record.
+    pub fn follow(&mut self, step: &Step) {
+        self.lives.follow(step);
+        if let (Content::Call(Call::Freeze { .. }), None) = (step.content, step.refusal()) {
+            let frozen_from = step.after.frozen_from();
+            self.closing = frozen_from.map(|level| Closing { level, record: step.position });
+        }
+    }
+
+    /// The moment before a record, which was not followed yet.
+    pub fn before<'a>(&'a self, step: &'a Step, names: &'a Names) -> Scene<'a> {
+        Scene { monitor: &step.before, record: step.position, names, lives: &self.lives, unnamed: None }
+    }
+}
+
+/// The freeze that is set, and the record that set it.
+#[derive(Clone, Copy, Debug, PartialEq, Eq)]
+pub struct Closing {
+    pub level: u8,
+    pub record: u64,
+}
+
+impl Closing {
+    /// To follow "the books are" or "they were".
+    pub fn words(self) -> String {
+        format!("closed from level {} up since record {}", self.level, self.record)
     }
 }
 
@@ -201,8 +238,11 @@ pub fn way_word(way: Way) -> &'static str {
 
 /// A text as the front of a sentence: with a capital, but that a name stays as it is, an article at its front apart.
 pub fn capital(text: &str) -> String {
-    let words = ["step ", "file ", "pipe ", "file or pipe ", "the ", "a ", "an "];
-    if words.iter().any(|word| text.starts_with(word)) {
+    let is_thing = |kind: &str| {
+        text.strip_prefix(kind).is_some_and(|rest| rest.starts_with(|letter: char| letter.is_ascii_digit()))
+    };
+    let has_article = ["the ", "a ", "an "].into_iter().any(|article| text.starts_with(article));
+    if has_article || ["step ", "file ", "pipe ", "file or pipe "].into_iter().any(is_thing) {
         sentence(text)
     } else {
         text.to_string()

@@ -39,6 +39,17 @@ pub enum LengthFault {
     PastEnd { length: u32, left: usize },
 }
 
+impl LengthFault {
+    /// Whether more bytes behind these, which start with the length, could make a record of them. A length goes on
+    /// after each byte that has its highest bit, and takes at most five.
+    pub fn may_pass(self, bytes: usize) -> bool {
+        match self {
+            LengthFault::Malformed(malformed) => malformed == Malformed::CutOff && bytes < 5,
+            LengthFault::PastEnd { .. } => true,
+        }
+    }
+}
+
 /// RULES R12: what is wrong with a body.
 #[derive(Clone, Copy, Debug, PartialEq, Eq)]
 pub enum BodyFault {
@@ -92,20 +103,24 @@ impl<'a> Iterator for Records<'a> {
     type Item = Entry<'a>;
 
     fn next(&mut self) -> Option<Entry<'a>> {
-        let start = self.offset;
-        let rest = self.journal.get(start..).filter(|rest| !rest.is_empty())?;
-        self.offset = self.journal.len();
-        let Some((length, taken)) = read_number(rest) else {
-            return Some(Err((start, LengthFault::Malformed(Malformed::of(rest)))));
-        };
-        let left = rest.len() - taken;
-        let Some(end) = usize::try_from(length).ok().filter(|&length| length <= left) else {
-            return Some(Err((start, LengthFault::PastEnd { length, left })));
-        };
-        self.offset = start + taken + end;
-        let body_bytes = &rest[taken..taken + end];
-        Some(Ok(Record { start, bytes: &rest[..taken + end], body_bytes, body: read_body(body_bytes) }))
+        let entry = entry_at(self.journal, self.offset)?;
+        self.offset = entry.map_or(self.journal.len(), |record| record.start + record.bytes.len());
+        Some(entry)
     }
+}
+
+/// What stands at an offset of a journal; none at its end.
+pub fn entry_at(journal: &[u8], start: usize) -> Option<Entry<'_>> {
+    let rest = journal.get(start..).filter(|rest| !rest.is_empty())?;
+    let Some((length, taken)) = read_number(rest) else {
+        return Some(Err((start, LengthFault::Malformed(Malformed::of(rest)))));
+    };
+    let left = rest.len() - taken;
+    let Some(end) = usize::try_from(length).ok().filter(|&length| length <= left) else {
+        return Some(Err((start, LengthFault::PastEnd { length, left })));
+    };
+    let body_bytes = &rest[taken..taken + end];
+    Some(Ok(Record { start, bytes: &rest[..taken + end], body_bytes, body: read_body(body_bytes) }))
 }
 
 /// RULES J9, J13 to J16.

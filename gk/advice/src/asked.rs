@@ -2,10 +2,10 @@
 
 use gatekeeper::{Call, NO_FREEZE};
 
-use super::scene::{capital, Scene};
 use crate::calls::{shape_of_code, Role};
-use crate::names::Kind;
+use crate::scene::{capital, Scene};
 use crate::things::Thing;
+use gk_names::Kind;
 
 /// A call in words, without a full stop; `happens` says whether it was allowed.
 pub fn asked(call: Call, scene: Scene, happens: bool) -> String {

@@ -4,7 +4,7 @@ use gatekeeper::{Call, Monitor, Refusal};
 
 use super::cut::{self, Whose};
 use super::{aim_after, close_calls, refusal_of, tried, Counsel};
-use crate::explain::scene::{capital, listed, way_word, Scene};
+use crate::scene::{capital, listed, way_word, Scene};
 use crate::things::{handles, handles_on, is_pipe, objects, Held, Thing};
 
 /// A set of closes, with the calls that try it.

@@ -5,10 +5,10 @@ use gatekeeper::{Call, Monitor};
 
 use super::closing::{closed_for_good, ended_words, enough, handle_words};
 use super::cut::Whose;
-use super::{aim, aim_after, once_open, or_above, tried, with_others, Counsel};
+use super::{aim, aim_after, from_level, once_open, or_above, tried, with_others, Counsel};
 use crate::calls::with_number;
-use crate::explain::scene::Scene;
-use crate::things::{empty_places, handles_of, handles_on, is_file, steps, Held, Thing, HIGHEST, STEPS};
+use crate::scene::Scene;
+use crate::things::{empty_places, handles_of, handles_on, is_file, steps, Held, Thing, STEPS};
 
 /// The ways out, the cheapest first.
 pub fn counsel(call: Call, scene: Scene) -> Counsel {
@@ -186,11 +186,7 @@ fn admitted_step(call: Call, scene: Scene, counsel: &mut Counsel) {
         let admit = Call::Admit { subject: number, level };
         aim_after(scene.monitor, &[admit], with_number(with_number(call, "s", number), "p", 0))
     };
-    let Some(least) = (0..=HIGHEST).find(|&least| (least..=HIGHEST).all(|level| calls_at(level).is_some()))
-    else {
-        return;
-    };
-    if let Some(calls) = calls_at(least) {
+    if let Some((least, calls)) = from_level(calls_at) {
         let when = once_open(&calls);
         counsel.way(
             format!(
@@ -214,11 +210,7 @@ fn looked_over(call: Call, scene: Scene, counsel: &mut Counsel) {
     let calls_at = |level: u32| {
         aim_after(scene.monitor, &[Call::Retire { object }, Call::Register { object, level }], call)
     };
-    let Some(least) = (0..=HIGHEST).find(|&least| (least..=HIGHEST).all(|level| calls_at(level).is_some()))
-    else {
-        return;
-    };
-    if let Some(calls) = calls_at(least) {
+    if let Some((least, calls)) = from_level(calls_at) {
         let file = scene.object(object);
         counsel.way(
             format!(
