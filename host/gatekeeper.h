@@ -9,9 +9,9 @@
  * `struct gatekeeper_monitor`, which a call need not take apart. The answers are the same. Bytes are for a monitor that
  * is stored or sent, the struct is for speed.
  *
- * What a host owes each function: a pointer has the given number of bytes behind it, or a whole struct, and is not null
- * even where that number is 0; a struct lies as its type is aligned; no two buffers of one call overlap; and no other
- * thread uses what is lent meanwhile. Every function returns.
+ * What a host owes each function: a pointer has the given number of bytes behind it, or a whole struct or number, and is
+ * not null even where that number is 0; a struct and a number lie as their types are aligned; no two buffers of one call
+ * overlap; and no other thread uses what is lent meanwhile. Every function returns.
  */
 #ifndef GATEKEEPER_H
 #define GATEKEEPER_H
@@ -39,21 +39,22 @@ extern "C" {
 #endif
 
 /* The version of this header and of the archive that belongs to it, and as the number that gatekeeper_version gives. */
-#define GATEKEEPER_VERSION "5.0.0"
-#define GATEKEEPER_VERSION_NUMBER (65536 * 5 + 256 * 0 + 0)
+#define GATEKEEPER_VERSION "6.0.0"
+#define GATEKEEPER_VERSION_NUMBER (65536 * 6 + 256 * 0 + 0)
 
 /* How much stack a call of any function here takes at most, in bytes: measured (tools/hosts), not proved. */
-#define GATEKEEPER_STACK_BYTES 40960
+#define GATEKEEPER_STACK_BYTES 53248
 
 /* Sizes, in bytes. */
-#define GATEKEEPER_STATE_BYTES 1841    /* a monitor with its tally and its kept needs */
-#define GATEKEEPER_RECORD_ROOM 32      /* room for every record */
+#define GATEKEEPER_STATE_BYTES 2353    /* a monitor with its tally and its kept needs */
+#define GATEKEEPER_RECORD_ROOM 62      /* room for every record */
 #define GATEKEEPER_JOURNAL_BYTES 65536 /* the longest journal that is run */
-#define GATEKEEPER_REPLY_ROOM 1835075  /* room for the reply to every journal */
+#define GATEKEEPER_REPLY_ROOM 2490435  /* room for the reply to every journal */
 
-/* How many there are of each; numbers start at 0. */
+/* How many there are of each. The numbers of subjects, places and levels start at 0. An object has any number of 64
+ * bits, so that none is left to say that there is no object; up to version 5.0.0 it was 0 to 63. */
 #define GATEKEEPER_SUBJECTS 32
-#define GATEKEEPER_OBJECTS 64 /* files and pipes, one number space */
+#define GATEKEEPER_OBJECTS 64 /* files and pipes that may be live at a time; one number space */
 #define GATEKEEPER_PLACES 16  /* places for handles, of each subject */
 #define GATEKEEPER_LEVELS 16  /* 0 is the lowest */
 
@@ -61,22 +62,26 @@ extern "C" {
 #define GATEKEEPER_NO_FREEZE 16
 
 /*
- * The bytes of a monitor, for a host that keeps them: subjects, objects, handles, the tally, the freeze, and the kept
- * needs. What stands in them is looked at with the functions below, from gatekeeper_subject on.
+ * The bytes of a monitor, for a host that keeps them: subjects, objects, handles, the tally, the freeze, the kept needs,
+ * and the numbers of the objects. What stands in them is looked at with the functions below, from gatekeeper_subject on.
  *
  *   at 0, 32 times     1 where the subject is live, and its level
- *   at 64, 64 times    1 for a file, 2 for a pipe, and its level
- *   at 192, 512 times  1 for a reading handle, 2 for a writing one, 3 for a mapping, its object, and 1 where it is
- *                      marked; place p of subject s is the (16 s + p)th, three bytes at 192 + 3 (16 s + p)
+ *   at 64, 64 times    a slot for an object: 1 for a file, 2 for a pipe, and its level
+ *   at 192, 512 times  1 for a reading handle, 2 for a writing one, 3 for a mapping, its object's slot, and 1 where it
+ *                      is marked; place p of subject s is the (16 s + p)th, three bytes at 192 + 3 (16 s + p)
  *   at 1728            handles made, eight bytes, the lowest first
  *   at 1736            handles gone, likewise
  *   at 1744            the freeze, one byte: the level from which on files are frozen; 16 and above: none is
- *   at 1745, 96 times  a kept need, one byte: of the 32 subjects, then of the 64 objects
+ *   at 1745, 96 times  a kept need, one byte: of the 32 subjects, then of the 64 slots
+ *   at 1841, 64 times  the number of the object that stands in the slot, eight bytes, the lowest first
  *
- * Any other first byte says that there is no such subject, object or handle; any other third byte, that the handle is
- * not marked. A handle dangles where its subject or its object is not live: it counts as an empty place. Which kept
- * needs stand at numbers that are not in use is left open. The empty monitor has 16 as its freeze and 0 everywhere
- * else: bytes that are all 0 have no subject, object or handle either, but they freeze every file.
+ * Any other first byte says that there is no such subject or handle, or that the slot is free; any other third byte,
+ * that the handle is not marked. Where two slots in use have one number, the first counts, and any other counts as free.
+ * A handle dangles where its subject is not live, or its slot is free or above 63: it counts as an empty place. An
+ * allowed call frees such slots and empties such places. Which slot a new object gets is left open, and so is what
+ * stands beside a subject that is not live and a slot that is free: a host goes by numbers. The empty monitor has 16 as
+ * its freeze and 0 everywhere else: bytes that are all 0 have no subject, object or handle either, but they freeze every
+ * file.
  *
  * The need of a subject or an object is the highest level of all files that it reaches through the handles that there
  * are now, or 0 where it reaches none; a file reaches itself. On a monitor that started empty it is the lowest level
@@ -85,8 +90,11 @@ extern "C" {
  * one. No answer goes by a kept need: a call on a monitor that is not right is answered by the rules all the same, and
  * only what is kept may then be wrong.
  *
- * Bytes that version 2.0.0, 2.1.0 or 3.0.0 kept have no kept needs: there are 1745 of them, which is a wrong length.
- * With 96 bytes of any value after them, and after one gatekeeper_put_right, they are the same monitor, and right.
+ * Bytes that version 4.0.0, 4.1.0 or 5.0.0 kept have no numbers: there are 1841 of them, which is a wrong length. With
+ * the numbers 0 to 63 after them, each in eight bytes, the lowest first, they are the same monitor, and right: object i
+ * stood in slot i.
+ * Bytes that version 2.0.0, 2.1.0 or 3.0.0 kept have no kept needs either: there are 1745 of them. With 96 bytes of any
+ * value after them, and these numbers, and after one gatekeeper_put_right, they are the same monitor, and right.
  * Those of a version before these have neither marks nor a freeze either. With a byte 0 after the two of each handle,
  * and a byte of GATEKEEPER_NO_FREEZE after all, they are bytes of version 2.0.0.
  */
@@ -144,14 +152,15 @@ enum gatekeeper_outcome {
 };
 
 /* Why a call, a record or a journal is refused. Where several hold, the smallest number is given, but 14 goes before
- * all others, 12 before 2 to 10, 15 and 16, 16 right after 2, and 15 just before 9. So an open that is refused with 9 is
- * one that no freeze forbids, and one that is refused with 15 may be refused with 9 once the freeze is lifted. Up to
- * version 4.1.0 an open that offends both was refused with 9. */
+ * all others, 12 before 2 to 10 and 15 to 17, 16 right after 2, 17 right after 3, and 15 just before 9. So an open that
+ * is refused with 9 is one that no freeze forbids, and one that is refused with 15 may be refused with 9 once the freeze
+ * is lifted. Up to version 4.1.0 an open that offends both was refused with 9. After 17 a host retires a file or has a
+ * pipe end, by closing its last handle, and asks again. */
 enum gatekeeper_refusal {
     GATEKEEPER_UNKNOWN_CODE = 1,      /* the code is none of 1 to 17 */
     GATEKEEPER_NO_SUBJECT = 2,        /* a subject that asks, or is to be connected, is out of range or not live */
-    GATEKEEPER_NUMBER_TAKEN = 3,      /* the number for a new thing is out of range or in use; a = b */
-    GATEKEEPER_NO_OBJECT = 4,         /* the object is out of range or not live */
+    GATEKEEPER_NUMBER_TAKEN = 3,      /* a new subject is out of range or in use, a new object in use; a = b */
+    GATEKEEPER_NO_OBJECT = 4,         /* the object is not live */
     GATEKEEPER_IS_PIPE = 5,           /* a pipe cannot be run, retired or mapped */
     GATEKEEPER_LEVEL_TOO_HIGH = 6,    /* the level is above 15, or a freeze above 16 */
     GATEKEEPER_PLACE_UNFIT = 7,       /* the place is above 15, taken, or empty where a handle is named; r = w, p = q */
@@ -163,7 +172,8 @@ enum gatekeeper_refusal {
     GATEKEEPER_RECORD_TOO_LONG = 13,  /* gatekeeper_record only: the record is longer than the buffer */
     GATEKEEPER_JOURNAL_TOO_LONG = 14, /* journals only: above 65,536 bytes */
     GATEKEEPER_FROZEN = 15,           /* an open for writing of a file at or above the freeze */
-    GATEKEEPER_SAME_SUBJECT = 16      /* a connect of a subject to itself */
+    GATEKEEPER_SAME_SUBJECT = 16,     /* a connect of a subject to itself */
+    GATEKEEPER_TOO_MANY_OBJECTS = 17  /* more than 64 objects would be live; a connect makes two */
 };
 
 /* What a refusal says, in plain words, for a log or a message: a text that stays. For any other number, 0 among them,
@@ -187,6 +197,7 @@ GATEKEEPER_INLINE const char *gatekeeper_refusal_text(uint32_t refusal)
     case GATEKEEPER_JOURNAL_TOO_LONG: return "the journal is longer than 65,536 bytes";
     case GATEKEEPER_FROZEN: return "the file is frozen while the books are closed";
     case GATEKEEPER_SAME_SUBJECT: return "a step cannot be connected to itself";
+    case GATEKEEPER_TOO_MANY_OBJECTS: return "only 64 files and pipes may be live: retire a file or end a pipe";
     default: return "no refusal";
     }
 }
@@ -221,10 +232,11 @@ bool gatekeeper_empty(uint8_t *state, size_t len);
  * outcome's letter, and the level or the number of the refusal: see the three functions below. A refused call changes
  * no byte. Where `len` is not GATEKEEPER_STATE_BYTES: 0, which allows nothing, and no byte is touched.
  *
- * Before version 3.0.0 a call had four numbers: a host of then adds two zeros here and in gatekeeper_record. */
+ * Before version 6.0.0 the numbers had 32 bits: a host of then is built anew. Before version 3.0.0 a call had four
+ * numbers: a host of then adds two zeros here and in gatekeeper_record. */
 GATEKEEPER_MUST_USE
-uint32_t gatekeeper_call(uint8_t *state, size_t len, uint32_t code, uint32_t a, uint32_t b, uint32_t c, uint32_t d,
-                         uint32_t e, uint32_t f);
+uint32_t gatekeeper_call(uint8_t *state, size_t len, uint64_t code, uint64_t a, uint64_t b, uint64_t c, uint64_t d,
+                         uint64_t e, uint64_t f);
 
 /* The outcome in an answer of gatekeeper_call: an `enum gatekeeper_outcome`, or 0 for a wrong length. What this
  * function and the next two read off an answer that is not 0 is the rules' answer, whatever the lent bytes were. */
@@ -257,12 +269,31 @@ uint64_t gatekeeper_gone(const uint8_t *state, size_t len);
  *
  *   of a subject   256, and its level: see gatekeeper_level_of
  *   of an object   256 times its kind, and its level: see gatekeeper_kind_of and gatekeeper_level_of
- *   of a handle    256 times its way, and its object, and 256 times 256 where it is marked: see gatekeeper_way_of,
- *                  gatekeeper_object_of and gatekeeper_is_marked
+ *   of a handle    256 times its way, and 256 times 256 where it is marked: see gatekeeper_way_of and
+ *                  gatekeeper_is_marked
  */
-uint32_t gatekeeper_subject(const uint8_t *state, size_t len, uint32_t s);
-uint32_t gatekeeper_object(const uint8_t *state, size_t len, uint32_t o);
-uint32_t gatekeeper_handle(const uint8_t *state, size_t len, uint32_t s, uint32_t p);
+uint32_t gatekeeper_subject(const uint8_t *state, size_t len, uint64_t s);
+uint32_t gatekeeper_object(const uint8_t *state, size_t len, uint64_t o);
+uint32_t gatekeeper_handle(const uint8_t *state, size_t len, uint64_t s, uint64_t p);
+
+/* The number of the object of the handle at place p of subject s, which is live. 0 where there is no handle, and where
+ * `len` is not GATEKEEPER_STATE_BYTES. Since 0 is a number, too, a host asks gatekeeper_handle first whether there is
+ * one. */
+uint64_t gatekeeper_handle_object(const uint8_t *state, size_t len, uint64_t s, uint64_t p);
+
+/* The lowest number of a live object from o on. 0 where there is none, and where `len` is not GATEKEEPER_STATE_BYTES.
+ * Since 0 is a number, too, there is none where the number is below o, or not live. So a host lists its objects, the
+ * lowest number first:
+ *
+ *   uint64_t from = 0, o;
+ *   do {
+ *       o = gatekeeper_object_from(state, len, from);
+ *       if (o < from || gatekeeper_object(state, len, o) == 0) break;
+ *       show(o);
+ *       from = o + 1;
+ *   } while (from != 0);
+ */
+uint64_t gatekeeper_object_from(const uint8_t *state, size_t len, uint64_t o);
 
 /* The level in an answer of gatekeeper_subject or gatekeeper_object that is not 0. On a monitor that started empty it
  * is below GATEKEEPER_LEVELS. */
@@ -274,9 +305,6 @@ GATEKEEPER_INLINE uint32_t gatekeeper_kind_of(uint32_t object) { return object /
 /* The way in an answer of gatekeeper_handle: an `enum gatekeeper_way`, or 0 where there is no handle. */
 GATEKEEPER_INLINE uint32_t gatekeeper_way_of(uint32_t handle) { return handle / 256 % 256; }
 
-/* The object in an answer of gatekeeper_handle that is not 0. It is live. */
-GATEKEEPER_INLINE uint32_t gatekeeper_object_of(uint32_t handle) { return handle % 256; }
-
 /* Whether the handle in an answer of gatekeeper_handle is marked: it ends when its subject runs a program. */
 GATEKEEPER_INLINE bool gatekeeper_is_marked(uint32_t handle) { return handle >= 256 * 256; }
 
@@ -284,8 +312,8 @@ GATEKEEPER_INLINE bool gatekeeper_is_marked(uint32_t handle) { return handle >= 
  * it is at most the level, and a subject or a pipe falls no lower while no handle goes; a file's is its level. 0 where
  * the number is out of range or not live, and where `len` is not GATEKEEPER_STATE_BYTES. Since 0 is a need, too, a host
  * asks gatekeeper_subject or gatekeeper_object first whether there is one. */
-uint32_t gatekeeper_subject_need(const uint8_t *state, size_t len, uint32_t s);
-uint32_t gatekeeper_object_need(const uint8_t *state, size_t len, uint32_t o);
+uint32_t gatekeeper_subject_need(const uint8_t *state, size_t len, uint64_t s);
+uint32_t gatekeeper_object_need(const uint8_t *state, size_t len, uint64_t o);
 
 /* Works the kept needs out anew, so that the monitor is right, and returns true; all other bytes stay as they are. A
  * host does this once with bytes that did not come from this version's functions, before it shows a need of theirs.
@@ -303,18 +331,19 @@ uint32_t gatekeeper_frozen_from(const uint8_t *state, size_t len);
  * monitor of its own. Between `sure` and `counts` are six bytes of padding, which mean nothing and may change at any
  * call: a host that compares two monitors does so field by field.
  *
- * A handle dangles here as in the bytes: where its subject or its object is not live, it counts as an empty place. The
- * freeze and the kept needs mean the same in both. What the other fields say with a value that no call makes differs:
+ * Slots, their numbers, dangling handles, the freeze and the kept needs mean the same here as in the bytes. Object o
+ * stands in the first slot in use that has the number o, and a handle's object has the number of its slot. What the
+ * other fields say with a value that no call makes differs:
  *
  *                   here                                      in the bytes of gatekeeper_call
  *   live, mark      any but 0: live, marked                   1 alone: live, marked
- *   kind            any above 1: a pipe                       any above 2: no object
+ *   kind            any above 1: a pipe                       any above 2: a free slot
  *   way             2 and any above 3: it writes              any above 3: no handle
  *
  * So bytes of the one that hold such values are not to be copied into the other.
  *
- * What is promised goes by `sure`. Where it is 1, the monitor says of itself that no handle dangles, that its kept needs
- * are right and that no level is below its need, and calls go by that:
+ * What is promised goes by `sure`. Where it is 1, the monitor says of itself that no two slots in use have one number,
+ * that no handle dangles, that its kept needs are right and that no level is below its need, and calls go by that:
  *
  *   1, and it is    So of every monitor that these functions have made, by calls from the empty one on or by
  *   so              gatekeeper_monitor_assure, and of a copy of one. Every answer is the rules', and `sure` stays 1.
@@ -324,25 +353,27 @@ uint32_t gatekeeper_frozen_from(const uint8_t *state, size_t len);
  *                   for gatekeeper_call. But the call is slow, and `sure` stays what it is.
  *
  * So a host never sets `sure` to 1: it sets it to 0 where it changes another field, and lends the monitor to
- * gatekeeper_monitor_assure once it has filled the tables.
+ * gatekeeper_monitor_assure once it has filled the tables. It does so with a struct of version 5.0.0, too, which has no
+ * numbers: it copies the fields, and sets number i to i.
  */
 struct gatekeeper_monitor {
+    uint64_t numbers[GATEKEEPER_OBJECTS]; /* the number of the object that stands in each slot */
     struct {
         uint8_t live; /* 0: there is no such subject */
         uint8_t level;
     } subjects[GATEKEEPER_SUBJECTS];
     struct {
-        uint8_t kind; /* an `enum gatekeeper_kind`; 0: there is no such object */
+        uint8_t kind; /* an `enum gatekeeper_kind`; 0: the slot is free */
         uint8_t level;
     } objects[GATEKEEPER_OBJECTS];
     struct {
-        uint8_t way; /* an `enum gatekeeper_way`; 0: the place is empty */
-        uint8_t object;
+        uint8_t way;  /* an `enum gatekeeper_way`; 0: the place is empty */
+        uint8_t slot; /* of its object; up to version 5.0.0 this was `object`, the number */
         uint8_t mark; /* 0: it is not marked */
     } handles[GATEKEEPER_SUBJECTS * GATEKEEPER_PLACES]; /* place p of subject s is the (16 s + p)th */
     uint8_t freeze; /* the level from which on files are frozen; 16 and above: none is */
-    uint8_t needs[GATEKEEPER_SUBJECTS + GATEKEEPER_OBJECTS]; /* the kept needs: of the subjects, then of the objects */
-    uint8_t sure;       /* 1: calls go by what is kept, and look for no dangling handle; a host sets it only to 0 */
+    uint8_t needs[GATEKEEPER_SUBJECTS + GATEKEEPER_OBJECTS]; /* the kept needs: of the subjects, then of the slots */
+    uint8_t sure;       /* 1: calls go by what is kept, and look for nothing that dangles; a host sets it only to 0 */
     uint64_t counts[2]; /* handles over all calls, modulo 2 to the 64th: at GATEKEEPER_MADE, and at GATEKEEPER_GONE */
 };
 
@@ -361,15 +392,16 @@ enum gatekeeper_count {
 #define GATEKEEPER_ALIGNMENT(type) _Alignof(type)
 #endif
 #ifdef GATEKEEPER_HOLDS
-GATEKEEPER_HOLDS(sizeof(struct gatekeeper_monitor) == 1848);
+GATEKEEPER_HOLDS(sizeof(struct gatekeeper_monitor) == 2360);
 GATEKEEPER_HOLDS(GATEKEEPER_ALIGNMENT(struct gatekeeper_monitor) == 8);
-GATEKEEPER_HOLDS(offsetof(struct gatekeeper_monitor, subjects) == 0);
-GATEKEEPER_HOLDS(offsetof(struct gatekeeper_monitor, objects) == 64);
-GATEKEEPER_HOLDS(offsetof(struct gatekeeper_monitor, handles) == 192);
-GATEKEEPER_HOLDS(offsetof(struct gatekeeper_monitor, freeze) == 1728);
-GATEKEEPER_HOLDS(offsetof(struct gatekeeper_monitor, needs) == 1729);
-GATEKEEPER_HOLDS(offsetof(struct gatekeeper_monitor, sure) == 1825);
-GATEKEEPER_HOLDS(offsetof(struct gatekeeper_monitor, counts) == 1832);
+GATEKEEPER_HOLDS(offsetof(struct gatekeeper_monitor, numbers) == 0);
+GATEKEEPER_HOLDS(offsetof(struct gatekeeper_monitor, subjects) == 512);
+GATEKEEPER_HOLDS(offsetof(struct gatekeeper_monitor, objects) == 576);
+GATEKEEPER_HOLDS(offsetof(struct gatekeeper_monitor, handles) == 704);
+GATEKEEPER_HOLDS(offsetof(struct gatekeeper_monitor, freeze) == 2240);
+GATEKEEPER_HOLDS(offsetof(struct gatekeeper_monitor, needs) == 2241);
+GATEKEEPER_HOLDS(offsetof(struct gatekeeper_monitor, sure) == 2337);
+GATEKEEPER_HOLDS(offsetof(struct gatekeeper_monitor, counts) == 2344);
 #undef GATEKEEPER_HOLDS
 #undef GATEKEEPER_ALIGNMENT
 #endif
@@ -378,10 +410,10 @@ GATEKEEPER_HOLDS(offsetof(struct gatekeeper_monitor, counts) == 1832);
  * struct that is all 0 has no subject, object or handle either, but it freezes every file, and a call on it is slow. */
 void gatekeeper_monitor_empty(struct gatekeeper_monitor *monitor);
 
-/* Makes a monitor that a host has filled itself, as from bytes that it kept, one that calls may rely on: places whose
- * handle dangles are emptied, the kept needs are worked out anew, and `sure` is 1, and so is what is returned. Where some
- * level is below its need, which calls never make, it cannot be: then `sure` is 0, and 0 is returned. The entries, the
- * freeze and the counts stay as they are. */
+/* Makes a monitor that a host has filled itself, as from bytes that it kept, one that calls may rely on: slots in use
+ * that have the number of one before them are freed, places whose handle dangles are emptied, the kept needs are worked
+ * out anew, and `sure` is 1, and so is what is returned. Where some level is below its need, which calls never make, it
+ * cannot be: then `sure` is 0, and 0 is returned. The other entries, the freeze and the counts stay as they are. */
 GATEKEEPER_MUST_USE
 uint32_t gatekeeper_monitor_assure(struct gatekeeper_monitor *monitor);
 
@@ -389,26 +421,27 @@ uint32_t gatekeeper_monitor_assure(struct gatekeeper_monitor *monitor);
  * of gatekeeper_call, and gatekeeper_letter, gatekeeper_allows and gatekeeper_value read the answer. There is no length
  * that could be wrong. A refused call changes no field. A host makes its calls with gatekeeper_monitor_step, below. */
 GATEKEEPER_MUST_USE
-uint32_t gatekeeper_monitor_call(struct gatekeeper_monitor *monitor, uint32_t code, uint32_t a, uint32_t b, uint32_t c,
-                                 uint32_t d, uint32_t e, uint32_t f);
+uint32_t gatekeeper_monitor_call(struct gatekeeper_monitor *monitor, uint64_t code, uint64_t a, uint64_t b, uint64_t c,
+                                 uint64_t d, uint64_t e, uint64_t f);
 
 /* An open (code 5 or 6) and a close that change no need, done in place on the parts of one struct, each lent with its
- * size in bytes, but `counts` with 2, for it has two numbers. They return the number that gatekeeper_monitor_call
+ * size in bytes, but `numbers` with 64 and `counts` with 2: how many they are. They return what gatekeeper_monitor_call
  * returns. Or 0, and nothing is touched: the call is not that simple, `sure` is not 1, the code is another, or a size
  * is wrong. Then gatekeeper_monitor_call is to be made. With the right code and sizes, on a struct that is as its `sure`
  * of 1 says, 0 is not returned for what is refused with a number other than 9, for an open that changes no need, nor for
  * a close that ends no pipe where the needs of the step and the object differ, the step's is 0, or it reads a file whose
  * level is at least that need. A host does not call them itself: gatekeeper_monitor_step does. */
 GATEKEEPER_MUST_USE
-uint32_t gatekeeper_quick_open(const uint8_t *subjects, size_t subjects_len, const uint8_t *objects, size_t objects_len,
-                               uint8_t *handles, size_t handles_len, const uint8_t *needs, size_t needs_len,
-                               uint64_t *counts, size_t counts_len, uint8_t freeze, uint8_t sure, uint32_t code,
-                               uint32_t s, uint32_t o, uint32_t p);
+uint32_t gatekeeper_quick_open(const uint64_t *numbers, size_t numbers_len, const uint8_t *subjects,
+                               size_t subjects_len, const uint8_t *objects, size_t objects_len, uint8_t *handles,
+                               size_t handles_len, const uint8_t *needs, size_t needs_len, uint64_t *counts,
+                               size_t counts_len, uint8_t freeze, uint8_t sure, uint64_t code, uint64_t s, uint64_t o,
+                               uint64_t p);
 GATEKEEPER_MUST_USE
 uint32_t gatekeeper_quick_close(const uint8_t *subjects, size_t subjects_len, const uint8_t *objects,
                                 size_t objects_len, uint8_t *handles, size_t handles_len, const uint8_t *needs,
                                 size_t needs_len, uint64_t *counts, size_t counts_len, uint8_t freeze, uint8_t sure,
-                                uint32_t s, uint32_t p);
+                                uint64_t s, uint64_t p);
 
 /* A part of the struct as its bytes, and how many. */
 #if defined(__cplusplus)
@@ -421,13 +454,14 @@ uint32_t gatekeeper_quick_close(const uint8_t *subjects, size_t subjects_len, co
  * and leaves the same tables and counts, for both ways that a call can take here are proved to go by the rules. It is
  * faster for an open or a close that changes no need; any other call goes to gatekeeper_monitor_call. */
 GATEKEEPER_MUST_USE
-GATEKEEPER_INLINE uint32_t gatekeeper_monitor_step(struct gatekeeper_monitor *monitor, uint32_t code, uint32_t a,
-                                                   uint32_t b, uint32_t c, uint32_t d, uint32_t e, uint32_t f)
+GATEKEEPER_INLINE uint32_t gatekeeper_monitor_step(struct gatekeeper_monitor *monitor, uint64_t code, uint64_t a,
+                                                   uint64_t b, uint64_t c, uint64_t d, uint64_t e, uint64_t f)
 {
     /* tools/step writes this: from here */
     uint32_t answer = 0;
     if (code == GATEKEEPER_OPEN_READ || code == GATEKEEPER_OPEN_WRITE)
-        answer = gatekeeper_quick_open(GATEKEEPER_PART(monitor->subjects), GATEKEEPER_PART(monitor->objects),
+        answer = gatekeeper_quick_open(monitor->numbers, GATEKEEPER_OBJECTS,
+                                       GATEKEEPER_PART(monitor->subjects), GATEKEEPER_PART(monitor->objects),
                                        GATEKEEPER_PART(monitor->handles), monitor->needs, sizeof monitor->needs,
                                        monitor->counts, 2, monitor->freeze, monitor->sure, code, a, b, c);
     else if (code == GATEKEEPER_CLOSE)
@@ -450,12 +484,14 @@ size_t gatekeeper_replay(const uint8_t *journal, size_t len, uint8_t *out, size_
  * value. Else GATEKEEPER_UNKNOWN_CODE or GATEKEEPER_RECORD_TOO_LONG, and no byte is touched. GATEKEEPER_RECORD_ROOM
  * bytes are enough for every record. */
 GATEKEEPER_MUST_USE
-uint32_t gatekeeper_record(uint8_t *out, size_t room, uint32_t code, uint32_t a, uint32_t b, uint32_t c, uint32_t d,
-                           uint32_t e, uint32_t f);
+uint32_t gatekeeper_record(uint8_t *out, size_t room, uint64_t code, uint64_t a, uint64_t b, uint64_t c, uint64_t d,
+                           uint64_t e, uint64_t f);
 
-/* Reads the number at the front of some bytes, unsigned LEB128 as in a journal: its value, and 2 to the 32nd for each
- * byte that it takes. 0 where it is cut off, above 4,294,967,295, or longer than it need be. */
-uint64_t gatekeeper_number(const uint8_t *bytes, size_t len);
+/* Reads the number at the front of some bytes, unsigned LEB128 as in a journal, into `value`, and returns how many bytes
+ * it takes, 1 to 10. Where it is cut off, above 18,446,744,073,709,551,615, or longer than it need be: 0, and `value`
+ * keeps what it has. */
+GATEKEEPER_MUST_USE
+uint32_t gatekeeper_number(const uint8_t *bytes, size_t len, uint64_t *value);
 
 #ifdef __cplusplus
 }

@@ -109,9 +109,9 @@ impl Point {
 
     /// The handles at which the call is made: of all of them about 60, evenly spread; for reads and refused opens those
     /// that read a file, as the needs are the same without them.
-    fn sample(self) -> Vec<(u32, u32)> {
+    fn sample(self) -> Vec<(u64, u64)> {
         let step = (self.handles() / 64) | 1;
-        let reads_file = |place: u32| place % 2 == 0 && place > 0;
+        let reads_file = |place: u64| place % 2 == 0 && place > 0;
         let all = self.layout().places().step_by(step);
         match self.kind {
             Kind::Close | Kind::Open => all.collect(),

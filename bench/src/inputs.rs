@@ -54,12 +54,12 @@ pub enum Work {
     Journal(Layout),
     /// A generated journal.
     Generated,
-    /// Numbers alone, of at most so many bytes, beside a plain reader in one of its forms.
-    Numbers(u32, Form),
+    /// Numbers alone, each at most so large, beside a plain reader in one of its forms.
+    Numbers(u64, Form),
 }
 
 /// Every piece of work, in the order of the table.
-pub const WORKS: [Work; 16] = [
+pub const WORKS: [Work; 21] = [
     Work::Calls(LAYOUTS[0]),
     Work::Calls(LAYOUTS[1]),
     Work::Calls(LAYOUTS[2]),
@@ -67,15 +67,20 @@ pub const WORKS: [Work; 16] = [
     Work::Calls(LAYOUTS[4]),
     Work::Calls(LAYOUTS[5]),
     Work::Calls(LAYOUTS[6]),
+    Work::Calls(LAYOUTS[7]),
     Work::Journal(LAYOUTS[0]),
     Work::Journal(LAYOUTS[1]),
+    Work::Journal(LAYOUTS[7]),
     Work::Generated,
-    Work::Numbers(leb::LONGEST, Form::Called),
-    Work::Numbers(leb::LONGEST, Form::Packed),
-    Work::Numbers(leb::LONGEST, Form::Inlined),
+    Work::Numbers(leb::MIX, Form::Called),
+    Work::Numbers(leb::MIX, Form::Words),
+    Work::Numbers(leb::MIX, Form::Inlined),
     Work::Numbers(leb::SHORT, Form::Called),
-    Work::Numbers(leb::SHORT, Form::Packed),
+    Work::Numbers(leb::SHORT, Form::Words),
     Work::Numbers(leb::SHORT, Form::Inlined),
+    Work::Numbers(leb::ANY, Form::Called),
+    Work::Numbers(leb::ANY, Form::Words),
+    Work::Numbers(leb::ANY, Form::Inlined),
 ];
 
 impl Work {
@@ -84,7 +89,7 @@ impl Work {
             Work::Calls(layout) => layout.name.to_string(),
             Work::Journal(layout) => format!("journal, {}", layout.name),
             Work::Generated => "journal, generated".to_string(),
-            Work::Numbers(most, form) => leb::name(most, form),
+            Work::Numbers(largest, form) => leb::name(largest, form),
         }
     }
 
@@ -96,7 +101,7 @@ impl Work {
     /// Whether the loop around the calls takes a part of the instructions that matters, and can be told from them: not where
     /// the plain reader is inlined into it.
     pub fn is_without_loop(self) -> bool {
-        matches!(self, Work::Numbers(_, Form::Called | Form::Packed))
+        matches!(self, Work::Numbers(_, Form::Called | Form::Words))
     }
 
     /// Makes what the work needs.
@@ -105,9 +110,9 @@ impl Work {
             Work::Calls(layout) => called(layout),
             Work::Journal(layout) => replayed(as_journal(layout)),
             Work::Generated => replayed(generated()),
-            Work::Numbers(most, Form::Called) => numbers_read(most, leb::read_called),
-            Work::Numbers(most, Form::Packed) => numbers_read(most, leb::read_unpacked),
-            Work::Numbers(most, Form::Inlined) => numbers_read(most, leb::read),
+            Work::Numbers(largest, Form::Called) => numbers_read(largest, leb::read_called),
+            Work::Numbers(largest, Form::Words) => numbers_read(largest, leb::read_words),
+            Work::Numbers(largest, Form::Inlined) => numbers_read(largest, leb::read),
         }
     }
 }
@@ -186,8 +191,8 @@ fn as_journal(layout: Layout) -> Vec<u8> {
 /// A round over full tables, call by call.
 fn called(layout: Layout) -> Input {
     let numbered = |call: Call| (call.code(), call.numbers());
-    let filling: Vec<(u32, [u32; calls::NUMBERS])> = layout.filling().into_iter().map(numbered).collect();
-    let round: Vec<(u32, [u32; calls::NUMBERS])> = layout.round().into_iter().map(numbered).collect();
+    let filling: Vec<(u64, [u64; calls::NUMBERS])> = layout.filling().into_iter().map(numbered).collect();
+    let round: Vec<(u64, [u64; calls::NUMBERS])> = layout.round().into_iter().map(numbered).collect();
 
     let (mut proved, mut bytes) = (State::new(), Monitor::new());
     for &(code, numbers) in &filling {
@@ -247,19 +252,12 @@ fn generated() -> Vec<u8> {
     generate::journal(SEED, 0, wish)
 }
 
-/// Numbers of 1 byte to `most`, as many of each length, one after the other in a buffer.
-fn numbers_read(most: u32, plain: impl Fn(&[u8]) -> Option<(u32, usize)> + 'static) -> Input {
+/// Numbers that are at most so large, as many of each length, one after the other in a buffer.
+fn numbers_read(largest: u64, plain: impl Fn(&[u8]) -> Option<(u64, usize)> + 'static) -> Input {
     let mut random = Random::new(SEED, 0);
     let mut bytes = Vec::new();
     for _ in 0..NUMBERS {
-        let (low, high) = match random.between(1, most) {
-            1 => (0, 0x7f),
-            2 => (0x80, 0x3fff),
-            3 => (0x4000, 0x1f_ffff),
-            4 => (0x20_0000, 0x0fff_ffff),
-            _ => (0x1000_0000, u32::MAX - 1),
-        };
-        numbers::write(random.between(low, high), &mut bytes);
+        numbers::write(drawn(&mut random, largest), &mut bytes);
     }
     let bytes_beside = bytes.clone();
     Input {
@@ -271,12 +269,25 @@ fn numbers_read(most: u32, plain: impl Fn(&[u8]) -> Option<(u32, usize)> + 'stat
     }
 }
 
-/// The sum of the numbers in a buffer that holds nothing else.
+/// How many bytes the longest number has that is at most so large: one for each seven bits.
+fn longest(largest: u64) -> u64 {
+    (u64::BITS - largest.leading_zeros()).div_ceil(7).into()
+}
+
+/// A number that is at most so large, of one byte or more, each length as likely.
+fn drawn(random: &mut Random, largest: u64) -> u64 {
+    let length = random.between(1, longest(largest));
+    let low = if length == 1 { 0 } else { 1 << (7 * (length - 1)) };
+    let high = u64::MAX >> 64_u64.saturating_sub(7 * length);
+    random.between(low, high.min(largest))
+}
+
+/// The sum of the numbers in a buffer that holds nothing else, modulo 2 to the 64th.
 #[inline(always)]
-fn sum(mut bytes: &[u8], read: impl Fn(&[u8]) -> Option<(u32, usize)>) -> u64 {
-    let mut sum = 0;
+fn sum(mut bytes: &[u8], read: impl Fn(&[u8]) -> Option<(u64, usize)>) -> u64 {
+    let mut sum = 0_u64;
     while let Some((value, used)) = read(bytes) {
-        sum += u64::from(value);
+        sum = sum.wrapping_add(value);
         bytes = &bytes[used..];
     }
     sum
@@ -284,8 +295,12 @@ fn sum(mut bytes: &[u8], read: impl Fn(&[u8]) -> Option<(u32, usize)>) -> u64 {
 
 #[cfg(test)]
 mod tests {
+    use std::iter;
+
     use super::*;
+    use gatekeeper_independent::records::Reader;
     use gatekeeper_independent::replies::replies as replies_beside;
+    use gatekeeper_independent::variants::Rules;
 
     #[test]
     fn each_program_finds_the_same() {
@@ -308,11 +323,40 @@ mod tests {
     }
 
     #[test]
+    fn numbers_of_every_length_are_drawn() {
+        for (largest, longest) in [(leb::SHORT, 2), (leb::MIX, 5), (leb::ANY, 10)] {
+            let mut random = Random::new(SEED, 0);
+            let mut counts = [0_usize; 11];
+            for _ in 0..NUMBERS {
+                let number = drawn(&mut random, largest);
+                assert!(number <= largest);
+                let mut bytes = Vec::new();
+                numbers::write(number, &mut bytes);
+                counts[bytes.len()] += 1;
+            }
+            let share = NUMBERS / longest;
+            for (length, count) in counts.into_iter().enumerate() {
+                let expected = if (1..=longest).contains(&length) { share } else { 0 };
+                assert!(count.abs_diff(expected) <= expected / 10, "{count} of {length} bytes");
+            }
+        }
+    }
+
+    /// How many bytes of a journal are whole records.
+    fn in_records(journal: &[u8]) -> usize {
+        let mut reader = Reader::new(journal, Rules::default());
+        let records = iter::from_fn(|| reader.next_record()?.ok());
+        records.last().map_or(0, |record| record.end)
+    }
+
+    #[test]
     fn the_generated_journal_is_run_to_its_end() {
         let journal = generated();
         assert_eq!(journal.len(), GENERATED_BYTES);
+        // What is left is the beginning of a record.
+        assert!(GENERATED_BYTES - in_records(&journal) < 62);
         let reply = replies_beside(&journal);
-        assert!(reply.lines().count() > 13_000);
+        assert!(reply.lines().count() > 5_000);
         assert_eq!(gatekeeper::replay(&journal), reply);
     }
 }

@@ -7,19 +7,24 @@
 //! there the need of 12 has to travel all the way round, from the reader of each pipe to its writer.
 
 use gatekeeper::Call;
-use gatekeeper_independent::tables::LIMITS;
+use gatekeeper_plain::tables;
+
+/// How many there are of each in full tables.
+const SUBJECTS: u64 = tables::SUBJECTS as u64;
+const OBJECTS: u64 = tables::OBJECTS as u64;
+const PLACES: u64 = tables::PLACES as u64;
 
 /// The level of all subjects and pipes, and of the file that the end of a ring writes.
-const LEVEL: u32 = 12;
-const END_FILE: u32 = 32;
+const LEVEL: u64 = 12;
+const END_FILE: u64 = 32;
 
 /// A file of level 0: nobody whose need is above 0 may open it for reading.
-pub const LOW_FILE: u32 = 33;
+pub const LOW_FILE: u64 = 33;
 
 /// What one place of a subject holds.
 #[derive(Clone, Copy, Debug, PartialEq, Eq)]
 pub struct Held {
-    pub object: u32,
+    pub object: u64,
     pub writes: bool,
 }
 
@@ -27,15 +32,25 @@ pub struct Held {
 #[derive(Clone, Copy, Debug)]
 pub struct Layout {
     pub name: &'static str,
-    subjects: u32,
+    subjects: u64,
     shape: Shape,
+    numbers: Numbers,
+}
+
+/// The numbers by which the host knows the objects.
+#[derive(Clone, Copy, Debug)]
+enum Numbers {
+    /// 0 to 63.
+    Low,
+    /// Of ten bytes, and all the same modulo 64.
+    Far,
 }
 
 #[derive(Clone, Copy, Debug)]
 enum Shape {
     /// Rings of so many subjects. A pass over the handles goes by rising subject, then place: with the order, it hands
     /// a need on from pipe to pipe; against it, each subject takes two more passes.
-    Rings { size: u32, with_order: bool, files: Files },
+    Rings { size: u64, with_order: bool, files: Files },
     /// Rings of 8 against the order, and in each 4 pipes across it. Each subject of a ring writes a file of another level.
     Chords,
     /// No file is open: each subject reads 8 pipes and writes 8, those of its neighbours in one ring.
@@ -55,16 +70,16 @@ enum Files {
     Everyone,
 }
 
-const fn rings(name: &'static str, size: u32, with_order: bool, files: Files) -> Layout {
-    Layout { name, subjects: LIMITS.subjects, shape: Shape::Rings { size, with_order, files } }
+const fn rings(name: &'static str, size: u64, with_order: bool, files: Files) -> Layout {
+    full(name, Shape::Rings { size, with_order, files })
 }
 
 const fn full(name: &'static str, shape: Shape) -> Layout {
-    Layout { name, subjects: LIMITS.subjects, shape }
+    Layout { name, subjects: SUBJECTS, shape, numbers: Numbers::Low }
 }
 
 /// Full tables: 32 subjects, 64 objects, 512 handles.
-pub const LAYOUTS: [Layout; 7] = [
+pub const LAYOUTS: [Layout; 8] = [
     rings("8 rings of 4", 4, false, Files::Several),
     full("4 rings of 8 with chords", Shape::Chords),
     rings("1 ring of 32, one file, against the order", 32, false, Files::One),
@@ -72,49 +87,50 @@ pub const LAYOUTS: [Layout; 7] = [
     rings("1 ring of 32, everyone writes a file", 32, false, Files::Everyone),
     full("pipes alone", Shape::Pipes),
     full("pipes and one file", Shape::PipesAndOneFile),
+    Layout { numbers: Numbers::Far, ..rings("8 rings of 4, far objects", 4, false, Files::Several) },
 ];
 
 /// Tables of so many subjects with 16 handles each, in rings of 4, or of fewer where there are not so many.
 pub fn rings_of_4(subjects: u32) -> Layout {
+    let subjects = u64::from(subjects);
     let shape = Shape::Rings { size: subjects.min(4), with_order: false, files: Files::Several };
-    Layout { name: "rings of 4", subjects, shape }
+    Layout { subjects, ..full("rings of 4", shape) }
 }
 
 /// The same, all in one ring, where one file is written.
 pub fn one_ring(subjects: u32) -> Layout {
+    let subjects = u64::from(subjects);
     let shape = Shape::Rings { size: subjects, with_order: false, files: Files::One };
-    Layout { name: "one ring", subjects, shape }
+    Layout { subjects, ..full("one ring", shape) }
 }
 
 /// Full tables, in rings of so many subjects, where one file is written.
 pub fn rings_of(size: u32) -> Layout {
-    rings("rings of one size", size, false, Files::One)
+    rings("rings of one size", size.into(), false, Files::One)
 }
 
 impl Layout {
     /// Every subject and place that holds a handle, in the order of a pass.
-    pub fn places(self) -> impl Iterator<Item = (u32, u32)> {
-        (0..self.subjects).flat_map(|subject| (0..LIMITS.places).map(move |place| (subject, place)))
+    pub fn places(self) -> impl Iterator<Item = (u64, u64)> {
+        (0..self.subjects).flat_map(|subject| (0..PLACES).map(move |place| (subject, place)))
     }
 
     /// What a place of a subject holds.
-    pub fn held(self, subject: u32, place: u32) -> Held {
+    pub fn held(self, subject: u64, place: u64) -> Held {
         match self.shape {
             Shape::Rings { size, with_order, files } => in_rings(subject, place, size, with_order, files),
             Shape::Chords => with_chords(subject, place),
             Shape::Pipes => on_pipes(subject, place),
             Shape::PipesAndOneFile => match on_pipes(subject, place) {
                 held if held.object < LAST => held,
-                Held { writes: true, .. } if subject == LIMITS.subjects - 1 => {
-                    Held { object: LAST, writes: true }
-                }
+                Held { writes: true, .. } if subject == SUBJECTS - 1 => Held { object: LAST, writes: true },
                 held => Held { object: LAST - 1, ..held },
             },
         }
     }
 
     /// The level of an object that is a file; none for a pipe.
-    fn file(self, object: u32) -> Option<u32> {
+    fn file(self, object: u64) -> Option<u64> {
         match self.shape {
             Shape::Rings { files, .. } => match object {
                 ..END_FILE => None,
@@ -132,30 +148,42 @@ impl Layout {
         }
     }
 
+    /// The number by which the host knows an object.
+    fn number(self, object: u64) -> u64 {
+        match self.numbers {
+            Numbers::Low => object,
+            Numbers::Far => u64::MAX - 64 * object,
+        }
+    }
+
     /// The call that opens the handle at a place of a subject.
-    pub fn opening(self, subject: u32, place: u32) -> Call {
-        match self.held(subject, place) {
-            Held { object, writes: true } => Call::OpenWrite { subject, object, place },
-            Held { object, writes: false } => Call::OpenRead { subject, object, place },
+    pub fn opening(self, subject: u64, place: u64) -> Call {
+        let Held { object, writes } = self.held(subject, place);
+        let object = self.number(object);
+        if writes {
+            Call::OpenWrite { subject, object, place }
+        } else {
+            Call::OpenRead { subject, object, place }
         }
     }
 
     /// The calls that fill empty tables. A pipe is made by the first who writes it; the reading end that this subject
     /// gets with it, at a place that is still empty, is closed again.
     pub fn filling(self) -> Vec<Call> {
-        let files = (0..LIMITS.objects).filter_map(|object| Some((object, self.file(object)?)));
-        let mut calls: Vec<Call> = files.map(|(object, level)| Call::Register { object, level }).collect();
+        let files = (0..OBJECTS).filter_map(|object| Some((object, self.file(object)?)));
+        let register = |(object, level)| Call::Register { object: self.number(object), level };
+        let mut calls: Vec<Call> = files.map(register).collect();
         calls.extend((0..self.subjects).map(|subject| Call::Admit { subject, level: LEVEL }));
         let mut made = Vec::new();
-        for object in (0..LIMITS.objects).filter(|&object| self.file(object).is_none()) {
+        for object in (0..OBJECTS).filter(|&object| self.file(object).is_none()) {
             let written = Held { object, writes: true };
             let Some((subject, writes)) = self.places().find(|&(s, p)| self.held(s, p) == written) else {
                 continue;
             };
             made.push((subject, writes));
-            let is_empty = |place: &u32| !made.contains(&(subject, *place));
-            let Some(reads) = (0..LIMITS.places).find(is_empty) else { continue };
-            calls.push(Call::Pipe { subject, object, reads, writes });
+            let is_empty = |place: &u64| !made.contains(&(subject, *place));
+            let Some(reads) = (0..PLACES).find(is_empty) else { continue };
+            calls.push(Call::Pipe { subject, object: self.number(object), reads, writes });
             calls.push(Call::Close { subject, place: reads });
         }
         let others = self.places().filter(|place| !made.contains(place));
@@ -172,7 +200,7 @@ impl Layout {
 }
 
 /// The first file that is only read, of those in the layouts of rings.
-fn first_read(files: Files) -> u32 {
+fn first_read(files: Files) -> u64 {
     match files {
         Files::One => LOW_FILE + 1,
         Files::Several | Files::Everyone => 48,
@@ -180,8 +208,8 @@ fn first_read(files: Files) -> u32 {
 }
 
 /// Subject s writes pipe s.
-fn in_rings(subject: u32, place: u32, size: u32, with_order: bool, files: Files) -> Held {
-    let last = LIMITS.places - 1;
+fn in_rings(subject: u64, place: u64, size: u64, with_order: bool, files: Files) -> Held {
+    let last = PLACES - 1;
     let (reads, writes) = if with_order { (last, 0) } else { (0, last) };
     // Needs travel against the flow: to a lower subject where the flow goes to a higher one.
     let (back, end) = if with_order { (1, 0) } else { (size - 1, size - 1) };
@@ -200,19 +228,19 @@ fn in_rings(subject: u32, place: u32, size: u32, with_order: bool, files: Files)
     if place % 2 == 1 && files != Files::One {
         Held { object: LOW_FILE + turn % (read - LOW_FILE), writes: true }
     } else {
-        Held { object: read + turn % (LIMITS.objects - read), writes: false }
+        Held { object: read + turn % (OBJECTS - read), writes: false }
     }
 }
 
 /// In the layout with chords: the pipes across rings start here, then the files that are written, with their levels,
 /// then those that are read.
-const CHORDS: u32 = 32;
-const CHORD_FILES: u32 = 48;
-const CHORD_READ: u32 = 56;
-const CHORD_LEVELS: [u32; 8] = [12, 3, 9, 0, 11, 5, 8, 2];
+const CHORDS: u64 = 32;
+const CHORD_FILES: u64 = 48;
+const CHORD_READ: u64 = 56;
+const CHORD_LEVELS: [u64; 8] = [12, 3, 9, 0, 11, 5, 8, 2];
 
 /// Chord j of a ring goes from its subject 2j to its subject 2j + 5.
-fn with_chords(subject: u32, place: u32) -> Held {
+fn with_chords(subject: u64, place: u64) -> Held {
     let (ring, position) = (subject / 8, subject % 8);
     match place {
         0 | 15 => in_rings(subject, place, 8, false, Files::One),
@@ -229,14 +257,14 @@ fn with_chords(subject: u32, place: u32) -> Held {
 }
 
 /// The last object.
-const LAST: u32 = LIMITS.objects - 1;
+const LAST: u64 = OBJECTS - 1;
 
 /// Subject s has pipes 2s and 2s + 1. It writes them and those of the next three subjects, and reads those of the four
 /// subjects before it.
-fn on_pipes(subject: u32, place: u32) -> Held {
+fn on_pipes(subject: u64, place: u64) -> Held {
     let (index, writes) = (place / 2, place % 2 == 1);
-    let steps = if writes { index / 2 } else { LIMITS.subjects - 1 - index / 2 };
-    let neighbour = (subject + steps) % LIMITS.subjects;
+    let steps = if writes { index / 2 } else { SUBJECTS - 1 - index / 2 };
+    let neighbour = (subject + steps) % SUBJECTS;
     Held { object: 2 * neighbour + index % 2, writes }
 }
 
@@ -250,15 +278,14 @@ mod tests {
     use gatekeeper_plain::{Answer as PlainAnswer, Monitor as PlainMonitor, When};
 
     /// How many passes over the handles it takes until no need changes, the last one counted.
-    fn passes(tables: &Tables) -> u32 {
+    fn passes(tables: &Tables) -> usize {
         let need_of_none = |thing| match thing {
             Thing::Object(o) => {
                 tables.object(o).filter(|object| object.kind == Kind::File).map_or(0, |o| o.level)
             }
             Thing::Subject(_) => 0,
         };
-        let mut needs: Vec<(Thing, u32)> =
-            live_things(tables).map(|thing| (thing, need_of_none(thing))).collect();
+        let mut needs: Vec<_> = live_things(tables).map(|thing| (thing, need_of_none(thing))).collect();
         for pass in 1.. {
             let mut changed = false;
             for flow in tables.handles().map(|(s, _, handle)| Flow::of(s, handle)) {
@@ -293,7 +320,7 @@ mod tests {
             assert_eq!(tables.live_objects().count(), 64, "{}", layout.name);
             assert_eq!(tables.handle_count(), 512, "{}", layout.name);
             let needs = Needs::of_tables(tables);
-            let need = if layout.name == "pipes alone" { 0 } else { LEVEL };
+            let need = if layout.name == "pipes alone" { 0 } else { 12 };
             for s in 0..32 {
                 assert_eq!(needs.of(Thing::Subject(s)), need, "{}, subject {s}", layout.name);
             }
@@ -303,7 +330,7 @@ mod tests {
     #[test]
     fn the_layouts_differ_in_how_many_passes_they_take() {
         let passes = LAYOUTS.map(|layout| passes(filled(layout).tables()));
-        assert_eq!(passes, [9, 12, 65, 2, 3, 1, 7]);
+        assert_eq!(passes, [9, 12, 65, 2, 3, 1, 7, 9]);
     }
 
     #[test]
@@ -322,7 +349,7 @@ mod tests {
                     assert_eq!(plain.direct(call.code(), call.numbers()), PlainAnswer::Allowed(level));
                 }
                 let beside = independent.call(call.code(), call.numbers());
-                assert_eq!(beside, AnswerBeside::Allowed(u32::from(level)), "{}: {call:?}", layout.name);
+                assert_eq!(beside, AnswerBeside::Allowed(level.into()), "{}: {call:?}", layout.name);
             }
             assert_eq!((proved.open(), bytes.open()), (512, 512));
             assert_eq!(plain.map(|plain| plain.tally().open()), [512; 2]);
@@ -344,7 +371,7 @@ mod tests {
                 let mut monitor = filled(layout);
                 assert_eq!(monitor.tables().handle_count(), u64::from(16 * subjects), "{}", layout.name);
                 // The low file is not for those whose need is 12.
-                assert_eq!(monitor.call(11, [0, 2, 0, 0, 0, 0]), AnswerBeside::Allowed(LEVEL));
+                assert_eq!(monitor.call(11, [0, 2, 0, 0, 0, 0]), AnswerBeside::Allowed(12));
                 assert_eq!(monitor.call(5, [0, LOW_FILE, 2, 0, 0, 0]), AnswerBeside::Refused(9));
             }
         }

@@ -1,7 +1,8 @@
 //! Journals as text: from words to bytes.
 //!
 //! One call a line, as `open-read 0 1 2`; the words and the order of the numbers are those of `calls`. `call 77 1 2` is
-//! a record with any code and any numbers, `bytes 80 00` any bytes. `#` starts a comment.
+//! a record with any code and any numbers, `bytes 80 00` any bytes. `#` starts a comment. A number is at most
+//! 18446744073709551615, and may have a comma before each three digits: `18,446,744,073,709,551,615`.
 //!
 //! `name step 17 merge` gives a step, a file or a pipe a name, and from the next line on the name may stand where its
 //! number would: `open-read merge "the hours sheet of shop 3" 1`. A name that starts with a letter and has no space
@@ -13,6 +14,7 @@ use crate::names::{Kind, Name, Names};
 use crate::text::{meant, shown};
 use gk_advice::calls::{shape_of_word, Role, Shape, SHAPES};
 use gk_advice::records::{write_any, Records};
+use gk_names::number::of_text;
 use words::fault;
 pub use words::{words_of, Fault, Word};
 
@@ -31,7 +33,7 @@ pub struct Assembled {
 struct Assembler {
     journal: Vec<u8>,
     /// The declarations so far, each with the journal's length at that point.
-    declared: Vec<(usize, Kind, u32, Name)>,
+    declared: Vec<(usize, Kind, u64, Name)>,
     /// The same, to look names up in: each from its own position on.
     known: Names,
 }
@@ -95,10 +97,10 @@ impl Assembler {
         }
         if let Some((word, _)) = words.get(shape.numbers.len()..).and_then(<[Word]>::split_first) {
             let more = words[shape.numbers.len()..].iter().map(|word| decimal(*word, "", "").ok());
-            let advice = match more.collect::<Option<Vec<u32>>>() {
+            let advice = match more.collect::<Option<Vec<u64>>>() {
                 // What is advised assembles: names are numbers there.
                 Some(more) if more.len() <= MOST_LEFT_OVER => {
-                    let all: Vec<String> = numbers.iter().chain(&more).map(u32::to_string).collect();
+                    let all: Vec<String> = numbers.iter().chain(&more).map(u64::to_string).collect();
                     let (code, all) = (shape.code, all.join(" "));
                     format!("Type: {usage}. For a record with numbers left over: call {code} {all}")
                 }
@@ -113,7 +115,7 @@ impl Assembler {
     }
 
     /// A number, or a name in the place of one.
-    fn number(&self, word: Word, name: &str, role: Role, usage: &str) -> Result<u32, Fault> {
+    fn number(&self, word: Word, name: &str, role: Role, usage: &str) -> Result<u64, Fault> {
         let is_number = word.text.starts_with(|character: char| "0123456789+-.".contains(character));
         if !word.is_quoted && (is_number || matches!(role, Role::Place | Role::Level)) {
             return decimal(word, &format!("the number {name}"), usage);
@@ -151,8 +153,8 @@ impl Assembler {
         let kind = wanted.first().map_or("step", |kind| kind.word());
         let advice = match meant(word.text, &known).as_slice() {
             [] => format!(
-                "Type: {usage}, each a number from 0 to 4294967295, or a name that a line above declares, \
-                 as: name {kind} 1 NAME"
+                "Type: {usage}, each a number from 0 to {HIGHEST}, or a name that a line above declares, as: \
+                 name {kind} 1 NAME"
             ),
             meant => format!("Did you mean: {}", meant.join(" or ")),
         };
@@ -181,7 +183,7 @@ impl Assembler {
         let at = word(1, "a number")?;
         let number = decimal(at, "a number", usage)?;
         if number > kind.highest() {
-            let expected = format!("expected {}, found {number}", kind.numbers_words());
+            let expected = format!("expected {}, found {}", kind.numbers_words(), shown(at.text));
             return Err(fault(at.column, &expected, &format!("Type: {usage}")));
         }
         let given = word(2, "a name")?;
@@ -238,7 +240,7 @@ impl Assembler {
             ));
         };
         let code = decimal(code, "a code", usage)?;
-        let numbers: Result<Vec<u32>, Fault> =
+        let numbers: Result<Vec<u64>, Fault> =
             rest.iter().map(|&word| decimal(word, "a number", usage)).collect();
         write_any(code, &numbers?, &mut self.journal);
         Ok(())
@@ -279,21 +281,45 @@ impl Assembler {
 /// Numbers left over that are written out in an advice.
 const MOST_LEFT_OVER: usize = 10;
 
-fn decimal(word: Word, what: &str, usage: &str) -> Result<u32, Fault> {
-    let is_decimal = !word.is_quoted && word.text.chars().all(|character| character.is_ascii_digit());
-    match word.text.parse::<u32>() {
-        Ok(number) if is_decimal => Ok(number),
-        _ if is_decimal => Err(fault(
-            word.column,
-            &format!("expected {what}, at most 4294967295, found \"{}\"", shown(word.text)),
-            "A larger number is malformed in a journal; to write it all the same, use: bytes XX ...",
-        )),
-        _ => Err(fault(
-            word.column,
-            &format!("expected {what} in decimal, found \"{}\"", shown(word.text)),
-            &format!("Type: {usage}, each a number from 0 to 4294967295"),
-        )),
+/// The highest number of a journal, in words for people.
+const HIGHEST: &str = "18,446,744,073,709,551,615";
+
+/// A number in decimal digits, plain or with its thousands apart.
+fn decimal(word: Word, what: &str, usage: &str) -> Result<u64, Fault> {
+    if let Some(number) = of_text(word.text).filter(|_| !word.is_quoted) {
+        return Ok(number);
     }
+    let found = shown(word.text);
+    let is_made_of = |signs: fn(char) -> bool| !word.is_quoted && word.text.chars().all(signs);
+    let digits = word.text.chars().filter(char::is_ascii_digit).count();
+    let (expected, advice) = if is_made_of(|sign| sign.is_ascii_digit()) || is_grouped(word) {
+        (
+            format!("expected {what}, at most {HIGHEST}, found \"{found}\""),
+            "A larger number is malformed in a journal; to write it all the same, use: bytes XX ..."
+                .to_string(),
+        )
+    } else if is_made_of(|sign| sign.is_ascii_digit() || sign == ',') && digits > 0 {
+        (
+            format!("expected {what} in decimal, found \"{found}\""),
+            "Type a space between two numbers; a comma stands before each three digits of one: 12,345,678"
+                .to_string(),
+        )
+    } else {
+        (
+            format!("expected {what} in decimal, found \"{found}\""),
+            format!("Type: {usage}, each a number from 0 to {HIGHEST}"),
+        )
+    };
+    Err(fault(word.column, &expected, &advice))
+}
+
+/// Whether a word is digits with a comma before each three of them.
+fn is_grouped(word: Word) -> bool {
+    let mut groups = word.text.split(',');
+    let is_digits = |group: &str| group.chars().all(|sign| sign.is_ascii_digit());
+    let first = groups.next().unwrap_or("");
+    let is_first = (1..=3).contains(&first.len()) && is_digits(first) && !first.starts_with('0');
+    !word.is_quoted && is_first && groups.all(|group| group.len() == 3 && is_digits(group))
 }
 
 fn unknown_word(word: Word) -> Fault {

@@ -101,7 +101,7 @@ fn line(code: &str, comment: &str, text: &mut String) {
     }
 }
 
-fn spaced(numbers: &[u32]) -> String {
-    let numbers: Vec<String> = numbers.iter().map(u32::to_string).collect();
+fn spaced(numbers: &[u64]) -> String {
+    let numbers: Vec<String> = numbers.iter().map(u64::to_string).collect();
     numbers.join(" ")
 }

@@ -6,7 +6,7 @@ pub mod json;
 mod outcome;
 pub mod summary;
 
-use gatekeeper::{Answer, Monitor};
+use gatekeeper::{Answer, State as Monitor};
 use gk_advice::asked;
 use gk_advice::refused::{of_record, Refused};
 use gk_advice::run::{agrees, Content, Run, Step};

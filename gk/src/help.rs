@@ -55,7 +55,8 @@ Says who asked what and what was answered; for a refusal, what did not happen, w
 Every answer is the proved gatekeeper's. What to do is not proved, but tried: calls that are advised
 were made on a copy of the tables as they were before the record, and were allowed there. For refusal 9 it
 shows a chain that data could have taken from a low thing to a higher file, which is not proved either;
-for refusal 15, too, where the open would be refused with 9 once the books are open.
+for refusal 15, too, where the open would be refused with 9 once the books are open. For refusal 17 it names
+what could go to make room. Numbers from 10,000 on have a comma before each three digits.
 
   --refused     only the records that were refused, those that are alike in one paragraph, and the end
   --summary     for each step its levels over time, what it held, and what it was refused
@@ -87,6 +88,9 @@ its step's next exec. `freeze 9` closes the books from level 9 up, `freeze 16` o
 pipe a from s to t and pipe b from t to s; each step reads at p and writes at q. For a record with any code and any
 numbers write `call 77 1 2`, for any bytes `bytes 80 00` (hex). A journal above 65,536 bytes is written, and
 standard error says that it will be refused.
+
+A step is 0 to 31. A file or pipe has any number up to 18,446,744,073,709,551,615, and at most 64 are live at a
+time. A number stands as it is, or with a comma before each three digits: 18446744073709551615 is the same.
 
 Names: `name step 17 merge`, and from the next line on merge stands for step 17. See: gk help names
 
@@ -133,9 +137,10 @@ A name has 1 to 60 letters, digits, spaces and - _ . / + ' & @ %, with at least 
 at its start or end, not two spaces in a row, no dot before a space or at its end, and none of the words
 step, file, pipe, place, level and record before a number.
 
-Numbers are used again, so a name holds from a record on: the first one behind its line. It holds until the
+Numbers may be used again, so a name holds from a record on: the first one behind its line. It holds until the
 number gets another name, or the name another number. Where a step exits, a file is retired or a pipe ends,
-and the number is used again, gk explain does not take the old name for the new thing.
+and the number is used again, gk explain does not take the old name for the new thing. A step's number is 0 to
+31; that of a file or pipe is 0 to 18446744073709551615, in a names file without commas.
 
 The names stand in a file beside the journal, run.names beside run.journal, which explain, disassemble and
 screen find there; --names FILE names another one. Its first line is `names 1`. Each other line is empty, a comment

@@ -37,10 +37,15 @@ fn a_refusal_says_what_did_not_happen() {
         ("register 0 9", "File 0 is not registered", "No file is registered"),
         ("create 0 0", "Step 0 may not create file 0: file 0 is there already", "No file is created"),
         (
-            "pipe 0 64 0 1",
-            "Step 0 may not make pipe 64, reading at place 0 and writing at place 1: files and pipes have \
-                           the numbers 0 to 63",
+            "pipe 0 18446744073709551615 0 16",
+            "Step 0 may not make pipe 18,446,744,073,709,551,615, reading at place 0 and writing at place 16: places \
+             have the numbers 0 to 15",
             "No pipe is made",
+        ),
+        (
+            "open-read 0 10,000 0",
+            "Step 0 may not open file or pipe 10,000 for reading at place 0: there is no file or pipe 10,000",
+            "Nothing is opened",
         ),
         ("pipe 0 5 1 1", "reading and writing need two places", "No pipe is made"),
         (
@@ -324,10 +329,11 @@ fn channels_are_explained() {
 #[test]
 fn a_number_is_made_free_where_none_is() {
     let files: String = (0..64).map(|o| format!("register {o} 15\n")).collect();
-    let text = explained(&format!("{files}admit 0 0\ncreate 0 64\n"));
+    // A number that is in use, and no room for another one.
+    let text = explained(&format!("{files}admit 0 0\ncreate 0 63\n"));
     sees(
         &text,
-        &["all 64 numbers are in use: retire file 0, which nobody has open, and use its number, 0."],
+        &["retire a file that nobody has open, for example file 0, file 1 or file 2; then use a free number, for example 64."],
     );
     // Every file is open somewhere.
     let steps: String = (0..4).map(|s| format!("admit {s} 0\n")).collect();
@@ -337,17 +343,57 @@ fn a_number_is_made_free_where_none_is() {
         &text,
         &[
             "create file 3: file 3 is there already.",
-            "all 64 numbers are in use: close place 0 (reading file 0) of step 0 and retire file 0, and use its number, 0.",
+            "close place 0 (reading file 0) of step 0 and retire file 0; then use a free number, for example 64.",
         ],
-    );
-    let text = explained(&format!("{files}{steps}connect 0 1 64 65 0 1\n"));
-    sees(
-        &text,
-        &["retire file 0, which nobody has open, and retire file 1, which nobody has open; then use the numbers 0 and 1."],
     );
     let admits: String = (0..32).map(|s| format!("admit {s} 9\n")).collect();
     let text = explained(&format!("{admits}fork 5 32\n"));
     sees(&text, &["all 32 numbers are in use: let a step exit and use its number, for example step 0, step 1 or step 2."]);
+}
+
+/// RULES R17: what could go to make room, each of it tried.
+#[test]
+fn room_is_made_where_64_are_live() {
+    let files =
+        |count: u64| -> String { (0..count).map(|o| format!("register {} 15\n", o << 40)).collect() };
+    let text = explained(&format!("{}admit 0 15\ncreate 0 5\n", files(64)));
+    sees(
+        &text,
+        &[
+            "Step 0 may not create file 5: 64 files and pipes are live, and 64 may be. Refused (17): ",
+            "No file is created. What to do: retire a file that nobody has open, for example file 0, file \
+           1,099,511,627,776 or file 2,199,023,255,552; create it after that.",
+        ],
+    );
+    // One file that nobody has open, and pipes.
+    let opens: String =
+        (0..61).map(|o: u64| format!("open-read {} {} {}\n", 1 + o / 15, o << 40, o % 15)).collect();
+    let steps: String = (0..6).map(|s| format!("admit {s} 15\n")).collect();
+    let start = format!("{}{steps}{opens}pipe 0 7 0 1\npipe 0 8 2 3\n", files(62));
+    let text = explained(&format!("{start}register 9 4\n"));
+    sees(
+        &text,
+        &["What to do: retire file 67,070,209,294,336, which nobody has open; register it after that. Or: close \
+           place 0 (reading pipe 7) and place 1 (writing pipe 7) of step 0, with which pipe 7 ends; register it after that."],
+    );
+    // Two are new in a connect: one has to go where 63 are live, and two where 64 are.
+    let text = explained(&format!("{start}close 0 0\nclose 0 1\nconnect 0 1 20 21 0 15\n"));
+    sees(&text, &["63 files and pipes are live, and 64 may be. Refused (17)"]);
+    let text = explained(&format!("{}{steps}connect 0 1 20 21 0 1\n", files(64)));
+    sees(
+        &text,
+        &["What to do: retire two files that nobody has open, for example file 0, file 1,099,511,627,776 and file \
+           2,199,023,255,552; connect them after that."],
+    );
+    // With room it is refused all the same.
+    let text = explained(&format!("{}register 5 16\n", files(64)));
+    sees(&text, &["With room for it, it would be refused with 6: "]);
+    // A file that is missing, and no room to register it.
+    let text = explained(&format!("{}admit 0 15\nopen-read 0 5 0\n", files(64)));
+    sees(
+        &text,
+        &["retire file 0, which nobody has open; then register file 5 first, at any level; then the call is allowed."],
+    );
 }
 
 #[test]

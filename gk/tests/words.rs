@@ -28,6 +28,9 @@ fn words_become_records() {
     assert_eq!(bytes("bytes 80 00 aBcD"), [0x80, 0, 0xab, 0xcd]);
     assert_eq!(bytes(""), []);
     assert_eq!(bytes("exit 4294967295").len(), 7);
+    assert_eq!(bytes("retire 18446744073709551615").len(), 12);
+    assert_eq!(bytes("retire 18,446,744,073,709,551,615"), bytes("retire 18446744073709551615"));
+    assert_eq!(bytes("call 1,000 2,000"), bytes("call 1000 2000"));
     assert_eq!(bytes("\u{feff}admit 0 9\r\n"), [3, 1, 0, 9]);
     assert_eq!(bytes("connect 0 1 5 6 0 1"), [7, 17, 0, 1, 5, 6, 0, 1]);
 }
@@ -45,7 +48,10 @@ fn what_is_wrong_is_named_with_its_place() {
         ("admit", 1, 6, "Type: admit s level"),
         ("admit 0 +9", 1, 9, "in decimal"),
         ("admit 0 high", 1, 9, "in decimal"),
-        ("exit 4294967296", 1, 6, "at most 4294967295"),
+        ("exit 18446744073709551616", 1, 6, "at most 18,446,744,073,709,551,615"),
+        ("exit 18,446,744,073,709,551,616", 1, 6, "at most 18,446,744,073,709,551,615"),
+        ("admit 0,9", 1, 7, "a space between two numbers"),
+        ("admit 0 1000,000", 1, 9, "a comma stands before each three digits"),
         ("exit -1", 1, 6, "in decimal"),
         ("exit 0 1 2", 1, 8, "call 12 0 1 2"),
         ("call", 1, 5, "expected a code"),
@@ -57,7 +63,8 @@ fn what_is_wrong_is_named_with_its_place() {
         ("name steps 0 a", 1, 6, "found \"steps\""),
         ("name step a 0", 1, 11, "expected a number in decimal"),
         ("name step 32 a", 1, 11, "steps have 0 to 31, found 32"),
-        ("name pipe 63 a\nname file 64 b", 2, 11, "files and pipes have 0 to 63, found 64"),
+        ("name step 31 a\nname step 32 b", 2, 11, "steps have 0 to 31, found 32"),
+        ("name pipe 64 a\nname file 18446744073709551616 b", 2, 11, "at most 18,446,744,073,709,551,615"),
         ("name step 0", 1, 12, "expected a name, found the end of the line"),
         ("name step 0 \"\"", 1, 13, "at least one character"),
         ("name step 0 17", 1, 13, "at least one letter"),
@@ -186,7 +193,7 @@ fn every_journal_comes_back_with_names() {
         for _ in 0..60 {
             let kind = Kind::ALL[drawn(3) as usize];
             let called = ["a", "b 2", "c", "d", "e-5", "f"][drawn(6) as usize];
-            names.give(kind, drawn(8) as u32, 1 + drawn(records), Name::new(called).unwrap());
+            names.give(kind, drawn(8) as u64, 1 + drawn(records), Name::new(called).unwrap());
         }
         let text = disassemble(&journal, &names);
         let again = assemble(text.as_bytes()).unwrap();

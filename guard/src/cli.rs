@@ -56,7 +56,7 @@ struct Arguments {
     levels: Option<PathBuf>,
     journal: Option<PathBuf>,
     replies: Option<PathBuf>,
-    start: Option<u32>,
+    start: Option<u64>,
     is_dry: bool,
     has_report: bool,
     command: Vec<CString>,
@@ -131,10 +131,10 @@ fn parsed(arguments: Vec<OsString>) -> Result<Arguments, Failure> {
     Ok(parsed)
 }
 
-fn level(value: &OsString) -> Result<u32, Failure> {
+fn level(value: &OsString) -> Result<u64, Failure> {
     let text = value.to_string_lossy();
     let is_number = !text.is_empty() && text.bytes().all(|byte| byte.is_ascii_digit());
-    let level = text.parse().ok().filter(|&level: &u32| is_number && level <= TOP);
+    let level = text.parse().ok().filter(|&level: &u64| is_number && level <= TOP);
     level.ok_or_else(|| {
         Failure::Usage(format!("--start needs a level, 0 to 15, not \"{}\"", shown(text.as_bytes())))
     })

@@ -163,7 +163,7 @@ impl Guard {
     }
 
     /// The answer; none where it has been given.
-    fn answer(&mut self, asked: &Asked, tid: Tid, step: u32) -> Option<Result<(), Errno>> {
+    fn answer(&mut self, asked: &Asked, tid: Tid, step: u64) -> Option<Result<(), Errno>> {
         let call = asked.call as u32;
         match (rule_with(call, &asked.arguments), call) {
             (Rule::Refused(error, why), _) => {

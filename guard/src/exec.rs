@@ -18,7 +18,7 @@ use crate::words::shown;
 /// A file that is run: a program, or a script and then its interpreter.
 struct Run {
     key: Key,
-    level: u32,
+    level: u64,
     path: Vec<u8>,
     /// As it was called.
     name: Vec<u8>,
@@ -52,7 +52,7 @@ impl Guard {
         self.tasks.get(&tid).map_or(tid, |task| task.process)
     }
 
-    fn limit(&mut self, step: u32, error: i32, what: &str) -> Errno {
+    fn limit(&mut self, step: u64, error: i32, what: &str) -> Errno {
         let program = self.told.program(step).to_string();
         self.say_once(format!("refused: {program}: {what}"));
         Errno(error)
@@ -62,13 +62,13 @@ impl Guard {
     fn pipes(&mut self, tid: Tid, info: &CallInfo) -> Result<Tid, Errno> {
         let (step, process) = (self.must_step(tid), self.process(tid));
         self.halt_others(process, tid);
-        if !self.told.has_places(step, 2) || !self.told.has_number() {
+        if !self.told.has_places(step, 2) || !self.told.has_room() {
             self.put_right(tid);
         }
         if !self.told.has_places(step, 2) {
             return Err(self.limit(step, EMFILE, "a pipe would be its 17th handle"));
         }
-        if !self.told.has_number() {
+        if !self.told.has_room() {
             return Err(self.limit(
                 step,
                 ENFILE,
@@ -173,15 +173,15 @@ impl Guard {
     }
 
     /// The numbers of all files that are run, each still there when the last one has its own.
-    fn numbers(&mut self, runs: &[Run]) -> Option<Vec<u32>> {
-        let files: Option<Vec<u32>> =
+    fn numbers(&mut self, runs: &[Run]) -> Option<Vec<u64>> {
+        let files: Option<Vec<u64>> =
             runs.iter().map(|run| self.told.file(run.key, run.level, &run.path)).collect();
-        let is_there = |(run, file): (&Run, &u32)| self.told.number(run.key) == Some(*file);
+        let is_there = |(run, file): (&Run, &u64)| self.told.number(run.key) == Some(*file);
         files.filter(|files| runs.iter().zip(files).all(is_there))
     }
 
     /// The program, or the script and its interpreters.
-    fn to_run(&mut self, tid: Tid, process: Tid, step: u32, info: &CallInfo) -> Result<Vec<Run>, Errno> {
+    fn to_run(&mut self, tid: Tid, process: Tid, step: u64, info: &CallInfo) -> Result<Vec<Run>, Errno> {
         let [a, b, _, _, e, _] = info.arguments;
         let is_at = info.number == u64::from(EXECVEAT);
         let (folder, at, flags) = if is_at { (a as i32, b, e) } else { (AT_FDCWD, a, 0) };
@@ -207,7 +207,7 @@ impl Guard {
     }
 
     /// A file to run, and the interpreter that its first line names.
-    fn run_of(&mut self, step: u32, seen: &Seen, name: &[u8]) -> Result<(Run, Option<Vec<u8>>), Errno> {
+    fn run_of(&mut self, step: u64, seen: &Seen, name: &[u8]) -> Result<(Run, Option<Vec<u8>>), Errno> {
         if !seen.meta.is_file() {
             return Err(Errno(EACCES));
         }

@@ -11,7 +11,7 @@ use crate::proc::Key;
 #[derive(Clone, Copy, Debug, PartialEq, Eq)]
 pub enum Standing {
     /// A file of this level.
-    At(u32),
+    At(u64),
     /// The levels file leaves it out.
     Out,
     /// It hands nothing from one step to another: /dev/null and its kin, and what the kernel says of a process itself.
@@ -27,9 +27,9 @@ pub struct Files {
     /// The folder that the run was started in, as the kernel names it.
     folder: Vec<u8>,
     /// The levels of files that the run has made where the levels file says `step`.
-    made: HashMap<Key, u32>,
+    made: HashMap<Key, u64>,
     /// The level that each file had when it was first opened: another name of it may say another.
-    known: HashMap<Key, u32>,
+    known: HashMap<Key, u64>,
     /// Standard output and error without a level: they lead out of the run, and are for writing alone.
     pub outside: Vec<Key>,
     /// The journal, which no step may write to.
@@ -74,7 +74,7 @@ impl Files {
     }
 
     /// The level of standard input, output or error.
-    pub fn standard(&self, which: usize) -> Option<u32> {
+    pub fn standard(&self, which: usize) -> Option<u64> {
         self.levels.standard(which)
     }
 
@@ -98,7 +98,7 @@ impl Files {
     }
 
     /// A file has been made. What was known of its inode was of another file.
-    pub fn was_made(&mut self, key: Key, level: u32, is_steps: bool) {
+    pub fn was_made(&mut self, key: Key, level: u64, is_steps: bool) {
         self.known.insert(key, level);
         match is_steps {
             true => self.made.insert(key, level),

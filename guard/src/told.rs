@@ -6,9 +6,9 @@
 
 mod programs;
 
-use std::collections::HashMap;
+use std::collections::{BTreeSet, HashMap};
 
-use gatekeeper::{Answer, Call, Kind, Monitor, Refusal, State, Way, OBJECTS, PLACES, SUBJECTS};
+use gatekeeper::{Answer, Call, Kind, Refusal, State, Way, OBJECTS, PLACES, SUBJECTS};
 use gk_chain::Thing;
 use gk_trace::names;
 
@@ -19,9 +19,12 @@ use crate::words::{fail, shown};
 pub struct Told {
     state: State,
     pub journal: Journal,
-    numbers: HashMap<Key, u32>,
-    keys: Vec<Option<Key>>,
-    paths: Vec<Vec<u8>>,
+    /// The number of each file and pipe by what the kernel says it is. None is used for another one.
+    numbers: HashMap<Key, u64>,
+    /// What each number stands for.
+    things: HashMap<u64, Seen>,
+    /// The number of the next new one.
+    next: u64,
     /// The folder that the run was started in: files there go by their path from it.
     folder: Vec<u8>,
     /// What each step runs.
@@ -29,26 +32,31 @@ pub struct Told {
     /// Keys for files that are not made yet.
     fresh: u64,
     pub refused: u64,
-    /// The same monitor as bytes, for the chain behind a refusal; it is a few calls behind until one is asked for.
-    bytes: Monitor,
-    behind: Vec<Call>,
 }
 
-/// The objects on which a step is loud, a bit for each number.
-#[derive(Clone, Copy, Debug, Default, PartialEq, Eq)]
+/// What stands behind a number.
+#[derive(Default)]
+struct Seen {
+    /// What the kernel says it is; none where that is another one by now.
+    key: Option<Key>,
+    path: Vec<u8>,
+}
+
+/// The objects on which a step is loud.
+#[derive(Clone, Debug, Default, PartialEq, Eq)]
 pub struct Loud {
-    reads: u64,
-    writes: u64,
+    reads: BTreeSet<u64>,
+    writes: BTreeSet<u64>,
 }
 
 impl Loud {
-    pub fn is_quiet(self) -> bool {
-        self == Loud::default()
+    pub fn is_quiet(&self) -> bool {
+        *self == Loud::default()
     }
 
     /// Whether there is an object on which it was not before.
-    pub fn exceeds(self, before: Loud) -> bool {
-        self.reads & !before.reads != 0 || self.writes & !before.writes != 0
+    pub fn exceeds(&self, before: &Loud) -> bool {
+        !self.reads.is_subset(&before.reads) || !self.writes.is_subset(&before.writes)
     }
 }
 
@@ -58,14 +66,12 @@ impl Told {
             state: State::new(),
             journal,
             numbers: HashMap::new(),
-            keys: vec![None; OBJECTS as usize],
-            paths: vec![Vec::new(); OBJECTS as usize],
+            things: HashMap::new(),
+            next: 0,
             folder,
             programs: vec![String::new(); SUBJECTS as usize],
             fresh: 0,
             refused: 0,
-            bytes: Monitor::new(),
-            behind: Vec::new(),
         }
     }
 
@@ -79,7 +85,7 @@ impl Told {
         match answer {
             Answer::Refused(Refusal::Flow) => self.refused += 1,
             Answer::Refused(why) => fail(&format!("its own tables are wrong: {call:?}: {why}")),
-            Answer::Allowed(_) | Answer::Lowered(_) => self.behind.push(call),
+            Answer::Allowed(_) | Answer::Lowered(_) => {}
         }
         answer
     }
@@ -90,11 +96,8 @@ impl Told {
     }
 
     /// The chain behind a call that the gatekeeper has just refused for the flow, in words; found, and not proved.
-    pub fn chain(&mut self, call: Call) -> String {
-        for call in self.behind.drain(..) {
-            let _ = self.bytes.call(call);
-        }
-        let links = gk_chain::behind(&self.bytes, call.code(), call.numbers());
+    pub fn chain(&self, call: Call) -> String {
+        let links = gk_chain::behind(&self.state, call.code(), call.numbers());
         // Pipes between steps go without saying; levels are those of the two ends.
         let last = links.len().saturating_sub(1);
         let is_said = |at: usize| at == 0 || at == last || links[at].kind != Some(Kind::Pipe);
@@ -115,42 +118,42 @@ impl Told {
 
     // Steps.
 
-    pub fn level(&self, step: u32) -> u8 {
+    pub fn level(&self, step: u64) -> u8 {
         self.state.subject(step).unwrap_or(0)
     }
 
-    pub fn free_step(&self) -> Option<u32> {
+    pub fn free_step(&self) -> Option<u64> {
         (0..SUBJECTS).find(|&s| self.state.subject(s).is_none())
     }
 
-    pub fn admit(&mut self, step: u32, level: u32, name: &str) {
+    pub fn admit(&mut self, step: u64, level: u64, name: &str) {
         self.name_step(step, name);
         let _ = self.make(Call::Admit { subject: step, level });
     }
 
-    pub fn fork(&mut self, step: u32, child: u32) {
+    pub fn fork(&mut self, step: u64, child: u64) {
         let name = self.programs[step as usize].clone();
         self.name_step(child, &name);
         let _ = self.make(Call::Fork { subject: step, child });
     }
 
-    pub fn exit(&mut self, step: u32) {
+    pub fn exit(&mut self, step: u64) {
         let _ = self.make(Call::Exit { subject: step });
     }
 
-    pub fn name_step(&mut self, step: u32, name: &str) {
+    pub fn name_step(&mut self, step: u64, name: &str) {
         self.programs[step as usize] = name.to_string();
         self.journal.name(names::Kind::Step, step, name);
     }
 
-    pub fn program(&self, step: u32) -> &str {
+    pub fn program(&self, step: u64) -> &str {
         self.programs.get(step as usize).map_or("", |name| name.as_str())
     }
 
     // Files and pipes.
 
-    pub fn object_name(&self, object: u32) -> String {
-        self.paths.get(object as usize).map_or_else(String::new, |path| self.short(path))
+    pub fn object_name(&self, object: u64) -> String {
+        self.things.get(&object).map_or_else(String::new, |seen| self.short(&seen.path))
     }
 
     /// A path as people know it.
@@ -159,47 +162,70 @@ impl Told {
         shown(own.unwrap_or(path))
     }
 
-    pub fn number(&self, key: Key) -> Option<u32> {
-        let found = self.numbers.get(&key).copied();
-        found.filter(|&o| self.keys[o as usize] == Some(key) && self.state.object(o).is_some())
+    pub fn number(&self, key: Key) -> Option<u64> {
+        self.own_number(key).filter(|&o| self.state.object(o).is_some())
     }
 
-    fn is_held(&self, object: u32) -> bool {
-        let holds = |s, p| self.state.handle(s, p).is_some_and(|handle| u32::from(handle.object) == object);
+    /// The number of a file or pipe, live or not.
+    fn own_number(&self, key: Key) -> Option<u64> {
+        self.numbers.get(&key).copied().filter(|&o| self.key(o) == Some(key))
+    }
+
+    fn key(&self, object: u64) -> Option<Key> {
+        self.things.get(&object)?.key
+    }
+
+    /// Whether what a process holds is what stands behind a number.
+    fn is_of(&self, held: &Held, object: u64, writes: bool) -> bool {
+        let seen = self.things.get(&object);
+        seen.is_some_and(|seen| seen.key.is_some_and(|key| held.is(key, &seen.path, writes)))
+    }
+
+    fn is_held(&self, object: u64) -> bool {
+        let holds = |s, p| self.state.handle(s, p).is_some_and(|handle| handle.object == object);
         (0..SUBJECTS).any(|s| (0..PLACES).any(|p| holds(s, p)))
     }
 
-    /// A number for a new file or pipe; a file that nobody holds gives up its own. None where 64 are held.
-    fn free_number(&mut self) -> Option<u32> {
-        if let Some(free) = (0..OBJECTS).find(|&o| self.state.object(o).is_none()) {
-            return Some(free);
+    /// Room for one more file or pipe; where 64 are live, a file that nobody holds is retired. None where all are held.
+    fn make_room(&mut self) -> Option<()> {
+        if self.state.objects().count() == OBJECTS as usize {
+            let idle = self.state.objects().map(|(o, _)| o).find(|&o| !self.is_held(o))?;
+            let _ = self.make(Call::Retire { object: idle });
         }
-        let idle = (0..OBJECTS).find(|&o| !self.is_held(o))?;
-        let _ = self.make(Call::Retire { object: idle });
-        Some(idle)
+        Some(())
     }
 
-    pub fn has_number(&self) -> bool {
-        (0..OBJECTS).any(|o| self.state.object(o).is_none() || !self.is_held(o))
+    /// A number that nothing had before.
+    fn fresh_number(&mut self) -> u64 {
+        self.next += 1;
+        self.next - 1
+    }
+
+    /// Whether there is room for one more file or pipe, or can be.
+    pub fn has_room(&self) -> bool {
+        let mut live = self.state.objects();
+        self.state.objects().count() < OBJECTS as usize || live.any(|(o, _)| !self.is_held(o))
     }
 
     /// Says which file an object is. Another object with this key was a file that is gone by now: its inode is used
     /// again, so nobody has it open, and its handles are closed when tables are put right.
-    pub fn seat(&mut self, object: u32, key: Key) {
-        if let Some(old) = self.numbers.insert(key, object) {
-            if old != object && self.keys[old as usize] == Some(key) {
-                self.keys[old as usize] = None;
+    pub fn seat(&mut self, object: u64, key: Key) {
+        if let Some(old) = self.numbers.insert(key, object).filter(|&old| old != object) {
+            if self.key(old) == Some(key) {
+                self.things.entry(old).or_default().key = None;
             }
         }
-        if let Some(old) = self.keys[object as usize].replace(key).filter(|&old| old != key) {
-            self.numbers.remove(&old);
+        let before = self.things.entry(object).or_default().key.replace(key);
+        if let Some(before) = before.filter(|&before| before != key) {
+            self.numbers.remove(&before);
         }
     }
 
-    /// The number of a file that is there; it is registered where it has none. None where there is no number for it.
-    pub fn file(&mut self, key: Key, level: u32, path: &[u8]) -> Option<u32> {
+    /// The number of a file that is there; where it is not live it is registered, under the number that it had. None
+    /// where there is no room for it.
+    pub fn file(&mut self, key: Key, level: u64, path: &[u8]) -> Option<u64> {
         if let Some(object) = self.number(key) {
-            if self.state.object(object).is_some_and(|found| u32::from(found.level) == level) {
+            if self.state.object(object).is_some_and(|found| u64::from(found.level) == level) {
                 return Some(object);
             }
             if self.is_held(object) {
@@ -207,7 +233,8 @@ impl Told {
             }
             let _ = self.make(Call::Retire { object });
         }
-        let object = self.free_number()?;
+        self.make_room()?;
+        let object = self.own_number(key).unwrap_or_else(|| self.fresh_number());
         self.named(object, path);
         let _ = self.make(Call::Register { object, level });
         self.seat(object, key);
@@ -215,8 +242,9 @@ impl Told {
     }
 
     /// The number of a file that is about to be made, at its level, or at the step's where none is given.
-    pub fn new_file(&mut self, step: u32, level: Option<u32>, path: &[u8]) -> Option<u32> {
-        let object = self.free_number()?;
+    pub fn new_file(&mut self, step: u64, level: Option<u64>, path: &[u8]) -> Option<u64> {
+        self.make_room()?;
+        let object = self.fresh_number();
         self.named(object, path);
         let _ = match level {
             Some(level) => self.make(Call::Register { object, level }),
@@ -227,8 +255,8 @@ impl Told {
         Some(object)
     }
 
-    fn named(&mut self, object: u32, path: &[u8]) {
-        self.paths[object as usize] = path.to_vec();
+    fn named(&mut self, object: u64, path: &[u8]) {
+        self.things.entry(object).or_default().path = path.to_vec();
         let name = self.short(path);
         self.journal.name(names::Kind::File, object, &name);
     }
@@ -236,32 +264,30 @@ impl Told {
     // Handles.
 
     /// The place of a handle of the step that an exec does not end by a mark.
-    fn hold(&self, step: u32, object: u32, writes: bool) -> Option<u32> {
+    fn hold(&self, step: u64, object: u64, writes: bool) -> Option<u64> {
         (0..PLACES).find(|&p| {
             self.state.handle(step, p).is_some_and(|handle| {
-                u32::from(handle.object) == object
-                    && !handle.marked
-                    && (handle.way == Way::Writes) == writes
+                handle.object == object && !handle.marked && (handle.way == Way::Writes) == writes
             })
         })
     }
 
-    fn free_place(&self, step: u32) -> Option<u32> {
+    fn free_place(&self, step: u64) -> Option<u64> {
         (0..PLACES).find(|&p| self.state.handle(step, p).is_none())
     }
 
     /// Whether the step has room for so many more handles.
-    pub fn has_places(&self, step: u32, count: usize) -> bool {
+    pub fn has_places(&self, step: u64, count: usize) -> bool {
         (0..PLACES).filter(|&p| self.state.handle(step, p).is_none()).count() >= count
     }
 
     /// How many handles an open in these directions adds.
-    pub fn adds(&self, step: u32, object: u32, reads: bool, writes: bool) -> usize {
+    pub fn adds(&self, step: u64, object: u64, reads: bool, writes: bool) -> usize {
         let adds = |is_wanted, writes| usize::from(is_wanted && self.hold(step, object, writes).is_none());
         adds(reads, false) + adds(writes, true)
     }
 
-    fn open_call(step: u32, object: u32, place: u32, writes: bool) -> Call {
+    fn open_call(step: u64, object: u64, place: u64, writes: bool) -> Call {
         match writes {
             true => Call::OpenWrite { subject: step, object, place },
             false => Call::OpenRead { subject: step, object, place },
@@ -269,7 +295,7 @@ impl Told {
     }
 
     /// Whether an open would be granted, asked of a copy.
-    pub fn would_open(&self, step: u32, object: u32, reads: bool, writes: bool) -> bool {
+    pub fn would_open(&self, step: u64, object: u64, reads: bool, writes: bool) -> bool {
         let mut copy = self.state.clone();
         [(reads, false), (writes, true)].into_iter().all(|(is_wanted, writes)| {
             if !is_wanted || self.hold(step, object, writes).is_some() {
@@ -283,7 +309,7 @@ impl Told {
     }
 
     /// The open for real; where it is refused, the call that was.
-    pub fn open(&mut self, step: u32, object: u32, reads: bool, writes: bool) -> Result<(), Call> {
+    pub fn open(&mut self, step: u64, object: u64, reads: bool, writes: bool) -> Result<(), Call> {
         let mut made = None;
         for (is_wanted, writes) in [(reads, false), (writes, true)] {
             if !is_wanted || self.hold(step, object, writes).is_some() {
@@ -303,13 +329,15 @@ impl Told {
     }
 
     /// A pipe that the step has made; the caller has seen to a number and two places.
-    pub fn pipe(&mut self, step: u32, key: Key) {
-        let places: Vec<u32> =
+    pub fn pipe(&mut self, step: u64, key: Key) {
+        let places: Vec<u64> =
             (0..PLACES).filter(|&p| self.state.handle(step, p).is_none()).take(2).collect();
-        let (Some(object), &[reads, writes]) = (self.free_number(), &places[..]) else {
-            fail("no number or place is left for a pipe where one was")
+        let (Some(()), &[reads, writes]) = (self.make_room(), &places[..]) else {
+            fail("no room or place is left for a pipe where one was")
         };
-        self.paths[object as usize] = format!("pipe of {}", self.program(step)).into_bytes();
+        let object = self.fresh_number();
+        let path = format!("pipe of {}", self.program(step)).into_bytes();
+        self.things.insert(object, Seen { key: None, path });
         let name = self.object_name(object);
         self.journal.name(names::Kind::Pipe, object, &name);
         let _ = self.make(Call::Pipe { subject: step, object, reads, writes });
@@ -317,20 +345,18 @@ impl Told {
     }
 
     /// Closes what the step no longer has.
-    pub fn put_right(&mut self, step: u32, held: &[Held]) {
+    pub fn put_right(&mut self, step: u64, held: &[Held]) {
         for place in 0..PLACES {
             let Some(handle) = self.state.handle(step, place) else { continue };
-            let (key, path) =
-                (self.keys[usize::from(handle.object)], &self.paths[usize::from(handle.object)]);
             let writes = handle.way == Way::Writes;
-            if !held.iter().any(|held| key.is_some_and(|key| held.is(key, path, writes))) {
+            if !held.iter().any(|held| self.is_of(held, handle.object, writes)) {
                 let _ = self.make(Call::Close { subject: step, place });
             }
         }
     }
 
     /// A read or a write on an object. Where nobody would fall it changes nothing, and is left out. Whether one fell.
-    pub fn data(&mut self, step: u32, object: u32, writes: bool) -> bool {
+    pub fn data(&mut self, step: u64, object: u64, writes: bool) -> bool {
         let (Some(found), Some(level)) = (self.state.object(object), self.state.subject(step)) else {
             return false;
         };
@@ -347,17 +373,19 @@ impl Told {
     }
 
     /// The objects that a read or a write of the step would lower somebody on.
-    pub fn loud(&self, step: u32) -> Loud {
+    pub fn loud(&self, step: u64) -> Loud {
         let mut loud = Loud::default();
         let Some(level) = self.state.subject(step) else { return loud };
         for place in 0..PLACES {
             let Some(handle) = self.state.handle(step, place) else { continue };
-            let Some(object) = self.state.object(handle.object.into()) else { continue };
+            let Some(object) = self.state.object(handle.object) else { continue };
             let (set, lowers) = match handle.way {
                 Way::Writes => (&mut loud.writes, object.kind == Kind::Pipe && level < object.level),
                 Way::Reads | Way::Maps => (&mut loud.reads, object.level < level),
             };
-            *set |= u64::from(lowers) << handle.object;
+            if lowers {
+                set.insert(handle.object);
+            }
         }
         loud
     }
@@ -418,13 +446,17 @@ pub mod tests {
     }
 
     #[test]
-    fn numbers_are_found_again() {
+    fn a_file_has_one_number_for_the_whole_run() {
         let mut told = told();
         for n in 0..200 {
             let file = told.file((2, n), 15, b"/f").unwrap();
-            assert!(told.open(0, file, false, true).is_ok() && told.has_number());
+            assert!(told.open(0, file, false, true).is_ok() && told.has_room());
             told.put_right(0, &[]);
         }
+        // The first one was retired meanwhile, and has its number again.
+        assert!(told.number((2, 0)).is_none());
+        assert_eq!(told.file((2, 0), 15, b"/f"), Some(0));
+        assert_eq!(told.file((4, 0), 15, b"/f"), Some(200));
         for n in 0..16 {
             let file = told.file((3, n), 15, b"/f").unwrap();
             assert!(told.open(0, file, false, true).is_ok());

@@ -14,12 +14,13 @@
 /* The numbers that this host gives: subjects, files, pipes. */
 enum { SHELL = 0, ADDER = 1 };
 enum { PAY_BOOK = 0, SHEET = 1, PIPE = 8 };
+#define RECEIPT UINT64_MAX /* a number of the file store */
 
 /* The numbers of a call, and 0 for each that it does not use. */
-#define WITH(...) ((const uint32_t[6]){__VA_ARGS__})
+#define WITH(...) ((const uint64_t[6]){__VA_ARGS__})
 
 /* Makes a call, and says what came of it; whether it may be done. */
-static bool ask(struct gatekeeper_monitor *monitor, const char *what, uint32_t code, const uint32_t n[6])
+static bool ask(struct gatekeeper_monitor *monitor, const char *what, uint64_t code, const uint64_t n[6])
 {
     uint32_t answer = gatekeeper_monitor_step(monitor, code, n[0], n[1], n[2], n[3], n[4], n[5]);
     uint32_t value = gatekeeper_value(answer);
@@ -34,7 +35,7 @@ static bool ask(struct gatekeeper_monitor *monitor, const char *what, uint32_t c
 }
 
 /* The same for a call without which this host cannot go on. */
-static void must(struct gatekeeper_monitor *monitor, const char *what, uint32_t code, const uint32_t n[6])
+static void must(struct gatekeeper_monitor *monitor, const char *what, uint64_t code, const uint64_t n[6])
 {
     if (!ask(monitor, what, code, n)) {
         fflush(stdout);
@@ -54,6 +55,18 @@ static void show(const struct gatekeeper_monitor *monitor)
             handles += monitor->handles[GATEKEEPER_PLACES * step + place].way != 0;
         printf("The duty screen shows: step %u is at level %u and may fall to %u; handles: %u.\n", step,
                monitor->subjects[step].level, monitor->needs[step], handles);
+    }
+}
+
+/* The objects of a step's handles: each handle has the slot in which its object stands, with its number beside it. */
+static void list(const struct gatekeeper_monitor *monitor, unsigned step)
+{
+    for (unsigned place = 0; place < GATEKEEPER_PLACES; place++) {
+        unsigned at = GATEKEEPER_PLACES * step + place, slot = monitor->handles[at].slot;
+        if (monitor->handles[at].way != 0)
+            printf("The duty screen lists: place %u of step %u is on %s %" PRIu64 ", level %u.\n", place, step,
+                   monitor->objects[slot].kind == GATEKEEPER_KIND_PIPE ? "pipe" : "file", monitor->numbers[slot],
+                   monitor->objects[slot].level);
     }
 }
 
@@ -86,6 +99,11 @@ int main(void)
         puts("\nThe monitor itself is as it was");
         show(&monitor);
     }
+
+    puts("\nThe file store gives numbers of its own");
+    must(&monitor, "The bank's receipt is file 18446744073709551615.", GATEKEEPER_REGISTER, WITH(RECEIPT, 12));
+    must(&monitor, "The shell opens the receipt for reading.", GATEKEEPER_OPEN_READ, WITH(SHELL, RECEIPT, 3));
+    list(&monitor, SHELL);
     uint64_t made = monitor.counts[GATEKEEPER_MADE], gone = monitor.counts[GATEKEEPER_GONE];
     printf("\nHandles made: %" PRIu64 ", gone: %" PRIu64 ", open: %" PRIu64 ".\n", made, gone, made - gone);
     return fflush(stdout) == 0 ? 0 : 1;

@@ -14,6 +14,7 @@
 enum { SHELL = 0, ADDER = 1, LISTER = 2, LAUNCHER = 3, IMPORTER = 4, TERMINAL = 5, STATION = 6, PAYSLIPS = 7 };
 enum { PAY_BOOK = 0, SHEET = 1, HOURS = 2, LIST = 3, VIEWER = 4 };
 enum { PIPE = 8, SLIPS = 9, REPORTS = 10 }; /* from the adder to the shell; to the print station, and back */
+#define RECEIPT UINT64_MAX                  /* a number of the file store */
 
 struct host {
     uint8_t monitor[GATEKEEPER_STATE_BYTES];
@@ -31,10 +32,10 @@ static const char *refusal_words(uint32_t refusal)
 }
 
 /* The numbers of a call, and 0 for each that it does not use. */
-#define WITH(...) ((const uint32_t[6]){__VA_ARGS__})
+#define WITH(...) ((const uint64_t[6]){__VA_ARGS__})
 
 /* Makes a call, adds its record to the journal, and says what came of it; whether it may be done. */
-static bool ask(struct host *host, const char *what, uint32_t code, const uint32_t n[6])
+static bool ask(struct host *host, const char *what, uint64_t code, const uint64_t n[6])
 {
     uint8_t *end = host->journal + host->written;
     size_t room = sizeof host->journal - host->written;
@@ -56,7 +57,7 @@ static bool ask(struct host *host, const char *what, uint32_t code, const uint32
 }
 
 /* The same for a call without which this host cannot go on. */
-static void must(struct host *host, const char *what, uint32_t code, const uint32_t n[6])
+static void must(struct host *host, const char *what, uint64_t code, const uint64_t n[6])
 {
     if (!ask(host, what, code, n)) {
         fflush(stdout);
@@ -74,9 +75,14 @@ static const char *way_words(uint32_t way)
     }
 }
 
+static const char *kind_words(uint32_t object)
+{
+    return gatekeeper_kind_of(object) == GATEKEEPER_KIND_PIPE ? "pipe" : "file";
+}
+
 /* What the duty screen shows of a step: its level, the lowest one that it may fall to while no handle goes, and its
  * handles. */
-static void show(const struct host *host, uint32_t step)
+static void show(const struct host *host, uint64_t step)
 {
     const uint8_t *monitor = host->monitor;
     size_t len = sizeof host->monitor;
@@ -84,17 +90,34 @@ static void show(const struct host *host, uint32_t step)
     if (seen == 0)
         return;
     uint32_t need = gatekeeper_subject_need(monitor, len, step);
-    printf("The duty screen shows: step %" PRIu32 " is at level %" PRIu32 " and may fall to %" PRIu32 ".\n", step,
+    printf("The duty screen shows: step %" PRIu64 " is at level %" PRIu32 " and may fall to %" PRIu32 ".\n", step,
            gatekeeper_level_of(seen), need);
-    for (uint32_t place = 0; place < GATEKEEPER_PLACES; place++) {
+    for (uint64_t place = 0; place < GATEKEEPER_PLACES; place++) {
         uint32_t handle = gatekeeper_handle(monitor, len, step, place);
         if (handle == 0)
             continue;
-        uint32_t object = gatekeeper_object_of(handle);
-        bool is_pipe = gatekeeper_kind_of(gatekeeper_object(monitor, len, object)) == GATEKEEPER_KIND_PIPE;
-        printf("  Its place %" PRIu32 " %s %s %" PRIu32 "%s.\n", place, way_words(gatekeeper_way_of(handle)),
-               is_pipe ? "pipe" : "file", object, gatekeeper_is_marked(handle) ? ", until exec" : "");
+        uint64_t object = gatekeeper_handle_object(monitor, len, step, place);
+        printf("  Its place %" PRIu64 " %s %s %" PRIu64 "%s.\n", place, way_words(gatekeeper_way_of(handle)),
+               kind_words(gatekeeper_object(monitor, len, object)), object,
+               gatekeeper_is_marked(handle) ? ", until exec" : "");
     }
+}
+
+/* What it lists: the files and pipes that are live, the lowest number first. */
+static void list(const struct host *host)
+{
+    const uint8_t *monitor = host->monitor;
+    size_t len = sizeof host->monitor;
+    uint64_t from = 0;
+    do {
+        uint64_t o = gatekeeper_object_from(monitor, len, from);
+        uint32_t seen = gatekeeper_object(monitor, len, o);
+        if (o < from || seen == 0)
+            break;
+        printf("The duty screen lists: %s %" PRIu64 " is at level %" PRIu32 ".\n", kind_words(seen), o,
+               gatekeeper_level_of(seen));
+        from = o + 1;
+    } while (from != 0);
 }
 
 int main(void)
@@ -169,7 +192,7 @@ int main(void)
     puts("\nThe payslip step and the print station talk over a local socket: one pipe there and one back");
     must(&host, "The print station is step 6.", GATEKEEPER_ADMIT, WITH(STATION, 5));
     must(&host, "The shell forks the payslip step, step 7.", GATEKEEPER_FORK, WITH(SHELL, PAYSLIPS));
-    const uint32_t *channel = WITH(PAYSLIPS, STATION, SLIPS, REPORTS, 3, 4); /* each reads at 3 and writes at 4 */
+    const uint64_t *channel = WITH(PAYSLIPS, STATION, SLIPS, REPORTS, 3, 4); /* each reads at 3 and writes at 4 */
     if (!ask(&host, "The payslip step is connected to the station by pipes 9 and 10.", GATEKEEPER_CONNECT, channel)) {
         must(&host, "The payslip step closes the pay book.", GATEKEEPER_CLOSE, WITH(PAYSLIPS, 2));
         must(&host, "The payslip step is connected to the station by pipes 9 and 10.", GATEKEEPER_CONNECT, channel);
@@ -195,6 +218,10 @@ int main(void)
     puts("\nA clerk has looked over the sheet: it comes in again as checked");
     must(&host, "The sheet of shop 3 is retired.", GATEKEEPER_RETIRE, WITH(SHEET));
     must(&host, "The checked sheet is file 1.", GATEKEEPER_REGISTER, WITH(SHEET, 12));
+
+    puts("\nThe file store gives numbers of its own");
+    must(&host, "The bank's receipt is file 18446744073709551615.", GATEKEEPER_REGISTER, WITH(RECEIPT, 12));
+    list(&host);
 
     uint64_t made = gatekeeper_made(host.monitor, sizeof host.monitor);
     uint64_t gone = gatekeeper_gone(host.monitor, sizeof host.monitor);

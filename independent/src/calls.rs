@@ -9,10 +9,10 @@ use crate::tables::{Direction, Handle};
 pub const NUMBERS: usize = 6;
 
 /// The numbers of a direct call, of which it uses as many as its row has.
-pub type Numbers = [u32; NUMBERS];
+pub type Numbers = [u64; NUMBERS];
 
 /// RULES C108: the numbers that are given, and 0 for each that is not.
-pub fn filled(numbers: &[u32]) -> Numbers {
+pub fn filled(numbers: &[u64]) -> Numbers {
     let mut filled = [0; NUMBERS];
     for (slot, &number) in filled.iter_mut().zip(numbers) {
         *slot = number;
@@ -24,12 +24,12 @@ pub fn filled(numbers: &[u32]) -> Numbers {
 /// in a direct call as in a record.
 #[derive(Debug)]
 pub struct Shape {
-    pub code: u32,
+    pub code: u64,
     pub word: &'static str,
     pub numbers: &'static [&'static str],
 }
 
-const fn shape(code: u32, word: &'static str, numbers: &'static [&'static str]) -> Shape {
+const fn shape(code: u64, word: &'static str, numbers: &'static [&'static str]) -> Shape {
     Shape { code, word, numbers }
 }
 
@@ -55,7 +55,7 @@ pub const SHAPES: [Shape; 17] = [
 ];
 
 /// The shape of the call with this code; none for a code not 1 to 17 (RULES R1).
-pub fn shape_of_code(code: u32) -> Option<&'static Shape> {
+pub fn shape_of_code(code: u64) -> Option<&'static Shape> {
     SHAPES.iter().find(|shape| shape.code == code)
 }
 
@@ -67,28 +67,28 @@ pub fn shape_of_word(word: &str) -> Option<&'static Shape> {
 /// A call with its numbers by name, as RULES C1 to C17 name them.
 #[derive(Clone, Copy, Debug, PartialEq, Eq)]
 pub enum Call {
-    Admit { s: u32, level: u32 },
-    Register { o: u32, level: u32 },
-    Create { s: u32, o: u32 },
-    Pipe { s: u32, o: u32, r: u32, w: u32 },
-    OpenRead { s: u32, o: u32, p: u32 },
-    OpenWrite { s: u32, o: u32, p: u32 },
-    Read { s: u32, p: u32 },
-    Write { s: u32, p: u32 },
-    Fork { s: u32, c: u32 },
-    Exec { s: u32, o: u32 },
-    Close { s: u32, p: u32 },
-    Exit { s: u32 },
-    Retire { o: u32 },
-    Map { s: u32, o: u32, p: u32 },
-    Mark { s: u32, p: u32 },
-    Freeze { level: u32 },
-    Connect { s: u32, t: u32, a: u32, b: u32, p: u32, q: u32 },
+    Admit { s: u64, level: u64 },
+    Register { o: u64, level: u64 },
+    Create { s: u64, o: u64 },
+    Pipe { s: u64, o: u64, r: u64, w: u64 },
+    OpenRead { s: u64, o: u64, p: u64 },
+    OpenWrite { s: u64, o: u64, p: u64 },
+    Read { s: u64, p: u64 },
+    Write { s: u64, p: u64 },
+    Fork { s: u64, c: u64 },
+    Exec { s: u64, o: u64 },
+    Close { s: u64, p: u64 },
+    Exit { s: u64 },
+    Retire { o: u64 },
+    Map { s: u64, o: u64, p: u64 },
+    Mark { s: u64, p: u64 },
+    Freeze { level: u64 },
+    Connect { s: u64, t: u64, a: u64, b: u64, p: u64, q: u64 },
 }
 
 impl Call {
     /// RULES C106, C107: a code and six numbers, of which the call uses as many as its row has.
-    pub fn new(code: u32, numbers: Numbers) -> Option<Call> {
+    pub fn new(code: u64, numbers: Numbers) -> Option<Call> {
         let [a, b, c, d, e, f] = numbers;
         Some(match code {
             1 => Call::Admit { s: a, level: b },
@@ -113,7 +113,7 @@ impl Call {
     }
 
     /// The subject s that asks, in C3 to C12, C14, C15 and C17.
-    pub fn asker(self) -> Option<u32> {
+    pub fn asker(self) -> Option<u64> {
         match self {
             Call::Create { s, .. }
             | Call::Pipe { s, .. }
@@ -133,7 +133,7 @@ impl Call {
     }
 
     /// The subject t that C17 joins s to.
-    pub fn partner(self) -> Option<u32> {
+    pub fn partner(self) -> Option<u64> {
         match self {
             Call::Connect { t, .. } => Some(t),
             _ => None,
@@ -141,7 +141,7 @@ impl Call {
     }
 
     /// The number for a new subject: C1, C9.
-    pub fn new_subject(self) -> Option<u32> {
+    pub fn new_subject(self) -> Option<u64> {
         match self {
             Call::Admit { s, .. } => Some(s),
             Call::Fork { c, .. } => Some(c),
@@ -150,7 +150,7 @@ impl Call {
     }
 
     /// The numbers for new objects: one in C2, C3 and C4, two in C17.
-    pub fn new_objects(self) -> Vec<u32> {
+    pub fn new_objects(self) -> Vec<u64> {
         match self {
             Call::Register { o, .. } | Call::Create { o, .. } | Call::Pipe { o, .. } => vec![o],
             Call::Connect { a, b, .. } => vec![a, b],
@@ -159,7 +159,7 @@ impl Call {
     }
 
     /// The object of C5, C6, C10, C13 and C14.
-    pub fn named_object(self) -> Option<u32> {
+    pub fn named_object(self) -> Option<u64> {
         match self {
             Call::OpenRead { o, .. }
             | Call::OpenWrite { o, .. }
@@ -171,7 +171,7 @@ impl Call {
     }
 
     /// The level that comes with a thing from outside.
-    pub fn level(self) -> Option<u32> {
+    pub fn level(self) -> Option<u64> {
         match self {
             Call::Admit { level, .. } | Call::Register { level, .. } => Some(level),
             _ => None,
@@ -179,7 +179,7 @@ impl Call {
     }
 
     /// The handle that an open or a map asks for, with the subject that asks.
-    pub fn sought(self) -> Option<(u32, Handle)> {
+    pub fn sought(self) -> Option<(u64, Handle)> {
         match self {
             Call::OpenRead { s, o, .. } => Some((s, Handle::new(o, Direction::Reading))),
             Call::OpenWrite { s, o, .. } => Some((s, Handle::new(o, Direction::Writing))),
@@ -190,7 +190,7 @@ impl Call {
 
     /// RULES C17: the four handles that a connect places, each with its subject and its place: s writes a,
     /// which t reads, and t writes b, which s reads.
-    pub fn ends(self) -> Vec<(u32, u32, Handle)> {
+    pub fn ends(self) -> Vec<(u64, u64, Handle)> {
         match self {
             Call::Connect { s, t, a, b, p, q } => vec![
                 (s, q, Handle::new(a, Direction::Writing)),

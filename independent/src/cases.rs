@@ -1,18 +1,30 @@
 //! Worked cases: RULES K0 to K17, single sentences of the freeze (RULES C16, R15), of marks (RULES C15, R110), of
-//! mappings (RULES C14, C111) and of two-way channels (RULES C17, R16), and DWARF's examples of numbers.
+//! mappings (RULES C14, C111), of two-way channels (RULES C17, R16) and of the host's own file numbers (RULES T2, R3,
+//! R4, R17, J5 to J7), DWARF's examples of numbers, and numbers at the limit.
 //!
 //! The replies stand here as the rules settle them; they are not worked out by this program.
 
+use crate::calls::shape_of_word;
+use crate::tables::LIMITS;
 use crate::words;
 
 /// DWARF 5, section 7.6, the examples of unsigned LEB128.
-pub const DWARF_NUMBERS: &[(u32, &[u8])] = &[
+pub const DWARF_NUMBERS: &[(u64, &[u8])] = &[
     (2, &[0x02]),
     (127, &[0x7f]),
     (128, &[0x80, 0x01]),
     (129, &[0x81, 0x01]),
     (130, &[0x82, 0x01]),
     (12857, &[0xb9, 0x64]),
+];
+
+/// RULES J5, J6, J7: numbers at the limit, none where they are malformed: the largest; one more, in as many bytes; one
+/// that is longer than it need be, in as many bytes; one of a byte more.
+pub const LIMIT_NUMBERS: &[(Option<u64>, &[u8])] = &[
+    (Some(18_446_744_073_709_551_615), &[0xff, 0xff, 0xff, 0xff, 0xff, 0xff, 0xff, 0xff, 0xff, 0x01]),
+    (None, &[0x80, 0x80, 0x80, 0x80, 0x80, 0x80, 0x80, 0x80, 0x80, 0x02]),
+    (None, &[0x80, 0x80, 0x80, 0x80, 0x80, 0x80, 0x80, 0x80, 0x80, 0x00]),
+    (None, &[0x80, 0x80, 0x80, 0x80, 0x80, 0x80, 0x80, 0x80, 0x80, 0x80, 0x01]),
 ];
 
 /// A journal with its replies.
@@ -116,9 +128,9 @@ const AFTER_START: &[(&str, &str, &str, &str)] = &[
     ),
     (
         "object-63-and-64",
-        "object 63 is taken, 64 gives 3 as new and 4 as named",
+        "object 63 is taken, and 64 is; 64 gives 3 as new where it is in use, and 4 as named where it is not",
         "register 63 4; register 64 4; create 0 64; pipe 0 64 0 1; retire 63; retire 64; exec 0 64",
-        "4 2 A 4; 5 2 R 3; 6 3 R 3; 7 4 R 3; 8 13 A 4; 9 13 R 4; 10 10 R 4; end 0 0 0",
+        "4 2 A 4; 5 2 A 4; 6 3 R 3; 7 4 R 3; 8 13 A 4; 9 13 A 4; 10 10 R 4; end 0 0 0",
     ),
     (
         "fork-own-number",
@@ -424,7 +436,7 @@ const AFTER_START: &[(&str, &str, &str, &str)] = &[
          connect 0 1 5 1 16 16; connect 0 1 5 5 16 16; connect 0 1 5 6 16 1; connect 0 1 5 6 0 16; connect 0 1 5 6 0 0; \
          connect 0 1 5 6 2 0; connect 0 1 5 6 0 2; connect 1 0 5 6 2 0; connect 1 0 5 6 0 2; connect 0 1 5 6 0 1; \
          connect 1 0 5 6 0 1; close 0 2; connect 0 1 5 6 0 1",
-        "4 1 A 2; 5 6 A 9; 6 17 R 2; 7 17 R 2; 8 17 R 2; 9 17 R 16; 10 17 R 3; 11 17 R 3; 12 17 R 3; 13 17 R 3; 14 17 R 3; \
+        "4 1 A 2; 5 6 A 9; 6 17 R 2; 7 17 R 2; 8 17 R 2; 9 17 R 16; 10 17 R 7; 11 17 R 7; 12 17 R 3; 13 17 R 3; 14 17 R 3; \
          15 17 R 7; 16 17 R 7; 17 17 R 7; 18 17 R 7; 19 17 R 7; 20 17 R 7; 21 17 R 7; 22 17 R 9; 23 17 R 9; 24 11 A 9; \
          25 17 A 9; end 5 1 4",
     ),
@@ -487,6 +499,61 @@ const AFTER_START: &[(&str, &str, &str, &str)] = &[
         "admit 1 9; freeze 0; connect 0 1 5 6 0 1; write 0 1",
         "4 1 A 9; 5 16 A 0; 6 17 A 9; 7 8 A 9; end 4 0 4",
     ),
+    (
+        "h-subject",
+        "subject 4294967296 gives 2, in every call with a subject",
+        "create 4294967296 2; pipe 4294967296 2 0 1; open-read 4294967296 0 0; open-write 4294967296 0 0; \
+         read 4294967296 0; write 4294967296 0; fork 4294967296 1; exec 4294967296 0; close 4294967296 0; \
+         map 4294967296 0 0; mark 4294967296 0; connect 4294967296 0 5 6 0 1; connect 0 4294967296 5 6 0 1; \
+         exit 4294967296; exit 0",
+        "4 3 R 2; 5 4 R 2; 6 5 R 2; 7 6 R 2; 8 7 R 2; 9 8 R 2; 10 9 R 2; 11 10 R 2; 12 11 R 2; 13 14 R 2; 14 15 R 2; \
+         15 17 R 2; 16 17 R 2; 17 12 R 2; 18 12 A 9; end 0 0 0",
+    ),
+    (
+        "h-subject-new",
+        "subject 4294967296 gives 3 as new, and so does the largest number",
+        "admit 4294967296 9; admit 4294967297 9; fork 0 4294967297; admit 18446744073709551615 9; \
+         fork 0 18446744073709551615; admit 1 9",
+        "4 1 R 3; 5 1 R 3; 6 9 R 3; 7 1 R 3; 8 9 R 3; 9 1 A 9; end 0 0 0",
+    ),
+    (
+        "h-place",
+        "place 4294967296 gives 7, in every call with a place",
+        "open-read 0 1 4294967296; open-write 0 1 4294967296; pipe 0 2 4294967296 1; pipe 0 2 1 4294967296; \
+         map 0 1 4294967296; open-read 0 1 0; read 0 4294967296; write 0 4294967296; close 0 4294967296; \
+         mark 0 4294967296; admit 1 9; connect 0 1 5 6 4294967297 2; connect 0 1 5 6 2 4294967297; \
+         read 0 18446744073709551600; close 0 0",
+        "4 5 R 7; 5 6 R 7; 6 4 R 7; 7 4 R 7; 8 14 R 7; 9 5 A 2; 10 7 R 7; 11 8 R 7; 12 11 R 7; 13 15 R 7; 14 1 A 9; \
+         15 17 R 7; 16 17 R 7; 17 7 R 7; 18 11 A 9; end 1 1 0",
+    ),
+    (
+        "h-largest-object",
+        "the largest object number is registered, opened, read, run and retired, and can be used again",
+        "register 18446744073709551615 4; register 18446744073709551615 4; open-read 0 18446744073709551615 0; \
+         retire 18446744073709551615; read 0 0; close 0 0; exec 0 18446744073709551615; retire 18446744073709551615; \
+         open-read 0 18446744073709551615 0; pipe 0 18446744073709551615 0 1; exec 0 18446744073709551615",
+        "4 2 A 4; 5 2 R 3; 6 5 A 4; 7 13 R 10; 8 7 L 4; 9 11 A 4; 10 10 A 4; 11 13 A 4; 12 5 R 4; 13 4 A 4; 14 10 R 5; \
+         end 3 1 2",
+    ),
+    (
+        "h-other-numbers",
+        "numbers that differ by 64 or in their upper bits alone are those of different objects",
+        "register 64 3; register 4294967296 4; register 9223372036854775808 5; open-read 0 0 0; open-read 0 64 1; \
+         open-read 0 4294967296 2; open-read 0 9223372036854775808 3; retire 65; retire 4294967297; \
+         retire 9223372036854775809; close 0 0; retire 0; open-read 0 0 0; retire 4294967296; close 0 2; \
+         retire 4294967296; register 0 7; open-read 0 4294967296 2",
+        "4 2 A 3; 5 2 A 4; 6 2 A 5; 7 5 A 9; 8 5 A 3; 9 5 A 4; 10 5 A 5; 11 13 R 4; 12 13 R 4; 13 13 R 4; 14 11 A 9; \
+         15 13 A 9; 16 5 R 4; 17 13 R 10; 18 11 A 9; 19 13 A 4; 20 2 A 7; 21 5 R 4; end 4 2 2",
+    ),
+    (
+        "h-every-kind",
+        "files that are created, pipes and both pipes of a connect may have any number",
+        "create 0 9223372036854775807; pipe 0 16384 0 1; admit 1 9; \
+         connect 0 1 72057594037927936 18446744073709551614 2 3; write 0 3; read 1 2; write 1 3; read 0 2; \
+         exec 0 16384; retire 72057594037927936; map 0 9223372036854775807 4; close 0 0; close 0 1; register 16384 1",
+        "4 3 A 9; 5 4 A 9; 6 1 A 9; 7 17 A 9; 8 8 A 9; 9 7 A 9; 10 8 A 9; 11 7 A 9; 12 10 R 5; 13 13 R 5; 14 14 A 9; \
+         15 11 A 9; 16 11 A 9; 17 2 A 1; end 7 2 5",
+    ),
 ];
 
 /// Name, what it shows, calls from empty tables, replies.
@@ -545,7 +612,7 @@ const FROM_EMPTY: &[(&str, &str, &str, &str)] = &[
     ),
     (
         "connect-32-bytes",
-        "the longest record of all: 32 bytes",
+        "a record of 32 bytes: six numbers of five each",
         "bytes 1f 11 ff ff ff ff 0f ff ff ff ff 0f ff ff ff ff 0f ff ff ff ff 0f ff ff ff ff 0f ff ff ff ff 0f; \
          call 17 4294967295 4294967295 4294967295 4294967295 4294967295 4294967295",
         "1 17 R 2; 2 17 R 2; end 0 0 0",
@@ -555,6 +622,72 @@ const FROM_EMPTY: &[(&str, &str, &str, &str)] = &[
         "codes 1 to 17 are known, 0 and 18 are not",
         "call 0 9; call 1 9; call 13; call 14 9; call 15 9; call 16 9; call 17 9; call 18 9",
         "1 0 R 1; 2 1 R 12; 3 13 R 12; 4 14 R 12; 5 15 R 12; 6 16 A 9; 7 17 R 12; 8 18 R 1; end 0 0 0",
+    ),
+    (
+        "h-level",
+        "a level above 15, and a freeze above 16, gives 6, however large it is",
+        "admit 0 4294967296; admit 0 4294967312; admit 0 18446744073709551615; register 0 4294967296; \
+         register 0 4294967312; freeze 4294967296; freeze 4294967312; freeze 18446744073709551615; register 0 0",
+        "1 1 R 6; 2 1 R 6; 3 1 R 6; 4 2 R 6; 5 2 R 6; 6 16 R 6; 7 16 R 6; 8 16 R 6; 9 2 A 0; end 0 0 0",
+    ),
+    (
+        "h-code",
+        "an unknown code is 1, and is written whole",
+        "call 4294967296; call 4294967297 0 9; call 4294967313 0 1 5 6 0 1; call 9223372036854775809 0 9; \
+         call 18446744073709551615 1 2 3; admit 0 9",
+        "1 4294967296 R 1; 2 4294967297 R 1; 3 4294967313 R 1; 4 9223372036854775809 R 1; 5 18446744073709551615 R 1; \
+         6 1 A 9; end 0 0 0",
+    ),
+    (
+        "h-62-bytes",
+        "the longest record of all: 62 bytes",
+        "bytes 3d 11 ff ff ff ff ff ff ff ff ff 01 ff ff ff ff ff ff ff ff ff 01 ff ff ff ff ff ff ff ff ff 01 \
+         ff ff ff ff ff ff ff ff ff 01 ff ff ff ff ff ff ff ff ff 01 ff ff ff ff ff ff ff ff ff 01; admit 0 9",
+        "1 17 R 2; 2 1 A 9; end 0 0 0",
+    ),
+    (
+        "h-numbers",
+        "numbers of nine, ten and eleven bytes in a record: good ones, and 12 for those above the largest, padded or too \
+         long",
+        "bytes 0b 02 ff ff ff ff ff ff ff ff 7f 04; bytes 0c 02 80 80 80 80 80 80 80 80 80 01 04; \
+         bytes 0c 02 ff ff ff ff ff ff ff ff ff 01 04; bytes 0c 02 80 80 80 80 80 80 80 80 80 02 04; \
+         bytes 0c 02 ff ff ff ff ff ff ff ff ff 03 04; bytes 0c 02 ff ff ff ff ff ff ff ff ff 7f 04; \
+         bytes 0c 02 80 80 80 80 80 80 80 80 80 00 04; bytes 0b 02 ff ff ff ff ff ff ff ff 00 04; \
+         bytes 0d 02 80 80 80 80 80 80 80 80 80 80 01 04; bytes 0d 02 80 80 80 80 80 80 80 80 80 80 00 04; \
+         bytes 0d 02 ff ff ff ff ff ff ff ff ff 81 00 04; bytes 0c 02 ff ff ff ff ff ff ff ff ff 81 04; \
+         bytes 0b 02 ff ff ff ff ff ff ff ff ff 81; bytes 0a 82 80 80 80 80 80 80 80 80 02",
+        "1 2 A 4; 2 2 A 4; 3 2 A 4; 4 2 R 12; 5 2 R 12; 6 2 R 12; 7 2 R 12; 8 2 R 12; 9 2 R 12; 10 2 R 12; 11 2 R 12; \
+         12 2 R 12; 13 2 R 12; 14 0 R 12; end 0 0 0",
+    ),
+    (
+        "h-length-32-bits",
+        "a length of 2 to the 32nd and 2 more runs past the end: 11",
+        "admit 0 9; bytes 82 80 80 80 10 0c 00",
+        "1 1 A 9; 2 0 R 11; end 0 0 0",
+    ),
+    (
+        "h-length-largest",
+        "the largest number as a length runs past the end: 11",
+        "admit 0 9; bytes ff ff ff ff ff ff ff ff ff 01 0c 00",
+        "1 1 A 9; 2 0 R 11; end 0 0 0",
+    ),
+    (
+        "h-length-above",
+        "a length of 2 to the 64th and 2 more is malformed: 11",
+        "admit 0 9; bytes 82 80 80 80 80 80 80 80 80 02 0c 00",
+        "1 1 A 9; 2 0 R 11; end 0 0 0",
+    ),
+    (
+        "h-length-padded",
+        "a length of 2 in ten bytes is malformed: 11",
+        "admit 0 9; bytes 82 80 80 80 80 80 80 80 80 00 0c 00",
+        "1 1 A 9; 2 0 R 11; end 0 0 0",
+    ),
+    (
+        "h-length-eleven",
+        "a length of eleven bytes is malformed: 11",
+        "admit 0 9; bytes 82 80 80 80 80 80 80 80 80 80 01 0c 00",
+        "1 1 A 9; 2 0 R 11; end 0 0 0",
     ),
     (
         "pipe-ends",
@@ -581,6 +714,167 @@ const FROM_EMPTY: &[(&str, &str, &str, &str)] = &[
         "1 1 A 9; 2 0 R 11; end 0 0 0",
     ),
 ];
+
+/// Name, what it shows, how many files are live at first, and then each call with its answer; the end line.
+///
+/// At first there are subjects 0 and 1 at levels 9 and 2, and as many files: file 0 at level 9, the others, whose
+/// numbers are those after it, at level 2.
+type Crowd = (&'static str, &'static str, u64, &'static [(&'static str, &'static str)], &'static str);
+
+const CROWDS: &[Crowd] = &[
+    (
+        "h-65-registers",
+        "of 65 registers the last is 17, and after a retire it is allowed, under that number and under others",
+        64,
+        &[
+            ("register 64 4", "R 17"),
+            ("retire 5", "A 2"),
+            ("register 64 4", "A 4"),
+            ("register 5 4", "R 17"),
+            ("retire 64", "A 4"),
+            ("register 18446744073709551615 4", "A 4"),
+            ("register 64 4", "R 17"),
+            ("retire 18446744073709551615", "A 4"),
+            ("register 5 4", "A 4"),
+        ],
+        "end 0 0 0",
+    ),
+    (
+        "h-full-new",
+        "with 64 objects live 17 is said of every call that makes one, before 6, 7 and 9",
+        64,
+        &[
+            ("register 64 4", "R 17"),
+            ("create 0 64", "R 17"),
+            ("pipe 0 64 0 1", "R 17"),
+            ("connect 0 1 64 65 0 1", "R 17"),
+            ("register 64 16", "R 17"),
+            ("pipe 0 64 0 0", "R 17"),
+            ("connect 0 1 64 65 16 0", "R 17"),
+            ("open-write 0 0 5", "A 9"),
+            ("connect 0 1 64 65 0 1", "R 17"),
+            ("register 4294967296 4294967296", "R 17"),
+        ],
+        "end 1 0 1",
+    ),
+    (
+        "h-full-order",
+        "with 64 objects live 2, 16, 3 and 12 are said before 17: 3 of a number in use, and of one that is to be two pipes",
+        64,
+        &[
+            ("create 2 64", "R 2"),
+            ("pipe 4294967296 64 0 1", "R 2"),
+            ("connect 2 1 64 65 0 1", "R 2"),
+            ("connect 0 2 64 65 0 1", "R 2"),
+            ("connect 0 0 64 65 0 1", "R 16"),
+            ("register 5 4", "R 3"),
+            ("register 5 16", "R 3"),
+            ("create 0 63", "R 3"),
+            ("pipe 0 63 0 1", "R 3"),
+            ("connect 0 1 64 64 0 1", "R 3"),
+            ("connect 0 1 5 64 0 1", "R 3"),
+            ("connect 0 1 64 5 0 1", "R 3"),
+            ("call 2 64 4 0", "R 12"),
+            ("call 17 0 1 64 65 0", "R 12"),
+            ("register 64 4", "R 17"),
+        ],
+        "end 0 0 0",
+    ),
+    (
+        "h-full-others",
+        "with 64 objects live no other call is refused with 17",
+        64,
+        &[
+            ("admit 2 9", "A 9"),
+            ("open-read 0 0 0", "A 9"),
+            ("open-write 0 0 1", "A 9"),
+            ("map 2 0 0", "A 9"),
+            ("fork 0 3", "A 9"),
+            ("mark 0 0", "A 9"),
+            ("exec 0 0", "A 9"),
+            ("open-read 0 64 0", "R 4"),
+            ("retire 64", "R 4"),
+            ("freeze 9", "A 9"),
+            ("exit 3", "A 9"),
+        ],
+        "end 5 3 2",
+    ),
+    (
+        "h-connect-63",
+        "a connect with 63 objects live is 17, and leaves neither pipe; one object more is allowed",
+        63,
+        &[
+            ("connect 0 1 64 65 0 1", "R 17"),
+            ("read 1 0", "R 7"),
+            ("retire 64", "R 4"),
+            ("pipe 0 64 0 1", "A 9"),
+            ("connect 0 1 65 66 2 3", "R 17"),
+            ("close 0 0", "A 9"),
+            ("create 0 65", "R 17"),
+            ("close 0 1", "A 9"),
+            ("create 0 65", "A 9"),
+        ],
+        "end 2 2 0",
+    ),
+    (
+        "h-connect-62",
+        "a connect with 62 objects live is allowed; each of its pipes makes space when it ends, by a close, an exit or an exec",
+        62,
+        &[
+            ("connect 0 1 64 65 0 1", "A 9"),
+            ("register 66 4", "R 17"),
+            ("close 0 1", "A 9"),
+            ("register 66 4", "R 17"),
+            ("close 1 0", "A 2"),
+            ("register 66 4", "A 4"),
+            ("register 67 4", "R 17"),
+            ("exit 1", "A 2"),
+            ("register 67 4", "R 17"),
+            ("mark 0 0", "A 9"),
+            ("exec 0 0", "A 9"),
+            ("register 67 4", "A 4"),
+            ("register 68 4", "R 17"),
+        ],
+        "end 4 4 0",
+    ),
+    (
+        "h-connect-flow",
+        "a connect that offends the flow is 17 with 63 objects live, and 9 with 62",
+        63,
+        &[
+            ("open-write 0 0 5", "A 9"),
+            ("connect 0 1 64 65 0 1", "R 17"),
+            ("retire 1", "A 2"),
+            ("connect 0 1 64 65 0 1", "R 9"),
+            ("close 0 5", "A 9"),
+            ("connect 0 1 64 65 0 1", "A 9"),
+        ],
+        "end 5 1 4",
+    ),
+];
+
+/// The calls of a crowd, and the replies to them.
+fn crowded(live: u64, steps: &[(&str, &str)]) -> (String, String) {
+    assert!(live <= LIMITS.objects);
+    let file = |o: u64| match o {
+        0 => ("register 0 9".to_string(), "A 9"),
+        _ => (format!("register {o} 2"), "A 2"),
+    };
+    let subjects = [("admit 0 9".to_string(), "A 9"), ("admit 1 2".to_string(), "A 2")];
+    let steps = steps.iter().map(|&(call, answer)| (call.to_string(), answer));
+    let (mut calls, mut replies) = (String::new(), String::new());
+    for (position, (call, answer)) in
+        (1..).zip(subjects.into_iter().chain((0..live).map(file)).chain(steps))
+    {
+        let mut words = call.split(' ');
+        let shape = words.next().and_then(shape_of_word);
+        let code =
+            shape.map_or_else(|| words.next().unwrap_or("").to_string(), |shape| shape.code.to_string());
+        replies.push_str(&format!("{position} {code} {answer};"));
+        calls.push_str(&format!("{call};"));
+    }
+    (calls, replies)
+}
 
 /// Every case.
 pub fn all() -> Vec<Case> {
@@ -626,6 +920,10 @@ pub fn all() -> Vec<Case> {
     for &(name, what, calls, replies) in FROM_EMPTY {
         add(name, what, journal_of(calls), replies);
     }
+    for (name, what, live, steps, end) in CROWDS {
+        let (calls, replies) = crowded(*live, steps);
+        add(name, what, journal_of(&calls), &format!("{replies} {end}"));
+    }
 
     // The limit of a journal's length: one long record of an unknown code.
     for (bytes, replies) in [(65_536, "1 77 R 1; end 0 0 0"), (65_537, "1 0 R 14; end 0 0 0")] {
@@ -666,13 +964,15 @@ pub fn named(name: &str) -> Option<Case> {
     all().into_iter().find(|case| case.name == name)
 }
 
-/// DWARF's examples, a line for each: the number, and its bytes in hex.
+/// DWARF's examples and the numbers at the limit, a line for each: the number, or `malformed`, and its bytes in hex.
 pub fn numbers() -> String {
-    let line = |value: u32, bytes: &[u8]| {
+    let line = |value: String, bytes: &[u8]| {
         let hex: String = bytes.iter().map(|byte| format!(" {byte:02x}")).collect();
         format!("{value}{hex}\n")
     };
-    DWARF_NUMBERS.iter().map(|&(value, bytes)| line(value, bytes)).collect()
+    let at_limit = |value: Option<u64>| value.map_or("malformed".to_string(), |value| value.to_string());
+    let dwarf = DWARF_NUMBERS.iter().map(|&(value, bytes)| line(value.to_string(), bytes));
+    dwarf.chain(LIMIT_NUMBERS.iter().map(|&(value, bytes)| line(at_limit(value), bytes))).collect()
 }
 
 fn lines(replies: &str) -> String {

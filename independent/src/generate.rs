@@ -2,17 +2,20 @@
 //!
 //! Most calls are meaningful: a monitor of its own is the generator's picture of what is live, so that it
 //! knows which numbers to draw. Levels come from a few that a journal keeps to, so that tests of level
-//! against need are often close. Then numbers go wrong, records are damaged, tables fill up, pipes form
-//! chains and rings, and journals take every length up to 65,537 bytes, as the style says. In every second
-//! journal the books are closed now and then, for a few calls; in most of them launchers mark what they opened
-//! and run programs below it, importers map sheets that others write to, and print stations are connected.
+//! against need are often close. Objects have numbers that the journal keeps to, small ones as a rule. Then numbers go
+//! wrong, records are damaged, tables fill up, pipes form chains and rings, and journals take every length up to 65,537
+//! bytes, as the style says. In every second journal the books are closed now and then, for a few calls; in most of them
+//! launchers mark what they opened and run programs below it, importers map sheets that others write to, and print
+//! stations are connected.
 
 mod arrangements;
 mod channels;
+mod crowds;
 mod damage;
 mod draws;
 mod imports;
 mod launches;
+mod stores;
 
 use crate::calls::filled;
 use crate::monitor::{Answer, Monitor};
@@ -42,7 +45,7 @@ pub const STYLES: &[(Style, &str, &str)] = &[
     (Style::Payrun, "payrun", "a shell that joins steps by pipes and forks, then lets them work"),
     (Style::Calls, "calls", "all seventeen calls, mostly allowed"),
     (Style::Edges, "edges", "numbers out of range, in use or not live; several faults in one call"),
-    (Style::Full, "full", "32 subjects, 64 objects, 512 handles, then calls on them"),
+    (Style::Full, "full", "32 subjects, 64 objects, 512 handles, then calls on them; or the objects alone, and calls for more"),
     (Style::Rings, "rings", "long chains and rings of pipes, opened and closed"),
     (Style::Garbled, "garbled", "padded, cut, missing and left-over numbers, unknown codes"),
     (Style::Bytes, "bytes", "bytes without order"),
@@ -70,7 +73,7 @@ pub fn journal(seed: u64, index: u64, wish: Wish) -> Vec<u8> {
     let mut random = Random::new(seed, index);
     let style = match wish.style {
         Style::Mixed => {
-            let weights = [0, 4, 4, 4, 3, 5, 5, 1, 1];
+            let weights = [0, 4, 4, 4, 4, 5, 5, 1, 2];
             STYLES[random.weighted(&weights)].0
         }
         style => style,
@@ -87,19 +90,21 @@ struct Draft {
     /// What is live after the records so far.
     picture: Monitor,
     /// The levels that this journal keeps to, rising.
-    levels: Vec<u32>,
+    levels: Vec<u64>,
+    /// The numbers that objects have in this journal, more than may be live at a time.
+    store: Vec<u64>,
     /// One number in so many is drawn wrong on purpose; 0 for none.
-    odd_numbers: u32,
+    odd_numbers: u64,
     /// One record in so many is damaged; 0 for none.
-    damage: u32,
+    damage: u64,
     /// One call in so many closes the books for a while; 0 for none.
-    closings: u32,
+    closings: u64,
     /// One call in so many is the first of a launcher's; 0 for none, and then no handle is marked.
-    launches: u32,
+    launches: u64,
     /// One call in so many is the first of an importer's; 0 for none, and then hardly a file is mapped.
-    imports: u32,
+    imports: u64,
     /// One call in so many is the first of a print station's; 0 for none, and then hardly a step is connected.
-    channels: u32,
+    channels: u64,
     journal: Vec<u8>,
     records: u32,
 }
@@ -107,16 +112,18 @@ struct Draft {
 impl Draft {
     fn new(mut random: Random) -> Draft {
         let count = random.between(2, 4);
-        let mut levels: Vec<u32> = (0..count).map(|_| random.below(LIMITS.levels)).collect();
+        let mut levels: Vec<u64> = (0..count).map(|_| random.below(LIMITS.levels)).collect();
         if random.once_in(3) {
             levels.extend([0, 15]);
         }
         levels.sort_unstable();
         levels.dedup();
+        let store = stores::store(&mut random);
         Draft {
             random,
             picture: Monitor::new(),
             levels,
+            store,
             odd_numbers: 0,
             damage: 0,
             closings: 0,
@@ -129,13 +136,14 @@ impl Draft {
     }
 
     fn drawn_length(&mut self, style: Style) -> u32 {
-        match style {
+        let length = match style {
             Style::Garbled => self.random.between(1, 150),
             Style::Bytes => self.random.between(0, 60),
             _ if self.random.once_in(4) => self.random.between(0, 40),
             Style::Full => self.random.between(150, 900),
             _ => self.random.between(60, 450),
-        }
+        };
+        length as u32
     }
 
     /// Draws about so many records in this style.
@@ -158,7 +166,8 @@ impl Draft {
         match style {
             Style::Payrun => self.pipeline(calls),
             Style::Rings => self.ring(),
-            Style::Full => self.full_tables(),
+            Style::Full if self.random.once_in(2) => self.full_tables(),
+            Style::Full => self.crowded_tables(calls),
             Style::Bytes => {
                 for _ in 0..calls {
                     self.loose_byte();
@@ -190,14 +199,14 @@ impl Draft {
         let bytes = match (wish.bytes, style) {
             (Some(bytes), _) => bytes,
             (None, Style::Long) => {
-                let limit = LONGEST_JOURNAL as u32;
+                let limit = LONGEST_JOURNAL as u64;
                 let near = self.random.between(limit - 1, limit + 1);
                 let any = self.random.between(0, limit + 1);
                 (if self.random.once_in(3) { any } else { near }) as usize
             }
             // Now and then a record is cut off at the end.
             (None, Style::Garbled | Style::Calls) if self.random.once_in(6) => {
-                self.random.below(self.journal.len() as u32 + 1) as usize
+                self.random.below(self.journal.len() as u64 + 1) as usize
             }
             (None, _) => return self.journal,
         };
@@ -235,7 +244,7 @@ impl Draft {
     }
 
     /// Adds a record, damaged now and then, and brings the picture up to date.
-    fn record(&mut self, code: u32, numbers: &[u32]) {
+    fn record(&mut self, code: u64, numbers: &[u64]) {
         self.records += 1;
         if self.random.once_in(self.damage) {
             self.damaged_record(code, numbers);
@@ -245,7 +254,7 @@ impl Draft {
         }
     }
 
-    fn good_record(&mut self, code: u32, numbers: &[u32]) -> Answer {
+    fn good_record(&mut self, code: u64, numbers: &[u64]) -> Answer {
         records::write(code, numbers, &mut self.journal);
         self.picture.call(code, filled(numbers))
     }
@@ -268,7 +277,7 @@ fn longest_body(bytes: usize) -> Option<usize> {
         .filter_map(|prefix| bytes.checked_sub(prefix).map(|body| (prefix, body)))
         .find(|&(prefix, body)| {
             let mut length = Vec::new();
-            numbers::write(body as u32, &mut length);
+            numbers::write(body as u64, &mut length);
             length.len() == prefix
         })
         .map(|(_, body)| body)

@@ -56,7 +56,7 @@ Example, the journal of RULES K17:
 ";
 
 const CASES: &str = "\
-second cases - the worked cases of the rules and DWARF's examples of numbers
+second cases - the worked cases of the rules, DWARF's examples of numbers, and numbers at the limit
 
 Usage: second cases [--hex | --replies | --journal | --numbers] [NAME]
 
@@ -64,7 +64,8 @@ Without an option: each case with what it shows, its calls and its replies. A NA
   --hex      a line for each case: its name and its journal in hex
   --replies  each case's replies alone
   --journal  the journal itself, for one NAME
-  --numbers  DWARF's examples alone, a line for each: the number and its bytes in hex
+  --numbers  DWARF's examples and the numbers at the limit alone, a line for each: the number, or
+             `malformed`, and its bytes in hex
 
 Example: the same bytes for another program
   tools/second cases --journal K6 | ./run - | diff - <(tools/second cases --replies K6)
@@ -101,8 +102,8 @@ difference the journal is made shorter while the two still differ, and shown wit
   --seconds N   how long the program may take for one journal (10)
   --save FILE   where to write the short journal at a difference
   --variant NAME
-                hold it against this variant in place of the rules: one from before request (j), which put 15
-                before 9, answers as order-15-9 does
+                hold it against this variant in place of the rules: one from before request (h), which gave
+                objects the host's own numbers, answers as before-request-h does
   -- ARGUMENT   what to hand to the program
 
 Example: a wrong program is found out

@@ -14,9 +14,9 @@ use crate::variants::Rules;
 #[derive(Clone, Copy, Debug, PartialEq, Eq)]
 pub enum Answer {
     /// Allowed, with a level.
-    Allowed(u32),
+    Allowed(u64),
     /// RULES C104: C7, C8, C10 or C14 made a level smaller; with the level that the answer gives.
-    Lowered(u32),
+    Lowered(u64),
     /// Refused, with the refusal number.
     Refused(u32),
 }
@@ -32,14 +32,15 @@ impl Answer {
     }
 
     /// RULES P8.
-    pub fn number(self) -> u32 {
+    pub fn number(self) -> u64 {
         match self {
-            Answer::Allowed(number) | Answer::Lowered(number) | Answer::Refused(number) => number,
+            Answer::Allowed(level) | Answer::Lowered(level) => level,
+            Answer::Refused(number) => number.into(),
         }
     }
 
     /// The level in the answer; a refusal's is 0 (RULES R101).
-    pub fn level(self) -> u32 {
+    pub fn level(self) -> u64 {
         match self {
             Answer::Allowed(level) | Answer::Lowered(level) => level,
             Answer::Refused(_) => 0,
@@ -55,12 +56,14 @@ pub struct Monitor {
     /// The needs worked out last. No rule looks at them: only the variant that never lets one sink.
     kept: Needs,
     /// Places whose marked handle went. No rule looks at them: only variants whose marks outlive their handles.
-    pub(crate) left_marks: Vec<(u32, u32)>,
+    pub(crate) left_marks: Vec<(u64, u64)>,
     /// The same of mappings.
-    pub(crate) left_maps: Vec<(u32, u32)>,
+    pub(crate) left_maps: Vec<(u64, u64)>,
     /// The pipes that connects made, two by two. No rule looks at them: only variants in which they end
     /// otherwise.
-    pub(crate) channels: Vec<[u32; 2]>,
+    pub(crate) channels: Vec<[u64; 2]>,
+    /// Numbers of objects that are gone. No rule looks at them: only variants in which they still take space.
+    pub(crate) left_objects: Vec<u64>,
     rules: Rules,
 }
 
@@ -81,7 +84,8 @@ impl Monitor {
         Monitor::of_tables(Tables::new(rules.limits()), rules)
     }
 
-    /// A monitor with any tables, those that no calls could have made among them.
+    /// A monitor with any tables, those that no calls could have made among them. Where they are a host's, with
+    /// objects in slots and handles that name these, see `StoredTables`.
     pub fn of_tables(tables: Tables, rules: Rules) -> Monitor {
         let kept = Needs::none(&tables);
         Monitor {
@@ -91,6 +95,7 @@ impl Monitor {
             left_marks: Vec::new(),
             left_maps: Vec::new(),
             channels: Vec::new(),
+            left_objects: Vec::new(),
             rules,
         }
     }
@@ -103,8 +108,8 @@ impl Monitor {
         self.tally
     }
 
-    /// The direct call: RULES C106, C107.
-    pub fn call(&mut self, code: u32, numbers: Numbers) -> Answer {
+    /// The direct call: RULES C106, C107. No number is cut, and neither is the code.
+    pub fn call(&mut self, code: u64, numbers: Numbers) -> Answer {
         // RULES R1: an unknown code.
         let Some(call) = Call::new(self.rules.bend_code(code), self.rules.bend_numbers(code, numbers))
         else {
@@ -113,6 +118,7 @@ impl Monitor {
         if self.rules.are_right() {
             return self.make(call);
         }
+        let call = self.rules.bend_named(&self.tables, call);
         let before = self.clone();
         let answer = self.make(call);
         self.rules.bend_outcome(&before, self, call, answer)
@@ -198,7 +204,7 @@ impl Monitor {
             Call::Fork { s, c } => {
                 let level = self.subject_level(s);
                 self.tables.set_subject(c, Some(Subject { level }));
-                let handles: Vec<(u32, Handle)> = self.tables.handles_of(s).collect();
+                let handles: Vec<(u64, Handle)> = self.tables.handles_of(s).collect();
                 for (p, handle) in handles {
                     self.place_handle(c, p, handle);
                 }
@@ -208,7 +214,7 @@ impl Monitor {
             // RULES C10, Y13: the marked handles and the mappings go.
             Call::Exec { s, o } => {
                 let level = self.object_level(o);
-                let ending: Vec<u32> = self.tables.places_ending_at_exec(s).collect();
+                let ending: Vec<u64> = self.tables.places_ending_at_exec(s).collect();
                 for p in ending {
                     self.remove_handle(s, p);
                 }
@@ -268,18 +274,18 @@ impl Monitor {
         }
     }
 
-    fn new_object(&mut self, o: u32, kind: Kind, level: u32) {
+    fn new_object(&mut self, o: u64, kind: Kind, level: u64) {
         self.tables.set_object(o, Some(Object { kind, level }));
     }
 
     /// Places a handle, and counts it: RULES Y2, Y3, Y4.
-    fn place_handle(&mut self, s: u32, p: u32, handle: Handle) {
+    fn place_handle(&mut self, s: u64, p: u64, handle: Handle) {
         self.tables.set_handle(s, p, Some(handle));
         self.tally.count_made(1);
     }
 
     /// Empties a place, and counts it: RULES Y5, Y6, Y13. A pipe ends when its last handle goes: RULES C102.
-    pub(crate) fn remove_handle(&mut self, s: u32, p: u32) {
+    pub(crate) fn remove_handle(&mut self, s: u64, p: u64) {
         let Some((o, object)) = self.held_object(s, p) else {
             return;
         };
@@ -293,8 +299,8 @@ impl Monitor {
     /// RULES C8, C104, C111: what follows a write to a file of this level. Each subject that has it mapped
     /// reads it once, the lowest number first; the answer has the file's level, and is lowered if one of them
     /// fell.
-    fn reread(&mut self, o: u32, level: u32) -> Answer {
-        let mappers: Vec<u32> = self.tables.mappers(o).collect();
+    fn reread(&mut self, o: u64, level: u64) -> Answer {
+        let mappers: Vec<u64> = self.tables.mappers(o).collect();
         let mut answer = Answer::Allowed(level);
         for s in mappers {
             if let Answer::Lowered(_) = self.lower_subject(s, level) {
@@ -305,7 +311,7 @@ impl Monitor {
     }
 
     /// The level that a subject has after falling to `level`: the smaller of the two.
-    fn lower_subject(&mut self, s: u32, level: u32) -> Answer {
+    fn lower_subject(&mut self, s: u64, level: u64) -> Answer {
         let own = self.subject_level(s);
         if level < own {
             self.tables.set_subject(s, Some(Subject { level }));
@@ -315,18 +321,18 @@ impl Monitor {
         }
     }
 
-    fn held_object(&self, s: u32, p: u32) -> Option<(u32, Object)> {
+    fn held_object(&self, s: u64, p: u64) -> Option<(u64, Object)> {
         let o = self.tables.handle(s, p)?.object;
         Some((o, self.tables.object(o)?))
     }
 
     /// The level of a subject that no refusal found missing.
-    fn subject_level(&self, s: u32) -> u32 {
+    fn subject_level(&self, s: u64) -> u64 {
         self.tables.subject(s).map_or(0, |subject| subject.level)
     }
 
     /// The level of an object that no refusal found missing.
-    fn object_level(&self, o: u32) -> u32 {
+    fn object_level(&self, o: u64) -> u64 {
         self.tables.object(o).map_or(0, |object| object.level)
     }
 }

@@ -9,8 +9,8 @@ use crate::variants::Rules;
 /// A subject or an object, by number.
 #[derive(Clone, Copy, Debug, PartialEq, Eq)]
 pub enum Thing {
-    Subject(u32),
-    Object(u32),
+    Subject(u64),
+    Object(u64),
 }
 
 /// Data can flow from one thing to another.
@@ -22,7 +22,7 @@ pub struct Flow {
 
 impl Flow {
     /// RULES F1, F2: the flow that a handle is.
-    pub fn of(s: u32, handle: Handle) -> Flow {
+    pub fn of(s: u64, handle: Handle) -> Flow {
         let (subject, object) = (Thing::Subject(s), Thing::Object(handle.object));
         match handle.direction {
             Direction::Writing => Flow { from: subject, to: object },
@@ -32,7 +32,7 @@ impl Flow {
 }
 
 /// The level of a live thing.
-pub fn level(tables: &Tables, thing: Thing) -> Option<u32> {
+pub fn level(tables: &Tables, thing: Thing) -> Option<u64> {
     match thing {
         Thing::Subject(s) => tables.subject(s).map(|subject| subject.level),
         Thing::Object(o) => tables.object(o).map(|object| object.level),
@@ -48,39 +48,39 @@ pub fn live_things(tables: &Tables) -> impl Iterator<Item = Thing> + '_ {
 /// A need for every thing; 0 for what is not live.
 #[derive(Clone, Debug, PartialEq, Eq)]
 pub struct Needs {
-    subjects: Vec<u32>,
-    objects: Vec<u32>,
+    /// How many subjects there may be.
+    subjects: usize,
+    /// The numbers of the live objects, rising.
+    objects: Vec<u64>,
+    /// The needs of the subjects, and then of these objects.
+    needs: Vec<u64>,
 }
 
 impl Needs {
     /// RULES F6: 0 where no file is reached.
     pub fn none(tables: &Tables) -> Needs {
-        Needs {
-            subjects: vec![0; tables.limits().subjects as usize],
-            objects: vec![0; tables.limits().objects as usize],
+        let subjects = tables.limits().subjects as usize;
+        let objects: Vec<u64> = tables.live_objects().collect();
+        let needs = vec![0; subjects + objects.len()];
+        Needs { subjects, objects, needs }
+    }
+
+    /// Where the need of a thing stands.
+    fn place(&self, thing: Thing) -> Option<usize> {
+        match thing {
+            Thing::Subject(s) => usize::try_from(s).ok().filter(|&s| s < self.subjects),
+            Thing::Object(o) => self.objects.binary_search(&o).ok().map(|rank| self.subjects + rank),
         }
     }
 
-    pub fn of(&self, thing: Thing) -> u32 {
-        let (list, number) = match thing {
-            Thing::Subject(s) => (&self.subjects, s),
-            Thing::Object(o) => (&self.objects, o),
-        };
-        list.get(number as usize).copied().unwrap_or(0)
+    pub fn of(&self, thing: Thing) -> u64 {
+        self.place(thing).map_or(0, |place| self.needs[place])
     }
 
-    /// Raises the need of a thing to `need` where it is lower; says whether it was.
-    fn raise(&mut self, thing: Thing, need: u32) -> bool {
-        let (list, number) = match thing {
-            Thing::Subject(s) => (&mut self.subjects, s),
-            Thing::Object(o) => (&mut self.objects, o),
-        };
-        match list.get_mut(number as usize) {
-            Some(entry) if *entry < need => {
-                *entry = need;
-                true
-            }
-            _ => false,
+    /// Raises the need of a thing to `need` where it is lower.
+    fn raise(&mut self, thing: Thing, need: u64) {
+        if let Some(place) = self.place(thing) {
+            self.needs[place] = self.needs[place].max(need);
         }
     }
 
@@ -106,12 +106,16 @@ impl Needs {
         rules.bend_start(tables, kept, &mut needs);
 
         // A chain that is one flow longer: what the flow's end reaches, its beginning reaches too.
+        let held = tables.handles().map(|(s, _, handle)| Flow::of(s, handle));
+        let flows = held.chain(sought.iter().copied()).filter(|&flow| rules.carries(tables, flow));
+        let places = flows.filter_map(|flow| needs.place(flow.from).zip(needs.place(flow.to)));
+        let places: Vec<(usize, usize)> = places.collect();
         for pass in 0.. {
             let mut changed = false;
-            let flows = tables.handles().map(|(s, _, handle)| Flow::of(s, handle));
-            for flow in flows.chain(sought.iter().copied()).filter(|&flow| rules.carries(tables, flow)) {
-                let beyond = needs.of(flow.to);
-                changed |= needs.raise(flow.from, beyond);
+            for &(from, to) in &places {
+                let beyond = needs.needs[to];
+                changed |= needs.needs[from] < beyond;
+                needs.needs[from] = needs.needs[from].max(beyond);
             }
             if !changed || rules.gives_up_after(pass) {
                 break;

@@ -11,7 +11,7 @@ use crate::variants::{Rules, Variant};
 #[derive(Clone, Copy, Debug, PartialEq, Eq)]
 pub enum LengthFault {
     Malformed(Malformed),
-    PastEnd { length: u32, left: usize },
+    PastEnd { length: u64, left: usize },
 }
 
 /// Where a record lies in its journal.
@@ -59,9 +59,10 @@ impl<'a> Reader<'a> {
 
     fn cut(&self, start: usize, rest: &[u8]) -> Result<Span, LengthFault> {
         let (length, taken) = numbers::read(rest, self.rules).map_err(LengthFault::Malformed)?;
+        let length = self.rules.bend_length(length);
         let left = rest.len() - taken;
         let body = start + taken;
-        if length as usize <= left {
+        if length <= left as u64 {
             let end = body + length as usize;
             Ok(Span { start, body, end })
         } else if self.rules.has(Variant::PastEndClipped) {
@@ -92,11 +93,11 @@ pub enum BodyFault {
 #[derive(Clone, Copy, Debug, PartialEq, Eq)]
 pub enum Body {
     /// A known code and its numbers, 0 for those it does not use.
-    Call { code: u32, numbers: Numbers },
+    Call { code: u64, numbers: Numbers },
     /// RULES J14: an unknown code; what follows it is not looked at.
-    UnknownCode { code: u32 },
+    UnknownCode { code: u64 },
     /// RULES R12, with the code, 0 where none was read (RULES J13).
-    Bad { code: u32, fault: BodyFault },
+    Bad { code: u64, fault: BodyFault },
 }
 
 /// Reads the body of the record at `span`: RULES J9.
@@ -152,7 +153,7 @@ pub fn read_body(journal: &[u8], span: Span, rules: Rules) -> Body {
 }
 
 /// Writes a record with any code and any numbers at the end of the journal.
-pub fn write(code: u32, numbers: &[u32], journal: &mut Vec<u8>) {
+pub fn write(code: u64, numbers: &[u64], journal: &mut Vec<u8>) {
     let mut body = Vec::new();
     numbers::write(code, &mut body);
     for &number in numbers {
@@ -163,7 +164,7 @@ pub fn write(code: u32, numbers: &[u32], journal: &mut Vec<u8>) {
 
 /// Writes a record with any body at the end of the journal.
 pub fn write_body(body: &[u8], journal: &mut Vec<u8>) {
-    numbers::write(body.len() as u32, journal);
+    numbers::write(body.len() as u64, journal);
     journal.extend_from_slice(body);
 }
 
@@ -173,13 +174,13 @@ mod tests {
     use crate::calls::{filled, SHAPES};
 
     #[test]
-    fn a_written_call_is_read_again_and_has_at_most_32_bytes() {
+    fn a_written_call_is_read_again_and_has_at_most_62_bytes() {
         for shape in &SHAPES {
-            for value in [0, 127, 128, u32::MAX] {
+            for value in [0, 127, 128, 4_294_967_296, u64::MAX] {
                 let mut journal = Vec::new();
                 let given = vec![value; shape.numbers.len()];
                 write(shape.code, &given, &mut journal);
-                assert!(journal.len() <= 32);
+                assert!(journal.len() <= 62);
                 let mut reader = Reader::new(&journal, Rules::default());
                 let span = reader.next_record().unwrap().unwrap();
                 let call = Body::Call { code: shape.code, numbers: filled(&given) };

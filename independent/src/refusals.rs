@@ -1,4 +1,4 @@
-//! Which calls are refused: RULES R2 to R10, R15 and R16.
+//! Which calls are refused: RULES R2 to R10 and R15 to R17.
 //!
 //! R1 is in `monitor`, where a code becomes a call. R11, R12 and R14 speak of journals and are in
 //! `records` and `replies`. R13 speaks of the writer's buffer; the writer here has no limit.
@@ -29,6 +29,7 @@ pub fn meaning(number: u32) -> &'static str {
         14 => "the journal is longer than 65,536 bytes",
         15 => "the file is frozen while the books are closed",
         16 => "a step cannot be connected to itself",
+        17 => "only 64 files and pipes may be live: retire a file or end a pipe",
         _ => "not a refusal of this document",
     }
 }
@@ -36,13 +37,14 @@ pub fn meaning(number: u32) -> &'static str {
 /// A row's number and whether its condition holds.
 pub type Condition = (u32, bool);
 
-/// RULES R2 to R10, R15 and R16 for a call, in the order in which they are tested: RULES R105; R16 comes right after
-/// R2 (RULES R120), and R15 just before R9 (RULES R117). `needs` are those of `needs_for`.
-pub fn conditions(tables: &Tables, call: Call, needs: &Needs) -> [Condition; 11] {
+/// RULES R2 to R10 and R15 to R17 for a call, in the order in which they are tested: RULES R105; R16 comes right after
+/// R2 (RULES R120), R17 right after R3, and R15 just before R9 (RULES R117). `needs` are those of `needs_for`.
+pub fn conditions(tables: &Tables, call: Call, needs: &Needs) -> [Condition; 12] {
     [
         (2, subject_is_missing(tables, call)),
         (16, subject_is_its_own_partner(call)),
         (3, new_number_is_unfit(tables, call)),
+        (17, objects_are_too_many(tables, call)),
         (4, object_is_missing(tables, call)),
         (5, pipe_is_named(tables, call)),
         (6, level_is_too_high(tables, call)),
@@ -72,16 +74,21 @@ fn subject_is_its_own_partner(call: Call) -> bool {
     matches!(call, Call::Connect { s, t, .. } if s == t)
 }
 
-/// RULES R3: a new number is out of range or in use, or is to be that of two pipes.
+/// RULES R3: a new subject's number is out of range, or a new number is in use, or is to be that of two pipes.
 fn new_number_is_unfit(tables: &Tables, call: Call) -> bool {
-    let limits = tables.limits();
-    let is_unfit = |o: u32| o >= limits.objects || tables.object(o).is_some();
-    call.new_subject().is_some_and(|s| s >= limits.subjects || tables.subject(s).is_some())
-        || call.new_objects().into_iter().any(is_unfit)
+    let out_of_range = |s: u64| s >= tables.limits().subjects;
+    call.new_subject().is_some_and(|s| out_of_range(s) || tables.subject(s).is_some())
+        || call.new_objects().into_iter().any(|o| tables.object(o).is_some())
         || matches!(call, Call::Connect { a, b, .. } if a == b)
 }
 
-/// RULES R4: the object is out of range or not live.
+/// RULES R17: with the new objects, more would be live than may be.
+fn objects_are_too_many(tables: &Tables, call: Call) -> bool {
+    let new = call.new_objects().len() as u64;
+    new > 0 && tables.object_count() + new > tables.limits().objects
+}
+
+/// RULES R4: the object is not live.
 fn object_is_missing(tables: &Tables, call: Call) -> bool {
     call.named_object().is_some_and(|o| tables.object(o).is_none())
 }
@@ -106,8 +113,8 @@ fn level_is_too_high(tables: &Tables, call: Call) -> bool {
 
 /// RULES R7: a place is out of range, taken, named twice or empty.
 fn place_is_unfit(tables: &Tables, call: Call) -> bool {
-    let above = |p: u32| p >= tables.limits().places;
-    let taken = |s: u32, p: u32| tables.handle(s, p).is_some();
+    let above = |p: u64| p >= tables.limits().places;
+    let taken = |s: u64, p: u64| tables.handle(s, p).is_some();
     match call {
         Call::Pipe { s, r, w, .. } => above(r) || above(w) || taken(s, r) || taken(s, w) || r == w,
         Call::OpenRead { s, p, .. } | Call::OpenWrite { s, p, .. } | Call::Map { s, p, .. } => {
@@ -126,7 +133,7 @@ fn place_is_unfit(tables: &Tables, call: Call) -> bool {
 
 /// RULES R8, R108: the handle is for the other direction.
 fn direction_is_wrong(tables: &Tables, call: Call) -> bool {
-    let held = |s: u32, p: u32, direction: Direction| {
+    let held = |s: u64, p: u64, direction: Direction| {
         tables.handle(s, p).is_some_and(|handle| handle.direction == direction)
     };
     match call {
@@ -159,7 +166,7 @@ pub fn tables_tested(tables: &Tables, call: Call, rules: Rules) -> Cow<'_, Table
 }
 
 /// RULES R110: for an exec, the places of s with a marked handle or a mapping, and of no other subject.
-fn left_out(tables: &Tables, call: Call) -> Vec<(u32, u32)> {
+fn left_out(tables: &Tables, call: Call) -> Vec<(u64, u64)> {
     match call {
         Call::Exec { s, .. } => tables.places_ending_at_exec(s).map(|p| (s, p)).collect(),
         _ => Vec::new(),

@@ -25,7 +25,7 @@ pub struct Step {
     /// RULES P5: the record's position, from 1.
     pub position: u64,
     /// RULES P6: the code, 0 where none was read.
-    pub code: u32,
+    pub code: u64,
     pub content: Content,
     pub answer: Answer,
 }
@@ -111,13 +111,13 @@ impl<'a> Run<'a> {
         })
     }
 
-    fn refused(&self, position: u64, code: u32, content: Content, number: u32) -> Step {
+    fn refused(&self, position: u64, code: u64, content: Content, number: u32) -> Step {
         let answer = Answer::Refused(number);
         Step { position, code, content, answer }
     }
 
     /// RULES R107: the call is not looked at.
-    fn twelve_or(&self, code: u32, fault: BodyFault) -> u32 {
+    fn twelve_or(&self, code: u64, fault: BodyFault) -> u32 {
         match fault {
             BodyFault::LeftOver { numbers, .. } if !self.rules.are_right() => {
                 match self.monitor.clone().call(code, numbers) {

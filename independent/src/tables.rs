@@ -1,27 +1,31 @@
 //! The tables: RULES T1 to T20, T32, T33, T35 and T37; and the tally: RULES Y1 to Y10.
 //!
 //! Subjects, objects and handles by number, what counts as a handle, the freeze, and the tally of handles
-//! made and gone. No rule of a call is here; see `monitor` and `refusals`.
+//! made and gone. No rule of a call is here; see `monitor` and `refusals`. Every number has 64 bits, levels too, and
+//! none is ever cut.
 
-/// How many of each there may be, and the highest level: RULES T1 to T4.
+use std::collections::BTreeMap;
+
+/// How many of each there may be, and how many levels: RULES T1 to T4. A subject's number is below their count;
+/// an object's is any, and so many of them may be live at a time.
 #[derive(Clone, Copy, Debug, PartialEq, Eq)]
 pub struct Limits {
-    pub subjects: u32,
-    pub objects: u32,
-    pub places: u32,
-    pub levels: u32,
+    pub subjects: u64,
+    pub objects: u64,
+    pub places: u64,
+    pub levels: u64,
 }
 
 /// The limits of the rules.
 pub const LIMITS: Limits = Limits { subjects: 32, objects: 64, places: 16, levels: 16 };
 
 /// RULES T32: the freeze that says that no file is frozen.
-pub const NO_FREEZE: u32 = 16;
+pub const NO_FREEZE: u64 = 16;
 
 /// RULES T1, T7: a running step, and its level.
 #[derive(Clone, Copy, Debug, PartialEq, Eq)]
 pub struct Subject {
-    pub level: u32,
+    pub level: u64,
 }
 
 /// RULES T2: files and pipes share the numbers.
@@ -35,7 +39,7 @@ pub enum Kind {
 #[derive(Clone, Copy, Debug, PartialEq, Eq)]
 pub struct Object {
     pub kind: Kind,
-    pub level: u32,
+    pub level: u64,
 }
 
 /// RULES T10: one of the two.
@@ -49,7 +53,7 @@ pub enum Direction {
 /// one for reading can be. The place is where it stands in the table.
 #[derive(Clone, Copy, Debug, PartialEq, Eq)]
 pub struct Handle {
-    pub object: u32,
+    pub object: u64,
     pub direction: Direction,
     pub marked: bool,
     pub mapped: bool,
@@ -57,12 +61,12 @@ pub struct Handle {
 
 impl Handle {
     /// RULES T35, T37: a handle that is placed anew is not marked, and a mapping only if C14 places it.
-    pub fn new(object: u32, direction: Direction) -> Handle {
+    pub fn new(object: u64, direction: Direction) -> Handle {
         Handle { object, direction, marked: false, mapped: false }
     }
 
     /// RULES C14: a mapping that is placed anew.
-    pub fn mapping(object: u32) -> Handle {
+    pub fn mapping(object: u64) -> Handle {
         Handle { mapped: true, ..Handle::new(object, Direction::Reading) }
     }
 
@@ -72,15 +76,16 @@ impl Handle {
     }
 }
 
-/// The three tables and the freeze. Every number, in range or not, may be asked for and set: out of range
+/// The three tables and the freeze. Every number may be asked for and set: at a subject or a place out of range
 /// there is nothing, and setting it changes nothing.
 #[derive(Clone, Debug, PartialEq, Eq)]
 pub struct Tables {
     limits: Limits,
     subjects: Vec<Option<Subject>>,
-    objects: Vec<Option<Object>>,
+    /// RULES T2, T6: those that are live, by their numbers.
+    objects: BTreeMap<u64, Object>,
     handles: Vec<Option<Handle>>,
-    freeze: u32,
+    freeze: u64,
 }
 
 impl Tables {
@@ -89,7 +94,7 @@ impl Tables {
         Tables {
             limits,
             subjects: vec![None; limits.subjects as usize],
-            objects: vec![None; limits.objects as usize],
+            objects: BTreeMap::new(),
             handles: vec![None; (limits.subjects * limits.places) as usize],
             freeze: NO_FREEZE,
         }
@@ -100,17 +105,17 @@ impl Tables {
     }
 
     /// The live subject of this number.
-    pub fn subject(&self, s: u32) -> Option<Subject> {
-        *self.subjects.get(s as usize)?
+    pub fn subject(&self, s: u64) -> Option<Subject> {
+        *self.subjects.get(self.subject_index(s)?)?
     }
 
     /// The live object of this number.
-    pub fn object(&self, o: u32) -> Option<Object> {
-        *self.objects.get(o as usize)?
+    pub fn object(&self, o: u64) -> Option<Object> {
+        self.objects.get(&o).copied()
     }
 
     /// The handle at this place. RULES T17, T18: one whose object or subject is not live counts as none.
-    pub fn handle(&self, s: u32, p: u32) -> Option<Handle> {
+    pub fn handle(&self, s: u64, p: u64) -> Option<Handle> {
         self.subject(s)?;
         let handle = (*self.handles.get(self.index(s, p)?)?)?;
         self.object(handle.object)?;
@@ -118,7 +123,7 @@ impl Tables {
     }
 
     /// Every handle, with its subject and its place, in rising order of both.
-    pub fn handles(&self) -> impl Iterator<Item = (u32, u32, Handle)> + '_ {
+    pub fn handles(&self) -> impl Iterator<Item = (u64, u64, Handle)> + '_ {
         let rows = (0..).zip(self.handles.chunks(self.limits.places as usize));
         rows.filter(|&(s, _)| self.subject(s).is_some()).flat_map(move |(s, row)| {
             (0..).zip(row).filter_map(move |(p, place)| {
@@ -130,28 +135,28 @@ impl Tables {
     }
 
     /// The handles of one subject, by place.
-    pub fn handles_of(&self, s: u32) -> impl Iterator<Item = (u32, Handle)> + '_ {
+    pub fn handles_of(&self, s: u64) -> impl Iterator<Item = (u64, Handle)> + '_ {
         (0..self.limits.places).filter_map(move |p| Some((p, self.handle(s, p)?)))
     }
 
     /// The places of one subject with a marked handle.
-    pub fn marked_places(&self, s: u32) -> impl Iterator<Item = u32> + '_ {
+    pub fn marked_places(&self, s: u64) -> impl Iterator<Item = u64> + '_ {
         self.handles_of(s).filter(|(_, handle)| handle.marked).map(|(p, _)| p)
     }
 
     /// RULES C10: the places of one subject that its exec empties.
-    pub fn places_ending_at_exec(&self, s: u32) -> impl Iterator<Item = u32> + '_ {
+    pub fn places_ending_at_exec(&self, s: u64) -> impl Iterator<Item = u64> + '_ {
         self.handles_of(s).filter(|(_, handle)| handle.ends_at_exec()).map(|(p, _)| p)
     }
 
     /// RULES C110, C111: the subjects that have the object mapped, each once, the lowest number first.
-    pub fn mappers(&self, o: u32) -> impl Iterator<Item = u32> + '_ {
+    pub fn mappers(&self, o: u64) -> impl Iterator<Item = u64> + '_ {
         let maps = move |handle: Handle| handle.mapped && handle.object == o;
         self.live_subjects().filter(move |&s| self.handles_of(s).any(|(_, handle)| maps(handle)))
     }
 
     /// Whether some handle is open on the object.
-    pub fn is_held(&self, o: u32) -> bool {
+    pub fn is_held(&self, o: u64) -> bool {
         self.handles().any(|(_, _, handle)| handle.object == o)
     }
 
@@ -161,57 +166,61 @@ impl Tables {
     }
 
     /// The numbers of the live subjects.
-    pub fn live_subjects(&self) -> impl Iterator<Item = u32> + '_ {
+    pub fn live_subjects(&self) -> impl Iterator<Item = u64> + '_ {
         (0..self.limits.subjects).filter(|&s| self.subject(s).is_some())
     }
 
-    /// The numbers of the live objects.
-    pub fn live_objects(&self) -> impl Iterator<Item = u32> + '_ {
-        (0..self.limits.objects).filter(|&o| self.object(o).is_some())
+    /// The numbers of the live objects, rising.
+    pub fn live_objects(&self) -> impl Iterator<Item = u64> + '_ {
+        self.objects.keys().copied()
+    }
+
+    /// How many objects are live.
+    pub fn object_count(&self) -> u64 {
+        self.objects.len() as u64
     }
 
     /// The freeze as it is stored.
-    pub fn freeze(&self) -> u32 {
+    pub fn freeze(&self) -> u64 {
         self.freeze
     }
 
     /// RULES T32, T33: the level from which on files are frozen; none where the freeze is 16 or above.
-    pub fn frozen_from(&self) -> Option<u32> {
+    pub fn frozen_from(&self) -> Option<u64> {
         (self.freeze < NO_FREEZE).then_some(self.freeze)
     }
 
     /// Whether this is a file that is frozen: its level is at or above the freeze.
-    pub fn is_frozen(&self, o: u32) -> bool {
+    pub fn is_frozen(&self, o: u64) -> bool {
         let file = self.object(o).filter(|object| object.kind == Kind::File);
         file.zip(self.frozen_from()).is_some_and(|(file, freeze)| file.level >= freeze)
     }
 
-    pub fn set_freeze(&mut self, freeze: u32) {
+    pub fn set_freeze(&mut self, freeze: u64) {
         self.freeze = freeze;
     }
 
-    pub fn set_subject(&mut self, s: u32, subject: Option<Subject>) {
-        if let Some(entry) = self.subjects.get_mut(s as usize) {
-            *entry = subject;
+    pub fn set_subject(&mut self, s: u64, subject: Option<Subject>) {
+        if let Some(index) = self.subject_index(s) {
+            self.subjects[index] = subject;
         }
     }
 
-    pub fn set_object(&mut self, o: u32, object: Option<Object>) {
-        if let Some(entry) = self.objects.get_mut(o as usize) {
-            *entry = object;
-        }
+    pub fn set_object(&mut self, o: u64, object: Option<Object>) {
+        match object {
+            Some(object) => self.objects.insert(o, object),
+            None => self.objects.remove(&o),
+        };
     }
 
-    pub fn set_handle(&mut self, s: u32, p: u32, handle: Option<Handle>) {
+    pub fn set_handle(&mut self, s: u64, p: u64, handle: Option<Handle>) {
         if let Some(index) = self.index(s, p) {
-            if let Some(entry) = self.handles.get_mut(index) {
-                *entry = handle;
-            }
+            self.handles[index] = handle;
         }
     }
 
     /// RULES C15: the handle at this place is marked, if there is one.
-    pub fn mark(&mut self, s: u32, p: u32) {
+    pub fn mark(&mut self, s: u64, p: u64) {
         let marked = self.handle(s, p).map(|handle| Handle { marked: true, ..handle });
         if marked.is_some() {
             self.set_handle(s, p, marked);
@@ -224,16 +233,89 @@ impl Tables {
         let Tables { limits, subjects, objects, handles, .. } = self;
         for (row, subject) in handles.chunks_mut(limits.places as usize).zip(subjects) {
             for place in row {
-                let object = place.and_then(|handle| objects.get(handle.object as usize).copied()?);
-                if subject.is_none() || object.is_none() {
+                let is_on_live = place.is_some_and(|handle| objects.contains_key(&handle.object));
+                if subject.is_none() || !is_on_live {
                     *place = None;
                 }
             }
         }
     }
 
-    fn index(&self, s: u32, p: u32) -> Option<usize> {
+    /// Where a subject stands in its table; none for a number out of range (RULES T1).
+    fn subject_index(&self, s: u64) -> Option<usize> {
+        (s < self.limits.subjects).then_some(s as usize)
+    }
+
+    /// Where a place stands in the table of handles; none where one of the two is out of range (RULES T1, T3).
+    fn index(&self, s: u64, p: u64) -> Option<usize> {
         (s < self.limits.subjects && p < self.limits.places).then(|| (s * self.limits.places + p) as usize)
+    }
+}
+
+/// Tables as a host stores them: each object stands in one of 64 slots, beside its number, and a handle names a
+/// slot. No call looks at them: [`StoredTables::tables`] says which tables they are.
+#[derive(Clone, Debug)]
+pub struct StoredTables {
+    slots: Vec<Option<(u64, Object)>>,
+    /// All but the objects; the object of a handle is the slot that it names.
+    rest: Tables,
+}
+
+impl Default for StoredTables {
+    fn default() -> StoredTables {
+        StoredTables::new()
+    }
+}
+
+impl StoredTables {
+    /// Every slot free, and all else as in empty tables.
+    pub fn new() -> StoredTables {
+        StoredTables { slots: vec![None; LIMITS.objects as usize], rest: Tables::new(LIMITS) }
+    }
+
+    /// The number of the object in this slot, and the object; none for a free slot.
+    pub fn set_slot(&mut self, slot: u64, entry: Option<(u64, Object)>) {
+        if slot < LIMITS.objects {
+            self.slots[slot as usize] = entry;
+        }
+    }
+
+    /// A handle whose `object` is the slot that it names, be there such a slot or not.
+    pub fn set_handle(&mut self, s: u64, p: u64, handle: Option<Handle>) {
+        self.rest.set_handle(s, p, handle);
+    }
+
+    pub fn set_subject(&mut self, s: u64, subject: Option<Subject>) {
+        self.rest.set_subject(s, subject);
+    }
+
+    pub fn set_freeze(&mut self, freeze: u64) {
+        self.rest.set_freeze(freeze);
+    }
+
+    /// Where a number stands in several slots, the first of them counts and the others count as free.
+    fn counts(&self, slot: u64) -> Option<u64> {
+        let number = |entry: &Option<(u64, Object)>| entry.map(|(number, _)| number);
+        let own = number(self.slots.get(usize::try_from(slot).ok()?)?)?;
+        let is_first =
+            self.slots.iter().position(|entry| number(entry) == Some(own)) == Some(slot as usize);
+        is_first.then_some(own)
+    }
+
+    /// The tables that these are. A handle on a slot that is free, that counts as free or that there is not is one
+    /// on an object that is not live, and so counts as an empty place: RULES T17.
+    pub fn tables(&self) -> Tables {
+        let mut tables = self.rest.clone();
+        for (slot, entry) in (0..).zip(&self.slots) {
+            if let (Some((number, object)), Some(_)) = (*entry, self.counts(slot)) {
+                tables.set_object(number, Some(object));
+            }
+        }
+        let not_live = (0..).find(|&o| tables.object(o).is_none()).unwrap_or(0);
+        for handle in tables.handles.iter_mut().flatten() {
+            handle.object = self.counts(handle.object).unwrap_or(not_live);
+        }
+        tables
     }
 }
 

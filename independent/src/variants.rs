@@ -2,20 +2,21 @@
 //!
 //! `Rules` says which variant is on; by default none is, and then every function here leaves the rules
 //! as they are. Each variant is read at exactly one place: here, in `channels`, in `freeze`, in `maps`, in
-//! `marks`, in `outcomes`, or at the one place in the reader that it speaks of.
+//! `marks`, in `outcomes`, in `stores`, or at the one place in the reader that it speaks of.
 
 mod channels;
 mod freeze;
 mod maps;
 mod marks;
 mod outcomes;
+mod stores;
 
 use std::cmp::Reverse;
 
 use crate::calls::{shape_of_code, Call, Numbers, Shape};
 use crate::monitor::{Answer, Monitor};
 use crate::needs::{level, Flow, Needs, Thing};
-use crate::numbers;
+use crate::numbers::{self, Malformed};
 use crate::records::{Body, BodyFault};
 use crate::refusals::{sought_flow, Condition};
 use crate::replies::{Content, Step, LONGEST_JOURNAL};
@@ -25,6 +26,7 @@ use freeze::bend_frozen;
 use maps::bend_mapped;
 use marks::bend_marked;
 use outcomes::{bend_answer, bend_effect, bend_refused};
+use stores::{bend_space, bend_stored};
 
 macro_rules! variants {
     ($($name:ident $word:literal $what:literal;)*) => {
@@ -45,8 +47,8 @@ variants! {
     Place15Refused "place-15-refused" "has places 0 to 14";
     Subject32Allowed "subject-32-allowed" "has subjects 0 to 32";
     Subject31Refused "subject-31-refused" "has subjects 0 to 30";
-    Object64Allowed "object-64-allowed" "has objects 0 to 64";
-    Object63Refused "object-63-refused" "has objects 0 to 62";
+    Live65Allowed "live-65-allowed" "lets 65 objects live";
+    Live64Refused "live-64-refused" "lets 63 objects live";
     // Needs.
     OneFlowFar "one-flow-far" "a need looks one flow far, not along a chain";
     FourPasses "four-passes" "gives up after four passes over the handles";
@@ -151,7 +153,40 @@ variants! {
     PlacesAtPartnerOnly "places-at-partner-only" "a connect tests the places of t only";
     ReadingPlacesOnly "reading-places-only" "a connect may write at a place that is in use";
     FreezeConnects "freeze-connects" "a subject at or above the freeze is not connected";
+    // The host's own file numbers: which objects there are, and how many.
+    BeforeRequestH "before-request-h" "has objects 0 to 63 and numbers up to 4294967295, as before request (h)";
+    NewAbove63 "new-above-63" "a new object above 63 is refused with 3";
+    NewAbove32Bits "new-above-32-bits" "a new object above 4294967295 is refused with 3";
+    NewAbove63Bits "new-above-63-bits" "a new object of 2 to the 63rd or above is refused with 3";
+    LargestRefused "largest-refused" "object 18446744073709551615 is refused with 3 as new";
+    NamedAbove63 "named-above-63" "an object above 63 is never found: 4";
+    InUseMod64 "in-use-mod-64" "a new object is refused with 3 where a live one has its number modulo 64";
+    InUseLow32 "in-use-by-low-32-bits" "a new object is refused with 3 where a live one has its lower 32 bits";
+    FoundMod64 "found-mod-64" "an object that is not live is found by its number modulo 64";
+    FoundLow32 "found-by-low-32-bits" "an object that is not live is found by its lower 32 bits";
+    RegisterUncounted "register-uncounted" "a register is not refused with 17";
+    CreateUncounted "create-uncounted" "a create is not refused with 17";
+    PipeUncounted "pipe-uncounted" "a pipe is not refused with 17";
+    ConnectUncounted "connect-uncounted" "a connect is not refused with 17";
+    ConnectCountsOne "connect-counts-one" "a connect with 63 objects live is not refused with 17";
+    ConnectCountsThree "connect-counts-three" "a connect with 62 objects live is refused with 17";
+    FilesCounted "files-counted" "64 files may be live, whatever else is";
+    PipesCounted "pipes-counted" "64 pipes may be live, whatever else is";
+    SeventeenAs3 "17-as-3" "says 3 where there is no space";
+    FullOpens "full-opens" "an open is refused with 17 while 64 objects are live";
+    FullForks "full-forks" "a fork is refused with 17 while 64 objects are live";
+    RetiredTakesSpace "retired-takes-space" "a retired file makes no space";
+    EndedTakesSpace "ended-takes-space" "an ended pipe makes no space";
+    ExitTakesSpace "exit-takes-space" "a pipe that an exit ends makes no space";
+    ExecTakesSpace "exec-takes-space" "a pipe that an exec ends makes no space";
+    SpaceByNumber "space-by-number" "what is gone makes space for its own number alone";
     // Other conditions.
+    SubjectMod32 "subject-mod-32-bits" "takes subjects modulo 2 to the 32nd";
+    PlaceMod32 "place-mod-32-bits" "takes places modulo 2 to the 32nd";
+    LevelMod32 "level-mod-32-bits" "takes levels modulo 2 to the 32nd";
+    FreezeMod32 "freeze-mod-32-bits" "takes a freeze modulo 2 to the 32nd";
+    ObjectMod32 "object-mod-32-bits" "takes objects modulo 2 to the 32nd";
+    ObjectMod63 "object-mod-63-bits" "takes objects modulo 2 to the 63rd";
     Mod256 "mod-256" "takes a call's numbers modulo 256";
     Mod65536 "mod-65536" "takes a call's numbers modulo 65,536";
     Mod31Bits "mod-31-bits" "takes a call's numbers modulo 2 to the 31st";
@@ -180,11 +215,20 @@ variants! {
     Order163 "order-16-3" "says 3 before 16";
     Order167 "order-16-7" "says 7 before 16";
     SixteenLast "16-last" "says 16 by its number, after all others";
+    Order217 "order-2-17" "says 17 before 2";
+    Order1617 "order-16-17" "says 17 before 16";
+    Order317 "order-3-17" "says 17 before 3";
+    // No call both makes an object and names one: whether 17 comes before 4 and 5 cannot be told.
+    Order176 "order-17-6" "says 6 before 17";
+    Order177 "order-17-7" "says 7 before 17";
+    Order179 "order-17-9" "says 9 before 17";
+    SeventeenLast "17-last" "says 17 by its number, after all others";
     Order215 "order-2-15" "says 15 before 2";
     Order715 "order-7-15" "says 15 before 7";
     Order159 "order-15-9" "says 9 before 15, as it was before request (j)";
-    TwelveLast "12-last" "a left-over number is 12 only if 2 to 10, 15 and 16 do not hold";
+    TwelveLast "12-last" "a left-over number is 12 only if 2 to 10 and 15 to 17 do not hold";
     FifteenBefore12 "15-before-12" "a left-over number is 12 only if 15 does not hold";
+    SeventeenBefore12 "17-before-12" "a left-over number is 12 only if 17 does not hold";
     // Effects.
     LowerAtOpen "lower-at-open" "an open for reading lowers the subject at once";
     LowerPipeAtOpen "lower-pipe-at-open" "an open for writing lowers the pipe at once";
@@ -290,6 +334,7 @@ variants! {
     RefusedConnectLeavesBoth "refused-connect-leaves-both" "a connect refused with 9 leaves both pipes";
     SevenLeavesPipe "7-leaves-pipe" "a connect refused with 7 leaves its first pipe, without handles";
     ThreeLeavesPipe "3-leaves-pipe" "a connect whose second number is unfit leaves its first pipe";
+    SeventeenLeavesPipe "17-leaves-pipe" "a connect refused with 17 leaves its first pipe where there is space for it";
     ChannelNeverEnds "channel-never-ends" "a pipe of a connect stays when its last handle goes";
     ChannelEndsTogether "channel-ends-together" "when one pipe of a connect ends, so does the other";
     ChannelClosesBoth "channel-closes-both" "a close of one end of a connect closes the subject's other end";
@@ -356,9 +401,16 @@ variants! {
     Code17Unknown "code-17-unknown" "does not know code 17";
     Code17AsPipe "code-17-as-pipe" "takes code 17 for a pipe";
     Code18AsConnect "code-18-as-connect" "takes code 18 for a connect";
+    CodeMod32 "code-mod-32-bits" "takes codes modulo 2 to the 32nd";
     // Numbers and records.
     PaddedAccepted "padded-accepted" "a number longer than it need be is taken";
-    AboveWrapped "above-wrapped" "a number above 4294967295 is wrapped";
+    AboveWrapped "above-wrapped" "a number above 18446744073709551615 is wrapped";
+    PaddedTen "padded-ten" "a number of ten bytes is taken where the last is 0";
+    TenthByte2 "tenth-byte-2" "a number of ten bytes is taken where the last is 2";
+    ElevenBytes "eleven-bytes" "a number of eleven bytes is taken";
+    NineBytesOnly "nine-bytes-only" "a number of ten bytes is malformed";
+    FiveBytesOnly "five-bytes-only" "a number above 4294967295 is malformed";
+    LengthMod32 "length-mod-32-bits" "takes a record's length modulo 2 to the 32nd";
     ReadsPastBody "reads-past-body" "a number may end behind its record's body";
     MapTwoNumbers "map-two-numbers" "a record of a map has two numbers";
     MapFourNumbers "map-four-numbers" "a record of a map has four numbers";
@@ -389,6 +441,7 @@ variants! {
     TwelveNotCounted "12-not-counted" "records with 12 do not count for the position";
     CodeZeroAt12 "code-0-at-12" "writes the code as 0 with 12";
     UnknownCodeAsZero "unknown-code-as-0" "writes an unknown code as 0";
+    CodeShownMod32 "code-shown-mod-32-bits" "writes a code modulo 2 to the 32nd";
     FourteenAtZero "14-at-0" "writes 14 with position 0";
 }
 
@@ -431,15 +484,15 @@ impl Rules {
             Some(Variant::Place15Refused) => limits.places -= 1,
             Some(Variant::Subject32Allowed) => limits.subjects += 1,
             Some(Variant::Subject31Refused) => limits.subjects -= 1,
-            Some(Variant::Object64Allowed) => limits.objects += 1,
-            Some(Variant::Object63Refused) => limits.objects -= 1,
+            Some(Variant::Live65Allowed) => limits.objects += 1,
+            Some(Variant::Live64Refused) => limits.objects -= 1,
             _ => {}
         }
         limits
     }
 
     /// The code that a code is taken for.
-    pub fn bend_code(self, code: u32) -> u32 {
+    pub fn bend_code(self, code: u64) -> u64 {
         match (self.variant, code) {
             (Some(Variant::Code14Unknown), 14) => 0,
             (Some(Variant::Code14AsOpen), 14) => 5,
@@ -450,6 +503,7 @@ impl Rules {
             (Some(Variant::Code17Unknown), 17) => 0,
             (Some(Variant::Code17AsPipe), 17) => 4,
             (Some(Variant::Code18AsConnect), 18) => 17,
+            (Some(Variant::CodeMod32), _) => code % (1 << 32),
             _ => code,
         }
     }
@@ -469,7 +523,7 @@ impl Rules {
     }
 
     /// The numbers that a call of this code is made with.
-    pub fn bend_numbers(self, code: u32, numbers: Numbers) -> Numbers {
+    pub fn bend_numbers(self, code: u64, numbers: Numbers) -> Numbers {
         let [a, b, c, d, e, f] = numbers;
         match self.variant {
             Some(Variant::MapFileFirst) if code == 14 => [b, a, c, d, e, f],
@@ -482,7 +536,40 @@ impl Rules {
             Some(Variant::Mod256) => numbers.map(|number| number % 256),
             Some(Variant::Mod65536) => numbers.map(|number| number % 65_536),
             Some(Variant::Mod31Bits) => numbers.map(|number| number % (1 << 31)),
-            _ => numbers,
+            Some(variant) => stores::cut_numbers(variant, code, numbers),
+            None => numbers,
+        }
+    }
+
+    /// The call with the object that is found where it names one that is not live.
+    pub fn bend_named(self, tables: &Tables, call: Call) -> Call {
+        self.variant.map_or(call, |variant| stores::bend_named(variant, tables, call))
+    }
+
+    /// Whether a number of these groups is taken although it is longer than it need be.
+    pub fn takes_padded(self, groups: &[u8]) -> bool {
+        self.variant.is_some_and(|variant| stores::takes_padded(variant, groups))
+    }
+
+    /// Whether a number of these groups is taken although it is too large.
+    pub fn wraps(self, groups: &[u8]) -> bool {
+        self.variant.is_some_and(|variant| stores::wraps(variant, groups))
+    }
+
+    /// A good number, and how many bytes it takes; or why it is not taken all the same.
+    pub fn bend_number(self, value: u64, groups: &[u8]) -> Result<(u64, usize), Malformed> {
+        match self.variant.and_then(|variant| stores::bend_good(variant, value, groups)) {
+            Some(malformed) => Err(malformed),
+            None => Ok((value, groups.len())),
+        }
+    }
+
+    /// The length that a record is taken to have.
+    pub fn bend_length(self, length: u64) -> u64 {
+        if self.has(Variant::LengthMod32) {
+            length % (1 << 32)
+        } else {
+            length
         }
     }
 
@@ -499,7 +586,7 @@ impl Rules {
     }
 
     /// RULES R110: the places that the test of a call leaves out.
-    pub fn bend_left_out(self, tables: &Tables, call: Call, left_out: &mut Vec<(u32, u32)>) {
+    pub fn bend_left_out(self, tables: &Tables, call: Call, left_out: &mut Vec<(u64, u64)>) {
         if let Some(variant) = self.variant {
             marks::bend_left_out(variant, tables, call, left_out);
         }
@@ -536,7 +623,7 @@ impl Rules {
         }
     }
 
-    /// The conditions of RULES R2 to R10, R15 and R16 for one call.
+    /// The conditions of RULES R2 to R10 and R15 to R17 for one call.
     pub fn bend_conditions(self, tables: &Tables, call: Call, needs: &Needs, conditions: &mut [Condition]) {
         let Some(variant) = self.variant else {
             return;
@@ -557,6 +644,9 @@ impl Rules {
             set(number, holds);
         }
         if let Some((number, holds)) = bend_connected(variant, tables, call, needs) {
+            set(number, holds);
+        }
+        if let Some((number, holds)) = bend_stored(variant, tables, call) {
             set(number, holds);
         }
         // A map is tested as an open is.
@@ -661,6 +751,13 @@ impl Rules {
             Some(Variant::Order215) => swap(2, 15),
             Some(Variant::Order715) => swap(7, 15),
             Some(Variant::Order159) => swap(15, 9),
+            Some(Variant::Order217) => swap(2, 17),
+            Some(Variant::Order1617) => swap(16, 17),
+            Some(Variant::Order317) => swap(3, 17),
+            Some(Variant::Order176) => swap(17, 6),
+            Some(Variant::Order177) => swap(17, 7),
+            Some(Variant::Order179) => swap(17, 9),
+            Some(Variant::SeventeenLast) => conditions.sort_by_key(|condition| condition.0 == 17),
             _ => {}
         }
     }
@@ -670,6 +767,7 @@ impl Rules {
         match self.variant {
             Some(Variant::TwelveLast) => true,
             Some(Variant::FifteenBefore12) => number == 15,
+            Some(Variant::SeventeenBefore12) => number == 17,
             _ => false,
         }
     }
@@ -683,11 +781,12 @@ impl Rules {
             Answer::Refused(number) => bend_refused(variant, after, call, number),
             _ => bend_effect(variant, before, after, call),
         }
-        bend_answer(variant, before, call, answer)
+        let answer = bend_answer(variant, before, call, answer);
+        bend_space(variant, before, after, call, answer)
     }
 
     /// What a body with an unknown code holds.
-    pub fn bend_unknown_code(self, code: u32, rest: &[u8]) -> Body {
+    pub fn bend_unknown_code(self, code: u64, rest: &[u8]) -> Body {
         if self.has(Variant::UnknownRestRead) {
             let mut taken = 0;
             while taken < rest.len() {
@@ -731,6 +830,7 @@ impl Rules {
             Some(Variant::TwelveNotCounted) if twelve => *position -= 1,
             Some(Variant::CodeZeroAt12) if twelve => step.code = 0,
             Some(Variant::UnknownCodeAsZero) if shape_of_code(step.code).is_none() => step.code = 0,
+            Some(Variant::CodeShownMod32) => step.code %= 1 << 32,
             Some(Variant::FourteenAtZero) if step.content == Content::TooLong => step.position = 0,
             _ => {}
         }

@@ -25,7 +25,7 @@ pub fn journal_of(text: &str) -> Option<Vec<u8>> {
             journal.extend(bytes?);
             continue;
         }
-        let numbers: Option<Vec<u32>> = words.map(|number| number.parse().ok()).collect();
+        let numbers: Option<Vec<u64>> = words.map(|number| number.parse().ok()).collect();
         match (shape_of_word(first), numbers?.as_slice()) {
             (Some(shape), numbers) if numbers.len() == shape.numbers.len() => {
                 records::write(shape.code, numbers, &mut journal);
@@ -71,7 +71,7 @@ pub fn words_of(journal: &[u8]) -> String {
 }
 
 /// The body as a list of good numbers, if it is one.
-fn all_numbers(mut body: &[u8]) -> Option<Vec<u32>> {
+fn all_numbers(mut body: &[u8]) -> Option<Vec<u64>> {
     let mut numbers = Vec::new();
     while !body.is_empty() {
         let (number, bytes) = numbers::read(body, Rules::default()).ok()?;

@@ -3,7 +3,9 @@
 use gatekeeper_independent::cases;
 use gatekeeper_independent::monitor::{Answer, Monitor};
 use gatekeeper_independent::replies::replies;
-use gatekeeper_independent::tables::{Direction, Handle, Kind, Object, Subject, Tables, LIMITS};
+use gatekeeper_independent::tables::{
+    Direction, Handle, Kind, Object, StoredTables, Subject, Tables, LIMITS,
+};
 use gatekeeper_independent::variants::Rules;
 
 #[test]
@@ -71,6 +73,23 @@ fn the_cases_are_all_there() {
         "connect-record",
         "connect-32-bytes",
         "known-codes",
+        "h-subject",
+        "h-subject-new",
+        "h-place",
+        "h-level",
+        "h-code",
+        "h-largest-object",
+        "h-other-numbers",
+        "h-every-kind",
+        "h-62-bytes",
+        "h-numbers",
+        "h-65-registers",
+        "h-full-new",
+        "h-full-order",
+        "h-full-others",
+        "h-connect-63",
+        "h-connect-62",
+        "h-connect-flow",
     ] {
         assert!(names.iter().any(|known| known == name), "{name}");
     }
@@ -89,7 +108,7 @@ fn the_example_of_the_document() {
 #[test]
 fn a_direct_call_ignores_the_numbers_its_code_does_not_use() {
     let mut monitor = Monitor::new();
-    let any = u32::MAX;
+    let any = u64::MAX;
     assert_eq!(monitor.call(1, [0, 9, any, any, 0, 0]), Answer::Allowed(9));
     assert_eq!(monitor.call(2, [0, 9, any, any, 0, 0]), Answer::Allowed(9));
     assert_eq!(monitor.call(5, [0, 0, 0, any, 0, 0]), Answer::Allowed(9));
@@ -98,8 +117,13 @@ fn a_direct_call_ignores_the_numbers_its_code_does_not_use() {
     assert_eq!(monitor.call(12, [0, any, any, any, 0, 0]), Answer::Allowed(9));
     assert_eq!(monitor.call(13, [0, any, any, any, 0, 0]), Answer::Allowed(9));
     assert_eq!(monitor.call(16, [9, any, any, any, 0, 0]), Answer::Allowed(9));
-    for code in [0, 18, 19, 255, 256, 256 + 14, 256 + 15, 256 + 16, 256 + 17, u32::MAX] {
+    for code in [0, 18, 19, 255, 256, 256 + 14, 256 + 15, 256 + 16, 256 + 17, u64::MAX] {
         assert_eq!(monitor.call(code, [0, 0, 0, 0, 0, 0]), Answer::Refused(1));
+    }
+    for code in 0..=18 {
+        for above in [1 << 32, 1 << 63, 17 << 32] {
+            assert_eq!(monitor.call(above + code, [0, 0, 0, 0, 0, 0]), Answer::Refused(1));
+        }
     }
 }
 
@@ -130,17 +154,17 @@ fn made_up(fill: impl Fn(&mut Tables)) -> Monitor {
     Monitor::of_tables(tables, Rules::default())
 }
 
-fn handle(object: u32, direction: Direction) -> Option<Handle> {
+fn handle(object: u64, direction: Direction) -> Option<Handle> {
     Some(Handle::new(object, direction))
 }
 
-fn marked(object: u32, direction: Direction) -> Option<Handle> {
+fn marked(object: u64, direction: Direction) -> Option<Handle> {
     Some(Handle { marked: true, ..Handle::new(object, direction) })
 }
 
 #[test]
 fn a_handle_on_what_is_not_live_counts_as_an_empty_place() {
-    for object in [1, 63, 64, u32::MAX] {
+    for object in [1, 63, 64, u64::MAX] {
         let monitor = made_up(|tables| tables.set_handle(0, 3, handle(object, READING)));
         for code in [7, 8, 11, 15] {
             assert_eq!(monitor.clone().call(code, [0, 3, 0, 0, 0, 0]), Answer::Refused(7));
@@ -293,7 +317,7 @@ fn the_marked_handles_of_others_are_in_the_test_and_stay() {
 /// RULES T17, T18, Y11: it is no handle, so it is not marked, not copied, not closed and not counted.
 #[test]
 fn a_marked_handle_that_dangles_counts_as_an_empty_place() {
-    for object in [5, 63, 64, u32::MAX] {
+    for object in [5, 63, 64, u64::MAX] {
         let monitor = made_up(|tables| {
             tables.set_handle(0, 3, marked(object, WRITING));
             tables.set_handle(0, 4, marked(0, WRITING));
@@ -344,7 +368,7 @@ fn a_pipe_without_handles_stays_at_an_exec() {
 
 // Mappings.
 
-fn mapping(object: u32) -> Option<Handle> {
+fn mapping(object: u64) -> Option<Handle> {
     Some(Handle::mapping(object))
 }
 
@@ -373,7 +397,7 @@ fn a_map_places_a_reading_handle_and_is_a_read() {
 /// RULES C8, C104, C110, C111: in tables that no calls made a mapper may be above its file.
 #[test]
 fn a_write_to_a_file_is_followed_by_a_read_by_each_who_has_it_mapped() {
-    let start = |levels: [u32; 5]| {
+    let start = |levels: [u64; 5]| {
         made_up(move |tables| {
             tables.set_object(0, Some(Object { kind: Kind::File, level: 5 }));
             tables.set_object(1, Some(Object { kind: Kind::File, level: 5 }));
@@ -397,10 +421,10 @@ fn a_write_to_a_file_is_followed_by_a_read_by_each_who_has_it_mapped() {
         ([5, 5, 4, 9, 9], Answer::Allowed(5), [5, 5, 4, 9, 9]),
     ] {
         let mut monitor = start(levels);
-        let handles: Vec<(u32, u32, Handle)> = monitor.tables().handles().collect();
-        assert_eq!(monitor.tables().mappers(0).collect::<Vec<u32>>(), [0, 1, 2]);
+        let handles: Vec<(u64, u64, Handle)> = monitor.tables().handles().collect();
+        assert_eq!(monitor.tables().mappers(0).collect::<Vec<u64>>(), [0, 1, 2]);
         assert_eq!(monitor.call(8, [0, 0, 0, 0, 0, 0]), answer);
-        let level = |s: u32| monitor.tables().subject(s).map(|subject| subject.level);
+        let level = |s: u64| monitor.tables().subject(s).map(|subject| subject.level);
         assert_eq!([0, 1, 2, 3, 4].map(level), after.map(Some));
         assert_eq!(monitor.tables().object(0), Some(Object { kind: Kind::File, level: 5 }));
         assert_eq!(monitor.tables().handles().collect::<Vec<_>>(), handles);
@@ -506,7 +530,7 @@ fn where_a_thing_is_below_its_need_already_every_map_is_refused() {
 
 // Channels.
 
-const CONNECT: [u32; 6] = [0, 1, 5, 6, 0, 1];
+const CONNECT: [u64; 6] = [0, 1, 5, 6, 0, 1];
 
 /// RULES C17: at every pair of levels.
 #[test]
@@ -575,9 +599,9 @@ fn the_numbers_of_a_connect_are_tested_in_order() {
         tables.set_handle(0, 7, handle(0, READING));
         tables.set_handle(1, 8, handle(0, READING));
     });
-    let answer = |numbers: [u32; 6]| monitor.clone().call(17, numbers);
+    let answer = |numbers: [u64; 6]| monitor.clone().call(17, numbers);
     assert_eq!(answer(CONNECT), Answer::Allowed(9));
-    let any = u32::MAX;
+    let any = u64::MAX;
     for missing in [2, 31, 32, any] {
         assert_eq!(answer([missing, missing, any, any, any, any]), Answer::Refused(2));
         assert_eq!(answer([missing, 1, 5, 6, 0, 1]), Answer::Refused(2));
@@ -585,11 +609,14 @@ fn the_numbers_of_a_connect_are_tested_in_order() {
     }
     assert_eq!(answer([0, 0, any, any, any, any]), Answer::Refused(16));
     assert_eq!(answer([1, 1, 5, 6, 0, 1]), Answer::Refused(16));
-    for unfit in [0, 64, any] {
-        assert_eq!(answer([0, 1, unfit, 6, any, any]), Answer::Refused(3));
-        assert_eq!(answer([0, 1, 5, unfit, any, any]), Answer::Refused(3));
+    assert_eq!(answer([0, 1, 0, 6, any, any]), Answer::Refused(3));
+    assert_eq!(answer([0, 1, 5, 0, any, any]), Answer::Refused(3));
+    for new in [5, 64, 1 << 32, any] {
+        assert_eq!(answer([0, 1, new, new, any, any]), Answer::Refused(3));
+        assert_eq!(answer([0, 1, new, 6, any, any]), Answer::Refused(7));
+        assert_eq!(answer([0, 1, new, 6, 0, 1]), Answer::Allowed(9));
+        assert_eq!(answer([0, 1, 6, new, 0, 1]), Answer::Allowed(9));
     }
-    assert_eq!(answer([0, 1, 5, 5, any, any]), Answer::Refused(3));
     for unfit in [7, 8, 16, any] {
         assert_eq!(answer([0, 1, 5, 6, unfit, 1]), Answer::Refused(7));
         assert_eq!(answer([0, 1, 5, 6, 0, unfit]), Answer::Refused(7));
@@ -632,6 +659,183 @@ fn where_a_thing_is_below_its_need_already_every_connect_is_refused() {
     assert_eq!(monitor.call(17, CONNECT), Answer::Allowed(9));
 }
 
+// The host's own file numbers.
+
+/// Numbers of which 32 bits, or 63, or six, say something else.
+const WIDE: [u64; 8] =
+    [64, 4_294_967_295, 1 << 32, (1 << 32) + 5, 1 << 33, (1 << 63) - 1, 1 << 63, u64::MAX];
+
+/// RULES C106, R2, R3, R6, R7: subjects, places and levels keep their limits, and no number is cut.
+#[test]
+fn no_number_of_a_direct_call_is_cut() {
+    let monitor = made_up(|tables| {
+        tables.set_subject(1, Some(Subject { level: 9 }));
+        tables.set_handle(0, 0, handle(0, READING));
+        tables.set_handle(0, 1, handle(0, WRITING));
+    });
+    let refused = |code: u64, numbers: [u64; 6], number: u32| {
+        let mut copy = monitor.clone();
+        assert_eq!(copy.call(code, numbers), Answer::Refused(number), "{code} {numbers:?}");
+        assert_eq!((copy.tables(), copy.tally()), (monitor.tables(), monitor.tally()));
+    };
+    for upper in [1 << 32, 3 << 32, 1 << 63, u64::MAX << 32] {
+        for code in [3, 4, 5, 6, 7, 8, 9, 10, 11, 12, 14, 15] {
+            refused(code, [upper, 0, 0, 0, 0, 0], 2);
+        }
+        refused(17, [upper, 1, 5, 6, 2, 3], 2);
+        refused(17, [0, upper + 1, 5, 6, 2, 3], 2);
+        refused(1, [upper + 2, 9, 0, 0, 0, 0], 3);
+        refused(9, [0, upper + 2, 0, 0, 0, 0], 3);
+        refused(1, [2, upper, 0, 0, 0, 0], 6);
+        refused(2, [2, upper, 0, 0, 0, 0], 6);
+        refused(16, [upper, 0, 0, 0, 0, 0], 6);
+        for code in [5, 6, 14] {
+            refused(code, [0, 0, upper + 2, 0, 0, 0], 7);
+        }
+        for (code, p) in [(7, 0), (8, 1), (11, 0), (15, 0)] {
+            refused(code, [0, upper + p, 0, 0, 0, 0], 7);
+        }
+        refused(4, [0, 5, upper + 2, 3, 0, 0], 7);
+        refused(4, [0, 5, 2, upper + 3, 0, 0], 7);
+        refused(17, [0, 1, 5, 6, upper + 2, 3], 7);
+        refused(17, [0, 1, 5, 6, 2, upper + 3], 7);
+        for code in [5, 6, 10, 14] {
+            refused(code, [0, upper, 2, 0, 0, 0], 4);
+        }
+        refused(13, [upper, 0, 0, 0, 0, 0], 4);
+    }
+}
+
+/// RULES T2, R3, R4, C101: every number is one that an object can have, and each is another one's.
+#[test]
+fn objects_have_any_number() {
+    for one in WIDE {
+        for other in WIDE.into_iter().filter(|&other| other != one) {
+            let mut monitor = made_up(|_| ());
+            assert_eq!(monitor.call(2, [one, 3, 0, 0, 0, 0]), Answer::Allowed(3));
+            assert_eq!(monitor.call(2, [one, 3, 0, 0, 0, 0]), Answer::Refused(3));
+            assert_eq!(monitor.call(5, [0, other, 0, 0, 0, 0]), Answer::Refused(4));
+            assert_eq!(monitor.call(4, [0, other, 0, 1, 0, 0]), Answer::Allowed(9));
+            assert_eq!(monitor.call(5, [0, one, 2, 0, 0, 0]), Answer::Allowed(3));
+            assert_eq!(monitor.call(13, [other, 0, 0, 0, 0, 0]), Answer::Refused(5));
+            assert_eq!(monitor.call(13, [one, 0, 0, 0, 0, 0]), Answer::Refused(10));
+            assert_eq!(monitor.call(12, [0, 0, 0, 0, 0, 0]), Answer::Allowed(9));
+            assert_eq!(monitor.call(2, [other, 7, 0, 0, 0, 0]), Answer::Allowed(7));
+            assert_eq!(monitor.call(13, [one, 0, 0, 0, 0, 0]), Answer::Allowed(3));
+            assert_eq!(monitor.tables().live_objects().collect::<Vec<u64>>(), [0, other]);
+        }
+    }
+}
+
+/// RULES R17: by every call that makes an object, at every number of live ones; file 0 is one of them.
+#[test]
+fn no_more_than_64_objects_are_live() {
+    for live in 1..=64 {
+        let monitor = made_up(|tables| {
+            tables.set_subject(1, Some(Subject { level: 9 }));
+            for o in 1..live {
+                tables.set_object(o << 32, Some(Object { kind: Kind::File, level: 2 }));
+            }
+        });
+        for (code, numbers, new) in [
+            (2, [7, 9, 0, 0, 0, 0], 1),
+            (3, [0, 7, 0, 0, 0, 0], 1),
+            (4, [0, 7, 0, 1, 0, 0], 1),
+            (17, [0, 1, 7, 8, 0, 1], 2),
+        ] {
+            let mut copy = monitor.clone();
+            let answer = if live + new > 64 { Answer::Refused(17) } else { Answer::Allowed(9) };
+            assert_eq!(copy.call(code, numbers), answer, "{code} with {live} live");
+            assert_eq!(copy.tables().object_count(), if live + new > 64 { live } else { live + new });
+        }
+    }
+}
+
+/// Tables as a host stores them: subject 0 at level 9, and these objects in these slots.
+fn stored(slots: &[(u64, u64, Kind, u64)], fill: impl Fn(&mut StoredTables)) -> Monitor {
+    let mut stored = StoredTables::new();
+    stored.set_subject(0, Some(Subject { level: 9 }));
+    for &(slot, number, kind, level) in slots {
+        stored.set_slot(slot, Some((number, Object { kind, level })));
+    }
+    fill(&mut stored);
+    Monitor::of_tables(stored.tables(), Rules::default())
+}
+
+/// RULES T17: which slot an object stands in is told by nothing.
+#[test]
+fn objects_in_any_slots_are_the_same_tables() {
+    let reads = |slot| move |stored: &mut StoredTables| stored.set_handle(0, 3, handle(slot, READING));
+    let tables = stored(&[(63, 7, Kind::File, 4), (0, u64::MAX, Kind::Pipe, 9)], reads(63));
+    let same = stored(&[(1, u64::MAX, Kind::Pipe, 9), (0, 7, Kind::File, 4)], reads(0));
+    assert_eq!(tables.tables(), same.tables());
+    assert_eq!(tables.tables().handle(0, 3), handle(7, READING));
+    assert_eq!(tables.tables().live_objects().collect::<Vec<u64>>(), [7, u64::MAX]);
+}
+
+/// RULES T17, T19: of two slots with one number the first counts. The other counts as free: it is no object, takes no
+/// space, and a handle that names it counts as an empty place.
+#[test]
+fn where_two_slots_have_one_number_the_first_counts() {
+    let twice = [(5, 7, Kind::File, 4), (40, 7, Kind::Pipe, 2), (41, 7, Kind::File, 15)];
+    let handles = |stored: &mut StoredTables| {
+        stored.set_handle(0, 0, handle(40, READING));
+        stored.set_handle(0, 1, handle(41, WRITING));
+        stored.set_handle(0, 2, handle(5, WRITING));
+        // A slot that is free, and slots that there are not.
+        stored.set_handle(0, 3, handle(6, READING));
+        stored.set_handle(0, 4, handle(64, WRITING));
+        stored.set_handle(0, 5, handle(u64::MAX, WRITING));
+        stored.set_handle(9, 0, handle(5, WRITING));
+    };
+    let start = stored(&twice, handles);
+    assert_eq!(start.tables().object(7), Some(Object { kind: Kind::File, level: 4 }));
+    assert_eq!(start.tables().object_count(), 1);
+    for p in [0, 1, 3, 4, 5] {
+        for code in [7, 8, 11, 15] {
+            assert_eq!(start.clone().call(code, [0, p, 0, 0, 0, 0]), Answer::Refused(7));
+        }
+        assert_eq!(start.clone().call(5, [0, 7, p, 0, 0, 0]), Answer::Allowed(4));
+    }
+    assert_eq!(start.clone().call(8, [0, 2, 0, 0, 0, 0]), Answer::Allowed(4));
+
+    // A refused call leaves those places, any other empties them, whatever numbers come into use.
+    let mut monitor = start.clone();
+    assert_eq!(monitor.call(2, [7, 9, 0, 0, 0, 0]), Answer::Refused(3));
+    assert_eq!(monitor.tables(), start.tables());
+    for o in 0..6 {
+        assert_eq!(monitor.call(2, [o, 9, 0, 0, 0, 0]), Answer::Allowed(9));
+    }
+    assert_eq!((monitor.tables().handle_count(), monitor.tally().open()), (1, 0));
+    let cleaned = stored(&twice[..1], |stored| stored.set_handle(0, 2, handle(5, WRITING)));
+    let mut emptied = start.clone();
+    assert_eq!(emptied.call(16, [16, 0, 0, 0, 0, 0]), Answer::Allowed(16));
+    assert_eq!(emptied.tables(), cleaned.tables());
+
+    // The number is gone with the first one, and does not come back with the others.
+    assert_eq!(emptied.call(11, [0, 2, 0, 0, 0, 0]), Answer::Allowed(9));
+    assert_eq!(emptied.call(13, [7, 0, 0, 0, 0, 0]), Answer::Allowed(4));
+    assert_eq!(emptied.tables().object_count(), 0);
+    assert_eq!(emptied.call(5, [0, 7, 0, 0, 0, 0]), Answer::Refused(4));
+}
+
+/// RULES R17: slots that count as free are space.
+#[test]
+fn slots_that_count_as_free_are_space() {
+    for twice in 0..64 {
+        let number = |slot| if slot < twice { 1 << 40 } else { slot };
+        let slots: Vec<(u64, u64, Kind, u64)> =
+            (0..64).map(|slot| (slot, number(slot), Kind::File, 9)).collect();
+        let mut monitor = stored(&slots, |_| ());
+        let live = if twice == 0 { 64 } else { 65 - twice };
+        assert_eq!(monitor.tables().object_count(), live);
+        for more in 0..64 - live {
+            assert_eq!(monitor.call(2, [u64::MAX - more, 9, 0, 0, 0, 0]), Answer::Allowed(9));
+        }
+        assert_eq!(monitor.call(2, [1 << 50, 9, 0, 0, 0, 0]), Answer::Refused(17));
+    }
+}
+
 // The freeze.
 
 #[test]
@@ -642,7 +846,7 @@ fn tables_start_without_a_freeze_and_a_freeze_is_any_number_up_to_16() {
         assert_eq!(monitor.call(16, [level, 0, 0, 0, 0, 0]), Answer::Allowed(level));
         assert_eq!(monitor.tables().frozen_from(), Some(level));
     }
-    for level in [17, 18, 31, 255, 256, 256 + 9, u32::MAX] {
+    for level in [17, 18, 31, 255, 256, 256 + 9, u64::MAX] {
         assert_eq!(monitor.call(16, [level, 0, 0, 0, 0, 0]), Answer::Refused(6));
         assert_eq!(monitor.tables().frozen_from(), Some(15));
     }
@@ -674,7 +878,7 @@ fn every_file_is_frozen_at_or_above_the_freeze_and_no_pipe_is() {
 
 #[test]
 fn a_stored_freeze_above_16_is_none_and_stays() {
-    for freeze in [17, 18, 255, u32::MAX] {
+    for freeze in [17, 18, 255, u64::MAX] {
         let mut monitor = made_up(|tables| tables.set_freeze(freeze));
         assert_eq!(monitor.call(6, [0, 0, 0, 0, 0, 0]), Answer::Allowed(9));
         assert_eq!(monitor.call(8, [0, 0, 0, 0, 0, 0]), Answer::Allowed(9));

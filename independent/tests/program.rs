@@ -210,7 +210,10 @@ fn cases_are_printed_for_other_programs() {
     assert!(out(&second(&["cases", "--hex"], b"")).contains("K10 8000\n"));
     assert!(out(&second(&["cases"], b"")).contains("K1: 0 opens file 0 for writing"));
     let numbers = out(&second(&["cases", "--numbers"], b""));
-    assert_eq!(numbers, "2 02\n127 7f\n128 80 01\n129 81 01\n130 82 01\n12857 b9 64\n");
+    assert!(numbers.starts_with(
+        "2 02\n127 7f\n128 80 01\n129 81 01\n130 82 01\n12857 b9 64\n18446744073709551615 ff "
+    ));
+    assert!(numbers.ends_with("\nmalformed 80 80 80 80 80 80 80 80 80 80 01\n"), "{numbers}");
 }
 
 #[test]

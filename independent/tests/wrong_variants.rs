@@ -57,7 +57,9 @@ fn every_pair_of_conditions_that_can_hold_together_has_a_variant() {
             }
         }
     }
-    let expected = "2-3 2-4 2-5 2-7 2-15 2-16 3-6 3-7 3-9 4-7 5-7 5-9 7-9 7-15 15-9 16-3 16-7";
+    let expected =
+        "2-3 2-4 2-5 2-7 2-15 2-16 2-17 3-6 3-7 3-9 3-17 4-7 5-7 5-9 7-9 7-15 15-9 16-3 16-7 16-17 \
+                    17-6 17-7 17-9";
     let pairs: Vec<String> = pairs.iter().map(|(earlier, later)| format!("{earlier}-{later}")).collect();
     assert_eq!(pairs.join(" "), expected);
     for pair in pairs {

@@ -22,22 +22,22 @@ impl From<Refusal> for Answer {
 /// A call with its numbers, any numbers.
 #[derive(Clone, Copy, Debug, PartialEq, Eq)]
 pub enum Call {
-    Admit { s: u32, level: u32 },
-    Register { o: u32, level: u32 },
-    Create { s: u32, o: u32 },
-    Pipe { s: u32, o: u32, r: u32, w: u32 },
-    Open { s: u32, o: u32, p: u32, direction: Direction },
-    Read { s: u32, p: u32 },
-    Write { s: u32, p: u32 },
-    Fork { s: u32, c: u32 },
-    Exec { s: u32, o: u32 },
-    Close { s: u32, p: u32 },
-    Exit { s: u32 },
-    Retire { o: u32 },
-    Map { s: u32, o: u32, p: u32 },
-    Mark { s: u32, p: u32 },
-    Freeze { level: u32 },
-    Connect { s: u32, t: u32, a: u32, b: u32, p: u32, q: u32 },
+    Admit { s: u64, level: u64 },
+    Register { o: u64, level: u64 },
+    Create { s: u64, o: u64 },
+    Pipe { s: u64, o: u64, r: u64, w: u64 },
+    Open { s: u64, o: u64, p: u64, direction: Direction },
+    Read { s: u64, p: u64 },
+    Write { s: u64, p: u64 },
+    Fork { s: u64, c: u64 },
+    Exec { s: u64, o: u64 },
+    Close { s: u64, p: u64 },
+    Exit { s: u64 },
+    Retire { o: u64 },
+    Map { s: u64, o: u64, p: u64 },
+    Mark { s: u64, p: u64 },
+    Freeze { level: u64 },
+    Connect { s: u64, t: u64, a: u64, b: u64, p: u64, q: u64 },
 }
 
 /// The most numbers that a call takes.
@@ -45,7 +45,7 @@ pub const NUMBERS: usize = 6;
 
 impl Call {
     /// How many numbers the call with this code takes; none for an unknown code.
-    pub fn numbers_of(code: u32) -> Option<usize> {
+    pub fn numbers_of(code: u64) -> Option<usize> {
         match code {
             17 => Some(6),
             4 => Some(4),
@@ -57,7 +57,7 @@ impl Call {
     }
 
     /// The call with this code; numbers that it does not use are ignored.
-    pub fn new(code: u32, [a, b, c, d, e, f]: [u32; NUMBERS]) -> Option<Call> {
+    pub fn new(code: u64, [a, b, c, d, e, f]: [u64; NUMBERS]) -> Option<Call> {
         Some(match code {
             1 => Call::Admit { s: a, level: b },
             2 => Call::Register { o: a, level: b },

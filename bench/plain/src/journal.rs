@@ -6,30 +6,43 @@ use crate::refusals::Refusal;
 /// The longest journal that is run, in bytes.
 pub const LONGEST: usize = 65_536;
 
-/// The number at the front of the bytes (unsigned LEB128, 32 bits) and what lies behind it; none where it is cut off,
-/// above 4,294,967,295, or longer than it need be.
+/// The number at the front of the bytes (unsigned LEB128, 64 bits) and how many it takes; none where it is cut off,
+/// above 18,446,744,073,709,551,615, or longer than it need be.
 #[inline]
-pub fn number(bytes: &[u8]) -> Option<(u32, &[u8])> {
-    let mut value = 0;
-    for (index, &byte) in bytes.iter().take(5).enumerate() {
-        let group = u32::from(byte & 0x7f);
-        if index == 4 && group > 0x0f {
-            return None;
-        }
-        value |= group << (7 * index);
+pub fn number(bytes: &[u8]) -> Option<(u64, usize)> {
+    let first = *bytes.first()?;
+    if first < 0x80 {
+        return Some((first.into(), 1));
+    }
+    let mut value = u64::from(first & 0x7f);
+    for index in 1..9 {
+        let byte = *bytes.get(index)?;
+        value |= u64::from(byte & 0x7f) << (7 * index);
         if byte < 0x80 {
-            let padded = byte == 0 && index > 0;
-            return if padded { None } else { Some((value, &bytes[index + 1..])) };
+            let padded = byte == 0;
+            return if padded { None } else { Some((value, index + 1)) };
         }
     }
-    None
+    // Nine bytes have 63 bits: a tenth has one.
+    match *bytes.get(9)? {
+        1 => Some((value | 1 << 63, 10)),
+        _ => None,
+    }
+}
+
+/// Takes the number at the front of the bytes off them.
+#[inline]
+fn next_number(bytes: &mut &[u8]) -> Option<u64> {
+    let (value, used) = number(bytes)?;
+    *bytes = &bytes[used..];
+    Some(value)
 }
 
 /// What stands in a record.
 #[derive(Clone, Copy, Debug, PartialEq, Eq)]
 pub enum Record {
     /// A code, and the call that it and its numbers are, or why there is none.
-    Read { code: u32, call: Result<Call, Refusal> },
+    Read { code: u64, call: Result<Call, Refusal> },
     /// A length is malformed or runs past the end: there is no record, and none follows.
     Broken,
 }
@@ -47,8 +60,8 @@ impl<'a> Records<'a> {
 
     /// Cuts the next record's body off.
     fn body(&mut self) -> Option<&'a [u8]> {
-        let (length, rest) = number(self.rest)?;
-        let (body, rest) = rest.split_at_checked(length as usize)?;
+        let length = next_number(&mut self.rest)?;
+        let (body, rest) = self.rest.split_at_checked(usize::try_from(length).ok()?)?;
         self.rest = rest;
         Some(body)
     }
@@ -72,18 +85,18 @@ impl Iterator for Records<'_> {
 }
 
 /// A record's body: code, then the call's numbers. The code is 0 where none was read.
-fn read(body: &[u8]) -> Record {
-    let Some((code, rest)) = number(body) else {
-        return Record::Read { code: 0, call: Err(Refusal::RecordBroken) };
-    };
-    Record::Read { code, call: call(code, rest) }
+fn read(mut body: &[u8]) -> Record {
+    match next_number(&mut body) {
+        Some(code) => Record::Read { code, call: call(code, body) },
+        None => Record::Read { code: 0, call: Err(Refusal::RecordBroken) },
+    }
 }
 
-fn call(code: u32, mut rest: &[u8]) -> Result<Call, Refusal> {
+fn call(code: u64, mut rest: &[u8]) -> Result<Call, Refusal> {
     let count = Call::numbers_of(code).ok_or(Refusal::UnknownCode)?;
     let mut numbers = [0; NUMBERS];
     for value in &mut numbers[..count] {
-        (*value, rest) = number(rest).ok_or(Refusal::RecordBroken)?;
+        *value = next_number(&mut rest).ok_or(Refusal::RecordBroken)?;
     }
     if !rest.is_empty() {
         return Err(Refusal::RecordBroken);
@@ -95,32 +108,39 @@ fn call(code: u32, mut rest: &[u8]) -> Result<Call, Refusal> {
 mod tests {
     use super::*;
 
-    fn value(bytes: &[u8]) -> Option<u32> {
+    fn value(bytes: &[u8]) -> Option<u64> {
         number(bytes).map(|(value, _)| value)
     }
 
     #[test]
     fn numbers_are_read() {
-        assert_eq!(number(&[2, 9]), Some((2, &[9][..])));
-        assert_eq!(number(&[0xb9, 0x64, 7]), Some((12_857, &[7][..])));
+        assert_eq!(number(&[2, 9]), Some((2, 1)));
+        assert_eq!(number(&[0xb9, 0x64, 7]), Some((12_857, 2)));
         assert_eq!(value(&[0x00]), Some(0));
-        assert_eq!(value(&[0xff, 0xff, 0xff, 0xff, 0x0f]), Some(u32::MAX));
+        assert_eq!(value(&[0xff, 0xff, 0xff, 0xff, 0x0f]), Some(u64::from(u32::MAX)));
+        assert_eq!(value(&[0x80, 0x80, 0x80, 0x80, 0x10]), Some(1 << 32));
+        assert_eq!(value(&[0x80, 0x80, 0x80, 0x80, 0x80, 0x80, 0x80, 0x80, 0x80, 0x01]), Some(1 << 63));
+        assert_eq!(value(&[0xff, 0xff, 0xff, 0xff, 0xff, 0xff, 0xff, 0xff, 0x7f]), Some(u64::MAX >> 1));
+        assert_eq!(value(&[0xff, 0xff, 0xff, 0xff, 0xff, 0xff, 0xff, 0xff, 0xff, 0x01]), Some(u64::MAX));
     }
 
     #[test]
     fn malformed_numbers_are_told() {
-        let above = [0xff, 0xff, 0xff, 0xff, 0x1f];
-        let longer_than_need_be = [0x80, 0x00];
-        let six_bytes = [0x80, 0x80, 0x80, 0x80, 0x80, 0x01];
-        for bytes in [&[][..], &[0x80], &above, &longer_than_need_be, &six_bytes] {
+        let nine = [0xff; 9];
+        let (cut_off, longer_than_need_be) = ([0x80], [0x80, 0x00]);
+        for bytes in [&[][..], &cut_off, &nine, &longer_than_need_be] {
             assert_eq!(number(bytes), None, "{bytes:02x?}");
+        }
+        // Longer than need be, above, above with a group more, and ten groups that are not the last.
+        for tail in [&[0x00][..], &[0x02], &[0x03], &[0x7f], &[0x80, 0x00], &[0x81, 0x01], &[0xff]] {
+            assert_eq!(number(&[&nine[..], tail].concat()), None, "{tail:02x?}");
         }
     }
 
     #[test]
     fn records_are_cut_and_read() {
         let broken = |code| Record::Read { code, call: Err(Refusal::RecordBroken) };
-        let cases: [(&[u8], &[Record]); 7] = [
+        let cases: [(&[u8], &[Record]); 8] = [
             (&[], &[]),
             (&[0x80, 0x00], &[Record::Broken]),
             (&[0x00], &[broken(0)]),
@@ -128,6 +148,8 @@ mod tests {
             (&[1, 12, 3, 12, 7, 7], &[broken(12), broken(12)]),
             (&[2, 99, 0x80], &[Record::Read { code: 99, call: Err(Refusal::UnknownCode) }]),
             (&[2, 12], &[Record::Broken]),
+            // A length that is 1 if it is cut to 32 bits.
+            (&[0x81, 0x80, 0x80, 0x80, 0x10, 0], &[Record::Broken]),
         ];
         for (journal, records) in cases {
             assert_eq!(Records::of(journal).collect::<Vec<Record>>(), records, "{journal:02x?}");

@@ -7,7 +7,7 @@
 //!
 //! | module | has |
 //! |---|---|
-//! | [`tables`] | subjects, objects and handles, by number, the marks, the mappings and the freeze |
+//! | [`tables`] | subjects, objects with their numbers, and handles, the marks, the mappings and the freeze |
 //! | [`needs`] | the need of every subject and object |
 //! | [`calls`] | the seventeen calls by code, and what a call is answered with |
 //! | [`refusals`] | what refuses a call's numbers |

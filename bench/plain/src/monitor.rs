@@ -44,7 +44,7 @@ impl Monitor {
     }
 
     /// The direct call: a code and six numbers.
-    pub fn direct(&mut self, code: u32, numbers: [u32; NUMBERS]) -> Answer {
+    pub fn direct(&mut self, code: u64, numbers: [u64; NUMBERS]) -> Answer {
         match Call::new(code, numbers) {
             Some(call) => self.call(call),
             None => Refusal::UnknownCode.into(),
@@ -80,38 +80,38 @@ impl Monitor {
 
 /// The calls.
 impl Monitor {
-    fn admit(&mut self, s: u32, level: u32) -> Result<Answer, Refusal> {
+    fn admit(&mut self, s: u64, level: u64) -> Result<Answer, Refusal> {
         let s = self.tables.new_subject(s)?;
         let level = level_in_range(level)?;
         self.tables.subjects[s] = Some(level);
         Ok(Answer::Allowed(level))
     }
 
-    fn register(&mut self, o: u32, level: u32) -> Result<Answer, Refusal> {
-        let o = self.tables.new_object(o)?;
+    fn register(&mut self, o: u64, level: u64) -> Result<Answer, Refusal> {
+        let slot = self.tables.new_object(o)?;
         let level = level_in_range(level)?;
-        self.tables.objects[o] = Some(Object { kind: Kind::File, level, handles: 0 });
+        self.tables.bring(slot, o, Kind::File, level);
         Ok(Answer::Allowed(level))
     }
 
-    fn create(&mut self, s: u32, o: u32) -> Result<Answer, Refusal> {
+    fn create(&mut self, s: u64, o: u64) -> Result<Answer, Refusal> {
         let (_, level) = self.tables.subject(s)?;
-        let o = self.tables.new_object(o)?;
-        self.tables.objects[o] = Some(Object { kind: Kind::File, level, handles: 0 });
+        let slot = self.tables.new_object(o)?;
+        self.tables.bring(slot, o, Kind::File, level);
         Ok(Answer::Allowed(level))
     }
 
-    fn pipe(&mut self, s: u32, o: u32, r: u32, w: u32) -> Result<Answer, Refusal> {
+    fn pipe(&mut self, s: u64, o: u64, r: u64, w: u64) -> Result<Answer, Refusal> {
         let (s, level) = self.tables.subject(s)?;
-        let o = self.tables.new_object(o)?;
+        let slot = self.tables.new_object(o)?;
         let [r, w] = self.tables.two_empty_places(s, r, w)?;
-        self.tables.objects[o] = Some(Object { kind: Kind::Pipe, level, handles: 0 });
-        self.tables.fill(s, r, o, Direction::Reading);
-        self.tables.fill(s, w, o, Direction::Writing);
+        self.tables.bring(slot, o, Kind::Pipe, level);
+        self.tables.fill(s, r, slot, Direction::Reading);
+        self.tables.fill(s, w, slot, Direction::Writing);
         Ok(Answer::Allowed(level))
     }
 
-    fn open(&mut self, s: u32, o: u32, p: u32, direction: Direction) -> Result<Answer, Refusal> {
+    fn open(&mut self, s: u64, o: u64, p: u64, direction: Direction) -> Result<Answer, Refusal> {
         let (s, _) = self.tables.subject(s)?;
         let (o, object) = self.tables.object(o)?;
         let p = self.tables.empty_place(s, p)?;
@@ -123,13 +123,13 @@ impl Monitor {
         Ok(Answer::Allowed(object.level))
     }
 
-    fn read(&mut self, s: u32, p: u32) -> Result<Answer, Refusal> {
+    fn read(&mut self, s: u64, p: u64) -> Result<Answer, Refusal> {
         let (s, level) = self.tables.subject(s)?;
         let Held { object, .. } = self.tables.held_for(s, p, Direction::Reading)?;
         Ok(fall(level, object.level, |level| self.tables.subjects[s] = Some(level)))
     }
 
-    fn write(&mut self, s: u32, p: u32) -> Result<Answer, Refusal> {
+    fn write(&mut self, s: u64, p: u64) -> Result<Answer, Refusal> {
         let (s, level) = self.tables.subject(s)?;
         let Held { o, object, .. } = self.tables.held_for(s, p, Direction::Writing)?;
         Ok(match object.kind {
@@ -141,7 +141,7 @@ impl Monitor {
         })
     }
 
-    fn fork(&mut self, s: u32, c: u32) -> Result<Answer, Refusal> {
+    fn fork(&mut self, s: u64, c: u64) -> Result<Answer, Refusal> {
         let (s, level) = self.tables.subject(s)?;
         let c = self.tables.new_subject(c)?;
         self.tables.subjects[c] = Some(level);
@@ -155,7 +155,7 @@ impl Monitor {
         Ok(Answer::Allowed(level))
     }
 
-    fn exec(&mut self, s: u32, o: u32) -> Result<Answer, Refusal> {
+    fn exec(&mut self, s: u64, o: u64) -> Result<Answer, Refusal> {
         let (s, level) = self.tables.subject(s)?;
         let (_, object) = self.tables.file(o)?;
         self.ask(|tables| Needs::without_marked(tables, s));
@@ -170,14 +170,14 @@ impl Monitor {
         Ok(fall(level, object.level, |level| self.tables.subjects[s] = Some(level)))
     }
 
-    fn close(&mut self, s: u32, p: u32) -> Result<Answer, Refusal> {
+    fn close(&mut self, s: u64, p: u64) -> Result<Answer, Refusal> {
         let (s, level) = self.tables.subject(s)?;
         let Held { p, .. } = self.tables.held(s, p)?;
         self.tables.empty(s, p);
         Ok(Answer::Allowed(level))
     }
 
-    fn exit(&mut self, s: u32) -> Result<Answer, Refusal> {
+    fn exit(&mut self, s: u64) -> Result<Answer, Refusal> {
         let (s, level) = self.tables.subject(s)?;
         for place in 0..PLACES {
             self.tables.empty(s, place);
@@ -186,16 +186,16 @@ impl Monitor {
         Ok(Answer::Allowed(level))
     }
 
-    fn retire(&mut self, o: u32) -> Result<Answer, Refusal> {
+    fn retire(&mut self, o: u64) -> Result<Answer, Refusal> {
         let (o, object) = self.tables.file(o)?;
         if object.handles > 0 {
             return Err(Refusal::StillOpen);
         }
-        self.tables.objects[o] = None;
+        self.tables.end(o);
         Ok(Answer::Allowed(object.level))
     }
 
-    fn map(&mut self, s: u32, o: u32, p: u32) -> Result<Answer, Refusal> {
+    fn map(&mut self, s: u64, o: u64, p: u64) -> Result<Answer, Refusal> {
         let (s, level) = self.tables.subject(s)?;
         let (o, object) = self.tables.file(o)?;
         let p = self.tables.empty_place(s, p)?;
@@ -205,28 +205,28 @@ impl Monitor {
         Ok(fall(level, object.level, |level| self.tables.subjects[s] = Some(level)))
     }
 
-    fn mark(&mut self, s: u32, p: u32) -> Result<Answer, Refusal> {
+    fn mark(&mut self, s: u64, p: u64) -> Result<Answer, Refusal> {
         let (s, level) = self.tables.subject(s)?;
         let Held { p, .. } = self.tables.held(s, p)?;
         self.tables.mark(s, p);
         Ok(Answer::Allowed(level))
     }
 
-    fn freeze(&mut self, level: u32) -> Result<Answer, Refusal> {
+    fn freeze(&mut self, level: u64) -> Result<Answer, Refusal> {
         self.tables.freeze = freeze_in_range(level)?;
         Ok(Answer::Allowed(self.tables.freeze))
     }
 
     /// Pipe a from s to t and pipe b from t to s, each read at p and written at q.
-    fn connect(&mut self, [s, t]: [u32; 2], [a, b]: [u32; 2], [p, q]: [u32; 2]) -> Result<Answer, Refusal> {
+    fn connect(&mut self, [s, t]: [u64; 2], [a, b]: [u64; 2], [p, q]: [u64; 2]) -> Result<Answer, Refusal> {
         let [(s, level), (t, other)] = self.tables.two_subjects(s, t)?;
-        let [a, b] = self.tables.two_new_objects(a, b)?;
+        let [slot_a, slot_b] = self.tables.two_new_objects(a, b)?;
         let [p, q] = self.tables.two_empty_places(s, p, q).and(self.tables.two_empty_places(t, p, q))?;
         self.test_flow([Place::between(s, t), Place::between(t, s)])?;
-        for (writer, reader, o, level) in [(s, t, a, level), (t, s, b, other)] {
-            self.tables.objects[o] = Some(Object { kind: Kind::Pipe, level, handles: 0 });
-            self.tables.fill(writer, q, o, Direction::Writing);
-            self.tables.fill(reader, p, o, Direction::Reading);
+        for (writer, reader, slot, o, level) in [(s, t, slot_a, a, level), (t, s, slot_b, b, other)] {
+            self.tables.bring(slot, o, Kind::Pipe, level);
+            self.tables.fill(writer, q, slot, Direction::Writing);
+            self.tables.fill(reader, p, slot, Direction::Reading);
         }
         Ok(Answer::Allowed(level))
     }
@@ -269,7 +269,7 @@ impl Monitor {
     }
 
     /// The needs with a handle that is sought.
-    fn needs_with(&self, s: u32, o: u32, direction: Direction) -> Result<Needs, Refusal> {
+    fn needs_with(&self, s: u64, o: u64, direction: Direction) -> Result<Needs, Refusal> {
         let (s, _) = self.tables.subject(s)?;
         let (o, _) = self.tables.object(o)?;
         Ok(Needs::work_out(&self.tables, [Place::of(s, o, direction)]))
@@ -290,8 +290,11 @@ fn fall(from: Level, to: Level, set: impl FnOnce(Level)) -> Answer {
 mod tests {
     use super::*;
 
+    /// Nothing is left of it in 32 bits.
+    const CUT: u64 = 1 << 32;
+
     /// Makes calls on new tables, some allowed and a last one; the answer to that. Numbers that are not given are 0.
-    fn last<const N: usize>(calls: &[(u32, [u32; N])]) -> Answer {
+    fn last<const N: usize>(calls: &[(u64, [u64; N])]) -> Answer {
         let answers = [When::EachCall, When::Asked].map(|when| {
             let mut monitor = Monitor::new(when);
             let answers = calls.iter().map(|&(code, given)| {
@@ -318,9 +321,91 @@ mod tests {
     }
 
     #[test]
+    fn no_number_is_cut() {
+        assert_eq!(last(&[(CUT | 1, [0, 9, 0, 0])]), Answer::Refused(1));
+        assert_eq!(last(&[(1, [CUT, 9, 0, 0])]), Answer::Refused(3));
+        assert_eq!(last(&[(1, [0, CUT, 0, 0])]), Answer::Refused(6));
+        assert_eq!(last(&[(1, [0, CUT | 16, 0, 0])]), Answer::Refused(6));
+        assert_eq!(last(&[(2, [0, CUT, 0, 0])]), Answer::Refused(6));
+        assert_eq!(last(&[(16, [CUT, 0, 0, 0])]), Answer::Refused(6));
+        let start = [(1, [0, 9, 0, 0]), (2, [0, 9, 0, 0]), (5, [0, 0, 0, 0])];
+        let after = |code, numbers| last(&[&start[..], &[(code, numbers)]].concat());
+        for code in (3..=12).chain([14, 15]) {
+            assert_eq!(after(code, [CUT, 0, 0, 0]), Answer::Refused(2), "{code}");
+        }
+        assert_eq!(after(9, [0, CUT | 1, 0, 0]), Answer::Refused(3));
+        for code in [5, 6, 10, 14] {
+            assert_eq!(after(code, [0, CUT, 1, 0]), Answer::Refused(4), "{code}");
+        }
+        assert_eq!(after(13, [CUT, 0, 0, 0]), Answer::Refused(4));
+        for code in [7, 8, 11, 15] {
+            assert_eq!(after(code, [0, CUT, 0, 0]), Answer::Refused(7), "{code}");
+        }
+        for code in [5, 6, 14] {
+            assert_eq!(after(code, [0, 0, CUT | 1, 0]), Answer::Refused(7), "{code}");
+        }
+        assert_eq!(after(4, [0, CUT, CUT | 1, 2]), Answer::Refused(7));
+        assert_eq!(after(4, [0, CUT, 1, CUT | 2]), Answer::Refused(7));
+        // Another object, as it has another number.
+        assert_eq!(after(2, [CUT, 4, 0, 0]), Answer::Allowed(4));
+        assert_eq!(after(4, [0, u64::MAX, 1, 2]), Answer::Allowed(9));
+    }
+
+    /// Subjects 0 of level 9 and 1 of level 8, and this many files from number 1,000 on, each 64 above the last.
+    fn files(count: u64) -> Vec<(u64, [u64; 6])> {
+        let subjects = [(1, [0, 9, 0, 0, 0, 0]), (1, [1, 8, 0, 0, 0, 0])];
+        let files = (0..count).map(|file| (2, [1_000 + 64 * file, 8, 0, 0, 0, 0]));
+        subjects.into_iter().chain(files).collect()
+    }
+
+    #[test]
+    fn sixty_four_objects_are_live_at_a_time() {
+        let register = (2, [7, 16, 0, 0, 0, 0]);
+        let one_more =
+            [register, (3, [0, 7, 0, 0, 0, 0]), (4, [0, 7, 16, 16, 0, 0]), (17, [0, 1, 7, 8, 16, 16])];
+        // It is tested after 3, and before 6 and 7.
+        for (code, numbers) in one_more {
+            let full = files(64);
+            assert_eq!(last(&[&full[..], &[(code, numbers)]].concat()), Answer::Refused(17), "{code}");
+            let mut taken = numbers;
+            taken[usize::from(code != 2) + usize::from(code == 17)] = 1_064;
+            assert_eq!(last(&[&full[..], &[(code, taken)]].concat()), Answer::Refused(3), "{code}");
+        }
+        let retire = (13, [1_064, 0, 0, 0, 0, 0]);
+        let after = |call| last(&[&files(64)[..], &[retire, call]].concat());
+        assert_eq!(after(register), Answer::Refused(6));
+        assert_eq!(after((3, [0, 7, 0, 0, 0, 0])), Answer::Allowed(9));
+        assert_eq!(after((4, [0, 7, 0, 1, 0, 0])), Answer::Allowed(9));
+        assert_eq!(after((17, [0, 1, 7, 8, 0, 1])), Answer::Refused(17));
+        assert_eq!(after((17, [0, 1, 7, 7, 0, 1])), Answer::Refused(3));
+        assert_eq!(after((17, [0, 0, 7, 8, 0, 1])), Answer::Refused(16));
+    }
+
+    #[test]
+    fn what_ends_makes_space() {
+        let connect = (17, [0, 1, 1_064, u64::MAX, 0, 1]);
+        let retire = |o| (13, [o, 0, 0, 0, 0, 0]);
+        let full = [&files(64)[..], &[retire(1_064), retire(1_128), connect]].concat();
+        let after = |calls: &[(u64, [u64; 6])]| last(&[&full[..], calls].concat());
+        let register = |o| (2, [o, 3, 0, 0, 0, 0]);
+        assert_eq!(last(&full), Answer::Allowed(9));
+        assert_eq!(after(&[register(5)]), Answer::Refused(17));
+        assert_eq!(after(&[register(u64::MAX)]), Answer::Refused(3));
+        // A pipe ends with its last handle, and not with its first.
+        assert_eq!(after(&[at(11, 0, 1), register(5)]), Answer::Refused(17));
+        assert_eq!(after(&[at(11, 0, 1), at(11, 1, 0), register(5)]), Answer::Allowed(3));
+        assert_eq!(after(&[at(11, 0, 1), at(11, 1, 0), register(5), register(6)]), Answer::Refused(17));
+        assert_eq!(after(&[(12, [0; 6]), register(5)]), Answer::Refused(17));
+        let exits = [(12, [0; 6]), (12, [1, 0, 0, 0, 0, 0])];
+        assert_eq!(after(&[&exits[..], &[register(5), register(6)]].concat()), Answer::Allowed(3));
+        // The others are where they were.
+        assert_eq!(after(&[at(10, 0, 1_000 + 64 * 63)]), Answer::Lowered(8));
+    }
+
+    #[test]
     fn a_frozen_file_is_not_opened_for_writing() {
         let start = [(1, [0, 9, 0, 0]), (2, [0, 9, 0, 0]), (4, [0, 1, 0, 1])];
-        let after = |calls: &[(u32, [u32; 4])]| last(&[&start[..], calls].concat());
+        let after = |calls: &[(u64, [u64; 4])]| last(&[&start[..], calls].concat());
         let (file, pipe) = ([0, 0, 2, 0], [0, 1, 2, 0]);
         for level in 0..=16 {
             let answer = if level > 9 { Answer::Allowed(9) } else { Answer::Refused(15) };
@@ -338,7 +423,7 @@ mod tests {
     #[test]
     fn the_freeze_is_said_before_the_flow() {
         let start = [(1, [0, 9, 0, 0]), (2, [0, 9, 0, 0]), (4, [0, 1, 0, 1]), (1, [1, 8, 0, 0])];
-        let after = |calls: &[(u32, [u32; 4])]| last(&[&start[..], calls].concat());
+        let after = |calls: &[(u64, [u64; 4])]| last(&[&start[..], calls].concat());
         let (held, freeze) = ((6, [0, 0, 2, 0]), |level| (16, [level, 0, 0, 0]));
         // Subject 1 is below file 0.
         assert_eq!(after(&[freeze(9), (6, [1, 0, 0, 0])]), Answer::Refused(15));
@@ -356,7 +441,7 @@ mod tests {
     #[test]
     fn an_exec_leaves_the_caller_s_marked_handles_out_and_closes_them() {
         let start = [(1, [0, 9, 0, 0]), (2, [0, 9, 0, 0]), (2, [1, 2, 0, 0]), (6, [0, 0, 0, 0])];
-        let after = |calls: &[(u32, [u32; 4])]| last(&[&start[..], calls].concat());
+        let after = |calls: &[(u64, [u64; 4])]| last(&[&start[..], calls].concat());
         let (mark, exec, write) = ((15, [0; 4]), (10, [0, 1, 0, 0]), (8, [0; 4]));
         assert_eq!(after(&[mark]), Answer::Allowed(9));
         assert_eq!(after(&[mark, mark]), Answer::Allowed(9));
@@ -391,7 +476,7 @@ mod tests {
     #[test]
     fn a_map_is_an_open_for_reading_and_a_read() {
         let start = [(1, [0, 9, 0, 0]), (2, [0, 9, 0, 0]), (2, [1, 2, 0, 0]), (4, [0, 5, 14, 15])];
-        let after = |calls: &[(u32, [u32; 4])]| last(&[&start[..], calls].concat());
+        let after = |calls: &[(u64, [u64; 4])]| last(&[&start[..], calls].concat());
         let (high, low) = ((14, [0, 0, 0, 0]), (14, [0, 1, 1, 0]));
         assert_eq!(after(&[high]), Answer::Allowed(9));
         assert_eq!(after(&[low]), Answer::Lowered(2));
@@ -411,7 +496,7 @@ mod tests {
     #[test]
     fn a_write_to_a_mapped_file_lowers_nobody() {
         let start = [(1, [0, 9, 0, 0]), (1, [1, 9, 0, 0]), (2, [0, 2, 0, 0]), (14, [1, 0, 0, 0])];
-        let after = |calls: &[(u32, [u32; 4])]| last(&[&start[..], calls].concat());
+        let after = |calls: &[(u64, [u64; 4])]| last(&[&start[..], calls].concat());
         let (open, write) = ((6, [0, 0, 3, 0]), (8, [0, 3, 0, 0]));
         assert_eq!(after(&[open, write]), Answer::Allowed(2));
         assert_eq!(after(&[open, write, (7, [1, 0, 0, 0])]), Answer::Allowed(2));
@@ -421,7 +506,7 @@ mod tests {
     #[test]
     fn an_exec_closes_the_caller_s_mappings() {
         let start = [(1, [0, 9, 0, 0]), (2, [0, 9, 0, 0]), (2, [1, 2, 0, 0]), (14, [0, 0, 0, 0])];
-        let after = |calls: &[(u32, [u32; 4])]| last(&[&start[..], calls].concat());
+        let after = |calls: &[(u64, [u64; 4])]| last(&[&start[..], calls].concat());
         let (exec, read) = ((10, [0; 4]), (7, [0; 4]));
         assert_eq!(after(&[exec]), Answer::Allowed(9));
         assert_eq!(after(&[exec, read]), Answer::Refused(7));
@@ -437,7 +522,7 @@ mod tests {
     }
 
     /// Subjects 0 of level 9 and 1 of level 2, files 0 of level 9 and 1 of level 2, then these calls.
-    fn after(calls: &[(u32, [u32; 6])]) -> Answer {
+    fn after(calls: &[(u64, [u64; 6])]) -> Answer {
         let start = [
             (1, [0, 9, 0, 0, 0, 0]),
             (1, [1, 2, 0, 0, 0, 0]),
@@ -447,10 +532,10 @@ mod tests {
         last(&[&start[..], calls].concat())
     }
 
-    const CONNECT: (u32, [u32; 6]) = (17, [0, 1, 5, 6, 3, 4]);
+    const CONNECT: (u64, [u64; 6]) = (17, [0, 1, 5, 6, 3, 4]);
 
     /// A call at a place of a subject.
-    fn at(code: u32, s: u32, p: u32) -> (u32, [u32; 6]) {
+    fn at(code: u64, s: u64, p: u64) -> (u64, [u64; 6]) {
         (code, [s, p, 0, 0, 0, 0])
     }
 
@@ -476,15 +561,15 @@ mod tests {
     #[test]
     fn a_connect_is_refused_for_its_numbers_in_order() {
         let connect = |numbers| after(&[(17, numbers)]);
-        for missing in [2, 32] {
+        for missing in [2, 32, CUT] {
             assert_eq!(connect([missing, missing, 64, 64, 16, 16]), Answer::Refused(2));
             assert_eq!(connect([0, missing, 64, 64, 16, 16]), Answer::Refused(2));
         }
         assert_eq!(connect([0, 0, 64, 64, 16, 16]), Answer::Refused(16));
-        for (a, b) in [(64, 6), (5, 64), (0, 6), (5, 1), (5, 5)] {
+        for (a, b) in [(0, 6), (5, 1), (5, 5), (64, 64)] {
             assert_eq!(connect([0, 1, a, b, 16, 16]), Answer::Refused(3));
         }
-        for (p, q) in [(16, 4), (3, 16), (3, 3)] {
+        for (p, q) in [(16, 4), (3, 16), (3, 3), (CUT, 4), (3, CUT)] {
             assert_eq!(connect([0, 1, 5, 6, p, q]), Answer::Refused(7));
         }
         // Places that are in use at one of the two, and then the flow, one way and the other.

@@ -19,7 +19,7 @@ impl Needs {
         self.levels[usize::from(subject_as_thing(s))]
     }
 
-    /// The need of an object.
+    /// The need of the object in a slot.
     pub fn object(&self, o: usize) -> Level {
         self.levels[usize::from(object_as_thing(o))]
     }
@@ -95,15 +95,15 @@ fn raise(need: &mut Level, to: Level, changed: &mut bool) {
 #[cfg(test)]
 mod tests {
     use super::*;
-    use crate::tables::{Direction, Object};
+    use crate::tables::Direction;
 
     /// Subjects 0 to 2 of level 12 in a ring of pipes 0 to 2, s reading pipe s and writing the next one; file 3 of level 9.
     fn ring() -> Tables {
         let mut tables = Tables::EMPTY;
-        tables.objects[3] = Some(Object { kind: Kind::File, level: 9, handles: 0 });
+        tables.bring(3, 3, Kind::File, 9);
         for s in 0..3 {
             tables.subjects[s] = Some(12);
-            tables.objects[s] = Some(Object { kind: Kind::Pipe, level: 12, handles: 0 });
+            tables.bring(s, s as u64, Kind::Pipe, 12);
         }
         for s in 0..3 {
             tables.fill(s, 0, s, Direction::Reading);

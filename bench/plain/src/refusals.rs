@@ -1,9 +1,9 @@
 //! What refuses a call's numbers: each function gives what a number names, or the refusal.
 //!
 //! A call goes through them by rising refusal number, so that the smallest is given; but that 16 comes right after 2,
-//! and 15 just before 9.
+//! 17 right after 3, and 15 just before 9.
 
-use crate::tables::{Direction, Kind, Level, Object, Place, Tables, LEVELS, NO_FREEZE};
+use crate::tables::{slot_among, Direction, Kind, Level, Object, Place, Slots, Tables, LEVELS, NO_FREEZE};
 
 /// Why a call is refused; the number is what the answer gives.
 #[derive(Clone, Copy, Debug, PartialEq, Eq)]
@@ -23,6 +23,12 @@ pub enum Refusal {
     JournalTooLong = 14,
     Frozen = 15,
     SameSubject = 16,
+    TooManyObjects = 17,
+}
+
+/// A number as an index. Where it is too large for one, it is out of every table's range.
+fn index(number: u64) -> usize {
+    usize::try_from(number).unwrap_or(usize::MAX)
 }
 
 /// A handle that is held.
@@ -36,13 +42,14 @@ pub struct Held {
 
 impl Tables {
     /// Refusal 2: the subject that asks is live.
-    pub fn subject(&self, s: u32) -> Result<(usize, Level), Refusal> {
-        let entry = self.subjects.get(s as usize).copied().flatten();
-        entry.map(|level| (s as usize, level)).ok_or(Refusal::NoSubject)
+    pub fn subject(&self, s: u64) -> Result<(usize, Level), Refusal> {
+        let s = index(s);
+        let entry = self.subjects.get(s).copied().flatten();
+        entry.map(|level| (s, level)).ok_or(Refusal::NoSubject)
     }
 
     /// Refusals 2 and 16: two subjects are live, and not the same.
-    pub fn two_subjects(&self, s: u32, t: u32) -> Result<[(usize, Level); 2], Refusal> {
+    pub fn two_subjects(&self, s: u64, t: u64) -> Result<[(usize, Level); 2], Refusal> {
         let subjects = [self.subject(s)?, self.subject(t)?];
         if s == t {
             return Err(Refusal::SameSubject);
@@ -51,38 +58,47 @@ impl Tables {
     }
 
     /// Refusal 3: the number of a new subject is in range and free.
-    pub fn new_subject(&self, s: u32) -> Result<usize, Refusal> {
-        match self.subjects.get(s as usize) {
-            Some(None) => Ok(s as usize),
+    pub fn new_subject(&self, s: u64) -> Result<usize, Refusal> {
+        let s = index(s);
+        match self.subjects.get(s) {
+            Some(None) => Ok(s),
             _ => Err(Refusal::NumberTaken),
         }
     }
 
-    /// Refusal 3: the number of a new object is in range and free.
-    pub fn new_object(&self, o: u32) -> Result<usize, Refusal> {
-        match self.objects.get(o as usize) {
-            Some(None) => Ok(o as usize),
-            _ => Err(Refusal::NumberTaken),
-        }
+    /// Refusals 3 and 17: the number of a new object is free, and so is a slot, which it gets.
+    pub fn new_object(&self, o: u64) -> Result<usize, Refusal> {
+        self.unused(o)?;
+        slot(self.free, o)
     }
 
-    /// Refusal 3: the numbers of two new objects are in range and free, and not the same.
-    pub fn two_new_objects(&self, a: u32, b: u32) -> Result<[usize; 2], Refusal> {
-        let objects = [self.new_object(a)?, self.new_object(b)?];
+    /// Refusals 3 and 17: the numbers of two new objects are free, and not the same, and so are two slots.
+    pub fn two_new_objects(&self, a: u64, b: u64) -> Result<[usize; 2], Refusal> {
+        self.unused(a)?;
+        self.unused(b)?;
         if a == b {
             return Err(Refusal::NumberTaken);
         }
-        Ok(objects)
+        let first = slot(self.free, a)?;
+        Ok([first, slot(self.free & !(1 << first), b)?])
     }
 
-    /// Refusal 4: the object is live.
-    pub fn object(&self, o: u32) -> Result<(usize, Object), Refusal> {
-        let entry = self.objects.get(o as usize).copied().flatten();
-        entry.map(|object| (o as usize, object)).ok_or(Refusal::NoObject)
+    /// Refusal 3: no live object has the number.
+    fn unused(&self, o: u64) -> Result<(), Refusal> {
+        match self.slot_of(o) {
+            None => Ok(()),
+            Some(_) => Err(Refusal::NumberTaken),
+        }
+    }
+
+    /// Refusal 4: the object is live. It is given with its slot.
+    pub fn object(&self, o: u64) -> Result<(usize, Object), Refusal> {
+        let slot = self.slot_of(o).ok_or(Refusal::NoObject)?;
+        self.objects[slot].map(|object| (slot, object)).ok_or(Refusal::NoObject)
     }
 
     /// Refusals 4 and 5: the object is live, and a file.
-    pub fn file(&self, o: u32) -> Result<(usize, Object), Refusal> {
+    pub fn file(&self, o: u64) -> Result<(usize, Object), Refusal> {
         let (o, object) = self.object(o)?;
         match object.kind {
             Kind::File => Ok((o, object)),
@@ -91,15 +107,16 @@ impl Tables {
     }
 
     /// Refusal 7: the place is in range and empty.
-    pub fn empty_place(&self, s: usize, p: u32) -> Result<usize, Refusal> {
-        match self.places[s].get(p as usize) {
-            Some(&Place::EMPTY) => Ok(p as usize),
+    pub fn empty_place(&self, s: usize, p: u64) -> Result<usize, Refusal> {
+        let p = index(p);
+        match self.places[s].get(p) {
+            Some(&Place::EMPTY) => Ok(p),
             _ => Err(Refusal::PlaceUnfit),
         }
     }
 
     /// Refusal 7: two places are in range and empty, and not the same.
-    pub fn two_empty_places(&self, s: usize, p: u32, q: u32) -> Result<[usize; 2], Refusal> {
+    pub fn two_empty_places(&self, s: usize, p: u64, q: u64) -> Result<[usize; 2], Refusal> {
         let places = [self.empty_place(s, p)?, self.empty_place(s, q)?];
         if p == q {
             return Err(Refusal::PlaceUnfit);
@@ -108,15 +125,16 @@ impl Tables {
     }
 
     /// Refusal 7: the place is in range and holds a handle.
-    pub fn held(&self, s: usize, p: u32) -> Result<Held, Refusal> {
-        let (o, direction) =
-            self.places[s].get(p as usize).and_then(|place| place.handle()).ok_or(Refusal::PlaceUnfit)?;
+    pub fn held(&self, s: usize, p: u64) -> Result<Held, Refusal> {
+        let p = index(p);
+        let handle = self.places[s].get(p).and_then(|place| place.handle());
+        let (o, direction) = handle.ok_or(Refusal::PlaceUnfit)?;
         let object = self.objects[o].ok_or(Refusal::PlaceUnfit)?;
-        Ok(Held { p: p as usize, o, object, direction })
+        Ok(Held { p, o, object, direction })
     }
 
     /// Refusals 7 and 8: the same, and the handle is for this direction.
-    pub fn held_for(&self, s: usize, p: u32, direction: Direction) -> Result<Held, Refusal> {
+    pub fn held_for(&self, s: usize, p: u64, direction: Direction) -> Result<Held, Refusal> {
         let held = self.held(s, p)?;
         if held.direction == direction {
             Ok(held)
@@ -135,9 +153,14 @@ impl Tables {
     }
 }
 
+/// Refusal 17: a slot is free; the one that a new object gets.
+fn slot(free: Slots, o: u64) -> Result<usize, Refusal> {
+    slot_among(free, o).ok_or(Refusal::TooManyObjects)
+}
+
 /// Refusal 6: the level is in range.
-pub fn level_in_range(level: u32) -> Result<Level, Refusal> {
-    if (level as usize) < LEVELS {
+pub fn level_in_range(level: u64) -> Result<Level, Refusal> {
+    if level < LEVELS as u64 {
         Ok(level as Level)
     } else {
         Err(Refusal::LevelTooHigh)
@@ -145,8 +168,8 @@ pub fn level_in_range(level: u32) -> Result<Level, Refusal> {
 }
 
 /// Refusal 6: a level to freeze from is in range, or there is none.
-pub fn freeze_in_range(level: u32) -> Result<Level, Refusal> {
-    if level <= u32::from(NO_FREEZE) {
+pub fn freeze_in_range(level: u64) -> Result<Level, Refusal> {
+    if level <= u64::from(NO_FREEZE) {
         Ok(level as Level)
     } else {
         Err(Refusal::LevelTooHigh)

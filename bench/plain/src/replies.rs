@@ -25,7 +25,7 @@ pub fn replies(journal: &[u8], when: When, text: &mut Vec<u8>) {
 }
 
 /// Position, code, A, L or R, and the level or refusal number.
-fn line(text: &mut Vec<u8>, position: u64, code: u32, answer: Answer) {
+fn line(text: &mut Vec<u8>, position: u64, code: u64, answer: Answer) {
     let (letter, value) = match answer {
         Answer::Allowed(level) => (b'A', level),
         Answer::Lowered(level) => (b'L', level),
@@ -33,7 +33,7 @@ fn line(text: &mut Vec<u8>, position: u64, code: u32, answer: Answer) {
     };
     decimal(text, position);
     text.push(b' ');
-    decimal(text, code.into());
+    decimal(text, code);
     text.extend_from_slice(&[b' ', letter, b' ']);
     decimal(text, value.into());
     text.push(b'\n');
@@ -84,6 +84,8 @@ mod tests {
         assert_eq!(reply(&[]), "end 0 0 0\n");
         assert_eq!(reply(&[0x80, 0x00]), "1 0 R 11\nend 0 0 0\n");
         assert_eq!(reply(&[0x00, 2, 99, 5]), "1 0 R 12\n2 99 R 1\nend 0 0 0\n");
+        // Code 2^32 + 1 is not cut to 1.
+        assert_eq!(reply(&[7, 0x81, 0x80, 0x80, 0x80, 0x10, 0, 9]), "1 4294967297 R 1\nend 0 0 0\n");
         assert_eq!(reply(&[0; LONGEST + 1]), "1 0 R 14\nend 0 0 0\n");
     }
 

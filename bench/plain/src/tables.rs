@@ -1,6 +1,9 @@
-//! The tables: subjects, objects and handles, by number, the marks, the mappings, the freeze, and the tally of handles.
+//! The tables: subjects by number, objects by slot, handles by subject and place, the marks, the mappings, the freeze, and
+//! the tally of handles.
+//!
+//! A live object has one of 64 slots and any number. Inside, it goes by its slot.
 
-/// How many there are of each.
+/// How many there are of each; of objects, how many are live at a time.
 pub const SUBJECTS: usize = 32;
 pub const OBJECTS: usize = 64;
 pub const PLACES: usize = 16;
@@ -35,7 +38,7 @@ pub enum Direction {
     Writing,
 }
 
-/// A subject or an object as one number: the subjects, then the objects.
+/// A subject or an object as one number: the subjects, then the objects by slot.
 pub type Thing = u8;
 
 pub fn subject_as_thing(s: usize) -> Thing {
@@ -100,13 +103,37 @@ impl Tally {
 /// Places of one subject, place p as bit p.
 pub type Places = u16;
 
+/// Slots of objects, slot i as bit i.
+pub type Slots = u64;
+
+/// The slot where an object's number is looked for first, and that a new object gets where it is free.
+fn first_guess(o: u64) -> usize {
+    (o % OBJECTS as u64) as usize
+}
+
+/// The slot that a new object gets of those that are free: the first guess, or else the lowest.
+pub fn slot_among(free: Slots, o: u64) -> Option<usize> {
+    let guess = first_guess(o);
+    if free >> guess & 1 == 1 {
+        Some(guess)
+    } else {
+        (free != 0).then_some(free.trailing_zeros() as usize)
+    }
+}
+
 /// Every table. A subject that is not live holds no handle, every handle's object is live, and an empty place has no
-/// mark and is no mapping. A mapping is a reading handle on a file that its subject is not above.
+/// mark and is no mapping. A mapping is a reading handle on a file that its subject is not above. No two live objects
+/// have the same number.
 #[derive(Clone, Debug, PartialEq, Eq)]
 pub struct Tables {
     /// The levels of the live subjects; none for a number that is free.
     pub subjects: [Option<Level>; SUBJECTS],
+    /// The live objects, by slot; none for a slot that is free.
     pub objects: [Option<Object>; OBJECTS],
+    /// Their numbers, by slot. That of a free slot says nothing.
+    pub numbers: [u64; OBJECTS],
+    /// The slots that are free.
+    pub free: Slots,
     /// By subject, then by place.
     pub places: [[Place; PLACES]; SUBJECTS],
     /// The places with a marked handle, by subject: an exec closes those.
@@ -122,12 +149,37 @@ impl Tables {
     pub const EMPTY: Tables = Tables {
         subjects: [None; SUBJECTS],
         objects: [None; OBJECTS],
+        numbers: [0; OBJECTS],
+        free: Slots::MAX,
         places: [[Place::EMPTY; PLACES]; SUBJECTS],
         marks: [0; SUBJECTS],
         maps: [0; SUBJECTS],
         freeze: NO_FREEZE,
         tally: Tally { made: 0, gone: 0 },
     };
+
+    /// The slot of the live object with a number: the first guess, or else a scan finds it.
+    pub fn slot_of(&self, o: u64) -> Option<usize> {
+        let has = |slot: usize| self.numbers[slot] == o && self.objects[slot].is_some();
+        let guess = first_guess(o);
+        if has(guess) {
+            return Some(guess);
+        }
+        (0..OBJECTS).find(|&slot| has(slot))
+    }
+
+    /// A new object, without handles, in a free slot.
+    pub fn bring(&mut self, slot: usize, o: u64, kind: Kind, level: Level) {
+        self.objects[slot] = Some(Object { kind, level, handles: 0 });
+        self.numbers[slot] = o;
+        self.free &= !(1 << slot);
+    }
+
+    /// The object is gone, and its number and slot are free.
+    pub fn end(&mut self, slot: usize) {
+        self.objects[slot] = None;
+        self.free |= 1 << slot;
+    }
 
     /// Places a handle on a live object at an empty place of a live subject. It has no mark and is no mapping.
     pub fn fill(&mut self, s: usize, p: usize, o: usize, direction: Direction) {
@@ -168,18 +220,16 @@ impl Tables {
         places
     }
 
-    /// Empties a place; a mark or a mapping goes with its handle. A pipe ends, and its number is free, when its last
-    /// handle goes.
+    /// Empties a place; a mark or a mapping goes with its handle. A pipe ends when its last handle goes.
     pub fn empty(&mut self, s: usize, p: usize) {
         let Some((o, _)) = self.places[s][p].handle() else { return };
         self.places[s][p] = Place::EMPTY;
         self.marks[s] &= !(1 << p);
         self.maps[s] &= !(1 << p);
-        let entry = &mut self.objects[o];
-        if let Some(object) = entry {
+        if let Some(object) = &mut self.objects[o] {
             object.handles -= 1;
             if object.kind == Kind::Pipe && object.handles == 0 {
-                *entry = None;
+                self.end(o);
             }
         }
         self.tally.gone = self.tally.gone.wrapping_add(1);
@@ -201,10 +251,34 @@ mod tests {
     }
 
     #[test]
+    fn an_object_gets_the_slot_of_its_number_or_else_the_lowest() {
+        assert_eq!(slot_among(Slots::MAX, u64::MAX), Some(63));
+        assert_eq!(slot_among(!(1 << 63), u64::MAX), Some(0));
+        assert_eq!(slot_among(1 << 40, 3), Some(40));
+        assert_eq!(slot_among(0, 3), None);
+    }
+
+    #[test]
+    fn an_object_is_found_by_its_number() {
+        let mut tables = Tables::EMPTY;
+        assert_eq!(tables.slot_of(0), None);
+        // In the slot of its number, and in another one.
+        tables.bring(3, 3, Kind::File, 9);
+        tables.bring(0, 1 << 32 | 3, Kind::File, 9);
+        assert_eq!([3, 1 << 32 | 3, 67, 0].map(|o| tables.slot_of(o)), [Some(3), Some(0), None, None]);
+        // A number that is free and brought again elsewhere.
+        tables.end(3);
+        tables.end(0);
+        assert_eq!([3, 1 << 32 | 3].map(|o| tables.slot_of(o)), [None; 2]);
+        tables.bring(63, 3, Kind::Pipe, 9);
+        assert_eq!([3, 1 << 32 | 3].map(|o| tables.slot_of(o)), [Some(63), None]);
+    }
+
+    #[test]
     fn a_mark_goes_with_its_handle() {
         let mut tables = Tables::EMPTY;
         tables.subjects[31] = Some(9);
-        tables.objects[5] = Some(Object { kind: Kind::File, level: 9, handles: 0 });
+        tables.bring(5, 5, Kind::File, 9);
         for p in [0, 15] {
             tables.fill(31, p, 5, Direction::Writing);
             assert!(!tables.is_marked(31, p));
@@ -222,7 +296,7 @@ mod tests {
     fn a_mapping_goes_with_its_handle() {
         let mut tables = Tables::EMPTY;
         tables.subjects[31] = Some(9);
-        tables.objects[5] = Some(Object { kind: Kind::File, level: 9, handles: 0 });
+        tables.bring(5, 5, Kind::File, 9);
         for p in [0, 15] {
             tables.fill(31, p, 5, Direction::Reading);
             assert!(!tables.ends_at_exec(31, p));
@@ -240,13 +314,15 @@ mod tests {
         for (kind, left) in [(Kind::Pipe, false), (Kind::File, true)] {
             let mut tables = Tables::EMPTY;
             tables.subjects[0] = Some(9);
-            tables.objects[5] = Some(Object { kind, level: 9, handles: 0 });
+            tables.bring(5, u64::MAX, kind, 9);
             tables.fill(0, 0, 5, Direction::Reading);
             tables.fill(0, 1, 5, Direction::Writing);
             tables.empty(0, 0);
             assert_eq!(tables.objects[5], Some(Object { kind, level: 9, handles: 1 }));
             tables.empty(0, 1);
             assert_eq!(tables.objects[5].is_some(), left);
+            assert_eq!(tables.slot_of(u64::MAX), left.then_some(5));
+            assert_eq!(tables.free, if left { !(1 << 5) } else { Slots::MAX });
             assert_eq!(tables.tally, Tally { made: 2, gone: 2 });
         }
     }

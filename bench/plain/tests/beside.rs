@@ -69,7 +69,7 @@ impl Pair {
         Pair { plain: Monitor::new(when), independent: MonitorBeside::new() }
     }
 
-    fn call(&mut self, code: u32, numbers: Numbers) -> Answer {
+    fn call(&mut self, code: u64, numbers: Numbers) -> Answer {
         let before = self.plain.tables().clone();
         let answer = self.plain.direct(code, numbers);
         assert_eq!(
@@ -80,7 +80,7 @@ impl Pair {
         let (tally, tally_beside) = (self.plain.tally(), self.independent.tally());
         assert_eq!((tally.made, tally.gone), (tally_beside.made, tally_beside.gone));
         assert_eq!(tally.open(), self.independent.tables().handle_count());
-        assert_eq!(u32::from(self.plain.tables().freeze), self.independent.tables().freeze());
+        assert_eq!(u64::from(self.plain.tables().freeze), self.independent.tables().freeze());
         self.compare_handles();
         self.compare_levels();
         if let Answer::Refused(_) = answer {
@@ -106,28 +106,40 @@ impl Pair {
     fn compare_levels(&self) {
         let (plain, tables) = (self.plain.tables(), self.independent.tables());
         for (s, level) in (0..).zip(plain.subjects) {
-            assert_eq!(level.map(u32::from), tables.subject(s).map(|subject| subject.level), "subject {s}");
+            assert_eq!(level.map(u64::from), tables.subject(s).map(|subject| subject.level), "subject {s}");
         }
-        for (o, entry) in (0..).zip(plain.objects) {
-            let level = entry.map(|object| u32::from(object.level));
+        let mut live = 0;
+        for (slot, o) in self.objects() {
+            let level = plain.objects[slot].map(|object| u64::from(object.level));
             assert_eq!(level, tables.object(o).map(|object| object.level), "object {o}");
+            assert_eq!(plain.slot_of(o), Some(slot), "object {o}");
+            live += 1;
         }
+        assert_eq!(live, tables.live_objects().count());
+        assert_eq!(live, plain.free.count_zeros() as usize);
+    }
+
+    /// The slots in use, each with its object's number.
+    fn objects(&self) -> impl Iterator<Item = (usize, u64)> {
+        let tables = self.plain.tables().clone();
+        let numbers = tables.numbers.into_iter().enumerate();
+        numbers.filter(move |&(slot, _)| tables.objects[slot].is_some())
     }
 
     /// Sees that the needs worked out last are those of the tables.
     fn compare_needs(&self) {
         let needs = Needs::of_tables(self.independent.tables());
         for s in 0..32 {
-            assert_eq!(u32::from(self.plain.needs().subject(s)), needs.of(Thing::Subject(s as u32)));
+            assert_eq!(u64::from(self.plain.needs().subject(s)), needs.of(Thing::Subject(s as u64)));
         }
-        for o in 0..64 {
-            assert_eq!(u32::from(self.plain.needs().object(o)), needs.of(Thing::Object(o as u32)));
+        for (slot, o) in self.objects() {
+            assert_eq!(u64::from(self.plain.needs().object(slot)), needs.of(Thing::Object(o)));
         }
     }
 }
 
 /// The calls of a generated journal; records that hold none are left out.
-fn calls_of(journal: &[u8]) -> Vec<(u32, Numbers)> {
+fn calls_of(journal: &[u8]) -> Vec<(u64, Numbers)> {
     let mut reader = Reader::new(journal, Rules::default());
     let mut calls = Vec::new();
     while let Some(Ok(span)) = reader.next_record() {
@@ -146,19 +158,21 @@ fn direct_calls_get_the_same_answers_and_needs() {
             let mut pair = Pair::new(When::EachCall);
             for (code, numbers) in calls_of(&journal) {
                 pair.call(code, numbers);
-                // Code 13 for an object out of range: a refused call that seeks no handle.
-                pair.call(13, [64, 0, 0, 0, 0, 0]);
+                // Code 12 for a subject out of range: a refused call that seeks no handle.
+                pair.call(12, [32, 0, 0, 0, 0, 0]);
                 pair.compare_needs();
             }
         }
     }
 }
 
-/// A number of a call: mostly small, sometimes just in or out of a range, sometimes any.
-fn drawn(random: &mut Random) -> u32 {
-    match random.below(12) {
-        0 => random.pick(&[15, 16, 31, 32, 63, 64]).unwrap_or(0),
-        1 => random.between(0, u32::MAX - 1),
+/// A number of a call: mostly small, sometimes just in or out of a range, sometimes one of those that are small if they
+/// are cut to 32 bits, and hardly ever any.
+fn drawn(random: &mut Random) -> u64 {
+    match random.below(120) {
+        0 => random.between(0, u64::MAX),
+        1..10 => random.pick(&[15, 16, 31, 32, 63, 64, 1 << 32, u64::MAX]).unwrap_or(0),
+        10..30 => 1 << 32 | 64 * random.below(200),
         _ => random.below(9),
     }
 }
@@ -169,16 +183,16 @@ fn any_numbers_get_the_same_answers() {
     for when in BOTH {
         let mut random = Random::new(SEED, 0);
         let mut pair = Pair::new(when);
-        let mut refused = [0; 17];
+        let mut refused = [0; 18];
         for _ in 0..CALLS {
             let code = random.between(0, largest + 1);
-            let numbers = [0; NUMBERS].map(|_: u32| drawn(&mut random));
+            let numbers = [0; NUMBERS].map(|_: u64| drawn(&mut random));
             if let Answer::Refused(number) = pair.call(code, numbers) {
                 refused[usize::from(number)] += 1;
             }
         }
         // 11 to 14 are not said of a direct call.
-        let drawn = (1..=16).filter(|&number| refused[number] > 0);
-        assert!(drawn.eq((1..=10).chain([15, 16])), "a refusal was never drawn: {refused:?}");
+        let drawn = (1..=17).filter(|&number| refused[number] > 0);
+        assert!(drawn.eq((1..=10).chain([15, 16, 17])), "a refusal was never drawn: {refused:?}");
     }
 }

@@ -8,21 +8,23 @@ use Prim.Native.Nat.{ℕ, _+_, _<_}
 use native.Mathlib.Omega.{arith}
 use native.Mathlib.Decide.{decLt}
 use borrow.Author.Tests.{lt-ltb, le-ltb, le-leb, lt-leb}
-use lib.ListN.{getD}
-use lib.Dec.{T, leb, ltb, ltb→lt, lt→ltb, eqb}
-use Rattle.model.specs.Bools.{both, or-cases, or-left, or-right}
+use lib.ListN.{length, getD}
+use lib.Dec.{T, T-not, leb, ltb, ltb→lt, lt→ltb, eqb}
+use Rattle.model.specs.Bools.{test, both, or-cases, or-left, or-right}
 use Rattle.model.specs.Lists.{In}
 use Rattle.model.specs.Label.{Label, leq, label}
 use Rattle.model.specs.Label.Laws.{leq-levels, level-label}
 use Rattle.model.specs.Flow.{Thing, subject, object}
-use Rattle.model.specs.Tables.{Kind, running, file, pipe, Entry, entry, Tables, in-range, used, live, label-of, things, needs, safe}
-use Rattle.model.specs.Tables.Laws.{used-is, some-is, thing-listed, listed-thing, not-safe}
+use Rattle.model.specs.Tables.{Kind, running, file, pipe, Entry, entry, Tables, in-range, used, live, label-of, handles, open-on, things, needs, safe}
+use Rattle.model.specs.Tables.Laws.{used-is, some-is, Stands, thing-listed, listed-thing, not-safe}
 use Rattle.model.specs.Invariant.{Wf}
+use Rattle.model.specs.Calls.Sound.{idle-need}
 use Rattle.tables.specs.declared.Subject.{Subject}
 use Rattle.tables.specs.declared.Object.{Object}
 use Rattle.tables.specs.declared.Handle.{Handle}
 use Rattle.tables.specs.Records.{subject-entry, object-entry, no-subject, no-object, tables-of}
 use Rattle.model.specs.Figures.{Ready}
+use Rattle.tables.specs.Records.Laws.{slot-low}
 use Rattle.tables.specs.Needs.{node, figure-of}
 use Rattle.tables.specs.Working.{some-below}
 use Rattle.passes.specs.Working.{low-by, short-subject, short-object}
@@ -60,7 +62,7 @@ object-as x v = low-as (eqb (x .kind) 0) (cond (eqb (x .kind) 1) file pipe) (x .
 
 -- ── all things ──
 module _ (rest : Tables) (ss : List Subject) (os : List Object) (hs : List Handle) (n : List ℕ) (w : Wf (tables-of rest ss os hs))
-    (d : Ready (tables-of rest ss os hs) (figure-of n)) where
+    (d : Ready (tables-of rest ss os hs) (figure-of n)) (lo : length os ≡ 64) where
   abbrev t : Tables
   t = tables-of rest ss os hs
 
@@ -79,10 +81,19 @@ module _ (rest : Tables) (ss : List Subject) (os : List Object) (hs : List Handl
   lives : (x : Thing) (e : Entry) → T (in-range x) → t .at x ≡ some e → T (live t x)
   lives x e g q = both (in-range x) (used t x) g (subst T (sym (used-is t x)) (some-is q))
 
+  -- what has too low a level is listed: an object on which no handle is needs no more than its own
+  stands : (x : Thing) → T (in-range x) → Low (getD n (node x) 0) (t .at x) → Stands t x
+  stands (subject i) g r = g
+  stands (object i) g r = elim (test (open-on (handles t) i)) [
+    | inl o ↦ o
+    | inr o ↦ absurd (T-not (leq (label (getD n (32 + i) 0)) (r .0 .label)) (r .2) (subst (λ (a : Label). T (leq a (r .0 .label))) (sym (d .need-is (object i) (lives (object i) (r .0) g (r .1))))
+        (idle-need t i (r .0) (r .1) o .tested)))
+  ]
+
   offends : (x : Thing) → T (in-range x) → Low (getD n (node x) 0) (t .at x) → T (not (safe t))
   offends x g r = not-safe t .1 (
     x,
-    thing-listed t x (r .0) g (r .1),
+    thing-listed t x (r .0) (stands x g r) (r .1),
     subst (Lacks x) (sym (r .1))
         (subst (λ (a : Label). T (not (leq a (r .0 .label)))) (d .need-is x (lives x (r .0) g (r .1))) (r .2)),
   )
@@ -96,7 +107,7 @@ module _ (rest : Tables) (ss : List Subject) (os : List Object) (hs : List Handl
   to-either (subject i) g r = or-left (some-below 32 fs) (some-below 64 fo)
       (below-some 32 fs i (ltb→lt i 32 g) (subject-as (getD ss i no-subject) (getD n i 0) .1 r))
   to-either (object i) g r = or-right (some-below 32 fs) (some-below 64 fo)
-      (below-some 64 fo i (ltb→lt i 64 g) (object-as (getD os i no-object) (getD n (32 + i) 0) .1 r))
+      (below-some 64 fo i (slot-low rest ss os hs lo t i refl (lives (object i) (r .0) tt (r .1))) (object-as (getD os i no-object) (getD n (32 + i) 0) .1 r))
 
   of-either : T either → T (not (safe t))
   unfolding tables-of fs fo
@@ -106,7 +117,7 @@ module _ (rest : Tables) (ss : List Subject) (os : List Object) (hs : List Handl
       go (inl a) = let r = some-of-below 32 fs a in
           offends (subject (r .0)) (lt→ltb (r .0) 32 (r .1)) (subject-as (getD ss (r .0) no-subject) (getD n (r .0) 0) .0 (r .2))
       go (inr a) = let r = some-of-below 64 fo a in
-          offends (object (r .0)) (lt→ltb (r .0) 64 (r .1)) (object-as (getD os (r .0) no-object) (getD n (32 + r .0) 0) .0 (r .2))
+          offends (object (r .0)) tt (object-as (getD os (r .0) no-object) (getD n (32 + r .0) 0) .0 (r .2))
 
   short-is : either ≡ not (safe t)
   short-is = same-test either (not (safe t)) of-either

@@ -9,24 +9,25 @@ use Prim.Native.Nat.{ℕ, _<_}
 use native.Mathlib.Omega.{arith}
 use native.Mathlib.Decide.{decLt}
 use native.Mathlib.Nat.{le-refl}
-use borrow.Author.Tests.{lt-ltb, le-ltb, ltb-true, ltb-false}
-use lib.Dec.{T, T-not, eqb, eqb→eq, ltb, ltb→lt}
+use borrow.Author.Tests.{lt-ltb, le-ltb, le-leb, ltb-true, ltb-false}
+use lib.Dec.{T, T-not, eqb, eqb→eq, leb, ltb, ltb→lt}
 use Rattle.model.specs.Bools.{is-true, neither, not-not, cond-no}
 use Rattle.model.specs.Lists.{In}
 use Rattle.model.specs.Label.{Label, leq, _⊑_, meet, label, level}
 use Rattle.model.specs.Label.Laws.{⊑-refl, level-label, le→⊑, not-least-is-below, meet-stays, meet-falls}
 use Rattle.model.specs.Flow.{Thing, subject, object, same}
 use Rattle.model.specs.Flow.Laws.{same→eq, same-refl}
-use Rattle.model.specs.Tables.{Kind, running, file, pipe, Dir, reading, writing, Entry, entry, handle, mapping, with-mark, Tables, with-at, with-hand, with-freeze, subjects, places, in-range, is-some, live, label-of, a-file, cell, handles, open-on}
+use Rattle.model.specs.Tables.{Kind, running, file, pipe, Dir, reading, writing, Entry, entry, handle, mapping, with-mark, Tables, with-at, with-hand, with-freeze, subjects, places, is-some, live, label-of, a-file, cell, handles, open-on}
 use Rattle.model.specs.Tables.{Handle as Held}
-use Rattle.model.specs.Tables.Laws.{live-of, used-is, cell-self, handles-by, handles-at, open-here, open-at}
+use Rattle.model.specs.Tables.Laws.{Stands, live-of, used-is, cell-self, handles-by, handles-at, open-here, open-at}
 use Rattle.model.specs.Steps.{Step, put, row, place, sunk, fall, applies, ended, reap}
 use Rattle.model.specs.Steps.Laws.{sink-one, put-cases, put-same, put-apart, place-other, place-apart, ended-subject, reap-more, file-keeps}
 use Rattle.model.specs.Invariant.{Wf}
-use Rattle.model.specs.Calls.{Call, admit, register, create, make-pipe, opens, access, fork, exec, close, exit, retire, maps, mark, freeze, connect, target, rereads, marking, lasting, sheds, channel, steps, effect, Test, alive, new, present, vacant, taken, apart, unlike, others, broken, tests, refusal, level-at, shown, refused, allowed, lowers, last-label, outcome, said, answer}
+use Rattle.model.specs.Calls.{Call, admit, register, create, make-pipe, opens, access, fork, exec, close, exit, retire, maps, mark, freeze, connect, target, rereads, marking, lasting, sheds, channel, steps, stepped, effect, Test, roomy, alive, new, present, vacant, taken, apart, unlike, others, broken, tests, refusal, level-at, shown, refused, allowed, lowers, last-label, outcome, said, answer}
 use Rattle.model.specs.Calls.{Answer as Told}
 use Rattle.model.specs.Calls.Refusals.{allowed-iff}
 use Rattle.model.specs.Calls.Moving.{reread-by, rereads-none, rereads-file, None-lower, lowers-none, lowers-one}
+use Rattle.model.specs.Calls.Listed.{said-effect}
 use Rattle.model.specs.Calls.Passed.{is-alive, is-present, is-new, is-place}
 use Rattle.tables.specs.declared.Subject.{Subject}
 use Rattle.tables.specs.declared.Object.{Object}
@@ -38,14 +39,14 @@ use Rattle.tables.specs.Working.{fallen-by, sunken-by}
 pub record Does (t : Tables) (c : Call) (a : Told) (u : Tables) : Type 0 where
   pub free : refusal t c ≡ none
   pub answered : a ≡ answer t c
-  pub made : u ≡ effect t c
+  pub made : u ≡ stepped t c
 
-does : (t : Tables) (c : Call) (a : Told) (u : Tables) → refusal t c ≡ none → a ≡ said t (effect t c) (shown t c) → u ≡ effect t c
+does : (t : Tables) (c : Call) (a : Told) (u : Tables) → refusal t c ≡ none → a ≡ said t (stepped t c) (shown t c) → u ≡ stepped t c
     → Does t c a u
 unfolding answer
 does t c a u e q v = record {
   free = e;
-  answered = q ∙ sym (ap (λ (o : Option ℕ). elim o as (λ _. Told) [ none ↦ said t (effect t c) (shown t c) | some n ↦ refused n ]) e);
+  answered = q ∙ sym (said-effect t c (shown t c)) ∙ sym (ap (λ (o : Option ℕ). elim o as (λ _. Told) [ none ↦ said t (effect t c) (shown t c) | some n ↦ refused n ]) e);
   made = v;
 }
 
@@ -75,6 +76,13 @@ full-held h k q = go (eqb (h .way) 0) q
     go true z = absurd (Option·none-ne-some k z)
     go false z = refl
 
+pub not-leb : (a b : ℕ) → T (not (leb a b)) → b < a
+not-leb a b h = go (decLt b a)
+  where
+    go : Dec (b < a) → b < a
+    go (yes l) = l
+    go (no l) = absurd (T-not (leb a b) h (subst T (sym (le-leb a b (omega arith))) tt))
+
 module _ (t : Tables) (c : Call) (e : refusal t c ≡ none) where
   -- ── a live subject ──
   module _ (s : ℕ) (i : In (alive s) (tests c)) where
@@ -103,9 +111,6 @@ module _ (t : Tables) (c : Call) (e : refusal t c ≡ none) where
 
   -- ── a live object ──
   module _ (o : ℕ) (l : T (live t (object o))) where
-    pub live-low : o < 64
-    live-low = ltb→lt o 64 (live-of t (object o) l .0)
-
     module _ (y : Object) (q : t .at (object o) ≡ object-entry y) where
       thing-full : (t .at (object o) ≡ some (entry (cond (eqb (y .kind) 1) file pipe) (label (y .level)))) × (eqb (y .kind) 0 ≡ false)
       thing-full = full (eqb (y .kind) 0) _ (t .at (object o)) q (subst T (used-is t (object o)) (live-of t (object o) l .1))
@@ -125,8 +130,9 @@ module _ (t : Tables) (c : Call) (e : refusal t c ≡ none) where
   pub new-row : (s : ℕ) → In (new (subject s)) (tests c) → s < 32
   new-row s i = ltb→lt s 32 (is-new t (subject s) (passed t c e (new (subject s)) i) .0)
 
-  pub new-column : (o : ℕ) → In (new (object o)) (tests c) → o < 64
-  new-column o i = ltb→lt o 64 (is-new t (object o) (passed t c e (new (object o)) i) .0)
+  -- where there is room, a new object's slot is one of the 64
+  pub new-column : (o : ℕ) → In (new (object o)) (tests c) → In (roomy 1) (tests c) → (t .at (object o) ≡ none → broken t (roomy 1) ≡ leb 64 o) → o < 64
+  new-column o i j f = not-leb 64 o (subst (λ (b : Bool). T (not b)) (f (fresh (object o) i)) (passed t c e (roomy 1) j))
 
   -- ── places ──
   module _ (s p : ℕ) where
@@ -158,22 +164,20 @@ left-over true o d q = absurd (Option·none-ne-some d q)
 left-over false o d q = q
 
 -- x shows level l, and u is what the call makes
-plain : (t : Tables) (c : Call) (x : Thing) (l : ℕ) (u : Tables) → refusal t c ≡ none → effect t c ≡ u → shown t c ≡ level-at x
+plain : (t : Tables) (c : Call) (x : Thing) (l : ℕ) (u : Tables) → refusal t c ≡ none → stepped t c ≡ u → shown t c ≡ level-at x
     → ((x : Thing) (d : Entry) → u .at x ≡ some d → (t .at x ≡ some d) ⊎ (t .at x ≡ none)) → last-label (t .at x) (u .at x) ≡ label l → Does t c (allowed l) u
-plain t c x l u e is z n q = does t c (allowed l) u e (sym (ap (said t (effect t c)) z ∙ ap (λ (v : Tables). said t v (level-at x)) is
+plain t c x l u e is z n q = does t c (allowed l) u e (sym (ap (said t (stepped t c)) z ∙ ap (λ (v : Tables). said t v (level-at x)) is
     ∙ ap₂ outcome (lowers-none t u (none-smaller t u n)) (ap level q ∙ level-label l))) (sym is)
 
 -- ── steps that leave the handles as they are ──
 steady : (t : Tables) (a : Thing → Option Entry) → reap (handles t) (with-at t a) ≡ with-at t a
 steady t a = reap-more t (with-at t a) (λ n h. subst (λ (hs : List Held). T (open-on hs n)) (sym (handles-at t a)) h)
 
-effect-at : (t : Tables) (c : Call) (a : Thing → Option Entry) → applies (steps t c) t ≡ with-at t a → effect t c ≡ with-at t a
-unfolding effect
+effect-at : (t : Tables) (c : Call) (a : Thing → Option Entry) → applies (steps t c) t ≡ with-at t a → stepped t c ≡ with-at t a
 effect-at t c a q = ap (reap (handles t)) q ∙ steady t a
 
 -- ── the freeze ──
 pub freeze-does : (t : Tables) (n : ℕ) → refusal t (freeze n) ≡ none → Does t (freeze n) (allowed n) (with-freeze t n)
-unfolding effect
 freeze-does t n e = does t (freeze n) (allowed n) (with-freeze t n) e refl
     (sym (reap-more t (with-freeze t n) (λ o h. subst (λ (hs : List Held). T (open-on hs o)) (handles-by t (with-freeze t n) refl) h)))
 
@@ -232,7 +236,6 @@ joined : (t : Tables) (c : Call) (x : Thing) (k : Kind) (l : ℕ) (h : ℕ → �
     → applies (steps t c) t ≡ with-hand (with-at t (put (t .at) x (some (entry k (label l))))) h → shown t c ≡ level-at x → t .at x ≡ none
     → ((s p : ℕ) (j : Held) → t .hand s p ≡ some j → h s p ≡ some j)
     → Does t c (allowed l) (with-hand (with-at t (put (t .at) x (some (entry k (label l))))) h)
-unfolding effect
 joined t c x k l h e q z b m = plain t c x l u e (ap (reap (handles t)) q ∙ reap-more t u (more-open t u m)) z (new-one t x v b)
     (ap (last-label (t .at x)) (put-same (t .at) x v))
   where
@@ -261,7 +264,6 @@ pipe-does t s o r w x e q = joined t (make-pipe s o r w) (object o) pipe (x .lev
 
 pub open-does : (t : Tables) (d : Dir) (s o p : ℕ) (y : Object) → refusal t (opens d s o p) ≡ none → t .at (object o) ≡ object-entry y
     → Does t (opens d s o p) (allowed (y .level)) (with-hand t (place (t .hand) s p (some (handle d o))))
-unfolding effect
 open-does t d s o p y e q = plain t (opens d s o p) (object o) (y .level) u e is refl (λ x d q. inl q) (ap (λ (v : Option Entry). last-label v v) there)
   where
     u : Tables
@@ -293,7 +295,6 @@ pub connect-does : (t : Tables) (s u a b p q : ℕ) (x z : Subject) → refusal 
     (with-hand (with-at t (put (put (t .at) (object a) (some (entry pipe (label (x .level))))) (object b) (some (entry pipe (label (z .level))))))
     (place (place (place (place (t .hand) s p (some (handle reading b))) s q (some (handle writing a))) u p (some (handle reading a))) u q
     (some (handle writing b))))
-unfolding effect
 connect-does t s u a b p q x z e i j = plain t c (cell t s) (x .level) n e (ap (reap (handles t)) made ∙ reap-more t n (more-open t n more)) refl new-ones
     (ap (last-label (t .at (cell t s))) (put-apart (put (t .at) (object a) ea) (object b) (cell t s) eb (own-entry .0) free-b (still-own ∙ own-entry .1)
     ∙ still-own)
@@ -368,7 +369,6 @@ connect-does t s u a b p q x z e i j = plain t c (cell t s) (x .level) n e (ap (
 -- ── mark ──
 pub mark-does : (t : Tables) (s p : ℕ) (x : Subject) → refusal t (mark s p) ≡ none → t .at (subject s) ≡ subject-entry x
     → Does t (mark s p) (allowed (x .level)) (with-hand t (place (t .hand) s p (marking (t .hand s p))))
-unfolding effect
 mark-does t s p x e q = plain t (mark s p) (cell t s) (x .level) u e is refl (λ x d q. inl q)
     (ap (λ (v : Option Entry). last-label v v) (cell-is t (mark s p) e s (inl refl) x q))
   where
@@ -394,7 +394,6 @@ mark-does t s p x e q = plain t (mark s p) (cell t s) (x .level) u e is refl (λ
 -- ── things and handles that go: close, exit, retire ──
 pub close-does : (t : Tables) (s p : ℕ) (x : Subject) → refusal t (close s p) ≡ none → t .at (subject s) ≡ subject-entry x
     → Does t (close s p) (allowed (x .level)) (reap (handles t) (with-hand t (place (t .hand) s p none)))
-unfolding effect
 close-does t s p x e q = plain t (close s p) (cell t s) (x .level) (reap (handles t) u) e refl refl
     (λ y d z. inl (left-over (ended (handles t) (handles u) y (t .at y)) (t .at y) d z))
     (ap (λ (y : Thing). last-label (t .at y) (reap (handles t) u .at y)) (cell-self t s)
@@ -409,7 +408,6 @@ close-does t s p x e q = plain t (close s p) (cell t s) (x .level) (reap (handle
 
 pub exit-does : (t : Tables) (s : ℕ) (x : Subject) → refusal t (exit s) ≡ none → t .at (subject s) ≡ subject-entry x
     → Does t (exit s) (allowed (x .level)) (reap (handles t) (with-at (with-hand t (row (t .hand) s (λ p. none))) (put (t .at) (subject s) none)))
-unfolding effect
 exit-does t s x e q = plain t (exit s) (cell t s) (x .level) (reap (handles t) u) e refl refl
     (λ y d z. inl (without (subject s) y d (left-over (ended (handles t) (handles u) y (u .at y)) (u .at y) d z)))
     (ap (λ (y : Thing). last-label (t .at y) (reap (handles t) u .at y)) (cell-self t s) ∙ ap₂ last-label (step-is t (exit s) e s (inl refl) x q) gone)
@@ -449,10 +447,9 @@ meet-level k l = go (ltb l k) refl
 -- y, of kind kd and level k, takes in z, of level l, and has level n then; u is what the steps make, by y's entry after them, and y does not end with the call
 module _ (t : Tables) (c : Call) (y z : Thing) (kd kz : Kind) (k l : ℕ) (e : refusal t c ≡ none) (u : Option Entry → Tables)
     (q : applies (steps t c) t ≡ u (fall y (t .at y) (t .at z))) (g : shown t c ≡ level-at y) (w : (v : Option Entry) → u v .at ≡ put (t .at) y v)
-    (there : (d : Entry) → reap (handles t) (u (some d)) .at y ≡ some d) (r : T (in-range y))
+    (there : (d : Entry) → reap (handles t) (u (some d)) .at y ≡ some d) (r : Stands t y)
     (o : t .at y ≡ some (entry kd (label k))) (s : t .at z ≡ some (entry kz (label l))) where
   taken-in : (n : ℕ) → sunk y kd (label k) (label l) ≡ label n → Does t c (outcome (ltb n k) n) (reap (handles t) (u (some (entry kd (label n)))))
-  unfolding effect
   taken-in n f = does t c (outcome (ltb n k) n) after e (sym shows) (sym is)
     where
       d : Entry
@@ -492,8 +489,8 @@ falls-in t c s i x z kz l e q u a g p w h = subst (λ (v : Option Entry). Does t
     n : ℕ
     n = fallen-by x l .level
 
-    ranged : T (in-range (cell t s))
-    ranged = subst (λ (y : Thing). T (in-range y)) (sym (cell-self t s)) (live-of t (subject s) (low-row-live t c e s i) .0)
+    ranged : Stands t (cell t s)
+    ranged = subst (λ (y : Thing). Stands t y) (sym (cell-self t s)) (live-of t (subject s) (low-row-live t c e s i) .0)
 
     level-by : (b : Bool) → cond b l (x .level) ≡ cond b (record { live = x .live; level = l }) x .level
     level-by true = refl
@@ -612,7 +609,6 @@ pub write-does : (t : Tables) (w : Wf t) (s p : ℕ) (x : Subject) (h : Handle) 
     → after ≡ applies (rereads t (object (h .object))) t → lowers t after ≡ b
     → Does t (access writing s p) (outcome (ltb (sunken-by y (x .level) .level) (y .level) || b) (sunken-by y (x .level) .level))
     (with-at after (put (after .at) (object (h .object)) (object-entry (sunken-by y (x .level)))))
-unfolding effect
 write-does t w s p x h y after b e q r z f n = by (eqb (y .kind) 1) refl (ltb (x .level) (y .level)) refl
   where
     o : Thing
@@ -623,6 +619,11 @@ write-does t w s p x h y after b e q r z f n = by (eqb (y .kind) 1) refl (ltb (x
 
     there : t .at o ≡ some (entry (cond (eqb (y .kind) 1) file pipe) (label (y .level)))
     there = thing-is t (access writing s p) e (h .object) lives-there y z
+
+    open-there : T (open-on (handles t) (h .object))
+    open-there = subst (λ (n : ℕ). T (open-on (handles t) n)) (sym (found-to t w (access writing s p) s p h e (inr (inl refl)) r))
+        (open-here t s p (found t w (access writing s p) s p h e (inr (inl refl)) r .0) (row-low t (access writing s p) e s (inl refl)) (found-place t w (access writing s p) s p h e (inr (inl refl)) r)
+        (found t w (access writing s p) s p h e (inr (inl refl)) r .1))
 
     kind-is : (k : Bool) → eqb (y .kind) 1 ≡ k → t .at o ≡ some (entry (cond k file pipe) (label (y .level)))
     kind-is k m = there ∙ ap (λ (b : Bool). some (entry (cond b file pipe) (label (y .level)))) m
@@ -674,7 +675,7 @@ write-does t w s p x h y after b e q r z f n = by (eqb (y .kind) 1) refl (ltb (x
         ∙ ap₂ (λ (u : Tables) (c : Option Entry). with-at u (put (u .at) o c)) (sym unread) (sym i))
         (taken-in t (access writing s p) o (cell t s) pipe running (y .level) (x .level) e (λ c. with-at t (put (t .at) o c))
         (made ∙ ap (λ (ks : List Step). applies ks (with-at t (put (t .at) o (fall o (t .at o) (t .at (cell t s)))))) none-read) g (λ c. refl) (one-changed t o)
-        (live-of t o lives-there .0) (kind-is false m) (cell-is t (access writing s p) e s (inl refl) x q) (v .level) d)
+        open-there (kind-is false m) (cell-is t (access writing s p) e s (inl refl) x q) (v .level) d)
       where
         none-read : rereads t o ≡ []
         none-read = rereads-none t o (subst (λ (v : Option Entry). T (not (a-file o v))) (sym (kind-is false m)) tt)

@@ -5,3 +5,6 @@ pub mod Doing
 pub mod Acting
 pub mod Storing
 pub mod Keeping
+pub mod Lifting
+pub mod Numbered
+pub mod Telling

@@ -8,6 +8,9 @@ use denote.Struct.Declared.{row}
 use denote.Struct.Laws as S
 use borrow.Author.Needs.{needs}
 use Rattle.gatekeeper.specs.declared.Monitor.{Monitor}
+use Rattle.gatekeeper.specs.declared.Reply.{Reply}
+use Rattle.gatekeeper.proofs.Reply as R
+use Rattle.gatekeeper.proofs.Reply.Laws as R′
 use Rattle.gatekeeper.proofs.Monitor as K
 use Rattle.gatekeeper.proofs.Monitor.Laws as K′
 
@@ -38,3 +41,9 @@ pub record Long (m : Monitor) : Type 0 where
 
 pub owned-long : (m : Monitor) → Owned m → Long m
 owned-long m g = record { subjects = subjects-long m g; objects = objects-long m g; handles = handles-long m g; needs = needs-long m g }
+
+abbrev pub Replied : Reply → Type 0
+Replied x = Is (row R.the-type) x (S.vals R.the-type R′.the-laws x)
+
+pub reply-long : (x : Reply) → Replied x → length (x .monitor .objects) ≡ 64
+reply-long x g = search (g, needs, unmapped)

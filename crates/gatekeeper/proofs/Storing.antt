@@ -8,8 +8,8 @@ use Prim.Native.Nat.{ℕ, _+_, _*_, _%_, _≤_, _<_}
 use native.Mathlib.Omega.{arith}
 use borrow.Author.Tests.{lt-ltb, ltb-false}
 use lib.ListN.{getD, set, length-set}
-use lib.Dec.{T, eqb, eqb→eq, ltb, ltb→lt, lt→ltb}
-use Rattle.model.specs.Bools.{is-false}
+use lib.Dec.{T, T-not, eqb, eqb→eq, eqb-refl, leb, ltb, ltb→lt, lt→ltb}
+use Rattle.model.specs.Bools.{is-false, neither}
 use Rattle.model.specs.Lists.{In}
 use Rattle.model.specs.Label.{Label, leq, label, bot}
 use Rattle.model.specs.Label.Laws.{label-zero}
@@ -21,7 +21,7 @@ use Rattle.model.specs.Tables.Laws.{used-is, live-of, cell-self, handles-by}
 use Rattle.model.specs.Steps.{outside, enter, hold, holds, put, row, place, apply, applies, reap}
 use Rattle.model.specs.Invariant.{Ends, Wf, Safe}
 use Rattle.model.specs.Invariant.Laws.{wf-enter, wf-hold, less-wf}
-use Rattle.model.specs.Calls.{Call, admit, register, create, make-pipe, opens, access, fork, exec, close, exit, retire, maps, mark, freeze, connect, rereads, marking, lasting, sheds, channel, steps, effect, Test, number, known, alive, present, no-pipe, leveled, freezable, new, vacant, taken, apart, unlike, others, facing, enough, suits, idle, thawed, broken, tests, order, earlier, In-order, breaks, refusal, allowed, lowers, outcome}
+use Rattle.model.specs.Calls.{Call, admit, register, create, make-pipe, opens, access, fork, exec, close, exit, retire, maps, mark, freeze, connect, rereads, marking, lasting, sheds, channel, steps, effect, Test, number, known, alive, present, no-pipe, leveled, freezable, new, vacant, taken, apart, unlike, others, facing, enough, suits, idle, thawed, broken, tests, order, earlier, In-order, breaks, refusal, allowed, lowers, outcome, roomy}
 use Rattle.model.specs.Calls.{Answer as Told}
 use Rattle.model.specs.Calls.Refusals.{refused-by}
 use Rattle.model.specs.Calls.Passed.{is-alive, is-present, is-new, is-place, is-vacant, sheds-less}
@@ -32,33 +32,33 @@ use Rattle.tables.specs.declared.Subject.{Subject}
 use Rattle.tables.specs.declared.Object.{Object}
 use Rattle.tables.specs.declared.Handle.{Handle}
 use Rattle.tables.specs.Records.{subject-entry, object-entry, joins, held, no-subject, no-object, no-handle, hands, tables-of}
-use Rattle.tables.specs.Records.Laws.{subject-there, object-there, handle-there, store-subject, store-object, store-handle, store-close}
+use Rattle.tables.specs.Records.Laws.{subject-there, object-there, handle-there, store-subject, store-object, store-handle, store-close, slot-low}
 use Rattle.tables.specs.Needs.{figure-of, Needed}
 use Rattle.tables.specs.Needs.Laws.{set-ready}
-use Rattle.refusals.specs.Refusing.{Refuses, Late, direction}
 use Rattle.refusals.proofs.Finding.{alone}
+use Rattle.refusals.specs.Refusing.{Room, Refuses, Late, direction}
 use Rattle.flows.proofs.Short.{below-test}
 use Rattle.keeping.proofs.Closing.{anew}
 use Rattle.tables.specs.Working.{subject-at, object-at, handle-at, joining, fallen-by, sunken-by, Outlives}
 use Rattle.gatekeeper.specs.declared.Monitor.{Monitor}
-use Rattle.gatekeeper.specs.View.{beside, view}
+use Rattle.gatekeeper.specs.View.{beside, slots}
 use Rattle.gatekeeper.specs.Acting.{Acts, Keeps, way-by}
 use Rattle.gatekeeper.proofs.Owned.{Long}
-use Rattle.gatekeeper.proofs.Doing.{Does, passed, row-low, live-low, new-row, new-column, place-low, found, found-place, found-to, found-live, full-subject, full-object, full-held, own, low-row-live, admit-does, register-does, create-does, pipe-does, open-does, read-does, write-does, fork-does, exec-does, map-does, connect-does, close-does, exit-does, retire-does, mark-does, freeze-does}
-use Rattle.gatekeeper.proofs.Acting.{acts}
+use Rattle.gatekeeper.proofs.Doing.{Does, passed, row-low, new-row, not-leb, new-column, place-low, found, found-place, found-to, found-live, full-subject, full-object, full-held, own, low-row-live, admit-does, register-does, create-does, pipe-does, open-does, read-does, write-does, fork-does, exec-does, map-does, connect-does, close-does, exit-does, retire-does, mark-does, freeze-does}
+use Rattle.gatekeeper.proofs.Acting.{seen, acts}
 
 -- the monitor with these arrays, and the freeze of m
 abbrev pub monitor : Monitor → List Subject → List Object → List Handle → List ℕ → Monitor
-monitor m ss os hs ns = record { subjects = ss; objects = os; handles = hs; freeze = m .freeze; needs = ns; sure = m .sure }
+monitor m ss os hs ns = record { subjects = ss; objects = os; handles = hs; freeze = m .freeze; needs = ns; sure = m .sure; numbers = m .numbers }
 
 -- a level that a call may name is a byte
 leveled-low : (t : Tables) (c : Call) (l : ℕ) → refusal t c ≡ none → In (leveled l) (tests c) → l % 256 ≡ l
 leveled-low t c l e i = let h : l ≤ 15 = ltb-false 15 l (is-false (ltb 15 l) (passed t c e (leveled l) i)) in omega arith
 
 -- ── all handles ──
-all-handles : (m : Monitor) → handles (view m) ≡ handles (with-hand empty (hands (m .handles)))
+all-handles : (m : Monitor) → handles (slots m) ≡ handles (with-hand empty (hands (m .handles)))
 unfolding tables-of
-all-handles m = handles-by (view m) (with-hand empty (hands (m .handles))) refl
+all-handles m = handles-by (slots m) (with-hand empty (hands (m .handles))) refl
 
 -- ── the tests before the late ones ──
 abbrev then : Bool → ℕ → Option ℕ → Option ℕ
@@ -83,6 +83,7 @@ before-late (enough c) h = absurd h
 before-late (suits s o) h = absurd h
 before-late (idle o) h = absurd h
 before-late (thawed d o) h = absurd h
+before-late (roomy k) h = (tt, tt)
 
 -- where no early row refuses, the tests of the early rows pass
 early-passed : (t : Tables) (c : Call) → Refuses t c 0 → In-order t c 15
@@ -155,17 +156,17 @@ fallen-lives y l h = by (ltb l (y .level))
 
 -- what a monitor that is sure says
 abbrev Says : Monitor → Type 0
-Says m = m .sure ≡ 1 → Safe (view m) × Ready (view m) (figure-of (m .needs))
+Says m = m .sure ≡ 1 → Safe (slots m) × Ready (slots m) (figure-of (m .needs))
 
 module _ (m : Monitor) (g : Long m) where
   -- ── what stands at a number ──
-  pub subject-got : (s : ℕ) (x : Subject) → x ≡ subject-at s (getD (m .subjects) (s % 32) no-subject) → view m .at (subject s) ≡ subject-entry x
+  pub subject-got : (s : ℕ) (x : Subject) → x ≡ subject-at s (getD (m .subjects) (s % 32) no-subject) → slots m .at (subject s) ≡ subject-entry x
   subject-got s x q = subject-there (beside m) (m .subjects) (m .objects) (m .handles) s (g .subjects) ∙ ap subject-entry (sym q)
 
-  pub object-got : (o : ℕ) (y : Object) → y ≡ object-at o (getD (m .objects) (o % 64) no-object) → view m .at (object o) ≡ object-entry y
+  pub object-got : (o : ℕ) (y : Object) → y ≡ object-at o (getD (m .objects) (o % 64) no-object) → slots m .at (object o) ≡ object-entry y
   object-got o y q = object-there (beside m) (m .subjects) (m .objects) (m .handles) o (g .objects) ∙ ap object-entry (sym q)
 
-  pub handle-got : (s p : ℕ) (h : Handle) → h ≡ handle-at s p (getD (m .handles) (s % 32 * 16 + p % 16) no-handle) → view m .hand s p ≡ held h
+  pub handle-got : (s p : ℕ) (h : Handle) → h ≡ handle-at s p (getD (m .handles) (s % 32 * 16 + p % 16) no-handle) → slots m .hand s p ≡ held h
   handle-got s p h q = handle-there (beside m) (m .subjects) (m .objects) (m .handles) s p (g .handles) ∙ ap held (sym q)
 
   -- the record of a live object is that at its number
@@ -173,12 +174,12 @@ module _ (m : Monitor) (g : Long m) where
   object-low o l = ap (λ (b : Bool). cond b (getD (m .objects) (o % 64) no-object) no-object) (lt-ltb o 64 l)
 
   -- ── stores ──
-  pub put-subject : (s : ℕ) (v : Subject) (ns : List ℕ) → s < 32 → view (monitor m (set (m .subjects) (s % 32) v) (m .objects) (m .handles) ns) ≡ with-at (view m)
-      (put (view m .at) (subject s) (subject-entry v))
+  pub put-subject : (s : ℕ) (v : Subject) (ns : List ℕ) → s < 32 → seen m (monitor m (set (m .subjects) (s % 32) v) (m .objects) (m .handles) ns) ≡ with-at (slots m)
+      (put (slots m .at) (subject s) (subject-entry v))
   put-subject s v ns l = store-subject (beside m) (m .subjects) (m .objects) (m .handles) s v (g .subjects) l
 
-  pub put-object : (o : ℕ) (v : Object) (ns : List ℕ) → o < 64 → view (monitor m (m .subjects) (set (m .objects) (o % 64) v) (m .handles) ns) ≡ with-at (view m)
-      (put (view m .at) (object o) (object-entry v))
+  pub put-object : (o : ℕ) (v : Object) (ns : List ℕ) → o < 64 → seen m (monitor m (m .subjects) (set (m .objects) (o % 64) v) (m .handles) ns) ≡ with-at (slots m)
+      (put (slots m .at) (object o) (object-entry v))
   put-object o v ns l = store-object (beside m) (m .subjects) (m .objects) (m .handles) o v (g .objects) l
 
   -- one figure
@@ -197,56 +198,56 @@ module _ (m : Monitor) (g : Long m) where
   own-figure s l = let e : s % 32 ≡ s = omega arith in ap (λ (i : ℕ). label (getD (m .needs) i 0)) e
 
   -- figures that were worked out for the tables that the steps make
-  worked : (c : Call) (ss : List Subject) (os : List Object) (hs : List Handle) (ns : List ℕ) → tables-of (beside m) ss os hs ≡ applies (steps (view m) c) (view m)
-      → Wf (tables-of (beside m) ss os hs) → Works os hs ns → Ready (effect (view m) c) (figure-of ns)
-  worked c ss os hs ns q w f = anew-ready (view m) c (figure-of ns)
+  worked : (c : Call) (ss : List Subject) (os : List Object) (hs : List Handle) (ns : List ℕ) → tables-of (beside m) ss os hs ≡ applies (steps (slots m) c) (slots m)
+      → Wf (tables-of (beside m) ss os hs) → Works os hs ns → Ready (effect (slots m) c) (figure-of ns)
+  worked c ss os hs ns q w f = anew-ready (slots m) c (figure-of ns)
       (λ x h. f (beside m) ss w .need-is x h ∙ ap (λ (t : Tables). needs t x) q)
 
   -- ── admit, register, create ──
-  pub admits : (s l : ℕ) (ss : List Subject) (ns : List ℕ) → Wf (view m) → refusal (view m) (admit s l) ≡ none
+  pub admits : (s l : ℕ) (ss : List Subject) (ns : List ℕ) → Wf (slots m) → refusal (slots m) (admit s l) ≡ none
       → ss ≡ set (m .subjects) (s % 32) (record { live = 1; level = l % 256 }) → ns ≡ set (m .needs) (s % 32) 0
       → Acts m (admit s l) (allowed (l % 256)) (monitor m ss (m .objects) (m .handles) ns)
-  admits s l ss ns w e p q = rw (p, q, leveled-low (view m) (admit s l) l e (inr (inl refl)))
-      (acts m (admit s l) (allowed l) _ _ refl (admit-does (view m) s l e) (put-subject s (record { live = 1; level = l }) (set (m .needs) (s % 32) 0) low)
-      (λ k. kept-subject s 0 bot _ low label-zero (admit-ready (view m) (figure-of (m .needs)) w k s l e)))
+  admits s l ss ns w e p q = rw (p, q, leveled-low (slots m) (admit s l) l e (inr (inl refl)))
+      (acts m (admit s l) (allowed l) _ _ refl refl (admit-does (slots m) s l e) (put-subject s (record { live = 1; level = l }) (set (m .needs) (s % 32) 0) low)
+      (λ k. kept-subject s 0 bot _ low label-zero (admit-ready (slots m) (figure-of (m .needs)) w k s l e)))
     where
       low : s < 32
-      low = new-row (view m) (admit s l) e s (inl refl)
+      low = new-row (slots m) (admit s l) e s (inl refl)
 
-  pub registers : (o l : ℕ) (os : List Object) (ns : List ℕ) → Wf (view m) → refusal (view m) (register o l) ≡ none
+  pub registers : (o l : ℕ) (os : List Object) (ns : List ℕ) → Wf (slots m) → refusal (slots m) (register o l) ≡ none → Room (slots m) (register o l)
       → os ≡ set (m .objects) (o % 64) (record { kind = 1; level = l % 256 }) → ns ≡ set (m .needs) (32 + o % 64) (l % 256)
       → Acts m (register o l) (allowed (l % 256)) (monitor m (m .subjects) os (m .handles) ns)
-  registers o l os ns w e p q = rw (p, q, leveled-low (view m) (register o l) l e (inr (inl refl)))
-      (acts m (register o l) (allowed l) _ _ refl (register-does (view m) o l e) (put-object o (record { kind = 1; level = l }) (set (m .needs) (32 + o % 64) l) low)
-      (λ k. kept-object o l (label l) _ low refl (register-ready (view m) (figure-of (m .needs)) w k o l e)))
+  registers o l os ns w e room p q = rw (p, q, leveled-low (slots m) (register o l) l e (inr (inl refl)))
+      (acts m (register o l) (allowed l) _ _ refl refl (register-does (slots m) o l e) (put-object o (record { kind = 1; level = l }) (set (m .needs) (32 + o % 64) l) low)
+      (λ k. kept-object o l (label l) _ low refl (register-ready (slots m) (figure-of (m .needs)) w k o l e)))
     where
       low : o < 64
-      low = new-column (view m) (register o l) e o (inl refl)
+      low = new-column (slots m) (register o l) e o (inl refl) (inr (inr (inl refl))) room
 
-  pub creates : (s o : ℕ) (x : Subject) (os : List Object) (ns : List ℕ) → Wf (view m) → refusal (view m) (create s o) ≡ none
-      → view m .at (subject s) ≡ subject-entry x → os ≡ set (m .objects) (o % 64) (record { kind = 1; level = x .level })
+  pub creates : (s o : ℕ) (x : Subject) (os : List Object) (ns : List ℕ) → Wf (slots m) → refusal (slots m) (create s o) ≡ none → Room (slots m) (create s o)
+      → slots m .at (subject s) ≡ subject-entry x → os ≡ set (m .objects) (o % 64) (record { kind = 1; level = x .level })
       → ns ≡ set (m .needs) (32 + o % 64) (x .level) → Acts m (create s o) (allowed (x .level)) (monitor m (m .subjects) os (m .handles) ns)
-  creates s o x os ns w e q p r = rw (p, r) (acts m (create s o) (allowed (x .level)) _ _ refl (create-does (view m) s o x e q)
+  creates s o x os ns w e room q p r = rw (p, r) (acts m (create s o) (allowed (x .level)) _ _ refl refl (create-does (slots m) s o x e q)
       (put-object o (record { kind = 1; level = x .level }) (set (m .needs) (32 + o % 64) (x .level)) low)
-      (λ k. kept-object o (x .level) _ _ low (sym (own (view m) (create s o) e s (inl refl) x q)) (create-ready (view m) (figure-of (m .needs)) w k s o e)))
+      (λ k. kept-object o (x .level) _ _ low (sym (own (slots m) (create s o) e s (inl refl) x q)) (create-ready (slots m) (figure-of (m .needs)) w k s o e)))
     where
       low : o < 64
-      low = new-column (view m) (create s o) e o (inr (inl refl))
+      low = new-column (slots m) (create s o) e o (inr (inl refl)) (inr (inr (inl refl))) room
 
   -- ── read, write ──
-  pub reads : (s p : ℕ) (x v : Subject) (h : Handle) (y : Object) (ss : List Subject) (a : Told) → Wf (view m) → refusal (view m) (access reading s p) ≡ none
-      → view m .at (subject s) ≡ subject-entry x → view m .hand s p ≡ held h → view m .at (object (h .object)) ≡ object-entry y → v ≡ fallen-by x (y .level)
+  pub reads : (s p : ℕ) (x v : Subject) (h : Handle) (y : Object) (ss : List Subject) (a : Told) → Wf (slots m) → refusal (slots m) (access reading s p) ≡ none
+      → slots m .at (subject s) ≡ subject-entry x → slots m .hand s p ≡ held h → slots m .at (object (h .object)) ≡ object-entry y → v ≡ fallen-by x (y .level)
       → ss ≡ set (m .subjects) (s % 32) v → a ≡ outcome (ltb (v .level) (x .level)) (v .level)
       → Acts m (access reading s p) a (monitor m ss (m .objects) (m .handles) (m .needs))
-  reads s p x v h y ss a w e q r o f n k = rw n (acts m (access reading s p) a _ _ refl (subst₂ (λ (b : Told) (z : Subject). Does (view m) (access reading s p) b
-      (with-at (view m) (put (view m .at) (subject s) (subject-entry z)))) (sym (k ∙ ap (λ (z : Subject). outcome (ltb (z .level) (x .level)) (z .level)) f))
-      (sym f) (read-does (view m) w s p x h y e q r o))
-      (put-subject s v (m .needs) (row-low (view m) (access reading s p) e s (inl refl)))
-      (λ k. access-ready (view m) (figure-of (m .needs)) w k reading s p))
+  reads s p x v h y ss a w e q r o f n k = rw n (acts m (access reading s p) a _ _ refl refl (subst₂ (λ (b : Told) (z : Subject). Does (slots m) (access reading s p) b
+      (with-at (slots m) (put (slots m .at) (subject s) (subject-entry z)))) (sym (k ∙ ap (λ (z : Subject). outcome (ltb (z .level) (x .level)) (z .level)) f))
+      (sym f) (read-does (slots m) w s p x h y e q r o))
+      (put-subject s v (m .needs) (row-low (slots m) (access reading s p) e s (inl refl)))
+      (λ k. access-ready (slots m) (figure-of (m .needs)) w k reading s p))
 
   -- the subjects once those who have the object mapped have read it, and whether one of them has a smaller level then
-  pub writes : (s p : ℕ) (x : Subject) (h : Handle) (y v : Object) (after : List Subject) (os : List Object) (b : Bool) (a : Told) → Wf (view m)
-      → refusal (view m) (access writing s p) ≡ none → view m .at (subject s) ≡ subject-entry x → view m .hand s p ≡ held h
+  pub writes : (s p : ℕ) (x : Subject) (h : Handle) (y v : Object) (after : List Subject) (os : List Object) (b : Bool) (a : Told) → Wf (slots m)
+      → refusal (slots m) (access writing s p) ≡ none → slots m .at (subject s) ≡ subject-entry x → slots m .hand s p ≡ held h
       → y ≡ object-at (h .object) (getD (m .objects) (h .object % 64) no-object) → v ≡ sunken-by y (x .level)
       → ((rest : Tables) (os : List Object) → getD os (h .object) no-object ≡ y
       → tables-of rest after os (m .handles) ≡ applies (rereads (tables-of rest (m .subjects) os (m .handles)) (object (h .object)))
@@ -254,71 +255,78 @@ module _ (m : Monitor) (g : Long m) where
       → ((rest : Tables) (os : List Object) (hs : List Handle) → lowers (tables-of rest (m .subjects) os hs) (tables-of rest after os hs) ≡ b)
       → os ≡ set (m .objects) (h .object % 64) v → a ≡ outcome (ltb (v .level) (y .level) || b) (v .level)
       → Acts m (access writing s p) a (monitor m after os (m .handles) (m .needs))
-  writes s p x h y v after os b a w e q r o f n l c k = rw c (acts m (access writing s p) a _ _ refl (subst₂ (λ (c : Told) (z : Object). Does (view m) (access writing s p) c
+  writes s p x h y v after os b a w e q r o f n l c k = rw c (acts m (access writing s p) a _ _ refl refl (subst₂ (λ (c : Told) (z : Object). Does (slots m) (access writing s p) c
       (with-at u (put (u .at) (object (h .object)) (object-entry z)))) (sym (k ∙ ap (λ (z : Object). outcome (ltb (z .level) (y .level) || b) (z .level)) f))
       (sym f)
-      (write-does (view m) w s p x h y u b e q r (object-got (h .object) y o)
+      (write-does (slots m) w s p x h y u b e q r (object-got (h .object) y o)
       (n (beside m) (m .objects) (ap (λ (i : ℕ). getD (m .objects) i no-object) same ∙ sym (o ∙ object-low (h .object) low)))
       (l (beside m) (m .objects) (m .handles)))) (store-object (beside m) after (m .objects) (m .handles) (h .object) v (g .objects) low)
-      (λ k. access-ready (view m) (figure-of (m .needs)) w k writing s p))
+      (λ k. access-ready (slots m) (figure-of (m .needs)) w k writing s p))
     where
       u : Tables
       u = tables-of (beside m) after (m .objects) (m .handles)
 
       low : h .object < 64
-      low = live-low (view m) (access writing s p) e (h .object) (found-live (view m) w (access writing s p) s p h e (inr (inl refl)) r)
+      low = slot-low (beside m) (m .subjects) (m .objects) (m .handles) (g .objects) (slots m) (h .object) refl (found-live (slots m) w (access writing s p) s p h e (inr (inl refl)) r)
 
       same : h .object ≡ h .object % 64
       same = omega (arith, low)
 
   -- ── pipe ──
-  pub pipes : (s o r w : ℕ) (x : Subject) (os : List Object) (next : List Handle) (v : ℕ) (ns : List ℕ) → Wf (view m)
-      → refusal (view m) (make-pipe s o r w) ≡ none → view m .at (subject s) ≡ subject-entry x
+  pub pipes : (s o r w : ℕ) (x : Subject) (os : List Object) (next : List Handle) (v : ℕ) (ns : List ℕ) → Wf (slots m)
+      → refusal (slots m) (make-pipe s o r w) ≡ none → Room (slots m) (make-pipe s o r w) → slots m .at (subject s) ≡ subject-entry x
       → os ≡ set (m .objects) (o % 64) (record { kind = 2; level = x .level }) → Joins (m .handles) (s % 32) (r % 16) (w % 16) (o % 64) (o % 64) next
       → v ≡ getD (m .needs) (s % 32) 0 → ns ≡ set (m .needs) (32 + o % 64) v
       → Acts m (make-pipe s o r w) (allowed (x .level)) (monitor m (m .subjects) os next ns)
   unfolding tables-of
-  pipes s o r w x os next v ns wf e q p f d n = rw (p, n) (acts m (make-pipe s o r w) (allowed (x .level)) _ _ refl (pipe-does (view m) s o r w x e q)
+  pipes s o r w x os next v ns wf e room q p f d n = rw (p, n) (acts m (make-pipe s o r w) (allowed (x .level)) _ _ refl refl (pipe-does (slots m) s o r w x e q)
       (f (beside m) (m .subjects) (set (m .objects) (o % 64) y)
       ∙ ap (λ (u : Tables). with-hand u (joined (hands (m .handles)) (s % 32) (r % 16) (w % 16) (o % 64) (o % 64))) (put-object o y (m .needs) low)
-      ∙ ap (λ (h : ℕ → ℕ → Option Held). with-hand (with-at (view m) (put (view m .at) (object o) (some (entry pipe (label (x .level)))))) h)
+      ∙ ap (λ (h : ℕ → ℕ → Option Held). with-hand (with-at (slots m) (put (slots m .at) (object o) (some (entry pipe (label (x .level)))))) h)
       (joined-same (hands (m .handles)) s r w o o low-s
-      (place-low (view m) (make-pipe s o r w) e s r (inr (inr (inl refl))))
-      (place-low (view m) (make-pipe s o r w) e s w (inr (inr (inr (inl refl))))) low low))
-      (λ k. kept-object o v _ _ low (ap label d ∙ own-figure s low-s) (pipe-ready (view m) (figure-of (m .needs)) wf k s o r w e)))
+      (place-low (slots m) (make-pipe s o r w) e s r (inr (inr (inl refl))))
+      (place-low (slots m) (make-pipe s o r w) e s w (inr (inr (inr (inl refl))))) low low))
+      (λ k. kept-object o v _ _ low (ap label d ∙ own-figure s low-s) (pipe-ready (slots m) (figure-of (m .needs)) wf k s o r w e)))
     where
       low : o < 64
-      low = new-column (view m) (make-pipe s o r w) e o (inr (inl refl))
+      low = new-column (slots m) (make-pipe s o r w) e o (inr (inl refl)) (inr (inr (inr (inr (inr (inl refl)))))) room
 
       low-s : s < 32
-      low-s = row-low (view m) (make-pipe s o r w) e s (inl refl)
+      low-s = row-low (slots m) (make-pipe s o r w) e s (inl refl)
 
       y : Object
       y = record { kind = 2; level = x .level }
 
   -- ── connect ──
-  module _ (s u a b p q : ℕ) (x z : Subject) (os₁ os : List Object) (one next : List Handle) (ns : List ℕ) (w : Wf (view m)) (k : Refuses (view m) (connect s u a b p q) 0)
-      (i : view m .at (subject s) ≡ subject-entry x) (j : view m .at (subject u) ≡ subject-entry z)
+  module _ (s u a b p q : ℕ) (x z : Subject) (os₁ os : List Object) (one next : List Handle) (ns : List ℕ) (w : Wf (slots m)) (k : Refuses (slots m) (connect s u a b p q) 0) (room : Room (slots m) (connect s u a b p q))
+      (i : slots m .at (subject s) ≡ subject-entry x) (j : slots m .at (subject u) ≡ subject-entry z)
       (f : Joins (m .handles) (s % 32) (p % 16) (q % 16) (b % 64) (a % 64) one) (g′ : Joins one (u % 32) (p % 16) (q % 16) (a % 64) (b % 64) next)
       (is-one : os₁ ≡ set (m .objects) (a % 64) (record { kind = 2; level = x .level }))
       (is-both : os ≡ set os₁ (b % 64) (record { kind = 2; level = z .level })) (h : Works os next ns) where
-    passes : In-order (view m) (connect s u a b p q) 15
-    passes = early-passed (view m) (connect s u a b p q) k
+    passes : In-order (slots m) (connect s u a b p q) 15
+    passes = early-passed (slots m) (connect s u a b p q) k
 
     low-row : (v : ℕ) → In (alive v) (tests (connect s u a b p q)) → v < 32
-    low-row v d = ltb→lt v 32 (live-of (view m) (subject v) (is-alive (view m) v (passes (alive v) d tt)) .0)
+    low-row v d = ltb→lt v 32 (live-of (slots m) (subject v) (is-alive (slots m) v (passes (alive v) d tt)) .0)
+
+    -- both are new, and there is room
+    roomy-now : T (not (leb 64 a || leb 64 b))
+    roomy-now = subst (λ (v : Bool). T (not v)) (room (is-new (slots m) (object a) (passes (new (object a)) (inr (inr (inr (inl refl)))) tt) .1)
+        (is-new (slots m) (object b) (passes (new (object b)) (inr (inr (inr (inr (inl refl))))) tt) .1)
+        (λ q. T-not (eqb a b) (passes (unlike a b) (inr (inr (inr (inr (inr (inl refl)))))) tt) (subst (λ (v : ℕ). T (eqb a v)) q (eqb-refl a))))
+        (passes (roomy 2) (inr (inr (inr (inr (inr (inr (inr (inr (inr (inr (inr (inr (inl refl))))))))))))) tt)
 
     low-a : a < 64
-    low-a = ltb→lt a 64 (is-new (view m) (object a) (passes (new (object a)) (inr (inr (inr (inl refl)))) tt) .0)
+    low-a = not-leb 64 a (neither (leb 64 a) (leb 64 b) roomy-now .0)
 
     low-b : b < 64
-    low-b = ltb→lt b 64 (is-new (view m) (object b) (passes (new (object b)) (inr (inr (inr (inr (inl refl))))) tt) .0)
+    low-b = not-leb 64 b (neither (leb 64 a) (leb 64 b) roomy-now .1)
 
     low-p′ : p < 16
-    low-p′ = is-place (view m) s p (passes (vacant s p) (inr (inr (inr (inr (inr (inr (inl refl))))))) tt)
+    low-p′ = is-place (slots m) s p (passes (vacant s p) (inr (inr (inr (inr (inr (inr (inl refl))))))) tt)
 
     low-q′ : q < 16
-    low-q′ = is-place (view m) s q (passes (vacant s q) (inr (inr (inr (inr (inr (inr (inr (inl refl)))))))) tt)
+    low-q′ = is-place (slots m) s q (passes (vacant s q) (inr (inr (inr (inr (inr (inr (inr (inl refl)))))))) tt)
 
     abbrev pipe-of : ℕ → Object
     pipe-of l = record { kind = 2; level = l }
@@ -331,8 +339,8 @@ module _ (m : Monitor) (g : Long m) where
 
     -- both pipes and all four handles
     connected : tables-of (beside m) (m .subjects) both-pipes next ≡ with-hand
-        (with-at (view m) (put (put (view m .at) (object a) (some (entry pipe (label (x .level))))) (object b) (some (entry pipe (label (z .level))))))
-        (joined (joined (view m .hand) s p q b a) u p q a b)
+        (with-at (slots m) (put (put (slots m .at) (object a) (some (entry pipe (label (x .level))))) (object b) (some (entry pipe (label (z .level))))))
+        (joined (joined (slots m .hand) s p q b a) u p q a b)
     unfolding tables-of
     connected = g′ (beside m) (m .subjects) both-pipes
         ∙ ap (λ (v : Tables). with-hand v (joined (v .hand) (u % 32) (p % 16) (q % 16) (a % 64) (b % 64))) (f (beside m) (m .subjects) both-pipes)
@@ -342,112 +350,112 @@ module _ (m : Monitor) (g : Long m) where
         (simp length-set (g .objects)) low-b
         ∙ ap (λ (v : Tables). with-at v (put (v .at) (object b) (some (entry pipe (label (z .level)))))) (put-object a (pipe-of (x .level)) (m .needs) low-a))
         ∙ ap (λ (h : ℕ → ℕ → Option Held). with-hand
-        (with-at (view m) (put (put (view m .at) (object a) (some (entry pipe (label (x .level))))) (object b) (some (entry pipe (label (z .level)))))) h)
+        (with-at (slots m) (put (put (slots m .at) (object a) (some (entry pipe (label (x .level))))) (object b) (some (entry pipe (label (z .level)))))) h)
         (ap (λ (h : ℕ → ℕ → Option Held). joined h (u % 32) (p % 16) (q % 16) (a % 64) (b % 64))
         (joined-same (hands (m .handles)) s p q b a (low-row s (inl refl)) low-p′ low-q′ low-b low-a)
         ∙ joined-same (joined (hands (m .handles)) s p q b a) u p q a b (low-row u (inr (inl refl))) low-p′ low-q′ low-a low-b)
 
     -- which is what the rules' steps make
-    stepped : tables-of (beside m) (m .subjects) both-pipes next ≡ applies (channel (view m) s u a b p q) (view m)
+    stepped : tables-of (beside m) (m .subjects) both-pipes next ≡ applies (channel (slots m) s u a b p q) (slots m)
     stepped = connected ∙ ap₂ (λ (k l : Label). with-hand
-        (with-at (view m) (put (put (view m .at) (object a) (some (entry pipe k))) (object b) (some (entry pipe l))))
-        (joined (joined (view m .hand) s p q b a) u p q a b))
+        (with-at (slots m) (put (put (slots m .at) (object a) (some (entry pipe k))) (object b) (some (entry pipe l))))
+        (joined (joined (slots m .hand) s p q b a) u p q a b))
         (sym (own-label s x (inl refl) i)) (sym (own-label u z (inr (inl refl)) j))
       where
-        own-label : (v : ℕ) (y : Subject) → In (alive v) (tests (connect s u a b p q)) → view m .at (subject v) ≡ subject-entry y
-            → label-of (view m .at (cell (view m) v)) ≡ label (y .level)
-        own-label v y d e = ap label-of (ap (view m .at) (cell-self (view m) v) ∙ full-subject (view m) v y e (is-alive (view m) v (passes (alive v) d tt)))
+        own-label : (v : ℕ) (y : Subject) → In (alive v) (tests (connect s u a b p q)) → slots m .at (subject v) ≡ subject-entry y
+            → label-of (slots m .at (cell (slots m) v)) ≡ label (y .level)
+        own-label v y d e = ap label-of (ap (slots m .at) (cell-self (slots m) v) ∙ full-subject (slots m) v y e (is-alive (slots m) v (passes (alive v) d tt)))
 
-    flows-now : tables-of (beside m) (m .subjects) os next ≡ applies (channel (view m) s u a b p q) (view m)
+    flows-now : tables-of (beside m) (m .subjects) os next ≡ applies (channel (slots m) s u a b p q) (slots m)
     flows-now = ap (λ (l : List Object). tables-of (beside m) (m .subjects) l next) os-is ∙ stepped
 
     wf-now : Wf (tables-of (beside m) (m .subjects) os next)
-    wf-now = subst Wf (sym flows-now) (connect-wf (view m) w s u a b p q passes)
+    wf-now = subst Wf (sym flows-now) (connect-wf (slots m) w s u a b p q passes)
 
-    pub connect-late : (r : Bool) → Shorts (m .subjects) os ns r → Late (view m) (connect s u a b p q) r false false
+    pub connect-late : (r : Bool) → Shorts (m .subjects) os ns r → Late (slots m) (connect s u a b p q) r false false
     connect-late r f = record { nine = alone tested; ten = refl; fifteen = refl }
       where
-        tested : broken (view m) (enough (connect s u a b p q)) ≡ r
+        tested : broken (slots m) (enough (connect s u a b p q)) ≡ r
         tested = sym (f (beside m) next wf-now (anew (beside m) (m .subjects) os next ns (h (beside m) (m .subjects) wf-now)) ∙ ap (λ (v : Tables). not (safe v)) flows-now)
 
-    pub connects : refusal (view m) (connect s u a b p q) ≡ none → Acts m (connect s u a b p q) (allowed (x .level)) (monitor m (m .subjects) os next ns)
-    connects e = acts m (connect s u a b p q) (allowed (x .level)) _ _ refl (connect-does (view m) s u a b p q x z e i j)
+    pub connects : refusal (slots m) (connect s u a b p q) ≡ none → Acts m (connect s u a b p q) (allowed (x .level)) (monitor m (m .subjects) os next ns)
+    connects e = acts m (connect s u a b p q) (allowed (x .level)) _ _ refl refl (connect-does (slots m) s u a b p q x z e i j)
         (ap (λ (l : List Object). tables-of (beside m) (m .subjects) l next) os-is ∙ connected)
         (λ k. worked (connect s u a b p q) (m .subjects) os next ns flows-now wf-now h)
 
   -- ── close, exit, fork ──
-  pub closes : (s p : ℕ) (x : Subject) (h : Handle) (y r : Object) (os : List Object) (hs : List Handle) (ns : List ℕ) → Wf (view m)
-      → refusal (view m) (close s p) ≡ none → view m .at (subject s) ≡ subject-entry x → view m .hand s p ≡ held h
+  pub closes : (s p : ℕ) (x : Subject) (h : Handle) (y r : Object) (os : List Object) (hs : List Handle) (ns : List ℕ) → Wf (slots m)
+      → refusal (slots m) (close s p) ≡ none → slots m .at (subject s) ≡ subject-entry x → slots m .hand s p ≡ held h
       → y ≡ object-at (h .object) (getD (m .objects) (h .object % 64) no-object)
       → hs ≡ set (m .handles) (s % 32 * 16 + p % 16) no-handle → Outlives hs y (h .object) r → os ≡ set (m .objects) (h .object % 64) r
       → ((rest : Tables) (ss : List Subject) (t : Tables) (p : ℕ) → Wf t → t .hand s p ≡ some (joins h) → tables-of rest ss (m .objects) hs ≡ apply (hold s p none) t
       → Ready t (figure-of (m .needs)) → Ready (tables-of rest ss (m .objects) hs) (figure-of ns))
       → Acts m (close s p) (allowed (x .level)) (monitor m (m .subjects) os hs ns)
-  closes s p x h y r os hs ns w e q z o n d v f = acts m (close s p) (allowed (x .level)) _ _ refl (close-does (view m) s p x e q)
+  closes s p x h y r os hs ns w e q z o n d v f = acts m (close s p) (allowed (x .level)) _ _ refl refl (close-does (slots m) s p x e q)
       (ap₂ (λ (a : List Object) (b : List Handle). tables-of (beside m) (m .subjects) a b) v n
       ∙ store-close (beside m) (m .subjects) (m .objects) (m .handles) s p (h .object) (k .0) no-handle r (g .objects) (g .handles) low-s low-p low
       (k .1) to (subst₂ (λ (l : List Handle) (a : Object). Outlives l a (h .object) r) n (o ∙ object-low (h .object) low) d))
-      (λ c. effect-ready (view m) (close s p) (figure-of ns) (subst (λ (t : Tables). Ready t (figure-of ns)) shut (f (beside m) (m .subjects) (view m) p w taken-at shut c)))
+      (λ c. effect-ready (slots m) (close s p) (figure-of ns) (subst (λ (t : Tables). Ready t (figure-of ns)) shut (f (beside m) (m .subjects) (slots m) p w taken-at shut c)))
     where
-      k : (k : Held) × (view m .hand s p ≡ some k)
-      k = found (view m) w (close s p) s p h e (inr (inl refl)) z
+      k : (k : Held) × (slots m .hand s p ≡ some k)
+      k = found (slots m) w (close s p) s p h e (inr (inl refl)) z
 
       to : h .object ≡ k .0 .to
-      to = found-to (view m) w (close s p) s p h e (inr (inl refl)) z
+      to = found-to (slots m) w (close s p) s p h e (inr (inl refl)) z
 
       low : h .object < 64
-      low = live-low (view m) (close s p) e (h .object) (found-live (view m) w (close s p) s p h e (inr (inl refl)) z)
+      low = slot-low (beside m) (m .subjects) (m .objects) (m .handles) (g .objects) (slots m) (h .object) refl (found-live (slots m) w (close s p) s p h e (inr (inl refl)) z)
 
       low-s : s < 32
-      low-s = row-low (view m) (close s p) e s (inl refl)
+      low-s = row-low (slots m) (close s p) e s (inl refl)
 
       low-p : p < 16
-      low-p = found-place (view m) w (close s p) s p h e (inr (inl refl)) z
+      low-p = found-place (slots m) w (close s p) s p h e (inr (inl refl)) z
 
-      shut : tables-of (beside m) (m .subjects) (m .objects) hs ≡ apply (hold s p none) (view m)
+      shut : tables-of (beside m) (m .subjects) (m .objects) hs ≡ apply (hold s p none) (slots m)
       shut = ap (tables-of (beside m) (m .subjects) (m .objects)) n
           ∙ store-handle (beside m) (m .subjects) (m .objects) (m .handles) s p no-handle (g .handles) low-s low-p
 
-      taken-at : view m .hand s p ≡ some (joins h)
+      taken-at : slots m .hand s p ≡ some (joins h)
       taken-at = z ∙ full-held h (k .0) (sym z ∙ k .1)
 
-  pub exits : (s : ℕ) (x : Subject) (ss : List Subject) (after : List Handle) (left : List Object) (ns : List ℕ) → Wf (view m) → refusal (view m) (exit s) ≡ none
-      → view m .at (subject s) ≡ subject-entry x → ss ≡ set (m .subjects) (s % 32) no-subject
+  pub exits : (s : ℕ) (x : Subject) (ss : List Subject) (after : List Handle) (left : List Object) (ns : List ℕ) → Wf (slots m) → refusal (slots m) (exit s) ≡ none
+      → slots m .at (subject s) ≡ subject-entry x → ss ≡ set (m .subjects) (s % 32) no-subject
       → Rowed (m .handles) (s % 32) (λ p. none) after → Reaps (m .objects) (m .handles) after left
       → ((rest : Tables) (ss : List Subject) (t : Tables) → Wf t → T (live t (subject s)) → tables-of rest ss (m .objects) after ≡ apply (holds s (λ p. none)) t
       → Ready t (figure-of (m .needs)) → Ready (tables-of rest ss (m .objects) after) (figure-of ns))
       → Acts m (exit s) (allowed (x .level)) (monitor m ss left after ns)
   unfolding tables-of
-  exits s x ss after left ns w e q n a b f = rw n (acts m (exit s) (allowed (x .level)) _ _ refl (exit-does (view m) s x e q)
-      (b (beside m) _ (view m) (all-handles m) ∙ ap (reap (handles (view m))) (a (beside m) _ _ ∙ ap₂ (λ (u : Tables) (f : ℕ → ℕ → Option Held). with-hand u f)
+  exits s x ss after left ns w e q n a b f = rw n (acts m (exit s) (allowed (x .level)) _ _ refl refl (exit-does (slots m) s x e q)
+      (b (beside m) _ (slots m) (all-handles m) ∙ ap (reap (handles (slots m))) (a (beside m) _ _ ∙ ap₂ (λ (u : Tables) (f : ℕ → ℕ → Option Held). with-hand u f)
       (put-subject s no-subject (m .needs) low) (ap (λ (i : ℕ). row (hands (m .handles)) i (λ p. none)) same)))
-      (λ k. exit-ready (view m) s (figure-of ns) w (subst (λ (t : Tables). Ready t (figure-of ns)) vacant-now
-      (f (beside m) (m .subjects) (view m) w (low-row-live (view m) (exit s) e s (inl refl)) vacant-now k))))
+      (λ k. exit-ready (slots m) s (figure-of ns) w (subst (λ (t : Tables). Ready t (figure-of ns)) vacant-now
+      (f (beside m) (m .subjects) (slots m) w (low-row-live (slots m) (exit s) e s (inl refl)) vacant-now k))))
     where
       low : s < 32
-      low = row-low (view m) (exit s) e s (inl refl)
+      low = row-low (slots m) (exit s) e s (inl refl)
 
       same : s % 32 ≡ s
       same = omega (arith, low)
 
-      vacant-now : tables-of (beside m) (m .subjects) (m .objects) after ≡ apply (holds s (λ p. none)) (view m)
-      vacant-now = a (beside m) (m .subjects) (m .objects) ∙ ap (λ (i : ℕ). with-hand (view m) (row (hands (m .handles)) i (λ p. none))) same
+      vacant-now : tables-of (beside m) (m .subjects) (m .objects) after ≡ apply (holds s (λ p. none)) (slots m)
+      vacant-now = a (beside m) (m .subjects) (m .objects) ∙ ap (λ (i : ℕ). with-hand (slots m) (row (hands (m .handles)) i (λ p. none))) same
 
-  pub forks : (s c : ℕ) (x : Subject) (ss : List Subject) (after : List Handle) (v : ℕ) (ns : List ℕ) → Wf (view m) → refusal (view m) (fork s c) ≡ none
-      → view m .at (subject s) ≡ subject-entry x → ss ≡ set (m .subjects) (c % 32) (record { live = 1; level = x .level })
+  pub forks : (s c : ℕ) (x : Subject) (ss : List Subject) (after : List Handle) (v : ℕ) (ns : List ℕ) → Wf (slots m) → refusal (slots m) (fork s c) ≡ none
+      → slots m .at (subject s) ≡ subject-entry x → ss ≡ set (m .subjects) (c % 32) (record { live = 1; level = x .level })
       → Rowed (m .handles) (c % 32) (hands (m .handles) (s % 32)) after → v ≡ getD (m .needs) (s % 32) 0 → ns ≡ set (m .needs) (c % 32) v
       → Acts m (fork s c) (allowed (x .level)) (monitor m ss (m .objects) after ns)
   unfolding tables-of
-  forks s c x ss after v ns w e q n a d r = rw (n, r) (acts m (fork s c) (allowed (x .level)) _ _ refl (fork-does (view m) s c x w e q)
+  forks s c x ss after v ns w e q n a d r = rw (n, r) (acts m (fork s c) (allowed (x .level)) _ _ refl refl (fork-does (slots m) s c x w e q)
       (a (beside m) _ _ ∙ ap₂ (λ (u : Tables) (f : ℕ → ℕ → Option Held). with-hand u f) (put-subject c (record { live = 1; level = x .level }) (m .needs) low)
       (ap₂ (λ (i : ℕ) (f : ℕ → Option Held). row (hands (m .handles)) i f) same (ap (hands (m .handles)) same-s)))
-      (λ k. kept-subject c v _ _ low (ap label d ∙ own-figure s low-s) (fork-ready (view m) (figure-of (m .needs)) w k s c e)))
+      (λ k. kept-subject c v _ _ low (ap label d ∙ own-figure s low-s) (fork-ready (slots m) (figure-of (m .needs)) w k s c e)))
     where
       low : c < 32
-      low = new-row (view m) (fork s c) e c (inr (inl refl))
+      low = new-row (slots m) (fork s c) e c (inr (inl refl))
 
       low-s : s < 32
-      low-s = row-low (view m) (fork s c) e s (inl refl)
+      low-s = row-low (slots m) (fork s c) e s (inl refl)
 
       same : c % 32 ≡ c
       same = omega (arith, low)
@@ -456,37 +464,37 @@ module _ (m : Monitor) (g : Long m) where
       same-s = omega (arith, low-s)
 
   -- ── open ──
-  module _ (b : Bool) (s o p : ℕ) (x : Object) (h : Handle) (next : List Handle) (ns : List ℕ) (r : Bool) (w : Wf (view m))
-      (z : Refuses (view m) (opens (direction b) s o p) 0) (k : view m .at (object o) ≡ object-entry x) (i : h ≡ joining (way-by b) o)
+  module _ (b : Bool) (s o p : ℕ) (x : Object) (h : Handle) (next : List Handle) (ns : List ℕ) (r : Bool) (w : Wf (slots m))
+      (z : Refuses (slots m) (opens (direction b) s o p) 0) (k : slots m .at (object o) ≡ object-entry x) (i : h ≡ joining (way-by b) o)
       (y : next ≡ set (m .handles) (s % 32 * 16 + p % 16) h) (f : Opening m (eqb (m .sure) 1) next s h ns r) where
-    lives : T (live (view m) (subject s))
-    lives = is-alive (view m) s (early-passed (view m) (opens (direction b) s o p) z (alive s) (inl refl) tt)
+    lives : T (live (slots m) (subject s))
+    lives = is-alive (slots m) s (early-passed (slots m) (opens (direction b) s o p) z (alive s) (inl refl) tt)
 
-    there : T (live (view m) (object o))
-    there = is-present (view m) o (early-passed (view m) (opens (direction b) s o p) z (present o) (inr (inl refl)) tt)
+    there : T (live (slots m) (object o))
+    there = is-present (slots m) o (early-passed (slots m) (opens (direction b) s o p) z (present o) (inr (inl refl)) tt)
 
     low-s : s < 32
-    low-s = ltb→lt s 32 (live-of (view m) (subject s) lives .0)
+    low-s = ltb→lt s 32 (live-of (slots m) (subject s) lives .0)
 
     low-o : o < 64
-    low-o = ltb→lt o 64 (live-of (view m) (object o) there .0)
+    low-o = slot-low (beside m) (m .subjects) (m .objects) (m .handles) (g .objects) (slots m) o refl there
 
     low-p : p < 16
-    low-p = is-place (view m) s p (early-passed (view m) (opens (direction b) s o p) z (vacant s p) (inr (inr (inl refl))) tt)
+    low-p = is-place (slots m) s p (early-passed (slots m) (opens (direction b) s o p) z (vacant s p) (inr (inr (inl refl))) tt)
 
     way-held : (b : Bool) (n : ℕ) → held (record { way = way-by b; object = n; mark = 0 }) ≡ some (handle (direction b) n)
     way-held true n = refl
     way-held false n = refl
 
-    placed : tables-of (beside m) (m .subjects) (m .objects) next ≡ with-hand (view m) (place (view m .hand) s p (some (handle (direction b) o)))
+    placed : tables-of (beside m) (m .subjects) (m .objects) next ≡ with-hand (slots m) (place (slots m .hand) s p (some (handle (direction b) o)))
     placed = ap (tables-of (beside m) (m .subjects) (m .objects)) (y ∙ ap (set (m .handles) (s % 32 * 16 + p % 16)) i)
         ∙ store-handle (beside m) (m .subjects) (m .objects) (m .handles) s p (joining (way-by b) o) (g .handles) low-s low-p
-        ∙ ap (λ (k : Option Held). with-hand (view m) (place (view m .hand) s p k)) (way-held b (o % 64) ∙ ap (λ (n : ℕ). some (handle (direction b) n)) same)
+        ∙ ap (λ (k : Option Held). with-hand (slots m) (place (slots m .hand) s p k)) (way-held b (o % 64) ∙ ap (λ (n : ℕ). some (handle (direction b) n)) same)
       where
         same : o % 64 ≡ o
         same = omega (arith, low-o)
 
-    its-ends : Ends (view m) s p (handle (direction b) o)
+    its-ends : Ends (slots m) s p (handle (direction b) o)
     its-ends = record { from = lives; to = there; place = low-p }
 
     joins-is : joins h ≡ handle (direction b) o
@@ -500,68 +508,68 @@ module _ (m : Monitor) (g : Long m) where
         same = omega (arith, low-o)
 
     -- what the code works out
-    out : (m .sure ≡ 1 → Ready (view m) (figure-of (m .needs))) → Ready (tables-of (beside m) (m .subjects) (m .objects) next) (figure-of ns)
-        × ((eqb (m .sure) 1 ≡ true → Safe (view m)) → r ≡ not (safe (tables-of (beside m) (m .subjects) (m .objects) next)))
-    out k = f (beside m) (view m) p w (subst (Ends (view m) s p) (sym joins-is) its-ends)
-        (is-vacant (view m) s p (early-passed (view m) (opens (direction b) s o p) z (vacant s p) (inr (inr (inl refl))) tt))
-        (placed ∙ ap (λ (j : Held). with-hand (view m) (place (view m .hand) s p (some j))) (sym joins-is)) (λ q. k (eqb→eq (m .sure) 1 (subst T (sym q) tt)))
+    out : (m .sure ≡ 1 → Ready (slots m) (figure-of (m .needs))) → Ready (tables-of (beside m) (m .subjects) (m .objects) next) (figure-of ns)
+        × ((eqb (m .sure) 1 ≡ true → Safe (slots m)) → r ≡ not (safe (tables-of (beside m) (m .subjects) (m .objects) next)))
+    out k = f (beside m) (slots m) p w (subst (Ends (slots m) s p) (sym joins-is) its-ends)
+        (is-vacant (slots m) s p (early-passed (slots m) (opens (direction b) s o p) z (vacant s p) (inr (inr (inl refl))) tt))
+        (placed ∙ ap (λ (j : Held). with-hand (slots m) (place (slots m .hand) s p (some j))) (sym joins-is)) (λ q. k (eqb→eq (m .sure) 1 (subst T (sym q) tt)))
 
     -- its flow test is the rules'
-    tested : Says m → broken (view m) (enough (opens (direction b) s o p)) ≡ r
+    tested : Says m → broken (slots m) (enough (opens (direction b) s o p)) ≡ r
     tested v = sym (out (λ q. v q .1) .1 (λ q. v (eqb→eq (m .sure) 1 (subst T (sym q) tt)) .0) ∙ ap (λ (u : Tables). not (safe u)) placed)
 
-    pub open-late : Says m → (q : Bool) → broken (view m) (thawed (direction b) o) ≡ q → Late (view m) (opens (direction b) s o p) r false q
+    pub open-late : Says m → (q : Bool) → broken (slots m) (thawed (direction b) o) ≡ q → Late (slots m) (opens (direction b) s o p) r false q
     open-late v q e = record { nine = alone (tested v); ten = refl; fifteen = alone e }
 
-    pub opens-acts : refusal (view m) (opens (direction b) s o p) ≡ none
+    pub opens-acts : refusal (slots m) (opens (direction b) s o p) ≡ none
         → Acts m (opens (direction b) s o p) (allowed (x .level)) (monitor m (m .subjects) (m .objects) next ns)
-    opens-acts e = acts m (opens (direction b) s o p) (allowed (x .level)) _ _ refl (open-does (view m) (direction b) s o p x e k) placed
-        (λ k. effect-ready (view m) (opens (direction b) s o p) (figure-of ns) (subst (λ (t : Tables). Ready t (figure-of ns)) placed (out (λ q. k) .0)))
+    opens-acts e = acts m (opens (direction b) s o p) (allowed (x .level)) _ _ refl refl (open-does (slots m) (direction b) s o p x e k) placed
+        (λ k. effect-ready (slots m) (opens (direction b) s o p) (figure-of ns) (subst (λ (t : Tables). Ready t (figure-of ns)) placed (out (λ q. k) .0)))
 
-    pub opens-keeps : Keeps m (monitor m (m .subjects) (m .objects) next ns)
-    opens-keeps = record { whole = subst Wf (sym placed) (wf-hold (view m) s p (handle (direction b) o) w its-ends); kept = λ k. out (λ q. k) .0; says = refl }
+    pub opens-keeps : Keeps m (opens (direction b) s o p) (monitor m (m .subjects) (m .objects) next ns)
+    opens-keeps = record { whole = subst Wf (sym placed) (wf-hold (slots m) s p (handle (direction b) o) w its-ends); kept = λ k. out (λ q. k) .0; says = refl; numbered = refl; came = λ i u. inl u }
 
   -- ── map ──
-  module _ (s o p : ℕ) (x : Object) (h : Handle) (next : List Handle) (ns : List ℕ) (r : Bool) (w : Wf (view m)) (z : Refuses (view m) (maps s o p) 0)
-      (k : view m .at (object o) ≡ object-entry x) (i : h ≡ joining 1 o) (y : next ≡ set (m .handles) (s % 32 * 16 + p % 16) h)
+  module _ (s o p : ℕ) (x : Object) (h : Handle) (next : List Handle) (ns : List ℕ) (r : Bool) (w : Wf (slots m)) (z : Refuses (slots m) (maps s o p) 0)
+      (k : slots m .at (object o) ≡ object-entry x) (i : h ≡ joining 1 o) (y : next ≡ set (m .handles) (s % 32 * 16 + p % 16) h)
       (f : Opening m (eqb (m .sure) 1) next s h ns r) where
-    map-lives : T (live (view m) (subject s))
-    map-lives = is-alive (view m) s (early-passed (view m) (maps s o p) z (alive s) (inl refl) tt)
+    map-lives : T (live (slots m) (subject s))
+    map-lives = is-alive (slots m) s (early-passed (slots m) (maps s o p) z (alive s) (inl refl) tt)
 
-    map-there : T (live (view m) (object o))
-    map-there = is-present (view m) o (early-passed (view m) (maps s o p) z (present o) (inr (inl refl)) tt)
+    map-there : T (live (slots m) (object o))
+    map-there = is-present (slots m) o (early-passed (slots m) (maps s o p) z (present o) (inr (inl refl)) tt)
 
     map-low-s : s < 32
-    map-low-s = ltb→lt s 32 (live-of (view m) (subject s) map-lives .0)
+    map-low-s = ltb→lt s 32 (live-of (slots m) (subject s) map-lives .0)
 
     same-o : o % 64 ≡ o
-    same-o = omega (arith, ltb→lt o 64 (live-of (view m) (object o) map-there .0))
+    same-o = omega (arith, slot-low (beside m) (m .subjects) (m .objects) (m .handles) (g .objects) (slots m) o refl map-there)
 
     map-low-p : p < 16
-    map-low-p = is-place (view m) s p (early-passed (view m) (maps s o p) z (vacant s p) (inr (inr (inr (inl refl)))) tt)
+    map-low-p = is-place (slots m) s p (early-passed (slots m) (maps s o p) z (vacant s p) (inr (inr (inr (inl refl)))) tt)
 
     -- the flow test is that of the open for reading
-    map-placed : tables-of (beside m) (m .subjects) (m .objects) next ≡ with-hand (view m) (place (view m .hand) s p (some (handle reading o)))
+    map-placed : tables-of (beside m) (m .subjects) (m .objects) next ≡ with-hand (slots m) (place (slots m .hand) s p (some (handle reading o)))
     map-placed = ap (tables-of (beside m) (m .subjects) (m .objects)) (y ∙ ap (set (m .handles) (s % 32 * 16 + p % 16)) i)
         ∙ store-handle (beside m) (m .subjects) (m .objects) (m .handles) s p (joining 1 o) (g .handles) map-low-s map-low-p
-        ∙ ap (λ (n : ℕ). with-hand (view m) (place (view m .hand) s p (some (handle reading n)))) same-o
+        ∙ ap (λ (n : ℕ). with-hand (slots m) (place (slots m .hand) s p (some (handle reading n)))) same-o
 
     map-joins : joins h ≡ handle reading o
     map-joins = ap joins i ∙ ap (handle reading) same-o
 
-    map-ends : Ends (view m) s p (handle reading o)
+    map-ends : Ends (slots m) s p (handle reading o)
     map-ends = record { from = map-lives; to = map-there; place = map-low-p }
 
-    map-vacant : view m .hand s p ≡ none
-    map-vacant = is-vacant (view m) s p (early-passed (view m) (maps s o p) z (vacant s p) (inr (inr (inr (inl refl)))) tt)
+    map-vacant : slots m .hand s p ≡ none
+    map-vacant = is-vacant (slots m) s p (early-passed (slots m) (maps s o p) z (vacant s p) (inr (inr (inr (inl refl)))) tt)
 
     -- what the code works out
-    map-out : (m .sure ≡ 1 → Ready (view m) (figure-of (m .needs))) → Ready (tables-of (beside m) (m .subjects) (m .objects) next) (figure-of ns)
-        × ((eqb (m .sure) 1 ≡ true → Safe (view m)) → r ≡ not (safe (tables-of (beside m) (m .subjects) (m .objects) next)))
-    map-out k = f (beside m) (view m) p w (subst (Ends (view m) s p) (sym map-joins) map-ends) map-vacant
-        (map-placed ∙ ap (λ (j : Held). with-hand (view m) (place (view m .hand) s p (some j))) (sym map-joins)) (λ q. k (eqb→eq (m .sure) 1 (subst T (sym q) tt)))
+    map-out : (m .sure ≡ 1 → Ready (slots m) (figure-of (m .needs))) → Ready (tables-of (beside m) (m .subjects) (m .objects) next) (figure-of ns)
+        × ((eqb (m .sure) 1 ≡ true → Safe (slots m)) → r ≡ not (safe (tables-of (beside m) (m .subjects) (m .objects) next)))
+    map-out k = f (beside m) (slots m) p w (subst (Ends (slots m) s p) (sym map-joins) map-ends) map-vacant
+        (map-placed ∙ ap (λ (j : Held). with-hand (slots m) (place (slots m .hand) s p (some j))) (sym map-joins)) (λ q. k (eqb→eq (m .sure) 1 (subst T (sym q) tt)))
 
-    pub map-late : Says m → Late (view m) (maps s o p) r false false
+    pub map-late : Says m → Late (slots m) (maps s o p) r false false
     map-late v = record {
       nine = alone (sym (map-out (λ q. v q .1) .1 (λ q. v (eqb→eq (m .sure) 1 (subst T (sym q) tt)) .0) ∙ ap (λ (u : Tables). not (safe u)) map-placed));
       ten = refl;
@@ -569,56 +577,58 @@ module _ (m : Monitor) (g : Long m) where
     }
 
     -- the tables with the mapping and the subject that fell
-    map-stored : (v : Subject) → view (monitor m (set (m .subjects) (s % 32) v) (m .objects) (set (m .handles) (s % 32 * 16 + p % 16) (joining 3 o)) ns)
-        ≡ with-hand (with-at (view m) (put (view m .at) (subject s) (subject-entry v))) (place (view m .hand) s p (some (mapping o)))
+    map-stored : (v : Subject) → slots (monitor m (set (m .subjects) (s % 32) v) (m .objects) (set (m .handles) (s % 32 * 16 + p % 16) (joining 3 o)) ns)
+        ≡ with-hand (with-at (slots m) (put (slots m .at) (subject s) (subject-entry v))) (place (slots m .hand) s p (some (mapping o)))
     map-stored v = store-handle (beside m) (set (m .subjects) (s % 32) v) (m .objects) (m .handles) s p (joining 3 o) (g .handles) map-low-s map-low-p
         ∙ ap (λ (u : Tables). with-hand u (place (u .hand) s p (held (joining 3 o)))) (put-subject s v ns map-low-s)
-        ∙ ap (λ (n : ℕ). with-hand (with-at (view m) (put (view m .at) (subject s) (subject-entry v))) (place (view m .hand) s p (some (mapping n)))) same-o
+        ∙ ap (λ (n : ℕ). with-hand (with-at (slots m) (put (slots m .at) (subject s) (subject-entry v))) (place (slots m .hand) s p (some (mapping n)))) same-o
 
-    map-ready-now : Ready (view m) (figure-of (m .needs)) → Ready (apply (hold s p (some (handle reading o))) (view m)) (figure-of ns)
+    map-ready-now : Ready (slots m) (figure-of (m .needs)) → Ready (apply (hold s p (some (handle reading o))) (slots m)) (figure-of ns)
     map-ready-now k = subst (λ (t : Tables). Ready t (figure-of ns)) map-placed (map-out (λ q. k) .0)
 
-    pub maps-acts : (y v : Subject) (ss : List Subject) (hs : List Handle) (b : Told) → view m .at (subject s) ≡ subject-entry y
-        → refusal (view m) (maps s o p) ≡ none → v ≡ fallen-by y (x .level) → ss ≡ set (m .subjects) (s % 32) v
+    pub maps-acts : (y v : Subject) (ss : List Subject) (hs : List Handle) (b : Told) → slots m .at (subject s) ≡ subject-entry y
+        → refusal (slots m) (maps s o p) ≡ none → v ≡ fallen-by y (x .level) → ss ≡ set (m .subjects) (s % 32) v
         → hs ≡ set (m .handles) (s % 32 * 16 + p % 16) (joining 3 o) → b ≡ outcome (ltb (v .level) (y .level)) (v .level)
         → Acts m (maps s o p) b (monitor m ss (m .objects) hs ns)
-    maps-acts y v ss hs b q e d i j h = rw (i, j) (acts m (maps s o p) b _ _ refl (subst₂ (λ (c : Told) (z : Subject). Does (view m) (maps s o p) c
-        (with-hand (with-at (view m) (put (view m .at) (subject s) (subject-entry z))) (place (view m .hand) s p (some (mapping o)))))
-        (sym (h ∙ ap (λ (z : Subject). outcome (ltb (z .level) (y .level)) (z .level)) d)) (sym d) (map-does (view m) s o p y x e q k))
-        (map-stored v) (λ k. map-ready (view m) s o p (figure-of ns) w e (map-ready-now k)))
+    maps-acts y v ss hs b q e d i j h = rw (i, j) (acts m (maps s o p) b _ _ refl refl (subst₂ (λ (c : Told) (z : Subject). Does (slots m) (maps s o p) c
+        (with-hand (with-at (slots m) (put (slots m .at) (subject s) (subject-entry z))) (place (slots m .hand) s p (some (mapping o)))))
+        (sym (h ∙ ap (λ (z : Subject). outcome (ltb (z .level) (y .level)) (z .level)) d)) (sym d) (map-does (slots m) s o p y x e q k))
+        (map-stored v) (λ k. map-ready (slots m) s o p (figure-of ns) w e (map-ready-now k)))
 
-    pub maps-keeps : (y v : Subject) (ss : List Subject) (hs : List Handle) → view m .at (subject s) ≡ subject-entry y → v ≡ fallen-by y (x .level)
-        → ss ≡ set (m .subjects) (s % 32) v → hs ≡ set (m .handles) (s % 32 * 16 + p % 16) (joining 3 o) → Keeps m (monitor m ss (m .objects) hs ns)
+    pub maps-keeps : (y v : Subject) (ss : List Subject) (hs : List Handle) → slots m .at (subject s) ≡ subject-entry y → v ≡ fallen-by y (x .level)
+        → ss ≡ set (m .subjects) (s % 32) v → hs ≡ set (m .handles) (s % 32 * 16 + p % 16) (joining 3 o) → Keeps m (maps s o p) (monitor m ss (m .objects) hs ns)
     maps-keeps y v ss hs q d i j = rw (i, j) (record {
-      whole = subst Wf (sym now) (wf-enter (apply (hold s p (some (mapping o))) (view m)) (subject s) e outside (lt→ltb s 32 map-low-s) (wf-hold (view m) s p (mapping o) w
+      whole = subst Wf (sym now) (wf-enter (apply (hold s p (some (mapping o))) (slots m)) (subject s) e outside (lt→ltb s 32 map-low-s) (wf-hold (slots m) s p (mapping o) w
           (record { from = map-lives; to = map-there; place = map-low-p })));
-      kept = λ k. subst (λ (t : Tables). Ready t (figure-of ns)) (sym now) (mapping-ready (view m) s o p e (figure-of ns) w map-lives map-low-p map-vacant (map-ready-now k));
+      kept = λ k. subst (λ (t : Tables). Ready t (figure-of ns)) (sym now) (mapping-ready (slots m) s o p e (figure-of ns) w map-lives map-low-p map-vacant (map-ready-now k));
       says = refl;
+      numbered = refl;
+      came = λ i u. inl u;
     })
       where
         e : Entry
         e = entry running (label (v .level))
 
         lives-now : T (is-some (subject-entry y))
-        lives-now = subst (λ (o : Option Entry). T (is-some o)) q (subst T (used-is (view m) (subject s)) (live-of (view m) (subject s) map-lives .1))
+        lives-now = subst (λ (o : Option Entry). T (is-some o)) q (subst T (used-is (slots m) (subject s)) (live-of (slots m) (subject s) map-lives .1))
 
-        now : view (monitor m (set (m .subjects) (s % 32) v) (m .objects) (set (m .handles) (s % 32 * 16 + p % 16) (joining 3 o)) ns)
-            ≡ apply (enter (subject s) e outside) (apply (hold s p (some (mapping o))) (view m))
-        now = map-stored v ∙ ap (λ (a : Option Entry). with-hand (with-at (view m) (put (view m .at) (subject s) a)) (place (view m .hand) s p (some (mapping o))))
+        now : slots (monitor m (set (m .subjects) (s % 32) v) (m .objects) (set (m .handles) (s % 32 * 16 + p % 16) (joining 3 o)) ns)
+            ≡ apply (enter (subject s) e outside) (apply (hold s p (some (mapping o))) (slots m))
+        now = map-stored v ∙ ap (λ (a : Option Entry). with-hand (with-at (slots m) (put (slots m .at) (subject s) a)) (place (slots m .hand) s p (some (mapping o))))
             (ap subject-entry d ∙ fallen-lives y (x .level) lives-now ∙ ap (λ (a : Subject). some (entry running (label (a .level)))) (sym d))
 
   -- ── exec ──
-  module _ (s o : ℕ) (y : Object) (after : List Handle) (ns : List ℕ) (w : Wf (view m)) (z : Refuses (view m) (exec s o) 0)
-      (q : view m .at (object o) ≡ object-entry y) (a : Rowed (m .handles) (s % 32) (λ p. lasting (hands (m .handles) (s % 32) p)) after)
+  module _ (s o : ℕ) (y : Object) (after : List Handle) (ns : List ℕ) (w : Wf (slots m)) (z : Refuses (slots m) (exec s o) 0)
+      (q : slots m .at (object o) ≡ object-entry y) (a : Rowed (m .handles) (s % 32) (λ p. lasting (hands (m .handles) (s % 32) p)) after)
       (f : Works (m .objects) after ns) where
-    exec-lives : T (live (view m) (subject s))
-    exec-lives = is-alive (view m) s (early-passed (view m) (exec s o) z (alive s) (inl refl) tt)
+    exec-lives : T (live (slots m) (subject s))
+    exec-lives = is-alive (slots m) s (early-passed (slots m) (exec s o) z (alive s) (inl refl) tt)
 
-    exec-there : T (live (view m) (object o))
-    exec-there = is-present (view m) o (early-passed (view m) (exec s o) z (present o) (inr (inl refl)) tt)
+    exec-there : T (live (slots m) (object o))
+    exec-there = is-present (slots m) o (early-passed (slots m) (exec s o) z (present o) (inr (inl refl)) tt)
 
     low-run : s < 32
-    low-run = ltb→lt s 32 (live-of (view m) (subject s) exec-lives .0)
+    low-run = ltb→lt s 32 (live-of (slots m) (subject s) exec-lives .0)
 
     same-row : s % 32 ≡ s
     same-row = omega (arith, low-run)
@@ -629,86 +639,86 @@ module _ (m : Monitor) (g : Long m) where
     shed ss = a (beside m) ss (m .objects) ∙ ap (λ (i : ℕ). with-hand (tables-of (beside m) ss (m .objects) (m .handles))
         (row (hands (m .handles)) i (λ p. lasting (hands (m .handles) i p)))) same-row
 
-    sheds-now : tables-of (beside m) (m .subjects) (m .objects) after ≡ applies (sheds (view m) s) (view m)
+    sheds-now : tables-of (beside m) (m .subjects) (m .objects) after ≡ applies (sheds (slots m) s) (slots m)
     unfolding sheds tables-of
     sheds-now = shed (m .subjects)
 
     shed-wf : Wf (tables-of (beside m) (m .subjects) (m .objects) after)
-    shed-wf = subst Wf (sym sheds-now) (less-wf (sheds-less (view m) s) w)
+    shed-wf = subst Wf (sym sheds-now) (less-wf (sheds-less (slots m) s) w)
 
     needed-now : Needed (tables-of (beside m) (m .subjects) (m .objects) after) ns
     needed-now = f (beside m) (m .subjects) shed-wf
 
-    pub exec-late : (v : ℕ) → v ≡ getD ns (s % 32) 0 → Late (view m) (exec s o) (ltb (y .level) v) false false
+    pub exec-late : (v : ℕ) → v ≡ getD ns (s % 32) 0 → Late (slots m) (exec s o) (ltb (y .level) v) false false
     exec-late v e = record { nine = alone unfit; ten = refl; fifteen = refl }
       where
         u : Tables
-        u = applies (sheds (view m) s) (view m)
+        u = applies (sheds (slots m) s) (slots m)
 
-        own-need : label v ≡ needs u (cell (view m) s)
+        own-need : label v ≡ needs u (cell (slots m) s)
         own-need = ap label e ∙ ap (λ (i : ℕ). label (getD ns i 0)) same-row ∙ needed-now .need-is (subject s) (lt→ltb s 32 low-run)
-            ∙ ap₂ needs sheds-now (sym (cell-self (view m) s))
+            ∙ ap₂ needs sheds-now (sym (cell-self (slots m) s))
 
-        own-level : label-of (view m .at (object o)) ≡ label (y .level)
-        own-level = ap label-of (full-object (view m) o y q exec-there)
+        own-level : label-of (slots m .at (object o)) ≡ label (y .level)
+        own-level = ap label-of (full-object (slots m) o y q exec-there)
 
-        unfit : broken (view m) (suits s o) ≡ ltb (y .level) v
+        unfit : broken (slots m) (suits s o) ≡ ltb (y .level) v
         unfit = sym (below-test v (y .level) ∙ ap₂ (λ (a b : Label). not (leq a b)) own-need (sym own-level))
 
-    pub execs : (x v : Subject) (ss : List Subject) (left : List Object) (b : Told) → view m .at (subject s) ≡ subject-entry x
-        → refusal (view m) (exec s o) ≡ none → v ≡ fallen-by x (y .level) → ss ≡ set (m .subjects) (s % 32) v
+    pub execs : (x v : Subject) (ss : List Subject) (left : List Object) (b : Told) → slots m .at (subject s) ≡ subject-entry x
+        → refusal (slots m) (exec s o) ≡ none → v ≡ fallen-by x (y .level) → ss ≡ set (m .subjects) (s % 32) v
         → b ≡ outcome (ltb (v .level) (x .level)) (v .level) → Reaps (m .objects) (m .handles) after left
         → Acts m (exec s o) b (monitor m ss left after ns)
     unfolding tables-of
-    execs x v ss left b r e d n h c = rw n (acts m (exec s o) b _ _ refl (subst₂ (λ (c : Told) (z : Subject). Does (view m) (exec s o) c (reap (handles (view m))
-        (with-hand (with-at (view m) (put (view m .at) (subject s) (subject-entry z))) dropped)))
-        (sym (h ∙ ap (λ (z : Subject). outcome (ltb (z .level) (x .level)) (z .level)) d)) (sym d) (exec-does (view m) s o x y e r q))
-        (c (beside m) _ (view m) (all-handles m) ∙ ap (reap (handles (view m))) (shed (set (m .subjects) (s % 32) v)
+    execs x v ss left b r e d n h c = rw n (acts m (exec s o) b _ _ refl refl (subst₂ (λ (c : Told) (z : Subject). Does (slots m) (exec s o) c (reap (handles (slots m))
+        (with-hand (with-at (slots m) (put (slots m .at) (subject s) (subject-entry z))) dropped)))
+        (sym (h ∙ ap (λ (z : Subject). outcome (ltb (z .level) (x .level)) (z .level)) d)) (sym d) (exec-does (slots m) s o x y e r q))
+        (c (beside m) _ (slots m) (all-handles m) ∙ ap (reap (handles (slots m))) (shed (set (m .subjects) (s % 32) v)
         ∙ ap (λ (u : Tables). with-hand u dropped) (put-subject s v ns low-run)))
-        (λ k. exec-ready (view m) s o (figure-of ns) (λ x h. needed-now .need-is x h ∙ ap (λ (t : Tables). needs t x) sheds-now)))
+        (λ k. exec-ready (slots m) s o (figure-of ns) (λ x h. needed-now .need-is x h ∙ ap (λ (t : Tables). needs t x) sheds-now)))
       where
         dropped : ℕ → ℕ → Option Held
         dropped = row (hands (m .handles)) s (λ p. lasting (hands (m .handles) s p))
 
   -- ── mark ──
-  pub marks : (s p : ℕ) (x : Subject) (h : Handle) (hs : List Handle) → Wf (view m) → refusal (view m) (mark s p) ≡ none
-      → view m .at (subject s) ≡ subject-entry x → view m .hand s p ≡ held h
+  pub marks : (s p : ℕ) (x : Subject) (h : Handle) (hs : List Handle) → Wf (slots m) → refusal (slots m) (mark s p) ≡ none
+      → slots m .at (subject s) ≡ subject-entry x → slots m .hand s p ≡ held h
       → hs ≡ set (m .handles) (s % 32 * 16 + p % 16) (record { way = h .way; object = h .object; mark = 1 })
       → Acts m (mark s p) (allowed (x .level)) (monitor m (m .subjects) (m .objects) hs (m .needs))
-  marks s p x h hs w e q r n = rw n (acts m (mark s p) (allowed (x .level)) _ _ refl (mark-does (view m) s p x e q)
+  marks s p x h hs w e q r n = rw n (acts m (mark s p) (allowed (x .level)) _ _ refl refl (mark-does (slots m) s p x e q)
       (store-handle (beside m) (m .subjects) (m .objects) (m .handles) s p (record { way = h .way; object = h .object; mark = 1 }) (g .handles)
-      (row-low (view m) (mark s p) e s (inl refl)) (found-place (view m) w (mark s p) s p h e (inr (inl refl)) r)
-      ∙ ap (λ (v : Option Held). with-hand (view m) (place (view m .hand) s p v)) (go (eqb (h .way) 0) ∙ ap marking (sym r)))
-      (λ k. mark-ready (view m) (figure-of (m .needs)) w k s p))
+      (row-low (slots m) (mark s p) e s (inl refl)) (found-place (slots m) w (mark s p) s p h e (inr (inl refl)) r)
+      ∙ ap (λ (v : Option Held). with-hand (slots m) (place (slots m .hand) s p v)) (go (eqb (h .way) 0) ∙ ap marking (sym r)))
+      (λ k. mark-ready (slots m) (figure-of (m .needs)) w k s p))
     where
       go : (b : Bool) → cond b none (some (joins (record { way = h .way; object = h .object; mark = 1 }))) ≡ marking (cond b none (some (joins h)))
       go true = refl
       go false = refl
 
   -- ── retire ──
-  module _ (o : ℕ) (z : Refuses (view m) (retire o) 0) where
+  module _ (o : ℕ) (z : Refuses (slots m) (retire o) 0) where
     low-here : o < 64
-    low-here = ltb→lt o 64 (live-of (view m) (object o) (is-present (view m) o (early-passed (view m) (retire o) z (present o) (inl refl) tt)) .0)
+    low-here = slot-low (beside m) (m .subjects) (m .objects) (m .handles) (g .objects) (slots m) o refl (is-present (slots m) o (early-passed (slots m) (retire o) z (present o) (inl refl) tt))
 
-    pub retire-late : (r : Bool) → r ≡ open-on (handles (with-hand empty (hands (m .handles)))) (o % 64) → Late (view m) (retire o) false r false
+    pub retire-late : (r : Bool) → r ≡ open-on (handles (with-hand empty (hands (m .handles)))) (o % 64) → Late (slots m) (retire o) false r false
     retire-late r f = record { nine = refl; ten = alone busy; fifteen = refl }
       where
         same : o % 64 ≡ o
         same = omega (arith, low-here)
 
-        busy : broken (view m) (idle o) ≡ r
+        busy : broken (slots m) (idle o) ≡ r
         busy = ap (λ (l : List Held). open-on l o) (all-handles m) ∙ ap (open-on (handles (with-hand empty (hands (m .handles))))) (sym same) ∙ sym f
 
-    pub retires : (y : Object) (os : List Object) → Wf (view m) → view m .at (object o) ≡ object-entry y → refusal (view m) (retire o) ≡ none
+    pub retires : (y : Object) (os : List Object) → Wf (slots m) → slots m .at (object o) ≡ object-entry y → refusal (slots m) (retire o) ≡ none
         → os ≡ set (m .objects) (o % 64) no-object → Acts m (retire o) (allowed (y .level)) (monitor m (m .subjects) os (m .handles) (m .needs))
-    retires y os w q e n = rw n (acts m (retire o) (allowed (y .level)) _ _ refl (retire-does (view m) o y e q) (put-object o no-object (m .needs) low-here)
-        (λ k. retire-ready (view m) (figure-of (m .needs)) w k o e))
+    retires y os w q e n = rw n (acts m (retire o) (allowed (y .level)) _ _ refl refl (retire-does (slots m) o y e q) (put-object o no-object (m .needs) low-here)
+        (λ k. retire-ready (slots m) (figure-of (m .needs)) w k o e))
 
   -- ── freeze ──
-  pub freezes : (n : ℕ) → Wf (view m) → refusal (view m) (freeze n) ≡ none → Acts m (freeze n) (allowed (n % 256))
-      (record { subjects = m .subjects; objects = m .objects; handles = m .handles; freeze = n % 256; needs = m .needs; sure = m .sure })
+  pub freezes : (n : ℕ) → Wf (slots m) → refusal (slots m) (freeze n) ≡ none → Acts m (freeze n) (allowed (n % 256))
+      (record { subjects = m .subjects; objects = m .objects; handles = m .handles; freeze = n % 256; needs = m .needs; sure = m .sure; numbers = m .numbers })
   unfolding tables-of
-  freezes n w e = rw low (acts m (freeze n) (allowed n) _ _ refl (freeze-does (view m) n e) refl (λ k. freeze-ready (view m) (figure-of (m .needs)) w k n))
+  freezes n w e = rw low (acts m (freeze n) (allowed n) _ _ refl refl (freeze-does (slots m) n e) refl (λ k. freeze-ready (slots m) (figure-of (m .needs)) w k n))
     where
       low : n % 256 ≡ n
-      low = let h : n ≤ 16 = ltb-false 16 n (is-false (ltb 16 n) (passed (view m) (freeze n) e (freezable n) (inl refl))) in omega arith
+      low = let h : n ≤ 16 = ltb-false 16 n (is-false (ltb 16 n) (passed (slots m) (freeze n) e (freezable n) (inl refl))) in omega arith

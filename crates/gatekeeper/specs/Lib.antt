@@ -2,3 +2,4 @@
 -- Assumes nothing.
 pub mod View
 pub mod Acting
+pub mod Numbering

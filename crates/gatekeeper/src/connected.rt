@@ -2,8 +2,9 @@
 ghost use Rattle.answers.specs.Telling.{told};
 ghost use Rattle.model.specs.Calls.{connect};
 ghost use Rattle.model.specs.Invariant.{Wf};
-ghost use Rattle.gatekeeper.specs.View.{view};
+ghost use Rattle.gatekeeper.specs.View.{slots};
 ghost use Rattle.gatekeeper.specs.Acting.{Acts};
+ghost use Rattle.refusals.specs.Refusing.{Room};
 use crate::Monitor;
 use crate::Reply;
 use answers::Answer;
@@ -13,8 +14,8 @@ use tables::looks;
 
 impl Monitor {
     // Call 17, whose t is u here: two new empty pipes, a at s's level and b at u's; s and u each read the other's at place p and write their own at q.
-    pub(crate) fn connect(mut self, s: u32, u: u32, a: u32, b: u32, p: u32, q: u32) -> Reply
-        ensures { λ r. ⌜ (Wf (view self) → Acts self (connect s u a b p q) (told (r .answer)) (r .monitor)) ⌝ }
+    pub(crate) fn connect(mut self, s: u64, u: u64, a: u64, b: u64, p: u64, q: u64) -> Reply
+        ensures { λ r. ⌜ (Wf (slots self) → Room (slots self) (connect s u a b p q) → Acts self (connect s u a b p q) (told (r .answer)) (r .monitor)) ⌝ }
     {
         let subjects = self.subjects;
         let objects = self.objects;

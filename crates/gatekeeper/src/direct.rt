@@ -6,18 +6,24 @@ ghost use Rattle.model.specs.Calls.{decode};
 ghost use Rattle.model.specs.Invariant.{Wf};
 ghost use Rattle.model.specs.Promise.{Meets};
 ghost use Rattle.answers.specs.Telling.{told};
-ghost use Rattle.gatekeeper.specs.View.{view, Tidy, monitors, direct};
+ghost use Rattle.gatekeeper.specs.View.{slots, once, Tidy, monitors, direct};
 ghost use Rattle.gatekeeper.specs.Acting.{Firm, Acts, Keeps};
+ghost use Rattle.tables.specs.Slots.{single};
+ghost use Rattle.refusals.specs.Refusing.{Room};
 use crate::Monitor;
 use crate::Reply;
 use crate::SURE;
+use crate::seats;
+use tables::slots;
 
 impl Monitor {
     // This monitor where it is sure; else no dangling handle remains.
     fn readied(mut self) -> Monitor
-        ensures tables { λ r. ⌜ (Tidy self → view r ≡ clean (view self)) ⌝ }
+        ensures tables { λ r. ⌜ (Tidy self → slots r ≡ clean (slots (once self))) ⌝ }
         ensures needs { λ r. ⌜ r .needs ≡ self .needs ⌝ }
         ensures sure { λ r. ⌜ r .sure ≡ self .sure ⌝ }
+        ensures numbers { λ r. ⌜ r .numbers ≡ self .numbers ⌝ }
+        ensures objects { λ r. ⌜ (Tidy self → r .objects ≡ single (self .objects) (self .numbers)) ⌝ }
     {
         if self.sure == SURE {
             return self;
@@ -25,15 +31,18 @@ impl Monitor {
         let subjects = self.subjects;
         let objects = self.objects;
         let handles = self.handles;
-        let kept = handles::cleaned(subjects, objects, handles);
+        let numbers = self.numbers;
+        let single = slots::single(objects, numbers);
+        let kept = handles::cleaned(subjects, single, handles);
+        self.objects = single;
         self.handles = kept;
         self
     }
 
     // A code and six numbers; those that the code does not use are ignored. Nothing dangles in the tables.
-    fn dispatch(self, code: u32, a: u32, b: u32, c: u32, d: u32, e: u32, f: u32) -> Reply
-        ensures acts { λ r. ⌜ (Firm self → Acts self (decode (direct code a b c d e f)) (told (r .answer)) (r .monitor)) ⌝ }
-        ensures keeps { λ r. ⌜ (Wf (view self) → Keeps self (r .monitor)) ⌝ }
+    fn dispatch(self, code: u64, a: u64, b: u64, c: u64, d: u64, e: u64, f: u64) -> Reply
+        ensures acts { λ r. ⌜ (Firm self → Room (slots self) (decode (direct code a b c d e f)) → Acts self (decode (direct code a b c d e f)) (told (r .answer)) (r .monitor)) ⌝ }
+        ensures keeps { λ r. ⌜ (Wf (slots self) → Room (slots self) (decode (direct code a b c d e f)) → Keeps self (decode (direct code a b c d e f)) (r .monitor)) ⌝ }
     {
         match code {
             1 => self.admit(a, b),
@@ -60,12 +69,17 @@ impl Monitor {
     // A code and six numbers; those that the code does not use are ignored. A refused call hands the same struct back, free part included;
     // any other hands back the rules' next tables, and its free part is any (model, `Promise`). The first is promised of every monitor; the answer and the tables of
     // honest ones, that is, of those that do not say that they are sure, and of those that say so and of which it is so; and that kept needs stay right and `sure`
-    // what it is also of any other in which nothing dangles.
-    pub fn call(self, code: u32, a: u32, b: u32, c: u32, d: u32, e: u32, f: u32) -> Reply
+    // what it is also of any other in which nothing dangles and no two slots have one number.
+    pub fn call(self, code: u64, a: u64, b: u64, c: u64, d: u64, e: u64, f: u64) -> Reply
         ensures { λ r. ⌜ Meets monitors self (decode (direct code a b c d e f)) (told (r .answer)) (r .monitor) ⌝ }
     {
-        let t = self.readied();
-        let r = t.dispatch(code, a, b, c, d, e, f);
+        let mut t = self.readied();
+        let objects = t.objects;
+        let numbers = t.numbers;
+        let s = seats::located(objects, numbers, code, a, b, c, d);
+        let all = s.numbers;
+        t.numbers = all;
+        let r = t.dispatch(code, s.a, s.b, s.c, s.d, e, f);
         self.settle(r)
     }
 }

@@ -2,7 +2,7 @@
 ghost use Rattle.model.specs.Calls.{freeze};
 ghost use Rattle.answers.specs.Telling.{told};
 ghost use Rattle.model.specs.Invariant.{Wf};
-ghost use Rattle.gatekeeper.specs.View.{view};
+ghost use Rattle.gatekeeper.specs.View.{slots};
 ghost use Rattle.gatekeeper.specs.Acting.{Acts};
 use crate::Monitor;
 use crate::Reply;
@@ -10,8 +10,8 @@ use answers::Answer;
 
 impl Monitor {
     // Call 16: the freeze is this number, in place of the one before it.
-    pub(crate) fn freeze(mut self, level: u32) -> Reply
-        ensures { λ r. ⌜ (Wf (view self) → Acts self (freeze level) (told (r .answer)) (r .monitor)) ⌝ }
+    pub(crate) fn freeze(mut self, level: u64) -> Reply
+        ensures { λ r. ⌜ (Wf (slots self) → Acts self (freeze level) (told (r .answer)) (r .monitor)) ⌝ }
     {
         let n = refusals::of_freeze(level);
         if n != 0 {

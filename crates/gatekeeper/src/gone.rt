@@ -2,7 +2,7 @@
 ghost use Rattle.model.specs.Calls.{close, exit, retire};
 ghost use Rattle.answers.specs.Telling.{told};
 ghost use Rattle.model.specs.Invariant.{Wf};
-ghost use Rattle.gatekeeper.specs.View.{view};
+ghost use Rattle.gatekeeper.specs.View.{slots};
 ghost use Rattle.gatekeeper.specs.Acting.{Acts};
 use crate::Monitor;
 use crate::Reply;
@@ -17,8 +17,8 @@ use tables::looks;
 
 impl Monitor {
     // Call 11: the place is empty; a pipe ends with its last handle.
-    pub(crate) fn close(mut self, s: u32, p: u32) -> Reply
-        ensures { λ r. ⌜ (Wf (view self) → Acts self (close s p) (told (r .answer)) (r .monitor)) ⌝ }
+    pub(crate) fn close(mut self, s: u64, p: u64) -> Reply
+        ensures { λ r. ⌜ (Wf (slots self) → Acts self (close s p) (told (r .answer)) (r .monitor)) ⌝ }
     {
         let subjects = self.subjects;
         let objects = self.objects;
@@ -35,7 +35,7 @@ impl Monitor {
             mark: 0,
         };
         let handles = looks::with_handle(held, s, p, gone);
-        let number = h.object as u32;
+        let number = h.object as u64;
         let y = looks::object_of(objects, number);
         let left = handles::outlived(handles, y, h.object);
         let rest = looks::with_object(objects, number, left);
@@ -51,8 +51,8 @@ impl Monitor {
     }
 
     // Call 12: all handles closed, number free; pipes end with their last handles.
-    pub(crate) fn exit(mut self, s: u32) -> Reply
-        ensures { λ r. ⌜ (Wf (view self) → Acts self (exit s) (told (r .answer)) (r .monitor)) ⌝ }
+    pub(crate) fn exit(mut self, s: u64) -> Reply
+        ensures { λ r. ⌜ (Wf (slots self) → Acts self (exit s) (told (r .answer)) (r .monitor)) ⌝ }
     {
         let subjects = self.subjects;
         let x = looks::subject_of(subjects, s);
@@ -79,8 +79,8 @@ impl Monitor {
     }
 
     // Call 13: file gone, number free.
-    pub(crate) fn retire(mut self, o: u32) -> Reply
-        ensures { λ r. ⌜ (Wf (view self) → Acts self (retire o) (told (r .answer)) (r .monitor)) ⌝ }
+    pub(crate) fn retire(mut self, o: u64) -> Reply
+        ensures { λ r. ⌜ (Wf (slots self) → Acts self (retire o) (told (r .answer)) (r .monitor)) ⌝ }
     {
         let objects = self.objects;
         let y = looks::object_of(objects, o);

@@ -4,11 +4,12 @@ ghost use mathlib.Core.Bool.{cond};
 ghost use Rattle.model.specs.Label.{label};
 ghost use Rattle.model.specs.Flow.{subject, object};
 ghost use Rattle.model.specs.Tables.{clean, needs};
-ghost use Rattle.gatekeeper.specs.View.{view, Right, kept-need, Righted, Assured};
+ghost use Rattle.gatekeeper.specs.View.{view, Right, kept-need, Kept-at, Righted, Assured};
 use crate::Monitor;
 use crate::SURE;
-use tables::FREE;
+use tables::OBJECT_NUMBERS;
 use tables::looks;
+use tables::slots;
 
 // What a monitor may say of itself, whose needs are right and in which nothing dangles: that it is sure, unless some level is below its need.
 fn earned(short: bool) -> u8
@@ -22,8 +23,8 @@ fn earned(short: bool) -> u8
 
 impl Monitor {
     // The kept need of subject s, and of object o; 0 where it is not live. On a right monitor it is the need, and so that of whatever is not live.
-    pub fn need_of_subject(self, s: u32) -> u8
-        ensures kept { λ r. ⌜ r ≡ kept-need self (subject s) ⌝ }
+    pub fn need_of_subject(self, s: u64) -> u8
+        ensures kept { λ r. ⌜ r ≡ kept-need self s ⌝ }
         ensures right { λ r. ⌜ (Right self → label r ≡ needs (clean (view self)) (subject s)) ⌝ }
     {
         let subjects = self.subjects;
@@ -35,17 +36,19 @@ impl Monitor {
         keeping::of_subject(n, s)
     }
 
-    pub fn need_of_object(self, o: u32) -> u8
-        ensures kept { λ r. ⌜ r ≡ kept-need self (object o) ⌝ }
+    pub fn need_of_object(self, o: u64) -> u8
+        ensures kept { λ r. ⌜ Kept-at self o r ⌝ }
         ensures right { λ r. ⌜ (Right self → label r ≡ needs (clean (view self)) (object o)) ⌝ }
     {
         let objects = self.objects;
-        let y = looks::object_of(objects, o);
-        if y.kind == FREE {
+        let numbers = self.numbers;
+        let single = slots::single(objects, numbers);
+        let i = slots::slot_of(single, numbers, o);
+        if OBJECT_NUMBERS <= i {
             return 0;
         }
         let n = self.needs;
-        keeping::of_object(n, o)
+        keeping::of_object(n, i)
     }
 
     // This monitor with its needs worked out anew, whatever they were. All else stays as it is, the free part too.
@@ -55,8 +58,10 @@ impl Monitor {
         let subjects = self.subjects;
         let objects = self.objects;
         let handles = self.handles;
-        let counted = handles::cleaned(subjects, objects, handles);
-        let needs = flows::figures(objects, counted);
+        let numbers = self.numbers;
+        let single = slots::single(objects, numbers);
+        let counted = handles::cleaned(subjects, single, handles);
+        let needs = flows::figures(single, counted);
         self.needs = needs;
         self
     }
@@ -69,9 +74,12 @@ impl Monitor {
         let subjects = self.subjects;
         let objects = self.objects;
         let handles = self.handles;
-        let emptied = handles::cleaned(subjects, objects, handles);
-        let needs = flows::figures(objects, emptied);
-        let short = flows::is_short(subjects, objects, needs);
+        let numbers = self.numbers;
+        let single = slots::single(objects, numbers);
+        let emptied = handles::cleaned(subjects, single, handles);
+        let needs = flows::figures(single, emptied);
+        let short = flows::is_short(subjects, single, needs);
+        self.objects = single;
         self.handles = emptied;
         self.needs = needs;
         self.sure = earned(short);

@@ -1,8 +1,8 @@
 // The gatekeeper: one struct that holds the tables, and the calls as methods that take it and hand the next one back.
 //
-// Every promise goes through `view`, which reads the arrays as the tables of the rules (crate `model`). Each call is written once, in
-// `made`, `moved`, `gone`, `frozen` and `connected`, for tables in which nothing dangles; `direct` has the direct call, for every monitor value; `kept`
-// the needs that are kept beside the tables.
+// Every promise of a public function goes through `view`, which reads the arrays as the tables of the rules (crate `model`), objects by number. Each call is written
+// once, in `made`, `moved`, `gone`, `frozen` and `connected`, for tables in which nothing dangles, and by slot; `seats` finds the slots of the objects that a call
+// names; `direct` has the direct call, for every monitor value; `kept` the needs that are kept beside the tables.
 ghost use mathlib.Core.Path.{_≡_};
 ghost use Rattle.model.specs.Tables.{empty};
 ghost use Rattle.gatekeeper.specs.View.{view, Honest, Right};
@@ -28,13 +28,16 @@ mod gone;
 mod kept;
 mod made;
 mod moved;
+mod seats;
 
-// The tables, and beside them the kept needs, of the subjects and then of the objects. Place p of subject s is handle 16 s + p. A freeze of NO_FREEZE
-// and above says that no file is frozen. `sure` is SURE where this value says of itself that nothing dangles in it, that its kept needs are right and that no
-// level is below its need, as it is of what calls from the empty tables make, and of what `assured` does: then calls go by the kept needs, and look for no
-// dangling handle. Any other byte says nothing, and calls work out what they go by.
+// The tables, and beside them the kept needs, of the subjects and then of the slots. The object in slot i has number i of `numbers`, a handle names a slot, and place p
+// of subject s is handle 16 s + p. A freeze of NO_FREEZE and above says that no file is frozen. `sure` is SURE where this value says of itself that its slots in use
+// have numbers that differ, that nothing dangles in it, that its kept needs are right and that no level is below its need, as it is of what calls from the empty
+// tables make, and of what `assured` does: then calls go by the kept needs, and look for no dangling handle. Any other byte says nothing, and calls work out what
+// they go by.
 #[repr(C)]
 pub struct Monitor {
+    pub numbers: [u64; OBJECTS],
     pub subjects: [Subject; SUBJECTS],
     pub objects: [Object; OBJECTS],
     pub handles: [Handle; HANDLES],
@@ -62,8 +65,8 @@ fn way_of(reads: bool) -> u8
 }
 
 impl Monitor {
-    // The empty tables, whose needs are right, and which calls may rely on. The free part (model, `Promise`: the level and the kept need beside a number that is not in use, the object and
-    // mark beside an empty place) is any; this code has zeros there.
+    // The empty tables, whose needs are right, and which calls may rely on. The free part (model, `Promise`: the level and the kept need of a subject that is not live, those and the number
+    // of a free slot, the slot and mark beside an empty place) is any; this code has zeros there.
     pub fn empty() -> Monitor
         ensures tables { λ r. ⌜ view r ≡ empty ⌝ }
         ensures needs { λ r. ⌜ Right r ⌝ }
@@ -81,6 +84,7 @@ impl Monitor {
             mark: 0,
         }; HANDLES];
         Monitor {
+            numbers: [0; OBJECTS],
             subjects: subjects,
             objects: objects,
             handles: handles,

@@ -2,9 +2,10 @@
 ghost use Rattle.model.specs.Calls.{admit, register, create, make-pipe, opens, fork, mark};
 ghost use Rattle.answers.specs.Telling.{told};
 ghost use Rattle.model.specs.Invariant.{Wf};
-ghost use Rattle.gatekeeper.specs.View.{view};
+ghost use Rattle.gatekeeper.specs.View.{slots};
 ghost use Rattle.gatekeeper.specs.Acting.{Firm, Acts, Keeps};
 ghost use Rattle.refusals.specs.Refusing.{direction};
+ghost use Rattle.refusals.specs.Refusing.{Room, direction};
 use crate::Monitor;
 use crate::Reply;
 use crate::SURE;
@@ -18,8 +19,8 @@ use tables::looks;
 
 impl Monitor {
     // Call 1: a new subject from outside, with no handles, and so with no need.
-    pub(crate) fn admit(mut self, s: u32, level: u32) -> Reply
-        ensures { λ r. ⌜ (Wf (view self) → Acts self (admit s level) (told (r .answer)) (r .monitor)) ⌝ }
+    pub(crate) fn admit(mut self, s: u64, level: u64) -> Reply
+        ensures { λ r. ⌜ (Wf (slots self) → Acts self (admit s level) (told (r .answer)) (r .monitor)) ⌝ }
     {
         let before = self.subjects;
         let x = looks::subject_of(before, s);
@@ -41,8 +42,8 @@ impl Monitor {
     }
 
     // Call 2: a new file from outside, which needs its level.
-    pub(crate) fn register(mut self, o: u32, level: u32) -> Reply
-        ensures { λ r. ⌜ (Wf (view self) → Acts self (register o level) (told (r .answer)) (r .monitor)) ⌝ }
+    pub(crate) fn register(mut self, o: u64, level: u64) -> Reply
+        ensures { λ r. ⌜ (Wf (slots self) → Room (slots self) (register o level) → Acts self (register o level) (told (r .answer)) (r .monitor)) ⌝ }
     {
         let before = self.objects;
         let y = looks::object_of(before, o);
@@ -67,8 +68,8 @@ impl Monitor {
     }
 
     // Call 3: a new empty file at s's level, no handle.
-    pub(crate) fn create(mut self, s: u32, o: u32) -> Reply
-        ensures { λ r. ⌜ (Wf (view self) → Acts self (create s o) (told (r .answer)) (r .monitor)) ⌝ }
+    pub(crate) fn create(mut self, s: u64, o: u64) -> Reply
+        ensures { λ r. ⌜ (Wf (slots self) → Room (slots self) (create s o) → Acts self (create s o) (told (r .answer)) (r .monitor)) ⌝ }
     {
         let subjects = self.subjects;
         let before = self.objects;
@@ -94,8 +95,8 @@ impl Monitor {
     }
 
     // Call 4: a new empty pipe at s's level; place r reads, w writes. It needs what s needs.
-    pub(crate) fn pipe(mut self, s: u32, o: u32, r: u32, w: u32) -> Reply
-        ensures { λ a. ⌜ (Wf (view self) → Acts self (make-pipe s o r w) (told (a .answer)) (a .monitor)) ⌝ }
+    pub(crate) fn pipe(mut self, s: u64, o: u64, r: u64, w: u64) -> Reply
+        ensures { λ a. ⌜ (Wf (slots self) → Room (slots self) (make-pipe s o r w) → Acts self (make-pipe s o r w) (told (a .answer)) (a .monitor)) ⌝ }
     {
         let subjects = self.subjects;
         let before = self.objects;
@@ -126,9 +127,9 @@ impl Monitor {
     }
 
     // Calls 5 and 6: a reading or writing handle; no level falls.
-    pub(crate) fn open(mut self, reads: bool, s: u32, o: u32, p: u32) -> Reply
+    pub(crate) fn open(mut self, reads: bool, s: u64, o: u64, p: u64) -> Reply
         ensures acts { λ r. ⌜ (Firm self → Acts self (opens (direction reads) s o p) (told (r .answer)) (r .monitor)) ⌝ }
-        ensures keeps { λ r. ⌜ (Wf (view self) → Keeps self (r .monitor)) ⌝ }
+        ensures keeps { λ r. ⌜ (Wf (slots self) → Keeps self (opens (direction reads) s o p) (r .monitor)) ⌝ }
     {
         let subjects = self.subjects;
         let objects = self.objects;
@@ -161,8 +162,8 @@ impl Monitor {
     }
 
     // Call 9: new subject c, with s's level and the same handles at the same places. It needs what s needs.
-    pub(crate) fn fork(mut self, s: u32, c: u32) -> Reply
-        ensures { λ r. ⌜ (Wf (view self) → Acts self (fork s c) (told (r .answer)) (r .monitor)) ⌝ }
+    pub(crate) fn fork(mut self, s: u64, c: u64) -> Reply
+        ensures { λ r. ⌜ (Wf (slots self) → Acts self (fork s c) (told (r .answer)) (r .monitor)) ⌝ }
     {
         let before = self.subjects;
         let x = looks::subject_of(before, s);
@@ -190,8 +191,8 @@ impl Monitor {
     }
 
     // Call 15: the handle at place p of s is marked.
-    pub(crate) fn mark(mut self, s: u32, p: u32) -> Reply
-        ensures { λ r. ⌜ (Wf (view self) → Acts self (mark s p) (told (r .answer)) (r .monitor)) ⌝ }
+    pub(crate) fn mark(mut self, s: u64, p: u64) -> Reply
+        ensures { λ r. ⌜ (Wf (slots self) → Acts self (mark s p) (told (r .answer)) (r .monitor)) ⌝ }
     {
         let subjects = self.subjects;
         let held = self.handles;

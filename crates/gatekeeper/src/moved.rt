@@ -3,7 +3,7 @@ ghost use Rattle.model.specs.Tables.{reading, writing};
 ghost use Rattle.model.specs.Calls.{access, exec, maps};
 ghost use Rattle.answers.specs.Telling.{told};
 ghost use Rattle.model.specs.Invariant.{Wf};
-ghost use Rattle.gatekeeper.specs.View.{view};
+ghost use Rattle.gatekeeper.specs.View.{slots};
 ghost use Rattle.gatekeeper.specs.Acting.{Firm, Acts, Keeps};
 use crate::Monitor;
 use crate::Reply;
@@ -14,8 +14,8 @@ use tables::looks;
 
 impl Monitor {
     // Call 7: s falls to the object's level if that is lower.
-    pub(crate) fn read(mut self, s: u32, p: u32) -> Reply
-        ensures { λ r. ⌜ (Wf (view self) → Acts self (access reading s p) (told (r .answer)) (r .monitor)) ⌝ }
+    pub(crate) fn read(mut self, s: u64, p: u64) -> Reply
+        ensures { λ r. ⌜ (Wf (slots self) → Acts self (access reading s p) (told (r .answer)) (r .monitor)) ⌝ }
     {
         let before = self.subjects;
         let held = self.handles;
@@ -25,7 +25,7 @@ impl Monitor {
         if n != 0 {
             return self.refuse(n);
         }
-        let number = h.object as u32;
+        let number = h.object as u64;
         let objects = self.objects;
         let y = looks::object_of(objects, number);
         let put = looks::fallen(x, y.level);
@@ -39,8 +39,8 @@ impl Monitor {
     }
 
     // Call 8: a pipe falls to s's level if that is lower; a file keeps its own, and each subject that has it mapped reads it.
-    pub(crate) fn write(mut self, s: u32, p: u32) -> Reply
-        ensures { λ r. ⌜ (Wf (view self) → Acts self (access writing s p) (told (r .answer)) (r .monitor)) ⌝ }
+    pub(crate) fn write(mut self, s: u64, p: u64) -> Reply
+        ensures { λ r. ⌜ (Wf (slots self) → Acts self (access writing s p) (told (r .answer)) (r .monitor)) ⌝ }
     {
         let before = self.subjects;
         let held = self.handles;
@@ -50,7 +50,7 @@ impl Monitor {
         if n != 0 {
             return self.refuse(n);
         }
-        let number = h.object as u32;
+        let number = h.object as u64;
         let objects = self.objects;
         let y = looks::object_of(objects, number);
         let put = looks::sunken(y, x.level);
@@ -69,8 +69,8 @@ impl Monitor {
 
     // Call 10: file o is run; s falls to o's level if lower; its marked handles and its mappings are closed, and pipes end with their last
     // handles.
-    pub(crate) fn exec(mut self, s: u32, o: u32) -> Reply
-        ensures { λ r. ⌜ (Wf (view self) → Acts self (exec s o) (told (r .answer)) (r .monitor)) ⌝ }
+    pub(crate) fn exec(mut self, s: u64, o: u64) -> Reply
+        ensures { λ r. ⌜ (Wf (slots self) → Acts self (exec s o) (told (r .answer)) (r .monitor)) ⌝ }
     {
         let subjects = self.subjects;
         let objects = self.objects;
@@ -103,9 +103,9 @@ impl Monitor {
     }
 
     // Call 14: a mapping, which is tested as an open for reading is, and a read: s falls to o's level if lower.
-    pub(crate) fn map(mut self, s: u32, o: u32, p: u32) -> Reply
+    pub(crate) fn map(mut self, s: u64, o: u64, p: u64) -> Reply
         ensures acts { λ r. ⌜ (Firm self → Acts self (maps s o p) (told (r .answer)) (r .monitor)) ⌝ }
-        ensures keeps { λ r. ⌜ (Wf (view self) → Keeps self (r .monitor)) ⌝ }
+        ensures keeps { λ r. ⌜ (Wf (slots self) → Keeps self (maps s o p) (r .monitor)) ⌝ }
     {
         let subjects = self.subjects;
         let objects = self.objects;

@@ -6,7 +6,7 @@ use mathlib.Core.List.{List}
 use Prim.Native.Nat.{ℕ, _+_, _*_, _/_, _%_, _≤_, _<_}
 use native.Mathlib.Omega.{arith}
 use native.Mathlib.Decide.{decLt}
-use borrow.Author.Tests.{lt-ltb, le-ltb, ltb-true}
+use borrow.Author.Tests.{lt-ltb, le-ltb, ltb-true, ltb-false}
 use lib.ListN.{length, getD, List·getD-eq-default}
 use lib.Dec.{ltb, eqb}
 use Rattle.model.specs.Flow.{subject, object}
@@ -49,7 +49,7 @@ some-cond true a = refl
 some-cond false a = refl
 
 module _ (rest : Tables) (ss : List Subject) (os : List Object) (hs r : List Handle) (i : ℕ) (full : 512 ≤ i) (m : Mapped no-handle (kept-at ss os) hs r i)
-    (lh : length hs ≡ 512) where
+    (lh : length hs ≡ 512) (lo : length os ≡ 64) where
   f : ℕ → Bool
   f o = live (tables-of rest ss os hs) (object o)
 
@@ -58,11 +58,11 @@ module _ (rest : Tables) (ss : List Subject) (os : List Object) (hs r : List Han
   unfolding f tables-of
   named h = go (ltb (h .object) 64) refl
     where
-      go : (b : Bool) → ltb (h .object) 64 ≡ b → (b && used (tables-of rest ss os hs) (object (h .object))) ≡
+      go : (b : Bool) → ltb (h .object) 64 ≡ b → used (tables-of rest ss os hs) (object (h .object)) ≡
           (b && not (eqb (getD os (h .object % 64) no-object .kind) 0))
       go true q = let e : h .object % 64 ≡ h .object = omega (arith, ltb-true (h .object) 64 q) in rw (used-is (tables-of rest ss os hs) (object (h .object)), e)
           (some-cond (eqb (getD os (h .object) no-object .kind) 0) _)
-      go false q = refl
+      go false q = rw (used-is (tables-of rest ss os hs) (object (h .object)), List·getD-eq-default os no-object {n = h .object} (omega (arith, ltb-false (h .object) 64 q)))
 
   at-place : (s q : ℕ) → q < 16 → Dec (s < 32) → held (getD r (s * 16 + q) no-handle) ≡ counted (live (tables-of rest ss os hs) (subject s)) f
       (held (getD hs (s * 16 + q) no-handle))

@@ -124,7 +124,7 @@ pub fn outlived(handles: [Handle; HANDLES], object: Object, o: u8) -> Object
     }
 }
 
-// The object that a handle is on; OBJECTS for an empty place and for an object out of range.
+// The slot that a handle names; OBJECTS for an empty place and for a slot out of range.
 fn slot(h: Handle) -> usize
     ensures { λ r. ⌜ r ≡ slot-of h ⌝ }
 {
@@ -199,11 +199,11 @@ pub fn reaped(
 // there are.
 pub fn with_ends(
     handles: [Handle; HANDLES],
-    s: u32,
-    p: u32,
-    q: u32,
-    from: u32,
-    to: u32,
+    s: u64,
+    p: u64,
+    q: u64,
+    from: u64,
+    to: u64,
 ) -> [Handle; HANDLES]
     ensures { λ r. ⌜ ((rest : Tables) (ss : List Subject) (os : List Object) →
         tables-of rest ss os r ≡ with-hand (tables-of rest ss os handles)
@@ -293,7 +293,7 @@ pub fn lasting(places: [Handle; PLACES]) -> [Handle; PLACES]
 }
 
 // The handles once subject c has those of s at the same places, once s has none, and once s has run a program; each number modulo how many there are.
-pub fn forked(handles: [Handle; HANDLES], s: u32, c: u32) -> [Handle; HANDLES]
+pub fn forked(handles: [Handle; HANDLES], s: u64, c: u64) -> [Handle; HANDLES]
     ensures { λ r. ⌜ ((rest : Tables) (ss : List Subject) (os : List Object) →
         tables-of rest ss os r ≡ with-hand (tables-of rest ss os handles) (row (hands handles) (c % 32) (hands handles (s % 32)))) ⌝ }
 {
@@ -303,7 +303,7 @@ pub fn forked(handles: [Handle; HANDLES], s: u32, c: u32) -> [Handle; HANDLES]
     with_row(handles, k, places)
 }
 
-pub fn vacated(handles: [Handle; HANDLES], s: u32) -> [Handle; HANDLES]
+pub fn vacated(handles: [Handle; HANDLES], s: u64) -> [Handle; HANDLES]
     ensures { λ r. ⌜ ((rest : Tables) (ss : List Subject) (os : List Object) →
         tables-of rest ss os r ≡ with-hand (tables-of rest ss os handles) (row (hands handles) (s % 32) (λ p. none))) ⌝ }
 {
@@ -316,7 +316,7 @@ pub fn vacated(handles: [Handle; HANDLES], s: u32) -> [Handle; HANDLES]
     with_row(handles, i, places)
 }
 
-pub fn shed(handles: [Handle; HANDLES], s: u32) -> [Handle; HANDLES]
+pub fn shed(handles: [Handle; HANDLES], s: u64) -> [Handle; HANDLES]
     ensures { λ r. ⌜ ((rest : Tables) (ss : List Subject) (os : List Object) →
         tables-of rest ss os r ≡ with-hand (tables-of rest ss os handles) (row (hands handles) (s % 32) (λ p. lasting (hands handles (s % 32) p)))) ⌝ }
 {

@@ -24,7 +24,7 @@ use Rattle.journal.specs.Calls.{known}
 use Rattle.journal.specs.Record.{longest-record, record-of, fitting, recording}
 use Rattle.journal.specs.Record.Laws.{record-length}
 use Rattle.answers.specs.Telling.{letter-of, value-of}
-use Rattle.host.specs.Numbers.{answer-number, answer-in, record-number, roomy-number, reading-number}
+use Rattle.host.specs.Numbers.{answer-number, answer-in, record-number, roomy-number}
 use Rattle.host.specs.Numbers.Laws.{answer-back}
 
 -- ── calls ──
@@ -59,8 +59,8 @@ record-roomy code ns out are room = by-code (known code) refl
 pub number-short : (r : Number) (bytes : List ℕ) (v k : ℕ) → r ≡ Good v k → reading r ≡ number largest bytes → k ≤ longest
 number-short r bytes v k e h = number-bytes bytes v k (sym h ∙ ap reading e) .1
 
-pub reading-numbered : {r x : Number} {a : Reading} → r ≡ x → reading r ≡ a → reading-number (reading x) ≡ reading-number a
-reading-numbered e q = ap (λ (z : Number). reading-number (reading z)) (sym e) ∙ ap reading-number q
+pub reading-told : {r x : Number} {a : Reading} → r ≡ x → reading r ≡ a → reading x ≡ a
+reading-told e q = ap reading (sym e) ∙ q
 
 -- ── replies ──
 pub reply-numbered : {r x : Written} {a : Option ℕ} → r ≡ x → writing r ≡ a → Option·getD (writing x) 0 ≡ Option·getD a 0

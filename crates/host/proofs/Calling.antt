@@ -1,5 +1,5 @@
 -- What a call leaves in the state's bytes, and what it is answered. Assumes nothing.
-use mathlib.Core.Path.{_≡_, refl, sym, ap, ap₂, _∙_, subst, subst₂}
+use mathlib.Core.Path.{_≡_, refl, sym, ap, ap₂, _∙_, subst}
 use mathlib.Core.Option.{some, Option·none-ne-some}
 use mathlib.Core.List.{List}
 use Prim.Native.Nat.{ℕ}
@@ -9,17 +9,15 @@ use lib.ListN.{length}
 use Rattle.model.specs.Tables.{Tables, clean}
 use Rattle.model.specs.Calls.{Call, Raw, decode, refusal, Answer, allowed, lowered, refused, answer}
 use Rattle.model.specs.Calls.Refusals.{answered-refused}
-use Rattle.model.specs.Figures.{Ready}
 use Rattle.model.specs.Promise.{Meets}
 use Rattle.model.specs.Tally.{tallied}
 use Rattle.gatekeeper.specs.declared.Monitor.{Monitor}
 use Rattle.tally.specs.declared.Tally.{Tally}
 use Rattle.answers.specs.Telling.{letter-of}
-use Rattle.tables.specs.Needs.{figure-of}
 use Rattle.gatekeeper.specs.View.{view, Honest, monitors}
 use Rattle.gatekeeper.specs.View.Laws.{honest-tidy}
 use Rattle.tally.specs.Counting.{counts-of, Tallies}
-use Rattle.host.specs.State.{state-bytes, Sized, monitor-of, tally-of, Stands, state-view, Stored}
+use Rattle.stored.specs.State.{state-bytes, Sized, monitor-of, tally-of, Stands, state-view, Stored}
 use Rattle.host.specs.Numbers.{answer-number, answer-in, call-number}
 use Rattle.host.specs.Demand3.{Called}
 
@@ -69,7 +67,7 @@ module _ {s : List ℕ} {c : Call} {m : Monitor} {y : Tally} {a : Answer} {n : M
       let q : refusal t c ≡ some k = answered-refused t c k .0 (sym answered ∙ r) in
       record {
         size = size;
-        meets = record { unchanged = λ j w. refl; answered = λ u. refl; moved = λ u w. absurd (Option·none-ne-some k (sym w ∙ q)); stays = λ u. u; neat = λ u. u; says = λ u. refl; kept = λ u r. r };
+        meets = record { unchanged = λ j w. refl; answered = λ u. refl; moved = λ u w. absurd (Option·none-ne-some k (sym w ∙ q)); emptied = λ u f. absurd (f k (sym answered ∙ r)); stays = λ u. u; neat = λ u. u; says = λ u. refl; kept = λ u r. r };
         counts = rw (q, tallied);
         exact = λ w. absurd (Option·none-ne-some k (sym w ∙ q));
       }
@@ -82,10 +80,11 @@ module _ {s : List ℕ} {c : Call} {m : Monitor} {y : Tally} {a : Answer} {n : M
       unchanged = λ j w. absurd (h (ap letter-of (answered ∙ w)));
       answered = λ u. refl;
       moved = λ u w. k .tables ∙ meets-here .moved honest w;
+      emptied = λ u f. k .whole (meets-here .emptied (honest-tidy (monitor-of s) honest) (λ j e. f j (sym answered ∙ e)));
       stays = λ u. u;
       neat = λ u. u;
       says = λ u. refl;
-      kept = λ u r. subst₂ (λ (u : Tables) (ns : List ℕ). Ready (clean u) (figure-of ns)) (sym (k .tables)) (sym (k .needs)) (meets-here .kept (honest-tidy (monitor-of s) honest) r);
+      kept = λ u r. k .right (meets-here .kept (honest-tidy (monitor-of s) honest) r);
     };
     counts = ap counts-of (k .tally)
         ∙ p .counts .counts honest-here

@@ -1,9 +1,9 @@
 -- What a host sees of the lent bytes: the record at a number, the entry or handle that it stands for as a number, and the bytes once their kept needs are
 -- put right. Assumes nothing.
-use mathlib.Core.Path.{_≡_, refl, sym, ap, ap₂, _∙_, subst, subst₂}
+use mathlib.Core.Path.{_≡_, refl, sym, ap, ap₂, _∙_, subst}
 use mathlib.Core.Bool.{Bool, true, false, not, _&&_, _||_, cond}
 use mathlib.Core.Option.{Option, none, some}
-use mathlib.Core.List.{List, _∷_, _++_}
+use mathlib.Core.List.{List, [], _∷_, _++_}
 use Prim.Native.Nat.{ℕ, zero, suc, _+_, _*_, _%_, _≤_, _<_}
 use native.Mathlib.Omega.{arith}
 use native.Mathlib.Nat.{mul-suc, mul-le-mul-left}
@@ -17,28 +17,31 @@ use Rattle.model.specs.Flow.{Thing, subject, object}
 use Rattle.model.specs.Tables.{running, file, pipe, reading, writing, Entry, entry, Tables, places, live, counted, clean}
 use Rattle.model.specs.Tables.{Handle as Held}
 use Rattle.model.specs.Invariant.{Wf}
-use Rattle.model.specs.Figures.{Ready}
 use Rattle.tables.specs.declared.Subject.{Subject}
 use Rattle.tables.specs.declared.Object.{Object}
 use Rattle.tables.specs.declared.Handle.{Handle}
-use Rattle.tables.specs.Records.{subject-entry, object-entry, held, no-subject, no-object, no-handle}
-use Rattle.tables.specs.Records.Laws.{subject-there, object-there, handle-there, cleaned-wf}
-use Rattle.tables.specs.Needs.{figure-of}
+use Rattle.model.specs.Tables.Numbers.{holding}
+use Rattle.tables.specs.Records.{subject-entry, object-entry, joins, held, no-subject, no-object, no-handle}
+use Rattle.tables.specs.Records.Laws.{subject-there, object-there, handle-there, slot-low}
+use Rattle.tables.specs.Slots.{slot-used, Found, single}
 use Rattle.tables.specs.Working.{subject-at, object-at, handle-at}
 use Rattle.handles.specs.Working.{kept-of}
 use Rattle.handles.proofs.Cleaning.{counted-held, kept-held}
 use Rattle.gatekeeper.specs.declared.Monitor.{Monitor}
-use Rattle.gatekeeper.specs.View.{beside, view, Righted}
-use Rattle.gatekeeper.proofs.Keeping.{dead, alive}
-use Rattle.host.specs.State.{state-bytes, Sized, subject-width, object-width, handle-width, need-width, objects-at, handles-at, made-at, gone-at, freeze-at, needs-at}
-use Rattle.host.specs.State.{records, flat, live-of, sort-of, kinds, ways, live-byte, subject-of, object-of, handle-of, need-of, need-record, whole}
-use Rattle.host.specs.State.{subjects-of, objects-of, handles-of, made-of, gone-of, freeze-of, needs-of, monitor-of, tally-of, need-bytes, state-view, Put-right}
-use Rattle.host.specs.State.Laws.{length-records, getD-records, length-flat, records-flat, as-they-are}
-use Rattle.host.specs.Numbers.{sized, seen-entry, seen-handle}
+use Rattle.gatekeeper.specs.View.{beside, slots, called, straight-view, once, view, Right, Righted}
+use Rattle.gatekeeper.proofs.Owned.{Long}
+use Rattle.gatekeeper.proofs.Keeping.{read-wf, dead, alive}
+use Rattle.gatekeeper.proofs.Numbered.{single-long, once-long}
+use Rattle.gatekeeper.proofs.Telling.{view-read, told-subject, told-place, told-entry}
+use Rattle.stored.specs.State.{state-bytes, Sized, subject-width, object-width, handle-width, need-width, number-width, objects-at, handles-at, made-at, gone-at, freeze-at, needs-at, numbers-at}
+use Rattle.stored.specs.State.{records, flat, live-of, sort-of, ways, live-byte, subject-of, object-of, handle-of, need-of, need-record, whole}
+use Rattle.stored.specs.State.{subjects-of, objects-of, handles-of, made-of, gone-of, freeze-of, needs-of, numbers-of, monitor-of, tally-of, need-bytes, state-view, Put-right}
+use Rattle.stored.specs.State.Laws.{length-records, getD-records, length-flat, records-flat, as-they-are}
+use Rattle.host.specs.Numbers.{sized, seen-entry, seen-handle, seen-object}
 use Rattle.host.specs.Working.{way-number}
-use Rattle.host.specs.Over.{over}
-use Rattle.host.specs.Over.Laws.{over-length}
-use Rattle.host.proofs.Loading.{bytes-at, bytes-taken}
+use Rattle.stored.specs.Over.{over}
+use Rattle.stored.specs.Over.Laws.{over-length}
+use Rattle.stored.proofs.Loading.{bytes-at, bytes-taken}
 
 -- ── the length ──
 pub sized-is : (s : List ℕ) (a b : ℕ) → Sized s → a ≡ b → a ≡ sized s b 0
@@ -63,12 +66,6 @@ module _ (st : List ℕ) (size : Sized st) where
   subject-read s l q = ap (subject-at s) (ap (λ (v : ℕ). record { live = v; level = getD st (0 + 2 * (s % 32) + 1) 0 }) q
       ∙ sym (record-in subject-of no-subject subject-width 0 32 (s % 32) st (omega arith) (omega arith)))
 
-  pub object-read : (o k : ℕ) → k ≡ sort-of kinds (getD st (64 + 2 * (o % 64)) 0)
-      → object-at o (record { kind = k; level = getD st (64 + 2 * (o % 64) + 1) 0 }) ≡ object-at o (getD (objects-of st) (o % 64) no-object)
-  unfolding objects-of
-  object-read o k q = ap (object-at o) (ap (λ (v : ℕ). record { kind = v; level = getD st (64 + 2 * (o % 64) + 1) 0 }) q
-      ∙ sym (record-in object-of no-object object-width objects-at 64 (o % 64) st (omega arith) (omega arith)))
-
   pub handle-read : (s p i w m : ℕ) → i ≡ s % 32 * 16 + p % 16 → w ≡ sort-of ways (getD st (192 + 3 * i) 0) → m ≡ live-of (getD st (192 + 3 * i + 1 + 1) 0)
       → handle-at s p (record { way = w; object = getD st (192 + 3 * i + 1) 0; mark = m })
       ≡ handle-at s p (getD (handles-of st) (s % 32 * 16 + p % 16) no-handle)
@@ -81,6 +78,10 @@ module _ (st : List ℕ) (size : Sized st) where
   unfolding needs-of
   need-read i h = let e : 1745 + i ≡ needs-at + need-width * i = omega arith in
       ap (λ (k : ℕ). getD st k 0) e ∙ sym (record-in need-of 0 need-width needs-at 96 i st h (omega arith))
+
+  pub number-read : (i : ℕ) → i < 64 → whole (take 8 (drop (1841 + 8 * i) st)) ≡ getD (numbers-of st) i 0
+  unfolding numbers-of
+  number-read i h = sym (getD-records whole number-width 64 (drop numbers-at st) i 0 h ∙ ap (λ (t : List ℕ). whole (take number-width t)) (drop-drop (number-width * i) numbers-at st))
 
   -- ── the tables at a number ──
   long-subjects : length (subjects-of st) ≡ 32
@@ -95,36 +96,60 @@ module _ (st : List ℕ) (size : Sized st) where
   unfolding handles-of
   long-handles = length-records handle-of handle-width 512 (drop handles-at st)
 
+  long-needs : length (needs-of st) ≡ 96
+  unfolding needs-of
+  long-needs = length-records need-of need-width 96 (drop needs-at st)
+
   abbrev its : Monitor
   its = monitor-of st
 
-  pub state-wf : Wf (clean (state-view st))
-  state-wf = cleaned-wf (beside its) (its .subjects) (its .objects) (its .handles) (clean (view its)) long-subjects long-objects refl
+  -- the objects that count
+  abbrev counting : List Object
+  counting = single (objects-of st) (numbers-of st)
+
+  long-once : Long (once its)
+  long-once = once-long its (record { subjects = long-subjects; objects = long-objects; handles = long-handles; needs = long-needs })
+
+  pub objects-long : length (objects-of st) ≡ 64
+  objects-long = long-objects
+
+  pub state-wf : Wf (clean (slots (once (monitor-of st))))
+  state-wf = read-wf (once its) long-once
+
+  slot-subject : (s : ℕ) (x : Subject) → x ≡ subject-at s (getD (subjects-of st) (s % 32) no-subject) → slots (once its) .at (subject s) ≡ subject-entry x
+  slot-subject s x q = subject-there (beside (once its)) (its .subjects) counting (its .handles) s long-subjects ∙ ap subject-entry (sym q)
+
+  slot-object : (i : ℕ) (y : Object) → y ≡ object-at i (getD counting (i % 64) no-object) → slots (once its) .at (object i) ≡ object-entry y
+  slot-object i y q = object-there (beside (once its)) (its .subjects) counting (its .handles) i (long-once .objects) ∙ ap object-entry (sym q)
 
   pub subject-seen : (s : ℕ) (x : Subject) → x ≡ subject-at s (getD (subjects-of st) (s % 32) no-subject) → state-view st .at (subject s) ≡ subject-entry x
-  subject-seen s x q = subject-there (beside its) (its .subjects) (its .objects) (its .handles) s long-subjects ∙ ap subject-entry (sym q)
+  subject-seen s x q = told-subject its s ∙ slot-subject s x q
 
-  pub object-seen : (o : ℕ) (y : Object) → y ≡ object-at o (getD (objects-of st) (o % 64) no-object) → state-view st .at (object o) ≡ object-entry y
-  object-seen o y q = object-there (beside its) (its .subjects) (its .objects) (its .handles) o long-objects ∙ ap object-entry (sym q)
+  pub subject-slot : (s : ℕ) (x : Subject) → x ≡ subject-at s (getD (subjects-of st) (s % 32) no-subject) → slots (once (monitor-of st)) .at (subject s) ≡ subject-entry x
+  subject-slot s x q = slot-subject s x q
 
-  handle-seen : (s p : ℕ) (h : Handle) → h ≡ handle-at s p (getD (handles-of st) (s % 32 * 16 + p % 16) no-handle) → state-view st .hand s p ≡ held h
-  handle-seen s p h q = handle-there (beside its) (its .subjects) (its .objects) (its .handles) s p long-handles ∙ ap held (sym q)
+  pub object-seen : (o i : ℕ) (y : Object) → Found (single (objects-of st) (numbers-of st)) (numbers-of st) o i
+      → y ≡ object-at i (getD (single (objects-of st) (numbers-of st)) (i % 64) no-object) → state-view st .at (object o) ≡ object-entry y
+  object-seen o i y f q = told-entry its long-objects state-wf o i y f q
+
+  handle-seen : (s p : ℕ) (h : Handle) → h ≡ handle-at s p (getD (handles-of st) (s % 32 * 16 + p % 16) no-handle) → slots (once its) .hand s p ≡ held h
+  handle-seen s p h q = handle-there (beside (once its)) (its .subjects) counting (its .handles) s p long-handles ∙ ap held (sym q)
 
   -- whether it is live, by its record
-  lives : (x : Thing) (free : Bool) (e : Entry) → state-view st .at x ≡ cond free none (some e) → live (state-view st) x ≡ not free
-  lives x true e q = dead its state-wf x q
-  lives x false e q = alive its state-wf x e q
+  lives : (x : Thing) (free : Bool) (e : Entry) → slots (once its) .at x ≡ cond free none (some e) → live (slots (once its)) x ≡ not free
+  lives x true e q = dead (once its) state-wf x q
+  lives x false e q = alive (once its) state-wf x e q
 
   -- the handle at a place, of a live subject and on a live object
   pub handle-counted : (s p : ℕ) (x : Subject) (h : Handle) (y : Object) → x ≡ subject-at s (getD (subjects-of st) (s % 32) no-subject)
       → h ≡ handle-at s p (getD (handles-of st) (s % 32 * 16 + p % 16) no-handle)
-      → y ≡ object-at (h .object) (getD (objects-of st) (h .object % 64) no-object) → clean (state-view st) .hand s p ≡ held (kept-of h x y)
+      → y ≡ object-at (h .object) (getD (single (objects-of st) (numbers-of st)) (h .object % 64) no-object) → clean (slots (once (monitor-of st))) .hand s p ≡ held (kept-of h x y)
   unfolding clean
-  handle-counted s p x h y qx qh qy = ap (counted (ltb p places && live (state-view st) (subject s)) (λ o. live (state-view st) (object o))) (handle-seen s p h qh)
-      ∙ counted-held h (ltb p places && live (state-view st) (subject s)) (not (eqb (y .kind) 0)) (λ o. live (state-view st) (object o))
-      (lives (object (h .object)) (eqb (y .kind) 0) (entry (cond (eqb (y .kind) 1) file pipe) (label (y .level))) (object-seen (h .object) y qy))
+  handle-counted s p x h y qx qh qy = ap (counted (ltb p places && live (slots (once its)) (subject s)) (λ o. live (slots (once its)) (object o))) (handle-seen s p h qh)
+      ∙ counted-held h (ltb p places && live (slots (once its)) (subject s)) (not (eqb (y .kind) 0)) (λ o. live (slots (once its)) (object o))
+      (lives (object (h .object)) (eqb (y .kind) 0) (entry (cond (eqb (y .kind) 1) file pipe) (label (y .level))) (slot-object (h .object) y qy))
       ∙ ap (λ (b : Bool). cond (ltb p places && b && not (eqb (y .kind) 0)) (held h) none)
-      (lives (subject s) (eqb (x .live) 0) (entry running (label (x .level))) (subject-seen s x qx))
+      (lives (subject s) (eqb (x .live) 0) (entry running (label (x .level))) (slot-subject s x qx))
       ∙ by-place (ltb p 16) (ltb (h .object) 64) (eqb (x .live) 0) refl refl
       ∙ sym (kept-held h (eqb (x .live) 0) (ltb (h .object) 64) (eqb (y .kind) 0))
     where
@@ -138,7 +163,7 @@ module _ (st : List ℕ) (size : Sized st) where
 
       -- an object beyond the last is free
       outside : ltb (h .object) 64 ≡ false → eqb (y .kind) 0 ≡ true
-      outside e = ap (λ (z : Object). eqb (z .kind) 0) (qy ∙ ap (λ (b : Bool). cond b (getD (objects-of st) (h .object % 64) no-object) no-object) e)
+      outside e = ap (λ (z : Object). eqb (z .kind) 0) (qy ∙ ap (λ (b : Bool). cond b (getD counting (h .object % 64) no-object) no-object) e)
 
       either : (b : Bool) → _≡_ {A = Option Held} (cond b none none) none
       either true = refl
@@ -165,8 +190,8 @@ seen-subject x = go (eqb (x .live) 0)
     go true = refl
     go false = ap (λ (n : ℕ). 256 + n) (level-label (x .level))
 
-pub seen-object : (y : Object) → seen-entry (object-entry y) ≡ cond (eqb (y .kind) 0) 0 (cond (eqb (y .kind) 1) (256 + y .level) (512 + y .level))
-seen-object y = go (eqb (y .kind) 0) (eqb (y .kind) 1)
+pub object-number : (y : Object) → seen-entry (object-entry y) ≡ cond (eqb (y .kind) 0) 0 (cond (eqb (y .kind) 1) (256 + y .level) (512 + y .level))
+object-number y = go (eqb (y .kind) 0) (eqb (y .kind) 1)
   where
     go : (b c : Bool) → seen-entry (cond b none (some (entry (cond c file pipe) (label (y .level))))) ≡ cond b 0 (cond c (256 + y .level) (512 + y .level))
     go true c = refl
@@ -182,12 +207,12 @@ way-small w n q = subst (λ (k : ℕ). k ≤ 3) (sym q) (go (eqb w 3) (eqb w 1))
     go false true = omega arith
     go false false = omega arith
 
-pub seen-held : (k : Handle) → seen-handle (held k) ≡ cond (eqb (k .way) 0) 0 (65536 * live-byte (k .mark) + 256 * way-number (k .way) + k .object)
+pub seen-held : (k : Handle) → seen-handle (held k) ≡ cond (eqb (k .way) 0) 0 (65536 * live-byte (k .mark) + 256 * way-number (k .way))
 seen-held k = go (eqb (k .way) 0) (eqb (k .mark) 0) (eqb (k .way) 3) (eqb (k .way) 1)
   where
     go : (z u v w : Bool)
         → seen-handle (cond z none (some (record { dir = cond (w || v) reading writing; to = k .object; marked = not u; mapped = v })))
-        ≡ cond z 0 (65536 * cond u 0 1 + 256 * cond v 3 (cond w 1 2) + k .object)
+        ≡ cond z 0 (65536 * cond u 0 1 + 256 * cond v 3 (cond w 1 2))
     go true u v w = refl
     go false true true w = refl
     go false true false true = refl
@@ -195,6 +220,41 @@ seen-held k = go (eqb (k .way) 0) (eqb (k .mark) 0) (eqb (k .way) 3) (eqb (k .wa
     go false false true w = refl
     go false false false true = refl
     go false false false false = refl
+
+cleaned-at : (t : Tables) (x : Thing) → t .at x ≡ clean t .at x
+unfolding clean
+cleaned-at t x = refl
+
+-- a handle k that counts, by slot, and what is told of it by number
+module _ (st : List ℕ) (size : Sized st) (s p : ℕ) (k : Handle) (q : held k ≡ clean (slots (once (monitor-of st))) .hand s p) where
+  by-slot : clean (state-view st) .hand s p ≡ holding (slot-used (single (objects-of st) (numbers-of st))) (called (monitor-of st)) (held k)
+  by-slot = ap (λ (t : Tables). t .hand s p) (view-read (monitor-of st) (objects-long st size) (state-wf st size)) ∙ told-place (monitor-of st) s p
+      ∙ ap (holding (slot-used (single (objects-of st) (numbers-of st))) (called (monitor-of st))) (sym q)
+
+  pub handle-told : seen-handle (clean (state-view st) .hand s p) ≡ cond (eqb (k .way) 0) 0 (65536 * live-byte (k .mark) + 256 * way-number (k .way))
+  handle-told = ap seen-handle by-slot ∙ go (held k) ∙ seen-held k
+    where
+      go : (o : Option Held) → seen-handle (holding (slot-used (single (objects-of st) (numbers-of st))) (called (monitor-of st)) o) ≡ seen-handle o
+      go none = refl
+      go (some h) = refl
+
+  pub handle-none : k .way ≡ 0 → seen-object (clean (state-view st) .hand s p) ≡ 0
+  handle-none e = ap seen-object by-slot ∙ ap (λ (b : Bool). seen-object (holding (slot-used (single (objects-of st) (numbers-of st))) (called (monitor-of st)) (cond b none (some (joins k))))) (eq-eqb (k .way) 0 e)
+
+  pub handle-object : (k .way ≡ 0 → ⊥) → seen-object (clean (state-view st) .hand s p) ≡ getD (numbers-of st) (k .object % 64) 0
+  handle-object e = ap seen-object by-slot ∙ ap (λ (b : Bool). seen-object (holding (slot-used (single (objects-of st) (numbers-of st))) (called (monitor-of st)) (cond b none (some (joins k))))) (ne-eqb (k .way) 0 e)
+      ∙ ap (λ (j : ℕ). getD (numbers-of st) j 0) same
+    where
+      there : clean (slots (once (monitor-of st))) .hand s p ≡ some (joins k)
+      there = sym q ∙ ap (λ (b : Bool). cond b none (some (joins k))) (ne-eqb (k .way) 0 e)
+
+      low : k .object < 64
+      low = slot-low (beside (once (monitor-of st))) (subjects-of st) (single (objects-of st) (numbers-of st)) (handles-of st)
+          (single-long (objects-of st) (numbers-of st) ∙ objects-long st size) (clean (slots (once (monitor-of st)))) (k .object) (cleaned-at (slots (once (monitor-of st))) (object (k .object)))
+          (state-wf st size .ends s p (joins k) there .to)
+
+      same : k .object ≡ k .object % 64
+      same = omega (arith, low)
 
 -- ── kept needs put right ──
 -- what stands before index k goes by the bytes before it
@@ -220,7 +280,16 @@ module _ (k : ℕ) (s : List ℕ) (inside : k ≤ length s) where
   number-front at h = ap whole (bytes-taken 8 at (take k s) (omega (arith, taken-long)) ∙ bytes-front 8 at k s h
       ∙ sym (bytes-taken 8 at s (omega arith)))
 
-module _ (s s′ : List ℕ) (h : Sized s) (h′ : Sized s′) (e : take needs-at s′ ≡ take needs-at s) where
+-- a monitor with other kept needs
+abbrev with-needs : Monitor → List ℕ → Monitor
+with-needs x ns = record { numbers = x .numbers; subjects = x .subjects; objects = x .objects; handles = x .handles; freeze = x .freeze; needs = ns; sure = x .sure }
+
+view-needs : (x : Monitor) (ns : List ℕ) → view (with-needs x ns) ≡ view x
+unfolding straight-view
+view-needs x ns = refl
+
+module _ (s s′ : List ℕ) (h : Sized s) (h′ : Sized s′) (e : take needs-at s′ ≡ take needs-at s)
+    (f : drop numbers-at s′ ≡ drop numbers-at s) where
   same-records : {A : Type 0} (f : List ℕ → A) (d : A) (w b n : ℕ) → b + w * n ≤ needs-at → records f w n (drop b s′) ≡ records f w n (drop b s)
   same-records f d w b n l = sym (records-front needs-at s′ (omega arith) f d w b n l) ∙ ap (λ (t : List ℕ). records f w n (drop b t)) e
       ∙ records-front needs-at s (omega arith) f d w b n l
@@ -241,8 +310,16 @@ module _ (s s′ : List ℕ) (h : Sized s) (h′ : Sized s′) (e : take needs-a
   unfolding freeze-of
   same-freeze = sym (getD-take needs-at s′ freeze-at 0 (omega arith)) ∙ ap (λ (t : List ℕ). getD t freeze-at 0) e ∙ getD-take needs-at s freeze-at 0 (omega arith)
 
+  same-numbers : numbers-of s′ ≡ numbers-of s
+  unfolding numbers-of
+  same-numbers = ap (records whole number-width 64) f
+
+  -- but for the needs
+  same-monitor : (ns : List ℕ) → with-needs (monitor-of s′) ns ≡ with-needs (monitor-of s) ns
+  same-monitor ns = λ i. record { numbers = same-numbers i; subjects = same-subjects i; objects = same-objects i; handles = same-handles i; freeze = same-freeze i; needs = ns; sure = 0 }
+
   same-view : state-view s′ ≡ state-view s
-  same-view = λ i. view (record { subjects = same-subjects i; objects = same-objects i; handles = same-handles i; freeze = same-freeze i; needs = needs-of s; sure = 0 })
+  same-view = sym (view-needs (monitor-of s′) []) ∙ ap view (same-monitor []) ∙ view-needs (monitor-of s) []
 
   same-tally : tally-of s′ ≡ tally-of s
   unfolding made-of gone-of
@@ -263,6 +340,13 @@ module _ (s ns : List ℕ) (h : Sized s) (long : length ns ≡ 96) where
   unfolding over
   kept-front = take-at (take needs-at s) _ needs-at (omega (arith, length-take needs-at s))
 
+  kept-behind : drop numbers-at (over needs-at (need-bytes ns) s) ≡ drop numbers-at s
+  unfolding over
+  kept-behind = (let e : 96 + needs-at ≡ numbers-at = omega arith in ap (λ (k : ℕ). drop k (over needs-at (need-bytes ns) s)) (sym e)) ∙ sym (drop-drop 96 needs-at (over needs-at (need-bytes ns) s))
+      ∙ ap (drop 96) (drop-at (take needs-at s) (need-bytes ns ++ drop (needs-at + length (need-bytes ns)) s) needs-at (omega (arith, length-take needs-at s)))
+      ∙ drop-at (need-bytes ns) (drop (needs-at + length (need-bytes ns)) s) 96 count
+      ∙ (let e : needs-at + length (need-bytes ns) ≡ numbers-at = omega (arith, count) in ap (λ (k : ℕ). drop k s) e)
+
   kept-needs : needs-of (over needs-at (need-bytes ns) s) ≡ ns
   unfolding needs-of over need-bytes
   kept-needs = ap (records need-of need-width 96) (drop-at (take needs-at s) (flat need-record ns ++ drop (needs-at + length (flat need-record ns)) s) needs-at
@@ -274,22 +358,23 @@ module _ (s ns : List ℕ) (h : Sized s) (long : length ns ≡ 96) where
 pub put-right : (s s′ : List ℕ) (m n : Monitor) → Sized s → m ≡ monitor-of s → Righted m n → length (n .needs) ≡ 96
     → s′ ≡ over needs-at (need-bytes (n .needs)) s → Put-right s s′
 put-right s s′ m n h q r l e = subst (Put-right s) (sym e) (record {
-  size = kept-size s (n .needs) h l;
+  size = size;
   others = front;
-  tables = tables-same;
-  tally = same-tally s t h (kept-size s (n .needs) h l) front;
-  right = subst₂ (λ (u : Tables) (ns : List ℕ). Ready (clean u) (figure-of ns)) (ap view (r .same) ∙ ap view same ∙ sym tables-same) (sym (kept-needs s (n .needs) h l)) (r .right);
+  numbers = behind;
+  tables = same-view s t h size front behind;
+  tally = same-tally s t h size front behind;
+  right = subst Right (r .same ∙ ap (λ (x : Monitor). with-needs x (n .needs)) q ∙ sym (same-monitor s t h size front behind (n .needs))
+      ∙ ap (with-needs (monitor-of t)) (sym (kept-needs s (n .needs) h l))) (r .right);
 })
   where
     t : List ℕ
     t = over needs-at (need-bytes (n .needs)) s
 
+    size : Sized t
+    size = kept-size s (n .needs) h l
+
     front : take needs-at t ≡ take needs-at s
     front = kept-front s (n .needs) h l
 
-    tables-same : state-view t ≡ state-view s
-    tables-same = same-view s t h (kept-size s (n .needs) h l) front
-
-    same : _≡_ {A = Monitor} (record { subjects = m .subjects; objects = m .objects; handles = m .handles; freeze = m .freeze; needs = n .needs; sure = m .sure })
-        (record { subjects = subjects-of s; objects = objects-of s; handles = handles-of s; freeze = freeze-of s; needs = n .needs; sure = 0 })
-    same = ap (λ (x : Monitor). record { subjects = x .subjects; objects = x .objects; handles = x .handles; freeze = x .freeze; needs = n .needs; sure = x .sure }) q
+    behind : drop numbers-at t ≡ drop numbers-at s
+    behind = kept-behind s (n .needs) h l

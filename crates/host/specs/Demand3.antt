@@ -5,7 +5,7 @@ use mathlib.Core.List.{List, [], _∷_}
 use Prim.Native.Nat.{ℕ}
 use Rattle.model.specs.Tables.{clean}
 use Rattle.model.specs.Calls.{Raw, decode, Answer, answer}
-use Rattle.host.specs.State.{Sized, state-view, Stored}
+use Rattle.stored.specs.State.{Sized, state-view, Stored}
 use Rattle.host.specs.Numbers.{answer-in, call-number}
 pub mod Laws
 

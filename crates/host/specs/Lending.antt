@@ -10,7 +10,7 @@ use Rattle.model.specs.Tables.{Tables, empty, clean}
 use Rattle.model.specs.Calls.{Raw, decode, Answer}
 use Rattle.model.specs.Promise.{Kind, Meets}
 use Rattle.model.specs.Tally.{zeroed, tallied}
-use Rattle.gatekeeper.specs.View.{view, Honest, Tidy, Right, Assured}
+use Rattle.gatekeeper.specs.View.{view, Honest, Whole, Tidy, Right, Assured}
 use Rattle.tally.specs.Counting.{counts-of}
 use Rattle.quick.specs.Parts.{Done}
 use Rattle.host.specs.declared.lent.State.{State}
@@ -29,7 +29,7 @@ lent-right x = Right (x .monitor)
 
 -- RULES F20: the struct as a kind of monitor
 abbrev pub lent-kind : Kind State
-lent-kind = record { view = lent-view; honest = lent-honest; tidy = λ x. Tidy (x .monitor); right = lent-right; claim = λ x. x .monitor .sure }
+lent-kind = record { view = lent-view; honest = lent-honest; whole = λ x. Whole (x .monitor); tidy = λ x. Tidy (x .monitor); right = lent-right; claim = λ x. x .monitor .sure }
 
 -- `gatekeeper_monitor_call` of the call r on the state x returned n, and left the state y
 pub record Lends (x : State) (r : Raw) (n : ℕ) (y : State) : Type 0 where

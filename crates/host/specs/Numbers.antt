@@ -1,7 +1,8 @@
 -- Answers as one number, since an exported function cannot hand back an enum: of a call, of the record writer and of the number reader.
--- States RULES H11 to H14, H17 to H19 and H22, by RULES G9.
+-- States RULES H11 to H14, H17 to H20, H22 and H27, by RULES G9.
 --
 -- For a wrong length of the lent bytes the rules have no answer: it is 0, which is no answer's number. The laws are in Numbers/Laws. Assumes nothing.
+use mathlib.Core.Path.{_≡_}
 use mathlib.Core.Bool.{cond}
 use mathlib.Core.Option.{Option, none, some}
 use mathlib.Core.List.{List}
@@ -18,12 +19,13 @@ use Rattle.journal.specs.Answers.{Answer as Recording}
 use Rattle.journal.specs.Calls.{known}
 use Rattle.journal.specs.Record.{record-of}
 use Rattle.answers.specs.Telling.{letter-of, value-of}
-use Rattle.host.specs.State.{state-bytes, state-view}
+use Rattle.gatekeeper.specs.View.{Kept-at}
+use Rattle.stored.specs.State.{state-bytes, Sized, monitor-of, state-view}
 pub mod Laws
 
 -- RULES H22: the version of the archive, first part, second and third
 abbrev pub version : ℕ
-version = 65536 * 5 + 256 * 0 + 0
+version = 65536 * 6 + 256 * 0 + 0
 
 -- RULES H10, H11: x where the bytes have the length of a state; else y
 abbrev pub sized : {A : Type 0} → List ℕ → A → A → A
@@ -60,10 +62,14 @@ record-number (refused k) = k
 abbrev pub roomy-number : ℕ → List ℕ → ℕ
 roomy-number code ns = cond (known code) (256 + length (record-of code ns)) 1
 
--- RULES H14: the value, and 2 to the 32nd for each byte
-abbrev pub reading-number : Reading → ℕ
-reading-number (good value used) = value + 4294967296 * used
-reading-number malformed = 0
+-- RULES H14: in how many bytes the number stands, and its value, which is left as it was where there is none
+abbrev pub reading-used : Reading → ℕ
+reading-used (good value used) = used
+reading-used malformed = 0
+
+abbrev pub reading-value : Reading → ℕ → ℕ
+reading-value (good value used) before = value
+reading-value malformed before = before
 
 -- ── what a host sees ──
 -- RULES H17: 0 where there is none; else 256 times the kind, 1 for a subject and for a file, 2 for a pipe, and the level
@@ -76,14 +82,23 @@ abbrev pub seen-entry : Option Entry → ℕ
 seen-entry none = 0
 seen-entry (some e) = 256 * kind-number (e .kind) + level (e .label)
 
--- RULES H18: 0 for an empty place; else 65,536 where it is marked, 256 times the way, 1 for reading, 2 for writing and 3 for a mapping, and the object
+-- RULES H18: 0 for an empty place; else 65,536 where it is marked, and 256 times the way, 1 for reading, 2 for writing and 3 for a mapping
 abbrev pub dir-number : Dir → ℕ
 dir-number reading = 1
 dir-number writing = 2
 
 abbrev pub seen-handle : Option Handle → ℕ
 seen-handle none = 0
-seen-handle (some k) = 65536 * cond (k .marked) 1 0 + 256 * cond (k .mapped) 3 (dir-number (k .dir)) + k .to
+seen-handle (some k) = 65536 * cond (k .marked) 1 0 + 256 * cond (k .mapped) 3 (dir-number (k .dir))
+
+-- RULES H27: and the number of its object
+abbrev pub seen-object : Option Handle → ℕ
+seen-object none = 0
+seen-object (some k) = k .to
+
+-- RULES H20: r is what is told of object o's kept need
+abbrev pub Seen-need : List ℕ → ℕ → ℕ → Type 0
+Seen-need s o r = (Sized s → Kept-at (monitor-of s) o r) × ((Sized s → ⊥) → r ≡ 0)
 
 -- RULES H19: the freeze, 16 for every one that freezes nothing
 abbrev pub seen-freeze : ℕ → ℕ

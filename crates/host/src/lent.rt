@@ -1,7 +1,10 @@
 // A monitor and its tally as a struct that a host keeps and lends, in place of the lent bytes (RULES S1, H12, H23, H24): nothing is parsed at a call, and nothing
-// laid out. It has bytes and two numbers of 64 bits, each value of which is one, so that every value is a state. What can be false of it is what it says of itself
+// laid out. It has bytes and 66 numbers of 64 bits, each value of which is one, so that every value is a state. What can be false of it is what it says of itself
 // (RULES F19).
-ghost use mathlib.Core.List.{[], _∷_};
+ghost use mathlib.Core.Path.{_≡_};
+ghost use mathlib.Core.List.{List, [], _∷_};
+ghost use Prim.Native.Nat.{ℕ};
+ghost use lib.ListN.{length};
 ghost use Rattle.gatekeeper.specs.View.{direct};
 ghost use Rattle.quick.specs.Parts.{Tried};
 ghost use Rattle.host.specs.Lending.{Lends, Begins, Assures};
@@ -22,7 +25,7 @@ struct Stepped {
 }
 
 // The work of a call, with the state by value.
-fn step(state: State, code: u32, a: u32, b: u32, c: u32, d: u32, e: u32, f: u32) -> Stepped
+fn step(state: State, code: u64, a: u64, b: u64, c: u64, d: u64, e: u64, f: u64) -> Stepped
     ensures { λ r. ⌜ Lends state (direct code a b c d e f) (r .number) (r .state) ⌝ }
 {
     let m = state.monitor;
@@ -87,13 +90,13 @@ pub extern "C" fn gatekeeper_monitor_empty(state: &mut State)
 #[no_mangle]
 pub extern "C" fn gatekeeper_monitor_call(
     state: &mut State,
-    code: u32,
-    a: u32,
-    b: u32,
-    c: u32,
-    d: u32,
-    e: u32,
-    f: u32,
+    code: u64,
+    a: u64,
+    b: u64,
+    c: u64,
+    d: u64,
+    e: u64,
+    f: u64,
 ) -> u32
     ensures { λ r. ⌜ Lends (now (state .entry)) (direct code a b c d e f) r (now (state .exit)) ⌝ }
 {
@@ -103,7 +106,7 @@ pub extern "C" fn gatekeeper_monitor_call(
     out.number
 }
 
-// A state that says nothing of itself, as one that was loaded from kept bytes or changed by the host, made one that calls may rely on: what dangles is emptied, the needs are
+// A state that says nothing of itself, as one that was loaded from kept bytes or changed by the host, made one that calls may rely on: what dangles is emptied, a slot that repeats a number freed, the needs are
 // worked out anew, and 1 is returned. Where some level is below its need it cannot be, and 0 is returned; then calls on it go on working out what they go by.
 #[no_mangle]
 pub extern "C" fn gatekeeper_monitor_assure(state: &mut State) -> u32
@@ -119,6 +122,7 @@ pub extern "C" fn gatekeeper_monitor_assure(state: &mut State) -> u32
 // `gatekeeper_monitor_call` is to be made.
 #[no_mangle]
 pub extern "C" fn gatekeeper_quick_open(
+    numbers: &[u64],
     subjects: &[u8],
     objects: &[u8],
     handles: &mut [u8],
@@ -126,15 +130,16 @@ pub extern "C" fn gatekeeper_quick_open(
     counts: &mut [u64],
     freeze: u8,
     sure: u8,
-    code: u32,
-    s: u32,
-    o: u32,
-    p: u32,
+    code: u64,
+    s: u64,
+    o: u64,
+    p: u64,
 ) -> u32
-    ensures { λ r. ⌜ Tried (5 ∷ 6 ∷ []) (now (subjects .entry)) (now (objects .entry)) (now (handles .entry)) (now (needs .entry)) (now (counts .entry)) freeze sure
+    ensures { λ r. ⌜ Tried (5 ∷ 6 ∷ []) (now (numbers .entry)) (now (subjects .entry)) (now (objects .entry)) (now (handles .entry)) (now (needs .entry)) (now (counts .entry)) freeze sure
         (direct code s o p 0 0 0) r (now (handles .exit)) (now (counts .exit)) ⌝ }
 {
     quick::opened(
+        numbers,
         subjects,
         objects,
         handles,
@@ -158,11 +163,11 @@ pub extern "C" fn gatekeeper_quick_close(
     counts: &mut [u64],
     freeze: u8,
     sure: u8,
-    s: u32,
-    p: u32,
+    s: u64,
+    p: u64,
 ) -> u32
-    ensures { λ r. ⌜ Tried (11 ∷ []) (now (subjects .entry)) (now (objects .entry)) (now (handles .entry)) (now (needs .entry)) (now (counts .entry)) freeze sure
-        (direct 11 s p 0 0 0 0) r (now (handles .exit)) (now (counts .exit)) ⌝ }
+    ensures { λ r. ⌜ ((ns : List ℕ) → length ns ≡ 64 → Tried (11 ∷ []) ns (now (subjects .entry)) (now (objects .entry)) (now (handles .entry)) (now (needs .entry)) (now (counts .entry)) freeze sure
+        (direct 11 s p 0 0 0 0) r (now (handles .exit)) (now (counts .exit))) ⌝ }
 {
     quick::closed(
         subjects,

@@ -1,78 +1,98 @@
-// What a host sees of the lent bytes (RULES H17 to H21), without a call: who is live and at which level, the handle at a place, the freeze, and the
-// kept needs, which can be put right. Each reads the few bytes that it tells of.
+// What a host sees of the lent bytes (RULES H17 to H21, H27, H28), without a call: who is live and at which level, the handle at a place and its object, the
+// live objects from a number on, the freeze, and the kept needs, which can be put right. What is told of an object or a handle loads the 64 slots and their
+// numbers; all else reads the few bytes that it tells of.
 ghost use mathlib.Core.Path.{_≡_};
 ghost use Prim.Native.Nat.{_+_, _*_, _%_};
 ghost use lib.Dec.{eqb};
 ghost use lib.ListN.{length, getD};
+ghost use Rattle.model.specs.Lists.{from-on};
 ghost use Rattle.model.specs.Label.{label};
 ghost use Rattle.model.specs.Flow.{subject, object};
 ghost use Rattle.model.specs.Tables.{clean, needs};
-ghost use Rattle.tables.specs.Records.{no-subject, no-object, no-handle};
+ghost use Rattle.tables.specs.Records.{held, no-subject, no-object, no-handle};
+ghost use Rattle.tables.specs.Slots.{Found, single};
 ghost use Rattle.tables.specs.Working.{subject-at, object-at, handle-at};
-ghost use Rattle.gatekeeper.specs.View.{kept-need};
-ghost use Rattle.host.specs.State.{Sized, subjects-of, objects-of, handles-of, freeze-of, monitor-of, state-view, state-right, state-bytes, Put-right};
+ghost use Rattle.gatekeeper.specs.View.{slots, once, kept-need};
+ghost use Rattle.stored.specs.State.{Sized, subjects-of, objects-of, handles-of, numbers-of, freeze-of, monitor-of, state-view, state-right, state-bytes, Put-right};
 ghost use Rattle.host.specs.Working.{way-number};
-ghost use Rattle.host.specs.Numbers.{sized, seen-entry, seen-handle, seen-freeze};
-use crate::FREEZE_AT;
-use crate::HANDLES_AT;
-use crate::KINDS;
-use crate::NEEDS_AT;
-use crate::OBJECTS_AT;
-use crate::STATE_BYTES;
-use crate::SUBJECTS_AT;
-use crate::WAYS;
+ghost use Rattle.host.specs.Numbers.{sized, seen-entry, seen-handle, seen-object, Seen-need, seen-freeze};
+use stored::FREEZE_AT;
+use stored::HANDLES_AT;
+use stored::NEEDS_AT;
+use stored::NUMBERS_AT;
+use stored::STATE_BYTES;
+use stored::SUBJECTS_AT;
+use stored::WAYS;
 use tables::EMPTY;
 use tables::FILE;
 use tables::FREE;
 use tables::Handle;
 use tables::MAPS;
 use tables::NO_FREEZE;
+use tables::OBJECT_NUMBERS;
 use tables::OBJECTS;
 use tables::Object;
 use tables::READS;
 use tables::SUBJECTS;
 use tables::Subject;
 use tables::looks;
+use tables::slots;
 
 // ---- one record, from its bytes
 
-fn subject_in(state: &[u8], s: u32) -> Subject
+fn subject_in(state: &[u8], s: u64) -> Subject
     requires { ⌜ Sized (now state) ⌝ }
     ensures { λ r. ⌜ r ≡ subject-at s (getD (subjects-of (now (state .entry))) (s % 32) no-subject) ⌝ }
 {
     let i = s as usize % SUBJECTS;
     let at = SUBJECTS_AT + 2 * i;
-    let live = crate::to_live(state[at]);
+    let live = stored::to_live(state[at]);
     let next = at + 1;
     let level = state[next];
     let x = Subject { live, level };
     looks::subject_at(s, x)
 }
 
-fn object_in(state: &[u8], o: u32) -> Object
+// The objects as they count: of slots in use that have one number only the first.
+fn counted(state: &[u8]) -> [Object; OBJECTS]
     requires { ⌜ Sized (now state) ⌝ }
-    ensures { λ r. ⌜ r ≡ object-at o (getD (objects-of (now (state .entry))) (o % 64) no-object) ⌝ }
+    ensures { λ r. ⌜ r ≡ single (objects-of (now (state .entry))) (numbers-of (now (state .entry))) ⌝ }
 {
-    let i = o as usize % OBJECTS;
-    let at = OBJECTS_AT + 2 * i;
-    let kind = crate::to_sort(KINDS, state[at]);
-    let next = at + 1;
-    let level = state[next];
-    let y = Object { kind, level };
-    looks::object_at(o, y)
+    let objects = stored::load_objects(state);
+    let numbers = stored::load_numbers(state);
+    slots::single(objects, numbers)
 }
 
-fn handle_in(state: &[u8], s: u32, p: u32) -> Handle
+// The slot of object o; OBJECTS where it is not live.
+fn slot_in(state: &[u8], o: u64) -> u64
+    requires { ⌜ Sized (now state) ⌝ }
+    ensures { λ r. ⌜ Found (single (objects-of (now (state .entry))) (numbers-of (now (state .entry)))) (numbers-of (now (state .entry))) o r ⌝ }
+{
+    let objects = counted(state);
+    let numbers = stored::load_numbers(state);
+    slots::slot_of(objects, numbers, o)
+}
+
+// The object at slot i.
+fn object_in(state: &[u8], i: u64) -> Object
+    requires { ⌜ Sized (now state) ⌝ }
+    ensures { λ r. ⌜ r ≡ object-at i (getD (single (objects-of (now (state .entry))) (numbers-of (now (state .entry)))) (i % 64) no-object) ⌝ }
+{
+    let objects = counted(state);
+    looks::object_of(objects, i)
+}
+
+fn handle_in(state: &[u8], s: u64, p: u64) -> Handle
     requires { ⌜ Sized (now state) ⌝ }
     ensures { λ r. ⌜ r ≡ handle-at s p (getD (handles-of (now (state .entry))) (s % 32 * 16 + p % 16) no-handle) ⌝ }
 {
     let i = looks::slot_of(s, p);
     let at = HANDLES_AT + 3 * i;
-    let way = crate::to_sort(WAYS, state[at]);
+    let way = stored::to_sort(WAYS, state[at]);
     let next = at + 1;
     let object = state[next];
     let last = next + 1;
-    let mark = crate::to_live(state[last]);
+    let mark = stored::to_live(state[last]);
     let h = Handle { way, object, mark };
     looks::handle_at(s, p, h)
 }
@@ -87,7 +107,7 @@ fn number_of(b: u8) -> u32
 
 // 256 and the level of subject s; 0 where it is not live, and for bytes of another length.
 #[no_mangle]
-pub extern "C" fn gatekeeper_subject(state: &[u8], s: u32) -> u32
+pub extern "C" fn gatekeeper_subject(state: &[u8], s: u64) -> u32
     ensures { λ r. ⌜ r ≡ sized (now (state .entry)) (seen-entry (state-view (now (state .entry)) .at (subject s))) 0 ⌝ }
 {
     if state.len() != STATE_BYTES {
@@ -102,13 +122,14 @@ pub extern "C" fn gatekeeper_subject(state: &[u8], s: u32) -> u32
 
 // 256 times the kind of object o, and its level; 0 where it is not live, and for bytes of another length.
 #[no_mangle]
-pub extern "C" fn gatekeeper_object(state: &[u8], o: u32) -> u32
+pub extern "C" fn gatekeeper_object(state: &[u8], o: u64) -> u32
     ensures { λ r. ⌜ r ≡ sized (now (state .entry)) (seen-entry (state-view (now (state .entry)) .at (object o))) 0 ⌝ }
 {
     if state.len() != STATE_BYTES {
         return 0;
     }
-    let y = object_in(state, o);
+    let i = slot_in(state, o);
+    let y = object_in(state, i);
     if y.kind == FREE {
         return 0;
     }
@@ -116,6 +137,19 @@ pub extern "C" fn gatekeeper_object(state: &[u8], o: u32) -> u32
         return 256 + y.level as u32;
     }
     512 + y.level as u32
+}
+
+// The lowest number from o on of a live object; 0 where there is none, and for bytes of another length.
+#[no_mangle]
+pub extern "C" fn gatekeeper_object_from(state: &[u8], o: u64) -> u64
+    ensures { λ r. ⌜ r ≡ sized (now (state .entry)) (from-on o (state-view (now (state .entry)) .numbers)) 0 ⌝ }
+{
+    if state.len() != STATE_BYTES {
+        return 0;
+    }
+    let objects = counted(state);
+    let numbers = stored::load_numbers(state);
+    slots::from_on(objects, numbers, o)
 }
 
 // The number of a way that is not EMPTY.
@@ -131,24 +165,50 @@ fn way_number(way: u8) -> u32
     2
 }
 
-// The handle at place p of subject s, as a number; 0 where there is none, also where it dangles, and for bytes of another length.
+// The handle at place p of subject s as it counts: one that dangles is an empty place.
+fn kept_in(state: &[u8], s: u64, p: u64) -> Handle
+    requires { ⌜ Sized (now state) ⌝ }
+    ensures { λ r. ⌜ held r ≡ clean (slots (once (monitor-of (now (state .entry))))) .hand s p ⌝ }
+{
+    let x = subject_in(state, s);
+    let h = handle_in(state, s, p);
+    let y = object_in(state, h.object as u64);
+    handles::kept(h, x, y)
+}
+
+// The handle at place p of subject s, as a number: 256 times its way, and 256 times 256 where it is marked; 0 where there is none, also where it dangles, and for bytes of another
+// length.
 #[no_mangle]
-pub extern "C" fn gatekeeper_handle(state: &[u8], s: u32, p: u32) -> u32
+pub extern "C" fn gatekeeper_handle(state: &[u8], s: u64, p: u64) -> u32
     ensures { λ r. ⌜ r ≡ sized (now (state .entry)) (seen-handle (clean (state-view (now (state .entry))) .hand s p)) 0 ⌝ }
 {
     if state.len() != STATE_BYTES {
         return 0;
     }
-    let x = subject_in(state, s);
-    let h = handle_in(state, s, p);
-    let y = object_in(state, h.object as u32);
-    let k = handles::kept(h, x, y);
+    let k = kept_in(state, s, p);
     if k.way == EMPTY {
         return 0;
     }
-    let mark = crate::from_live(k.mark);
+    let mark = stored::from_live(k.mark);
     let way = way_number(k.way);
-    65536 * (mark as u32) + 256 * way + k.object as u32
+    65536 * (mark as u32) + 256 * way
+}
+
+// The number of its object; 0 where there is no handle, and for bytes of another length.
+#[no_mangle]
+pub extern "C" fn gatekeeper_handle_object(state: &[u8], s: u64, p: u64) -> u64
+    ensures { λ r. ⌜ r ≡ sized (now (state .entry)) (seen-object (clean (state-view (now (state .entry))) .hand s p)) 0 ⌝ }
+{
+    if state.len() != STATE_BYTES {
+        return 0;
+    }
+    let k = kept_in(state, s, p);
+    if k.way == EMPTY {
+        return 0;
+    }
+    let i = k.object as usize % OBJECTS;
+    let at = NUMBERS_AT + 8 * i;
+    stored::load_number(state, at)
 }
 
 // The level from which on files are frozen, NO_FREEZE where none is; 0 for bytes of another length.
@@ -168,8 +228,8 @@ pub extern "C" fn gatekeeper_frozen_from(state: &[u8]) -> u32
 
 // The kept need of subject s, and of object o; 0 where it is not live, and for bytes of another length. Where the bytes are right, it is the need.
 #[no_mangle]
-pub extern "C" fn gatekeeper_subject_need(state: &[u8], s: u32) -> u32
-    ensures kept { λ r. ⌜ r ≡ sized (now (state .entry)) (kept-need (monitor-of (now (state .entry))) (subject s)) 0 ⌝ }
+pub extern "C" fn gatekeeper_subject_need(state: &[u8], s: u64) -> u32
+    ensures kept { λ r. ⌜ r ≡ sized (now (state .entry)) (kept-need (monitor-of (now (state .entry))) s) 0 ⌝ }
     ensures right { λ r. ⌜ (Sized (now (state .entry)) → state-right (now (state .entry)) →
         label r ≡ needs (clean (state-view (now (state .entry)))) (subject s)) ⌝ }
 {
@@ -186,20 +246,20 @@ pub extern "C" fn gatekeeper_subject_need(state: &[u8], s: u32) -> u32
 }
 
 #[no_mangle]
-pub extern "C" fn gatekeeper_object_need(state: &[u8], o: u32) -> u32
-    ensures kept { λ r. ⌜ r ≡ sized (now (state .entry)) (kept-need (monitor-of (now (state .entry))) (object o)) 0 ⌝ }
+pub extern "C" fn gatekeeper_object_need(state: &[u8], o: u64) -> u32
+    ensures kept { λ r. ⌜ Seen-need (now (state .entry)) o r ⌝ }
     ensures right { λ r. ⌜ (Sized (now (state .entry)) → state-right (now (state .entry)) →
         label r ≡ needs (clean (state-view (now (state .entry)))) (object o)) ⌝ }
 {
     if state.len() != STATE_BYTES {
         return 0;
     }
-    let y = object_in(state, o);
-    if y.kind == FREE {
+    let i = slot_in(state, o);
+    if OBJECT_NUMBERS <= i {
         return 0;
     }
-    let i = SUBJECTS + o as usize % OBJECTS;
-    let at = NEEDS_AT + i;
+    let k = SUBJECTS + (i % OBJECT_NUMBERS) as usize;
+    let at = NEEDS_AT + k;
     number_of(state[at])
 }
 
@@ -213,9 +273,9 @@ pub extern "C" fn gatekeeper_put_right(state: &mut [u8]) -> bool
     if state.len() != STATE_BYTES {
         return false;
     }
-    let m = crate::load_monitor(&state[..]);
+    let m = stored::load_monitor(&state[..]);
     let n = m.righted();
     let needs = n.needs;
-    crate::store_needs(state, needs);
+    stored::store_needs(state, needs);
     true
 }

@@ -11,9 +11,9 @@ use Rattle.journal.specs.Answers.{Answer, answers, refused}
 use Rattle.journal.specs.Calls.{arity-of, known}
 pub mod Laws
 
--- RULES J22: a record has at most 32 bytes
+-- RULES J22: a record has at most 62 bytes
 abbrev pub longest-record : ℕ
-longest-record = 32
+longest-record = 62
 
 -- numbers, one after the other
 unfoldable pub encodes : List ℕ → List ℕ

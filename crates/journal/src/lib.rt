@@ -1,10 +1,9 @@
 // The journal's records (RULES J8 to J24, G11): what stands at an offset, what a body says, and the writer.
 // What the bytes mean is in specs/Calls.antt, Record.antt and Journal.antt, and what each answer means in specs/Answers.antt.
 ghost use mathlib.Core.Path.{_≡_};
-ghost use Prim.Native.Nat.{_+_, _*_, _≤_};
+ghost use Prim.Native.Nat.{_+_, _≤_};
 ghost use lib.ListN.{length};
 ghost use mathlib.Core.Option.{Option·getD};
-ghost use Rattle.number.specs.Leb.{longest};
 ghost use Rattle.number.specs.Put.{put};
 ghost use Rattle.number.specs.Answers.{writing};
 ghost use Rattle.journal.specs.Answers.{numbers-of, entry-answer, args-answer, body-answer, record-answer, length-in};
@@ -15,7 +14,7 @@ use number::Number;
 use number::Written;
 
 // The longest record, in bytes: a buffer of this size is never too short.
-pub const LONGEST_RECORD: usize = 32;
+pub const LONGEST_RECORD: usize = 62;
 
 // One more than the largest code.
 const CODES: usize = 18;
@@ -43,7 +42,7 @@ const ARITIES: [usize; CODES] = [
 ];
 
 // How many numbers the call of a code takes; 0 where there is no such call.
-fn arity(code: u32) -> usize
+fn arity(code: u64) -> usize
     ensures { λ r. ⌜ r ≡ arity-of code ⌝ }
 {
     let row = code as usize;
@@ -148,17 +147,17 @@ pub fn entry_at(journal: &[u8], at: usize) -> Entry
 
 // The numbers of a call, 0 for those that its code does not use.
 pub struct Numbers {
-    pub a: u32,
-    pub b: u32,
-    pub c: u32,
-    pub d: u32,
-    pub e: u32,
-    pub f: u32,
+    pub a: u64,
+    pub b: u64,
+    pub c: u64,
+    pub d: u64,
+    pub e: u64,
+    pub f: u64,
 }
 
 // A call, as it stands in a record and as a direct call takes it.
 pub struct Call {
-    pub code: u32,
+    pub code: u64,
     pub numbers: Numbers,
 }
 
@@ -167,9 +166,9 @@ pub enum Body {
     // A call, with exactly its numbers.
     Whole(Call),
     // Refusal 1: a code that is no call's. The rest of the body is skipped.
-    Unknown(u32),
+    Unknown(u64),
     // Refusal 12: a number is malformed, missing or left over. The code is 0 where none was read.
-    Bad(u32),
+    Bad(u64),
 }
 
 // The numbers of a call, or that one is malformed, missing or left over.
@@ -246,10 +245,9 @@ pub enum Recorded {
 }
 
 // How many bytes some numbers take, one after the other. They are those of one record, so that the sum is small.
-fn numbers_len(numbers: &[u32]) -> usize
+fn numbers_len(numbers: &[u64]) -> usize
     requires { ⌜ length (now numbers) ≤ 2 + most-numbers ⌝ }
-    ensures count { λ r. ⌜ r ≡ length (encodes (now (numbers .entry))) ⌝ }
-    ensures small { λ r. ⌜ r ≤ longest * (2 + most-numbers) ⌝ }
+    ensures { λ r. ⌜ r ≡ length (encodes (now (numbers .entry))) ⌝ }
 {
     let mut sum: usize = 0;
     let mut i = 0;
@@ -271,7 +269,7 @@ fn byte_count(w: Written) -> usize
 }
 
 // Writes some numbers, one after the other, where there is room for them all: the rest of the buffer is lent for each.
-fn write_numbers(out: &mut [u8], numbers: &[u32]) -> usize
+fn write_numbers(out: &mut [u8], numbers: &[u64]) -> usize
     requires { ⌜ length (encodes (now numbers)) ≤ length (now out) ⌝ }
     ensures count { λ r. ⌜ r ≡ length (encodes (now (numbers .entry))) ⌝ }
     ensures buffer { λ _. ⌜ now (out .exit) ≡ put (encodes (now (numbers .entry))) (now (out .entry)) ⌝ }
@@ -288,7 +286,7 @@ fn write_numbers(out: &mut [u8], numbers: &[u32]) -> usize
 }
 
 // Writes some numbers, one after the other, or nothing where the buffer is too short for them all.
-fn write_all(out: &mut [u8], numbers: &[u32]) -> Recorded
+fn write_all(out: &mut [u8], numbers: &[u64]) -> Recorded
     requires { ⌜ length (now numbers) ≤ 2 + most-numbers ⌝ }
     ensures answer { λ r. ⌜ record-answer r ≡ fitting (encodes (now (numbers .entry))) (now (out .entry)) ⌝ }
     ensures buffer { λ _. ⌜ now (out .exit) ≡ put (encodes (now (numbers .entry))) (now (out .entry)) ⌝ }
@@ -321,7 +319,7 @@ pub fn write_record(out: &mut [u8], call: Call) -> Recorded
         numbers.e,
         numbers.f,
     ];
-    let len = numbers_len(&body[..n + 1]) as u32;
+    let len = numbers_len(&body[..n + 1]) as u64;
     let all = [
         len,
         code,

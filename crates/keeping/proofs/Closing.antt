@@ -27,7 +27,7 @@ use Rattle.tables.specs.declared.Subject.{Subject}
 use Rattle.tables.specs.declared.Object.{Object}
 use Rattle.tables.specs.declared.Handle.{Handle}
 use Rattle.tables.specs.Records.{object-entry, joins, held, reads-by, no-object, no-handle, tables-of}
-use Rattle.tables.specs.Records.Laws.{object-there}
+use Rattle.tables.specs.Records.Laws.{object-there, slot-low}
 use Rattle.tables.specs.Needs.{node, figure-of, Needed}
 use Rattle.tables.specs.Working.{object-at, some-below, writes-by}
 use Rattle.tables.proofs.Below.{some-of-below}
@@ -62,17 +62,17 @@ source-low h s r e = subst (λ (z : ℕ). z < 96) (sym e) (go (reads-by (h .way)
     go false = omega arith
 
 -- ── the figures of a handle's two things ──
-module _ (n : List ℕ) (t : Tables) (s p : ℕ) (h : Handle) (ends : Ends t s p (joins h)) (k : Ready t (figure-of n)) where
+module _ (n : List ℕ) (t : Tables) (s p : ℕ) (h : Handle) (ends : Ends t s p (joins h)) (k : Ready t (figure-of n)) (low : h .object < 64) where
   pub mine-is : label (getD n (s % 32) 0) ≡ needs t (subject s)
   mine-is = let e : s % 32 ≡ s = omega (arith, ltb→lt s 32 (live-of t (subject s) (ends .from) .0)) in
       ap (λ (i : ℕ). label (getD n i 0)) e ∙ k .need-is (subject s) (ends .from)
 
   pub its-is : label (getD n (32 + h .object % 64) 0) ≡ needs t (object (h .object))
-  its-is = let e : h .object % 64 ≡ h .object = omega (arith, ltb→lt (h .object) 64 (live-of t (object (h .object)) (ends .to) .0)) in
+  its-is = let e : h .object % 64 ≡ h .object = omega (arith, low) in
       ap (λ (i : ℕ). label (getD n (32 + i) 0)) e ∙ k .need-is (object (h .object)) (ends .to)
 
 -- ── one handle goes ──
-module _ (n : List ℕ) (t : Tables) (s p : ℕ) (h : Handle) (w : Wf t) (q : t .hand s p ≡ some (joins h)) (k : Ready t (figure-of n)) where
+module _ (n : List ℕ) (t : Tables) (s p : ℕ) (h : Handle) (w : Wf t) (q : t .hand s p ≡ some (joins h)) (k : Ready t (figure-of n)) (low : h .object < 64) where
   u : Tables
   u = apply (hold s p none) t
 
@@ -84,10 +84,10 @@ module _ (n : List ℕ) (t : Tables) (s p : ℕ) (h : Handle) (w : Wf t) (q : t 
   adds = close-adds t s p (joins h) w q
 
   own-is : label (getD n (s % 32) 0) ≡ needs t (subject s)
-  own-is = mine-is n t s p h ends k
+  own-is = mine-is n t s p h ends k low
 
   its : label (getD n (32 + h .object % 64) 0) ≡ needs t (object (h .object))
-  its = its-is n t s p h ends k
+  its = its-is n t s p h ends k low
 
   -- no need changes, and the same things are live
   same-figures : ((x : Thing) → needs u x ≡ needs t x) → Ready u (figure-of n)
@@ -213,9 +213,6 @@ object-then rest ss os hs t s p o y l q e = ap (λ (u : Tables). u .at (object o
 module _ (rest : Tables) (ss : List Subject) (os : List Object) (hs : List Handle) (lo : length os ≡ 64) (n : List ℕ) (t : Tables) (s p : ℕ) (h : Handle) (w : Wf t)
     (q : t .hand s p ≡ some (joins h)) (k : Ready t (figure-of n)) (z : tables-of rest ss os hs ≡ apply (hold s p none) t)
     (e : getD n (s % 32) 0 ≡ getD n (32 + h .object % 64) 0) where
-  after-wf : Wf (tables-of rest ss os hs)
-  after-wf = subst Wf (sym z) (close-wf n t s p h w q k)
-
   its-ends : Ends t s p (joins h)
   its-ends = w .ends s p (joins h) q
 
@@ -223,7 +220,10 @@ module _ (rest : Tables) (ss : List Subject) (os : List Object) (hs : List Handl
   low-s = ltb→lt s 32 (live-of t (subject s) (its-ends .from) .0)
 
   low-o : h .object < 64
-  low-o = ltb→lt (h .object) 64 (live-of t (object (h .object)) (its-ends .to) .0)
+  low-o = slot-low rest ss os hs lo t (h .object) (ap (λ (u : Tables). u .at (object (h .object))) z) (its-ends .to)
+
+  after-wf : Wf (tables-of rest ss os hs)
+  after-wf = subst Wf (sym z) (close-wf n t s p h w q k low-o)
 
   back : Ready (apply (hold s p none) t) (figure-of n) → Ready (tables-of rest ss os hs) (figure-of n)
   back = subst (λ (u : Tables). Ready u (figure-of n)) (sym z)
@@ -243,12 +243,12 @@ module _ (rest : Tables) (ss : List Subject) (os : List Object) (hs : List Handl
 
     at-place : reads-by (h .way) ≡ false → T (writes-by (beside .way) && demands on (getD n (s % 32) 0)) → Ready (tables-of rest ss os hs) (figure-of n)
     unfolding on
-    at-place away f = back (beside-ready n t s p h w q k e away j beside on (ap (λ (u : Tables). u .hand s j) (sym z) ∙ beside-there)
+    at-place away f = back (beside-ready n t s p h w q k low-o e away j beside on (ap (λ (u : Tables). u .hand s j) (sym z) ∙ beside-there)
         (object-then rest ss os hs t s p (beside .object) on lo z (sym (ap (λ (b : Bool). cond b on no-object) (lt-ltb (beside .object) 64 low)))) f)
       where
         low : beside .object < 64
-        low = ltb→lt (beside .object) 64 (live-of (tables-of rest ss os hs) (object (beside .object))
-            (after-wf .ends s j (joins beside) (beside-there ∙ writing-held beside on (getD n (s % 32) 0) f) .to) .0)
+        low = slot-low rest ss os hs lo (tables-of rest ss os hs) (beside .object) refl
+            (after-wf .ends s j (joins beside) (beside-there ∙ writing-held beside on (getD n (s % 32) 0) f) .to)
 
   pub beside-kept : reads-by (h .way) ≡ false
       → some-below 16 (backs os hs (s % 32) (getD n (s % 32) 0)) ≡ true
@@ -266,13 +266,13 @@ module _ (rest : Tables) (ss : List Subject) (os : List Object) (hs : List Handl
           (subst (λ (u : Tables). label (figure r (node x)) ⊑ needs u x) z (at-least rest ss os hs after-wf lo base r lb m b x g))
 
       go : (c : Bool) → reads-by (h .way) ≡ c → Ready (tables-of rest ss os hs) (figure-of n)
-      go true c = back (source-ready n t s p h w q k e (object (h .object))
+      go true c = back (source-ready n t s p h w q k low-o e (object (h .object))
           (ap (λ (v : Bool). arc (cond v reading writing) (subject s) (object (h .object)) .src) c)
-          (found (object (h .object)) (lt→ltb (h .object) 64 low-o) (i ∙ ap (λ (v : Bool). cond v (32 + h .object % 64) (s % 32)) c ∙ same-o)))
+          (found (object (h .object)) tt (i ∙ ap (λ (v : Bool). cond v (32 + h .object % 64) (s % 32)) c ∙ same-o)))
         where
           same-o : 32 + h .object % 64 ≡ 32 + h .object
           same-o = omega (arith, low-o)
-      go false c = back (source-ready n t s p h w q k e (subject s)
+      go false c = back (source-ready n t s p h w q k low-o e (subject s)
           (ap (λ (v : Bool). arc (cond v reading writing) (subject s) (object (h .object)) .src) c)
           (found (subject s) (lt→ltb s 32 low-s) (i ∙ ap (λ (v : Bool). cond v (32 + h .object % 64) (s % 32)) c ∙ same-s)))
         where

@@ -4,7 +4,7 @@ use mathlib.Core.Bool.{Bool, true, false, not, _&&_, cond}
 use mathlib.Core.Logic.{inl, inr}
 use mathlib.Core.Option.{none, some}
 use mathlib.Core.List.{List}
-use Prim.Native.Nat.{ℕ, _+_, _%_}
+use Prim.Native.Nat.{ℕ, _+_, _%_, _<_}
 use lib.ListN.{getD}
 use lib.Dec.{T, leb, leb→le, ltb→lt}
 use Rattle.model.specs.Bools.{is-true, both-of}
@@ -31,7 +31,7 @@ use Rattle.keeping.proofs.Closing.{mine-is, its-is}
 pub opened-wf : (t : Tables) (s p : ℕ) (h : Handle) → Wf t → Ends t s p (joins h) → Wf (apply (hold s p (some (joins h))) t)
 opened-wf t s p h w e = wf-hold t s p (joins h) w e
 
-module _ (n : List ℕ) (t : Tables) (s p : ℕ) (h : Handle) (w : Wf t) (e : Ends t s p (joins h)) (v : t .hand s p ≡ none) (k : Ready t (figure-of n))
+module _ (n : List ℕ) (t : Tables) (s p : ℕ) (h : Handle) (w : Wf t) (e : Ends t s p (joins h)) (v : t .hand s p ≡ none) (k : Ready t (figure-of n)) (low : h .object < 64)
     (q : falls-by (reads-by (h .way)) (getD n (s % 32) 0) (getD n (32 + h .object % 64) 0) ≡ true) where
   u : Tables
   u = apply (hold s p (some (joins h))) t
@@ -48,8 +48,8 @@ module _ (n : List ℕ) (t : Tables) (s p : ℕ) (h : Handle) (w : Wf t) (e : En
     where
       go : (r : Bool) → falls-by r (getD n (s % 32) 0) (getD n (32 + h .object % 64) 0) ≡ true
           → needs t (arc (cond r reading writing) (subject s) (object (h .object)) .dst) ⊑ needs t (arc (cond r reading writing) (subject s) (object (h .object)) .src)
-      go true z = rw (sym (mine-is n t s p h e k), sym (its-is n t s p h e k)) (at-most _ _ z)
-      go false z = rw (sym (mine-is n t s p h e k), sym (its-is n t s p h e k)) (at-most _ _ z)
+      go true z = rw (sym (mine-is n t s p h e k low), sym (its-is n t s p h e k low)) (at-most _ _ z)
+      go false z = rw (sym (mine-is n t s p h e k low), sym (its-is n t s p h e k low)) (at-most _ _ z)
 
   same : (x : Thing) → needs u x ≡ needs t x
   unfolding u

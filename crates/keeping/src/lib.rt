@@ -30,14 +30,14 @@ use tables::THINGS;
 use tables::looks;
 
 // The figure of subject s, and of object o, each modulo how many there are.
-pub fn of_subject(n: [u8; THINGS], s: u32) -> u8
+pub fn of_subject(n: [u8; THINGS], s: u64) -> u8
     ensures { λ r. ⌜ r ≡ getD n (s % 32) 0 ⌝ }
 {
     let at = s as usize % SUBJECTS;
     n[at]
 }
 
-pub fn of_object(n: [u8; THINGS], o: u32) -> u8
+pub fn of_object(n: [u8; THINGS], o: u64) -> u8
     ensures { λ r. ⌜ r ≡ getD n (32 + o % 64) 0 ⌝ }
 {
     let at = SUBJECTS + o as usize % OBJECTS;
@@ -45,7 +45,7 @@ pub fn of_object(n: [u8; THINGS], o: u32) -> u8
 }
 
 // The figures with v for subject s, and for object o.
-pub fn with_subject(n: [u8; THINGS], s: u32, v: u8) -> [u8; THINGS]
+pub fn with_subject(n: [u8; THINGS], s: u64, v: u8) -> [u8; THINGS]
     ensures { λ r. ⌜ r ≡ set n (s % 32) v ⌝ }
 {
     let at = s as usize % SUBJECTS;
@@ -54,7 +54,7 @@ pub fn with_subject(n: [u8; THINGS], s: u32, v: u8) -> [u8; THINGS]
     r
 }
 
-pub fn with_object(n: [u8; THINGS], o: u32, v: u8) -> [u8; THINGS]
+pub fn with_object(n: [u8; THINGS], o: u64, v: u8) -> [u8; THINGS]
     ensures { λ r. ⌜ r ≡ set n (32 + o % 64) v ⌝ }
 {
     let at = SUBJECTS + o as usize % OBJECTS;
@@ -76,10 +76,10 @@ pub fn falls(reads: bool, mine: u8, its: u8) -> bool
 }
 
 // The figures are known to be right, and the flow of handle h of subject s falls by them.
-fn is_quiet(sure: bool, n: [u8; THINGS], s: u32, h: Handle) -> bool
+fn is_quiet(sure: bool, n: [u8; THINGS], s: u64, h: Handle) -> bool
     ensures { λ r. ⌜ r ≡ (sure && falls-by (reads-by (h .way)) (getD n (s % 32) 0) (getD n (32 + h .object % 64) 0)) ⌝ }
 {
-    let number = h.object as u32;
+    let number = h.object as u64;
     let mine = of_subject(n, s);
     let its = of_object(n, number);
     let reads = looks::is_reading(h.way);
@@ -101,7 +101,7 @@ pub fn opened(
     subjects: [Subject; SUBJECTS],
     objects: [Object; OBJECTS],
     handles: [Handle; HANDLES],
-    s: u32,
+    s: u64,
     h: Handle,
 ) -> Opening
     ensures { λ r. ⌜ ((rest : Tables) (t : Tables) (p : ℕ) → Wf t → Ends t s p (joins h) → t .hand s p ≡ none →
@@ -173,7 +173,7 @@ fn is_beside(objects: [Object; OBJECTS], handles: [Handle; HANDLES], s: usize, n
 }
 
 // The thing at which the flow of handle h of subject s starts.
-fn source(h: Handle, s: u32) -> usize
+fn source(h: Handle, s: u64) -> usize
     ensures { λ r. ⌜ r ≡ source-of h s ⌝ }
 {
     if looks::is_reading(h.way) {
@@ -188,7 +188,7 @@ fn sunk(
     n: [u8; THINGS],
     objects: [Object; OBJECTS],
     handles: [Handle; HANDLES],
-    s: u32,
+    s: u64,
     h: Handle,
     need: u8,
 ) -> [u8; THINGS]
@@ -219,13 +219,13 @@ pub fn closed(
     n: [u8; THINGS],
     objects: [Object; OBJECTS],
     handles: [Handle; HANDLES],
-    s: u32,
+    s: u64,
     h: Handle,
 ) -> [u8; THINGS]
     ensures { λ r. ⌜ ((rest : Tables) (ss : List Subject) (t : Tables) (p : ℕ) → Wf t → t .hand s p ≡ some (joins h) →
         tables-of rest ss objects handles ≡ apply (hold s p none) t → Ready t (figure-of n) → Ready (tables-of rest ss objects handles) (figure-of r)) ⌝ }
 {
-    let number = h.object as u32;
+    let number = h.object as u64;
     let mine = of_subject(n, s);
     let its = of_object(n, number);
     if mine != its {
@@ -251,7 +251,7 @@ pub fn vacated(
     n: [u8; THINGS],
     objects: [Object; OBJECTS],
     handles: [Handle; HANDLES],
-    s: u32,
+    s: u64,
 ) -> [u8; THINGS]
     ensures { λ r. ⌜ ((rest : Tables) (ss : List Subject) (t : Tables) → Wf t → T (live t (subject s)) →
         tables-of rest ss objects handles ≡ apply (holds s (λ p. none)) t → Ready t (figure-of n) → Ready (tables-of rest ss objects handles) (figure-of r)) ⌝ }

@@ -182,7 +182,7 @@ module _ (rest : Tables) (before after : List Subject) (os : List Object) (hs : 
         thing = subject s;
         was = entry running (label (x .level));
         now = entry running (label (y .level));
-        ranged = lt→ltb s 32 l;
+        stands = lt→ltb s 32 l;
         there = ap (λ (b : Bool). cond b none (some (entry running (label (x .level))))) d;
         then = ap (λ (b : Bool). cond b none (some (entry running (label (y .level))))) e;
         less = not-least-is-below (label (x .level)) (label (y .level)) .1 (rw (level-label (x .level), level-label (y .level)) (ltb-true (y .level) (x .level) z));

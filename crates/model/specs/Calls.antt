@@ -1,5 +1,5 @@
--- The seventeen calls: what each asks, what it tests, what it does, what it answers. States RULES C1 to C17 and C101 to C112, R1 to R10, R15 and R16,
--- and of the sentences about all refusals RULES R101, R102, R105, R108, R110 and R117 to R121.
+-- The seventeen calls: what each asks, what it tests, what it does, what it answers. States RULES C1 to C17 and C101 to C112, R1 to R10 and R15 to R17,
+-- of the sentences about all refusals RULES R101, R102, R105, R108, R110 and R117 to R123, and RULES T44.
 --
 -- In order: the calls by code; the effect of each row as a list of steps; the conditions of the refusals and which of them each call
 -- tests; the refusal; the tables after; the answer. A new call is a row in `rows`, `steps`, `tests`,
@@ -7,13 +7,13 @@
 use mathlib.Core.Bool.{Bool, true, false, not, _||_, _&&_, cond}
 use mathlib.Core.Option.{Option, none, some}
 use mathlib.Core.List.{List, [], _∷_, _++_}
-use Prim.Native.Nat.{ℕ}
-use lib.ListN.{getD}
+use Prim.Native.Nat.{ℕ, _+_}
+use lib.ListN.{getD, length}
 use lib.Dec.{T, eqb, ltb, leb}
 use Rattle.model.specs.Label.{Label, leq, label, level, highest}
-use Rattle.model.specs.Lists.{In, each, keep, any}
+use Rattle.model.specs.Lists.{In, each, keep, any, inserts, only}
 use Rattle.model.specs.Flow.{Thing, subject, object, same}
-use Rattle.model.specs.Tables.{running, file, pipe, Dir, reading, writing, Entry, entry, Handle, handle, mapping, with-mark, Tables, no-freeze, subjects}
+use Rattle.model.specs.Tables.{running, file, pipe, Dir, reading, writing, Entry, entry, Handle, handle, mapping, with-mark, Tables, with-numbers, no-freeze, subjects, objects}
 use Rattle.model.specs.Tables.{places, in-range, is-some, used, live, label-of, is-file, a-file, is-pipe, cell, things, handles-of, handles, open-on, needs, safe}
 use Rattle.model.specs.Steps.{outside, blank, copied, reads, writes, runs, Step, enter, leave, hold, holds, mix, quits, freezes, applies, reap}
 pub mod Refusals
@@ -27,6 +27,10 @@ pub mod Kept
 pub mod Needs
 pub mod Sayable
 pub mod Codes
+pub mod Renaming
+pub mod Slots
+pub mod Listed
+pub mod Before
 
 -- ── the calls ──
 pub data Call : Type 0 where
@@ -89,7 +93,7 @@ decode r = lookup (r .code) (rows r)
 -- ── effects ──
 -- the object of the handle at a place; only taken places are asked
 abbrev pub target : Option Handle → Thing
-target none = object 0
+target none = subject 0
 target (some k) = object (k .to)
 
 abbrev pub moves : Dir → Thing → Thing → Thing → Step
@@ -158,9 +162,32 @@ steps t (freeze n) = freezes n ∷ []
 steps t (connect s u a b p q) = channel t s u a b p q
 steps t unknown = []
 
--- RULES C102, C109: the steps of the row, the end of the pipes that they leave without a handle, and nothing else
+-- RULES T44: the objects that steps make
+abbrev pub made-by : Thing → List ℕ → List ℕ
+made-by (subject s) l = l
+made-by (object o) l = o ∷ l
+
+abbrev pub made : List Step → List ℕ
+made [] = []
+made (enter x e g ∷ ks) = made-by x (made ks)
+made (leave x ∷ ks) = made ks
+made (hold s p v ∷ ks) = made ks
+made (holds s r ∷ ks) = made ks
+made (mix m a b y x ∷ ks) = made ks
+made (quits q ∷ ks) = made ks
+made (freezes n ∷ ks) = made ks
+
+-- RULES C102: the steps of the row, and the end of the pipes that they leave without a handle
+abbrev pub stepped : Tables → Call → Tables
+stepped t c = reap (handles t) (applies (steps t c) t)
+
+-- RULES T44: the numbers of the live objects once tables t have become u: those of before and the new ones, as far as they are live
+abbrev pub relisted : Tables → Call → Tables → Tables
+relisted t c u = with-numbers u (only (λ o. used u (object o)) (inserts (made (steps t c)) (t .numbers)))
+
+-- RULES C102, C109, T44: that, the live objects listed anew, and nothing else
 unfoldable pub effect : Tables → Call → Tables
-effect t c = reap (handles t) (applies (steps t c) t)
+effect t c = relisted t c (stepped t c)
 
 -- ── refusals ──
 pub data Test : Type 0 where
@@ -173,8 +200,9 @@ pub data Test : Type 0 where
   suits : ℕ → ℕ → Test
   idle : ℕ → Test
   thawed : Dir → ℕ → Test
+  roomy : ℕ → Test
 
--- RULES R1 to R10, R15, R16: the number of the refusal that the test is of
+-- RULES R1 to R10, R15 to R17: the number of the refusal that the test is of
 abbrev pub number : Test → ℕ
 number known = 1
 number (alive s) = 2
@@ -193,6 +221,7 @@ number (suits s o) = 9
 number (idle o) = 10
 number (thawed d o) = 15
 number (others s u) = 16
+number (roomy k) = 17
 
 abbrev pub faces : Dir → Dir → Bool
 faces reading reading = true
@@ -215,7 +244,7 @@ abbrev pub shut : ℕ → Dir → Thing → Option Entry → Bool
 shut f reading x v = false
 shut f writing x v = frozen f x v
 
--- RULES R1 to R10, R15, R16: the test fails, as the row says
+-- RULES R1 to R10, R15 to R17, R123: the test fails, as the row says; `roomy k` where k objects more would make more than 64 live
 abbrev pub broken : Tables → Test → Bool
 -- (asked of unknown codes alone)
 broken t known = true
@@ -235,13 +264,14 @@ broken t (suits s o) = not (leq (needs (applies (sheds t s) t) (cell t s)) (labe
 broken t (idle o) = open-on (handles t) o
 broken t (thawed d o) = shut (t .freeze) d (object o) (t .at (object o))
 broken t (others s u) = eqb s u
+broken t (roomy k) = ltb objects (length (t .numbers) + k)
 
--- RULES R1 to R10, R15, R16, R121, C101, C103: which conditions speak of which call
+-- RULES R1 to R10, R15 to R17, R121, C101, C103: which conditions speak of which call
 abbrev pub tests : Call → List Test
 tests (admit s n) = new (subject s) ∷ leveled n ∷ []
-tests (register o n) = new (object o) ∷ leveled n ∷ []
-tests (create s o) = alive s ∷ new (object o) ∷ []
-tests (make-pipe s o r w) = alive s ∷ new (object o) ∷ vacant s r ∷ vacant s w ∷ apart r w ∷ []
+tests (register o n) = new (object o) ∷ leveled n ∷ roomy 1 ∷ []
+tests (create s o) = alive s ∷ new (object o) ∷ roomy 1 ∷ []
+tests (make-pipe s o r w) = alive s ∷ new (object o) ∷ vacant s r ∷ vacant s w ∷ apart r w ∷ roomy 1 ∷ []
 tests (opens d s o p) = alive s ∷ present o ∷ vacant s p ∷ enough (opens d s o p) ∷ thawed d o ∷ []
 tests (access d s p) = alive s ∷ taken s p ∷ facing d s p ∷ []
 tests (fork s c) = alive s ∷ new (subject c) ∷ []
@@ -255,12 +285,12 @@ tests (mark s p) = alive s ∷ taken s p ∷ []
 tests (freeze n) = freezable n ∷ []
 tests (connect s u a b p q) =
     alive s ∷ alive u ∷ others s u ∷ new (object a) ∷ new (object b) ∷ unlike a b
-    ∷ vacant s p ∷ vacant s q ∷ vacant u p ∷ vacant u q ∷ apart p q ∷ enough (connect s u a b p q) ∷ []
+    ∷ vacant s p ∷ vacant s q ∷ vacant u p ∷ vacant u q ∷ apart p q ∷ enough (connect s u a b p q) ∷ roomy 2 ∷ []
 tests unknown = known ∷ []
 
--- RULES R105, R117, R120: the smallest number first, but that 16 comes after 2, and 15 just before 9
+-- RULES R105, R117, R120, R122: the smallest number first, but that 16 comes after 2, 17 after 3, and 15 just before 9
 abbrev pub order : List ℕ
-order = 1 ∷ 2 ∷ 16 ∷ 3 ∷ 4 ∷ 5 ∷ 6 ∷ 7 ∷ 8 ∷ 15 ∷ 9 ∷ 10 ∷ []
+order = 1 ∷ 2 ∷ 16 ∷ 3 ∷ 17 ∷ 4 ∷ 5 ∷ 6 ∷ 7 ∷ 8 ∷ 15 ∷ 9 ∷ 10 ∷ []
 
 -- some test of this number fails
 abbrev pub breaks : Tables → ℕ → List Test → Bool

@@ -6,10 +6,9 @@ use mathlib.Core.Bool.{not}
 use mathlib.Core.Option.{some}
 use Prim.Native.Nat.{ℕ, _≤_, _<_}
 use lib.Dec.{T}
-use Rattle.model.specs.Lists.{In}
 use Rattle.model.specs.Label.{Label, leq, level}
 use Rattle.model.specs.Flow.{Thing, object, Reaches}
-use Rattle.model.specs.Tables.{Dir, Entry, handle, Tables, no-freeze, label-of, is-file, things, edges}
+use Rattle.model.specs.Tables.{Dir, Entry, handle, Tables, no-freeze, live, label-of, is-file, edges}
 use Rattle.model.specs.Steps.{hold, apply}
 use Rattle.model.specs.Calls.{alive, present, vacant, broken}
 pub mod Laws
@@ -30,7 +29,7 @@ pub record Leaks (u : Tables) (a : Label) (x : Thing) : Type 0 where
 -- RULES R9, R109: some live thing reaches a file of a higher level
 pub record Offends (u : Tables) : Type 0 where
   pub low : Thing
-  pub low-live : In low (things u)
+  pub low-live : T (live u low)
   pub leaks : Leaks u (label-of (u .at low)) low
 
 -- the tables after an open, and for R119 of a map the tables after the open for reading of the same numbers

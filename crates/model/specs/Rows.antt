@@ -1,11 +1,13 @@
--- Every row of RULES C1 to C17, and of R1 to R10, R15 and R16, tried once: lists of calls from empty tables with the answer to each, and
+-- Every row of RULES C1 to C17, and of R1 to R10 and R15 to R17, tried once: lists of calls from empty tables with the answer to each, and
 -- the contents and the tally after a few short lists. Not cases of the rules' own: they pin the definitions down where no law does, so that
 -- a slip in a row does not go unseen. Assumes nothing.
 use mathlib.Core.Path.{_≡_, refl}
-use mathlib.Core.Bool.{Bool, true, _&&_}
+use mathlib.Core.Bool.{Bool, true, _&&_, cond}
 use mathlib.Core.List.{List, [], _∷_, _++_}
 use mathlib.Core.Option.{Option, none, some}
 use Prim.Native.Nat.{ℕ, zero, suc, _+_, _*_}
+use lib.Dec.{ltb}
+use Rattle.model.specs.Lists.{each}
 use Rattle.model.specs.Label.{Label, label, level, leq, meet, join, bot}
 use Rattle.model.specs.Flow.{Thing, subject, object, need}
 use Rattle.model.specs.Tables.{Kind, running, file, pipe, writing, Entry, entry, Handle, handle, mapping, Tables, no-freeze, label-of, empty, used, cell, whole, speaks, things, handles, edges, safe}
@@ -23,14 +25,14 @@ abbrev pub line : ℕ → List ℕ → Answer → Line
 line c ns a = record { given = call c ns; answered = a }
 
 -- ── answers ──
--- Four lists, each from empty tables: what a list costs to compute grows faster than its length.
+-- Five lists, four of them from empty tables: what a list costs to compute grows faster than its length.
 
 -- the thirteen calls of the base
 unfoldable pub base-lines : List Line
 base-lines =
     line 0 [] (R 1) ∷ line 18 [] (R 1)
     ∷ line 1 (31 ∷ 15 ∷ []) (A 15) ∷ line 1 (32 ∷ 0 ∷ []) (R 3) ∷ line 1 (31 ∷ 16 ∷ []) (R 3) ∷ line 1 (30 ∷ 16 ∷ []) (R 6) ∷ line 1 (4 ∷ []) (A 0)
-    ∷ line 2 (63 ∷ 15 ∷ []) (A 15) ∷ line 2 (64 ∷ 0 ∷ []) (R 3) ∷ line 2 (63 ∷ 1 ∷ []) (R 3) ∷ line 2 (0 ∷ 16 ∷ []) (R 6) ∷ line 2 (0 ∷ 2 ∷ []) (A 2)
+    ∷ line 2 (63 ∷ 15 ∷ []) (A 15) ∷ line 2 (63 ∷ 1 ∷ []) (R 3) ∷ line 2 (0 ∷ 16 ∷ []) (R 6) ∷ line 2 (0 ∷ 2 ∷ []) (A 2)
     ∷ line 1 (1 ∷ 7 ∷ []) (A 7) ∷ line 3 (1 ∷ 6 ∷ []) (A 7) ∷ line 3 (32 ∷ 64 ∷ []) (R 2) ∷ line 3 (1 ∷ 6 ∷ []) (R 3)
     ∷ line 4 (1 ∷ 7 ∷ 0 ∷ 15 ∷ []) (A 7) ∷ line 4 (1 ∷ 8 ∷ 0 ∷ 1 ∷ []) (R 7) ∷ line 4 (1 ∷ 8 ∷ 1 ∷ 1 ∷ []) (R 7) ∷ line 4 (1 ∷ 8 ∷ 1 ∷ 16 ∷ []) (R 7)
     ∷ line 4 (1 ∷ 63 ∷ 16 ∷ 16 ∷ []) (R 3)
@@ -94,7 +96,7 @@ channel-lines =
     line 2 (0 ∷ 2 ∷ []) (A 2)
     ∷ line 1 (8 ∷ 6 ∷ []) (A 6) ∷ line 1 (9 ∷ 3 ∷ []) (A 3) ∷ line 2 (40 ∷ 3 ∷ []) (A 3) ∷ line 2 (41 ∷ 6 ∷ []) (A 6)
     ∷ line 17 (32 ∷ 32 ∷ 0 ∷ 0 ∷ 16 ∷ 16 ∷ []) (R 2) ∷ line 17 (8 ∷ 32 ∷ 0 ∷ 0 ∷ 16 ∷ 16 ∷ []) (R 2) ∷ line 17 (31 ∷ 8 ∷ 0 ∷ 0 ∷ 16 ∷ 16 ∷ []) (R 2)
-    ∷ line 17 (8 ∷ 8 ∷ 0 ∷ 0 ∷ 16 ∷ 16 ∷ []) (R 16) ∷ line 17 (8 ∷ 9 ∷ 0 ∷ 42 ∷ 16 ∷ 16 ∷ []) (R 3) ∷ line 17 (8 ∷ 9 ∷ 42 ∷ 64 ∷ 16 ∷ 16 ∷ []) (R 3)
+    ∷ line 17 (8 ∷ 8 ∷ 0 ∷ 0 ∷ 16 ∷ 16 ∷ []) (R 16) ∷ line 17 (8 ∷ 9 ∷ 0 ∷ 42 ∷ 16 ∷ 16 ∷ []) (R 3) ∷ line 17 (8 ∷ 9 ∷ 42 ∷ 64 ∷ 16 ∷ 16 ∷ []) (R 7)
     ∷ line 17 (8 ∷ 9 ∷ 42 ∷ 42 ∷ 16 ∷ 16 ∷ []) (R 3) ∷ line 17 (8 ∷ 9 ∷ 42 ∷ 43 ∷ 16 ∷ 1 ∷ []) (R 7) ∷ line 17 (8 ∷ 9 ∷ 42 ∷ 43 ∷ 0 ∷ 16 ∷ []) (R 7)
     ∷ line 17 (8 ∷ 9 ∷ 42 ∷ 43 ∷ 0 ∷ 0 ∷ []) (R 7) ∷ line 6 (8 ∷ 41 ∷ 2 ∷ []) (A 6) ∷ line 5 (9 ∷ 41 ∷ 3 ∷ []) (A 6)
     ∷ line 17 (8 ∷ 9 ∷ 42 ∷ 43 ∷ 2 ∷ 1 ∷ []) (R 7)
@@ -108,12 +110,35 @@ channel-lines =
     ∷ line 11 (9 ∷ 1 ∷ []) (A 3) ∷ line 13 (43 ∷ []) (R 4) ∷ line 13 (42 ∷ []) (R 5)
     ∷ []
 
+-- 62 files of level 2, numbers 0 to 61, and two subjects of level 9: no calls made these tables, and the list from them is short
+abbrev crowd : Tables
+crowd = record {
+  at = λ x. elim x as (λ _. Option Entry) [
+    | subject n ↦ cond (ltb n 2) (some (entry running (label 9))) none
+    | object n ↦ cond (ltb n 62) (some (entry file (label 2))) none
+  ];
+  hand = λ s p. none;
+  freeze = no-freeze;
+  numbers = each 62 (λ o. o ∷ []);
+}
+
+-- numbers of 64 bits, and 64 live: a connect is one too many with 63, everything is with 64; an ended pipe and a retired file make space
+unfoldable pub crowded-lines : List Line
+crowded-lines =
+    line 2 (18446744073709551615 ∷ 4 ∷ []) (A 4) ∷ line 2 (18446744073709551615 ∷ 4 ∷ []) (R 3)
+    ∷ line 17 (0 ∷ 1 ∷ 62 ∷ 62 ∷ 0 ∷ 1 ∷ []) (R 3) ∷ line 17 (0 ∷ 1 ∷ 62 ∷ 63 ∷ 0 ∷ 0 ∷ []) (R 17) ∷ line 17 (0 ∷ 0 ∷ 62 ∷ 63 ∷ 0 ∷ 1 ∷ []) (R 16)
+    ∷ line 4 (0 ∷ 4294967296 ∷ 0 ∷ 1 ∷ []) (A 9) ∷ line 2 (61 ∷ 4 ∷ []) (R 3) ∷ line 2 (62 ∷ 16 ∷ []) (R 17) ∷ line 3 (2 ∷ 62 ∷ []) (R 2) ∷ line 3 (0 ∷ 62 ∷ []) (R 17)
+    ∷ line 4 (0 ∷ 62 ∷ 0 ∷ 0 ∷ []) (R 17) ∷ line 11 (0 ∷ 0 ∷ []) (A 9) ∷ line 3 (0 ∷ 62 ∷ []) (R 17) ∷ line 11 (0 ∷ 1 ∷ []) (A 9) ∷ line 3 (0 ∷ 62 ∷ []) (A 9)
+    ∷ line 3 (0 ∷ 4294967296 ∷ []) (R 17) ∷ line 13 (5 ∷ []) (A 2) ∷ line 13 (18446744073709551615 ∷ []) (A 4) ∷ line 13 (18446744073709551615 ∷ []) (R 4)
+    ∷ line 17 (0 ∷ 1 ∷ 18446744073709551615 ∷ 5 ∷ 0 ∷ 1 ∷ []) (A 9) ∷ line 5 (1 ∷ 18446744073709551615 ∷ 2 ∷ []) (A 9) ∷ line 2 (63 ∷ 4 ∷ []) (R 17)
+    ∷ []
+
 abbrev pub answered-so : Tables → List Line → Bool
 answered-so t [] = true
 answered-so t (l ∷ ls) = equal (answer t (decode (l .given))) (l .answered) && answered-so (next t (decode (l .given))) ls
 
-pub rows-right : (answered-so empty base-lines && answered-so empty closed-lines && answered-so empty mapped-lines && answered-so empty channel-lines) ≡ true
-unfolding base-lines closed-lines mapped-lines channel-lines Label label level leq meet join bot need used cell whole speaks things handles edges safe decode rereads sheds ended effect refusal lowers answer
+pub rows-right : (answered-so empty base-lines && answered-so empty closed-lines && answered-so empty mapped-lines && answered-so empty channel-lines && answered-so crowd crowded-lines) ≡ true
+unfolding base-lines closed-lines mapped-lines channel-lines crowded-lines Label label level leq meet join bot need used cell whole speaks things handles edges safe decode rereads sheds ended effect refusal lowers answer
 rows-right = refl
 
 -- ── contents ──
@@ -183,6 +208,7 @@ above k = record {
   at = λ x. elim x as (λ _. Option Entry) [ subject n ↦ some (entry running (label 9)) | object n ↦ some (entry k (label 2)) ];
   hand = λ s p. elim s as (λ _. Option Handle) [ zero ↦ elim p as (λ _. Option Handle) [ zero ↦ some (handle writing 0) | suc p ↦ none ] | suc s ↦ some (mapping 0) ];
   freeze = no-freeze;
+  numbers = [];
 }
 
 abbrev level-after : Tables → ℕ

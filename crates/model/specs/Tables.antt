@@ -1,7 +1,7 @@
--- The tables, and what the rules read off them. States RULES T1 to T3, T6 to T12, T17, T18, T20, T24, T32, T35 and T37, and RULES F1 to F3
+-- The tables, and what the rules read off them. States RULES T1 to T3, T6 to T12, T17, T18, T20, T24, T32, T35, T37 and T44, and RULES F1 to F3
 -- and F5 to F8.
 --
--- What is kept (live things with kind and label, handles by place, the freeze); what is in use and live; the lists of live things, of
+-- What is kept (live things with kind and label, handles by place, the freeze, the live objects by number); what is in use and live; the lists of live things, of
 -- handles and of flows; the need of a thing and the test that every live thing has enough; and `clean`, which reads tables that
 -- no calls made. Tables are functions, so that equality of tables is an equation. Assumes nothing.
 use mathlib.Core.Bool.{Bool, true, false, not, _&&_, cond}
@@ -13,6 +13,7 @@ use Rattle.model.specs.Label.{Label, leq, bot}
 use Rattle.model.specs.Lists.{each, keep, any}
 use Rattle.model.specs.Flow.{Thing, subject, object, same, Edge, need}
 pub mod Laws
+pub mod Numbers
 
 -- ── what is kept ──
 -- RULES T2, T24: subjects are running steps, objects are files and pipes. A subject's kind is never looked at.
@@ -36,11 +37,13 @@ pub record Handle : Type 0 where
   pub marked : Bool
   pub mapped : Bool
 
--- RULES T6, T11, T32: the entries under the numbers in use; at each place one handle or none; the freeze
+-- RULES T6, T11, T32, T44: the entries under the numbers in use; at each place one handle or none; the freeze; the numbers of the objects in use, rising, which
+-- say nothing beside the entries (Calls/Listed)
 pub record Tables : Type 0 where
   pub at : Thing → Option Entry
   pub hand : ℕ → ℕ → Option Handle
   pub freeze : ℕ
+  pub numbers : List ℕ
 
 -- RULES T32: the freeze where no file is frozen
 abbrev pub no-freeze : ℕ
@@ -48,7 +51,7 @@ no-freeze = 16
 
 -- RULES T12
 abbrev pub empty : Tables
-empty = record { at = λ x. none; hand = λ s p. none; freeze = no-freeze }
+empty = record { at = λ x. none; hand = λ s p. none; freeze = no-freeze; numbers = [] }
 
 -- an entry, a handle, and tables with one part changed are built here alone
 abbrev pub entry : Kind → Label → Entry
@@ -65,16 +68,19 @@ abbrev pub with-mark : Handle → Handle
 with-mark k = record { dir = k .dir; to = k .to; marked = true; mapped = k .mapped }
 
 abbrev pub with-at : Tables → (Thing → Option Entry) → Tables
-with-at t a = record { at = a; hand = t .hand; freeze = t .freeze }
+with-at t a = record { at = a; hand = t .hand; freeze = t .freeze; numbers = t .numbers }
 
 abbrev pub with-hand : Tables → (ℕ → ℕ → Option Handle) → Tables
-with-hand t h = record { at = t .at; hand = h; freeze = t .freeze }
+with-hand t h = record { at = t .at; hand = h; freeze = t .freeze; numbers = t .numbers }
 
 abbrev pub with-freeze : Tables → ℕ → Tables
-with-freeze t f = record { at = t .at; hand = t .hand; freeze = f }
+with-freeze t f = record { at = t .at; hand = t .hand; freeze = f; numbers = t .numbers }
+
+abbrev pub with-numbers : Tables → List ℕ → Tables
+with-numbers t l = record { at = t .at; hand = t .hand; freeze = t .freeze; numbers = l }
 
 -- ── ranges, in use, live ──
--- RULES T1, T2, T3: how many there are of each; their numbers are those below
+-- RULES T1, T2, T3: how many there are of each. The numbers of subjects and places are those below; an object has any number, and so many may be live at a time
 abbrev pub subjects : ℕ
 subjects = 32
 
@@ -86,7 +92,7 @@ places = 16
 
 abbrev pub in-range : Thing → Bool
 in-range (subject n) = ltb n subjects
-in-range (object n) = ltb n objects
+in-range (object n) = true
 
 abbrev pub is-some : {A : Type 0} → Option A → Bool
 is-some none = false
@@ -130,8 +136,13 @@ unfoldable pub whole : Tables → Thing → Thing → Bool
 whole t x y = same x y
 
 -- ── the lists of live things and of handles ──
+-- RULES F8: of the live objects those on which a handle is: no other has a need above its own label, or a label that falls (Calls/Sound, `idle-need`)
+abbrev pub named : Tables → Option Handle → List Thing
+named t none = []
+named t (some k) = keep (used t (object (k .to))) (object (k .to)) []
+
 abbrev pub live-objects : Tables → List Thing
-live-objects t = each objects (λ o. keep (used t (object o)) (object o) [])
+live-objects t = each subjects (λ s. each places (λ p. named t (t .hand s p)))
 
 abbrev pub live-subjects : Tables → List Thing
 live-subjects t = each subjects (λ s. keep (used t (subject s)) (cell t s) [])

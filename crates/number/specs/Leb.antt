@@ -18,11 +18,11 @@ AreBytes bs = AtMost 255 bs
 
 -- RULES J5: the largest value of a number
 abbrev pub largest : ℕ
-largest = 4294967295
+largest = 18446744073709551615
 
 -- RULES J7: the most bytes of a good number
 abbrev pub longest : ℕ
-longest = 5
+longest = 10
 
 -- ---- the coding of a number
 

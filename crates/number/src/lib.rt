@@ -7,15 +7,15 @@ ghost use Rattle.number.specs.Put.{put, fitted};
 ghost use Rattle.number.specs.Answers.{reading, writing};
 
 // The largest number of the format.
-pub const LARGEST: u32 = 4294967295;
+pub const LARGEST: u64 = 18446744073709551615;
 
 // The longest good number of the format, in bytes.
-pub const LONGEST: usize = 5;
+pub const LONGEST: usize = 10;
 
 // What reading a number at the front of a slice finds.
 pub enum Number {
     // The number, and how many bytes it takes.
-    Good { value: u32, used: usize },
+    Good { value: u64, used: usize },
     // Cut off, too large, or longer than it need be.
     Malformed,
 }
@@ -32,14 +32,14 @@ fn reach(from: &[u8]) -> usize
 
 // The number at the front of `from`: one of one or two bytes before any call of itself, and a longer one by a call of
 // itself on the rest of the slice, as its value is the first group plus 128 times the value of the rest. No byte past the
-// longest good number is looked at, so that the calls are at most four deep, whatever the slice holds.
+// longest good number is looked at, so that the calls are at most nine deep, whatever the slice holds.
 pub fn read_number(from: &[u8]) -> Number
     ensures { λ r. ⌜ reading r ≡ number largest (now (from .entry)) ⌝ }
 {
     if from.len() == 0 {
         return Number::Malformed;
     }
-    let first = from[0] as u32;
+    let first = from[0] as u64;
     if first < 128 {
         return Number::Good {
             value: first,
@@ -50,7 +50,7 @@ pub fn read_number(from: &[u8]) -> Number
         return Number::Malformed;
     }
     let group = first - 128;
-    let second = from[1] as u32;
+    let second = from[1] as u64;
     if second < 128 {
         // A last group of 0 adds nothing: the number is longer than it need be.
         if second == 0 {
@@ -87,7 +87,7 @@ pub enum Written {
 
 // Writes `n` over the front of `out`; the bytes after it keep their values. The rest of the number is written first, so
 // that nothing has changed where the slice turns out too short.
-pub fn write_number(out: &mut [u8], n: u32) -> Written
+pub fn write_number(out: &mut [u8], n: u64) -> Written
     ensures answer { λ r. ⌜ writing r ≡ fitted (encode n) (now (out .entry)) ⌝ }
     ensures buffer { λ _. ⌜ now (out .exit) ≡ put (encode n) (now (out .entry)) ⌝ }
 {
@@ -109,7 +109,7 @@ pub fn write_number(out: &mut [u8], n: u32) -> Written
 }
 
 // How many bytes `n` takes.
-pub fn number_len(n: u32) -> usize
+pub fn number_len(n: u64) -> usize
     ensures { λ r. ⌜ r ≡ length (encode n) ⌝ }
 {
     if n < 128 { 1 } else { number_len(n / 128) + 1 }

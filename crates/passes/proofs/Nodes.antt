@@ -24,6 +24,7 @@ use Rattle.model.specs.Invariant.{Wf}
 use Rattle.tables.specs.declared.Subject.{Subject}
 use Rattle.tables.specs.declared.Object.{Object}
 use Rattle.tables.specs.declared.Handle.{Handle}
+use Rattle.tables.specs.Records.Laws.{slot-low}
 use Rattle.tables.specs.Records.{object-entry, reads-by, held, no-object, no-handle, tables-of}
 use Rattle.tables.specs.Needs.{node, Needed}
 use Rattle.passes.specs.Least.{figure, Before, Settled, Between}
@@ -62,10 +63,10 @@ tip-in-range : (start : Bool) (s : ℕ) (j : Held) → s < 32 → j .to < 64 →
 tip-in-range start s j a b = go start (j .dir)
   where
     go : (start : Bool) (d : Dir) → T (in-range (tip start (arc d (subject s) (object (j .to)))))
-    go true reading = lt→ltb (j .to) 64 b
+    go true reading = tt
     go true writing = lt→ltb s 32 a
     go false reading = lt→ltb s 32 a
-    go false writing = lt→ltb (j .to) 64 b
+    go false writing = tt
 
 -- an end of a record of subject s is that end of its flow
 edge-node : (start : Bool) (h : Handle) (k : Held) (s : ℕ) → held h ≡ some k → k .to < 64 → s < 32
@@ -126,7 +127,7 @@ module _ (rest : Tables) (ss : List Subject) (os : List Object) (hs : List Handl
 
   far : (s q : ℕ) (j : Held) → t .hand s q ≡ some j → (s < 32) × (q < 16) × (j .to < 64)
   far s q j e = let g = w .ends s q j e in
-      (ltb→lt s 32 (live-of t (subject s) (g .from) .0), g .place, ltb→lt (j .to) 64 (live-of t (object (j .to)) (g .to) .0))
+      (ltb→lt s 32 (live-of t (subject s) (g .from) .0), g .place, slot-low rest ss os hs lo t (j .to) refl (g .to))
 
   -- an end of the record at a place
   module _ (start : Bool) (s q : ℕ) where

@@ -27,7 +27,7 @@ use Rattle.tables.specs.declared.Subject.{Subject}
 use Rattle.tables.specs.declared.Object.{Object}
 use Rattle.tables.specs.declared.Handle.{Handle}
 use Rattle.tables.specs.Records.{subject-entry, object-entry, joins, held, reads-by, no-subject, no-object, no-handle, hands, tables-of}
-use Rattle.tables.specs.Records.Laws.{object-there, store-close}
+use Rattle.tables.specs.Records.Laws.{object-there, store-close, slot-low}
 use Rattle.tables.specs.Needs.{figure-of}
 use Rattle.refusals.specs.Refusing.{Refuses}
 use Rattle.tables.specs.Working.{subject-at, object-at, handle-at, Outlives}
@@ -37,15 +37,18 @@ use Rattle.passes.specs.Working.{demands}
 use Rattle.passes.proofs.Raising.{true-false}
 use Rattle.keeping.proofs.Closing.{mine-is, its-is, apart-ready, zero-ready, backed-ready, object-then}
 use Rattle.gatekeeper.specs.declared.Monitor.{Monitor}
-use Rattle.gatekeeper.specs.View.{beside, view, Honest, direct}
+use Rattle.gatekeeper.specs.View.{beside, slots, view, Apart, Honest, direct}
+use Rattle.gatekeeper.specs.Numbering.{Lift}
 use Rattle.gatekeeper.specs.Acting.{Acts, back}
 use Rattle.gatekeeper.proofs.Owned.{Long}
+use Rattle.gatekeeper.proofs.Lifting.{lift-none}
 use Rattle.gatekeeper.proofs.Doing.{found-live, full-held}
 use Rattle.gatekeeper.proofs.Acting.{stops, goes, acts-keeps}
 use Rattle.gatekeeper.proofs.Storing.{subject-got, object-got, handle-got, closes}
 use Rattle.quick.specs.Parts.{Whole, subjects-in, objects-in, handles-in, monitor-in, tally-in, Beside, Done, Loose, Settles}
 use Rattle.quick.specs.Parts.Laws.{length-objects, length-handles}
-use Rattle.quick.proofs.Doing.{refusing, allowing, whole-long, counted-made, counted-gone}
+use Rattle.quick.proofs.Doing.{whole-long, refusing, allowing, settles-by, counted-made, counted-gone}
+use Rattle.quick.proofs.Renumbering.{close-ren}
 
 close-is : (s p : ℕ) → decode (direct 11 s p 0 0 0 0) ≡ close s p
 unfolding decode
@@ -59,55 +62,59 @@ same-set l i d x h e = ext-getD d l (set l i x) (sym (length-set l i x)) (λ j k
     go j (yes q) = ap (λ (n : ℕ). getD l n d) q ∙ sym e ∙ sym (ap (λ (n : ℕ). getD (set l i x) n d) q ∙ getD-set-same l i x d h)
     go j (no n) = sym (getD-set-other l i j x d n)
 
-module _ (sb ob hb nb cs : List ℕ) (fz su s p : ℕ) (w : Whole sb ob hb nb cs) (one : su ≡ 1) (x : Subject) (h : Handle) (n : ℕ)
+module _ (ns sb ob hb nb cs : List ℕ) (fz su s p : ℕ) (w : Whole ns sb ob hb nb cs) (one : su ≡ 1) (x : Subject) (h : Handle) (n : ℕ)
     (ex : x ≡ subject-at s (getD (subjects-in sb) (s % 32) no-subject)) (eh : h ≡ handle-at s p (getD (handles-in hb) (s % 32 * 16 + p % 16) no-handle))
     (f : (t : Tables) (s p : ℕ) → Wf t → t .at (subject s) ≡ subject-entry x → t .hand s p ≡ held h → Refuses t (close s p) n × Refuses t (mark s p) n) where
   abbrev m : Monitor
-  m = monitor-in sb ob hb nb fz su
+  m = monitor-in ns sb ob hb nb fz su
 
   abbrev c : Call
   c = close s p
 
-  g : Long m
-  g = whole-long sb ob hb nb cs fz su w
+  -- it names no object
+  lift : Apart m → Lift (objects-in ob) ns c c ns
+  lift d = lift-none (objects-in ob) ns (length-objects ob) (w .numbers) d c (λ ρ σ v l. refl) (λ t i h. h) (λ t. tt)
 
-  asked : Wf (view m) → Refuses (view m) c n
-  asked v = f (view m) s p v (subject-got m g s x ex) (handle-got m g s p h eh) .0
+  g : Long m
+  g = whole-long ns sb ob hb nb cs fz su w
+
+  asked : Wf (slots m) → Refuses (slots m) c n
+  asked v = f (slots m) s p v (subject-got m g s x ex) (handle-got m g s p h eh) .0
 
   pub close-refused : (n ≡ 0 → ⊥) → (r : ℕ) → r ≡ 20992 + n → n < 256
-      → Done (monitor-in sb ob hb nb fz su) (tally-in cs) (direct 11 s p 0 0 0 0) r (monitor-in sb ob hb nb fz su) (tally-in cs)
-  close-refused z = refusing sb ob hb nb cs fz su (direct 11 s p 0 0 0 0) c (close-is s p) one n (λ firm. stops m c n (back m n) (asked (firm .wf)) z refl)
+      → Done (monitor-in ns sb ob hb nb fz su) (tally-in cs) (direct 11 s p 0 0 0 0) r (monitor-in ns sb ob hb nb fz su) (tally-in cs)
+  close-refused z = refusing ns sb ob hb nb cs fz su w one (direct 11 s p 0 0 0 0) c c (close-is s p) lift n (λ firm. stops m c n (back m n) (asked (firm .wf)) z refl)
 
   -- ── it is left ──
-  module _ (z : n ≡ 0) (y : Object) (ey : y ≡ object-at (h .object) (getD (objects-in ob) (h .object % 64) no-object)) (i : Honest (monitor-in sb ob hb nb fz su)) where
-    at-place : view m .hand s p ≡ held h
+  module _ (z : n ≡ 0) (y : Object) (ey : y ≡ object-at (h .object) (getD (objects-in ob) (h .object % 64) no-object)) (i : Honest (monitor-in ns sb ob hb nb fz su)) where
+    at-place : slots m .hand s p ≡ held h
     at-place = handle-got m g s p h eh
 
-    none-refuses : refusal (view m) c ≡ none
-    none-refuses = goes (asked (i one .0 .wf)) z
+    none-refuses : refusal (slots m) c ≡ none
+    none-refuses = goes (asked (i one .1 .wf)) z
 
-    left : ((k : Held) → view m .hand s p ≡ some k → Loose (view m) s k → effect (view m) c .at (object (k .to)) ≡ view m .at (object (k .to)) → ⊥)
+    left : ((k : Held) → slots m .hand s p ≡ some k → Loose (slots m) s k → effect (slots m) c .at (object (k .to)) ≡ slots m .at (object (k .to)) → ⊥)
         → Settles (view m) (decode (direct 11 s p 0 0 0 0)) 0
-    left f = subst (λ (d : Call). Settles (view m) d 0) (sym (close-is s p)) (record {
+    left f = settles-by ns sb ob hb nb cs fz su w one (direct 11 s p 0 0 0 0) c c (close-is s p) lift i 0 (λ ρ σ v l long. close-ren ρ σ v l (slots m) long s p 0 (record {
       refusing = λ k q l. absurd (Option·none-ne-some k (sym none-refuses ∙ q));
       opening = λ d s′ o p′ e. let q : _≡_ {A = ℕ} 0 1 = cc in absurd (omega arith);
       closing = λ s′ p′ k e q there loose stays. (let a : s′ ≡ s = cc in let b : p′ ≡ p = cc in
-          absurd (f k (subst₂ (λ (x v : ℕ). view m .hand x v ≡ some k) a b there) (subst (λ (x : ℕ). Loose (view m) x k) a loose) stays));
-    })
+          absurd (f k (subst₂ (λ (x v : ℕ). slots m .hand x v ≡ some k) a b there) (subst (λ (x : ℕ). Loose (slots m) x k) a loose) stays));
+    }))
 
     -- the handle at the place
-    module _ (k : Held) (there : view m .hand s p ≡ some k) where
-      standing : view m .hand s p ≡ some (joins h)
+    module _ (k : Held) (there : slots m .hand s p ≡ some k) where
+      standing : slots m .hand s p ≡ some (joins h)
       standing = at-place ∙ full-held h k (sym at-place ∙ there)
 
       same-handle : k ≡ joins h
       same-handle = Option·some-injective k (joins h) (sym there ∙ standing)
 
-      its-ends : Ends (view m) s p (joins h)
-      its-ends = i one .0 .wf .ends s p (joins h) standing
+      its-ends : Ends (slots m) s p (joins h)
+      its-ends = i one .1 .wf .ends s p (joins h) standing
 
       low-o : h .object < 64
-      low-o = ltb→lt (h .object) 64 (live-of (view m) (object (h .object)) (its-ends .to) .0)
+      low-o = slot-low (beside m) (m .subjects) (m .objects) (m .handles) (g .objects) (slots m) (h .object) refl (its-ends .to)
 
     abbrev mine : ℕ
     mine = getD nb (s % 32) 0
@@ -119,14 +126,17 @@ module _ (sb ob hb nb cs : List ℕ) (fz su s p : ℕ) (w : Whole sb ob hb nb cs
     quiet-test = not (eqb mine its) || (eqb mine 0 || (reads-by (h .way) && demands y mine))
 
     -- what the ends tell is what the quick tests ask
-    module _ (e : Ends (view m) s p (joins h)) where
-      own-is : label mine ≡ needs (view m) (subject s)
-      own-is = mine-is nb (view m) s p h e (i one .1)
+    module _ (e : Ends (slots m) s p (joins h)) where
+      lower : h .object < 64
+      lower = slot-low (beside m) (m .subjects) (m .objects) (m .handles) (g .objects) (slots m) (h .object) refl (e .to)
 
-      other-is : label its ≡ needs (view m) (object (h .object))
-      other-is = its-is nb (view m) s p h e (i one .1)
+      own-is : label mine ≡ needs (slots m) (subject s)
+      own-is = mine-is nb (slots m) s p h e (i one .2) lower
 
-      by-least : needs (view m) (subject s) ≡ bot → quiet-test ≡ true
+      other-is : label its ≡ needs (slots m) (object (h .object))
+      other-is = its-is nb (slots m) s p h e (i one .2) lower
+
+      by-least : needs (slots m) (subject s) ≡ bot → quiet-test ≡ true
       by-least b = second (not (eqb mine its)) (eqb mine 0) (reads-by (h .way) && demands y mine)
           (eq-eqb mine 0 (sym (level-label mine) ∙ ap level (own-is ∙ b ∙ sym label-zero) ∙ level-label 0))
         where
@@ -135,10 +145,10 @@ module _ (sb ob hb nb cs : List ℕ) (fz su s p : ℕ) (w : Whole sb ob hb nb cs
           second false true c q = refl
           second false false c q = true-false (sym q)
 
-      by-file : (joins h .dir ≡ reading) × (needs (view m) (subject s) ⊑ demand (object (h .object)) (view m .at (object (h .object)))) → quiet-test ≡ true
+      by-file : (joins h .dir ≡ reading) × (needs (slots m) (subject s) ⊑ demand (object (h .object)) (slots m .at (object (h .object)))) → quiet-test ≡ true
       by-file (d, v) = go (ℕ-discrete (y .kind) 1)
         where
-          entry-is : view m .at (object (h .object)) ≡ object-entry y
+          entry-is : slots m .at (object (h .object)) ≡ object-entry y
           entry-is = object-got m g (h .object) y ey
 
           third : (a b c : Bool) → c ≡ true → (a || (b || c)) ≡ true
@@ -158,7 +168,7 @@ module _ (sb ob hb nb cs : List ℕ) (fz su s p : ℕ) (w : Whole sb ob hb nb cs
           go (yes q) = third (not (eqb mine its)) (eqb mine 0) (reads-by (h .way) && demands y mine)
               (ap₂ (λ (a b : Bool). a && b) (reads-it (reads-by (h .way)) d) (ap₂ (λ (a b : Bool). a && b) (eq-eqb (y .kind) 1 q) (le-leb mine (y .level) enough)))
             where
-              asks : demand (object (h .object)) (view m .at (object (h .object))) ≡ label (y .level)
+              asks : demand (object (h .object)) (slots m .at (object (h .object))) ≡ label (y .level)
               asks = ap (demand (object (h .object))) entry-is ∙ rw q
 
               under : label mine ⊑ label (y .level)
@@ -166,24 +176,24 @@ module _ (sb ob hb nb cs : List ℕ) (fz su s p : ℕ) (w : Whole sb ob hb nb cs
 
               enough : mine ≤ y .level
               enough = omega (arith, ⊑→le (label mine) (label (y .level)) under, level-label mine, level-label (y .level))
-          go (no q) = by-least (⊑-antisym (subst (λ (a : Label). needs (view m) (subject s) ⊑ a) asks v) bot-least)
+          go (no q) = by-least (⊑-antisym (subst (λ (a : Label). needs (slots m) (subject s) ⊑ a) asks v) bot-least)
             where
-              asks : demand (object (h .object)) (view m .at (object (h .object))) ≡ bot
+              asks : demand (object (h .object)) (slots m .at (object (h .object))) ≡ bot
               asks = ap (demand (object (h .object))) entry-is
                   ∙ ap (λ (b : Bool). demand (object (h .object)) (cond (eqb (y .kind) 0) none (some (entry (cond b file pipe) (label (y .level)))))) (ne-eqb (y .kind) 1 q)
                   ∙ no-file (eqb (y .kind) 0)
 
-      by-loose : Loose (view m) s (joins h) → quiet-test ≡ true
+      by-loose : Loose (slots m) s (joins h) → quiet-test ≡ true
       by-loose (inl d) = ap (λ (b : Bool). not b || (eqb mine 0 || (reads-by (h .way) && demands y mine))) (ne-eqb mine its (λ q. d (sym own-is ∙ ap label q ∙ other-is)))
       by-loose (inr (inl b)) = by-least b
       by-loose (inr (inr f)) = by-file f
 
     pub close-loud : (not (eqb (getD nb (s % 32) 0) (getD nb (32 + h .object % 64) 0)) || (eqb (getD nb (s % 32) 0) 0 || (reads-by (h .way) && demands y (getD nb (s % 32) 0)))) ≡ false
-        → Settles (view (monitor-in sb ob hb nb fz su)) (decode (direct 11 s p 0 0 0 0)) 0
-    close-loud q = left (λ k there loose stays. true-false (sym (by-loose (its-ends k there) (subst (Loose (view m) s) (same-handle k there) loose)) ∙ q))
+        → Settles (view (monitor-in ns sb ob hb nb fz su)) (decode (direct 11 s p 0 0 0 0)) 0
+    close-loud q = left (λ k there loose stays. true-false (sym (by-loose (its-ends k there) (subst (Loose (slots m) s) (same-handle k there) loose)) ∙ q))
 
     -- no other handle is on a pipe: it ends
-    module _ (at : ℕ) (ea : at ≡ s % 32 * 16 + p % 16) (alone : (y .kind < 2) ⊎ Beside (handles-in hb) (h .object) at → ⊥) (k : Held) (there : view m .hand s p ≡ some k) where
+    module _ (at : ℕ) (ea : at ≡ s % 32 * 16 + p % 16) (alone : (y .kind < 2) ⊎ Beside (handles-in hb) (h .object) at → ⊥) (k : Held) (there : slots m .hand s p ≡ some k) where
       hs-after : List Handle
       hs-after = set (handles-in hb) (s % 32 * 16 + p % 16) no-handle
 
@@ -211,11 +221,11 @@ module _ (sb ob hb nb cs : List ℕ) (fz su s p : ℕ) (w : Whole sb ob hb nb cs
           pipe-kind (yes l) = absurd (alone (inl l))
           pipe-kind (no l) = omega arith
 
-      ends-it : effect (view m) c .at (object (h .object)) ≡ none
+      ends-it : effect (slots m) c .at (object (h .object)) ≡ none
       unfolding effect hs-after
       ends-it = ap (λ (u : Tables). u .at (object (h .object)))
           (sym (store-close (beside m) (m .subjects) (m .objects) (m .handles) s p (h .object) (joins h) no-handle no-object (g .objects) (g .handles)
-          (ltb→lt s 32 (live-of (view m) (subject s) (its-ends k there .from) .0)) (its-ends k there .place) (low-o k there) (standing k there) refl
+          (ltb→lt s 32 (live-of (slots m) (subject s) (its-ends k there .from) .0)) (its-ends k there .place) (low-o k there) (standing k there) refl
           (subst (λ (o : Object). Outlives hs-after o (h .object) no-object) record-is gone)))
           ∙ object-there (beside m) (m .subjects) (set (m .objects) (h .object % 64) no-object) hs-after (h .object) (length-set (m .objects) (h .object % 64) no-object ∙ g .objects)
           ∙ ap (λ (o : Object). object-entry (object-at (h .object) o)) (getD-set-same (m .objects) (h .object % 64) no-object no-object (omega (arith, g .objects)))
@@ -225,12 +235,12 @@ module _ (sb ob hb nb cs : List ℕ) (fz su s p : ℕ) (w : Whole sb ob hb nb cs
           none-there true = refl
           none-there false = refl
 
-      ended-not : effect (view m) c .at (object (k .to)) ≡ view m .at (object (k .to)) → ⊥
-      ended-not stays = let q = subst (λ (j : Held). effect (view m) c .at (object (j .to)) ≡ view m .at (object (j .to))) (same-handle k there) stays in
-          let v = live-entry (view m) (h .object) (its-ends k there .to) in Option·none-ne-some (v .0) (sym ends-it ∙ q ∙ v .1)
+      ended-not : effect (slots m) c .at (object (k .to)) ≡ slots m .at (object (k .to)) → ⊥
+      ended-not stays = let q = subst (λ (j : Held). effect (slots m) c .at (object (j .to)) ≡ slots m .at (object (j .to))) (same-handle k there) stays in
+          let v = live-entry (slots m) (h .object) (its-ends k there .to) in Option·none-ne-some (v .0) (sym ends-it ∙ q ∙ v .1)
 
     pub close-ended : (at : ℕ) → at ≡ s % 32 * 16 + p % 16 → ((y .kind < 2) ⊎ Beside (handles-in hb) (h .object) at → ⊥)
-        → Settles (view (monitor-in sb ob hb nb fz su)) (decode (direct 11 s p 0 0 0 0)) 0
+        → Settles (view (monitor-in ns sb ob hb nb fz su)) (decode (direct 11 s p 0 0 0 0)) 0
     close-ended at ea alone = left (λ k there loose. ended-not at ea alone k there)
 
   -- the object outlives the handle, and no need changes
@@ -257,31 +267,34 @@ module _ (sb ob hb nb cs : List ℕ) (fz su s p : ℕ) (w : Whole sb ob hb nb cs
         → Ready t (figure-of nb) → Ready (tables-of rest ss (objects-in ob) hs) (figure-of nb)
     kept rest ss t p v j q k = subst (λ (u : Tables). Ready u (figure-of nb)) (sym q) (go (ℕ-discrete (getD nb (s % 32) 0) (getD nb (32 + h .object % 64) 0)) (ℕ-discrete (getD nb (s % 32) 0) 0))
       where
+        low : h .object < 64
+        low = slot-low rest ss (objects-in ob) hs (length-objects ob) t (h .object) (ap (λ (u : Tables). u .at (object (h .object))) q) (v .ends s p (joins h) j .to)
+
         go : Dec (getD nb (s % 32) 0 ≡ getD nb (32 + h .object % 64) 0) → Dec (getD nb (s % 32) 0 ≡ 0) → Ready (apply (hold s p none) t) (figure-of nb)
-        go (no e) d = apart-ready nb t s p h v j k e
-        go (yes e) (yes o) = zero-ready nb t s p h v j k e o
-        go (yes e) (no o) = backed-ready nb t s p h v j k y (object-then rest ss (objects-in ob) hs t s p (h .object) y (length-objects ob) q ey)
+        go (no e) d = apart-ready nb t s p h v j k low e
+        go (yes e) (yes o) = zero-ready nb t s p h v j k low e o
+        go (yes e) (no o) = backed-ready nb t s p h v j k low y (object-then rest ss (objects-in ob) hs t s p (h .object) y (length-objects ob) q ey)
             (sym (ap₂ (λ (a b : Bool). not a || (b || (reads-by (h .way) && demands y (getD nb (s % 32) 0)))) (eq-eqb _ _ e) (ne-eqb _ 0 o)) ∙ quiet)
 
-    acted : (hb′ : List ℕ) → handles-in hb′ ≡ set (handles-in hb) (s % 32 * 16 + p % 16) no-handle → Wf (view m) → Acts m c (allowed (x .level)) (monitor-in sb ob hb′ nb fz su)
+    acted : (hb′ : List ℕ) → handles-in hb′ ≡ set (handles-in hb) (s % 32 * 16 + p % 16) no-handle → Wf (slots m) → Acts m c (allowed (x .level)) (monitor-in ns sb ob hb′ nb fz su)
     unfolding hs
-    acted hb′ put v = subst (λ (l : List Handle). Acts m c (allowed (x .level)) (record { subjects = subjects-in sb; objects = objects-in ob; handles = l; freeze = fz; needs = nb; sure = su }))
+    acted hb′ put v = subst (λ (l : List Handle). Acts m c (allowed (x .level)) (record { numbers = ns; subjects = subjects-in sb; objects = objects-in ob; handles = l; freeze = fz; needs = nb; sure = su }))
         (sym put)
         (closes m g s p x h y y (objects-in ob) hs nb v free (subject-got m g s x ex) there ey refl outlives
         (same-set (objects-in ob) (h .object % 64) no-object y (omega (arith, length-objects ob)) (ey ∙ ap (λ (b : Bool). cond b (getD (objects-in ob) (h .object % 64) no-object) no-object) (lt-ltb (h .object) 64 low)))
         kept)
       where
-        there : view m .hand s p ≡ held h
+        there : slots m .hand s p ≡ held h
         there = handle-got m g s p h eh
 
-        free : refusal (view m) c ≡ none
+        free : refusal (slots m) c ≡ none
         free = goes (asked v) z
 
         low : h .object < 64
-        low = ltb→lt (h .object) 64 (live-of (view m) (object (h .object)) (found-live (view m) v c s p h free (inr (inl refl)) there) .0)
+        low = slot-low (beside m) (m .subjects) (m .objects) (m .handles) (g .objects) (slots m) (h .object) refl (found-live (slots m) v c s p h free (inr (inl refl)) there)
 
     pub close-done : (hb′ cs′ : List ℕ) → handles-in hb′ ≡ set (handles-in hb) (s % 32 * 16 + p % 16) no-handle
         → cs′ ≡ set (set cs 0 (wrapped (getD cs 0 0 + 0))) 1 (wrapped (getD cs 1 0 + 1)) → (r : ℕ) → r ≡ 16640 + x .level → x .level < 256
-        → Done (monitor-in sb ob hb nb fz su) (tally-in cs) (direct 11 s p 0 0 0 0) r (monitor-in sb ob hb′ nb fz su) (tally-in cs′)
-    close-done hb′ cs′ put count = allowing sb ob hb nb cs fz su (direct 11 s p 0 0 0 0) c (close-is s p) one (x .level) hb′ cs′ (λ firm. acted hb′ put (firm .wf)) (λ v. acts-keeps v (acted hb′ put v))
+        → Done (monitor-in ns sb ob hb nb fz su) (tally-in cs) (direct 11 s p 0 0 0 0) r (monitor-in ns sb ob hb′ nb fz su) (tally-in cs′)
+    close-done hb′ cs′ put count = allowing ns sb ob hb nb cs fz su w one (direct 11 s p 0 0 0 0) c c (close-is s p) lift (x .level) hb′ cs′ (λ firm. acted hb′ put (firm .wf)) (λ v. acts-keeps v (acted hb′ put v))
         (λ t. ap (λ (l : List ℕ). getD l 0 0) count ∙ counted-made cs (w .counts) _ _) (λ t. ap (λ (l : List ℕ). getD l 1 0) count ∙ counted-gone cs (w .counts) _ _)

@@ -1,5 +1,6 @@
--- A call on a sure monitor that is refused, and one that is allowed and counts one handle; what was done is settled. Assumes nothing.
-use mathlib.Core.Path.{_≡_, refl, sym, _∙_, ap, subst}
+-- A call on a sure monitor that is refused, and one that is allowed and counts one handle: by number, from what holds by slot; what was done is settled. Assumes nothing.
+use mathlib.Core.Path.{_≡_, refl, sym, _∙_, ap, subst, subst₂}
+use mathlib.Core.Logic.{inl}
 use mathlib.Core.List.{List}
 use Prim.Native.Nat.{ℕ, _+_, _*_, _<_}
 use native.Mathlib.Omega.{arith}
@@ -9,81 +10,127 @@ use Rattle.model.specs.Tables.{Tables, clean}
 use Rattle.model.specs.Calls.{Call, Raw, decode, refused, allowed, answer}
 use Rattle.model.specs.Calls.{Answer as Told}
 use Rattle.model.specs.Calls.Refusals.{answered-refused}
+use Rattle.model.specs.Calls.Renaming.{Renumbers, call, ren}
 use Rattle.model.specs.Invariant.{Wf}
 use Rattle.model.specs.Invariant.Laws.{clean-same}
 use Rattle.model.specs.Promise.{Meets}
 use Rattle.model.specs.Tally.{makes, removes, wrapped}
+use Rattle.tables.specs.declared.Object.{Object}
 use Rattle.gatekeeper.specs.declared.Monitor.{Monitor}
-use Rattle.answers.specs.Telling.{letter-of, value-of}
-use Rattle.gatekeeper.specs.View.{view, Honest, monitors}
-use Rattle.gatekeeper.specs.Acting.{Firm, Acts, Keeps}
+use Rattle.answers.specs.declared.Answer.{Answer}
+use Rattle.answers.specs.declared.Answer.the-variants.{Allowed, Refused}
+use Rattle.answers.specs.Telling.{told, letter-of, value-of}
+use Rattle.gatekeeper.specs.View.{slots, numbers-of, once, view, Apart, Honest, Tidy, monitors}
+use Rattle.gatekeeper.specs.Numbering.{Lift}
+use Rattle.gatekeeper.specs.Acting.{Firm, Acts, Keeps, settled}
 use Rattle.gatekeeper.proofs.Owned.{Long}
-use Rattle.gatekeeper.proofs.Acting.{straight}
+use Rattle.gatekeeper.proofs.Keeping.{read-wf}
+use Rattle.gatekeeper.proofs.Numbered.{once-long, single-same, once-same, Made, meets, view-slots}
+use Rattle.gatekeeper.proofs.Telling.{view-read}
 use Rattle.tally.specs.declared.Tally.{Tally}
 use Rattle.tally.specs.Counting.{counts-of}
 use Rattle.tally.proofs.Counting.{tally-same, tally-moved}
-use Rattle.quick.specs.Parts.{Whole, monitor-in, tally-in, Done, Settles}
+use Rattle.quick.specs.Parts.{Whole, objects-in, monitor-in, tally-in, Done, Settles}
 use Rattle.quick.specs.Parts.Laws.{length-subjects, length-objects, length-handles}
 
 never : {X : Type 0} {l k : ℕ} → _≡_ {A = Told} (allowed l) (refused k) → X
 never e = let z : _≡_ {A = ℕ} 0 1 = cc in absurd (omega arith)
 
-module _ (sb ob hb nb cs : List ℕ) (fz su : ℕ) (r : Raw) (c : Call) (is : decode r ≡ c) (one : su ≡ 1) where
+-- the parts' arrays have their lengths
+pub whole-long : (ns sb ob hb nb cs : List ℕ) (fz su : ℕ) → Whole ns sb ob hb nb cs → Long (monitor-in ns sb ob hb nb fz su)
+whole-long ns sb ob hb nb cs fz su w = record { subjects = length-subjects sb; objects = length-objects ob; handles = length-handles hb; needs = w .needs }
+
+-- call c by number is call k by slot
+module _ (ns sb ob hb nb cs : List ℕ) (fz su : ℕ) (w : Whole ns sb ob hb nb cs) (one : su ≡ 1) (r : Raw) (c k : Call) (is : decode r ≡ c)
+    (L : Apart (monitor-in ns sb ob hb nb fz su) → Lift (objects-in ob) ns c k ns) where
   abbrev m : Monitor
-  m = monitor-in sb ob hb nb fz su
+  m = monitor-in ns sb ob hb nb fz su
+
+  long : length (m .objects) ≡ 64
+  long = length-objects ob
+
+  read : Wf (clean (slots (once m)))
+  read = read-wf (once m) (once-long m (whole-long ns sb ob hb nb cs fz su w))
+
+  -- what holds by slot holds by number: a sure monitor is readied as it stands
+  module _ (a : Answer) (n : Monitor) (ln : length (n .objects) ≡ 64) (acts : Firm (monitor-in ns sb ob hb nb fz su) → Acts (monitor-in ns sb ob hb nb fz su) k (told a) n)
+      (keeps : Wf (slots (monitor-in ns sb ob hb nb fz su)) → Keeps (monitor-in ns sb ob hb nb fz su) k n) where
+    made : Tidy m → Made (once m) m c k (record { monitor = n; answer = a })
+    made h = let x = h one in let o = single-same m long (x .0) in record {
+      tables = λ v. sym (ap (λ (y : Monitor). clean (slots y)) (once-same m long (x .0)) ∙ clean-same (slots m) (x .1));
+      needs = refl;
+      sure = refl;
+      objects = λ v. sym o;
+      lift = λ d v. subst (λ (os : List Object). Lift os ns c k ns) (sym o) (L (x .0));
+      acts = λ firm room. acts firm;
+      keeps = λ v room. keeps v;
+    }
+
+    by-slot : settled m (record { monitor = n; answer = a }) .monitor ≡ n → Meets monitors m (decode r) (told a) n
+    by-slot e = subst₂ (λ (d : Call) (x : Monitor). Meets monitors m d (told a) x) (sym is) e
+        (meets m m c k (record { monitor = n; answer = a }) long ln read made (settled m (record { monitor = n; answer = a })) refl)
 
   -- a refusal leaves all as it was
-  module _ (k : ℕ) (z : Firm (monitor-in sb ob hb nb fz su) → Acts (monitor-in sb ob hb nb fz su) c (refused k) (monitor-in sb ob hb nb fz su)) where
-    refused-meets : Meets monitors m (decode r) (refused k) m
-    refused-meets = straight m m (decode r) (refused k) one (λ j w. refl) (subst (λ (d : Call). (Firm m → Acts m d (refused k) m)) (sym is) z)
-        (λ v. record { whole = v; kept = λ h. h; says = refl })
+  module _ (j : ℕ) (z : Firm (monitor-in ns sb ob hb nb fz su) → Acts (monitor-in ns sb ob hb nb fz su) k (refused j) (monitor-in ns sb ob hb nb fz su)) where
+    refused-meets : Meets monitors m (decode r) (refused j) m
+    refused-meets = by-slot (Refused j) m long z (λ v. record { whole = v; kept = λ h. h; says = refl; numbered = refl; came = λ i u. inl u }) refl
 
-    pub refusing : (n : ℕ) → n ≡ 20992 + k → k < 256 → Done (monitor-in sb ob hb nb fz su) (tally-in cs) r n (monitor-in sb ob hb nb fz su) (tally-in cs)
+    pub refusing : (n : ℕ) → n ≡ 20992 + j → j < 256 → Done (monitor-in ns sb ob hb nb fz su) (tally-in cs) r n (monitor-in ns sb ob hb nb fz su) (tally-in cs)
     refusing n e b = record {
-      answer = refused k;
+      answer = refused j;
       number = e;
       small = b;
       meets = refused-meets;
       counts = record {
-        same = λ j w. refl;
-        counts = λ h. tally-same (refused k) (clean (view m)) (decode r) (counts-of (tally-in cs)) (refused-meets .answered h) refl;
+        same = λ i v. refl;
+        counts = λ h. tally-same (refused j) (clean (view m)) (decode r) (counts-of (tally-in cs)) (refused-meets .answered h) refl;
       };
     }
 
   -- a call that is allowed; hb′ are the handles after it, and cs′ the counts
-  module _ (l : ℕ) (hb′ cs′ : List ℕ) (z : Firm (monitor-in sb ob hb nb fz su) → Acts (monitor-in sb ob hb nb fz su) c (allowed l) (monitor-in sb ob hb′ nb fz su))
-      (y : Wf (view (monitor-in sb ob hb nb fz su)) → Keeps (monitor-in sb ob hb nb fz su) (monitor-in sb ob hb′ nb fz su))
+  module _ (l : ℕ) (hb′ cs′ : List ℕ) (z : Firm (monitor-in ns sb ob hb nb fz su) → Acts (monitor-in ns sb ob hb nb fz su) k (allowed l) (monitor-in ns sb ob hb′ nb fz su))
+      (y : Wf (slots (monitor-in ns sb ob hb nb fz su)) → Keeps (monitor-in ns sb ob hb nb fz su) k (monitor-in ns sb ob hb′ nb fz su))
       (made : (t : Tables) → getD cs′ 0 0 ≡ wrapped (getD cs 0 0 + makes t c)) (gone : (t : Tables) → getD cs′ 1 0 ≡ wrapped (getD cs 1 0 + removes t c)) where
-    allowed-meets : Meets monitors m (decode r) (allowed l) (monitor-in sb ob hb′ nb fz su)
-    allowed-meets = straight m (monitor-in sb ob hb′ nb fz su) (decode r) (allowed l) one (λ j w. never w)
-        (subst (λ (d : Call). (Firm m → Acts m d (allowed l) (monitor-in sb ob hb′ nb fz su))) (sym is) z) y
+    allowed-meets : Meets monitors m (decode r) (allowed l) (monitor-in ns sb ob hb′ nb fz su)
+    allowed-meets = by-slot (Allowed l) (monitor-in ns sb ob hb′ nb fz su) (length-objects ob) z y refl
 
-    pub allowing : (n : ℕ) → n ≡ 16640 + l → l < 256 → Done (monitor-in sb ob hb nb fz su) (tally-in cs) r n (monitor-in sb ob hb′ nb fz su) (tally-in cs′)
+    pub allowing : (n : ℕ) → n ≡ 16640 + l → l < 256 → Done (monitor-in ns sb ob hb nb fz su) (tally-in cs) r n (monitor-in ns sb ob hb′ nb fz su) (tally-in cs′)
     allowing n e b = record {
       answer = allowed l;
       number = e;
       small = b;
       meets = allowed-meets;
       counts = record {
-        same = λ j w. never w;
+        same = λ i v. never v;
         counts = λ h. tally-moved (allowed l) (clean (view m)) (decode r) (counts-of (tally-in cs)) (getD cs′ 0 0) (getD cs′ 1 0) (allowed-meets .answered h) refl
             (subst (λ (d : Call). getD cs′ 0 0 ≡ wrapped (getD cs 0 0 + makes (clean (view m)) d)) (sym is) (made (clean (view m))))
             (subst (λ (d : Call). getD cs′ 1 0 ≡ wrapped (getD cs 1 0 + removes (clean (view m)) d)) (sym is) (gone (clean (view m))));
       };
     }
 
+  -- the tables of a sure and honest monitor are those by slot, renumbered
+  module _ (h : Honest (monitor-in ns sb ob hb nb fz su)) where
+    lift : Lift (objects-in ob) ns c k ns
+    lift = L (h one .0)
+
+    seen : (view m ≡ ren (lift .ρ) (lift .σ) (lift .one-to-one) (numbers-of m) (slots m)) × (length (numbers-of m) ≡ length (slots m .numbers))
+    seen = view-slots m long (h one .0) (h one .1 .wf) (lift .ρ) (lift .σ) (lift .one-to-one) (lift .names)
+
+    -- what is settled by slot is settled by number
+    pub settles-by : (n : ℕ) → ((ρ σ : ℕ → ℕ) (v : Renumbers ρ σ) (l : List ℕ) → length l ≡ length (slots (monitor-in ns sb ob hb nb fz su) .numbers)
+        → Settles (ren ρ σ v l (slots (monitor-in ns sb ob hb nb fz su))) (call ρ σ v l k) n)
+        → Settles (view (monitor-in ns sb ob hb nb fz su)) (decode r) n
+    settles-by n f = subst₂ (λ (t : Tables) (d : Call). Settles t d n) (sym (seen .0)) (lift .call-is (numbers-of m) ∙ sym is)
+        (f (lift .ρ) (lift .σ) (lift .one-to-one) (numbers-of m) (seen .1))
+
 -- what was done is settled: its number is the answer's
-pub done-settles : (m : Monitor) {y y′ : Tally} {m′ : Monitor} {r : Raw} {n : ℕ} → m .sure ≡ 1 → Honest m → 0 < n → Done m y r n m′ y′ → Settles (view m) (decode r) n
-done-settles m {r = r} one h l d = record {
+pub done-settles : (m : Monitor) {y y′ : Tally} {m′ : Monitor} {r : Raw} {n : ℕ} → Long m → Honest m → 0 < n → Done m y r n m′ y′ → Settles (view m) (decode r) n
+done-settles m {r = r} g h l d = record {
   refusing = λ k q z. d .number ∙ ap (λ (a : Told). 256 * letter-of a + value-of a)
-      (d .meets .answered h ∙ ap (λ (u : Tables). answer u (decode r)) (clean-same (view m) (h one .0 .wf)) ∙ answered-refused (view m) (decode r) k .1 q);
+      (d .meets .answered h ∙ ap (λ (u : Tables). answer u (decode r)) (view-read m (g .objects) (read-wf (once m) (once-long m g))) ∙ answered-refused (view m) (decode r) k .1 q);
   opening = λ d s o p e f g. l;
   closing = λ s p k e f g i j. l;
 }
-
--- the parts' arrays have their lengths
-pub whole-long : (sb ob hb nb cs : List ℕ) (fz su : ℕ) → Whole sb ob hb nb cs → Long (monitor-in sb ob hb nb fz su)
-whole-long sb ob hb nb cs fz su w = record { subjects = length-subjects sb; objects = length-objects ob; handles = length-handles hb; needs = w .needs }
 
 -- ── the counts ──
 module _ (cs : List ℕ) (long : length cs ≡ 2) (v u : ℕ) where

@@ -27,8 +27,9 @@ use Rattle.tally.specs.Counting.{Tallies}
 pub mod Laws
 
 -- ── parts ──
--- RULES H24: each part has its bytes, and there are two counts
-pub record Whole (sb ob hb nb cs : List ℕ) : Type 0 where
+-- RULES H24: each part has its bytes, and there are 64 numbers and two counts
+pub record Whole (ns sb ob hb nb cs : List ℕ) : Type 0 where
+  pub numbers : length ns ≡ 64
   pub subjects : length sb ≡ 64
   pub objects : length ob ≡ 128
   pub handles : length hb ≡ 1536
@@ -59,8 +60,9 @@ objects-in b = from (object-of b) 0 64
 unfoldable pub handles-in : List ℕ → List Handle
 handles-in b = from (handle-of b) 0 512
 
-abbrev pub monitor-in : (subjects objects handles needs : List ℕ) (freeze sure : ℕ) → Monitor
-monitor-in subjects objects handles needs freeze sure = record {
+abbrev pub monitor-in : (numbers subjects objects handles needs : List ℕ) (freeze sure : ℕ) → Monitor
+monitor-in numbers subjects objects handles needs freeze sure = record {
+  numbers = numbers;
   subjects = subjects-in subjects;
   objects = objects-in objects;
   handles = handles-in handles;
@@ -110,12 +112,12 @@ pub record Settles (t : Tables) (c : Call) (n : ℕ) : Type 0 where
 -- RULES H24: the call r was tried on these parts, n was returned, and hb′ and cs′ are the handles and counts left: any number but 0 is the answer to
 -- a call that was done, on parts that are whole; 0 says that all is as it was; and a call of one of these codes, on whole parts of a monitor that is
 -- sure and honest, is settled as above
-abbrev pub Tried : (codes sb ob hb nb cs : List ℕ) (fz su : ℕ) (r : Raw) (n : ℕ) (hb′ cs′ : List ℕ) → Type 0
-Tried codes sb ob hb nb cs fz su r n hb′ cs′ =
-    (0 < n → Whole sb ob hb nb cs × Done (monitor-in sb ob hb nb fz su) (tally-in cs) r n (monitor-in sb ob hb′ nb fz su) (tally-in cs′))
+abbrev pub Tried : (codes ns sb ob hb nb cs : List ℕ) (fz su : ℕ) (r : Raw) (n : ℕ) (hb′ cs′ : List ℕ) → Type 0
+Tried codes ns sb ob hb nb cs fz su r n hb′ cs′ =
+    (0 < n → Whole ns sb ob hb nb cs × Done (monitor-in ns sb ob hb nb fz su) (tally-in cs) r n (monitor-in ns sb ob hb′ nb fz su) (tally-in cs′))
     × (n ≡ 0 → (hb′ ≡ hb) × (cs′ ≡ cs))
-    × (In (r .code) codes → Whole sb ob hb nb cs → su ≡ 1 → Honest (monitor-in sb ob hb nb fz su)
-    → Settles (view (monitor-in sb ob hb nb fz su)) (decode r) n)
+    × (In (r .code) codes → Whole ns sb ob hb nb cs → su ≡ 1 → Honest (monitor-in ns sb ob hb nb fz su)
+    → Settles (view (monitor-in ns sb ob hb nb fz su)) (decode r) n)
 
 -- ── inner functions alone cite this ──
 -- a handle other than that at index `at` is on object o

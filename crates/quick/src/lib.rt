@@ -5,12 +5,13 @@
 ghost use mathlib.Core.Path.{_≡_};
 ghost use mathlib.Core.Bool.{true, false, not, _&&_, _||_};
 ghost use mathlib.Core.Logic.{_⊎_, _↔_};
-ghost use mathlib.Core.List.{[], _∷_};
-ghost use Prim.Native.Nat.{_+_, _*_, _%_, _<_};
+ghost use mathlib.Core.List.{List, [], _∷_};
+ghost use Prim.Native.Nat.{ℕ, _+_, _*_, _%_, _<_};
 ghost use lib.Dec.{eqb};
 ghost use lib.ListN.{length, getD, set};
 ghost use Rattle.model.specs.Tally.{wrapped};
 ghost use Rattle.tables.specs.Records.{reads-by, no-subject, no-object, no-handle};
+ghost use Rattle.tables.specs.Slots.{slot-used, Found};
 ghost use Rattle.tables.specs.Working.{subject-at, object-at, handle-at};
 ghost use Rattle.passes.specs.Working.{demands};
 ghost use Rattle.gatekeeper.specs.View.{direct};
@@ -19,8 +20,10 @@ ghost use Rattle.quick.specs.Parts.{subjects-in, objects-in, handles-in,
 use gatekeeper::SURE;
 use tables::EMPTY;
 use tables::FILE;
+use tables::FREE;
 use tables::HANDLES;
 use tables::Handle;
+use tables::OBJECT_NUMBERS;
 use tables::OBJECTS;
 use tables::Object;
 use tables::READS;
@@ -49,7 +52,7 @@ const HANDLE_BYTES: usize = 3 * HANDLES;
 
 // ---- one record
 
-fn subject_in(subjects: &[u8], s: u32) -> Subject
+fn subject_in(subjects: &[u8], s: u64) -> Subject
     requires { ⌜ length (now subjects) ≡ 64 ⌝ }
     ensures there { λ r. ⌜ r ≡ subject-at s (getD (subjects-in (now (subjects .entry))) (s % 32) no-subject) ⌝ }
     ensures byte { λ r. ⌜ r .level < 256 ⌝ }
@@ -62,7 +65,7 @@ fn subject_in(subjects: &[u8], s: u32) -> Subject
     looks::subject_at(s, x)
 }
 
-fn object_in(objects: &[u8], o: u32) -> Object
+fn object_in(objects: &[u8], o: u64) -> Object
     requires { ⌜ length (now objects) ≡ 128 ⌝ }
     ensures there { λ r. ⌜ r ≡ object-at o (getD (objects-in (now (objects .entry))) (o % 64) no-object) ⌝ }
     ensures byte { λ r. ⌜ r .level < 256 ⌝ }
@@ -75,7 +78,7 @@ fn object_in(objects: &[u8], o: u32) -> Object
     looks::object_at(o, y)
 }
 
-fn handle_in(handles: &[u8], s: u32, p: u32) -> Handle
+fn handle_in(handles: &[u8], s: u64, p: u64) -> Handle
     requires { ⌜ length (now handles) ≡ 1536 ⌝ }
     ensures { λ r. ⌜ r ≡ handle-at s p (getD (handles-in (now (handles .entry))) (s % 32 * 16 + p % 16) no-handle) ⌝ }
 {
@@ -90,7 +93,7 @@ fn handle_in(handles: &[u8], s: u32, p: u32) -> Handle
     looks::handle_at(s, p, h)
 }
 
-fn put(handles: &mut [u8], s: u32, p: u32, h: Handle)
+fn put(handles: &mut [u8], s: u64, p: u64, h: Handle)
     requires { ⌜ length (now handles) ≡ 1536 ⌝ }
     ensures put { λ _. ⌜ handles-in (now (handles .exit)) ≡ set (handles-in (now (handles .entry))) (s % 32 * 16 + p % 16) h ⌝ }
     ensures size { λ _. ⌜ length (now (handles .exit)) ≡ 1536 ⌝ }
@@ -105,7 +108,7 @@ fn put(handles: &mut [u8], s: u32, p: u32, h: Handle)
 }
 
 // The need of subject s, and of object o, each modulo how many there are.
-fn subject_need(needs: &[u8], s: u32) -> u8
+fn subject_need(needs: &[u8], s: u64) -> u8
     requires { ⌜ length (now needs) ≡ 96 ⌝ }
     ensures { λ r. ⌜ r ≡ getD (now (needs .entry)) (s % 32) 0 ⌝ }
 {
@@ -113,7 +116,7 @@ fn subject_need(needs: &[u8], s: u32) -> u8
     needs[at]
 }
 
-fn object_need(needs: &[u8], o: u32) -> u8
+fn object_need(needs: &[u8], o: u64) -> u8
     requires { ⌜ length (now needs) ≡ 96 ⌝ }
     ensures { λ r. ⌜ r ≡ getD (now (needs .entry)) (32 + o % 64) 0 ⌝ }
 {
@@ -187,11 +190,46 @@ fn is_beside(handles: &[u8], o: u8, at: usize) -> bool
     false
 }
 
+// ---- the slot of an object
+
+// Slot i, modulo how many there are, is in use and has the number o.
+fn is_at(objects: &[u8], numbers: &[u64], i: u64, o: u64) -> bool
+    requires { ⌜ (length (now objects) ≡ 128) × (length (now numbers) ≡ 64) ⌝ }
+    ensures { λ r. ⌜ r ≡ (slot-used (objects-in (now (objects .entry))) (i % 64) && eqb (getD (now (numbers .entry)) (i % 64) 0) o) ⌝ }
+{
+    let j = (i % OBJECT_NUMBERS) as usize;
+    let at = 2 * j;
+    let kind = objects[at];
+    let n = numbers[j];
+    let used = kind != FREE;
+    let same = n == o;
+    looks::both(used, same)
+}
+
+// The slot of object o, which is looked for at o modulo OBJECTS first; OBJECTS where it is not live.
+fn slot_in(objects: &[u8], numbers: &[u64], o: u64) -> u64
+    requires { ⌜ (length (now objects) ≡ 128) × (length (now numbers) ≡ 64) ⌝ }
+    ensures { λ r. ⌜ Found (objects-in (now (objects .entry))) (now (numbers .entry)) o r ⌝ }
+{
+    if is_at(objects, numbers, o, o) {
+        return o % OBJECT_NUMBERS;
+    }
+    let mut i: u64 = 0;
+    while i < OBJECT_NUMBERS {
+        if is_at(objects, numbers, i, o) {
+            return i;
+        }
+        i += 1;
+    }
+    OBJECT_NUMBERS
+}
+
 // ---- calls 5 and 6
 
 // An open for reading (code 5) or writing (code 6) of object o by subject s at its place p: done where the monitor is sure and the flow falls by the needs, or where no
 // flow is asked about.
 pub fn opened(
+    numbers: &[u64],
     subjects: &[u8],
     objects: &[u8],
     handles: &mut [u8],
@@ -199,12 +237,12 @@ pub fn opened(
     counts: &mut [u64],
     freeze: u8,
     sure: u8,
-    code: u32,
-    s: u32,
-    o: u32,
-    p: u32,
+    code: u64,
+    s: u64,
+    o: u64,
+    p: u64,
 ) -> u32
-    ensures { λ r. ⌜ Tried (5 ∷ 6 ∷ []) (now (subjects .entry)) (now (objects .entry)) (now (handles .entry)) (now (needs .entry)) (now (counts .entry)) freeze sure
+    ensures { λ r. ⌜ Tried (5 ∷ 6 ∷ []) (now (numbers .entry)) (now (subjects .entry)) (now (objects .entry)) (now (handles .entry)) (now (needs .entry)) (now (counts .entry)) freeze sure
         (direct code s o p 0 0 0) r (now (handles .exit)) (now (counts .exit)) ⌝ }
 {
     let whole = are_whole(
@@ -217,6 +255,9 @@ pub fn opened(
     if !whole {
         return NOT_DONE;
     }
+    if numbers.len() != OBJECTS {
+        return NOT_DONE;
+    }
     if sure != SURE {
         return NOT_DONE;
     }
@@ -227,7 +268,8 @@ pub fn opened(
         return NOT_DONE;
     }
     let x = subject_in(subjects, s);
-    let y = object_in(objects, o);
+    let i = slot_in(objects, numbers, o);
+    let y = object_in(objects, i);
     let h = handle_in(&handles[..], s, p);
     let n = refusals::of_open(p, x, y, h);
     if n != 0 {
@@ -238,13 +280,13 @@ pub fn opened(
         return FROZEN;
     }
     let mine = subject_need(needs, s);
-    let its = object_need(needs, o);
+    let its = object_need(needs, i);
     let down = keeping::falls(reads, mine, its);
     if !down {
         return NOT_DONE;
     }
     let way = way_of(reads);
-    let new = looks::joining(way, o);
+    let new = looks::joining(way, i);
     put(handles, s, p, new);
     count(counts, 1, 0);
     ALLOWED + y.level as u32
@@ -283,11 +325,11 @@ pub fn closed(
     counts: &mut [u64],
     freeze: u8,
     sure: u8,
-    s: u32,
-    p: u32,
+    s: u64,
+    p: u64,
 ) -> u32
-    ensures { λ r. ⌜ Tried (11 ∷ []) (now (subjects .entry)) (now (objects .entry)) (now (handles .entry)) (now (needs .entry)) (now (counts .entry)) freeze sure
-        (direct 11 s p 0 0 0 0) r (now (handles .exit)) (now (counts .exit)) ⌝ }
+    ensures { λ r. ⌜ ((ns : List ℕ) → length ns ≡ 64 → Tried (11 ∷ []) ns (now (subjects .entry)) (now (objects .entry)) (now (handles .entry)) (now (needs .entry)) (now (counts .entry)) freeze sure
+        (direct 11 s p 0 0 0 0) r (now (handles .exit)) (now (counts .exit))) ⌝ }
 {
     let whole = are_whole(
         subjects.len(),
@@ -308,7 +350,7 @@ pub fn closed(
     if n != 0 {
         return REFUSED + n as u32;
     }
-    let number = h.object as u32;
+    let number = h.object as u64;
     let y = object_in(objects, number);
     let mine = subject_need(needs, s);
     let its = object_need(needs, number);

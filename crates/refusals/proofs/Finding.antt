@@ -1,4 +1,4 @@
--- The first condition that holds, worked out from the conditions of RULES R2 to R8 and R16, and the first of the late ones, is the refusal of the rules.
+-- The first condition that holds, worked out from the conditions of RULES R2 to R8, R16 and R17, and the first of the late ones, is the refusal of the rules.
 -- Assumes nothing.
 use mathlib.Core.Path.{_≡_, refl, sym, _∙_, ap, ap₂}
 use mathlib.Core.Bool.{Bool, true, false, _||_, cond}
@@ -39,11 +39,13 @@ four-places e {a′ = a′} {b′ = b′} {i = i} {j = j} p q r s u v w z =
     ∙ ap (λ (x : Bool). x || (j || e)) (sym u) ∙ sym (or-assoc i j e) ∙ ap (λ (x : Bool). x || e) (sym w) ∙ sym z
 
 -- no test of number 1, and what the tests of each number from 2 to 8 and of 16 come to, in the order of the rules
-pub record Breaks (t : Tables) (ds : List Test) (b2 b16 b3 b4 b5 b6 b7 b8 : Bool) : Type 0 where
+pub record Breaks (t : Tables) (ds : List Test) (b2 b16 b3 b17 b4 b5 b6 b7 b8 : Bool) : Type 0 where
   pub one : breaks t 1 ds ≡ false
   pub two : breaks t 2 ds ≡ b2
   pub sixteen : breaks t 16 ds ≡ b16
   pub three : breaks t 3 ds ≡ b3
+  -- (asked where 3 is not broken)
+  pub seventeen : b3 ≡ false → breaks t 17 ds ≡ b17
   pub four : breaks t 4 ds ≡ b4
   pub five : breaks t 5 ds ≡ b5
   pub six : breaks t 6 ds ≡ b6
@@ -54,31 +56,37 @@ abbrev then : Bool → ℕ → Option ℕ → Option ℕ
 then b n o = elim b as (λ _. Option ℕ) [ true ↦ some n | false ↦ o ]
 
 -- the conditions one after the other, in the order of the rules
-abbrev chain : Bool → Bool → Bool → Bool → Bool → Bool → Bool → Bool → Bool → Option ℕ → Option ℕ
-chain b1 b2 b16 b3 b4 b5 b6 b7 b8 o = then b1 1 (then b2 2 (then b16 16 (then b3 3 (then b4 4 (then b5 5 (then b6 6 (then b7 7 (then b8 8 o))))))))
+abbrev chain : Bool → Bool → Bool → Bool → Bool → Bool → Bool → Bool → Bool → Bool → Option ℕ → Option ℕ
+chain b1 b2 b16 b3 b17 b4 b5 b6 b7 b8 o = then b1 1 (then b2 2 (then b16 16 (then b3 3 (then b17 17 (then b4 4 (then b5 5 (then b6 6 (then b7 7 (then b8 8 o)))))))))
 
-pub finds : {t : Tables} {c : Call} {n : ℕ} {b2 b16 b3 b4 b5 b6 b7 b8 : Bool} → Breaks t (tests c) b2 b16 b3 b4 b5 b6 b7 b8 → n ≡ found b2 b16 b3 b4 b5 b6 b7 b8
+asked : (b a d : Bool) (o : Option ℕ) → (b ≡ false → a ≡ d) → then b 3 (then a 17 o) ≡ then b 3 (then d 17 o)
+asked true a d o q = refl
+asked false a d o q = ap (λ (x : Bool). then x 17 o) (q refl)
+
+pub finds : {t : Tables} {c : Call} {n : ℕ} {b2 b16 b3 b17 b4 b5 b6 b7 b8 : Bool} → Breaks t (tests c) b2 b16 b3 b17 b4 b5 b6 b7 b8 → n ≡ found b2 b16 b3 b17 b4 b5 b6 b7 b8
     → Refuses t c n
 unfolding refusal
-finds {t} {c} {n} {b2} {b16} {b3} {b4} {b5} {b6} {b7} {b8} z e = record { said = each ∙ go b2 b16 b3 b4 b5 b6 b7 b8 ∙ ap by (sym e) }
+finds {t} {c} {n} {b2} {b16} {b3} {b17} {b4} {b5} {b6} {b7} {b8} z e = record { said = each ∙ go b2 b16 b3 b17 b4 b5 b6 b7 b8 ∙ ap by (sym e) }
   where
     by : ℕ → Option ℕ
     by k = cond (eqb k 0) (first t (tests c) late) (some k)
 
-    each : first t (tests c) order ≡ chain false b2 b16 b3 b4 b5 b6 b7 b8 (first t (tests c) late)
-    each = λ i. chain (z .one i) (z .two i) (z .sixteen i) (z .three i) (z .four i) (z .five i) (z .six i) (z .seven i) (z .eight i) (first t (tests c) late)
+    each : first t (tests c) order ≡ chain false b2 b16 b3 b17 b4 b5 b6 b7 b8 (first t (tests c) late)
+    each = (λ i. chain (z .one i) (z .two i) (z .sixteen i) (z .three i) (breaks t 17 (tests c)) (z .four i) (z .five i) (z .six i) (z .seven i) (z .eight i) (first t (tests c) late))
+        ∙ ap (λ (o : Option ℕ). then b2 2 (then b16 16 o)) (asked b3 (breaks t 17 (tests c)) b17 (then b4 4 (then b5 5 (then b6 6 (then b7 7 (then b8 8 (first t (tests c) late)))))) (z .seventeen))
 
-    go : (b2 b16 b3 b4 b5 b6 b7 b8 : Bool) → chain false b2 b16 b3 b4 b5 b6 b7 b8 (first t (tests c) late) ≡ cond (eqb (found b2 b16 b3 b4 b5 b6 b7 b8) 0)
-        (first t (tests c) late) (some (found b2 b16 b3 b4 b5 b6 b7 b8))
-    go true b16 b3 b4 b5 b6 b7 b8 = refl
-    go false true b3 b4 b5 b6 b7 b8 = refl
-    go false false true b4 b5 b6 b7 b8 = refl
-    go false false false true b5 b6 b7 b8 = refl
-    go false false false false true b6 b7 b8 = refl
-    go false false false false false true b7 b8 = refl
-    go false false false false false false true b8 = refl
-    go false false false false false false false true = refl
-    go false false false false false false false false = refl
+    go : (b2 b16 b3 b17 b4 b5 b6 b7 b8 : Bool) → chain false b2 b16 b3 b17 b4 b5 b6 b7 b8 (first t (tests c) late) ≡ cond (eqb (found b2 b16 b3 b17 b4 b5 b6 b7 b8) 0)
+        (first t (tests c) late) (some (found b2 b16 b3 b17 b4 b5 b6 b7 b8))
+    go true b16 b3 b17 b4 b5 b6 b7 b8 = refl
+    go false true b3 b17 b4 b5 b6 b7 b8 = refl
+    go false false true b17 b4 b5 b6 b7 b8 = refl
+    go false false false true b4 b5 b6 b7 b8 = refl
+    go false false false false true b5 b6 b7 b8 = refl
+    go false false false false false true b6 b7 b8 = refl
+    go false false false false false false true b7 b8 = refl
+    go false false false false false false false true b8 = refl
+    go false false false false false false false false true = refl
+    go false false false false false false false false false = refl
 
 -- ── the late rows ──
 abbrev pub found-late : Bool → Bool → Bool → ℕ

@@ -1,17 +1,18 @@
 -- What the records that a call looks at tell of its tests. Nothing dangles in t, and each record is the one at the number that the call names. Assumes
 -- nothing.
-use mathlib.Core.Path.{_≡_, refl, sym, _∙_, ap, ap₂}
+use mathlib.Core.Path.{_≡_, refl, sym, _∙_, ap, ap₂, subst}
 use mathlib.Core.Bool.{Bool, true, false, not, _&&_, _||_, cond}
 use mathlib.Core.Option.{Option, none, some}
 use Prim.Native.Nat.{ℕ}
 use native.Mathlib.Omega.{arith}
 use native.Mathlib.Decide.{ℕ-discrete}
 use borrow.Author.Tests.{lt-ltb, le-leb, ne-eqb}
-use lib.Dec.{ltb, leb, eqb}
+use lib.Dec.{T, ltb, leb, eqb}
 use Rattle.model.specs.Bools.{is-true}
 use Rattle.model.specs.Label.Laws.{level-label}
 use Rattle.model.specs.Flow.{Thing, subject, object}
-use Rattle.model.specs.Tables.{Dir, reading, writing, Entry, Tables, in-range, live, is-pipe}
+use Rattle.model.specs.Label.{label}
+use Rattle.model.specs.Tables.{file, pipe, entry, Dir, reading, writing, Entry, Tables, in-range, live, is-pipe}
 use Rattle.model.specs.Tables.{Handle as Held}
 use Rattle.model.specs.Tables.Laws.{used-is}
 use Rattle.model.specs.Invariant.{Wf}
@@ -51,8 +52,20 @@ new-is t x b false e i q = rw i
 pub new-subject-is : (t : Tables) (s : ℕ) (x : Subject) → t .at (subject s) ≡ subject-entry x → broken t (new (subject s)) ≡ used-subject s x
 new-subject-is t s x q = new-is t (subject s) (eqb (x .live) 0) (ltb s 32) _ refl q
 
-pub new-object-is : (t : Tables) (o : ℕ) (y : Object) → t .at (object o) ≡ object-entry y → broken t (new (object o)) ≡ used-object o y
-new-object-is t o y q = new-is t (object o) (eqb (y .kind) 0) (ltb o 64) _ refl q
+pub or-false : (a b : Bool) → (a || b) ≡ false → (a ≡ false) × (b ≡ false)
+or-false true b h = absurd (subst T h tt)
+or-false false b h = (refl, h)
+
+pub new-object-is : (t : Tables) (o : ℕ) (y : Object) → t .at (object o) ≡ object-entry y → broken t (new (object o)) ≡ used-object y
+new-object-is t o y q = new-is t (object o) (eqb (y .kind) 0) true _ refl q
+
+-- where the record says that it is free, there is no entry
+pub free-is : (t : Tables) (o : ℕ) (y : Object) (b : Bool) → t .at (object o) ≡ object-entry y → b ≡ used-object y → b ≡ false → t .at (object o) ≡ none
+free-is t o y b q e n = q ∙ go (eqb (y .kind) 0) (sym e ∙ n)
+  where
+    go : (a : Bool) → not a ≡ false → cond a none (some (entry (cond (eqb (y .kind) 1) file pipe) (label (y .level)))) ≡ none
+    go true h = refl
+    go false h = absurd (subst T h tt)
 
 pub pipe-is : (t : Tables) (o : ℕ) (y : Object) → t .at (object o) ≡ object-entry y → broken t (no-pipe o) ≡ leb 2 (y .kind)
 pipe-is t o y q = ap (is-pipe (object o)) q ∙ go (ℕ-discrete (y .kind) 0) (ℕ-discrete (y .kind) 1)

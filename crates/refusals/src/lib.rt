@@ -1,8 +1,9 @@
-// The conditions of RULES R2 to R8 and R16 over the few records that a call looks at: for each call the number of its refusal, 0 where
+// The conditions of RULES R2 to R8, R16 and R17 over the few records that a call looks at: for each call the number of its refusal, 0 where
 // none of them holds. R9 and R10 ask whole tables: the caller asks them next, and `last` has their order and that of R15, which
 // goes before them.
 //
-// The records are those at the numbers that the call names, empty ones where a number is out of range (`looks`).
+// The records are those at the numbers that the call names, empty ones where a number is out of range (`looks`); of an object the number is that of its slot. That
+// there is no room for a new object is told by a slot that is none of the OBJECTS, which is what `Room` in specs/Refusing.antt asks of the caller.
 ghost use mathlib.Core.Path.{_≡_};
 ghost use mathlib.Core.Bool.{_||_};
 ghost use Prim.Native.Nat.{ℕ};
@@ -11,7 +12,7 @@ ghost use Rattle.model.specs.Tables.{Tables, Dir, reading, writing};
 ghost use Rattle.model.specs.Invariant.{Wf};
 ghost use Rattle.model.specs.Calls.{Call, admit, register, create, make-pipe, opens, access, fork, exec, close, exit, retire, maps, mark, freeze, connect, thawed, broken};
 ghost use Rattle.tables.specs.Records.{subject-entry, object-entry, held};
-ghost use Rattle.refusals.specs.Refusing.{found, Refuses, Late, Refused, direction};
+ghost use Rattle.refusals.specs.Refusing.{found, Room, Refuses, Late, Refused, direction};
 ghost use Rattle.tables.specs.Working.{used-subject, used-object, used-place};
 use tables::EMPTY;
 use tables::FILE;
@@ -19,7 +20,7 @@ use tables::FREE;
 use tables::HIGHEST;
 use tables::Handle;
 use tables::NO_FREEZE;
-use tables::OBJECTS;
+use tables::OBJECT_NUMBERS;
 use tables::Object;
 use tables::PIPE;
 use tables::PLACES;
@@ -32,13 +33,14 @@ fn first(
     absent: bool,
     same: bool,
     used: bool,
+    full: bool,
     missing: bool,
     pipe: bool,
     high: bool,
     place: bool,
     turned: bool,
 ) -> u8
-    ensures { λ r. ⌜ r ≡ found absent same used missing pipe high place turned ⌝ }
+    ensures { λ r. ⌜ r ≡ found absent same used full missing pipe high place turned ⌝ }
 {
     if absent {
         return 2;
@@ -48,6 +50,9 @@ fn first(
     }
     if used {
         return 3;
+    }
+    if full {
+        return 17;
     }
     if missing {
         return 4;
@@ -68,35 +73,32 @@ fn first(
 }
 
 // RULES R3, and RULES R7 of a place that a handle is to take.
-fn subject_used(s: u32, x: Subject) -> bool
+fn subject_used(s: u64, x: Subject) -> bool
     ensures { λ r. ⌜ r ≡ used-subject s x ⌝ }
 {
-    if SUBJECTS as u32 <= s {
+    if SUBJECTS as u64 <= s {
         return true;
     }
     x.live != 0
 }
 
-fn object_used(o: u32, y: Object) -> bool
-    ensures { λ r. ⌜ r ≡ used-object o y ⌝ }
+fn object_used(y: Object) -> bool
+    ensures { λ r. ⌜ r ≡ used-object y ⌝ }
 {
-    if OBJECTS as u32 <= o {
-        return true;
-    }
     y.kind != FREE
 }
 
-fn place_used(p: u32, h: Handle) -> bool
+fn place_used(p: u64, h: Handle) -> bool
     ensures { λ r. ⌜ r ≡ used-place p h ⌝ }
 {
-    if PLACES as u32 <= p {
+    if PLACES as u64 <= p {
         return true;
     }
     h.way != EMPTY
 }
 
 // RULES R7 of two places that handles are to take.
-fn ends_used(p: u32, q: u32, h: Handle, k: Handle) -> bool
+fn ends_used(p: u64, q: u64, h: Handle, k: Handle) -> bool
     ensures { λ r. ⌜ r ≡ (used-place p h || used-place q k) ⌝ }
 {
     let at_p = place_used(p, h);
@@ -105,54 +107,57 @@ fn ends_used(p: u32, q: u32, h: Handle, k: Handle) -> bool
 }
 
 // Call 1; x stands at s.
-pub fn of_admit(s: u32, level: u32, x: Subject) -> u8
+pub fn of_admit(s: u64, level: u64, x: Subject) -> u8
     ensures { λ r. ⌜ ((t : Tables) → Wf t → t .at (subject s) ≡ subject-entry x → Refuses t (admit s level) r) ⌝ }
 {
     let used = subject_used(s, x);
     let high = HIGHEST < level;
-    first(false, false, used, false, false, high, false, false)
+    first(false, false, used, false, false, false, high, false, false)
 }
 
 // Call 2; y stands at o.
-pub fn of_register(o: u32, level: u32, y: Object) -> u8
-    ensures { λ r. ⌜ ((t : Tables) → Wf t → t .at (object o) ≡ object-entry y → Refuses t (register o level) r) ⌝ }
+pub fn of_register(o: u64, level: u64, y: Object) -> u8
+    ensures { λ r. ⌜ ((t : Tables) → Wf t → t .at (object o) ≡ object-entry y → Room t (register o level) → Refuses t (register o level) r) ⌝ }
 {
-    let used = object_used(o, y);
+    let used = object_used(y);
+    let full = OBJECT_NUMBERS <= o;
     let high = HIGHEST < level;
-    first(false, false, used, false, false, high, false, false)
+    first(false, false, used, full, false, false, high, false, false)
 }
 
 // Call 3; x stands at s, y at o.
-pub fn of_create(o: u32, x: Subject, y: Object) -> u8
+pub fn of_create(o: u64, x: Subject, y: Object) -> u8
     ensures { λ r. ⌜ ((t : Tables) (s : ℕ) → Wf t → t .at (subject s) ≡ subject-entry x → t .at (object o) ≡ object-entry y →
-        Refuses t (create s o) r) ⌝ }
+        Room t (create s o) → Refuses t (create s o) r) ⌝ }
 {
     let absent = x.live == 0;
-    let used = object_used(o, y);
-    first(absent, false, used, false, false, false, false, false)
+    let used = object_used(y);
+    let full = OBJECT_NUMBERS <= o;
+    first(absent, false, used, full, false, false, false, false, false)
 }
 
 // Call 4; x stands at s, y at o, h at place r and k at place w.
-pub fn of_pipe(o: u32, r: u32, w: u32, x: Subject, y: Object, h: Handle, k: Handle) -> u8
+pub fn of_pipe(o: u64, r: u64, w: u64, x: Subject, y: Object, h: Handle, k: Handle) -> u8
     ensures { λ n. ⌜ ((t : Tables) (s : ℕ) → Wf t → t .at (subject s) ≡ subject-entry x → t .at (object o) ≡ object-entry y →
-        t .hand s r ≡ held h → t .hand s w ≡ held k → Refuses t (make-pipe s o r w) n) ⌝ }
+        t .hand s r ≡ held h → t .hand s w ≡ held k → Room t (make-pipe s o r w) → Refuses t (make-pipe s o r w) n) ⌝ }
 {
     let absent = x.live == 0;
-    let used = object_used(o, y);
+    let used = object_used(y);
+    let full = OBJECT_NUMBERS <= o;
     let taken = ends_used(r, w, h, k);
     let same = r == w;
     let place = looks::either(taken, same);
-    first(absent, false, used, false, false, false, place, false)
+    first(absent, false, used, full, false, false, false, place, false)
 }
 
 // Call 17; x stands at s and z at u, y at a and v at b, h and k at the places p and q of s, i and j at those of u.
 pub fn of_connect(
-    s: u32,
-    u: u32,
-    a: u32,
-    b: u32,
-    p: u32,
-    q: u32,
+    s: u64,
+    u: u64,
+    a: u64,
+    b: u64,
+    p: u64,
+    q: u64,
     x: Subject,
     z: Subject,
     y: Object,
@@ -164,38 +169,61 @@ pub fn of_connect(
 ) -> u8
     ensures { λ n. ⌜ ((t : Tables) → Wf t → t .at (subject s) ≡ subject-entry x → t .at (subject u) ≡ subject-entry z →
         t .at (object a) ≡ object-entry y → t .at (object b) ≡ object-entry v →
-        t .hand s p ≡ held h → t .hand s q ≡ held k → t .hand u p ≡ held i → t .hand u q ≡ held j → Refuses t (connect s u a b p q) n) ⌝ }
+        t .hand s p ≡ held h → t .hand s q ≡ held k → t .hand u p ≡ held i → t .hand u q ≡ held j → Room t (connect s u a b p q) → Refuses t (connect s u a b p q) n) ⌝ }
 {
     let no_s = x.live == 0;
     let no_u = z.live == 0;
     let absent = looks::either(no_s, no_u);
     let itself = s == u;
-    let used_a = object_used(a, y);
-    let used_b = object_used(b, v);
+    let used_a = object_used(y);
+    let used_b = object_used(v);
     let alike = a == b;
     let numbers = looks::either(used_a, used_b);
     let used = looks::either(numbers, alike);
+    let far_a = OBJECT_NUMBERS <= a;
+    let far_b = OBJECT_NUMBERS <= b;
+    let full = looks::either(far_a, far_b);
     let at_s = ends_used(p, q, h, k);
     let at_u = ends_used(p, q, i, j);
     let taken = looks::either(at_s, at_u);
     let one = p == q;
     let place = looks::either(taken, one);
-    first(absent, itself, used, false, false, false, place, false)
+    first(
+        absent,
+        itself,
+        used,
+        full,
+        false,
+        false,
+        false,
+        place,
+        false,
+    )
 }
 
 // Calls 5 and 6; x stands at s, y at o, h at place p.
-pub fn of_open(p: u32, x: Subject, y: Object, h: Handle) -> u8
+pub fn of_open(p: u64, x: Subject, y: Object, h: Handle) -> u8
     ensures { λ r. ⌜ ((t : Tables) (d : Dir) (s o : ℕ) → Wf t → t .at (subject s) ≡ subject-entry x → t .at (object o) ≡ object-entry y →
         t .hand s p ≡ held h → Refuses t (opens d s o p) r) ⌝ }
 {
     let absent = x.live == 0;
     let missing = y.kind == FREE;
     let place = place_used(p, h);
-    first(absent, false, false, missing, false, false, place, false)
+    first(
+        absent,
+        false,
+        false,
+        false,
+        missing,
+        false,
+        false,
+        place,
+        false,
+    )
 }
 
 // Call 14; x stands at s, y at o, h at place p.
-pub fn of_map(p: u32, x: Subject, y: Object, h: Handle) -> u8
+pub fn of_map(p: u64, x: Subject, y: Object, h: Handle) -> u8
     ensures { λ r. ⌜ ((t : Tables) (s o : ℕ) → Wf t → t .at (subject s) ≡ subject-entry x → t .at (object o) ≡ object-entry y →
         t .hand s p ≡ held h → Refuses t (maps s o p) r) ⌝ }
 {
@@ -203,7 +231,17 @@ pub fn of_map(p: u32, x: Subject, y: Object, h: Handle) -> u8
     let missing = y.kind == FREE;
     let pipe = PIPE <= y.kind;
     let place = place_used(p, h);
-    first(absent, false, false, missing, pipe, false, place, false)
+    first(
+        absent,
+        false,
+        false,
+        false,
+        missing,
+        pipe,
+        false,
+        place,
+        false,
+    )
 }
 
 // Call 7; x stands at s, h at place p.
@@ -214,7 +252,17 @@ pub fn of_read(x: Subject, h: Handle) -> u8
     let absent = x.live == 0;
     let empty = h.way == EMPTY;
     let turned = looks::is_writing(h.way);
-    first(absent, false, false, false, false, false, empty, turned)
+    first(
+        absent,
+        false,
+        false,
+        false,
+        false,
+        false,
+        false,
+        empty,
+        turned,
+    )
 }
 
 // Call 8; x stands at s, h at place p.
@@ -225,17 +273,37 @@ pub fn of_write(x: Subject, h: Handle) -> u8
     let absent = x.live == 0;
     let empty = h.way == EMPTY;
     let turned = looks::is_reading(h.way);
-    first(absent, false, false, false, false, false, empty, turned)
+    first(
+        absent,
+        false,
+        false,
+        false,
+        false,
+        false,
+        false,
+        empty,
+        turned,
+    )
 }
 
 // Call 9; x stands at s, z at c.
-pub fn of_fork(c: u32, x: Subject, z: Subject) -> u8
+pub fn of_fork(c: u64, x: Subject, z: Subject) -> u8
     ensures { λ r. ⌜ ((t : Tables) (s : ℕ) → Wf t → t .at (subject s) ≡ subject-entry x → t .at (subject c) ≡ subject-entry z →
         Refuses t (fork s c) r) ⌝ }
 {
     let absent = x.live == 0;
     let used = subject_used(c, z);
-    first(absent, false, used, false, false, false, false, false)
+    first(
+        absent,
+        false,
+        used,
+        false,
+        false,
+        false,
+        false,
+        false,
+        false,
+    )
 }
 
 // Call 10; x stands at s, y at o.
@@ -246,7 +314,17 @@ pub fn of_exec(x: Subject, y: Object) -> u8
     let absent = x.live == 0;
     let missing = y.kind == FREE;
     let pipe = PIPE <= y.kind;
-    first(absent, false, false, missing, pipe, false, false, false)
+    first(
+        absent,
+        false,
+        false,
+        false,
+        missing,
+        pipe,
+        false,
+        false,
+        false,
+    )
 }
 
 // Calls 11 and 15; x stands at s, h at place p.
@@ -256,7 +334,17 @@ pub fn of_held(x: Subject, h: Handle) -> u8
 {
     let absent = x.live == 0;
     let empty = h.way == EMPTY;
-    first(absent, false, false, false, false, false, empty, false)
+    first(
+        absent,
+        false,
+        false,
+        false,
+        false,
+        false,
+        false,
+        empty,
+        false,
+    )
 }
 
 // Call 12; x stands at s.
@@ -264,7 +352,17 @@ pub fn of_exit(x: Subject) -> u8
     ensures { λ r. ⌜ ((t : Tables) (s : ℕ) → Wf t → t .at (subject s) ≡ subject-entry x → Refuses t (exit s) r) ⌝ }
 {
     let absent = x.live == 0;
-    first(absent, false, false, false, false, false, false, false)
+    first(
+        absent,
+        false,
+        false,
+        false,
+        false,
+        false,
+        false,
+        false,
+        false,
+    )
 }
 
 // Call 13; y stands at o.
@@ -273,15 +371,25 @@ pub fn of_retire(y: Object) -> u8
 {
     let missing = y.kind == FREE;
     let pipe = PIPE <= y.kind;
-    first(false, false, false, missing, pipe, false, false, false)
+    first(
+        false,
+        false,
+        false,
+        false,
+        missing,
+        pipe,
+        false,
+        false,
+        false,
+    )
 }
 
 // Call 16.
-pub fn of_freeze(level: u32) -> u8
+pub fn of_freeze(level: u64) -> u8
     ensures { λ r. ⌜ ((t : Tables) → Wf t → Refuses t (freeze level) r) ⌝ }
 {
-    let high = (NO_FREEZE as u32) < level;
-    first(false, false, false, false, false, high, false, false)
+    let high = (NO_FREEZE as u64) < level;
+    first(false, false, false, false, false, false, high, false, false)
 }
 
 // RULES R15 of an open for reading, or for writing; y stands at o. A freeze of NO_FREEZE and above freezes nothing.

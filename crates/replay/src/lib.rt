@@ -26,7 +26,7 @@ use tally::Tally;
 pub const LARGEST_JOURNAL: usize = 65536;
 
 // The longest line of a reply, and the longest last line, in bytes.
-const LONGEST_LINE: usize = 28;
+const LONGEST_LINE: usize = 38;
 
 const LONGEST_END: usize = 67;
 
@@ -37,7 +37,7 @@ pub const REPLY_ROOM: usize = LONGEST_LINE * LARGEST_JOURNAL + LONGEST_END;
 pub struct Replied {
     pub monitor: Monitor,
     pub tally: Tally,
-    pub code: u32,
+    pub code: u64,
     pub answer: Answer,
 }
 

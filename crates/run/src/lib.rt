@@ -28,7 +28,7 @@ fn fewer(a: usize, b: usize) -> usize
 
 // Makes the calls of the list one after the other, from empty tables, as many as the list has and as there is room to answer. A call
 // is seven numbers, its code first; an answer is two bytes, its letter and then its level or refusal number.
-pub fn run(calls: &[u32], out: &mut [u8]) -> Ran
+pub fn run(calls: &[u64], out: &mut [u8]) -> Ran
     ensures made { λ r. ⌜ r .made ≡ lesser (length (now (calls .entry)) / 7) (length (now (out .entry)) / 2) ⌝ }
     ensures written { λ r. ⌜ now (out .exit) ≡ bytes (answers empty (calls-in (now (calls .entry)) (r .made))) ++ drop (r .made * 2) (now (out .entry)) ⌝ }
     ensures demand3 { λ r. ⌜ Demand3 (calls-in (now (calls .entry)) (r .made)) (answers-in (take (r .made * 2) (now (out .exit)))) (view (r .monitor)) ⌝ }

@@ -2,3 +2,4 @@
 -- Assumes nothing.
 pub mod Maps
 pub mod Below
+pub mod Seating

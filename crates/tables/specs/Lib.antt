@@ -3,3 +3,4 @@
 pub mod Records
 pub mod Needs
 pub mod Working
+pub mod Slots

@@ -3,17 +3,23 @@ use mathlib.Core.Path.{_≡_}
 use mathlib.Core.List.{List}
 use Prim.Native.Nat.{ℕ, _+_}
 use lib.ListN.{getD}
-use lib.Dec.{T}
+use mathlib.Core.Bool.{Bool}
+use lib.Dec.{T, ltb}
 use Rattle.model.specs.Label.{Label, label}
 use Rattle.model.specs.Flow.{Thing, subject, object}
 use Rattle.model.specs.Tables.{Tables, in-range, needs}
 pub mod Laws
 
+-- the 96 things for which there is a record: 32 subjects and 64 slots for objects
+abbrev pub housed : Thing → Bool
+housed (subject n) = ltb n 32
+housed (object n) = ltb n 64
+
 abbrev pub node : Thing → ℕ
 node (subject n) = n
 node (object n) = 32 + n
 
--- RULES F10: the subjects first, then the objects
+-- RULES F10: the subjects first, then the slots
 abbrev pub figure-of : List ℕ → Thing → Label
 figure-of r x = label (getD r (node x) 0)
 

@@ -40,8 +40,8 @@ sunken-by y l = cond (eqb (y .kind) 1) y (cond (ltb l (y .level)) (record { kind
 abbrev pub used-subject : ℕ → Subject → Bool
 used-subject s x = cond (ltb s 32) (not (eqb (x .live) 0)) true
 
-abbrev pub used-object : ℕ → Object → Bool
-used-object o y = cond (ltb o 64) (not (eqb (y .kind) 0)) true
+abbrev pub used-object : Object → Bool
+used-object y = not (eqb (y .kind) 0)
 
 abbrev pub used-place : ℕ → Handle → Bool
 used-place p h = cond (ltb p 16) (not (eqb (h .way) 0)) true

@@ -4,6 +4,7 @@
 // Every byte is a value: no record is malformed. Promises go through `tables-of`, which reads the three arrays as the tables of the
 // rules (crate `model`).
 pub mod looks;
+pub mod slots;
 
 // How many there are of each. Place p of subject s is handle PLACES * s + p.
 pub const SUBJECTS: usize = 32;
@@ -13,14 +14,14 @@ pub const OBJECTS: usize = 64;
 pub const PLACES: usize = 16;
 
 pub const HANDLES: usize = SUBJECTS * PLACES;
-// Subjects and objects together, as the nodes of the flows: a subject by its number, an object by SUBJECTS more.
+// Subjects and objects together, as the nodes of the flows: a subject by its number, an object by its slot and SUBJECTS more.
 pub const THINGS: usize = SUBJECTS + OBJECTS;
 
-pub const HIGHEST: u32 = 15;
+pub const HIGHEST: u64 = 15;
 // The freeze where no file is frozen; any byte above it says so, too.
 pub const NO_FREEZE: u8 = 16;
-// OBJECTS, for a call's number of an object.
-pub const OBJECT_NUMBERS: u32 = 64;
+// OBJECTS, for a slot as a number of 64 bits.
+pub const OBJECT_NUMBERS: u64 = 64;
 
 // The kinds of an object; any other byte is a pipe, too.
 pub const FREE: u8 = 0;
@@ -38,7 +39,8 @@ pub const WRITES: u8 = 2;
 // A mapping: it reads.
 pub const MAPS: u8 = 3;
 
-// `live` is 0 for a number that is not in use, `mark` is 0 for a handle that is not marked.
+// `live` is 0 for a number that is not in use, `mark` is 0 for a handle that is not marked. A handle's `object` is the slot of its object, whose number stands
+// beside the slot.
 #[repr(C)]
 pub struct Subject {
     pub live: u8,

@@ -19,20 +19,20 @@ use crate::SUBJECTS;
 use crate::Subject;
 
 // x, which stands at number s modulo SUBJECTS; one that is not live where s is out of range.
-pub fn subject_at(s: u32, x: Subject) -> Subject
+pub fn subject_at(s: u64, x: Subject) -> Subject
     ensures { λ r. ⌜ r ≡ subject-at s x ⌝ }
 {
-    if SUBJECTS as u32 <= s {
+    if SUBJECTS as u64 <= s {
         return Subject { live: 0, level: 0 };
     }
     x
 }
 
-// y, which stands at number o modulo OBJECTS; a free one where o is out of range.
-pub fn object_at(o: u32, y: Object) -> Object
+// y, which stands in slot o modulo OBJECTS; a free one where o is out of range.
+pub fn object_at(o: u64, y: Object) -> Object
     ensures { λ r. ⌜ r ≡ object-at o y ⌝ }
 {
-    if OBJECTS as u32 <= o {
+    if OBJECTS as u64 <= o {
         return Object {
             kind: FREE,
             level: 0,
@@ -42,17 +42,17 @@ pub fn object_at(o: u32, y: Object) -> Object
 }
 
 // h, which stands at place p modulo PLACES of subject s modulo SUBJECTS; an empty one where either is out of range.
-pub fn handle_at(s: u32, p: u32, h: Handle) -> Handle
+pub fn handle_at(s: u64, p: u64, h: Handle) -> Handle
     ensures { λ r. ⌜ r ≡ handle-at s p h ⌝ }
 {
-    if SUBJECTS as u32 <= s {
+    if SUBJECTS as u64 <= s {
         return Handle {
             way: EMPTY,
             object: 0,
             mark: 0,
         };
     }
-    if PLACES as u32 <= p {
+    if PLACES as u64 <= p {
         return Handle {
             way: EMPTY,
             object: 0,
@@ -62,8 +62,8 @@ pub fn handle_at(s: u32, p: u32, h: Handle) -> Handle
     h
 }
 
-// The record of subject s, and of object o: one that is not in use where the number is out of range.
-pub fn subject_of(subjects: [Subject; SUBJECTS], s: u32) -> Subject
+// The record of subject s, and of slot o: one that is not in use where the number is out of range.
+pub fn subject_of(subjects: [Subject; SUBJECTS], s: u64) -> Subject
     ensures { λ r. ⌜ r ≡ subject-at s (getD subjects (s % 32) no-subject) ⌝ }
 {
     let i = s as usize % SUBJECTS;
@@ -71,7 +71,7 @@ pub fn subject_of(subjects: [Subject; SUBJECTS], s: u32) -> Subject
     subject_at(s, x)
 }
 
-pub fn object_of(objects: [Object; OBJECTS], o: u32) -> Object
+pub fn object_of(objects: [Object; OBJECTS], o: u64) -> Object
     ensures { λ r. ⌜ r ≡ object-at o (getD objects (o % 64) no-object) ⌝ }
 {
     let i = o as usize % OBJECTS;
@@ -80,7 +80,7 @@ pub fn object_of(objects: [Object; OBJECTS], o: u32) -> Object
 }
 
 // Which handle is that at place p of subject s, each modulo how many there are.
-pub fn slot_of(s: u32, p: u32) -> usize
+pub fn slot_of(s: u64, p: u64) -> usize
     ensures { λ r. ⌜ r ≡ s % 32 * 16 + p % 16 ⌝ }
 {
     let i = s as usize % SUBJECTS;
@@ -89,7 +89,7 @@ pub fn slot_of(s: u32, p: u32) -> usize
 }
 
 // The record at place p of subject s; an empty one where either is out of range.
-pub fn handle_of(handles: [Handle; HANDLES], s: u32, p: u32) -> Handle
+pub fn handle_of(handles: [Handle; HANDLES], s: u64, p: u64) -> Handle
     ensures { λ r. ⌜ r ≡ handle-at s p (getD handles (s % 32 * 16 + p % 16) no-handle) ⌝ }
 {
     let at = slot_of(s, p);
@@ -98,18 +98,18 @@ pub fn handle_of(handles: [Handle; HANDLES], s: u32, p: u32) -> Handle
 }
 
 // A handle that is placed anew: of this way, on object o modulo how many there are.
-pub fn joining(way: u8, o: u32) -> Handle
+pub fn joining(way: u8, o: u64) -> Handle
     ensures { λ r. ⌜ r ≡ joining way o ⌝ }
 {
     Handle {
         way: way,
-        object: (o % OBJECTS as u32) as u8,
+        object: (o % OBJECTS as u64) as u8,
         mark: 0,
     }
 }
 
 // The handles with h at place p of subject s, each modulo how many there are.
-pub fn with_handle(handles: [Handle; HANDLES], s: u32, p: u32, h: Handle) -> [Handle; HANDLES]
+pub fn with_handle(handles: [Handle; HANDLES], s: u64, p: u64, h: Handle) -> [Handle; HANDLES]
     ensures { λ r. ⌜ r ≡ set handles (s % 32 * 16 + p % 16) h ⌝ }
 {
     let at = slot_of(s, p);
@@ -119,7 +119,7 @@ pub fn with_handle(handles: [Handle; HANDLES], s: u32, p: u32, h: Handle) -> [Ha
 }
 
 // The subjects with x at number s, and the objects with y at number o, each modulo how many there are.
-pub fn with_subject(subjects: [Subject; SUBJECTS], s: u32, x: Subject) -> [Subject; SUBJECTS]
+pub fn with_subject(subjects: [Subject; SUBJECTS], s: u64, x: Subject) -> [Subject; SUBJECTS]
     ensures { λ r. ⌜ r ≡ set subjects (s % 32) x ⌝ }
 {
     let i = s as usize % SUBJECTS;
@@ -128,7 +128,7 @@ pub fn with_subject(subjects: [Subject; SUBJECTS], s: u32, x: Subject) -> [Subje
     r
 }
 
-pub fn with_object(objects: [Object; OBJECTS], o: u32, y: Object) -> [Object; OBJECTS]
+pub fn with_object(objects: [Object; OBJECTS], o: u64, y: Object) -> [Object; OBJECTS]
     ensures { λ r. ⌜ r ≡ set objects (o % 64) y ⌝ }
 {
     let i = o as usize % OBJECTS;

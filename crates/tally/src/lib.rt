@@ -7,7 +7,7 @@ ghost use Rattle.model.specs.Tables.{one, clean};
 ghost use Rattle.model.specs.Tally.{held as held-count};
 ghost use Rattle.model.specs.Tally.{drops};
 ghost use Rattle.tables.specs.Records.{held, along};
-ghost use Rattle.gatekeeper.specs.View.{view, Honest};
+ghost use Rattle.gatekeeper.specs.View.{slots, once, view, Honest};
 ghost use Rattle.tally.specs.Counting.{Counting, made-by, gone-by};
 use gatekeeper::Monitor;
 use gatekeeper::Reply;
@@ -16,6 +16,7 @@ use tables::EMPTY;
 use tables::Handle;
 use tables::PLACES;
 use tables::SUBJECTS;
+use tables::slots;
 
 // Handles made and handles gone, over the history of calls.
 #[repr(C)]
@@ -55,11 +56,11 @@ fn count(row: [Handle; PLACES]) -> u64
     n
 }
 
-// The places of subject s, in the tables as they are read.
-fn row_by(monitor: Monitor, s: u32) -> [Handle; PLACES]
-    ensures { λ r. ⌜ (Honest monitor → (p : ℕ) → along r p ≡ clean (view monitor) .hand s p) ⌝ }
+// The places of subject s, in the tables by slot as they are read.
+fn row_by(monitor: Monitor, s: u64) -> [Handle; PLACES]
+    ensures { λ r. ⌜ (Honest monitor → (p : ℕ) → along r p ≡ clean (slots (once monitor)) .hand s p) ⌝ }
 {
-    if SUBJECTS as u32 <= s {
+    if SUBJECTS as u64 <= s {
         return [Handle {
             way: EMPTY,
             object: 0,
@@ -73,19 +74,21 @@ fn row_by(monitor: Monitor, s: u32) -> [Handle; PLACES]
     }
     let subjects = monitor.subjects;
     let objects = monitor.objects;
-    let kept = handles::cleaned(subjects, objects, handles);
+    let numbers = monitor.numbers;
+    let single = slots::single(objects, numbers);
+    let kept = handles::cleaned(subjects, single, handles);
     handles::row_of(kept, i)
 }
 
 // How many handles subject s holds, and how many of them an exec drops.
-fn held_by(monitor: Monitor, s: u32) -> u64
+fn held_by(monitor: Monitor, s: u64) -> u64
     ensures { λ r. ⌜ (Honest monitor → r ≡ held-count (clean (view monitor)) s) ⌝ }
 {
     let row = row_by(monitor, s);
     count(row)
 }
 
-fn dropped_by(monitor: Monitor, s: u32) -> u64
+fn dropped_by(monitor: Monitor, s: u64) -> u64
     ensures { λ r. ⌜ (Honest monitor → r ≡ drops (clean (view monitor)) s) ⌝ }
 {
     let row = row_by(monitor, s);
@@ -96,7 +99,7 @@ fn dropped_by(monitor: Monitor, s: u32) -> u64
 }
 
 // How many handles an allowed call of this code by subject s makes, and removes.
-fn made_by(monitor: Monitor, code: u32, s: u32) -> u64
+fn made_by(monitor: Monitor, code: u64, s: u64) -> u64
     ensures { λ r. ⌜ (Honest monitor → r ≡ made-by code (held-count (clean (view monitor)) s)) ⌝ }
 {
     if code == 4 {
@@ -120,7 +123,7 @@ fn made_by(monitor: Monitor, code: u32, s: u32) -> u64
     0
 }
 
-fn gone_by(monitor: Monitor, code: u32, s: u32) -> u64
+fn gone_by(monitor: Monitor, code: u64, s: u64) -> u64
     ensures { λ r. ⌜ (Honest monitor → r ≡ gone-by code (held-count (clean (view monitor)) s) (drops (clean (view monitor)) s)) ⌝ }
 {
     if code == 10 {
@@ -139,13 +142,13 @@ fn gone_by(monitor: Monitor, code: u32, s: u32) -> u64
 fn tallied_call(
     monitor: Monitor,
     tally: Tally,
-    code: u32,
-    a: u32,
-    b: u32,
-    c: u32,
-    d: u32,
-    e: u32,
-    f: u32,
+    code: u64,
+    a: u64,
+    b: u64,
+    c: u64,
+    d: u64,
+    e: u64,
+    f: u64,
 ) -> Counted
     ensures { λ r. ⌜ Counting monitor tally code a b c d e f (r .reply) (r .tally) ⌝ }
 {
@@ -172,13 +175,13 @@ fn tallied_call(
 pub fn lent_call(
     monitor: Monitor,
     tally: &mut Tally,
-    code: u32,
-    a: u32,
-    b: u32,
-    c: u32,
-    d: u32,
-    e: u32,
-    f: u32,
+    code: u64,
+    a: u64,
+    b: u64,
+    c: u64,
+    d: u64,
+    e: u64,
+    f: u64,
 ) -> Reply
     ensures { λ r. ⌜ Counting monitor (now (tally .entry)) code a b c d e f r (now (tally .exit)) ⌝ }
 {
@@ -192,13 +195,13 @@ pub fn lent_call(
 pub fn counted_call(
     monitor: Monitor,
     tally: Tally,
-    code: u32,
-    a: u32,
-    b: u32,
-    c: u32,
-    d: u32,
-    e: u32,
-    f: u32,
+    code: u64,
+    a: u64,
+    b: u64,
+    c: u64,
+    d: u64,
+    e: u64,
+    f: u64,
 ) -> Counted
     ensures { λ r. ⌜ Counting monitor tally code a b c d e f (r .reply) (r .tally) ⌝ }
 {

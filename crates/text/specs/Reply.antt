@@ -28,9 +28,9 @@ end-word = 101 ∷ 110 ∷ 100 ∷ space ∷ []
 unfoldable pub ending : ℕ → ℕ → ℕ → List ℕ
 ending made gone held = end-word ++ field made space ++ field gone space ++ field held newline
 
--- RULES P21: the longest line for a position and a code of 32 bits and a value of 8
+-- RULES P21: the longest line for a position of 32 bits, a code of 64 and a value of 8
 abbrev pub longest-line : ℕ
-longest-line = 28
+longest-line = 38
 
 -- RULES P21: the longest last line for counts of 64 bits
 abbrev pub longest-end : ℕ

@@ -10,7 +10,7 @@ ghost use Rattle.text.specs.Reply.{field, line, ending};
 use number::Written;
 
 // The longest line of a record, in bytes: a buffer of this size is never too short.
-pub const LONGEST_LINE: usize = 28;
+pub const LONGEST_LINE: usize = 38;
 
 // The longest last line, in bytes, likewise.
 pub const LONGEST_END: usize = 67;
@@ -55,13 +55,12 @@ fn write_field(out: &mut [u8], n: u64, mark: u8) -> usize
 
 // Writes the line of a record over the front of `out`; the bytes after it keep their values. Its size is compared first, so
 // that nothing has changed where it does not fit.
-pub fn write_line(out: &mut [u8], position: u32, code: u32, letter: u8, value: u8) -> Written
+pub fn write_line(out: &mut [u8], position: u32, code: u64, letter: u8, value: u8) -> Written
     ensures answer { λ r. ⌜ writing r ≡ fitted (line position code letter value) (now (out .entry)) ⌝ }
     ensures buffer { λ _. ⌜ now (out .exit) ≡ put (line position code letter value) (now (out .entry)) ⌝ }
     ensures short { λ _. do ⌜ length (line position code letter value) ≤ (← ⟦LONGEST_LINE⟧ .entry) ⌝ }
 {
     let position = position as u64;
-    let code = code as u64;
     let value = value as u64;
     // With the digits stand three spaces, the letter and the newline.
     let size = decimal_len(position) + decimal_len(code) + decimal_len(value) + 5;

@@ -5,12 +5,13 @@ use gatekeeper::{Call, NO_FREEZE};
 use crate::calls::{shape_of_code, Role};
 use crate::scene::{capital, Scene};
 use crate::things::Thing;
+use gk_names::number::shown;
 use gk_names::Kind;
 
 /// A call in words, without a full stop; `happens` says whether it was allowed.
 pub fn asked(call: Call, scene: Scene, happens: bool) -> String {
     // "opens", or "may not open"
-    let by = |s: u32, does: &str, may_not: &str, rest: &str| {
+    let by = |s: u64, does: &str, may_not: &str, rest: &str| {
         let who = capital(&scene.whole(Thing::Step(s)));
         match happens {
             true => format!("{who} {does}{rest}"),
@@ -18,25 +19,28 @@ pub fn asked(call: Call, scene: Scene, happens: bool) -> String {
         }
     };
     let is = if happens { "is" } else { "is not" };
-    let object = |o: u32| scene.whole(Thing::Object(o));
+    let object = |o: u64| scene.whole(Thing::Object(o));
     // What is said of several records at once leaves out the places, which differ.
-    let at = |place: u32| match scene.unnamed {
+    let at = |place: u64| match scene.unnamed {
         Some(_) => String::new(),
-        None => format!(" at place {place}"),
+        None => format!(" at place {}", shown(place)),
     };
-    let new = |kind: Kind, number: u32| scene.new_thing(kind, number);
+    let new = |kind: Kind, number: u64| scene.new_thing(kind, number);
     match call {
         Call::Admit { subject, level } => {
-            format!("{} {is} admitted from outside at level {level}", capital(&new(Kind::Step, subject)))
+            let who = capital(&new(Kind::Step, subject));
+            format!("{who} {is} admitted from outside at level {}", shown(level))
         }
         Call::Register { object, level } => {
-            format!("{} {is} registered from outside at level {level}", capital(&new(Kind::File, object)))
+            let what = capital(&new(Kind::File, object));
+            format!("{what} {is} registered from outside at level {}", shown(level))
         }
         Call::Create { subject, object } => {
             by(subject, "creates", "create", &format!(" {}", new(Kind::File, object)))
         }
         Call::Pipe { subject, object, reads, writes } => {
             let pipe = new(Kind::Pipe, object);
+            let (reads, writes) = (shown(reads), shown(writes));
             let rest = format!(" {pipe}, reading at place {reads} and writing at place {writes}");
             by(subject, "makes", "make", &rest)
         }
@@ -66,14 +70,15 @@ pub fn asked(call: Call, scene: Scene, happens: bool) -> String {
             by(subject, "marks", "mark", &format!(" {}", scene.at_place(subject, place)))
         }
         Call::Freeze { level: NO_FREEZE } => format!("The freeze {is} lifted"),
-        Call::Freeze { level } => format!("The freeze {is} set to {level}"),
+        Call::Freeze { level } => format!("The freeze {is} set to {}", shown(level)),
         Call::Connect { subject, peer, to, from, reading, writing } => format!(
-            "{} {is} connected to {} by {} and back by {}, both reading at place {reading} and writing at place \
-             {writing}",
+            "{} {is} connected to {} by {} and back by {}, both reading at place {} and writing at place {}",
             capital(&scene.whole(Thing::Step(subject))),
             scene.whole(Thing::Step(peer)),
             new(Kind::Pipe, to),
-            new(Kind::Pipe, from)
+            new(Kind::Pipe, from),
+            shown(reading),
+            shown(writing)
         ),
         _ => format!("A call of code {}", call.code()),
     }
@@ -83,7 +88,7 @@ pub fn asked(call: Call, scene: Scene, happens: bool) -> String {
 pub fn names_in(call: Call, scene: Scene) -> Vec<(&'static str, String)> {
     let makes_step = matches!(call, Call::Admit { .. });
     let parts = shape_of_code(call.code()).into_iter().flat_map(|shape| shape.parts());
-    let name = |part: &str, role: Role, number: u32| match role {
+    let name = |part: &str, role: Role, number: u64| match role {
         Role::Step if makes_step || part == "c" => scene.new_name(Kind::Step, number),
         Role::Step => scene.name(Thing::Step(number)),
         Role::File => scene.new_name(Kind::File, number),

@@ -17,7 +17,7 @@ pub enum Role {
 /// A call's code, its word, and the names of its numbers in their order.
 #[derive(Debug)]
 pub struct Shape {
-    pub code: u32,
+    pub code: u64,
     pub word: &'static str,
     pub numbers: &'static [&'static str],
 }
@@ -40,7 +40,7 @@ impl Shape {
     }
 }
 
-const fn shape(code: u32, word: &'static str, numbers: &'static [&'static str]) -> Shape {
+const fn shape(code: u64, word: &'static str, numbers: &'static [&'static str]) -> Shape {
     Shape { code, word, numbers }
 }
 
@@ -66,7 +66,7 @@ pub const SHAPES: [Shape; 17] = [
 ];
 
 /// The shape of the call with this code; none for a code that no call has (RULES R1).
-pub fn shape_of_code(code: u32) -> Option<&'static Shape> {
+pub fn shape_of_code(code: u64) -> Option<&'static Shape> {
     SHAPES.iter().find(|shape| shape.code == code)
 }
 
@@ -76,7 +76,7 @@ pub fn shape_of_word(word: &str) -> Option<&'static Shape> {
 }
 
 /// The call with this code and these numbers; none for a code that no call has.
-pub fn call_of(code: u32, numbers: [u32; 6]) -> Option<Call> {
+pub fn call_of(code: u64, numbers: [u64; 6]) -> Option<Call> {
     let [a, b, c, d, e, f] = numbers;
     Some(match code {
         1 => Call::Admit { subject: a, level: b },
@@ -110,7 +110,7 @@ pub fn assembly_of(call: Call) -> String {
 }
 
 /// The same call with another number in the place of the one that is called so.
-pub fn with_number(call: Call, name: &str, number: u32) -> Call {
+pub fn with_number(call: Call, name: &str, number: u64) -> Call {
     let place = shape_of_code(call.code())
         .and_then(|shape| shape.numbers.iter().position(|&called| called == name));
     let mut numbers = call.numbers();
@@ -121,7 +121,7 @@ pub fn with_number(call: Call, name: &str, number: u32) -> Call {
 }
 
 /// The number of a call that is called so.
-pub fn number_of(call: Call, name: &str) -> Option<u32> {
+pub fn number_of(call: Call, name: &str) -> Option<u64> {
     let shape = shape_of_code(call.code())?;
     let place = shape.numbers.iter().position(|&called| called == name)?;
     Some(call.numbers()[place])
@@ -135,12 +135,12 @@ mod tests {
     fn codes_words_and_numbers_go_both_ways() {
         for (code, shape) in (1..).zip(&SHAPES) {
             assert_eq!(shape.code, code);
-            let numbers: Vec<u32> = (1..=shape.numbers.len() as u32).collect();
+            let numbers: Vec<u64> = (1..=shape.numbers.len() as u64).collect();
             let mut all = [0; 6];
             all[..numbers.len()].copy_from_slice(&numbers);
             let call = call_of(code, all).unwrap();
             assert_eq!((call.code(), call.numbers()), (code, all));
-            let line: Vec<String> = numbers.iter().map(u32::to_string).collect();
+            let line: Vec<String> = numbers.iter().map(u64::to_string).collect();
             assert_eq!(assembly_of(call), format!("{} {}", shape.word, line.join(" ")));
         }
         assert_eq!(call_of(0, [0; 6]), None);

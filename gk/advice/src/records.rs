@@ -4,6 +4,10 @@
 use gatekeeper::{read_number, write_record, Call, RECORD_ROOM};
 
 use crate::calls::{call_of, shape_of_code};
+use gk_names::number::shown;
+
+/// The most bytes of a number (RULES J7).
+const MOST_BYTES: usize = 10;
 
 /// Why a number is malformed, to follow "the length" or "the number".
 #[derive(Clone, Copy, Debug, PartialEq, Eq)]
@@ -26,7 +30,7 @@ impl Malformed {
     pub fn words(self) -> &'static str {
         match self {
             Malformed::CutOff => "is cut off",
-            Malformed::TooLarge => "is above 4294967295",
+            Malformed::TooLarge => "is above 18,446,744,073,709,551,615",
             Malformed::Padded => "is longer than it need be",
         }
     }
@@ -36,15 +40,15 @@ impl Malformed {
 #[derive(Clone, Copy, Debug, PartialEq, Eq)]
 pub enum LengthFault {
     Malformed(Malformed),
-    PastEnd { length: u32, left: usize },
+    PastEnd { length: u64, left: usize },
 }
 
 impl LengthFault {
     /// Whether more bytes behind these, which start with the length, could make a record of them. A length goes on
-    /// after each byte that has its highest bit, and takes at most five.
+    /// after each byte that has its highest bit, and takes at most ten.
     pub fn may_pass(self, bytes: usize) -> bool {
         match self {
-            LengthFault::Malformed(malformed) => malformed == Malformed::CutOff && bytes < 5,
+            LengthFault::Malformed(malformed) => malformed == Malformed::CutOff && bytes < MOST_BYTES,
             LengthFault::PastEnd { .. } => true,
         }
     }
@@ -68,9 +72,9 @@ pub enum BodyFault {
 pub enum Body {
     Call(Call),
     /// RULES J14: what follows the code is not looked at.
-    UnknownCode(u32),
+    UnknownCode(u64),
     /// RULES R12, with the code, 0 where none was read.
-    Bad(u32, BodyFault),
+    Bad(u64, BodyFault),
 }
 
 /// A record: where it starts, its body's bytes, and what they hold.
@@ -154,7 +158,7 @@ fn read_body(body: &[u8]) -> Body {
 }
 
 /// The bytes as a list of good numbers, if they are one.
-pub fn all_numbers(mut bytes: &[u8]) -> Option<Vec<u32>> {
+pub fn all_numbers(mut bytes: &[u8]) -> Option<Vec<u64>> {
     let mut numbers = Vec::new();
     while !bytes.is_empty() {
         let (number, taken) = read_number(bytes)?;
@@ -165,7 +169,7 @@ pub fn all_numbers(mut bytes: &[u8]) -> Option<Vec<u32>> {
 }
 
 /// Writes a record with any code and any numbers at the end of a journal.
-pub fn write_any(code: u32, numbers: &[u32], journal: &mut Vec<u8>) {
+pub fn write_any(code: u64, numbers: &[u64], journal: &mut Vec<u8>) {
     let fits = shape_of_code(code).is_some_and(|shape| shape.numbers.len() == numbers.len());
     if fits {
         let mut six = [0; 6];
@@ -181,12 +185,12 @@ pub fn write_any(code: u32, numbers: &[u32], journal: &mut Vec<u8>) {
     for &number in [&code].into_iter().chain(numbers) {
         write_number(number, &mut body);
     }
-    write_number(u32::try_from(body.len()).unwrap_or(u32::MAX), journal);
+    write_number(body.len() as u64, journal);
     journal.extend(body);
 }
 
 /// RULES J1, J2: a number in as few bytes as it needs.
-fn write_number(mut number: u32, bytes: &mut Vec<u8>) {
+fn write_number(mut number: u64, bytes: &mut Vec<u8>) {
     while number >= 128 {
         bytes.push((number % 128) as u8 | 0x80);
         number /= 128;
@@ -199,10 +203,10 @@ pub fn length_words(fault: LengthFault) -> String {
     match fault {
         LengthFault::Malformed(malformed) => format!("the length {}", malformed.words()),
         LengthFault::PastEnd { length, left: 1 } => {
-            format!("the length is {length}, and only 1 byte is left")
+            format!("the length is {}, and only 1 byte is left", shown(length))
         }
         LengthFault::PastEnd { length, left } => {
-            format!("the length is {length}, and only {left} bytes are left")
+            format!("the length is {}, and only {left} bytes are left", shown(length))
         }
     }
 }
@@ -211,7 +215,7 @@ pub fn length_words(fault: LengthFault) -> String {
 pub fn body_words(body: Body) -> String {
     let (code, fault) = match body {
         Body::Call(_) => return String::new(),
-        Body::UnknownCode(code) => return format!("no call has the code {code}"),
+        Body::UnknownCode(code) => return format!("no call has the code {}", shown(code)),
         Body::Bad(code, fault) => (code, fault),
     };
     let shape = shape_of_code(code);
@@ -237,18 +241,21 @@ mod tests {
 
     #[test]
     fn why_a_number_is_malformed_agrees_with_the_proved_reader() {
-        for bytes in [&[][..], &[0x80], &[0x80, 0], &[0xff, 0x80, 0], &[0x80, 0x80, 0x80, 0x80, 0x10]] {
+        let high = |last: u8| [[0x80; MOST_BYTES - 1].as_slice(), &[last]].concat();
+        let (too_large, padded) = (high(2), [high(0x80), vec![0]].concat());
+        for bytes in [&[][..], &[0x80], &[0x80, 0], &[0xff, 0x80, 0], &too_large, &padded] {
             assert_eq!(read_number(bytes), None, "{bytes:?}");
         }
         assert_eq!(Malformed::of(&[0x80]), Malformed::CutOff);
         assert_eq!(Malformed::of(&[0x80, 0]), Malformed::Padded);
-        assert_eq!(Malformed::of(&[0x80, 0x80, 0x80, 0x80, 0x10]), Malformed::TooLarge);
-        assert_eq!(Malformed::of(&[0x80, 0x80, 0x80, 0x80, 0x80, 0]), Malformed::Padded);
+        assert_eq!(Malformed::of(&too_large), Malformed::TooLarge);
+        assert_eq!(Malformed::of(&padded), Malformed::Padded);
+        assert_eq!(read_number(&high(1)), Some((1 << 63, MOST_BYTES)));
     }
 
     #[test]
     fn a_written_number_is_read_again() {
-        for number in [0, 1, 127, 128, 16_383, 16_384, u32::MAX] {
+        for number in [0, 1, 127, 128, 16_383, 16_384, 1 << 32, u64::MAX] {
             let mut bytes = Vec::new();
             write_number(number, &mut bytes);
             assert_eq!(read_number(&bytes), Some((number, bytes.len())));

@@ -8,8 +8,9 @@ use crate::calls::{number_of, SHAPES};
 use crate::records::{body_words, length_words, Body};
 use crate::run::{Content, Step};
 use crate::scene::{listed, sentence, way_word, Closing, Scene};
-use crate::things::{handles_on, Thing, HIGHEST, OBJECTS, PLACES, STEPS};
+use crate::things::{handles_on, level, objects, Thing, HIGHEST, OBJECTS, PLACES, STEPS};
 use crate::ways::{counsel, nine_once_open, or_above, Counsel};
+use gk_names::number::shown;
 use gk_names::Kind;
 
 /// What is said of a record that was refused.
@@ -81,7 +82,7 @@ fn floor(call: Call, scene: Scene) -> Option<String> {
 fn link_name(link: Link, call: Call, scene: Scene) -> String {
     match (link.thing, call) {
         (Thing::Object(o), Call::Connect { to, from, .. }) if o == to || o == from => {
-            scene.new_name(Kind::Pipe, o).map_or_else(|| format!("pipe {o}"), str::to_string)
+            scene.new_name(Kind::Pipe, o).map_or_else(|| format!("pipe {}", shown(o)), str::to_string)
         }
         _ => scene.thing(link.thing),
     }
@@ -140,7 +141,7 @@ fn why(
     match refusal {
         Refusal::NoSubject => {
             let named = ["s", "t"].into_iter().filter_map(|name| number_of(call, name));
-            match named.filter(|&s| monitor.subject(s).is_none()).collect::<Vec<u32>>().first() {
+            match named.filter(|&s| monitor.subject(s).is_none()).collect::<Vec<u64>>().first() {
                 Some(&s) if s >= STEPS => format!("steps have the numbers 0 to {}", STEPS - 1),
                 Some(&s) => format!("{} is not there", scene.step(s)),
                 None => String::new(),
@@ -148,7 +149,6 @@ fn why(
         }
         Refusal::NumberTaken => unfit_number(call, scene),
         Refusal::NoObject => match number_of(call, "o") {
-            Some(o) if o >= OBJECTS => format!("files and pipes have the numbers 0 to {}", OBJECTS - 1),
             Some(o) => format!("there is no {}", scene.object(o)),
             None => String::new(),
         },
@@ -165,7 +165,7 @@ fn why(
         Refusal::Flow => flow_reason(call, chain),
         Refusal::StillOpen => {
             let o = number_of(call, "o").unwrap_or(0);
-            let mut holders: Vec<u32> = handles_on(monitor, o).map(|held| held.step).collect();
+            let mut holders: Vec<u64> = handles_on(monitor, o).map(|held| held.step).collect();
             holders.dedup();
             let words: Vec<String> = holders.iter().map(|&s| scene.step(s)).collect();
             let have = if words.len() == 1 { "has" } else { "have" };
@@ -178,6 +178,10 @@ fn why(
             format!("the books are{since}, and it has level {level}")
         }
         Refusal::SameSubject => "both ends would be the same step".to_string(),
+        Refusal::TooManyObjects => {
+            let live = objects(monitor).count();
+            format!("{live} files and pipes are live, and {OBJECTS} may be")
+        }
         _ => String::new(),
     }
 }
@@ -201,23 +205,17 @@ fn flow_reason(call: Call, chain: &[(Link, String)]) -> String {
 
 /// RULES R3.
 fn unfit_number(call: Call, scene: Scene) -> String {
-    let monitor = scene.monitor;
-    let (numbers, limit, kind) = match call {
-        Call::Admit { subject, .. } => (vec![subject], STEPS, "steps"),
-        Call::Fork { child, .. } => (vec![child], STEPS, "steps"),
-        Call::Connect { to, from, .. } => (vec![to, from], OBJECTS, "files and pipes"),
-        _ => (number_of(call, "o").into_iter().collect(), OBJECTS, "files and pipes"),
+    let new: Vec<Thing> = match call {
+        Call::Admit { subject, .. } => vec![Thing::Step(subject)],
+        Call::Fork { child, .. } => vec![Thing::Step(child)],
+        Call::Connect { to, from, .. } => vec![Thing::Object(to), Thing::Object(from)],
+        _ => number_of(call, "o").into_iter().map(Thing::Object).collect(),
     };
-    let is_used = |number: &&u32| match limit {
-        STEPS => monitor.subject(**number).is_some(),
-        _ => monitor.object(**number).is_some(),
-    };
-    if numbers.iter().any(|&number| number >= limit) {
-        return format!("{kind} have the numbers 0 to {}", limit - 1);
+    if matches!(new[..], [Thing::Step(s)] if s >= STEPS) {
+        return format!("steps have the numbers 0 to {}", STEPS - 1);
     }
-    match numbers.iter().find(is_used) {
-        Some(&number) if limit == STEPS => format!("{} is there already", scene.whole(Thing::Step(number))),
-        Some(&number) => format!("{} is there already", scene.whole(Thing::Object(number))),
+    match new.into_iter().find(|&thing| level(scene.monitor, thing).is_some()) {
+        Some(thing) => format!("{} is there already", scene.whole(thing)),
         None => "both pipes would have the same number".to_string(),
     }
 }
@@ -225,7 +223,7 @@ fn unfit_number(call: Call, scene: Scene) -> String {
 /// RULES R7.
 fn unfit_place(call: Call, scene: Scene) -> String {
     let monitor = scene.monitor;
-    let (steps, places, wants_empty): (Vec<u32>, Vec<u32>, bool) = match call {
+    let (steps, places, wants_empty): (Vec<u64>, Vec<u64>, bool) = match call {
         Call::Pipe { subject, reads, writes, .. } => (vec![subject], vec![reads, writes], true),
         Call::Connect { subject, peer, reading, writing, .. } => {
             (vec![subject, peer], vec![reading, writing], true)
@@ -244,7 +242,7 @@ fn unfit_place(call: Call, scene: Scene) -> String {
         .find_map(|(step, place)| monitor.handle(step, place).map(|handle| (step, place, handle)));
     match taken {
         Some((step, place, handle)) if wants_empty => {
-            let what = format!("{} {}", way_word(handle.way), scene.object(handle.object.into()));
+            let what = format!("{} {}", way_word(handle.way), scene.object(handle.object));
             format!("place {place} of {} is taken, by its handle {what}", scene.step(step))
         }
         _ if wants_empty => "reading and writing need two places".to_string(),

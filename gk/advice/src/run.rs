@@ -1,6 +1,6 @@
 //! A journal answered record by record, each call made on the proved monitor; with the monitor before and after it.
 
-use gatekeeper::{Answer, Call, Monitor, Refusal, JOURNAL_BYTES};
+use gatekeeper::{Answer, Call, Refusal, State as Monitor, JOURNAL_BYTES};
 
 use crate::records::{entry_at, Body, Entry, LengthFault};
 
@@ -22,7 +22,7 @@ pub struct Step {
     /// RULES P5: from 1.
     pub position: u64,
     /// RULES P6: 0 where none was read.
-    pub code: u32,
+    pub code: u64,
     pub content: Content,
     pub answer: Answer,
     pub before: Monitor,
@@ -134,7 +134,7 @@ impl Growing {
         }
     }
 
-    fn step(&mut self, code: u32, content: Content, refusal: Option<Refusal>) -> Box<Step> {
+    fn step(&mut self, code: u64, content: Content, refusal: Option<Refusal>) -> Box<Step> {
         self.position += 1;
         let before = self.monitor.clone();
         let answer = match (content, refusal) {
@@ -204,6 +204,7 @@ mod tests {
             &[0x80],
             &[0xff; 4],
             &[0xff; 6],
+            &[0xff; 11],
             &[2, 1],
             &[1, 99],
             &[1, 0],
@@ -232,6 +233,7 @@ mod tests {
         }
         assert!(matches!(Growing::new().next(&[0x80, 0x80]), Next::Unfinished));
         assert!(matches!(Growing::new().next(&[0x80, 0x00]), Next::Step(_)));
-        assert!(matches!(Growing::new().next(&[0xff; 5]), Next::Step(_)));
+        assert!(matches!(Growing::new().next(&[0xff; 9]), Next::Unfinished));
+        assert!(matches!(Growing::new().next(&[0xff; 10]), Next::Step(_)));
     }
 }

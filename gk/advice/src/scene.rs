@@ -1,17 +1,17 @@
 //! A moment of a run, and what things are called at it.
 
-use gatekeeper::{Call, Handle, Kind as ObjectKind, Monitor, Way};
+use std::collections::BTreeMap;
+
+use gatekeeper::{Call, Handle, Kind as ObjectKind, State as Monitor, Way};
 
 use crate::run::{Content, Step};
-use crate::things::{level, Thing, OBJECTS, STEPS};
+use crate::things::{level, objects, Thing, STEPS};
+use gk_names::number::shown;
 use gk_names::{Entry, Kind, Names};
 
 /// At which records the things of each number went, so that a name is not taken for that of the next one.
-#[derive(Clone, Debug)]
-pub struct Lives {
-    steps: Vec<Life>,
-    objects: Vec<Life>,
-}
+#[derive(Clone, Debug, Default)]
+pub struct Lives(BTreeMap<Thing, Life>);
 
 /// The life of a number.
 #[derive(Clone, Copy, Debug, Default)]
@@ -22,42 +22,27 @@ struct Life {
     before: u64,
 }
 
-impl Default for Lives {
-    fn default() -> Lives {
-        Lives {
-            steps: vec![Life::default(); STEPS as usize],
-            objects: vec![Life::default(); OBJECTS as usize],
-        }
-    }
-}
-
 impl Lives {
     /// Takes note of what a record has ended and made.
     pub fn follow(&mut self, step: &Step) {
         if step.refusal().is_some() {
             return;
         }
-        let note = |life: &mut Life, was: bool, is: bool| match (was, is) {
-            (true, false) => life.went = step.position,
-            (false, true) => life.before = life.went,
-            _ => {}
-        };
-        for s in 0..STEPS {
-            let (was, is) = (step.before.subject(s).is_some(), step.after.subject(s).is_some());
-            note(&mut self.steps[s as usize], was, is);
-        }
-        for o in 0..OBJECTS {
-            let (was, is) = (step.before.object(o).is_some(), step.after.object(o).is_some());
-            note(&mut self.objects[o as usize], was, is);
+        let objects = objects(&step.before).chain(objects(&step.after)).map(Thing::Object);
+        for thing in (0..STEPS).map(Thing::Step).chain(objects) {
+            match (level(&step.before, thing).is_some(), level(&step.after, thing).is_some()) {
+                (true, false) => self.0.entry(thing).or_default().went = step.position,
+                (false, true) => {
+                    let life = self.0.entry(thing).or_default();
+                    life.before = life.went;
+                }
+                _ => {}
+            }
         }
     }
 
     fn of(&self, thing: Thing) -> Life {
-        let life = match thing {
-            Thing::Step(s) => self.steps.get(s as usize),
-            Thing::Object(o) => self.objects.get(o as usize),
-        };
-        life.copied().unwrap_or_default()
+        self.0.get(&thing).copied().unwrap_or_default()
     }
 }
 
@@ -129,11 +114,11 @@ impl<'a> Scene<'a> {
         }
     }
 
-    pub fn step(&self, s: u32) -> String {
+    pub fn step(&self, s: u64) -> String {
         self.thing(Thing::Step(s))
     }
 
-    pub fn object(&self, o: u32) -> String {
+    pub fn object(&self, o: u64) -> String {
         self.thing(Thing::Object(o))
     }
 
@@ -146,16 +131,14 @@ impl<'a> Scene<'a> {
     }
 
     /// What a thing that a call is to make will be called.
-    pub fn new_thing(&self, kind: Kind, number: u32) -> String {
-        match self.new_name(kind, number) {
-            Some(name) => format!("{name} ({} {number})", kind.word()),
-            None => format!("{} {number}", kind.word()),
-        }
+    pub fn new_thing(&self, kind: Kind, number: u64) -> String {
+        let plain = format!("{} {}", kind.word(), shown(number));
+        self.new_name(kind, number).map_or_else(|| plain.clone(), |name| format!("{name} ({plain})"))
     }
 
     /// The name of a thing that a call is to make: one that was given before the last thing of that number went is not
     /// its.
-    pub fn new_name(&self, kind: Kind, number: u32) -> Option<&'a str> {
+    pub fn new_name(&self, kind: Kind, number: u64) -> Option<&'a str> {
         let thing = match kind {
             Kind::Step => Thing::Step(number),
             Kind::File | Kind::Pipe => Thing::Object(number),
@@ -179,11 +162,11 @@ impl<'a> Scene<'a> {
     /// Kind and number of a thing.
     pub fn number(&self, thing: Thing) -> String {
         match thing {
-            Thing::Step(s) => format!("step {s}"),
+            Thing::Step(s) => format!("step {}", shown(s)),
             Thing::Object(o) => match self.monitor.object(o).map(|object| object.kind) {
-                Some(ObjectKind::File) => format!("file {o}"),
-                Some(ObjectKind::Pipe) => format!("pipe {o}"),
-                None => format!("file or pipe {o}"),
+                Some(ObjectKind::File) => format!("file {}", shown(o)),
+                Some(ObjectKind::Pipe) => format!("pipe {}", shown(o)),
+                None => format!("file or pipe {}", shown(o)),
             },
         }
     }
@@ -208,11 +191,12 @@ impl<'a> Scene<'a> {
     }
 
     /// A place of a step, with what stands there.
-    pub fn at_place(&self, s: u32, p: u32) -> String {
+    pub fn at_place(&self, s: u64, p: u64) -> String {
+        let place = format!("place {}", shown(p));
         match (self.monitor.handle(s, p), self.monitor.subject(s)) {
-            (Some(handle), _) => format!("place {p}, its {}", self.handle(handle)),
-            (None, Some(_)) => format!("place {p}, where it has nothing"),
-            (None, None) => format!("place {p}"),
+            (Some(handle), _) => format!("{place}, its {}", self.handle(handle)),
+            (None, Some(_)) => format!("{place}, where it has nothing"),
+            (None, None) => place,
         }
     }
 
@@ -223,7 +207,7 @@ impl<'a> Scene<'a> {
             Way::Writes => "writing handle on",
             Way::Maps => "mapping of",
         };
-        format!("{marked}{what} {}", self.leveled(Thing::Object(handle.object.into())))
+        format!("{marked}{what} {}", self.leveled(Thing::Object(handle.object)))
     }
 }
 

@@ -1,25 +1,25 @@
 //! What a monitor holds, as lists: its steps, its files and pipes, and every handle with the flow that it lets through.
 
-use gatekeeper::{Handle, Kind, Monitor, Way};
+use gatekeeper::{Handle, Kind, State as Monitor, Way};
 
-/// How many steps, files and pipes, and places of a step there can be.
+/// How many steps and places of a step there can be, and how many files and pipes at a time.
 pub use gatekeeper::{OBJECTS, PLACES, SUBJECTS as STEPS};
 pub use gk_chain::Thing;
 
 /// The highest level.
-pub const HIGHEST: u32 = 15;
+pub const HIGHEST: u64 = 15;
 
 /// A handle with its holder and its place.
 #[derive(Clone, Copy, Debug, PartialEq, Eq)]
 pub struct Held {
-    pub step: u32,
-    pub place: u32,
+    pub step: u64,
+    pub place: u64,
     pub handle: Handle,
 }
 
 impl Held {
-    pub fn object(self) -> u32 {
-        u32::from(self.handle.object)
+    pub fn object(self) -> u64 {
+        self.handle.object
     }
 
     pub fn writes(self) -> bool {
@@ -37,17 +37,27 @@ impl Held {
 }
 
 /// The steps that are there.
-pub fn steps(monitor: &Monitor) -> impl Iterator<Item = u32> + '_ {
+pub fn steps(monitor: &Monitor) -> impl Iterator<Item = u64> + '_ {
     (0..STEPS).filter(|&s| monitor.subject(s).is_some())
 }
 
-/// The files and pipes that are there.
-pub fn objects(monitor: &Monitor) -> impl Iterator<Item = u32> + '_ {
-    (0..OBJECTS).filter(|&o| monitor.object(o).is_some())
+/// The files and pipes that are there, by number.
+pub fn objects(monitor: &Monitor) -> impl Iterator<Item = u64> + '_ {
+    monitor.objects().map(|(o, _)| o)
+}
+
+/// The lowest numbers that no file or pipe has.
+pub fn free_objects(monitor: &Monitor) -> impl Iterator<Item = u64> + '_ {
+    (0..).filter(|&o| monitor.object(o).is_none())
+}
+
+/// RULES R17: how many files and pipes would be too many with so many new ones.
+pub fn too_many(monitor: &Monitor, new: usize) -> usize {
+    (objects(monitor).count() + new).saturating_sub(OBJECTS as usize)
 }
 
 /// The handles of a step, by place.
-pub fn handles_of(monitor: &Monitor, step: u32) -> impl Iterator<Item = Held> + '_ {
+pub fn handles_of(monitor: &Monitor, step: u64) -> impl Iterator<Item = Held> + '_ {
     (0..PLACES)
         .filter_map(move |place| monitor.handle(step, place).map(|handle| Held { step, place, handle }))
 }
@@ -58,7 +68,7 @@ pub fn handles(monitor: &Monitor) -> impl Iterator<Item = Held> + '_ {
 }
 
 /// The handles on a file or pipe.
-pub fn handles_on(monitor: &Monitor, object: u32) -> impl Iterator<Item = Held> + '_ {
+pub fn handles_on(monitor: &Monitor, object: u64) -> impl Iterator<Item = Held> + '_ {
     handles(monitor).filter(move |held| held.object() == object)
 }
 
@@ -70,26 +80,26 @@ pub fn level(monitor: &Monitor, thing: Thing) -> Option<u8> {
     }
 }
 
-pub fn is_file(monitor: &Monitor, object: u32) -> bool {
+pub fn is_file(monitor: &Monitor, object: u64) -> bool {
     monitor.object(object).is_some_and(|object| object.kind == Kind::File)
 }
 
-pub fn is_pipe(monitor: &Monitor, object: u32) -> bool {
+pub fn is_pipe(monitor: &Monitor, object: u64) -> bool {
     monitor.object(object).is_some_and(|object| object.kind == Kind::Pipe)
 }
 
 /// Whether a step has a file mapped (RULES C110).
-pub fn has_mapped(monitor: &Monitor, step: u32, object: u32) -> bool {
+pub fn has_mapped(monitor: &Monitor, step: u64, object: u64) -> bool {
     handles_of(monitor, step).any(|held| held.is_mapping() && held.object() == object)
 }
 
 /// The empty places of a step.
-pub fn empty_places(monitor: &Monitor, step: u32) -> impl Iterator<Item = u32> + '_ {
+pub fn empty_places(monitor: &Monitor, step: u64) -> impl Iterator<Item = u64> + '_ {
     (0..PLACES).filter(move |&place| monitor.handle(step, place).is_none())
 }
 
 /// RULES R15: whether a file can at present not be opened for writing, whoever asks.
-pub fn is_frozen(monitor: &Monitor, object: u32) -> bool {
+pub fn is_frozen(monitor: &Monitor, object: u64) -> bool {
     let level =
         monitor.object(object).filter(|object| object.kind == Kind::File).map(|object| object.level);
     matches!((monitor.frozen_from(), level), (Some(freeze), Some(level)) if level >= freeze)

@@ -7,8 +7,9 @@ mod flow;
 mod frozen;
 mod numbers;
 mod places;
+mod room;
 
-use gatekeeper::{Answer, Call, Monitor, Refusal, NO_FREEZE};
+use gatekeeper::{Answer, Call, Refusal, State as Monitor, NO_FREEZE};
 use gk_chain::is_nine_once_open;
 
 use crate::scene::{listed, Closing, Scene};
@@ -52,7 +53,7 @@ impl Counsel {
 }
 
 /// A level and those above it, to follow "level".
-pub fn or_above(level: u32) -> String {
+pub fn or_above(level: u64) -> String {
     if level >= HIGHEST {
         level.to_string()
     } else {
@@ -74,6 +75,7 @@ pub fn counsel(call: Call, refusal: Refusal, scene: Scene, closing: Option<Closi
         Refusal::StillOpen => closing::still_open(call, scene),
         Refusal::Frozen => frozen::counsel(call, scene),
         Refusal::SameSubject => numbers::same_step(call, scene),
+        Refusal::TooManyObjects => room::counsel(call, scene),
         _ => Counsel::default(),
     };
     if let (Call::OpenWrite { object, .. }, Some(closing)) = (call, closing) {
@@ -127,22 +129,22 @@ fn aim_after(monitor: &Monitor, first: &[Call], call: Call) -> Option<Vec<Call>>
 }
 
 /// The least level from which on, up to the highest, there are calls; and those of that level.
-fn from_level(calls_at: impl Fn(u32) -> Option<Vec<Call>>) -> Option<(u32, Vec<Call>)> {
+fn from_level(calls_at: impl Fn(u64) -> Option<Vec<Call>>) -> Option<(u64, Vec<Call>)> {
     (0..=HIGHEST).rev().map_while(|level| calls_at(level).map(|calls| (level, calls))).last()
 }
 
 /// The lowest level at which there are calls, the highest up to which there are at all between, and the calls of the
 /// lowest. Where these do not open the books, those between do not, either.
-fn between_levels(calls_at: impl Fn(u32) -> Option<Vec<Call>>) -> Option<(u32, u32, Vec<Call>)> {
+fn between_levels(calls_at: impl Fn(u64) -> Option<Vec<Call>>) -> Option<(u64, u64, Vec<Call>)> {
     let (low, calls) = (0..=HIGHEST).find_map(|level| calls_at(level).map(|calls| (level, calls)))?;
     let is_like =
-        |level: &u32| calls_at(*level).is_some_and(|others| opens_books(&others) == opens_books(&calls));
+        |level: &u64| calls_at(*level).is_some_and(|others| opens_books(&others) == opens_books(&calls));
     let high = (low..=HIGHEST).take_while(is_like).last()?;
     Some((low, high, calls))
 }
 
 /// These levels, and what a level means to who gives one.
-fn level_words(low: u32, high: u32) -> String {
+fn level_words(low: u64, high: u64) -> String {
     match (low, high) {
         (0, HIGHEST) => "at any level".to_string(),
         (_, HIGHEST) => format!("at level {}", or_above(low)),

@@ -3,10 +3,11 @@
 //! That a call is refused with 9 exactly where there is such a chain is proved (RULES R9), but that an open which
 //! offends the freeze as well is refused with 15 (RULES R117). Which chain it is, [`behind`] finds, and that is
 //! NOT PROVED. `gk explain` and the duty screen both show what it finds, so that they show the same; which
-//! refusals have one, [`chain_of`] says for both.
+//! refusals have one, [`chain_of`] says for both. They look at a monitor that is a struct, since its tables are read
+//! there without a call of the archive for each record.
 //!
 //! ```
-//! use gatekeeper::{Answer, Call, Monitor, Refusal};
+//! use gatekeeper::{Answer, Call, Monitor, Refusal, State};
 //! use gk_chain::{behind, Thing};
 //!
 //! let mut monitor = Monitor::new();
@@ -17,7 +18,7 @@
 //!
 //! let call = Call::OpenRead { subject: 0, object: 1, place: 1 };
 //! assert_eq!(monitor.call(call), Answer::Refused(Refusal::Flow));
-//! let chain = behind(&monitor, call.code(), call.numbers());
+//! let chain = behind(&State::from(&monitor), call.code(), call.numbers());
 //! let things: Vec<Thing> = chain.iter().map(|link| link.thing).collect();
 //! assert_eq!(things, [Thing::Object(1), Thing::Step(0), Thing::Object(0)]);
 //! # Ok::<(), Refusal>(())
@@ -25,16 +26,16 @@
 
 mod thing;
 
-use gatekeeper::{Answer, Kind, Monitor, Refusal, Way, NO_FREEZE, PLACES, SUBJECTS};
+use gatekeeper::{Answer, Call, Kind, Refusal, State, Way, NO_FREEZE, PLACES, SUBJECTS};
 
-pub use thing::{flow, Thing};
+pub use thing::{flow, Thing, Things};
 
 /// The codes of the calls that add a flow.
-const OPEN_READ: u32 = 5;
-const OPEN_WRITE: u32 = 6;
-const EXEC: u32 = 10;
-const MAP: u32 = 14;
-const CONNECT: u32 = 17;
+const OPEN_READ: u64 = 5;
+const OPEN_WRITE: u64 = 6;
+const EXEC: u64 = 10;
+const MAP: u64 = 14;
+const CONNECT: u64 = 17;
 
 /// A thing of a chain.
 #[derive(Clone, Copy, Debug, PartialEq, Eq)]
@@ -46,7 +47,7 @@ pub struct Link {
 }
 
 /// The flows that a call would add; none for a call that adds none.
-pub fn sought(code: u32, numbers: [u32; 6]) -> Vec<(Thing, Thing)> {
+pub fn sought(code: u64, numbers: [u64; 6]) -> Vec<(Thing, Thing)> {
     let [s, other, to, from, ..] = numbers;
     let (step, object) = (Thing::Step(s), Thing::Object(other));
     match code {
@@ -63,14 +64,15 @@ pub fn sought(code: u32, numbers: [u32; 6]) -> Vec<(Thing, Thing)> {
 
 /// Whether a call that is refused with 15 would be refused with 9 once the books are open: of the two, the freeze is
 /// said (RULES R117). It is asked of a copy of the monitor, and so the proved answer.
-pub fn is_nine_once_open(monitor: &Monitor, code: u32, numbers: [u32; 6]) -> bool {
+pub fn is_nine_once_open(monitor: &State, code: u64, numbers: [u64; 6]) -> bool {
     let mut open = monitor.clone();
-    open.freeze(NO_FREEZE).granted().is_ok() && open.direct(code, numbers) == Answer::Refused(Refusal::Flow)
+    open.call(Call::Freeze { level: NO_FREEZE }).granted().is_ok()
+        && open.direct(code, numbers) == Answer::Refused(Refusal::Flow)
 }
 
 /// The chain that is told of a refusal, in the monitor before the call: at a 9 the one behind it, at a 15 the one behind
 /// the 9 that comes once the books are open, where it does. Other refusals have none.
-pub fn chain_of(monitor: &Monitor, refusal: Refusal, code: u32, numbers: [u32; 6]) -> Vec<Link> {
+pub fn chain_of(monitor: &State, refusal: Refusal, code: u64, numbers: [u64; 6]) -> Vec<Link> {
     match refusal {
         Refusal::Flow => behind(monitor, code, numbers),
         Refusal::Frozen if is_nine_once_open(monitor, code, numbers) => behind(monitor, code, numbers),
@@ -79,28 +81,29 @@ pub fn chain_of(monitor: &Monitor, refusal: Refusal, code: u32, numbers: [u32; 6
 }
 
 /// The chain of flows that a call refused with 9 would have closed, from the low thing to the higher file, in
-/// the monitor before the call. It is empty where there is none, and where a number is out of range.
+/// the monitor before the call. It is empty where there is none, and where no step can have a number that the call names.
 ///
 /// It is the shortest; of several as short, the one from the lowest thing; of several such, the one whose
 /// things come first in their order. It starts at a thing that is there: a pipe that a connect would make is
 /// as low as the step that writes it. That of an exec starts at the file, since no other level is asked about
 /// (RULES R9).
-pub fn behind(monitor: &Monitor, code: u32, numbers: [u32; 6]) -> Vec<Link> {
+pub fn behind(monitor: &State, code: u64, numbers: [u64; 6]) -> Vec<Link> {
     let sought = sought(code, numbers);
-    let is_out_of_range = |thing: Thing| thing.index() >= Thing::COUNT;
-    if sought.is_empty() || sought.iter().any(|&(from, to)| is_out_of_range(from) || is_out_of_range(to)) {
+    let things = Things::of(monitor, &sought);
+    let is_there = |thing: Thing| things.place(thing).is_some();
+    if sought.is_empty() || !sought.iter().all(|&(from, to)| is_there(from) && is_there(to)) {
         return Vec::new();
     }
-    let links = links(monitor, code, numbers);
-    let next = next(monitor, code, numbers);
+    let links = links(monitor, code, numbers, &things);
+    let next = next(monitor, code, numbers, &things);
     let is_start = |thing: Thing| code != EXEC || thing == Thing::Object(numbers[1]);
-    let starts = Thing::all().filter_map(|thing| link(monitor, thing)).filter(|link| is_start(link.thing));
-    let chains = starts.filter_map(|start| way_up(start, &links, &next));
+    let starts = things.all().filter_map(|thing| link(monitor, thing)).filter(|link| is_start(link.thing));
+    let chains = starts.filter_map(|start| way_up(start, &links, &next, &things));
     chains.min_by_key(|chain| (chain.len(), chain[0].level)).unwrap_or_default()
 }
 
 /// A thing as it is before the call; none where it is not there.
-fn link(monitor: &Monitor, thing: Thing) -> Option<Link> {
+fn link(monitor: &State, thing: Thing) -> Option<Link> {
     match thing {
         Thing::Step(s) => monitor.subject(s).map(|level| Link { thing, kind: None, level }),
         Thing::Object(o) => {
@@ -109,24 +112,26 @@ fn link(monitor: &Monitor, thing: Thing) -> Option<Link> {
     }
 }
 
-/// All things that are there, by index, with the pipes that a connect would make: each has its writer's level
+/// All things that are there, by place, with the pipes that a connect would make: each has its writer's level
 /// (RULES C17).
-fn links(monitor: &Monitor, code: u32, numbers: [u32; 6]) -> Vec<Option<Link>> {
-    let mut links: Vec<Option<Link>> = Thing::all().map(|thing| link(monitor, thing)).collect();
+fn links(monitor: &State, code: u64, numbers: [u64; 6], things: &Things) -> Vec<Option<Link>> {
+    let mut links: Vec<Option<Link>> = things.all().map(|thing| link(monitor, thing)).collect();
     if code == CONNECT {
         let [s, peer, to, from, ..] = numbers;
         for (writer, pipe) in [(s, to), (peer, from)] {
             let thing = Thing::Object(pipe);
-            links[thing.index()] =
-                monitor.subject(writer).map(|level| Link { thing, kind: Some(Kind::Pipe), level });
+            if let Some(place) = things.place(thing) {
+                links[place] =
+                    monitor.subject(writer).map(|level| Link { thing, kind: Some(Kind::Pipe), level });
+            }
         }
     }
     links
 }
 
-/// For each thing, by index, to which things data could flow from it, with the flows that the call would add.
+/// For each thing, by place, to which things data could flow from it, with the flows that the call would add.
 /// An exec is asked without the step's own marked handles and mappings (RULES R110).
-fn next(monitor: &Monitor, code: u32, numbers: [u32; 6]) -> Vec<Vec<usize>> {
+fn next(monitor: &State, code: u64, numbers: [u64; 6], things: &Things) -> Vec<Vec<usize>> {
     let mut flows = sought(code, numbers);
     for s in 0..SUBJECTS {
         let is_exec = code == EXEC && s == numbers[0];
@@ -135,9 +140,11 @@ fn next(monitor: &Monitor, code: u32, numbers: [u32; 6]) -> Vec<Vec<usize>> {
         flows.extend(counted.map(|handle| flow(s, handle)));
     }
     flows.sort_unstable();
-    let mut next = vec![Vec::new(); Thing::COUNT];
+    let mut next = vec![Vec::new(); things.count()];
     for (from, to) in flows {
-        next[from.index()].push(to.index());
+        if let (Some(from), Some(to)) = (things.place(from), things.place(to)) {
+            next[from].push(to);
+        }
     }
     next
 }
@@ -145,20 +152,23 @@ fn next(monitor: &Monitor, code: u32, numbers: [u32; 6]) -> Vec<Vec<usize>> {
 /// The shortest way from a thing to a file of a higher level, the first of these in the order of things. It
 /// is looked for breadth first: where each thing's next ones are in order, ways that are as long are reached
 /// in theirs.
-fn way_up(start: Link, links: &[Option<Link>], next: &[Vec<usize>]) -> Option<Vec<Link>> {
-    // Each thing that was reached, with the place here of the one before it.
+fn way_up(start: Link, links: &[Option<Link>], next: &[Vec<usize>], things: &Things) -> Option<Vec<Link>> {
+    // Each thing that was reached, with its place, and the place here of the one before it.
+    let first = things.place(start.thing)?;
+    let mut places = vec![first];
     let mut reached = vec![(start, 0)];
-    let mut is_known = [false; Thing::COUNT];
-    is_known[start.thing.index()] = true;
+    let mut is_known = vec![false; links.len()];
+    is_known[first] = true;
     let mut at = 0;
     while let Some(&(here, _)) = reached.get(at) {
         if here.kind == Some(Kind::File) && here.level > start.level {
             return Some(way_to(at, &reached));
         }
-        for &index in &next[here.thing.index()] {
-            if let (Some(there), false) = (links[index], is_known[index]) {
-                is_known[index] = true;
+        for &place in &next[places[at]] {
+            if let (Some(there), false) = (links[place], is_known[place]) {
+                is_known[place] = true;
                 reached.push((there, at));
+                places.push(place);
             }
         }
         at += 1;
@@ -180,10 +190,11 @@ fn way_to(mut at: usize, reached: &[(Link, usize)]) -> Vec<Link> {
 #[cfg(test)]
 mod tests {
     use super::*;
+    use gatekeeper::Monitor;
     use Thing::{Object, Step};
 
-    fn found(monitor: &mut Monitor, code: u32, numbers: [u32; 6]) -> Vec<(Thing, u8)> {
-        let chain = behind(monitor, code, numbers);
+    fn found(monitor: &mut Monitor, code: u64, numbers: [u64; 6]) -> Vec<(Thing, u8)> {
+        let chain = behind(&State::from(&*monitor), code, numbers);
         assert_eq!(monitor.direct(code, numbers), Answer::Refused(Refusal::Flow));
         chain.iter().map(|link| (link.thing, link.level)).collect()
     }
@@ -224,7 +235,7 @@ mod tests {
             assert_eq!(monitor.direct(OPEN_WRITE, numbers), Answer::Refused(Refusal::Frozen));
         }
         let things = |numbers| -> Vec<Thing> {
-            let chain = chain_of(&monitor, Refusal::Frozen, OPEN_WRITE, numbers);
+            let chain = chain_of(&State::from(&monitor), Refusal::Frozen, OPEN_WRITE, numbers);
             chain.iter().map(|link| link.thing).collect()
         };
         assert_eq!(things(own), []);
@@ -232,11 +243,11 @@ mod tests {
         // It is the chain that the 9 has then.
         let mut open = monitor.clone();
         open.freeze(NO_FREEZE).granted()?;
-        let then = chain_of(&open, Refusal::Flow, OPEN_WRITE, low);
-        assert_eq!(chain_of(&monitor, Refusal::Frozen, OPEN_WRITE, low), then);
+        let then = chain_of(&State::from(&open), Refusal::Flow, OPEN_WRITE, low);
+        assert_eq!(chain_of(&State::from(&monitor), Refusal::Frozen, OPEN_WRITE, low), then);
         assert_eq!(open.direct(OPEN_WRITE, low), Answer::Refused(Refusal::Flow));
         // A refusal that says something else has none.
-        assert!(chain_of(&monitor, Refusal::PlaceUnfit, OPEN_WRITE, low).is_empty());
+        assert!(chain_of(&State::from(&monitor), Refusal::PlaceUnfit, OPEN_WRITE, low).is_empty());
         Ok(())
     }
 
@@ -244,7 +255,7 @@ mod tests {
     fn each_link_has_its_kind() -> Result<(), Refusal> {
         let mut monitor = book()?;
         monitor.admit(1, 5).granted()?;
-        let chain = behind(&monitor, CONNECT, [0, 1, 5, 6, 1, 2]);
+        let chain = behind(&State::from(&monitor), CONNECT, [0, 1, 5, 6, 1, 2]);
         let kinds: Vec<Option<Kind>> = chain.iter().map(|link| link.kind).collect();
         assert_eq!(kinds, [None, Some(Kind::Pipe), None, Some(Kind::File)]);
         Ok(())
@@ -257,7 +268,7 @@ mod tests {
         monitor.mark(0, 0).granted()?;
         assert_eq!(found(&mut monitor, EXEC, [0, 1, 0, 0, 0, 0]).len(), 3);
         monitor.mark(0, 3).granted()?;
-        assert!(behind(&monitor, EXEC, [0, 1, 0, 0, 0, 0]).is_empty());
+        assert!(behind(&State::from(&monitor), EXEC, [0, 1, 0, 0, 0, 0]).is_empty());
         assert_eq!(monitor.exec(0, 1), Answer::Lowered(2));
         Ok(())
     }
@@ -295,11 +306,24 @@ mod tests {
     }
 
     #[test]
-    fn numbers_out_of_range_are_no_chain() {
+    fn numbers_that_nothing_has_are_no_chain() {
         let monitor = Monitor::new();
         for code in 0..20 {
-            assert!(behind(&monitor, code, [u32::MAX; 6]).is_empty());
-            assert!(behind(&monitor, code, [64; 6]).is_empty());
+            assert!(behind(&State::from(&monitor), code, [u64::MAX; 6]).is_empty());
+            assert!(behind(&State::from(&monitor), code, [64; 6]).is_empty());
         }
+    }
+
+    #[test]
+    fn a_chain_has_any_numbers() -> Result<(), Refusal> {
+        let mut monitor = Monitor::new();
+        let (book, sheet) = (u64::MAX, 1 << 40);
+        monitor.admit(0, 9).granted()?;
+        monitor.register(book, 9).granted()?;
+        monitor.register(sheet, 2).granted()?;
+        monitor.open_write(0, book, 0).granted()?;
+        let up = [(Object(sheet), 2), (Step(0), 9), (Object(book), 9)];
+        assert_eq!(found(&mut monitor, OPEN_READ, [0, sheet, 1, 0, 0, 0]), up);
+        Ok(())
     }
 }

@@ -1,8 +1,10 @@
 //! Drawn calls: each that is refused with 9 has a chain, and it is the one that is to be chosen, which is
 //! told in another way here; and so has each that is refused with 15 and would be with 9 once the books are open.
 
-use gatekeeper::{Answer, Kind, Monitor, Refusal, Way, NO_FREEZE, OBJECTS, PLACES, SUBJECTS};
-use gk_chain::{behind, chain_of, flow, sought, Link, Thing};
+use gatekeeper::{
+    Answer, Call, Kind, Refusal, State as Monitor, Way, NO_FREEZE, OBJECTS, PLACES, SUBJECTS,
+};
+use gk_chain::{behind, chain_of, flow, sought, Link, Thing, Things};
 
 const RUNS: u64 = 500;
 const CALLS: usize = 600;
@@ -11,38 +13,47 @@ const CALLS: usize = 600;
 struct Draw(u64);
 
 impl Draw {
-    fn below(&mut self, limit: u32) -> u32 {
+    fn below(&mut self, limit: u64) -> u64 {
         self.0 = self.0.wrapping_add(0x9e37_79b9_7f4a_7c15);
         let mut mixed = self.0;
         mixed = (mixed ^ (mixed >> 30)).wrapping_mul(0xbf58_476d_1ce4_e5b9);
         mixed = (mixed ^ (mixed >> 27)).wrapping_mul(0x94d0_49bb_1331_11eb);
-        ((((mixed ^ (mixed >> 31)) >> 32) * u64::from(limit)) >> 32) as u32
+        (((mixed ^ (mixed >> 31)) >> 32) * limit) >> 32
     }
 
-    fn between(&mut self, low: u32, high: u32) -> u32 {
+    fn between(&mut self, low: u64, high: u64) -> u64 {
         low + self.below(high - low + 1)
     }
 }
 
 /// How many steps, files and pipes the calls of a run name.
 struct Size {
-    steps: u32,
-    objects: u32,
+    steps: u64,
+    objects: u64,
+    /// What numbers of files and pipes are multiples of: with a large one they are anywhere in 64 bits.
+    spread: u64,
+}
+
+impl Size {
+    fn object(&self, o: u64) -> u64 {
+        o.wrapping_mul(self.spread)
+    }
 }
 
 /// A call; most make handles, a few end them. What is to be new is so where that is possible.
-fn drawn(draw: &mut Draw, size: &Size, monitor: &Monitor) -> (u32, [u32; 6]) {
+fn drawn(draw: &mut Draw, size: &Size, monitor: &Monitor) -> (u64, [u64; 6]) {
     let codes = [1, 1, 2, 2, 4, 4, 5, 5, 6, 6, 9, 10, 14, 15, 17, 17, 17, 11, 3, 7, 8];
     let code = match draw.below(80) {
         0 => [12, 13][draw.below(2) as usize],
         1 | 2 => 16,
-        _ => codes[draw.below(codes.len() as u32) as usize],
+        _ => codes[draw.below(codes.len() as u64) as usize],
     };
     let (s, t) = (draw.below(size.steps), draw.below(size.steps));
-    let (o, p, level) = (draw.below(size.objects), draw.below(PLACES), draw.below(16));
-    let mut new = (0..size.objects).rev().filter(|&o| monitor.object(o).is_none());
+    let (o, p, level) = (size.object(draw.below(size.objects)), draw.below(PLACES), draw.below(16));
+    let objects = (0..size.objects).rev().map(|o| size.object(o));
+    let mut new = objects.filter(|&o| monitor.object(o).is_none());
     let (to, from) = (new.next().unwrap_or(o), new.next().unwrap_or(o));
-    let is_empty = |step: u32, place: u32| monitor.handle(step, place).is_none();
+    let is_empty = |step: u64, place: u64| monitor.handle(step, place).is_none();
     let mut empty = (0..PLACES).filter(|&place| is_empty(s, place) && (code != 17 || is_empty(t, place)));
     let (one, other) = (empty.next().unwrap_or(p), empty.next().unwrap_or(p));
     let numbers = match code {
@@ -64,19 +75,20 @@ fn drawn(draw: &mut Draw, size: &Size, monitor: &Monitor) -> (u32, [u32; 6]) {
 /// What a call refused with 9 met: the things that were there, those that it would make, and all flows with
 /// its own.
 struct Met {
+    things: Things,
     there: Vec<Link>,
     made: Vec<Link>,
     flows: Vec<(Thing, Thing)>,
 }
 
 impl Met {
-    fn of(monitor: &Monitor, code: u32, numbers: [u32; 6]) -> Met {
-        let step = |s: u32| Some(Link { thing: Thing::Step(s), kind: None, level: monitor.subject(s)? });
-        let object = |o: u32| {
-            let object = monitor.object(o)?;
-            Some(Link { thing: Thing::Object(o), kind: Some(object.kind), level: object.level })
-        };
-        let there = (0..SUBJECTS).filter_map(step).chain((0..OBJECTS).filter_map(object)).collect();
+    fn of(monitor: &Monitor, code: u64, numbers: [u64; 6]) -> Met {
+        let step = |s: u64| Some(Link { thing: Thing::Step(s), kind: None, level: monitor.subject(s)? });
+        let objects = monitor.objects().map(|(o, object)| {
+            let (thing, kind) = (Thing::Object(o), Some(object.kind));
+            Link { thing, kind, level: object.level }
+        });
+        let there = (0..SUBJECTS).filter_map(step).chain(objects).collect();
         let [s, peer, to, from, ..] = numbers;
         let made = match code {
             17 => [(s, to), (peer, from)]
@@ -98,7 +110,7 @@ impl Met {
                 }
             }
         }
-        Met { there, made, flows }
+        Met { things: Things::of(monitor, &flows), there, made, flows }
     }
 
     fn link(&self, thing: Thing) -> Link {
@@ -106,19 +118,25 @@ impl Met {
         *known.find(|link| link.thing == thing).expect("a flow joins things that are there or made")
     }
 
-    /// For each thing the fewest flows to a file above a level: what a flow leads to is one flow nearer.
-    fn distances(&self, level: u8) -> [Option<usize>; Thing::COUNT] {
-        let mut distances = [None; Thing::COUNT];
+    fn place(&self, thing: Thing) -> usize {
+        self.things.place(thing).expect("a thing that is there or made")
+    }
+
+    /// For each thing, by place, the fewest flows to a file above a level: what a flow leads to is one flow nearer.
+    fn distances(&self, level: u8) -> Vec<Option<usize>> {
+        let mut distances = vec![None; self.things.count()];
         for link in &self.there {
             if link.kind == Some(Kind::File) && link.level > level {
-                distances[link.thing.index()] = Some(0);
+                distances[self.place(link.thing)] = Some(0);
             }
         }
+        let flows: Vec<(usize, usize)> =
+            self.flows.iter().map(|&(from, to)| (self.place(from), self.place(to))).collect();
         loop {
-            let before = distances;
-            for &(from, to) in &self.flows {
-                if let Some(rest) = distances[to.index()] {
-                    let known = &mut distances[from.index()];
+            let before = distances.clone();
+            for &(from, to) in &flows {
+                if let Some(rest) = distances[to] {
+                    let known = &mut distances[from];
                     *known = Some(known.map_or(rest + 1, |known: usize| known.min(rest + 1)));
                 }
             }
@@ -130,7 +148,7 @@ impl Met {
 
     /// The chain that is to be chosen: at each thing the first of the next ones that are a flow nearer.
     fn chain(&self, starts: &[Link]) -> Vec<Link> {
-        let fewest = |link: &Link| self.distances(link.level)[link.thing.index()];
+        let fewest = |link: &Link| self.distances(link.level)[self.place(link.thing)];
         let known = starts.iter().filter_map(|link| Some((fewest(link)?, link.level, *link)));
         let Some((_, level, start)) =
             known.min_by_key(|&(fewest, level, link)| (fewest, level, link.thing))
@@ -141,13 +159,13 @@ impl Met {
         let mut chain = vec![start];
         loop {
             let here = chain[chain.len() - 1].thing;
-            let Some(rest) = distances[here.index()].filter(|&rest| rest > 0) else {
+            let Some(rest) = distances[self.place(here)].filter(|&rest| rest > 0) else {
                 return chain;
             };
             let nearer = self
                 .flows
                 .iter()
-                .filter(|(from, to)| *from == here && distances[to.index()] == Some(rest - 1));
+                .filter(|(from, to)| *from == here && distances[self.place(*to)] == Some(rest - 1));
             let first = nearer.map(|&(_, to)| to).min().expect("a flow leads nearer");
             chain.push(self.link(first));
         }
@@ -155,7 +173,7 @@ impl Met {
 }
 
 /// Sees that a call's chain is a chain, and the one that is to be chosen; says how long it is.
-fn holds(monitor: &Monitor, code: u32, numbers: [u32; 6]) -> usize {
+fn holds(monitor: &Monitor, code: u64, numbers: [u64; 6]) -> usize {
     let chain = behind(monitor, code, numbers);
     let met = Met::of(monitor, code, numbers);
     let (low, high) = (chain.first().expect("a chain"), chain.last().expect("a chain"));
@@ -174,12 +192,13 @@ fn holds(monitor: &Monitor, code: u32, numbers: [u32; 6]) -> usize {
 
 #[test]
 fn each_nine_has_its_chain_and_nothing_else_has_one() {
-    let (mut nines, mut lengths) = ([0; 18], [0; Thing::COUNT + 1]);
+    let (mut nines, mut lengths) = ([0; 18], [0; 97]);
     // Of the calls refused with 15: those that are then refused with 9, and those that are then let through.
     let mut fifteens = [0; 2];
     for run in 0..RUNS {
         let mut draw = Draw(run);
-        let size = Size { steps: draw.between(3, SUBJECTS), objects: draw.between(4, OBJECTS) };
+        let spread = if run % 2 == 0 { 1 } else { 0x9e37_79b9_7f4a_7c15 };
+        let size = Size { steps: draw.between(3, SUBJECTS), objects: draw.between(4, OBJECTS), spread };
         let mut monitor = Monitor::new();
         for _ in 0..CALLS {
             let (code, numbers) = drawn(&mut draw, &size, &monitor);
@@ -191,7 +210,7 @@ fn each_nine_has_its_chain_and_nothing_else_has_one() {
                 }
                 Answer::Refused(Refusal::Frozen) => {
                     let mut open = before.clone();
-                    open.freeze(NO_FREEZE).granted().expect("no freeze is a freeze");
+                    open.call(Call::Freeze { level: NO_FREEZE }).granted().expect("no freeze is a freeze");
                     let chain = chain_of(&before, Refusal::Frozen, code, numbers);
                     let is_nine = open.clone().direct(code, numbers) == Answer::Refused(Refusal::Flow);
                     if is_nine {

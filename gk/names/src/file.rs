@@ -117,7 +117,7 @@ mod tests {
     #[test]
     fn a_file_is_read_and_written() {
         let text =
-            "names 1\nstep 17 1 merge\nfile 1 1 the hours sheet of shop 3\nstep 17 204 sheet reader\n";
+            "names 1\nstep 17 1 merge\nfile 18446744073709551615 1 the hours sheet of shop 3\nstep 17 204 sheet reader\n";
         let names = Names::read(text.as_bytes()).unwrap();
         assert_eq!(names.text(), text);
         let other = "\u{feff}names 1\r\n# by hand\r\n\r\nstep 17 204 sheet reader\r\nstep 17 1 merge";
@@ -136,8 +136,8 @@ mod tests {
             ("names 1\nstep +1 1 a\n", 2),
             ("names 1\nstep 4294967296 1 a\n", 2),
             ("names 1\nstep 32 1 a\n", 2),
-            ("names 1\nstep 31 1 a\nfile 64 1 b\n", 3),
-            ("names 1\npipe 63 1 a\npipe 64 1 b\n", 3),
+            ("names 1\nstep 31 1 a\nfile 18446744073709551616 1 b\n", 3),
+            ("names 1\npipe 18446744073709551615 1 a\npipe 18,446 1 b\n", 3),
             ("names 1\nstep 1 0 a\n", 2),
             ("names 1\nstep 1 1\n", 2),
             ("names 1\n\nstep 1 1  a\n", 3),

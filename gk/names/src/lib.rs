@@ -12,9 +12,10 @@
 //! ```
 //!
 //! The first line is `names 1`. Each other line is empty, a comment (its first character is `#`), or a kind (`step`,
-//! `file` or `pipe`), a number (0 to 31 for a step, 0 to 63 for a file or pipe), the record from which on the name holds
-//! (from 1), and the name, with one space between two of them. The file is UTF-8, lines end in a line feed, with or without a carriage return. [`beside`]
-//! says where it stands: `run.names` beside `run.journal`.
+//! `file` or `pipe`), a number in decimal digits (0 to 31 for a step, 0 to 18446744073709551615 for a file or pipe), the
+//! record from which on the name holds (from 1), and the name, with one space between two of them. The file is UTF-8,
+//! lines end in a line feed, with or without a carriage return. [`beside`] says where it stands: `run.names` beside
+//! `run.journal`.
 //!
 //! What holds at a record:
 //!
@@ -34,6 +35,7 @@
 //! | give a name from a record on | [`Names::give`] with a [`Name`]: [`Name::new`], or [`Name::fitted`] for any text |
 //! | write the file | [`Names::text`] |
 //! | lose no file by it, and no word | [`files`]: what every command asks before it reads and writes |
+//! | write a long number so that it can be read | [`number`]: thousands apart |
 //!
 //! ```
 //! use gk_names::{Kind, Name, Names};
@@ -52,6 +54,7 @@
 mod file;
 pub mod files;
 mod name;
+pub mod number;
 
 use std::collections::BTreeMap;
 
@@ -84,10 +87,10 @@ impl Kind {
     }
 
     /// The highest number that a thing of this kind can have.
-    pub fn highest(self) -> u32 {
+    pub fn highest(self) -> u64 {
         match self {
             Kind::Step => 31,
-            Kind::File | Kind::Pipe => 63,
+            Kind::File | Kind::Pipe => u64::MAX,
         }
     }
 
@@ -95,7 +98,9 @@ impl Kind {
     pub fn numbers_words(self) -> &'static str {
         match self {
             Kind::Step => "a number behind the kind: steps have 0 to 31",
-            Kind::File | Kind::Pipe => "a number behind the kind: files and pipes have 0 to 63",
+            Kind::File | Kind::Pipe => {
+                "a number behind the kind: files and pipes have 0 to 18,446,744,073,709,551,615"
+            }
         }
     }
 
@@ -119,7 +124,7 @@ enum Numbers {
 #[derive(Clone, Debug, PartialEq, Eq)]
 pub struct Entry {
     pub kind: Kind,
-    pub number: u32,
+    pub number: u64,
     /// The position of the first record at which the name holds, from 1.
     pub from: u64,
     pub name: Name,
@@ -131,7 +136,7 @@ pub struct Names {
     /// As they were given.
     entries: Vec<Entry>,
     /// For each number the entries of it, rising by record, then as given.
-    by_number: BTreeMap<(Numbers, u32), Vec<usize>>,
+    by_number: BTreeMap<(Numbers, u64), Vec<usize>>,
     /// For each name the entries with it, likewise.
     by_name: BTreeMap<String, Vec<usize>>,
 }
@@ -155,7 +160,7 @@ impl Names {
     }
 
     /// Gives a name to a thing, from a record on.
-    pub fn give(&mut self, kind: Kind, number: u32, from: u64, name: Name) {
+    pub fn give(&mut self, kind: Kind, number: u64, from: u64, name: Name) {
         let index = self.entries.len();
         let of_number = self.by_number.entry((kind.numbers(), number)).or_default();
         let of_name = self.by_name.entry(name.as_str().to_string()).or_default();
@@ -167,22 +172,22 @@ impl Names {
     }
 
     /// What a thing is called at a record; none where it has no name, or the name there is for the other kind.
-    pub fn get(&self, kind: Kind, number: u32, at: u64) -> Option<&Name> {
+    pub fn get(&self, kind: Kind, number: u64, at: u64) -> Option<&Name> {
         self.entry(kind, number, at).map(|entry| &entry.name)
     }
 
     /// The entry behind [`Names::get`], for a reader who asks from which record on the name holds.
-    pub fn entry(&self, kind: Kind, number: u32, at: u64) -> Option<&Entry> {
+    pub fn entry(&self, kind: Kind, number: u64, at: u64) -> Option<&Entry> {
         self.of_number(kind.numbers(), number, at).filter(|entry| entry.kind == kind)
     }
 
     /// What a file or pipe is called at a record, where it is not known which of the two it is.
-    pub fn object(&self, number: u32, at: u64) -> Option<(Kind, &Name)> {
+    pub fn object(&self, number: u64, at: u64) -> Option<(Kind, &Name)> {
         self.of_number(Numbers::Objects, number, at).map(|entry| (entry.kind, &entry.name))
     }
 
     /// What a name stands for at a record.
-    pub fn find(&self, name: &str, at: u64) -> Option<(Kind, u32)> {
+    pub fn find(&self, name: &str, at: u64) -> Option<(Kind, u64)> {
         let index = self.last(self.by_name.get(name)?, at)?;
         let Entry { kind, number, .. } = self.entries[index];
         // The thing may have been given another name since.
@@ -197,7 +202,7 @@ impl Names {
         order.into_iter()
     }
 
-    fn of_number(&self, numbers: Numbers, number: u32, at: u64) -> Option<&Entry> {
+    fn of_number(&self, numbers: Numbers, number: u64, at: u64) -> Option<&Entry> {
         let index = self.last(self.by_number.get(&(numbers, number))?, at)?;
         let entry = &self.entries[index];
         // The name may have been given to another thing since.
@@ -219,7 +224,7 @@ mod tests {
         Name::new(text).unwrap()
     }
 
-    fn called(names: &Names, kind: Kind, number: u32, at: u64) -> Option<&str> {
+    fn called(names: &Names, kind: Kind, number: u64, at: u64) -> Option<&str> {
         names.get(kind, number, at).map(Name::as_str)
     }
 

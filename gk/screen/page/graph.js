@@ -14,10 +14,13 @@ const MOST_SPOTS = 120;
 /** Above so many flows, those of the things that the record is about stand out. */
 const MOST_FLOWS = 90;
 const MOST_LETTERS = 22;
+/** Digits of a number that fit into a thing; of a longer one the last ones stand there, and all of it on pointing. */
+const MOST_DIGITS = 4;
 const SVG = "http://www.w3.org/2000/svg";
 
 const RANK = new Array(THINGS).fill(THINGS);
 DATA.order.forEach((thing, rank) => { RANK[thing] = rank; });
+const NEAREST = new Map(pairs(DATA.nearest));
 
 /** An element of a drawing. */
 function drawn(tag, attributes, inner) {
@@ -91,7 +94,7 @@ class Layout {
   single(list) {
     const room = Math.floor(this.perLine / Math.max(1, list.length));
     const gap = Math.min(3, Math.max(1, room));
-    const wanted = list.map((thing, at) => [thing, this.beside(this.column.get(DATA.nearest[thing])) ?? at * gap]);
+    const wanted = list.map((thing, at) => [thing, this.beside(this.column.get(NEAREST.get(thing))) ?? at * gap]);
     wanted.sort((one, other) => one[1] - other[1] || RANK[one[0]] - RANK[other[0]]);
     let free = 0;
     const spots = wanted.map(([thing, column]) => {
@@ -209,6 +212,11 @@ function shapeOf(thing, kind) {
   return thing < STEPS ? "step" : kind === FILE ? "file" : "pipe";
 }
 
+/** A text of so many letters: a long one loses its front, as numbers tell by their ends. */
+function ended(text, most) {
+  return text.length > most ? `…${text.slice(1 - most)}` : text;
+}
+
 /** A thing's own group, made once, so that it can move. */
 function groupOf(key, thing, kind) {
   const shape = shapeOf(thing, kind);
@@ -218,7 +226,7 @@ function groupOf(key, thing, kind) {
     group = drawn("g", {});
     const [tag, attributes] = SHAPES[shape];
     group.append(drawn("title", {}), drawn(tag, { ...attributes, class: `shape ${shape}` }));
-    group.append(drawn("text", { y: 4 }, String(thing < STEPS ? thing : thing - STEPS)));
+    group.append(drawn("text", { y: 4 }, ended(numberOf(thing), MOST_DIGITS)));
     const nameAt = shape === "step" ? -18 : 26;
     group.append(drawn("text", { y: 25, class: "need" }), drawn("text", { y: nameAt, class: "name" }));
     group.dataset.shape = shape;
@@ -251,7 +259,7 @@ function drawThings(layout, placed, ghosts, state, said, chain, position) {
     group.style.transform = `translate(${spot.x}px, ${spot.y}px)`;
     const [title, , , need, name] = group.children;
     const isStep = thing < STEPS;
-    const plain = `${shapeOf(thing, kind)} ${isStep ? thing : thing - STEPS}`;
+    const plain = `${shapeOf(thing, kind)} ${numberOf(thing)}`;
     const own = nameOf(plain, position);
     const isGhost = classes.includes("ghost");
     const hasNeed = isStep && !isGhost;
@@ -261,7 +269,7 @@ function drawThings(layout, placed, ghosts, state, said, chain, position) {
     const isEnd = thing === said.chain[0]?.[0] || thing === said.chain.at(-1)?.[0];
     const isNamed = !isGhost && (spot.isWide || classes.includes("about") || isEnd);
     const short = own.length > MOST_LETTERS ? `${own.slice(0, MOST_LETTERS - 1)}…` : own;
-    const label = short || (spot.isWide ? plain : "");
+    const label = short || (spot.isWide ? ended(plain, MOST_LETTERS) : "");
     name.textContent = isNamed ? label : "";
     const half = label.length * 3.1;
     const pushed = Math.max(0, LABELS + half - spot.x) - Math.max(0, spot.x + half + 4 - layout.width);

@@ -4,8 +4,9 @@
 
 const STEPS = 32;
 const PLACES = 16;
-const THINGS = 96;
-const FREEZE = 96;
+/** Things are known by their place: the steps, one for the freeze, then the files and pipes by rising number. */
+const FREEZE = 32;
+const FIRST = 33;
 const NO_FREEZE = 16;
 /** The refusal of an open for writing while the books are closed. */
 const FROZEN = 15;
@@ -18,6 +19,12 @@ const EVERY = 256;
 
 const DATA = JSON.parse(document.getElementById("run").textContent);
 const RECORDS = DATA.records;
+/** The numbers of files and pipes are texts, so that none is rounded. */
+const OBJECTS = DATA.objects;
+const THINGS = FIRST + OBJECTS.length;
+/** Letters of a piece of what a record changed: a thing, and a handle. */
+const OF_THING = 4;
+const OF_HANDLE = 5;
 
 class State {
   constructor() {
@@ -25,7 +32,7 @@ class State {
     this.level = new Uint8Array(THINGS);
     this.need = new Uint8Array(THINGS);
     this.way = new Uint8Array(STEPS * PLACES);
-    this.object = new Uint8Array(STEPS * PLACES);
+    this.object = new Uint16Array(STEPS * PLACES);
     this.marked = new Uint8Array(STEPS * PLACES);
     this.freeze = NO_FREEZE;
   }
@@ -42,8 +49,8 @@ class State {
   /** Makes the changes of a record. */
   apply(changes) {
     const behind = changes.indexOf(".");
-    for (let at = 0; at < behind; at += 3) {
-      const number = unpacked(changes, at);
+    for (let at = 0; at < behind; at += OF_THING) {
+      const number = unpacked(changes, at, OF_THING);
       const [thing, stands] = [Math.floor(number / 768), number % 768];
       if (thing === FREEZE) {
         this.freeze = stands;
@@ -53,12 +60,12 @@ class State {
         this.need[thing] = stands & 15;
       }
     }
-    for (let at = behind + 1; behind >= 0 && at < changes.length; at += 3) {
-      const number = unpacked(changes, at);
-      const place = number >> 9;
-      this.way[place] = (number >> 7) & 3;
-      this.marked[place] = (number >> 6) & 1;
-      this.object[place] = number & 63;
+    for (let at = behind + 1; behind >= 0 && at < changes.length; at += OF_HANDLE) {
+      const number = unpacked(changes, at, OF_HANDLE);
+      const place = number & 511;
+      this.marked[place] = (number >> 9) & 1;
+      this.way[place] = (number >> 10) & 3;
+      this.object[place] = number >> 12;
     }
   }
 
@@ -67,7 +74,7 @@ class State {
     for (let place = 0; place < STEPS * PLACES; place += 1) {
       if (this.way[place] !== 0) {
         const step = Math.floor(place / PLACES);
-        visit(step, place % PLACES, this.way[place], STEPS + this.object[place], this.marked[place] === 1);
+        visit(step, place % PLACES, this.way[place], this.object[place], this.marked[place] === 1);
       }
     }
   }
@@ -79,8 +86,13 @@ for (let at = 0; at < 64; at += 1) {
   DIGIT[LETTERS.charCodeAt(at)] = at;
 }
 
-function unpacked(text, at) {
-  return (DIGIT[text.charCodeAt(at)] << 12) | (DIGIT[text.charCodeAt(at + 1)] << 6) | DIGIT[text.charCodeAt(at + 2)];
+/** The number of so many letters, six bits each. */
+function unpacked(text, at, letters) {
+  let number = 0;
+  for (let next = at; next < at + letters; next += 1) {
+    number = (number << 6) | DIGIT[text.charCodeAt(next)];
+  }
+  return number;
 }
 
 /** A record by its position, with the fields of its list named. */
@@ -113,8 +125,8 @@ const EVER = Array.from({ length: 16 }, () => new Set());
       if (letter === "R") {
         record(position).chain.forEach(([thing, level]) => EVER[level].add(thing));
       }
-      for (let at = 0; at < changes.indexOf("."); at += 3) {
-        const thing = Math.floor(unpacked(changes, at) / 768);
+      for (let at = 0; at < changes.indexOf("."); at += OF_THING) {
+        const thing = Math.floor(unpacked(changes, at, OF_THING) / 768);
         if (thing !== FREEZE && state.kind[thing] !== 0) {
           EVER[state.level[thing]].add(thing);
         }
@@ -194,12 +206,17 @@ function ranges(list) {
   return parts.map((part) => (part[0] === part[1] ? String(part[0]) : word(part))).join(", ");
 }
 
+/** The number of a thing, as a text. */
+function numberOf(thing) {
+  return thing < STEPS ? String(thing) : OBJECTS[thing - FIRST];
+}
+
 /** What a thing is called without its name. */
 function plainName(thing, state) {
   if (thing < STEPS) {
     return `step ${thing}`;
   }
-  return `${state.kind[thing] === FILE ? "file" : "pipe"} ${thing - STEPS}`;
+  return `${state.kind[thing] === FILE ? "file" : "pipe"} ${numberOf(thing)}`;
 }
 
 /** What a thing is called at a record. */

@@ -190,8 +190,10 @@ function showObjects(to, state, before) {
     side.set(thing, (side.get(thing) ?? new Set()).add(`${called(step, state, to)}${way === MAPS ? " (mapped)" : ""}`));
   });
   const list = (side, thing) => [...(side.get(thing) ?? ["–"])].join(", ");
-  for (let thing = STEPS; thing < THINGS; thing += 1) {
+  let live = 0;
+  for (let thing = FIRST; thing < THINGS; thing += 1) {
     if (state.kind[thing] !== 0) {
+      live += 1;
       const cells = [fellFrom(thing, state, before), list(writers, thing), list(readers, thing)];
       row(body, capital(called(thing, state, to)), cells, hasChanged(thing, state, before));
     }
@@ -199,6 +201,7 @@ function showObjects(to, state, before) {
   if (body.rows.length === 0) {
     row(body, "No file and no pipe", ["", "", ""], false);
   }
+  byId("live-objects").textContent = `${live} of ${DATA.most} live`;
 }
 
 // Going from record to record.

@@ -3,17 +3,18 @@
 
 use std::collections::BTreeMap;
 
-use gatekeeper::{Answer, Call, Monitor, NO_FREEZE};
+use gatekeeper::{Answer, Call, Refusal, State as Monitor, NO_FREEZE};
 use gk_advice::calls::{number_of, with_number};
 use gk_advice::run::{Content, Step};
 use gk_advice::things::{empty_places, HIGHEST};
+use gk_names::number::of_text;
 
 use crate::names::Names;
 use crate::told::Told;
 
 /// How often each kind of advice was followed, by the words it starts with.
 #[derive(Default)]
-pub struct Advised(BTreeMap<&'static str, u32>);
+pub struct Advised(BTreeMap<&'static str, u64>);
 
 impl Advised {
     /// Follows all that is advised at a record.
@@ -47,7 +48,7 @@ impl Advised {
 
     /// That a thing from outside is proposed no higher a level than it needs.
     fn is_lowest(&self, monitor: &Monitor, calls: &[Call], at: &str) {
-        let lower = |call: &Call, by: u32| {
+        let lower = |call: &Call, by: u64| {
             let level = number_of(*call, "level")
                 .filter(|_| matches!(call, Call::Admit { .. } | Call::Register { .. }));
             level.map_or(*call, |level| with_number(*call, "level", level - by))
@@ -86,6 +87,8 @@ impl Advised {
             ("open it", 20),
             ("a free number", 100),
             ("free a number", 20),
+            ("room", 20),
+            ("room and a number", 5),
             ("a level", 50),
             ("retire after", 20),
             ("exit and retire", 20),
@@ -107,12 +110,13 @@ fn is_allowed(monitor: &Monitor, calls: &[Call]) -> bool {
 }
 
 /// The numbers of a text, in their order.
-fn numbers(text: &str) -> Vec<u32> {
-    text.split(|letter: char| !letter.is_ascii_digit()).filter_map(|digits| digits.parse().ok()).collect()
+fn numbers(text: &str) -> Vec<u64> {
+    let words = text.split(|letter: char| !letter.is_ascii_digit() && letter != ',');
+    words.filter_map(|word| of_text(word.trim_matches(','))).collect()
 }
 
 /// The first number behind these words.
-fn behind(text: &str, words: &str) -> Option<u32> {
+fn behind(text: &str, words: &str) -> Option<u64> {
     numbers(text.split_once(words)?.1).first().copied()
 }
 
@@ -122,7 +126,7 @@ fn parts<'a>(text: &'a str, start: &str, at: &str) -> Option<(&'a str, &'a str)>
 }
 
 /// The handles of "place 1 (writing pipe 37) and places 2, 4 (writing file 0) of step 17, and place 3 (…) of step 18".
-fn handles(text: &str) -> Vec<(u32, u32)> {
+fn handles(text: &str) -> Vec<(u64, u64)> {
     let mut found = Vec::new();
     let mut rest = text;
     while let Some((places, more)) = rest.split_once(" of step ") {
@@ -141,14 +145,8 @@ fn closes(text: &str) -> Vec<Call> {
     handles(text).into_iter().map(|(subject, place)| Call::Close { subject, place }).collect()
 }
 
-/// The calls that make numbers free: the closes that a text names, and the files that it retires.
-fn frees(text: &str) -> Vec<Call> {
-    let retired = text.split("etire file ").skip(1).map(|part| Call::Retire { object: numbers(part)[0] });
-    closes(text).into_iter().chain(retired).collect()
-}
-
 /// The levels of "at level 12 or above", "at level 0 to 9", "at any level", or "at level 9", which is one.
-fn levels(text: &str) -> std::ops::RangeInclusive<u32> {
+fn levels(text: &str) -> std::ops::RangeInclusive<u64> {
     if text.contains("at any level") {
         return 0..=HIGHEST;
     }
@@ -163,12 +161,12 @@ type Lists = Vec<Vec<Call>>;
 
 /// What kind of advice a text is, and the lists of calls that it names.
 fn read(call: Call, text: &str, monitor: &Monitor) -> Option<(&'static str, Lists)> {
-    let found = changed(call, text).or_else(|| other_numbers(call, text, monitor));
+    let found = changed(call, text, monitor).or_else(|| other_numbers(call, text, monitor));
     found.or_else(|| other_calls(call, text, monitor))
 }
 
 /// Something is done first, and the call follows.
-fn changed(call: Call, text: &str) -> Option<(&'static str, Lists)> {
+fn changed(call: Call, text: &str, monitor: &Monitor) -> Option<(&'static str, Lists)> {
     let caller = call.numbers()[0];
     let then = |first: Vec<Call>| [first, vec![call]].concat();
     if let Some((list, _)) = parts(text, "Close ", "; retire it after that") {
@@ -183,9 +181,22 @@ fn changed(call: Call, text: &str) -> Option<(&'static str, Lists)> {
         let last = with_two(call, numbers(rest)[0], numbers(rest)[1]);
         return Some(("close and use", vec![closes.chain([last]).collect()]));
     }
-    if let Some((list, rest)) = text.split_once("; then use the numbers ") {
-        let last = with_number(with_number(call, "a", numbers(rest)[0]), "b", numbers(rest)[1]);
-        return Some(("free two numbers", vec![[frees(list), vec![last]].concat()]));
+    if let Some((list, rest)) = text.split_once("; then use ") {
+        let last = match (call, &numbers(rest)[..]) {
+            (Call::Connect { .. }, &[one, other]) => with_number(with_number(call, "a", one), "b", other),
+            (_, &[one]) => with_number(call, "o", one),
+            _ => panic!("no number: {text}"),
+        };
+        return Some(("room and a number", rooms(list, last)));
+    }
+    if let Some((list, _)) = text.split_once("; then register file ") {
+        let object = number_of(call, "o").expect("a file or pipe");
+        let lists = levels(text)
+            .map(|level| [rooms_first(list), vec![Call::Register { object, level }, call]].concat());
+        return Some(("room and register", lists.collect()));
+    }
+    if let (true, Some((list, _))) = (is_crowded(call, monitor), text.split_once("; ")) {
+        return Some(("room", rooms(list, call)));
     }
     if let Some((list, rest)) = parts(text, "Close ", "; ") {
         assert!(rest.contains(" after that"), "{text}");
@@ -203,7 +214,7 @@ fn changed(call: Call, text: &str) -> Option<(&'static str, Lists)> {
     }
     if let Some((list, _)) = parts(text, "Admit ", " first") {
         let admits =
-            |level: u32| numbers(list).into_iter().map(move |subject| Call::Admit { subject, level });
+            |level: u64| numbers(list).into_iter().map(move |subject| Call::Admit { subject, level });
         return Some(("admit first", levels(text).map(|level| then(admits(level).collect())).collect()));
     }
     if let Some((list, _)) = parts(text, "Register file ", " first") {
@@ -230,11 +241,39 @@ fn changed(call: Call, text: &str) -> Option<(&'static str, Lists)> {
             .map(|step| vec![Call::Exit { subject: step }, with_number(call, new_name(call), step)]);
         return Some(("free a number", lists.collect()));
     }
-    if let Some((list, number)) = parts(text, "All 64 numbers are in use: ", ", and use its number, ") {
-        let last = with_number(call, new_name(call), numbers(number)[0]);
-        return Some(("free a number", vec![[frees(list), vec![last]].concat()]));
-    }
     None
+}
+
+/// Whether a call is refused for want of room.
+fn is_crowded(call: Call, monitor: &Monitor) -> bool {
+    monitor.clone().call(call) == Answer::Refused(Refusal::TooManyObjects)
+}
+
+/// What makes room, and the call after it; of several files that nobody has open, each choice.
+fn rooms(text: &str, last: Call) -> Lists {
+    let retires = |files: &[u64]| -> Vec<Call> {
+        files.iter().map(|&object| Call::Retire { object }).chain([last]).collect()
+    };
+    let named =
+        text.split("file ").skip(1).filter_map(|part| numbers(part).first().copied()).collect::<Vec<u64>>();
+    if text.starts_with("Retire a file that ") {
+        return named.iter().map(|&file| retires(&[file])).collect();
+    }
+    if text.starts_with("Retire two files that ") {
+        let pairs = named.iter().flat_map(|&one| named.iter().map(move |&other| [one, other]));
+        return pairs.filter(|[one, other]| one != other).map(|pair| retires(&pair)).collect();
+    }
+    vec![[rooms_first(text), vec![last]].concat()]
+}
+
+/// The closes that a text names, and then the files that it retires.
+fn rooms_first(text: &str) -> Vec<Call> {
+    // "Retire file 3 and file 5, which nobody has open" names two at once.
+    let retired = text.split("etire file ").skip(1).flat_map(|part| {
+        let part = part.split(", ").next().unwrap_or("");
+        part.split("and file ").map(|part| Call::Retire { object: numbers(part)[0] }).collect::<Vec<Call>>()
+    });
+    closes(text).into_iter().chain(retired).collect()
 }
 
 /// The call with other numbers, or by another step.
@@ -328,7 +367,7 @@ fn other_calls(call: Call, text: &str, monitor: &Monitor) -> Option<(&'static st
         return Some(("a pipe", vec![vec![pipe]]));
     }
     if text.starts_with("Open it for ") {
-        let object = monitor.handle(caller, call.numbers()[1])?.object.into();
+        let object = monitor.handle(caller, call.numbers()[1])?.object;
         let place = behind(text, "for example ")?;
         let open = match text.starts_with("Open it for reading") {
             true => Call::OpenRead { subject: caller, object, place },
@@ -361,7 +400,7 @@ fn new_name(call: Call) -> &'static str {
 }
 
 /// The call with two other places.
-fn with_two(call: Call, one: u32, other: u32) -> Call {
+fn with_two(call: Call, one: u64, other: u64) -> Call {
     let [first, second] = if matches!(call, Call::Pipe { .. }) { ["r", "w"] } else { ["p", "q"] };
     with_number(with_number(call, first, one), second, other)
 }

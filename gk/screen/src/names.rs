@@ -6,7 +6,7 @@
 
 use std::collections::BTreeMap;
 
-use crate::state::{State, Thing};
+use crate::state::{State, Thing, STEPS};
 
 const KINDS: [&str; 3] = ["step", "file", "pipe"];
 
@@ -17,14 +17,14 @@ type Given = Vec<(u64, Option<String>)>;
 #[derive(Clone, Debug, Default)]
 pub struct Names {
     /// For each kind and number the names that it has; none from where on it has lost one.
-    of: BTreeMap<(&'static str, u32), Given>,
+    of: BTreeMap<(&'static str, u64), Given>,
     /// The record at which the last thing of a number went.
     went: BTreeMap<Thing, u64>,
 }
 
 impl Names {
     /// What a thing is called at a record.
-    pub fn name(&self, kind: &str, n: u32, record: u64) -> Option<&str> {
+    pub fn name(&self, kind: &str, n: u64, record: u64) -> Option<&str> {
         let kind = KINDS.into_iter().find(|known| *known == kind)?;
         let given = self.of.get(&(kind, n))?;
         let behind = given.partition_point(|(from, _)| *from <= record);
@@ -32,7 +32,7 @@ impl Names {
     }
 
     /// Every name with its kind, its number, and the record from which on it holds; none where a name is lost.
-    pub fn all(&self) -> impl Iterator<Item = (&'static str, u32, u64, Option<&str>)> {
+    pub fn all(&self) -> impl Iterator<Item = (&'static str, u64, u64, Option<&str>)> {
         self.of.iter().flat_map(|(&(kind, n), given)| {
             given.iter().map(move |(from, name)| (kind, n, *from, name.as_deref()))
         })
@@ -43,7 +43,8 @@ impl Names {
         if self.of.is_empty() {
             return;
         }
-        for thing in Thing::all() {
+        let objects = State::objects_of(before, after).into_iter().map(Thing::Object);
+        for thing in (0..STEPS).map(Thing::Step).chain(objects) {
             match (before.level(thing).is_some(), after.level(thing).is_some()) {
                 (true, false) => drop(self.went.insert(thing, record)),
                 (false, true) => {
@@ -57,7 +58,7 @@ impl Names {
     }
 
     fn renew(&mut self, thing: Thing, went: u64, record: u64) {
-        let (kinds, number): (&[&str], u32) = match thing {
+        let (kinds, number): (&[&str], u64) = match thing {
             Thing::Step(s) => (&KINDS[..1], s),
             Thing::Object(o) => (&KINDS[1..], o),
         };
@@ -72,7 +73,7 @@ impl Names {
     /// The names that the entries of a names file give.
     pub fn given(file: &gk_names::Names) -> Names {
         let mut names = Names::default();
-        let mut holders: BTreeMap<&str, (&'static str, u32)> = BTreeMap::new();
+        let mut holders: BTreeMap<&str, (&'static str, u64)> = BTreeMap::new();
         for entry in file.entries() {
             let (kind, number, from, name) =
                 (entry.kind.word(), entry.number, entry.from, entry.name.as_str());
@@ -92,7 +93,7 @@ impl Names {
     }
 
     /// Gives or takes a name from a record on, which is none before the last one.
-    fn set(&mut self, kind: &'static str, number: u32, from: u64, name: Option<String>) {
+    fn set(&mut self, kind: &'static str, number: u64, from: u64, name: Option<String>) {
         let given = self.of.entry((kind, number)).or_default();
         if given.last().is_some_and(|(record, _)| *record == from) {
             given.pop();
@@ -142,12 +143,12 @@ mod tests {
     fn a_name_goes_with_its_thing() {
         let mut names = read("names 1\nstep 1 1 hours\nstep 2 1 merge\nstep 2 9 reader\n");
         let mut monitor = gatekeeper::Monitor::new();
-        let mut follow = |record, call: fn(&mut gatekeeper::Monitor, u32) -> gatekeeper::Answer| {
-            let before = State::of(&monitor);
+        let mut follow = |record, call: fn(&mut gatekeeper::Monitor, u64) -> gatekeeper::Answer| {
+            let before = State::of(&gatekeeper::State::from(&monitor));
             for s in [1, 2] {
                 call(&mut monitor, s).granted().expect("it is allowed");
             }
-            names.follow(record, &before, &State::of(&monitor));
+            names.follow(record, &before, &State::of(&gatekeeper::State::from(&monitor)));
         };
         follow(3, |monitor, s| monitor.admit(s, 9));
         follow(8, |monitor, s| monitor.exit(s));

@@ -1,55 +1,64 @@
 //! In which order things stand in the graph: those that were joined longest beside each other, so that a chain of pipes
 //! is a line to look at.
 
-use crate::state::{flow, State, Thing, OBJECTS, STEPS};
+use std::collections::BTreeMap;
+
+use crate::state::{flow, State, Thing};
 
 /// What a refused flow weighs: as much as one that was open for so many records.
 const REFUSED: u64 = 20;
 
+/// How long a step and a file or pipe were joined.
+#[derive(Clone, Copy, Default)]
+struct Join {
+    /// Records for which data could go from the step to the object, and back.
+    open: [u64; 2],
+    /// What the refused flows between them weigh.
+    refused: u64,
+}
+
 /// How long each two things were joined.
+#[derive(Default)]
 pub struct Joins {
-    /// By step and object: records for which data could go from the step to the object, and back.
-    weights: Vec<[u64; 2]>,
-    /// Likewise: how often a flow between them was refused.
-    refused: Vec<u64>,
+    /// By step and object.
+    joins: BTreeMap<(u64, u64), Join>,
     /// The record at which a thing was there first.
-    first: [u64; Thing::COUNT],
+    first: BTreeMap<Thing, u64>,
 }
 
 impl Joins {
     pub fn new() -> Joins {
-        let pairs = (STEPS * OBJECTS) as usize;
-        Joins { weights: vec![[0; 2]; pairs], refused: vec![0; pairs], first: [u64::MAX; Thing::COUNT] }
+        Joins::default()
     }
 
     /// A state that held for so many records, from one on.
     pub fn hold(&mut self, state: &State, from: u64, records: u64) {
         for (s, _, handle) in state.handles() {
             let (start, end) = flow(s, handle);
-            if let Some((at, back)) = pair(start, end) {
-                self.weights[at][back] += records;
+            if let Some((pair, back)) = pair(start, end) {
+                self.joins.entry(pair).or_default().open[back] += records;
             }
         }
         let steps = state.steps().map(|(s, _)| Thing::Step(s));
         for thing in steps.chain(state.objects().map(|(o, _)| Thing::Object(o))) {
-            let first = &mut self.first[thing.index()];
+            let first = self.first.entry(thing).or_insert(from);
             *first = from.min(*first);
         }
     }
 
     /// A flow that was refused.
     pub fn refuse(&mut self, from: Thing, to: Thing) {
-        if let Some((at, _)) = pair(from, to) {
-            self.refused[at] += REFUSED;
+        if let Some((pair, _)) = pair(from, to) {
+            self.joins.entry(pair).or_default().refused += REFUSED;
         }
     }
 
     /// Pairs that were joined, the longest first; with those that were refused, or without.
     fn pairs(&self, with_refused: bool) -> Vec<(Thing, Thing, u64)> {
         let mut pairs: Vec<(Thing, Thing, u64)> = Vec::new();
-        for (at, &[there, back]) in self.weights.iter().enumerate() {
-            let (s, o) = (Thing::Step(at as u32 / OBJECTS), Thing::Object(at as u32 % OBJECTS));
-            let refused = if with_refused { self.refused[at] } else { 0 };
+        for (&(s, o), join) in &self.joins {
+            let (s, o, [there, back]) = (Thing::Step(s), Thing::Object(o), join.open);
+            let refused = if with_refused { join.refused } else { 0 };
             if there + back + refused > 0 {
                 let (from, to) = if there >= back { (s, o) } else { (o, s) };
                 pairs.push((from, to, there + back + refused));
@@ -62,16 +71,15 @@ impl Joins {
     /// All things that were ever there, in the order of the graph.
     pub fn order(&self) -> Vec<Thing> {
         // Pairs are joined end to end, the longest first, to lines without a fork.
-        let mut line: Vec<usize> = (0..Thing::COUNT).collect();
-        let mut lines: Vec<Vec<Thing>> = Thing::all().map(|thing| vec![thing]).collect();
+        let mut line: BTreeMap<Thing, usize> = self.first.keys().copied().zip(0..).collect();
+        let mut lines: Vec<Vec<Thing>> = self.first.keys().map(|&thing| vec![thing]).collect();
         for (from, to, _) in self.pairs(false) {
-            let (one, other) = (line[from.index()], line[to.index()]);
-            if one == other {
+            let (Some(&one), Some(&other)) = (line.get(&from), line.get(&to)) else {
                 continue;
-            }
+            };
             let is_end =
                 |line: &[Thing], thing| line.first() == Some(&thing) || line.last() == Some(&thing);
-            if !is_end(&lines[one], from) || !is_end(&lines[other], to) {
+            if one == other || !is_end(&lines[one], from) || !is_end(&lines[other], to) {
                 continue;
             }
             let (mut front, mut back) =
@@ -83,13 +91,13 @@ impl Joins {
                 back.reverse();
             }
             front.append(&mut back);
-            for thing in &front {
-                line[thing.index()] = one;
+            for &thing in &front {
+                line.insert(thing, one);
             }
             lines[one] = front;
         }
-        let appeared = |things: &[Thing]| things.iter().map(|thing| self.first[thing.index()]).min();
-        lines.retain(|things| appeared(things).is_some_and(|first| first < u64::MAX));
+        let appeared = |things: &[Thing]| things.iter().filter_map(|thing| self.first.get(thing)).min();
+        lines.retain(|things| !things.is_empty());
         for things in &mut lines {
             if self.runs_back(things) {
                 things.reverse();
@@ -102,39 +110,34 @@ impl Joins {
     /// Whether more data goes against the order of a line than with it.
     fn runs_back(&self, things: &[Thing]) -> bool {
         let (mut with, mut against) = (0, 0);
-        for pair in things.windows(2) {
-            let (s, o, turned) = match (pair[0], pair[1]) {
-                (Thing::Step(s), Thing::Object(o)) => (s, o, false),
-                (Thing::Object(o), Thing::Step(s)) => (s, o, true),
-                _ => continue,
-            };
-            let [there, back] = self.weights[(OBJECTS * s + o) as usize];
-            let (along, contrary) = if turned { (back, there) } else { (there, back) };
-            with += along;
-            against += contrary;
+        for two in things.windows(2) {
+            if let Some((pair, back)) = pair(two[0], two[1]) {
+                let open = self.joins.get(&pair).map_or([0; 2], |join| join.open);
+                with += open[back];
+                against += open[1 - back];
+            }
         }
         against > with
     }
 
     /// For each thing the one that it was joined to longest.
-    pub fn nearest(&self) -> [Option<Thing>; Thing::COUNT] {
-        let mut nearest = [None; Thing::COUNT];
+    pub fn nearest(&self) -> BTreeMap<Thing, Thing> {
+        let mut nearest = BTreeMap::new();
         for (from, to, _) in self.pairs(true) {
-            nearest[from.index()].get_or_insert(to);
-            nearest[to.index()].get_or_insert(from);
+            nearest.entry(from).or_insert(to);
+            nearest.entry(to).or_insert(from);
         }
         nearest
     }
 }
 
-/// The place of a pair, and 1 where the flow is from the object to the step.
-fn pair(from: Thing, to: Thing) -> Option<(usize, usize)> {
-    let (s, o, back) = match (from, to) {
-        (Thing::Step(s), Thing::Object(o)) => (s, o, 0),
-        (Thing::Object(o), Thing::Step(s)) => (s, o, 1),
-        _ => return None,
-    };
-    (s < STEPS && o < OBJECTS).then_some(((OBJECTS * s + o) as usize, back))
+/// A pair as step and object, and 1 where the flow is from the object to the step.
+fn pair(from: Thing, to: Thing) -> Option<((u64, u64), usize)> {
+    match (from, to) {
+        (Thing::Step(s), Thing::Object(o)) => Some(((s, o), 0)),
+        (Thing::Object(o), Thing::Step(s)) => Some(((s, o), 1)),
+        _ => None,
+    }
 }
 
 #[cfg(test)]
@@ -155,14 +158,14 @@ mod tests {
         monitor.pipe(3, 0, 5, 6).granted()?;
         monitor.open_read(5, 0, 0).granted()?;
         let mut joins = Joins::new();
-        joins.hold(&State::of(&monitor), 1, 3);
+        joins.hold(&State::of(&gatekeeper::State::from(&monitor)), 1, 3);
         monitor.close(7, 0).granted()?;
         monitor.close(3, 5).granted()?;
         monitor.open_write(5, 9, 1).granted()?;
-        joins.hold(&State::of(&monitor), 4, 90);
+        joins.hold(&State::of(&gatekeeper::State::from(&monitor)), 4, 90);
         use Thing::{Object, Step};
         assert_eq!(joins.order(), [Step(7), Object(1), Step(3), Object(0), Step(5), Object(9)]);
-        assert_eq!(joins.nearest()[Object(9).index()], Some(Step(5)));
+        assert_eq!(joins.nearest().get(&Object(9)), Some(&Step(5)));
         Ok(())
     }
 }

@@ -4,8 +4,10 @@
 use std::collections::HashMap;
 use std::fmt::Write;
 
-use gatekeeper::{Kind, Refusal, Way, NO_FREEZE};
+use gatekeeper::{Call, Kind, Refusal, Way, NO_FREEZE};
+use gk_advice::records::{Body, Records};
 use gk_advice::run::{letter_and_value, Run, Step};
+use gk_names::number::shown;
 
 use crate::names::Names;
 use crate::order::Joins;
@@ -80,6 +82,7 @@ fn data(journal: &[u8], names: &gk_names::Names, at: Option<u64>) -> String {
     let mut names = Names::given(names);
     let mut words = Words::default();
     let mut joins = Joins::new();
+    let numbers = Numbers::of(journal);
     let mut records = String::new();
     let mut run = Run::new(journal);
     let mut state = State::of(run.monitor());
@@ -97,23 +100,28 @@ fn data(journal: &[u8], names: &gk_names::Names, at: Option<u64>) -> String {
         if !records.is_empty() {
             records.push_str(",\n");
         }
-        records.push_str(&record(&turn, &told, &changes(&before, &state), &mut words));
+        records.push_str(&record(&turn, &told, &changes(&before, &state, &numbers), &numbers, &mut words));
     }
     joins.hold(&state, since, 1);
     let end = run.monitor();
     let list = |things: Vec<String>| things.join(",");
-    let order = list(joins.order().into_iter().map(|thing| thing.index().to_string()).collect());
-    let nearest = joins.nearest().map(|thing| thing.map_or(-1, |thing| thing.index() as i32));
-    let nearest = list(nearest.iter().map(i32::to_string).collect());
+    let indices = |things: &[Thing]| -> Vec<String> {
+        things.iter().filter_map(|&thing| numbers.index(thing)).map(|at| at.to_string()).collect()
+    };
+    let order = list(indices(&joins.order()));
+    let nearest = joins.nearest().into_iter().map(|(thing, other)| indices(&[thing, other]));
+    let nearest = list(nearest.filter(|pair| pair.len() == 2).flatten().collect());
+    let objects = list(numbers.objects.iter().map(|&o| quoted(&shown(o))).collect());
     let refusals = list(Refusal::ALL.iter().map(|refusal| quoted(refusal.words())).collect());
     let names = names
         .all()
         .map(|(kind, n, from, name)| {
-            format!("[\"{kind}\",{n},{from},{}]", name.map_or("0".to_string(), quoted))
+            format!("[\"{kind}\",\"{}\",{from},{}]", shown(n), name.map_or("0".to_string(), quoted))
         })
         .collect();
     format!(
-        "{{\"at\":{},\"end\":[{},{},{}],\"order\":[{order}],\"nearest\":[{nearest}],\n\
+        "{{\"at\":{},\"end\":[{},{},{}],\"most\":{OBJECTS},\"objects\":[{objects}],\n\
+         \"order\":[{order}],\"nearest\":[{nearest}],\n\
          \"refusals\":[{refusals}],\n\"names\":[{}],\n\
          \"words\":[{}],\n\"records\":[\n{records}\n]}}",
         at.map_or(-1, |at| at as i64),
@@ -154,11 +162,12 @@ impl Words {
 
 /// A record: letter, value, code, changes, what is asked, why, ways out, notes on them, what changed, about whom, chain,
 /// flows sought.
-fn record(turn: &Step, told: &Told, changes: &str, words: &mut Words) -> String {
+fn record(turn: &Step, told: &Told, changes: &str, numbers: &Numbers, words: &mut Words) -> String {
     let (letter, value) = letter_and_value(turn.answer);
     let asked = words.phrase(&told.asked);
     let [why, ways, notes, changed] =
         [&told.why, &told.ways, &told.notes, &told.changed].map(|part| words.phrases(part));
+    let index = |thing: Thing| numbers.index(thing).map(|at| at.to_string());
     let about: Vec<String> = told.about.iter().filter_map(|&thing| index(thing)).collect();
     let mut fields = vec![format!(
         "\"{letter}\",{value},{},\"{changes}\",{asked},{why},{ways},{notes},{changed},[{}]",
@@ -166,9 +175,9 @@ fn record(turn: &Step, told: &Told, changes: &str, words: &mut Words) -> String 
         about.join(",")
     )];
     if !told.chain.is_empty() {
-        let links: Vec<String> =
-            told.chain.iter().map(|link| format!("{},{}", link.thing.index(), link.level)).collect();
-        fields.push(format!("[{}]", links.join(",")));
+        let links =
+            told.chain.iter().filter_map(|link| Some(format!("{},{}", index(link.thing)?, link.level)));
+        fields.push(format!("[{}]", links.collect::<Vec<_>>().join(",")));
         let sought =
             told.sought.iter().filter_map(|&(from, to)| Some(format!("{},{}", index(from)?, index(to)?)));
         fields.push(format!("[{}]", sought.collect::<Vec<_>>().join(",")));
@@ -176,16 +185,47 @@ fn record(turn: &Step, told: &Told, changes: &str, words: &mut Words) -> String 
     format!("[{}]", fields.join(","))
 }
 
-/// The number of a thing that can be.
-fn index(thing: Thing) -> Option<String> {
-    (thing.index() < Thing::COUNT).then(|| thing.index().to_string())
+/// The numbers of the files and pipes that a journal asks for, in rising order: nothing else can come to be there. The
+/// page has them as texts, once, and knows each thing by its place: the steps, then these.
+struct Numbers {
+    objects: Vec<u64>,
 }
 
-/// What stands where a thing's number would, for the freeze.
-const FREEZE: u32 = STEPS + OBJECTS;
+impl Numbers {
+    fn of(journal: &[u8]) -> Numbers {
+        let mut objects = Vec::new();
+        for record in Records::new(journal).flatten() {
+            match record.body {
+                Body::Call(
+                    Call::Register { object, .. } | Call::Create { object, .. } | Call::Pipe { object, .. },
+                ) => objects.push(object),
+                Body::Call(Call::Connect { to, from, .. }) => objects.extend([to, from]),
+                _ => {}
+            }
+        }
+        objects.sort_unstable();
+        objects.dedup();
+        Numbers { objects }
+    }
 
-/// What is different after a record, three letters a piece: first things and the freeze, then a dot, then handles.
-fn changes(before: &State, after: &State) -> String {
+    /// The place of a thing; none for one that never is there.
+    fn index(&self, thing: Thing) -> Option<u64> {
+        match thing {
+            Thing::Step(s) => (s < STEPS).then_some(s),
+            Thing::Object(o) => self.objects.binary_search(&o).ok().map(|at| STEPS + 1 + at as u64),
+        }
+    }
+}
+
+/// What stands where a thing's place would, for the freeze: between the steps and the others.
+const FREEZE: u64 = STEPS;
+
+/// Letters of a piece that is a thing, and of one that is a handle. A journal asks for fewer than 16,000 numbers.
+const OF_THING: u32 = 4;
+const OF_HANDLE: u32 = 5;
+
+/// What is different after a record, in pieces: first things and the freeze, then a dot, then handles.
+fn changes(before: &State, after: &State, numbers: &Numbers) -> String {
     let mut text = String::new();
     if before == after {
         return text;
@@ -193,20 +233,20 @@ fn changes(before: &State, after: &State) -> String {
     for s in 0..STEPS {
         if before.step(s) != after.step(s) {
             let stands = after.step(s).map_or(0, |step| standing(1, step.level, step.need));
-            packed(768 * s + stands, &mut text);
+            packed(768 * s + stands, OF_THING, &mut text);
         }
     }
-    for o in 0..OBJECTS {
+    for o in State::objects_of(before, after) {
         if before.object(o) != after.object(o) {
             let stands = after.object(o).map_or(0, |object| {
                 let kind = if object.kind == Kind::File { 1 } else { 2 };
                 standing(kind, object.level, object.need)
             });
-            packed(768 * (STEPS + o) + stands, &mut text);
+            packed(768 * numbers.index(Thing::Object(o)).unwrap_or(0) + stands, OF_THING, &mut text);
         }
     }
     if before.frozen_from != after.frozen_from {
-        packed(768 * FREEZE + after.frozen_from.map_or(NO_FREEZE, u32::from), &mut text);
+        packed(768 * FREEZE + after.frozen_from.map_or(NO_FREEZE, u64::from), OF_THING, &mut text);
     }
     text.push('.');
     for s in 0..STEPS {
@@ -218,9 +258,10 @@ fn changes(before: &State, after: &State) -> String {
                         Way::Writes => 2,
                         Way::Maps => 3,
                     };
-                    128 * way + 64 * u32::from(handle.marked) + u32::from(handle.object)
+                    let object = numbers.index(Thing::Object(handle.object)).unwrap_or(0);
+                    8 * object + 2 * way + u64::from(handle.marked)
                 });
-                packed(512 * (PLACES * s + p) + handle, &mut text);
+                packed(512 * handle + PLACES * s + p, OF_HANDLE, &mut text);
             }
         }
     }
@@ -228,15 +269,15 @@ fn changes(before: &State, after: &State) -> String {
 }
 
 /// Kind, level and need in one number below 768. From empty tables no level is above 15.
-fn standing(kind: u32, level: u8, need: u8) -> u32 {
-    256 * kind + 16 * u32::from(level.min(15)) + u32::from(need.min(15))
+fn standing(kind: u64, level: u8, need: u8) -> u64 {
+    256 * kind + 16 * u64::from(level.min(15)) + u64::from(need.min(15))
 }
 
-/// A number below 64 cubed as three letters.
-fn packed(number: u32, text: &mut String) {
+/// A number as so many letters, six bits each.
+fn packed(number: u64, letters: u32, text: &mut String) {
     const LETTERS: &[u8; 64] = b"ABCDEFGHIJKLMNOPQRSTUVWXYZabcdefghijklmnopqrstuvwxyz0123456789-_";
-    for shift in [12, 6, 0] {
-        text.push(char::from(LETTERS[(number >> shift) as usize % 64]));
+    for at in (0..letters).rev() {
+        text.push(char::from(LETTERS[(number >> (6 * at)) as usize % 64]));
     }
 }
 
@@ -313,24 +354,42 @@ mod tests {
     }
 
     #[test]
-    fn changes_are_packed_in_threes() -> Result<(), Refusal> {
-        let mut monitor = gatekeeper::Monitor::new();
+    fn changes_are_packed() -> Result<(), Refusal> {
+        let mut journal = Vec::new();
+        let mut monitor = gatekeeper::State::new();
         let empty = State::of(&monitor);
-        monitor.admit(31, 9).granted()?;
-        monitor.register(63, 9).granted()?;
-        monitor.open_write(31, 63, 15).granted()?;
-        monitor.freeze(9).granted()?;
-        let full = State::of(&monitor);
-        // Kind, level and need are 256 + 16 * 9 + 9; the handle is 512 * 511 + 128 * 2 + 63.
-        let things = [three(31, 409), three(95, 409), three(FREEZE, 9)].concat();
-        assert_eq!(changes(&empty, &full), format!("{things}._8_"));
-        assert_eq!(changes(&full, &full), "");
+        for call in [
+            Call::Admit { subject: 31, level: 9 },
+            Call::Register { object: u64::MAX, level: 9 },
+            Call::Register { object: 7, level: 20 },
+            Call::OpenWrite { subject: 31, object: u64::MAX, place: 15 },
+            Call::Freeze { level: 9 },
+        ] {
+            call.write_record(&mut journal);
+            let _ = monitor.call(call);
+        }
+        let (full, numbers) = (State::of(&monitor), Numbers::of(&journal));
+        assert_eq!(numbers.objects, [7, u64::MAX]);
+        // Kind, level and need are 256 + 16 * 9 + 9; the handle is 8 * 34 + 2 * 2, at the last place of all.
+        let things = [thing(31, 409), thing(34, 409), thing(FREEZE, 9)].concat();
+        let mut handle = String::new();
+        packed(512 * 276 + 511, OF_HANDLE, &mut handle);
+        assert_eq!(changes(&empty, &full, &numbers), format!("{things}.{handle}"));
+        assert_eq!(handle, "AAin_");
+        assert_eq!(changes(&full, &full, &numbers), "");
         Ok(())
     }
 
-    fn three(thing: u32, stands: u32) -> String {
+    fn thing(place: u64, stands: u64) -> String {
         let mut text = String::new();
-        packed(768 * thing + stands, &mut text);
+        packed(768 * place + stands, OF_THING, &mut text);
         text
+    }
+
+    /// The most numbers that a journal can ask for: connects, each with two that take two bytes.
+    #[test]
+    fn every_place_fits_into_its_letters() {
+        let most = 128 + gatekeeper::JOURNAL_BYTES as u64 / 5 + FREEZE;
+        assert!(768 * (most + 1) < 1 << (6 * OF_THING) && 512 * 8 * (most + 1) < 1 << (6 * OF_HANDLE));
     }
 }

@@ -6,6 +6,7 @@ use std::fmt::Write;
 
 use gatekeeper::Kind;
 use gk_advice::scene::capital;
+use gk_names::number::shown;
 
 use crate::names::Names;
 use crate::state::State;
@@ -14,14 +15,14 @@ use crate::state::State;
 #[derive(Clone, Debug, PartialEq, Eq)]
 pub enum Piece {
     Words(Cow<'static, str>),
-    Step(u32),
-    File(u32),
-    Pipe(u32),
+    Step(u64),
+    File(u64),
+    Pipe(u64),
     /// A number under which there is no file or pipe.
-    Either(u32),
+    Either(u64),
     Number(u64),
     /// Numbers that rise, written short: "1 to 4, 7".
-    List(Vec<u32>),
+    List(Vec<u64>),
 }
 
 /// A sentence.
@@ -34,9 +35,9 @@ impl From<&'static str> for Piece {
     }
 }
 
-impl From<u32> for Piece {
-    fn from(number: u32) -> Piece {
-        Piece::Number(number.into())
+impl From<u64> for Piece {
+    fn from(number: u64) -> Piece {
+        Piece::Number(number)
     }
 }
 
@@ -52,12 +53,6 @@ impl From<usize> for Piece {
     }
 }
 
-impl From<u64> for Piece {
-    fn from(number: u64) -> Piece {
-        Piece::Number(number)
-    }
-}
-
 /// A phrase of pieces: words, numbers, things.
 macro_rules! phrase {
     ($($piece:expr),* $(,)?) => { $crate::phrase::Phrase(vec![$($crate::phrase::Piece::from($piece)),*]) };
@@ -65,7 +60,7 @@ macro_rules! phrase {
 pub(crate) use phrase;
 
 /// A file or pipe as it is called in this state.
-pub fn object(o: u32, state: &State) -> Piece {
+pub fn object(o: u64, state: &State) -> Piece {
     match state.kind(o) {
         Some(Kind::File) => Piece::File(o),
         Some(Kind::Pipe) => Piece::Pipe(o),
@@ -122,14 +117,17 @@ impl Phrase {
         marks.collect()
     }
 
-    /// What stands at these marks, as a list of numbers and of lists of numbers.
+    /// What stands at these marks, as a list of numbers and of lists of numbers. The number of a thing is a text, so that
+    /// no script rounds it.
     pub fn numbers(&self) -> String {
         let numbers = self.0.iter().filter_map(|piece| match piece {
             Piece::Words(_) => None,
-            Piece::Step(n) | Piece::File(n) | Piece::Pipe(n) | Piece::Either(n) => Some(n.to_string()),
+            Piece::Step(n) | Piece::File(n) | Piece::Pipe(n) | Piece::Either(n) => {
+                Some(format!("\"{}\"", shown(*n)))
+            }
             Piece::Number(n) => Some(n.to_string()),
             Piece::List(list) => {
-                Some(format!("[{}]", list.iter().map(u32::to_string).collect::<Vec<_>>().join(",")))
+                Some(format!("[{}]", list.iter().map(u64::to_string).collect::<Vec<_>>().join(",")))
             }
         });
         numbers.collect::<Vec<_>>().join(",")
@@ -167,18 +165,19 @@ impl Phrase {
                 Piece::Pipe(n) => ("pipe", *n),
                 Piece::Either(n) => ("file or pipe", *n),
             };
-            let _ = match names.name(kind, n, record) {
-                Some(name) => write!(text, "{name} ({kind} {n})"),
-                None => write!(text, "{kind} {n}"),
-            };
+            let plain = format!("{kind} {}", shown(n));
+            match names.name(kind, n, record) {
+                Some(name) => text.push_str(&format!("{name} ({plain})")),
+                None => text.push_str(&plain),
+            }
         }
         text
     }
 }
 
 /// Rising numbers in short.
-pub fn ranges(list: &[u32]) -> String {
-    let mut parts: Vec<(u32, u32)> = Vec::new();
+pub fn ranges(list: &[u64]) -> String {
+    let mut parts: Vec<(u64, u64)> = Vec::new();
     for &n in list {
         match parts.last_mut() {
             Some((_, last)) if n == *last + 1 => *last = n,
@@ -204,12 +203,12 @@ mod tests {
             " opens ",
             Piece::File(1),
             " at ",
-            5u32,
+            5u64,
             ": ",
             Piece::List(vec![1, 2, 3, 7])
         ];
         assert_eq!(said.template(), "{s} opens {f} at {n}: {l}");
-        assert_eq!(said.numbers(), "3,1,5,[1,2,3,7]");
+        assert_eq!(said.numbers(), "\"3\",\"1\",5,[1,2,3,7]");
         assert_eq!(said.text(&Names::default(), 1), "Step 3 opens file 1 at 5: 1 to 3, 7");
     }
 
@@ -221,11 +220,23 @@ mod tests {
             ("7 of 9", "{n} of {n}", "7,9"),
             ("007 and 0, of 1234567890123456", "007 and {n}, of 1234567890123456", "0"),
             ("In/1.csv (file 18)", "In/{n}.csv (file {n})", "1,18"),
+            (
+                "file 18,446,744,073,709,551,615",
+                "file {n},{n},{n},073,{n},{n},{n}",
+                "18,446,744,709,551,615",
+            ),
         ] {
             let phrase = Phrase::of_text(text);
             assert_eq!((phrase.template().as_str(), phrase.numbers().as_str()), (template, numbers));
             assert_eq!(phrase.text(&Names::default(), 1), text);
         }
+    }
+
+    #[test]
+    fn a_thing_of_a_long_number_is_exact() {
+        let said = phrase![Piece::File(u64::MAX), " is gone."];
+        assert_eq!(said.numbers(), "\"18,446,744,073,709,551,615\"");
+        assert_eq!(said.text(&Names::default(), 1), "File 18,446,744,073,709,551,615 is gone.");
     }
 
     #[test]

@@ -1,8 +1,10 @@
 //! What a monitor's tables hold at one moment, all of it asked of the proved archive through the crate.
 
-use gatekeeper::{Handle, Kind, Monitor};
+use std::collections::BTreeMap;
 
-/// How many there can be of each.
+use gatekeeper::{Handle, Kind, State as Monitor};
+
+/// How many there can be of each; of files and pipes, at a time.
 pub use gatekeeper::{OBJECTS, PLACES, SUBJECTS as STEPS};
 pub use gk_chain::{flow, Thing};
 
@@ -26,7 +28,8 @@ pub struct Object {
 #[derive(Clone, Debug, PartialEq, Eq)]
 pub struct State {
     steps: [Option<Step>; STEPS as usize],
-    objects: [Option<Object>; OBJECTS as usize],
+    /// By number.
+    objects: BTreeMap<u64, Object>,
     handles: [Option<Handle>; (STEPS * PLACES) as usize],
     /// The level from which on files are frozen.
     pub frozen_from: Option<u8>,
@@ -41,9 +44,13 @@ impl State {
     }
 
     pub fn of(monitor: &Monitor) -> State {
+        let object = |o, object: gatekeeper::Object| {
+            let need = monitor.need_of_object(o)?;
+            Some((o, Object { kind: object.kind, level: object.level, need }))
+        };
         let mut state = State {
             steps: [None; STEPS as usize],
-            objects: [None; OBJECTS as usize],
+            objects: monitor.objects().filter_map(|(o, known)| object(o, known)).collect(),
             handles: [None; (STEPS * PLACES) as usize],
             frozen_from: monitor.frozen_from(),
             made: monitor.made(),
@@ -56,50 +63,53 @@ impl State {
                 state.handles[(PLACES * s + p) as usize] = monitor.handle(s, p);
             }
         }
-        for o in 0..OBJECTS {
-            let known = monitor.object(o).zip(monitor.need_of_object(o));
-            state.objects[o as usize] =
-                known.map(|(object, need)| Object { kind: object.kind, level: object.level, need });
-        }
         state
     }
 
-    pub fn step(&self, s: u32) -> Option<Step> {
+    pub fn step(&self, s: u64) -> Option<Step> {
         self.steps.get(s as usize).copied().flatten()
     }
 
-    pub fn object(&self, o: u32) -> Option<Object> {
-        self.objects.get(o as usize).copied().flatten()
+    pub fn object(&self, o: u64) -> Option<Object> {
+        self.objects.get(&o).copied()
     }
 
-    pub fn handle(&self, s: u32, p: u32) -> Option<Handle> {
+    pub fn handle(&self, s: u64, p: u64) -> Option<Handle> {
         let at = if p < PLACES { PLACES.checked_mul(s)?.checked_add(p)? } else { return None };
         self.handles.get(at as usize).copied().flatten()
     }
 
     /// The running steps, by number.
-    pub fn steps(&self) -> impl Iterator<Item = (u32, Step)> + '_ {
+    pub fn steps(&self) -> impl Iterator<Item = (u64, Step)> + '_ {
         (0..STEPS).filter_map(|s| Some((s, self.step(s)?)))
     }
 
     /// The files and pipes that are there, by number.
-    pub fn objects(&self) -> impl Iterator<Item = (u32, Object)> + '_ {
-        (0..OBJECTS).filter_map(|o| Some((o, self.object(o)?)))
+    pub fn objects(&self) -> impl Iterator<Item = (u64, Object)> + '_ {
+        self.objects.iter().map(|(&o, &object)| (o, object))
+    }
+
+    /// The numbers of the files and pipes that are there in one of two states, by number.
+    pub fn objects_of(before: &State, after: &State) -> Vec<u64> {
+        let mut objects: Vec<u64> = before.objects.keys().chain(after.objects.keys()).copied().collect();
+        objects.sort_unstable();
+        objects.dedup();
+        objects
     }
 
     /// Every handle with its step and place.
-    pub fn handles(&self) -> impl Iterator<Item = (u32, u32, Handle)> + '_ {
+    pub fn handles(&self) -> impl Iterator<Item = (u64, u64, Handle)> + '_ {
         (0..STEPS).flat_map(|s| self.held(s).map(move |(p, handle)| (s, p, handle)))
     }
 
     /// The handles of a step, by place.
-    pub fn held(&self, s: u32) -> impl Iterator<Item = (u32, Handle)> + '_ {
+    pub fn held(&self, s: u64) -> impl Iterator<Item = (u64, Handle)> + '_ {
         (0..PLACES).filter_map(move |p| Some((p, self.handle(s, p)?)))
     }
 
     /// The handles on a file or pipe, with step and place.
-    pub fn holders(&self, o: u32) -> impl Iterator<Item = (u32, u32, Handle)> + '_ {
-        self.handles().filter(move |(_, _, handle)| u32::from(handle.object) == o)
+    pub fn holders(&self, o: u64) -> impl Iterator<Item = (u64, u64, Handle)> + '_ {
+        self.handles().filter(move |(_, _, handle)| handle.object == o)
     }
 
     /// The level of a thing that is there.
@@ -110,7 +120,7 @@ impl State {
         }
     }
 
-    pub fn kind(&self, o: u32) -> Option<Kind> {
+    pub fn kind(&self, o: u64) -> Option<Kind> {
         self.object(o).map(|object| object.kind)
     }
 }

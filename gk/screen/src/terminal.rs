@@ -5,10 +5,11 @@ use std::collections::VecDeque;
 use gatekeeper::{Answer, Refusal, Way};
 use gk_advice::run::Step;
 use gk_chain::Link;
+use gk_names::number::shown;
 
 use crate::names::Names;
 use crate::phrase::{ranges, Phrase, Piece};
-use crate::state::{State, Thing};
+use crate::state::{State, Thing, OBJECTS};
 use crate::text::{fitted, width, wrapped, COLUMNS};
 use crate::told::{Memory, Told};
 
@@ -20,6 +21,9 @@ const MOST_LINKS: usize = 9;
 
 /// Columns of a name in a table.
 const NAME: usize = 20;
+
+/// Columns of a number in a table: what has up to eight digits.
+const NUMBER: usize = 10;
 
 /// What is on the screen: the state after the last record, that record, and the last refusals.
 pub struct Screen {
@@ -245,13 +249,13 @@ impl Screen {
         )
     }
 
-    fn name(&self, kind: &str, n: u32) -> String {
+    fn name(&self, kind: &str, n: u64) -> String {
         self.names.name(kind, n, self.position).unwrap_or("").to_string()
     }
 
     fn steps(&self) -> Vec<Line> {
         let state = &self.state;
-        let rows: Vec<(u32, String)> = state.steps().map(|(s, _)| (s, self.name("step", s))).collect();
+        let rows: Vec<(u64, String)> = state.steps().map(|(s, _)| (s, self.name("step", s))).collect();
         let names = name_columns(&rows);
         let head = format!("{} level  may fall to  holds", fitted("Steps", 3 + names.max(2)));
         let mut lines = vec![Line(Look::Plain, String::new()), Line(Look::Strong, head)];
@@ -264,13 +268,13 @@ impl Screen {
                         Way::Writes => "writes",
                         Way::Maps => "maps",
                     };
-                    let kind = if state.kind(handle.object.into()) == Some(gatekeeper::Kind::File) {
+                    let kind = if state.kind(handle.object) == Some(gatekeeper::Kind::File) {
                         "file"
                     } else {
                         "pipe"
                     };
                     let mark = if handle.marked { ", marked" } else { "" };
-                    format!("{p}: {way} {kind} {}{mark}", handle.object)
+                    format!("{p}: {way} {kind} {}{mark}", shown(handle.object))
                 })
                 .collect();
             let held = if held.is_empty() { "nothing".to_string() } else { held.join("; ") };
@@ -288,13 +292,21 @@ impl Screen {
     fn objects(&self) -> Vec<Line> {
         let state = &self.state;
         let kind = |o| if state.kind(o) == Some(gatekeeper::Kind::File) { "file" } else { "pipe" };
-        let rows: Vec<(u32, String)> = state.objects().map(|(o, _)| (o, self.name(kind(o), o))).collect();
+        let rows: Vec<(u64, String)> = state.objects().map(|(o, _)| (o, self.name(kind(o), o))).collect();
         let names = name_columns(&rows).max(8);
-        let head = format!("{} level  written by            read by", fitted("Files and pipes", 8 + names));
-        let mut lines = vec![Line(Look::Plain, String::new()), Line(Look::Strong, head)];
+        let columns = number_columns(&rows);
+        let head = fitted("Files and pipes", 6 + columns + names);
+        let head = format!("{head} level  written by            read by");
+        let live = format!("{} of {OBJECTS} live", rows.len());
+        let mut lines = vec![Line(Look::Plain, String::new())];
+        // The count stands at the end of the line, or where there is no room below it.
+        match COLUMNS.checked_sub(width(&head) + width(&live)).filter(|&gap| gap > 1) {
+            Some(gap) => lines.push(Line(Look::Strong, format!("{head}{}{live}", " ".repeat(gap)))),
+            None => lines.extend([Line(Look::Strong, head), Line(Look::Plain, live)]),
+        }
         for ((o, object), (_, name)) in state.objects().zip(&rows) {
             let who = |ways: &[Way]| {
-                let mut steps: Vec<u32> = state
+                let mut steps: Vec<u64> = state
                     .holders(o)
                     .filter(|(_, _, handle)| ways.contains(&handle.way))
                     .map(|(s, _, _)| s)
@@ -309,7 +321,15 @@ impl Screen {
                 (true, false) => format!("mapped by {mappers}"),
                 (false, false) => format!("{readers}; mapped by {mappers}"),
             };
-            let start = format!("{} {o:>2} {} {:>5}  ", kind(o), fitted(name, names), object.level);
+            let mut number = shown(o);
+            if width(&number) > columns {
+                // A long one stands alone, so that what is behind it keeps its columns.
+                lines.push(Line(Look::Plain, format!("{} {number}", kind(o))));
+                number = String::new();
+            }
+            let word = if number.is_empty() { "" } else { kind(o) };
+            let start =
+                format!("{word:4} {number:>columns$} {} {:>5}  ", fitted(name, names), object.level);
             let text = if width(&writers) <= 20 {
                 wrapped(
                     &format!("{start}{}  ", fitted(&or_none(writers), 20)),
@@ -330,8 +350,13 @@ impl Screen {
     }
 }
 
+/// Columns of the numbers of files and pipes: as many as the longest has that is not too long for a table.
+fn number_columns(rows: &[(u64, String)]) -> usize {
+    rows.iter().map(|&(o, _)| width(&shown(o))).filter(|&width| width <= NUMBER).max().unwrap_or(0).max(2)
+}
+
 /// Columns for names: none where there is none.
-fn name_columns(rows: &[(u32, String)]) -> usize {
+fn name_columns(rows: &[(u64, String)]) -> usize {
     rows.iter().map(|(_, name)| width(name)).max().unwrap_or(0).min(NAME)
 }
 

@@ -60,7 +60,7 @@ pub struct Memory {
     names: gk_names::Names,
     past: Past,
     /// For each file or pipe the last record that was refused its reading with 9, and the step that asked.
-    refused: HashMap<u32, (u64, u32)>,
+    refused: HashMap<u64, (u64, u64)>,
 }
 
 impl Memory {
@@ -102,9 +102,12 @@ impl Memory {
         };
         let (code, [s, b, ..]) = (call.code(), call.numbers());
         let o = match code {
-            5 | 10 | 14 => b,
-            7 => before.handle(s, b).map_or(u32::MAX, |handle| handle.object.into()),
-            _ => return Vec::new(),
+            5 | 10 | 14 => Some(b),
+            7 => before.handle(s, b).map(|handle| handle.object),
+            _ => None,
+        };
+        let Some(o) = o else {
+            return Vec::new();
         };
         let (Some(step), Some(low)) = (before.step(s), before.object(o)) else {
             return Vec::new();
@@ -174,7 +177,7 @@ fn about(content: Content, state: &State) -> Vec<Thing> {
     };
     let (code, [a, b, c, d, ..]) = (call.code(), call.numbers());
     let (step, object) = (Thing::Step, Thing::Object);
-    let at_place = || state.handle(a, b).map(|handle| object(handle.object.into()));
+    let at_place = || state.handle(a, b).map(|handle| object(handle.object));
     match code {
         1 | 12 => vec![step(a)],
         2 | 13 => vec![object(a)],

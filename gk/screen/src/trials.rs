@@ -13,7 +13,7 @@ use gk_names::Names;
 
 use crate::advised::Advised;
 use crate::page::page;
-use crate::state::{flow, State, Thing, OBJECTS, PLACES, STEPS};
+use crate::state::{flow, State, Thing, PLACES, STEPS};
 use crate::terminal::Screen;
 use crate::text::{width, COLUMNS};
 use crate::told::Memory;
@@ -36,17 +36,12 @@ fn journals() -> Vec<Vec<u8>> {
 fn agrees(state: &State, tables: &Tables) {
     let needs = Needs::of_tables(tables);
     for s in 0..STEPS {
-        let known = state.step(s).map(|step| (u32::from(step.level), u32::from(step.need)));
+        let known = state.step(s).map(|step| (u64::from(step.level), u64::from(step.need)));
         let other = tables.subject(s).map(|subject| (subject.level, needs.of(Other::Subject(s))));
         assert_eq!(known, other, "step {s}");
         for p in 0..PLACES {
             let known = state.handle(s, p).map(|handle| {
-                (
-                    u32::from(handle.object),
-                    handle.way == Way::Writes,
-                    handle.way == Way::Maps,
-                    handle.marked,
-                )
+                (handle.object, handle.way == Way::Writes, handle.way == Way::Maps, handle.marked)
             });
             let other = tables.handle(s, p).map(|handle| {
                 (handle.object, handle.direction == Direction::Writing, handle.mapped, handle.marked)
@@ -54,16 +49,18 @@ fn agrees(state: &State, tables: &Tables) {
             assert_eq!(known, other, "place {p} of step {s}");
         }
     }
-    for o in 0..OBJECTS {
+    let live: Vec<u64> = state.objects().map(|(o, _)| o).collect();
+    assert!(live.is_sorted() && live.iter().copied().eq(tables.live_objects()), "{live:?}");
+    for o in live {
         let known = state
             .object(o)
-            .map(|object| (object.kind == Kind::File, u32::from(object.level), u32::from(object.need)));
+            .map(|object| (object.kind == Kind::File, u64::from(object.level), u64::from(object.need)));
         let other = tables
             .object(o)
             .map(|object| (object.kind == OtherKind::File, object.level, needs.of(Other::Object(o))));
         assert_eq!(known, other, "file or pipe {o}");
     }
-    assert_eq!(state.frozen_from.map(u32::from), tables.frozen_from());
+    assert_eq!(state.frozen_from.map(u64::from), tables.frozen_from());
 }
 
 /// The tables are the independent program's, and every advice that is given is followed, by its calls and by its words
@@ -91,7 +88,7 @@ fn what_is_shown_is_so_and_what_is_advised_holds() {
             let is_nine = lines.ends_with(" R 9\n");
             let is_hidden = lines.ends_with(" R 15\n") && is_nine_once_open(other.monitor(), turn.content);
             assert_eq!(!told.chain.is_empty(), is_nine || is_hidden, "{}", turn.line());
-            hidden += u32::from(is_hidden);
+            hidden += u64::from(is_hidden);
             if let (Content::Call(call), [low, .., high]) = (turn.content, &told.chain[..]) {
                 is_a_way(
                     call.code(),
@@ -126,7 +123,7 @@ fn is_nine_once_open(monitor: &OtherMonitor, content: Content) -> bool {
 }
 
 /// Each link of a chain is a handle that is open or a flow that the call asks for, and one of these is among them.
-fn is_a_way(code: u32, numbers: [u32; 6], before: &State, things: &[Thing]) {
+fn is_a_way(code: u64, numbers: [u64; 6], before: &State, things: &[Thing]) {
     let sought = sought(code, numbers);
     let open: Vec<(Thing, Thing)> = before.handles().map(|(s, _, handle)| flow(s, handle)).collect();
     let links: Vec<(Thing, Thing)> = things.windows(2).map(|pair| (pair[0], pair[1])).collect();
@@ -214,4 +211,31 @@ fn a_fifteen_is_shown_with_the_nine_behind_it() {
     ] {
         rest = rest.split_once(part).unwrap_or_else(|| panic!("{part}: not in its place: {text}")).1;
     }
+}
+
+/// Any number is shown with all its digits, in rising order, and how many are live.
+#[test]
+fn long_numbers_are_shown_whole() {
+    let mut journal = Vec::new();
+    let numbers = [u64::MAX, 12_345_678, 5];
+    let registers = numbers.map(|object| Call::Register { object, level: 9 });
+    let mut step = vec![Call::Admit { subject: 3, level: 9 }];
+    step.extend((0..).zip(numbers).map(|(place, object)| Call::OpenRead { subject: 3, object, place }));
+    registers.iter().chain(&step).for_each(|call| call.write_record(&mut journal));
+    let mut screen = Screen::new("a journal".to_string(), Names::new(), State::empty());
+    Run::new(&journal).for_each(|turn| drop(screen.take(&turn)));
+    let text = screen.text(None, None, false, None);
+    fits(&text, usize::MAX);
+    let (_, table) = text.split_once("\nFiles and pipes ").expect("a table");
+    assert!(table.lines().next().is_some_and(|head| head.ends_with("3 of 64 live")), "{text}");
+    let rows: Vec<&str> = table.lines().skip(1).map(str::trim_end).collect();
+    assert!(rows[0].starts_with("file          5 ") && rows[0].ends_with(" 3"), "{text}");
+    assert!(rows[1].starts_with("file 12,345,678 ") && rows[1].ends_with(" 3"), "{text}");
+    assert_eq!(rows[2], "file 18,446,744,073,709,551,615");
+    assert!(rows[3].starts_with("                ") && rows[3].ends_with(" 3"), "{text}");
+    assert!(text.contains("0: reads file 18,446,744,073,709,551,615; 1: reads"), "{text}");
+    // The page has them as texts, and no script reads them as numbers.
+    let page = page(&journal, "a journal", &Names::new(), None);
+    let objects = "\"objects\":[\"5\",\"12,345,678\",\"18,446,744,073,709,551,615\"]";
+    assert!(page.contains(objects) && !page.contains("18446744073709551615"));
 }

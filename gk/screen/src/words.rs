@@ -3,14 +3,14 @@
 use gatekeeper::{Handle, Kind, Way};
 
 use crate::phrase::{object, phrase, Phrase, Piece};
-use crate::state::{State, OBJECTS, PLACES, STEPS};
+use crate::state::{State, PLACES, STEPS};
 
 /// Handles of one step that are named one by one.
 const MOST_HANDLES: usize = 4;
 
 /// What a handle does.
 fn does(handle: Handle, state: &State) -> Phrase {
-    let o = object(handle.object.into(), state);
+    let o = object(handle.object, state);
     match handle.way {
         Way::Reads => phrase!["reads ", o],
         Way::Writes => phrase!["writes ", o],
@@ -43,7 +43,8 @@ fn levels(before: &State, after: &State, said: &mut Vec<Phrase>) {
             falls.push((Piece::Step(s), old.level, new.level));
         }
     }
-    for o in 0..OBJECTS {
+    let objects = State::objects_of(before, after);
+    for &o in &objects {
         if let (Some(old), Some(new)) = (before.object(o), after.object(o)) {
             falls.push((object(o, after), old.level, new.level));
         }
@@ -66,7 +67,7 @@ fn levels(before: &State, after: &State, said: &mut Vec<Phrase>) {
             _ => {}
         }
     }
-    for o in 0..OBJECTS {
+    for o in objects {
         match (before.object(o), after.object(o)) {
             (None, Some(new)) if new.kind == Kind::File => {
                 said.push(phrase![Piece::File(o), " is new, at level ", new.level, " for good."]);
@@ -84,9 +85,9 @@ fn levels(before: &State, after: &State, said: &mut Vec<Phrase>) {
 }
 
 /// The handles of a step that came, went, or were marked.
-fn handles(s: u32, before: &State, after: &State, said: &mut Vec<Phrase>) {
-    let differs = |p: &u32| before.handle(s, *p) != after.handle(s, *p);
-    let places: Vec<u32> = (0..PLACES).filter(differs).collect();
+fn handles(s: u64, before: &State, after: &State, said: &mut Vec<Phrase>) {
+    let differs = |p: &u64| before.handle(s, *p) != after.handle(s, *p);
+    let places: Vec<u64> = (0..PLACES).filter(differs).collect();
     let step = || Piece::Step(s);
     if places.len() > MOST_HANDLES {
         let come = places.iter().filter(|&&p| before.handle(s, p).is_none()).count();
@@ -110,7 +111,7 @@ fn handles(s: u32, before: &State, after: &State, said: &mut Vec<Phrase>) {
                     Way::Writes => " no longer writes ",
                     Way::Maps => " no longer has mapped ",
                 };
-                let o = object(old.object.into(), before);
+                let o = object(old.object, before);
                 said.push(phrase![step(), way, o, "; place ", p, " is empty."]);
             }
             _ => said.push(phrase!["Place ", p, " of ", step(), " is marked: its next exec closes it."]),
@@ -127,9 +128,9 @@ fn needs(before: &State, after: &State, said: &mut Vec<Phrase>) {
                     new.need == need && if rises { old.need < need } else { old.need > need }
                 })
             });
-            steps.map(|(s, _)| s).collect::<Vec<u32>>()
+            steps.map(|(s, _)| s).collect::<Vec<u64>>()
         };
-        let who = |steps: Vec<u32>| match steps.as_slice() {
+        let who = |steps: Vec<u64>| match steps.as_slice() {
             [s] => phrase![Piece::Step(*s)],
             _ => phrase!["Steps ", Piece::List(steps)],
         };
@@ -150,7 +151,7 @@ mod tests {
     use gatekeeper::{Monitor, Refusal};
 
     fn told(before: &Monitor, after: &Monitor) -> Vec<String> {
-        let said = changed(&State::of(before), &State::of(after));
+        let said = changed(&State::of(&before.into()), &State::of(&after.into()));
         said.iter().map(|phrase| phrase.text(&Names::default(), 1)).collect()
     }
 

@@ -17,6 +17,7 @@ use gatekeeper_independent::records::Body;
 use gatekeeper_independent::replies::{Content, Run};
 use gatekeeper_independent::tables::{Direction, Kind, Tables};
 use gatekeeper_independent::variants::Rules;
+use gk_names::number::shown as in_words;
 
 const PROGRAM: &str = env!("CARGO_BIN_EXE_gk-screen");
 const MARCH: &str = concat!(env!("CARGO_MANIFEST_DIR"), "/../../crates/payrun/stdin");
@@ -37,6 +38,7 @@ const SAID: &str = "(() => {
     chain: isShown('chain-part') ? list('chain') : [], way: text('chain-title'),
     steps: table('steps'), objects: table('objects'), slider: document.getElementById('slider').value,
     things: document.querySelectorAll('#graph .thing:not(.ghost)').length,
+    objectCount: document.getElementById('live-objects').textContent,
     chained: document.querySelectorAll('#graph .edge.chain, #graph .edge.sought').length,
   };
 })()";
@@ -113,7 +115,7 @@ fn plain(head: &str) -> String {
 }
 
 /// A cell's number, the last one where it was another before: `12 → 2` is 2.
-fn number(cell: &str) -> u32 {
+fn number(cell: &str) -> u64 {
     cell.rsplit(' ')
         .next()
         .and_then(|number| number.parse().ok())
@@ -123,14 +125,14 @@ fn number(cell: &str) -> u32 {
 /// The page's tables beside those of the independent program.
 fn tables_agree(said: &Json, tables: &Tables) {
     let needs = Needs::of_tables(tables);
-    let shown: Vec<(String, u32, u32, usize)> = rows(said, "steps")
+    let shown: Vec<(String, u64, u64, usize)> = rows(said, "steps")
         .iter()
         .map(|row| {
             let held = if row[3] == "nothing" { 0 } else { row[3].split("; ").count() };
             (plain(row[0]), number(row[1]), number(row[2]), held)
         })
         .collect();
-    let there: Vec<(String, u32, u32, usize)> = tables
+    let there: Vec<(String, u64, u64, usize)> = tables
         .live_subjects()
         .map(|s| {
             let level = tables.subject(s).map_or(0, |subject| subject.level);
@@ -139,17 +141,17 @@ fn tables_agree(said: &Json, tables: &Tables) {
         .collect();
     assert_eq!(shown, there);
 
-    let shown: Vec<(String, u32, usize, usize)> = rows(said, "objects")
+    let shown: Vec<(String, u64, usize, usize)> = rows(said, "objects")
         .iter()
         .map(|row| (plain(row[0]), number(row[1]), count(row[2]), count(row[3])))
         .collect();
-    let there: Vec<(String, u32, usize, usize)> = tables
+    let there: Vec<(String, u64, usize, usize)> = tables
         .live_objects()
         .map(|o| {
             let object = tables.object(o).expect("it is live");
             let kind = if object.kind == Kind::File { "file" } else { "pipe" };
             let who = |direction, mapped| {
-                let mut steps: Vec<u32> = tables
+                let mut steps: Vec<u64> = tables
                     .handles()
                     .filter(|(_, _, held)| {
                         held.object == o && held.direction == direction && held.mapped == mapped
@@ -160,10 +162,12 @@ fn tables_agree(said: &Json, tables: &Tables) {
                 steps.len()
             };
             let readers = who(Direction::Reading, false) + who(Direction::Reading, true);
-            (format!("{kind} {o}"), object.level, who(Direction::Writing, false), readers)
+            (format!("{kind} {}", in_words(o)), object.level, who(Direction::Writing, false), readers)
         })
         .collect();
     assert_eq!(shown, there);
+    let live = format!("{} of 64 live", there.len());
+    assert_eq!(said.get("objectCount").text(), live);
     let things = tables.live_subjects().count() + tables.live_objects().count();
     assert_eq!(said.get("things").number(), Some(things as f64), "things in the graph");
     let is_closed = said.get("books").text().starts_with("Books closed");

@@ -154,7 +154,10 @@ fn names_and_titles_cannot_become_a_part_of_the_page() {
     // What is allowed in a name and means something elsewhere.
     let file = scratch.write("run.names", "names 1\nstep 0 1 R&D's 100% é 日本\n".as_bytes());
     let page = shown(&["--page", "--names", &file, MARCH], b"");
-    assert!(page.contains("[\"step\",0,1,\"R\\u0026D\\u0027s 100% \\u00e9 \\u65e5\\u672c\"]"), "{page}");
+    assert!(
+        page.contains("[\"step\",\"0\",1,\"R\\u0026D\\u0027s 100% \\u00e9 \\u65e5\\u672c\"]"),
+        "{page}"
+    );
 }
 
 #[test]

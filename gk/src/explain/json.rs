@@ -37,7 +37,7 @@ fn record(told: &Told) -> Object {
     let step = &told.step;
     let mut object = Object::default();
     object.number("record", step.position);
-    object.number("code", step.code.into());
+    object.number("code", step.code);
     match step.answer {
         Answer::Allowed(level) | Answer::Lowered(level) => {
             let is_lowered = matches!(step.answer, Answer::Lowered(_));
@@ -52,6 +52,8 @@ fn record(told: &Told) -> Object {
     }
     if let Content::Call(call) = step.content {
         call_fields(call, &told.names, &mut object);
+    } else {
+        object.digits(&[("code", step.code)]);
     }
     let said: Vec<String> =
         std::iter::once(&told.title).chain(&told.facts).map(|text| string(text)).collect();
@@ -79,11 +81,13 @@ fn call_fields(call: Call, names: &[(&'static str, String)], object: &mut Object
     };
     object.string("call", shape.word);
     object.string("words", &assembly_of(call));
+    let parts: Vec<(&str, u64)> = shape.numbers.iter().copied().zip(call.numbers()).collect();
     let mut numbers = Object::default();
-    for (key, number) in shape.numbers.iter().zip(call.numbers()) {
-        numbers.number(key, number.into());
+    for &(key, number) in &parts {
+        numbers.number(key, number);
     }
     object.raw("numbers", numbers.text());
+    object.digits(&parts);
     if !names.is_empty() {
         let mut named = Object::default();
         for (key, name) in names {
@@ -101,7 +105,8 @@ fn link_text(link: Link, name: &str) -> String {
     };
     let mut object = Object::default();
     object.string("kind", kind.word());
-    object.number("number", number.into());
+    object.number("number", number);
+    object.digits(&[("number", number)]);
     object.number("level", link.level.into());
     object.string("called", name);
     object.text()
@@ -114,6 +119,9 @@ fn way(advice: &Advice) -> String {
     object.raw("calls", list(&calls));
     object.text()
 }
+
+/// The highest number up to which every whole number is exact in JavaScript: 2 to the 53rd, less 1.
+const MOST_EXACT: u64 = (1 << 53) - 1;
 
 /// An object's fields in their order, each as JSON.
 #[derive(Default)]
@@ -132,6 +140,17 @@ impl Object {
 
     fn number(&mut self, key: &str, value: u64) {
         self.raw(key, value.to_string());
+    }
+
+    /// Those of some numbers that a reader with numbers of 53 bits would round, as strings.
+    fn digits(&mut self, numbers: &[(&str, u64)]) {
+        let mut long = Object::default();
+        for (key, number) in numbers.iter().filter(|(_, number)| *number > MOST_EXACT) {
+            long.string(key, &number.to_string());
+        }
+        if !long.fields.is_empty() {
+            self.raw("digits", long.text());
+        }
     }
 
     fn text(&self) -> String {
@@ -164,7 +183,17 @@ fn string(text: &str) -> String {
 
 #[cfg(test)]
 mod tests {
-    use super::string;
+    use super::{string, Object};
+
+    #[test]
+    fn what_would_be_rounded_is_there_as_digits() {
+        let mut object = Object::default();
+        object.digits(&[("s", 0), ("o", 9_007_199_254_740_991)]);
+        assert_eq!(object.text(), "{}");
+        object.digits(&[("s", 0), ("o", 9_007_199_254_740_992), ("a", u64::MAX)]);
+        let digits = r#"{"digits":{"o":"9007199254740992","a":"18446744073709551615"}}"#;
+        assert_eq!(object.text(), digits);
+    }
 
     #[test]
     fn strings_are_escaped() {

@@ -1,6 +1,6 @@
 //! What an allowed call has done, in sentences.
 
-use gatekeeper::{Call, Monitor, NO_FREEZE};
+use gatekeeper::{Call, State as Monitor, NO_FREEZE};
 
 use gk_advice::scene::{capital, listed, way_word, Closing, Scene};
 use gk_advice::things::{handles_of, has_mapped, level, objects, steps, Held, Thing};
@@ -47,7 +47,7 @@ pub fn outcome(call: Call, before: Scene, after: &Monitor, closing: Option<Closi
         Call::Read { subject, .. } => vec![fall(step(subject), before, after)],
         Call::Exec { subject, .. } => exec(subject, before, after),
         Call::Write { subject, place } => match before.monitor.handle(subject, place) {
-            Some(handle) => write(handle.object.into(), before, after),
+            Some(handle) => write(handle.object, before, after),
             None => Vec::new(),
         },
         Call::Fork { subject, child } => vec![fork(subject, child, now)],
@@ -71,7 +71,7 @@ pub fn outcome(call: Call, before: Scene, after: &Monitor, closing: Option<Closi
         Call::Mark { subject, place } => mark(subject, place, before),
         Call::Freeze { level } => freeze(level, closing),
         Call::Connect { subject, peer, to, from, reading, writing } => {
-            let way = |from: u32, to: u32, o: u32| {
+            let way = |from: u64, to: u64, o: u64| {
                 let pipe = now.leveled(object(o));
                 let (from, to) = (now.step(from), now.step(to));
                 format!("{from} writes {pipe} at place {writing}, and {to} reads it at place {reading}")
@@ -105,7 +105,7 @@ fn ended(before: Scene, after: &Monitor) -> String {
 }
 
 /// RULES C8, C111: who reads a mapped file after a write to it, in that order.
-fn write(object: u32, before: Scene, after: &Monitor) -> Vec<String> {
+fn write(object: u64, before: Scene, after: &Monitor) -> Vec<String> {
     let mut facts = vec![fall(Thing::Object(object), before, after)];
     let readers: Vec<String> = steps(before.monitor)
         .filter(|&s| has_mapped(before.monitor, s, object))
@@ -122,7 +122,7 @@ fn write(object: u32, before: Scene, after: &Monitor) -> Vec<String> {
     facts
 }
 
-fn fork(parent: u32, child: u32, now: Scene) -> String {
+fn fork(parent: u64, child: u64, now: Scene) -> String {
     let handles: Vec<Held> = handles_of(now.monitor, child).collect();
     let of = now.step(parent);
     let copies = match handles.len() {
@@ -143,7 +143,7 @@ fn fork(parent: u32, child: u32, now: Scene) -> String {
 }
 
 /// RULES C10: the marked handles and the mappings that an exec has closed, and the pipes that have ended so.
-fn exec(subject: u32, before: Scene, after: &Monitor) -> Vec<String> {
+fn exec(subject: u64, before: Scene, after: &Monitor) -> Vec<String> {
     let mut facts = vec![fall(Thing::Step(subject), before, after)];
     let closed: Vec<Held> = handles_of(before.monitor, subject)
         .filter(|held| after.handle(subject, held.place).is_none())
@@ -180,7 +180,7 @@ fn exec(subject: u32, before: Scene, after: &Monitor) -> Vec<String> {
 }
 
 /// RULES C14, C111: a map is a read at that moment, and one after each write to come.
-fn map(subject: u32, object: u32, place: u32, before: Scene, after: &Monitor) -> Vec<String> {
+fn map(subject: u64, object: u64, place: u64, before: Scene, after: &Monitor) -> Vec<String> {
     let who = before.step(subject);
     let (from, to) = (before.monitor.subject(subject).unwrap_or(0), after.subject(subject).unwrap_or(0));
     let change = match to < from {
@@ -203,7 +203,7 @@ fn map(subject: u32, object: u32, place: u32, before: Scene, after: &Monitor) ->
 }
 
 /// RULES C15, T35.
-fn mark(subject: u32, place: u32, before: Scene) -> Vec<String> {
+fn mark(subject: u64, place: u64, before: Scene) -> Vec<String> {
     let who = before.step(subject);
     let held = handles_of(before.monitor, subject).find(|held| held.place == place);
     vec![match held {
@@ -216,7 +216,7 @@ fn mark(subject: u32, place: u32, before: Scene) -> Vec<String> {
 }
 
 /// RULES C16.
-fn freeze(level: u32, closing: Option<Closing>) -> Vec<String> {
+fn freeze(level: u64, closing: Option<Closing>) -> Vec<String> {
     let before = closing.map(Closing::words);
     match (level, before) {
         (NO_FREEZE, None) => vec!["Books open, as they were: there was no freeze.".to_string()],

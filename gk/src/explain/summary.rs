@@ -13,7 +13,7 @@ use gk_advice::things::{Thing, PLACES, STEPS};
 
 /// The time of one step under its number.
 struct Stay {
-    number: u32,
+    number: u64,
     called: String,
     from: u64,
     until: Option<u64>,
@@ -24,9 +24,9 @@ struct Stay {
 
 /// A handle that was held.
 struct Hold {
-    place: u32,
+    place: u64,
     way: Way,
-    object: u8,
+    object: u64,
     called: String,
     from: u64,
     until: Option<u64>,
@@ -86,12 +86,12 @@ pub fn summary(journal: &[u8], names: &Names) -> Result<String, Differs> {
 }
 
 /// The stay of a step that is there.
-fn present(stays: &mut [Stay], number: u32) -> Option<&mut Stay> {
+fn present(stays: &mut [Stay], number: u64) -> Option<&mut Stay> {
     stays.iter_mut().rev().find(|stay| stay.number == number && stay.until.is_none())
 }
 
 /// A refusal in a line, and who asked.
-fn refused(step: &Step, before: Scene) -> (Option<u32>, String) {
+fn refused(step: &Step, before: Scene) -> (Option<u64>, String) {
     let refusal = step
         .refusal()
         .map_or(String::new(), |refusal| format!("{}, {}", refusal.number(), refusal.words()));
@@ -118,7 +118,7 @@ fn follow(step: &Step, after: Scene, stays: &mut Vec<Stay>) {
     let parts = shape_of_code(call.code()).into_iter().flat_map(|shape| shape.parts());
     let named = parts.zip(call.numbers()).filter(|((_, role), _)| *role == Role::Step);
     // A write to a mapped file can lower who has it mapped; else only the steps that the call names are concerned.
-    let concerned: Vec<u32> = match call {
+    let concerned: Vec<u64> = match call {
         Call::Write { .. } => (0..STEPS).collect(),
         _ => named.map(|(_, number)| number).collect(),
     };
@@ -127,7 +127,7 @@ fn follow(step: &Step, after: Scene, stays: &mut Vec<Stay>) {
     }
 }
 
-fn follow_step(number: u32, step: &Step, after: Scene, stays: &mut Vec<Stay>) {
+fn follow_step(number: u64, step: &Step, after: Scene, stays: &mut Vec<Stay>) {
     let position = step.position;
     let level = step.after.subject(number);
     if step.before.subject(number).is_none() {
@@ -172,7 +172,7 @@ fn follow_step(number: u32, step: &Step, after: Scene, stays: &mut Vec<Stay>) {
                 place,
                 way: handle.way,
                 object: handle.object,
-                called: after.whole(Thing::Object(handle.object.into())),
+                called: after.whole(Thing::Object(handle.object)),
                 from: position,
                 until: None,
             });

@@ -25,8 +25,8 @@ Then:
   gk explain pay.journal --refused
 
 TRACE is what strace -f -o TRACE has written, with or without -y; - or nothing is standard input. Each process
-becomes a step, each file and pipe gets a number, and the calls are written in their order. -y has strace write
-real paths, and -s 2 no more of what is read and written than two characters; less than 2 is not enough.
+becomes a step, each file and pipe has one number for the whole run, and the calls are written in their order. -y
+has strace write real paths, and -s 2 no more of what is read and written than two characters; less is not enough.
 
 A report goes to standard error: which calls were written, which of them the gatekeeper refuses, what was NOT SEEN
 and what was left out, with the first line of each kind.
@@ -173,7 +173,7 @@ fn sorted(arguments: &[String]) -> Result<Arguments, Failure> {
                 }
                 sorted.options.folder = Some(folder.into_bytes());
             }
-            "--start" => sorted.options.start = number(argument, &value()?, TOP.into())? as u32,
+            "--start" => sorted.options.start = number(argument, &value()?, TOP.into())? as u64,
             "--until" => sorted.until = Some(number(argument, &value()?, u64::MAX)?),
             "--all-files" => sorted.options.all_files = true,
             "--repeats" => sorted.options.repeats = true,

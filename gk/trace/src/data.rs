@@ -29,7 +29,7 @@ fn data_args(name: &str) -> Option<Args> {
 
 impl World<'_> {
     /// A read, a write or one of their kin that has come out well. Whether it was one.
-    pub fn moves_data(&mut self, step: u32, call: &Sys) -> Done<bool> {
+    pub fn moves_data(&mut self, step: u64, call: &Sys) -> Done<bool> {
         if call.args.iter().any(|arg| arg.contains("SCM_RIGHTS")) {
             self.left(Left::Passed);
         }
@@ -47,14 +47,14 @@ impl World<'_> {
     }
 
     /// vmsplice writes to a pipe's writing end, and reads from its reading end.
-    fn gives_memory(&mut self, step: u32, arg: &str) -> Done {
+    fn gives_memory(&mut self, step: u64, arg: &str) -> Done {
         let Some(found) = fd(arg) else { return Ok(()) };
         let is_write = self.step(step)?.table.get(&found.number).is_some_and(|own| own.writes.is_some());
         self.moves(step, found, if is_write { Way::Writes } else { Way::Reads })
     }
 
     /// Reads from, or writes to, a descriptor.
-    pub fn moves(&mut self, step: u32, fd: Fd, way: Way) -> Done {
+    pub fn moves(&mut self, step: u64, fd: Fd, way: Way) -> Done {
         match (self.end_for(step, fd, way)?, way) {
             (None, _) => Ok(()),
             (Some(end), Way::Writes) => self.write(step, end),
@@ -66,9 +66,9 @@ impl World<'_> {
     }
 
     /// Who has begun to write to a pipe that is read now has written to it.
-    fn show_writers(&mut self, object: u32) -> Done {
+    fn show_writers(&mut self, object: u64) -> Done {
         let begun = self.tasks.values().filter_map(|task| Some((task.step, task.pending.as_ref()?)));
-        let writes: Vec<(u32, End)> = begun
+        let writes: Vec<(u64, End)> = begun
             .flat_map(|(step, pending)| pending.moves.iter().map(move |next| (step, *next)))
             .filter_map(|(step, next)| match next {
                 Move::Write(end) if end.object == object => Some((step, end)),
@@ -85,7 +85,7 @@ impl World<'_> {
     }
 
     /// The handle behind a descriptor. What the run was started with is opened when strace -y says what it is.
-    pub fn end_for(&mut self, step: u32, fd: Fd, way: Way) -> Done<Option<End>> {
+    pub fn end_for(&mut self, step: u64, fd: Fd, way: Way) -> Done<Option<End>> {
         let unknown = || Descriptor::left(Left::Unknown, None);
         let own = self.step_mut(step)?.table.entry(fd.number).or_insert_with(unknown).clone();
         let end = own.end(way);
@@ -128,7 +128,7 @@ impl World<'_> {
     }
 
     /// Writes a read down: the first on a handle, and each that lowers the step.
-    pub fn read(&mut self, step: u32, end: End) -> Done {
+    pub fn read(&mut self, step: u64, end: End) -> Done {
         let lowers = self.journal.object_level(end.object) < self.journal.step_level(step);
         if self.is_worth(step, end, lowers)? {
             self.make(Call::Read { subject: step, place: end.place })?;
@@ -138,7 +138,7 @@ impl World<'_> {
     }
 
     /// Writes a write down: the first on a handle, and each that lowers a pipe.
-    pub fn write(&mut self, step: u32, end: End) -> Done {
+    pub fn write(&mut self, step: u64, end: End) -> Done {
         let is_pipe = self.journal.is_pipe(end.object);
         let lowers = is_pipe && self.journal.step_level(step) < self.journal.object_level(end.object);
         if self.is_worth(step, end, lowers)? {
@@ -147,7 +147,7 @@ impl World<'_> {
         self.tell(step, end, true)
     }
 
-    fn is_worth(&mut self, step: u32, end: End, lowers: bool) -> Done<bool> {
+    fn is_worth(&mut self, step: u64, end: End, lowers: bool) -> Done<bool> {
         let is_first = !std::mem::replace(&mut self.step_mut(step)?.used[end.place as usize], true);
         let is_worth = is_first || lowers || self.options.repeats;
         if !is_worth {
@@ -156,19 +156,19 @@ impl World<'_> {
         Ok(is_worth)
     }
 
-    fn tell(&mut self, step: u32, end: End, is_write: bool) -> Done {
+    fn tell(&mut self, step: u64, end: End, is_write: bool) -> Done {
         let program = self.step(step)?.program.clone();
         self.files.moved_data(end.object, &program, is_write);
         Ok(())
     }
 
     /// Who shares the step's memory has read what it has read.
-    pub fn peers_read(&mut self, step: u32, object: u32) -> Done {
+    pub fn peers_read(&mut self, step: u64, object: u64) -> Done {
         let memory = self.step(step)?.memory;
-        let is_peer = |(number, other): &(u32, &Option<Step>)| {
+        let is_peer = |(number, other): &(u64, &Option<Step>)| {
             *number != step && other.as_ref().is_some_and(|other| other.memory == memory)
         };
-        let peers: Vec<u32> = (0..).zip(&self.steps).filter(is_peer).map(|(number, _)| number).collect();
+        let peers: Vec<u64> = (0..).zip(&self.steps).filter(is_peer).map(|(number, _)| number).collect();
         for peer in peers {
             if self.journal.object_level(object) >= self.journal.step_level(peer) {
                 continue;
@@ -194,7 +194,7 @@ impl World<'_> {
     }
 
     /// What a call that has begun may do from now on.
-    pub fn moves_of(&self, step: u32, name: &str, args: &[&str]) -> Vec<Move> {
+    pub fn moves_of(&self, step: u64, name: &str, args: &[&str]) -> Vec<Move> {
         let Some((from, to)) = data_args(name) else { return Vec::new() };
         let own = |arg: Option<usize>| {
             let fd = fd(args.get(arg?)?)?;
@@ -208,7 +208,7 @@ impl World<'_> {
     /// Writes down what calls that have begun may have moved by now, as far as it lowers somebody.
     pub fn settle(&mut self) -> Done {
         loop {
-            let moves: Vec<(u32, Move)> = self
+            let moves: Vec<(u64, Move)> = self
                 .tasks
                 .values()
                 .filter_map(|task| Some((task.step, task.pending.as_ref()?)))
@@ -229,7 +229,7 @@ impl World<'_> {
     }
 
     /// Whether a handle is still there, and its use would lower the step or the pipe.
-    fn lowers(&self, step: u32, next: Move) -> bool {
+    fn lowers(&self, step: u64, next: Move) -> bool {
         let (end, is_read) = match next {
             Move::Read(end) => (end, true),
             Move::Write(end) => (end, false),
@@ -241,14 +241,14 @@ impl World<'_> {
     }
 
     /// Whether a handle is still there.
-    pub fn is_there(&self, step: u32, end: End, is_read: bool) -> bool {
-        self.journal.handle(step, end.place).is_some_and(|handle| {
-            u32::from(handle.object) == end.object && (handle.way == Way::Writes) != is_read
-        })
+    pub fn is_there(&self, step: u64, end: End, is_read: bool) -> bool {
+        self.journal
+            .handle(step, end.place)
+            .is_some_and(|handle| handle.object == end.object && (handle.way == Way::Writes) != is_read)
     }
 
     /// ioctl: a copy of one file to another, or a mark; other ones carry no contents of files.
-    pub fn controls(&mut self, step: u32, call: &Sys) -> Done {
+    pub fn controls(&mut self, step: u64, call: &Sys) -> Done {
         let command = call.arg(1);
         let Some(target) = fd(call.arg(0)) else { return Ok(()) };
         if command.contains("FICLONE") {

@@ -103,7 +103,7 @@ impl World<'_> {
     }
 
     /// A fork that has come out well.
-    fn forked(&mut self, process: u32, step: u32, call: &Sys, value: i64, child: Option<Child>) -> Done {
+    fn forked(&mut self, process: u32, step: u64, call: &Sys, value: i64, child: Option<Child>) -> Done {
         let Some(number) = u32::try_from(value).ok().filter(|&number| number > 0) else { return Ok(()) };
         let child = match child {
             Some(child) if child.is_bound => return Ok(()),
@@ -114,7 +114,7 @@ impl World<'_> {
     }
 
     /// A call that has come out well, with this number.
-    fn done(&mut self, process: u32, step: u32, call: &Sys, value: i64, pending: Option<&Pending>) -> Done {
+    fn done(&mut self, process: u32, step: u64, call: &Sys, value: i64, pending: Option<&Pending>) -> Done {
         let made = new_fd(call.outcome);
         match (call.name, made) {
             ("open" | "openat" | "openat2" | "creat", Some((number, text))) => {

@@ -1,7 +1,8 @@
 //! Files and pipes, and the numbers that they have in the journal.
 //!
-//! A file keeps its level, so that its number can be given to another file while nobody holds it; it is registered
-//! again at the same level when it is opened again.
+//! Each has a number of its own for the whole run, and none is used twice: they count up from 0. A file keeps its level,
+//! so that it can be retired while nobody holds it, where 64 are live; it is registered again, at the same level and
+//! under its number, when it is opened again.
 
 use std::collections::BTreeMap;
 
@@ -16,8 +17,9 @@ use crate::world::{Done, World, OBJECTS};
 pub struct File {
     /// The paths that it has; without one it goes with its last handle.
     keys: Vec<Key>,
-    pub level: u32,
-    number: Option<u32>,
+    pub level: u64,
+    /// The number that it has, from the first time on that it is asked for.
+    number: Option<u64>,
     /// When it was last asked for.
     asked: u64,
     /// Whether it has been made or opened for writing.
@@ -26,43 +28,39 @@ pub struct File {
 }
 
 pub struct Pipe {
-    number: u32,
+    number: u64,
     from: u64,
     line: u64,
     writer: Option<String>,
     reader: Option<String>,
 }
 
+/// What is live under a number.
 #[derive(Clone, Copy, PartialEq, Eq)]
-enum Slot {
-    Free,
+enum Live {
     File(usize),
     Pipe(usize),
 }
 
 /// A file under a number, from a record on.
 pub struct Seat {
-    object: u32,
+    object: u64,
     from: u64,
     path: String,
-    level: u32,
+    level: u64,
     /// Whether a line of the levels file names it, and not only `else`.
     is_named: bool,
 }
 
+#[derive(Default)]
 pub struct Files {
     seats: Vec<Seat>,
     files: Vec<File>,
     pipes: Vec<Pipe>,
     by_key: BTreeMap<Key, usize>,
-    slots: [Slot; OBJECTS as usize],
-}
-
-impl Default for Files {
-    fn default() -> Files {
-        let slots = [Slot::Free; OBJECTS as usize];
-        Files { seats: Vec::new(), files: Vec::new(), pipes: Vec::new(), by_key: BTreeMap::new(), slots }
-    }
+    live: BTreeMap<u64, Live>,
+    /// The number that was given last, and the next one.
+    next: u64,
 }
 
 impl Files {
@@ -79,15 +77,15 @@ impl Files {
     }
 
     /// The file under a number.
-    pub fn at(&self, object: u32) -> Option<usize> {
-        match self.slots.get(object as usize) {
-            Some(Slot::File(id)) => Some(*id),
+    pub fn at(&self, object: u64) -> Option<usize> {
+        match self.live.get(&object) {
+            Some(&Live::File(id)) => Some(id),
             _ => None,
         }
     }
 
     /// A new file, under a path or without one.
-    fn add(&mut self, key: Option<Key>, level: u32) -> usize {
+    fn add(&mut self, key: Option<Key>, level: u64) -> usize {
         let id = self.files.len();
         self.by_key.extend(key.iter().map(|key| (key.clone(), id)));
         let keys = key.into_iter().collect();
@@ -123,30 +121,38 @@ impl Files {
     }
 
     /// Whether what is under a number is a file without a path.
-    pub fn is_nameless(&self, object: u32) -> bool {
+    pub fn is_nameless(&self, object: u64) -> bool {
         self.at(object).is_some_and(|id| self.files[id].keys.is_empty())
     }
 
-    /// Says that a number is free.
-    pub fn free(&mut self, object: u32) {
-        if let Slot::File(id) = self.slots[object as usize] {
-            self.files[id].number = None;
-        }
-        self.slots[object as usize] = Slot::Free;
+    /// The numbers of what is live.
+    pub fn live(&self) -> Vec<u64> {
+        self.live.keys().copied().collect()
+    }
+
+    /// Says that what is under a number is no longer live.
+    pub fn free(&mut self, object: u64) {
+        self.live.remove(&object);
+    }
+
+    /// A number that nothing had before.
+    fn fresh(&mut self) -> u64 {
+        self.next += 1;
+        self.next - 1
     }
 
     /// What is under a number, as a message names it.
-    pub fn called(&self, object: u32) -> String {
-        match self.slots.get(object as usize) {
-            Some(&Slot::File(id)) => shown(self.files[id].name.as_bytes()),
-            Some(&Slot::Pipe(id)) => format!("the pipe of line {}", self.pipes[id].line),
-            _ => format!("number {object}"),
+    pub fn called(&self, object: u64) -> String {
+        match self.live.get(&object) {
+            Some(&Live::File(id)) => shown(self.files[id].name.as_bytes()),
+            Some(&Live::Pipe(id)) => format!("the pipe of line {}", self.pipes[id].line),
+            None => format!("number {object}"),
         }
     }
 
     /// Where the file under a number has its level from `else` alone at a record: that, and the line that is missing.
     /// `is_high` says that it takes nothing lower; then it is one that the run writes.
-    pub fn unlisted(&self, object: u32, record: u64, is_high: bool) -> Option<String> {
+    pub fn unlisted(&self, object: u64, record: u64, is_high: bool) -> Option<String> {
         let seat = self.seats.iter().rev().find(|seat| seat.object == object && seat.from <= record)?;
         if seat.is_named {
             return None;
@@ -166,8 +172,8 @@ impl Files {
     }
 
     /// Says that a step of this program has written to, or read, what is under a number.
-    pub fn moved_data(&mut self, object: u32, program: &str, is_write: bool) {
-        if let Slot::Pipe(id) = self.slots[object as usize] {
+    pub fn moved_data(&mut self, object: u64, program: &str, is_write: bool) {
+        if let Some(&Live::Pipe(id)) = self.live.get(&object) {
             let pipe = &mut self.pipes[id];
             let end = if is_write { &mut pipe.writer } else { &mut pipe.reader };
             end.get_or_insert_with(|| program.to_string());
@@ -241,7 +247,7 @@ impl World<'_> {
     }
 
     /// The file at a path, which has no number yet where it is new here. `is_made` says that the run makes it.
-    pub fn file_at(&mut self, step: u32, key: &[u8], level: Level, is_made: bool) -> Done<usize> {
+    pub fn file_at(&mut self, step: u64, key: &[u8], level: Level, is_made: bool) -> Done<usize> {
         if let Some(id) = self.files.find(key) {
             return Ok(id);
         }
@@ -262,43 +268,47 @@ impl World<'_> {
     }
 
     /// Makes an empty file at the step's level.
-    pub fn create(&mut self, step: u32, key: Option<Key>) -> Done<usize> {
+    pub fn create(&mut self, step: u64, key: Option<Key>) -> Done<usize> {
         let wanted = key.as_ref().map_or("a file without a name".to_string(), |key| shown(key));
-        let object = self.free_object(&wanted)?;
+        self.make_room(&wanted)?;
+        let object = self.files.fresh();
         let id = self.files.add(key, TOP);
         self.make(Call::Create { subject: step, object })?;
-        self.files.file_mut(id).level = u32::from(self.journal.object_level(object));
+        self.files.file_mut(id).level = u64::from(self.journal.object_level(object));
         self.files.file_mut(id).is_written = true;
         self.seat(id, object);
         Ok(id)
     }
 
     /// The number of a file, which is registered if need be.
-    pub fn object_of(&mut self, id: usize) -> Done<u32> {
+    pub fn object_of(&mut self, id: usize) -> Done<u64> {
         let now = self.tick();
         self.files.files[id].asked = now;
-        if let Some(object) = self.files.files[id].number {
+        let own = self.files.files[id].number;
+        if let Some(object) = own.filter(|object| self.files.live.contains_key(object)) {
             return Ok(object);
         }
         let wanted = self.files.files[id].keys.first().map_or(String::new(), |key| shown(key));
-        let object = self.free_object(&wanted)?;
+        self.make_room(&wanted)?;
+        let object = own.unwrap_or_else(|| self.files.fresh());
         self.make(Call::Register { object, level: self.files.files[id].level })?;
         self.seat(id, object);
         Ok(object)
     }
 
     /// Registers a file that has no path in the trace, as standard input.
-    pub fn register(&mut self, name: &str, level: u32) -> Done<u32> {
+    pub fn register(&mut self, name: &str, level: u64) -> Done<u64> {
         let id = self.files.add(Some(format!("<{name}>").into_bytes()), level);
         self.files.files[id].name = String::new();
-        let object = self.free_object(name)?;
+        self.make_room(name)?;
+        let object = self.files.fresh();
         self.make(Call::Register { object, level })?;
         self.seat(id, object);
         Ok(object)
     }
 
     /// Puts a file under a number, by the call just written.
-    fn seat(&mut self, id: usize, object: u32) {
+    fn seat(&mut self, id: usize, object: u64) {
         let from = self.journal.next() - 1;
         if let Some(key) = self.files.files[id].keys.first().cloned() {
             let is_named =
@@ -308,7 +318,7 @@ impl World<'_> {
         }
         let file = &mut self.files.files[id];
         file.number = Some(object);
-        self.files.slots[object as usize] = Slot::File(id);
+        self.files.live.insert(object, Live::File(id));
         if file.name.is_empty() {
             let text = match file.keys.first().map(Vec::as_slice) {
                 None => "a file without a name".to_string(),
@@ -324,37 +334,42 @@ impl World<'_> {
     }
 
     /// Puts a pipe under a number, by the call just written.
-    pub fn seat_pipe(&mut self, object: u32) {
+    pub fn seat_pipe(&mut self, object: u64) {
         let from = self.journal.next() - 1;
-        self.files.slots[object as usize] = Slot::Pipe(self.files.pipes.len());
+        self.files.live.insert(object, Live::Pipe(self.files.pipes.len()));
         self.files.pipes.push(Pipe { number: object, from, line: self.line, writer: None, reader: None });
     }
 
-    /// A number for a new file or pipe. Where all are taken, the file that nobody holds and that was asked for longest
-    /// ago gives up its own.
-    pub fn free_object(&mut self, wanted: &str) -> Done<u32> {
-        let slots = &self.files.slots;
-        if let Some(free) = slots.iter().position(|slot| *slot == Slot::Free) {
-            return Ok(free as u32);
+    /// A number for a new pipe, and room for it.
+    pub fn pipe_number(&mut self) -> Done<u64> {
+        self.make_room("a pipe")?;
+        Ok(self.files.fresh())
+    }
+
+    /// Sees that one more file or pipe can be live. Where 64 are, the file that nobody holds and that was asked for
+    /// longest ago is retired.
+    fn make_room(&mut self, wanted: &str) -> Done {
+        if self.files.live.len() < OBJECTS as usize {
+            return Ok(());
         }
-        let held: Vec<bool> = (0..OBJECTS).map(|object| self.journal.is_held(object)).collect();
-        let idle = self.files.slots.iter().enumerate().filter_map(|(object, slot)| match slot {
-            Slot::File(id) if !held[object] => Some((self.files.files[*id].asked, object as u32)),
+        let idle = self.files.live.iter().filter_map(|(&object, live)| match live {
+            Live::File(id) if !self.journal.is_held(object) => Some((self.files.files[*id].asked, object)),
             _ => None,
         });
         match idle.min() {
             Some((_, object)) => {
                 self.make(Call::Retire { object })?;
                 self.files.free(object);
-                Ok(object)
+                Ok(())
             }
             None => {
-                let files = self.files.slots.iter().filter(|slot| matches!(slot, Slot::File(_))).count();
+                let files = self.files.live.values().filter(|live| matches!(live, Live::File(_))).count();
                 let pipes = OBJECTS as usize - files;
                 self.stop(format!(
-                    "{wanted} would be the 65th file or pipe that is open at once, and the gatekeeper has numbers for \
-                     64 ({files} files and {pipes} pipes are open). Let the run open fewer files at once, or trace a \
-                     part of it (--until {}): a file that is left out is not seen",
+                    "{wanted} would be the 65th file or pipe that is open at once, and the gatekeeper has 64 live at a \
+                     time. A file that nobody has open would be retired to make room, and there is none: {files} files \
+                     and {pipes} pipes are open. Let the run open fewer files at once, or trace a part of it (--until \
+                     {}): a file that is left out is not seen",
                     self.line - 1
                 ))
             }

@@ -1,6 +1,6 @@
 //! The journal as it grows: each call is made on a proved monitor first, so that the answer is known.
 
-use gatekeeper::{Answer, Call, Handle, Kind, Monitor, Refusal, JOURNAL_BYTES};
+use gatekeeper::{Answer, Call, Handle, Kind, Refusal, State as Monitor, JOURNAL_BYTES};
 
 use crate::names::Names;
 use crate::report::Report;
@@ -53,30 +53,30 @@ impl Journal {
     }
 
     /// The level of a step; 0 where it is not there.
-    pub fn step_level(&self, step: u32) -> u8 {
+    pub fn step_level(&self, step: u64) -> u8 {
         self.monitor.subject(step).unwrap_or(0)
     }
 
     /// The level of a file or pipe; 15 where it is not there.
-    pub fn object_level(&self, object: u32) -> u8 {
+    pub fn object_level(&self, object: u64) -> u8 {
         self.monitor.object(object).map_or(15, |object| object.level)
     }
 
-    pub fn is_live(&self, object: u32) -> bool {
+    pub fn is_live(&self, object: u64) -> bool {
         self.monitor.object(object).is_some()
     }
 
-    pub fn is_pipe(&self, object: u32) -> bool {
+    pub fn is_pipe(&self, object: u64) -> bool {
         self.monitor.object(object).is_some_and(|object| object.kind == Kind::Pipe)
     }
 
     /// Whether any handle is on an object.
-    pub fn is_held(&self, object: u32) -> bool {
-        let is_on = |handle: Handle| u32::from(handle.object) == object;
+    pub fn is_held(&self, object: u64) -> bool {
+        let is_on = |handle: Handle| handle.object == object;
         (0..STEPS).any(|step| (0..PLACES).any(|place| self.handle(step, place).is_some_and(is_on)))
     }
 
-    pub fn handle(&self, step: u32, place: u32) -> Option<Handle> {
+    pub fn handle(&self, step: u64, place: u64) -> Option<Handle> {
         self.monitor.handle(step, place)
     }
 }

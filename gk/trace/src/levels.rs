@@ -10,14 +10,14 @@ use crate::glob::Glob;
 use crate::text::shown;
 
 /// The highest level.
-pub const TOP: u32 = 15;
+pub const TOP: u64 = 15;
 
 /// The longest levels file that is read, in bytes.
 pub const LONGEST_FILE: usize = 1 << 20;
 
 #[derive(Clone, Copy, Debug, PartialEq, Eq)]
 pub enum Level {
-    At(u32),
+    At(u64),
     /// That of the step which makes the file.
     Step,
     Out,
@@ -44,7 +44,7 @@ pub struct Found {
 pub struct Levels {
     rules: Vec<Rule>,
     other: Level,
-    standard: [Option<u32>; 3],
+    standard: [Option<u64>; 3],
 }
 
 #[derive(Debug)]
@@ -153,7 +153,7 @@ impl Levels {
     }
 
     /// The level that standard input (0), output (1) or error (2) of the run is given.
-    pub fn standard(&self, which: usize) -> Option<u32> {
+    pub fn standard(&self, which: usize) -> Option<u64> {
         self.standard.get(which).copied().flatten()
     }
 }

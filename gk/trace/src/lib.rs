@@ -42,8 +42,9 @@ mod text;
 mod world;
 
 pub use cli::main;
+pub use gk_names::number::grouped as counted;
 pub use levels::{Fault, Found, Level, Levels, LONGEST_FILE, TOP};
 pub use report::{Report, Verdict};
 pub use run::{journal_of, Failure, Written};
-pub use text::{counted, shown};
+pub use text::shown;
 pub use world::{Options, Stop};

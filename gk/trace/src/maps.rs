@@ -8,7 +8,7 @@ use crate::world::{Done, Mapping, World};
 
 impl World<'_> {
     /// mmap. One of a file is a map, and where the memory can be written through, an open for writing too.
-    pub fn maps(&mut self, step: u32, call: &Sys, address: u64) -> Done {
+    pub fn maps(&mut self, step: u64, call: &Sys, address: u64) -> Done {
         let flags = call.arg(3);
         let is_shared = has_flag(flags, "MAP_SHARED") || has_flag(flags, "MAP_SHARED_VALIDATE");
         let Some(found) = fd(call.arg(4)).filter(|_| !has_flag(flags, "MAP_ANONYMOUS")) else {
@@ -45,7 +45,7 @@ impl World<'_> {
     }
 
     /// The mapping of a file can be written through.
-    fn map_writes(&mut self, step: u32, object: u32) -> Done {
+    fn map_writes(&mut self, step: u64, object: u64) -> Done {
         self.note(Note::SharedMap);
         let writes = self.open(step, object, Way::Writes)?;
         if let Some(end) = writes {
@@ -61,7 +61,7 @@ impl World<'_> {
     }
 
     /// munmap: a mapping goes when nothing is left of it. What is unmapped in part stays.
-    pub fn unmaps(&mut self, step: u32, call: &Sys) -> Done {
+    pub fn unmaps(&mut self, step: u64, call: &Sys) -> Done {
         let (Some(start), Some(length)) = (whole_number(call.arg(0)), whole_number(call.arg(1))) else {
             return Ok(());
         };
@@ -87,7 +87,7 @@ impl World<'_> {
     }
 
     /// mremap: the mapping has another address.
-    pub fn remaps(&mut self, step: u32, call: &Sys) -> Done {
+    pub fn remaps(&mut self, step: u64, call: &Sys) -> Done {
         let (Some(old), Outcome::Done(new, _)) = (whole_number(call.arg(0)), call.outcome) else {
             return Ok(());
         };

@@ -12,7 +12,7 @@ use crate::world::{Descriptor, Done, Mapping, World, STEPS};
 
 impl World<'_> {
     /// unlink and unlinkat: the file is retired, at once or when its last handle goes.
-    pub fn unlinks(&mut self, step: u32, call: &Sys) -> Done {
+    pub fn unlinks(&mut self, step: u64, call: &Sys) -> Done {
         if call.name == "unlinkat" && has_flag(call.arg(2), "AT_REMOVEDIR") {
             self.left(Left::Attributes);
             return Ok(());
@@ -25,7 +25,7 @@ impl World<'_> {
     }
 
     /// The key of a path argument; where it is a link that the run made, the link itself.
-    fn named_itself(&mut self, step: u32, folder: &str, path: &str) -> Done<Key> {
+    fn named_itself(&mut self, step: u64, folder: &str, path: &str) -> Done<Key> {
         self.named(step, folder, path)?;
         let base = match fd(folder) {
             Some(fd) => {
@@ -38,7 +38,7 @@ impl World<'_> {
     }
 
     /// rename, renameat and renameat2.
-    pub fn renames(&mut self, step: u32, call: &Sys) -> Done {
+    pub fn renames(&mut self, step: u64, call: &Sys) -> Done {
         let (from, to) = match call.name {
             "rename" => (("AT_FDCWD", call.arg(0)), ("AT_FDCWD", call.arg(1))),
             _ => ((call.arg(0), call.arg(1)), (call.arg(2), call.arg(3))),
@@ -65,7 +65,7 @@ impl World<'_> {
         Ok(())
     }
 
-    fn rename_file(&mut self, step: u32, from: &[u8], to: &[u8]) -> Done {
+    fn rename_file(&mut self, step: u64, from: &[u8], to: &[u8]) -> Done {
         if !self.copies(step, from, to, Note::Moved)? {
             return Ok(());
         }
@@ -99,7 +99,7 @@ impl World<'_> {
 
     /// Where a file comes under a path of another level, that is a copy: see [`World::copies_to`]. Whether nothing was
     /// refused.
-    fn copies(&mut self, step: u32, from: &[u8], to: &[u8], note: Note) -> Done<bool> {
+    fn copies(&mut self, step: u64, from: &[u8], to: &[u8], note: Note) -> Done<bool> {
         let (before, after) = (self.level_of(from)?.level, self.level_of(to)?.level);
         match (before, after) {
             (Level::Out, Level::Out) => {}
@@ -116,7 +116,7 @@ impl World<'_> {
     }
 
     /// The step reads a file and writes it to a path, and the gatekeeper says whether it may.
-    fn copies_to(&mut self, step: u32, source: usize, to: &[u8], note: Note) -> Done<bool> {
+    fn copies_to(&mut self, step: u64, source: usize, to: &[u8], note: Note) -> Done<bool> {
         self.note(note);
         let object = self.object_of(source)?;
         let Some(reads) = self.open(step, object, Way::Reads)? else { return Ok(false) };
@@ -160,7 +160,7 @@ impl World<'_> {
         Ok(())
     }
 
-    fn follow_one(&mut self, step: u32, fd: i32, new: u32, way: Way) -> Done {
+    fn follow_one(&mut self, step: u64, fd: i32, new: u64, way: Way) -> Done {
         let Some(end) = self.open(step, new, way)? else { return Ok(()) };
         let Some(own) = self.step_mut(step)?.table.get_mut(&fd) else { return Ok(()) };
         let old = if way == Way::Writes { own.writes.replace(end) } else { own.reads.replace(end) };
@@ -174,7 +174,7 @@ impl World<'_> {
     }
 
     /// link and linkat: one file under two paths.
-    pub fn links(&mut self, step: u32, call: &Sys) -> Done {
+    pub fn links(&mut self, step: u64, call: &Sys) -> Done {
         let (from, to) = match call.name {
             "link" => (("AT_FDCWD", call.arg(0)), ("AT_FDCWD", call.arg(1))),
             _ => ((call.arg(0), call.arg(1)), (call.arg(2), call.arg(3))),
@@ -203,7 +203,7 @@ impl World<'_> {
     }
 
     /// The descriptor that a link gives a path to: by AT_EMPTY_PATH, or by its own path in /proc.
-    fn linked_descriptor(&mut self, step: u32, (folder, path): (&str, &str)) -> Done<Option<Descriptor>> {
+    fn linked_descriptor(&mut self, step: u64, (folder, path): (&str, &str)) -> Done<Option<Descriptor>> {
         if string(path).is_some_and(|path| path.is_empty()) {
             let own = fd(folder).and_then(|fd| self.step(step).ok()?.table.get(&fd.number).cloned());
             return Ok(own);
@@ -213,7 +213,7 @@ impl World<'_> {
     }
 
     /// A file that is open comes under a path, as one that was made without a name.
-    fn links_own(&mut self, step: u32, own: Descriptor, to: Key) -> Done {
+    fn links_own(&mut self, step: u64, own: Descriptor, to: Key) -> Done {
         let object = own.reads.or(own.writes).map(|end| end.object);
         let Some(source) = object.and_then(|object| self.files.at(object)) else {
             self.left(own.left.moved(Way::Reads, own.path.as_deref()));
@@ -244,7 +244,7 @@ impl World<'_> {
     }
 
     /// symlink and symlinkat.
-    pub fn symlinks(&mut self, step: u32, call: &Sys) -> Done {
+    pub fn symlinks(&mut self, step: u64, call: &Sys) -> Done {
         let (folder, link) = match call.name {
             "symlink" => ("AT_FDCWD", call.arg(1)),
             _ => (call.arg(1), call.arg(2)),
@@ -260,7 +260,7 @@ impl World<'_> {
     }
 
     /// truncate: the file is opened, written and closed.
-    pub fn truncates(&mut self, step: u32, call: &Sys) -> Done {
+    pub fn truncates(&mut self, step: u64, call: &Sys) -> Done {
         let key = self.named(step, "AT_FDCWD", call.arg(0))?;
         let opened = self.open_key(step, key, "O_WRONLY")?;
         if let Some(end) = opened.writes {
@@ -271,7 +271,7 @@ impl World<'_> {
     }
 
     /// chdir, fchdir and getcwd.
-    pub fn folders(&mut self, step: u32, call: &Sys) -> Done {
+    pub fn folders(&mut self, step: u64, call: &Sys) -> Done {
         match call.name {
             "getcwd" => match string(call.arg(0)).filter(|folder| folder.starts_with(b"/")) {
                 Some(folder) => self.is_in(step, &folder),

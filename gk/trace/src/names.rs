@@ -14,12 +14,12 @@ const ROOM: usize = 16;
 pub struct Names {
     names: gk_names::Names,
     /// For each name that was given, how often.
-    counts: BTreeMap<String, u32>,
+    counts: BTreeMap<String, u64>,
 }
 
 impl Names {
     /// Gives a thing a name that no other has: the name, or with a number behind it. Says which.
-    pub fn give_new(&mut self, kind: Kind, number: u32, from: u64, text: &str) -> String {
+    pub fn give_new(&mut self, kind: Kind, number: u64, from: u64, text: &str) -> String {
         let mut name = fitted(text, LONGEST);
         let count = self.counts.entry(name.to_string()).or_insert(0);
         *count += 1;
@@ -38,7 +38,7 @@ impl Names {
     }
 
     /// Gives a thing the name that it has had under another number.
-    pub fn give_again(&mut self, kind: Kind, number: u32, from: u64, name: &str) {
+    pub fn give_again(&mut self, kind: Kind, number: u64, from: u64, name: &str) {
         self.names.give(kind, number, from, Name::fitted(name));
     }
 

@@ -11,7 +11,7 @@ use crate::world::{Descriptor, Done, End, World};
 
 impl World<'_> {
     /// open, openat, openat2 and creat that have come out well.
-    pub fn opens(&mut self, step: u32, call: &Sys, number: i32, result: &str) -> Done {
+    pub fn opens(&mut self, step: u64, call: &Sys, number: i32, result: &str) -> Done {
         let (folder, path, flags) = match call.name {
             "open" => ("AT_FDCWD", call.arg(0), call.arg(1)),
             "creat" => ("AT_FDCWD", call.arg(0), "O_WRONLY|O_CREAT|O_TRUNC"),
@@ -38,7 +38,7 @@ impl World<'_> {
     }
 
     /// The key of a path argument that is named from a folder argument.
-    pub fn named(&mut self, step: u32, folder: &str, path: &str) -> Done<Key> {
+    pub fn named(&mut self, step: u64, folder: &str, path: &str) -> Done<Key> {
         let Some(path) = string(path) else {
             return self.stop("the path of the call is not in the trace".to_string());
         };
@@ -63,7 +63,7 @@ impl World<'_> {
     }
 
     /// Learns from AT_FDCWD</folder>, as strace -y writes it, where the run was started.
-    fn learn_folder(&mut self, step: u32, folder: &str) -> Done {
+    fn learn_folder(&mut self, step: u64, folder: &str) -> Done {
         let Some(note) = folder.strip_prefix("AT_FDCWD<").and_then(|note| note.strip_suffix('>')) else {
             return Ok(());
         };
@@ -74,7 +74,7 @@ impl World<'_> {
     }
 
     /// Says that a step is in this folder.
-    pub fn is_in(&mut self, step: u32, folder: &[u8]) -> Done {
+    pub fn is_in(&mut self, step: u64, folder: &[u8]) -> Done {
         if self.paths.start().is_none() && self.step(step)?.folder == START {
             self.paths.set_start(folder);
             if let Err(key) = self.files.rekey(&self.paths) {
@@ -84,7 +84,7 @@ impl World<'_> {
                      Give it with --folder"
                 ));
             }
-            let steps: Vec<u32> =
+            let steps: Vec<u64> =
                 (0..).zip(&self.steps).filter(|(_, step)| step.is_some()).map(|(n, _)| n).collect();
             for step in steps {
                 let folder = self.paths.key(&self.step(step)?.folder);
@@ -97,7 +97,7 @@ impl World<'_> {
     }
 
     /// The descriptor that a path as /dev/fd/63 or /dev/stdin stands for.
-    pub fn own_descriptor(&self, step: u32, key: &[u8]) -> Done<Option<Descriptor>> {
+    pub fn own_descriptor(&self, step: u64, key: &[u8]) -> Done<Option<Descriptor>> {
         let fronts: [&[u8]; 3] = [b"/dev/fd/", b"/proc/self/fd/", b"/proc/thread-self/fd/"];
         let number = match key {
             b"/dev/stdin" => Some(0),
@@ -113,7 +113,7 @@ impl World<'_> {
     }
 
     /// Opens what a descriptor is on once more.
-    fn open_again(&mut self, step: u32, own: &Descriptor, flags: &str) -> Done<Descriptor> {
+    fn open_again(&mut self, step: u64, own: &Descriptor, flags: &str) -> Done<Descriptor> {
         if let (false, Some(key)) = (own.is_held(), &own.path) {
             return self.open_key(step, key.clone(), flags);
         }
@@ -128,7 +128,7 @@ impl World<'_> {
     }
 
     /// Opens a path.
-    pub fn open_key(&mut self, step: u32, key: Key, flags: &str) -> Done<Descriptor> {
+    pub fn open_key(&mut self, step: u64, key: Key, flags: &str) -> Done<Descriptor> {
         let (reads, writes) = ways(flags);
         let found = self.level_of(&key)?;
         if has_flag(flags, "O_TMPFILE") {
@@ -164,7 +164,7 @@ impl World<'_> {
     }
 
     /// Makes a file without a name and opens it.
-    pub fn open_nameless(&mut self, step: u32, writes: bool, reads: bool) -> Done<Descriptor> {
+    pub fn open_nameless(&mut self, step: u64, writes: bool, reads: bool) -> Done<Descriptor> {
         let id = self.create(step, None)?;
         let object = self.object_of(id)?;
         match self.open_both(step, reads.then_some(object), writes.then_some(object))? {
@@ -176,9 +176,9 @@ impl World<'_> {
     /// Opens for reading, for writing, or both; none where one of them is refused.
     pub fn open_both(
         &mut self,
-        step: u32,
-        from: Option<u32>,
-        to: Option<u32>,
+        step: u64,
+        from: Option<u64>,
+        to: Option<u64>,
     ) -> Done<Option<(Option<End>, Option<End>)>> {
         let mut reads = None;
         if let Some(object) = from {
@@ -191,7 +191,7 @@ impl World<'_> {
         let Some(object) = to else { return Ok(Some((reads, None))) };
         // The second place must be another one than the first.
         let wanted = self.files.called(object);
-        let taken: Vec<u32> = reads.iter().map(|end| end.place).collect();
+        let taken: Vec<u64> = reads.iter().map(|end| end.place).collect();
         let place = self.free_place_but(step, &taken, &wanted)?;
         if self.make(Call::OpenWrite { subject: step, object, place })? {
             return Ok(Some((reads, Some(End { place, object }))));
@@ -204,7 +204,7 @@ impl World<'_> {
     }
 
     /// pipe and pipe2.
-    pub fn pipes(&mut self, step: u32, call: &Sys) -> Done {
+    pub fn pipes(&mut self, step: u64, call: &Sys) -> Done {
         let Some((from, to)) = pair(call.arg(0)) else {
             return self.stop(
                 "the descriptors of the pipe are not in the trace: trace with strace -s 2 or more"
@@ -223,7 +223,7 @@ impl World<'_> {
 
     /// A pair of sockets is two pipes. Both ends are in the one step that makes them, so that call 17, which joins two
     /// different steps, does not fit; but its two pipes do.
-    pub fn socket_pair(&mut self, step: u32, call: &Sys) -> Done {
+    pub fn socket_pair(&mut self, step: u64, call: &Sys) -> Done {
         let Some((one, other)) = pair(call.arg(3)) else {
             return self.stop(
                 "the descriptors of the pair are not in the trace: trace with strace -s 2 or more"
@@ -243,9 +243,9 @@ impl World<'_> {
     }
 
     /// Makes a pipe; its ends are not in the table yet, nor are those of the pipe that was made just before.
-    fn new_pipe(&mut self, step: u32, before: Option<(End, End)>) -> Done<(End, End)> {
-        let object = self.free_object("a pipe")?;
-        let mut taken: Vec<u32> =
+    fn new_pipe(&mut self, step: u64, before: Option<(End, End)>) -> Done<(End, End)> {
+        let object = self.pipe_number()?;
+        let mut taken: Vec<u64> =
             before.iter().flat_map(|(reads, writes)| [reads.place, writes.place]).collect();
         let reads = self.free_place_but(step, &taken, "a pipe")?;
         taken.push(reads);
@@ -256,7 +256,7 @@ impl World<'_> {
     }
 
     /// The descriptor is closed by the step's next exec.
-    pub fn end_at_exec(&mut self, step: u32, fd: i32) -> Done {
+    pub fn end_at_exec(&mut self, step: u64, fd: i32) -> Done {
         let Some(descriptor) = self.step_mut(step)?.table.get_mut(&fd) else { return Ok(()) };
         if std::mem::replace(&mut descriptor.ends_at_exec, true) {
             return Ok(());
@@ -268,7 +268,7 @@ impl World<'_> {
     }
 
     /// The descriptor is kept at an exec. No call takes a mark off, so its handles are opened again at other places.
-    pub fn stay_at_exec(&mut self, step: u32, fd: i32) -> Done {
+    pub fn stay_at_exec(&mut self, step: u64, fd: i32) -> Done {
         let Some(mut descriptor) = self.step(step)?.table.get(&fd).cloned() else { return Ok(()) };
         if !std::mem::replace(&mut descriptor.ends_at_exec, false) {
             return Ok(());
@@ -282,7 +282,7 @@ impl World<'_> {
     }
 
     /// memfd_create: a file without a name, for reading and writing.
-    pub fn memory_file(&mut self, step: u32, call: &Sys, number: i32) -> Done {
+    pub fn memory_file(&mut self, step: u64, call: &Sys, number: i32) -> Done {
         let descriptor = self.open_nameless(step, true, true)?;
         self.put(step, number, descriptor)?;
         if has_flag(call.arg(1), "MFD_CLOEXEC") {

@@ -8,10 +8,11 @@ use gk_advice::refused::of_record;
 use gk_advice::run::Run;
 use gk_advice::scene::Past;
 use gk_advice::things::Thing;
+use gk_names::number::grouped as counted;
 use gk_names::Names;
 
 use crate::files::Files;
-use crate::text::{counted, shown};
+use crate::text::shown;
 
 /// Why something of the trace is not in the journal.
 #[derive(Clone, Copy, Debug, PartialEq, Eq, PartialOrd, Ord)]
@@ -174,7 +175,7 @@ pub struct Report {
     pub stopped_at: Option<u64>,
     /// Kinds of calls that every run makes, and that are not in the trace.
     pub missing: Vec<&'static str>,
-    made: BTreeMap<u32, u64>,
+    made: BTreeMap<u64, u64>,
     answers: [u64; 3],
     left: BTreeMap<Left, Count>,
     notes: BTreeMap<Note, Count>,
@@ -195,7 +196,7 @@ pub enum Verdict {
 /// Calls of one kind by one program that are refused.
 struct Refused {
     program: String,
-    code: u32,
+    code: u64,
     count: u64,
     /// The first of them: the file or pipe, and the line of the trace.
     first: Vec<(String, u64)>,
@@ -223,7 +224,7 @@ impl Report {
     }
 
     /// A call on this file or pipe, by a step that runs this program, is refused.
-    pub fn refused(&mut self, program: &str, code: u32, what: String, line: u64) {
+    pub fn refused(&mut self, program: &str, code: u64, what: String, line: u64) {
         let is_same = |kind: &Refused| kind.program == program && kind.code == code;
         let record = self.made.values().sum();
         let index = self.refused.iter().position(is_same).unwrap_or_else(|| {
@@ -389,7 +390,7 @@ const MOST_COLUMNS: usize = 110;
 const INDENT: usize = 13;
 
 /// The word of a call.
-fn kind(code: u32) -> &'static str {
+fn kind(code: u64) -> &'static str {
     shape_of_code(code).map_or("other", |shape| shape.word)
 }
 

@@ -45,7 +45,7 @@ impl World<'_> {
     }
 
     /// What a step was started with, where the levels file has a level for it.
-    fn standard(&mut self, step: u32, which: &str, level: u32) -> Done<Descriptor> {
+    fn standard(&mut self, step: u64, which: &str, level: u64) -> Done<Descriptor> {
         let object = match self.files.find(format!("<{which}>").as_bytes()) {
             Some(id) => self.object_of(id)?,
             None => self.register(which, level)?,
@@ -58,9 +58,9 @@ impl World<'_> {
         }
     }
 
-    fn free_step(&self, wanted: &str) -> Done<u32> {
+    fn free_step(&self, wanted: &str) -> Done<u64> {
         match self.steps.iter().position(Option::is_none) {
-            Some(free) => Ok(free as u32),
+            Some(free) => Ok(free as u64),
             None => self.stop(format!(
                 "{wanted} would be the 33rd step at once, and the gatekeeper has numbers for 32. Trace a part of the \
                  run, or give --until {}: it ends before this line",
@@ -70,7 +70,7 @@ impl World<'_> {
     }
 
     /// A fork has begun: the new step is there, or the thread is one with its process.
-    pub fn forks(&mut self, process: u32, step: u32, name: &str, text: &str) -> Done<Child> {
+    pub fn forks(&mut self, process: u32, step: u64, name: &str, text: &str) -> Done<Child> {
         let (args, _) = arguments(text);
         let first = args.first().copied().unwrap_or("");
         let named = args.iter().find_map(|arg| arg.strip_prefix("flags="));
@@ -87,7 +87,7 @@ impl World<'_> {
     }
 
     /// A step with the same handles.
-    fn copy_step(&mut self, process: u32, step: u32, shares_memory: bool) -> Done<u32> {
+    fn copy_step(&mut self, process: u32, step: u64, shares_memory: bool) -> Done<u64> {
         let program = shown(self.step(step)?.program.as_bytes());
         let child = self.free_step(&format!("the process that process {process} ({program}) starts"))?;
         self.make(Call::Fork { subject: step, child })?;
@@ -143,7 +143,7 @@ impl World<'_> {
     }
 
     /// A fork that had begun has failed: nobody was made.
-    pub fn unforks(&mut self, child: Child, maker: u32) -> Done {
+    pub fn unforks(&mut self, child: Child, maker: u64) -> Done {
         if child.step == maker || child.is_bound {
             return Ok(());
         }
@@ -166,7 +166,7 @@ impl World<'_> {
         Ok(())
     }
 
-    fn leave(&mut self, step: u32) -> Done {
+    fn leave(&mut self, step: u64) -> Done {
         self.make(Call::Exit { subject: step })?;
         self.steps[step as usize] = None;
         self.orphans.retain(|child| child.step != step);
@@ -218,7 +218,7 @@ impl World<'_> {
     }
 
     /// The path of the program's file. One that is run by a descriptor and has no path has its number.
-    fn program_of(&mut self, step: u32, call: &Sys) -> Done<(Key, Option<u32>)> {
+    fn program_of(&mut self, step: u64, call: &Sys) -> Done<(Key, Option<u64>)> {
         let (folder, path) = match call.name {
             "execveat" => (call.arg(0), call.arg(1)),
             _ => ("AT_FDCWD", call.arg(0)),
@@ -248,7 +248,7 @@ impl World<'_> {
 
     /// What an exec closes is gone. Where the gatekeeper did not close it, as it refused the exec, it is closed
     /// here: in the run, it was.
-    fn shed(&mut self, step: u32, is_closed: bool) -> Done {
+    fn shed(&mut self, step: u64, is_closed: bool) -> Done {
         let own = self.step_mut(step)?;
         let gone: Vec<i32> = own.table.iter().filter(|(_, d)| d.ends_at_exec).map(|(&fd, _)| fd).collect();
         let maps = std::mem::take(&mut own.maps);

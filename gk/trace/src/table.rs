@@ -6,7 +6,7 @@ use crate::world::{Descriptor, Done, World};
 
 impl World<'_> {
     /// dup, dup2, dup3 and fcntl's duplicates: another handle on the same file or pipe.
-    pub fn duplicates(&mut self, step: u32, from: &str, to: i32, ends_at_exec: bool) -> Done {
+    pub fn duplicates(&mut self, step: u64, from: &str, to: i32, ends_at_exec: bool) -> Done {
         let Some(found) = fd(from) else { return Ok(()) };
         if found.number == to {
             return Ok(());
@@ -33,7 +33,7 @@ impl World<'_> {
     }
 
     /// fcntl that has come out well, with this number.
-    pub fn fcntl(&mut self, step: u32, call: &Sys, value: i64) -> Done {
+    pub fn fcntl(&mut self, step: u64, call: &Sys, value: i64) -> Done {
         let Some(found) = fd(call.arg(0)) else { return Ok(()) };
         match call.arg(1) {
             command @ ("F_DUPFD" | "F_DUPFD_CLOEXEC") => match i32::try_from(value) {
@@ -50,13 +50,13 @@ impl World<'_> {
     }
 
     /// The birth of the descriptor that a close is about.
-    pub fn birth_of(&self, step: u32, args: &[&str]) -> Option<u64> {
+    pub fn birth_of(&self, step: u64, args: &[&str]) -> Option<u64> {
         let fd = fd(args.first()?)?;
         Some(self.step(step).ok()?.table.get(&fd.number)?.birth)
     }
 
     /// close. Where it took two lines, another thread may have opened the same number meanwhile: that one stays.
-    pub fn closes(&mut self, step: u32, arg: &str, birth: Option<u64>) -> Done {
+    pub fn closes(&mut self, step: u64, arg: &str, birth: Option<u64>) -> Done {
         let Some(fd) = fd(arg) else { return Ok(()) };
         match self.step(step)?.table.get(&fd.number) {
             None => {
@@ -75,7 +75,7 @@ impl World<'_> {
     }
 
     /// close_range: closes, or marks, all descriptors from one to another.
-    pub fn closes_range(&mut self, step: u32, call: &Sys) -> Done {
+    pub fn closes_range(&mut self, step: u64, call: &Sys) -> Done {
         let bound = |arg| whole_number(arg).map(|number| i32::try_from(number).unwrap_or(i32::MAX));
         let (Some(first), last) = (bound(call.arg(0)), bound(call.arg(1)).unwrap_or(i32::MAX)) else {
             return Ok(());

@@ -67,19 +67,6 @@ fn digits(bytes: &[u8], base: u32, most: usize, plain: &mut Vec<u8>) -> usize {
     count
 }
 
-/// A count with commas, as people write it.
-pub fn counted(count: u64) -> String {
-    let digits = count.to_string();
-    let mut text = String::new();
-    for (index, digit) in digits.chars().enumerate() {
-        if index > 0 && (digits.len() - index) % 3 == 0 {
-            text.push(',');
-        }
-        text.push(digit);
-    }
-    text
-}
-
 #[cfg(test)]
 mod tests {
     use super::*;
@@ -98,13 +85,5 @@ mod tests {
         assert_eq!(shown(b"a\x1b[2Jb"), "a\\u{1b}[2Jb");
         assert_eq!(shown("a\u{202e}b".as_bytes()), "a\\u{202e}b");
         assert_eq!(shown(&[b'a'; 200]).chars().count(), MOST_SHOWN + 1);
-    }
-
-    #[test]
-    fn counts_have_commas() {
-        assert_eq!(
-            [0, 999, 1000, 54321, 1234567].map(counted),
-            ["0", "999", "1,000", "54,321", "1,234,567"]
-        );
     }
 }

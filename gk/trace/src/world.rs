@@ -15,10 +15,8 @@ use crate::paths::{Key, Paths};
 use crate::report::{Left, Note, Report};
 use crate::text::shown;
 
-/// Steps, files and pipes, and places of a step.
-pub const STEPS: u32 = 32;
-pub const OBJECTS: u32 = 64;
-pub const PLACES: u32 = 16;
+/// How many steps, files and pipes may be live at a time, and how many places a step has.
+pub use gatekeeper::{OBJECTS, PLACES, SUBJECTS as STEPS};
 
 /// Why the trace cannot be written as a journal, and the line of the trace.
 #[derive(Debug)]
@@ -35,7 +33,7 @@ pub struct Options {
     pub all_files: bool,
     pub repeats: bool,
     /// The level of the first step.
-    pub start: u32,
+    pub start: u64,
     /// The folder that the run was started in, absolute.
     pub folder: Option<Vec<u8>>,
 }
@@ -49,8 +47,8 @@ impl Default for Options {
 /// A handle in the journal.
 #[derive(Clone, Copy, Debug, PartialEq, Eq)]
 pub struct End {
-    pub place: u32,
-    pub object: u32,
+    pub place: u64,
+    pub object: u64,
 }
 
 /// A descriptor of a process. Without an end, `left` says why nothing of it is in the journal.
@@ -89,7 +87,7 @@ pub struct Step {
 
 /// A process or thread that strace numbers.
 pub struct Task {
-    pub step: u32,
+    pub step: u64,
     /// The process that a thread belongs to.
     pub group: u32,
     pub pending: Option<Pending>,
@@ -111,7 +109,7 @@ pub struct Pending {
 
 #[derive(Clone, Copy)]
 pub struct Child {
-    pub step: u32,
+    pub step: u64,
     pub is_thread: bool,
     pub is_bound: bool,
 }
@@ -208,21 +206,21 @@ impl<'a> World<'a> {
         }
     }
 
-    pub fn step(&self, step: u32) -> Done<&Step> {
+    pub fn step(&self, step: u64) -> Done<&Step> {
         match self.steps.get(step as usize).and_then(Option::as_ref) {
             Some(found) => Ok(found),
             None => self.stop(format!("gk trace is at fault here: there is no step {step}")),
         }
     }
 
-    pub fn step_mut(&mut self, step: u32) -> Done<&mut Step> {
+    pub fn step_mut(&mut self, step: u64) -> Done<&mut Step> {
         let line = self.line;
         let message = format!("gk trace is at fault here: there is no step {step}");
         self.steps.get_mut(step as usize).and_then(Option::as_mut).ok_or(Stop { line, message })
     }
 
     /// A step as a message names it.
-    pub fn called(&self, step: u32) -> String {
+    pub fn called(&self, step: u64) -> String {
         let program = self.step(step).map_or("", |step| step.program.as_str());
         let process =
             self.tasks.iter().find(|(_, task)| task.step == step).map(|(process, _)| process.to_string());
@@ -230,8 +228,8 @@ impl<'a> World<'a> {
     }
 
     /// An empty place of a step, other than these.
-    pub fn free_place_but(&mut self, step: u32, taken: &[u32], wanted: &str) -> Done<u32> {
-        let is_free = |place: &u32| !taken.contains(place) && self.step_has_free(step, *place);
+    pub fn free_place_but(&mut self, step: u64, taken: &[u64], wanted: &str) -> Done<u64> {
+        let is_free = |place: &u64| !taken.contains(place) && self.step_has_free(step, *place);
         match (0..PLACES).find(is_free) {
             Some(place) => {
                 self.step_mut(step)?.used[place as usize] = false;
@@ -250,12 +248,12 @@ impl<'a> World<'a> {
         }
     }
 
-    fn step_has_free(&self, step: u32, place: u32) -> bool {
+    fn step_has_free(&self, step: u64, place: u64) -> bool {
         self.step(step).is_ok_and(|step| step.ends().all(|end| end.place != place))
     }
 
     /// The files and pipes that a step holds, for a message.
-    fn held_by(&self, step: u32) -> Done<String> {
+    fn held_by(&self, step: u64) -> Done<String> {
         let mut names: Vec<String> =
             self.step(step)?.ends().map(|end| self.files.called(end.object)).collect();
         names.sort();
@@ -264,7 +262,7 @@ impl<'a> World<'a> {
     }
 
     /// Opens an object at an empty place; none where it is refused.
-    pub fn open(&mut self, step: u32, object: u32, way: Way) -> Done<Option<End>> {
+    pub fn open(&mut self, step: u64, object: u64, way: Way) -> Done<Option<End>> {
         let wanted = self.files.called(object);
         let place = self.free_place_but(step, &[], &wanted)?;
         let call = match way {
@@ -276,14 +274,14 @@ impl<'a> World<'a> {
     }
 
     /// Closes a handle; a pipe ends with its last one, and so does a file that has lost its name.
-    pub fn close(&mut self, step: u32, end: End) -> Done {
+    pub fn close(&mut self, step: u64, end: End) -> Done {
         self.make(Call::Close { subject: step, place: end.place })?;
         self.reap()
     }
 
-    /// Frees the numbers of pipes that have ended, and retires files that have no name and no handle.
+    /// Forgets pipes that have ended, and retires files that have no name and no handle.
     pub fn reap(&mut self) -> Done {
-        for object in 0..OBJECTS {
+        for object in self.files.live() {
             if !self.journal.is_live(object) {
                 self.files.free(object);
             } else if self.files.is_nameless(object) && !self.journal.is_held(object) {
@@ -295,7 +293,7 @@ impl<'a> World<'a> {
     }
 
     /// A new descriptor at a number; one that is there goes.
-    pub fn put(&mut self, step: u32, fd: i32, mut descriptor: Descriptor) -> Done {
+    pub fn put(&mut self, step: u64, fd: i32, mut descriptor: Descriptor) -> Done {
         self.drop_fd(step, fd)?;
         descriptor.birth = self.tick();
         self.step_mut(step)?.table.insert(fd, descriptor);
@@ -303,7 +301,7 @@ impl<'a> World<'a> {
     }
 
     /// Closes a descriptor, if it is there.
-    pub fn drop_fd(&mut self, step: u32, fd: i32) -> Done {
+    pub fn drop_fd(&mut self, step: u64, fd: i32) -> Done {
         let Some(descriptor) = self.step_mut(step)?.table.remove(&fd) else { return Ok(()) };
         for end in [descriptor.reads, descriptor.writes].into_iter().flatten() {
             self.close(step, end)?;

@@ -158,7 +158,7 @@ fn who_is_killed_in_a_write_may_have_written() {
                  2 write(4, \"\", 1 <unfinished ...>\n2 +++ killed by SIGKILL +++\n1 read(3, \"\", 1) = 1\n\
                  1 close(3) = 0\n\
                  1 openat(AT_FDCWD, \"mid\", O_WRONLY) = 3";
-    assert_eq!(refusals(lines, LEVELS), ["open-write 0 1 0"]);
+    assert_eq!(refusals(lines, LEVELS), ["open-write 0 3 0"]);
 }
 
 #[test]
@@ -250,22 +250,33 @@ fn a_path_of_an_own_descriptor_is_the_same_pipe() {
 }
 
 #[test]
-fn numbers_are_used_again() {
-    // Five hundred files one after the other, and as many steps.
+fn a_file_has_one_number_and_no_number_is_used_twice() {
+    // Five hundred files one after the other, and as many steps; then the first of them once more.
     let one = |n: u32| {
         let (process, path) = (2 + n, format!("low{n}"));
         format!("1 fork() = {process}\n{process} openat(AT_FDCWD, \"{path}\", O_RDONLY) = 3\n\
                  {process} read(3, \"\", 1) = 1\n{process} exit_group(0) = ?\n{process} +++ exited with 0 +++")
     };
-    let lines: Vec<String> = (0..500).map(one).collect();
+    let lines: Vec<String> = (0..500).chain([0]).map(one).collect();
     let written = told(&format!("{START}\n{}", lines.join("\n")), LEVELS);
     assert!(refused(&written.journal).is_empty());
     let words = words(&written.journal);
-    assert_eq!(words.iter().filter(|line| line.starts_with("retire")).count(), 500 - 63);
+    assert_eq!(words.iter().filter(|line| line.starts_with("retire")).count(), 501 - 63);
     assert!(words.iter().all(|line| !line.starts_with("fork") || line == "fork 0 1"));
-    // The program's own file was asked for longest ago: its number is given away, too.
+    let registered: Vec<&str> = words.iter().filter_map(|line| line.strip_prefix("register ")).collect();
+    // The program's own file is number 0, and was asked for longest ago: it is retired, too.
+    let again = registered[1];
+    assert_eq!((registered.len(), registered.last()), (502, Some(&again)));
+    let mut numbers = registered[..501].to_vec();
+    numbers.sort_unstable();
+    numbers.dedup();
+    assert_eq!(numbers.len(), 501);
+    let of_first = written.names.lines().filter(|line| line.ends_with(" low0")).collect::<Vec<&str>>();
     assert!(
-        written.names.contains("\nfile 0 ") && written.names.contains(" low499\n"),
+        matches!(of_first[..], [one, other] if one.starts_with("file 1 ") && other.starts_with("file 1 "))
+    );
+    assert!(
+        written.names.contains("\nfile 500 ") && written.names.contains(" low499\n"),
         "{}",
         written.names
     );

@@ -10,27 +10,25 @@ use crate::words::fail;
 #[derive(Clone, Debug, Default)]
 pub struct Ends {
     /// Handles that the program is not to get.
-    marks: Vec<u32>,
+    marks: Vec<u64>,
     /// Handles that the process no longer has.
-    gone: Vec<u32>,
+    gone: Vec<u64>,
 }
 
 impl Told {
     /// Handles that are marked and that the program would get all the same have their mark taken off: each is opened at
     /// another place. False where there is no place for one.
-    pub fn unmark(&mut self, step: u32, held: &[Held]) -> bool {
+    pub fn unmark(&mut self, step: u64, held: &[Held]) -> bool {
         for place in 0..PLACES {
             let Some(handle) = self.state.handle(step, place).filter(|handle| handle.marked) else {
                 continue;
             };
-            let object = usize::from(handle.object);
+            let object = handle.object;
             let writes = handle.way == Way::Writes;
-            let stays = |held: &Held| {
-                !held.ends && self.keys[object].is_some_and(|key| held.is(key, &self.paths[object], writes))
-            };
-            if held.iter().any(stays) && self.hold(step, object as u32, writes).is_none() {
+            let stays = |held: &Held| !held.ends && self.is_of(held, object, writes);
+            if held.iter().any(stays) && self.hold(step, object, writes).is_none() {
                 let Some(free) = self.free_place(step) else { return false };
-                let call = Told::open_call(step, object as u32, free, writes);
+                let call = Told::open_call(step, object, free, writes);
                 if self.make(call).granted().is_err() {
                     fail("a handle that is held cannot be opened again");
                 }
@@ -40,16 +38,12 @@ impl Told {
     }
 
     /// What an exec would end, by what the process holds.
-    pub fn ends(&self, step: u32, held: &[Held]) -> Ends {
+    pub fn ends(&self, step: u64, held: &[Held]) -> Ends {
         let mut ends = Ends::default();
         for place in 0..PLACES {
             let Some(handle) = self.state.handle(step, place) else { continue };
-            let object = usize::from(handle.object);
             let writes = handle.way == Way::Writes;
-            let is = |held: &&Held| {
-                self.keys[object].is_some_and(|key| held.is(key, &self.paths[object], writes))
-            };
-            let mut own = held.iter().filter(is).peekable();
+            let mut own = held.iter().filter(|held| self.is_of(held, handle.object, writes)).peekable();
             if own.peek().is_none() {
                 ends.gone.push(place);
             } else if !handle.marked && own.all(|held| held.ends) {
@@ -59,7 +53,7 @@ impl Told {
         ends
     }
 
-    fn exec_calls(step: u32, files: &[u32], ends: &Ends) -> Vec<Call> {
+    fn exec_calls(step: u64, files: &[u64], ends: &Ends) -> Vec<Call> {
         let gone = ends.gone.iter().map(|&place| Call::Close { subject: step, place });
         let marks = ends.marks.iter().map(|&place| Call::Mark { subject: step, place });
         let runs = files.iter().map(|&object| Call::Exec { subject: step, object });
@@ -67,13 +61,13 @@ impl Told {
     }
 
     /// Whether an exec of these files, a script and then its interpreter, would be granted; asked of a copy.
-    pub fn would_exec(&self, step: u32, files: &[u32], ends: &Ends) -> bool {
+    pub fn would_exec(&self, step: u64, files: &[u64], ends: &Ends) -> bool {
         let mut copy = self.state.clone();
         Told::exec_calls(step, files, ends).into_iter().all(|call| copy.call(call).granted().is_ok())
     }
 
     /// The exec for real; where it is refused, the call that was.
-    pub fn exec(&mut self, step: u32, files: &[u32], ends: &Ends) -> Result<(), Call> {
+    pub fn exec(&mut self, step: u64, files: &[u64], ends: &Ends) -> Result<(), Call> {
         for call in Told::exec_calls(step, files, ends) {
             if self.make(call).granted().is_err() {
                 return Err(call);

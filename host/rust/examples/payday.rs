@@ -6,24 +6,26 @@
 use gatekeeper::{Answer, Call, Handle, Kind, Monitor, Way, NO_FREEZE, PLACES};
 
 // What comes from outside, and the numbers that this host gives to it and to what it makes.
-const SHELL: u32 = 0;
-const ADDER: u32 = 1;
-const LISTER: u32 = 2;
-const LAUNCHER: u32 = 3;
-const IMPORTER: u32 = 4;
-const TERMINAL: u32 = 5;
-const STATION: u32 = 6;
-const PAYSLIPS: u32 = 7;
-const PAY_BOOK: u32 = 0;
-const SHEET: u32 = 1;
-const HOURS: u32 = 2;
-const LIST: u32 = 3;
-const VIEWER: u32 = 4;
+const SHELL: u64 = 0;
+const ADDER: u64 = 1;
+const LISTER: u64 = 2;
+const LAUNCHER: u64 = 3;
+const IMPORTER: u64 = 4;
+const TERMINAL: u64 = 5;
+const STATION: u64 = 6;
+const PAYSLIPS: u64 = 7;
+const PAY_BOOK: u64 = 0;
+const SHEET: u64 = 1;
+const HOURS: u64 = 2;
+const LIST: u64 = 3;
+const VIEWER: u64 = 4;
 /// From the adder to the shell.
-const PIPE: u32 = 8;
+const PIPE: u64 = 8;
 /// To the print station, and back.
-const SLIPS: u32 = 9;
-const REPORTS: u32 = 10;
+const SLIPS: u64 = 9;
+const REPORTS: u64 = 10;
+/// A number of the file store.
+const RECEIPT: u64 = u64::MAX;
 
 #[derive(Default)]
 struct Host {
@@ -58,7 +60,7 @@ impl Host {
 
     /// What the duty screen shows of a step: its level, the lowest one that it may fall to while no handle goes, and
     /// its handles.
-    fn show(&self, step: u32) {
+    fn show(&self, step: u64) {
         let monitor = &self.monitor;
         let Some((level, need)) = monitor.subject(step).zip(monitor.need_of_subject(step)) else {
             return;
@@ -73,13 +75,19 @@ impl Host {
                 Way::Writes => "writes",
                 Way::Maps => "maps",
             };
-            let is_pipe = monitor.object(object.into()).is_some_and(|object| object.kind == Kind::Pipe);
-            let kind = if is_pipe { "pipe" } else { "file" };
+            let kind = monitor.object(object).map_or("nothing", |object| words(object.kind));
             println!(
                 "  Its place {place} {way} {kind} {object}{}.",
                 if marked { ", until exec" } else { "" }
             );
         }
+    }
+}
+
+fn words(kind: Kind) -> &'static str {
+    match kind {
+        Kind::File => "file",
+        Kind::Pipe => "pipe",
     }
 }
 
@@ -245,6 +253,15 @@ fn main() {
     println!("\nA clerk has looked over the sheet: it comes in again as checked");
     host.must("The sheet of shop 3 is retired.", Call::Retire { object: SHEET });
     host.must("The checked sheet is file 1.", Call::Register { object: SHEET, level: 12 });
+
+    println!("\nThe file store gives numbers of its own");
+    host.must(
+        "The bank's receipt is file 18446744073709551615.",
+        Call::Register { object: RECEIPT, level: 12 },
+    );
+    for (number, object) in host.monitor.objects() {
+        println!("The duty screen lists: {} {number} is at level {}.", words(object.kind), object.level);
+    }
 
     let Host { monitor, journal } = host;
     println!("\nHandles made: {}, gone: {}, open: {}.", monitor.made(), monitor.gone(), monitor.open());

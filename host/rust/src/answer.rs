@@ -42,8 +42,8 @@ impl Answer {
 }
 
 /// Why a call, a record or a journal was refused. Where several hold, the smallest number is given, but 14 goes
-/// before all others, 12 before 2 to 10, 15 and 16, 16 right after 2, and 15 just before 9. So an open that is `Flow` is
-/// one that no freeze forbids, and one that is `Frozen` may be `Flow` once the freeze is lifted.
+/// before all others, 12 before 2 to 10 and 15 to 17, 16 right after 2, 17 right after 3, and 15 just before 9. So an
+/// open that is `Flow` is one that no freeze forbids, and one that is `Frozen` may be `Flow` once the freeze is lifted.
 #[non_exhaustive]
 #[derive(Clone, Copy, Debug, PartialEq, Eq, PartialOrd, Ord, Hash)]
 pub enum Refusal {
@@ -63,11 +63,12 @@ pub enum Refusal {
     JournalTooLong = 14,
     Frozen = 15,
     SameSubject = 16,
+    TooManyObjects = 17,
 }
 
 impl Refusal {
     /// Every refusal, by number.
-    pub const ALL: [Refusal; 16] = [
+    pub const ALL: [Refusal; 17] = [
         Refusal::UnknownCode,
         Refusal::NoSubject,
         Refusal::NumberTaken,
@@ -84,9 +85,10 @@ impl Refusal {
         Refusal::JournalTooLong,
         Refusal::Frozen,
         Refusal::SameSubject,
+        Refusal::TooManyObjects,
     ];
 
-    /// The number of the refusal in the rules, 1 to 16.
+    /// The number of the refusal in the rules, 1 to 17.
     pub fn number(self) -> u32 {
         self as u32
     }
@@ -121,6 +123,7 @@ impl Refusal {
             Refusal::JournalTooLong => "the journal is longer than 65,536 bytes",
             Refusal::Frozen => "the file is frozen while the books are closed",
             Refusal::SameSubject => "a step cannot be connected to itself",
+            Refusal::TooManyObjects => "only 64 files and pipes may be live: retire a file or end a pipe",
         }
     }
 }
@@ -144,7 +147,7 @@ mod tests {
             assert_eq!(Refusal::from_number(number), Some(refusal));
         }
         assert_eq!(Refusal::from_number(0), None);
-        assert_eq!(Refusal::from_number(17), None);
+        assert_eq!(Refusal::from_number(18), None);
     }
 
     #[test]

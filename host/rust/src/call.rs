@@ -3,57 +3,57 @@
 use crate::journal;
 
 /// The freeze that freezes no file: it is above every level.
-pub const NO_FREEZE: u32 = 16;
+pub const NO_FREEZE: u64 = 16;
 
 /// A call with its numbers. Any number may be given; one that does not fit is refused.
 ///
-/// A subject is a running step, 0 to 31; an object a file or a pipe, 0 to 63; a place holds one handle of a
-/// subject, 0 to 15; a level is 0, the lowest, to 15.
+/// A subject is a running step, 0 to 31; an object a file or a pipe, of any number, and 64 of them may be live at a
+/// time; a place holds one handle of a subject, 0 to 15; a level is 0, the lowest, to 15.
 #[non_exhaustive]
 #[derive(Clone, Copy, Debug, PartialEq, Eq, Hash)]
 pub enum Call {
     /// A new subject from outside, without handles.
-    Admit { subject: u32, level: u32 },
+    Admit { subject: u64, level: u64 },
     /// A new file from outside.
-    Register { object: u32, level: u32 },
+    Register { object: u64, level: u64 },
     /// A new empty file at the subject's level, without a handle.
-    Create { subject: u32, object: u32 },
+    Create { subject: u64, object: u64 },
     /// A new pipe at the subject's level, with a handle to read it and one to write it.
-    Pipe { subject: u32, object: u32, reads: u32, writes: u32 },
+    Pipe { subject: u64, object: u64, reads: u64, writes: u64 },
     /// A reading handle. No level falls.
-    OpenRead { subject: u32, object: u32, place: u32 },
+    OpenRead { subject: u64, object: u64, place: u64 },
     /// A writing handle. No level falls.
-    OpenWrite { subject: u32, object: u32, place: u32 },
+    OpenWrite { subject: u64, object: u64, place: u64 },
     /// The subject falls to the object's level if that is lower.
-    Read { subject: u32, place: u32 },
+    Read { subject: u64, place: u64 },
     /// A pipe falls to the subject's level if that is lower; a file keeps its own, and each subject that has it mapped
     /// ([`Call::Map`]) reads it once, the lowest number first.
-    Write { subject: u32, place: u32 },
+    Write { subject: u64, place: u64 },
     /// A new subject with the level of the first, and its handles, marks and mappings at the same places.
-    Fork { subject: u32, child: u32 },
+    Fork { subject: u64, child: u64 },
     /// A file is run; the subject falls to its level if that is lower. The flow rule is asked as if it did not have its
     /// marked handles and its mappings, and if the call is not refused they are closed; it keeps the others.
-    Exec { subject: u32, object: u32 },
+    Exec { subject: u64, object: u64 },
     /// The place is empty.
-    Close { subject: u32, place: u32 },
+    Close { subject: u64, place: u64 },
     /// All handles of the subject are closed, and its number is free.
-    Exit { subject: u32 },
+    Exit { subject: u64 },
     /// The file is gone, and its number is free.
-    Retire { object: u32 },
+    Retire { object: u64 },
     /// The file is mapped into the subject's memory. The handle is a *mapping*, which reads; it is refused where an open
     /// for reading with the same numbers would be, and on a pipe. No call to read follows, so the map itself is a read:
     /// the subject falls to the file's level if that is lower, and the answer has the subject's level. The memory shows
     /// what is written to the file later, so each write to it is followed by a read by the subject; the host does nothing
     /// for that, and on a monitor that started empty no subject falls there. A close or an exec ends the mapping; at an
     /// exec it goes with the memory that it is in. In all else a mapping is a reading handle.
-    Map { subject: u32, object: u32, place: u32 },
+    Map { subject: u64, object: u64, place: u64 },
     /// The handle is marked: it ends when the subject runs a program ([`Call::Exec`]), and the host that carries that
     /// out closes it, too. A new handle is not marked, and no call takes a mark off.
-    Mark { subject: u32, place: u32 },
+    Mark { subject: u64, place: u64 },
     /// From now on, for all subjects, no file at or above the level is opened for writing; with [`NO_FREEZE`], which
     /// lifts the freeze, any may be. Handles that are held, pipes, channels, opens for reading and maps go on as
     /// without it.
-    Freeze { level: u32 },
+    Freeze { level: u64 },
     /// A *channel* between two subjects, as a local socket is one: two new pipes with four handles, or nothing. The
     /// pipe `to` goes from the subject to its peer and has the subject's level; the pipe `from` comes from the peer and
     /// has the peer's level. Each of the two reads at its place `reading` what the other writes at its place `writing`.
@@ -61,12 +61,12 @@ pub enum Call {
     /// then on these are pipes and handles like any other: each handle is marked, copied by a fork and closed by
     /// itself, and each pipe ends with its last handle. Where a step closes a socket that is its end of a channel, the
     /// host closes both places.
-    Connect { subject: u32, peer: u32, to: u32, from: u32, reading: u32, writing: u32 },
+    Connect { subject: u64, peer: u64, to: u64, from: u64, reading: u64, writing: u64 },
 }
 
 impl Call {
     /// The call's code, one of 1 to 17.
-    pub fn code(self) -> u32 {
+    pub fn code(self) -> u64 {
         match self {
             Call::Admit { .. } => 1,
             Call::Register { .. } => 2,
@@ -89,7 +89,7 @@ impl Call {
     }
 
     /// The call's numbers in the order of the journal, then 0 for those that it does not use.
-    pub fn numbers(self) -> [u32; 6] {
+    pub fn numbers(self) -> [u64; 6] {
         match self {
             Call::Admit { subject, level } => [subject, level, 0, 0, 0, 0],
             Call::Register { object, level } => [object, level, 0, 0, 0, 0],

@@ -7,10 +7,10 @@ use crate::archive;
 pub const JOURNAL_BYTES: usize = 65_536;
 
 /// Room for the reply to every journal, in bytes.
-pub const REPLY_ROOM: usize = 1_835_075;
+pub const REPLY_ROOM: usize = 2_490_435;
 
 /// Room for every record, in bytes.
-pub const RECORD_ROOM: usize = 32;
+pub const RECORD_ROOM: usize = 62;
 
 /// The reply to a journal, from an empty monitor: a line for each record with its position, code, A, L or R, and
 /// the level or refusal number; then `end`, handles made, gone and open.
@@ -41,7 +41,7 @@ pub fn replay_into(journal: &[u8], out: &mut [u8]) -> Option<usize> {
 /// Writes the record of a call over the front of a buffer, and answers with its length. Numbers that the code does not
 /// use are not written, and what lies behind the record keeps its value. A refusal, [`Refusal::UnknownCode`] or
 /// [`Refusal::RecordTooLong`], changes nothing.
-pub fn write_record(out: &mut [u8], code: u32, numbers: [u32; 6]) -> Result<usize, Refusal> {
+pub fn write_record(out: &mut [u8], code: u64, numbers: [u64; 6]) -> Result<usize, Refusal> {
     match archive::record(out, code, numbers) {
         length @ 256.. => Ok((length - 256) as usize),
         number => Err(Refusal::proved(number)),
@@ -49,7 +49,7 @@ pub fn write_record(out: &mut [u8], code: u32, numbers: [u32; 6]) -> Result<usiz
 }
 
 /// The number at the front of some bytes, and how many of them it takes; none where it is cut off, above
-/// 4,294,967,295, or longer than it need be.
+/// 18,446,744,073,709,551,615, or longer than it need be.
 ///
 /// ```
 /// assert_eq!(gatekeeper::read_number(&[0xb9, 0x64, 0x07]), Some((12857, 2)));
@@ -57,10 +57,10 @@ pub fn write_record(out: &mut [u8], code: u32, numbers: [u32; 6]) -> Result<usiz
 /// ```
 #[inline]
 #[must_use]
-pub fn read_number(bytes: &[u8]) -> Option<(u32, usize)> {
+pub fn read_number(bytes: &[u8]) -> Option<(u64, usize)> {
     match archive::number(bytes) {
-        0 => None,
-        reading => Some((reading as u32, (reading >> 32) as usize)),
+        (_, 0) => None,
+        (value, used) => Some((value, used as usize)),
     }
 }
 
@@ -173,10 +173,13 @@ mod tests {
     fn a_refused_record_leaves_the_buffer() {
         let mut out = [7; RECORD_ROOM];
         assert_eq!(write_record(&mut out, 18, [0; 6]), Err(Refusal::UnknownCode));
-        assert_eq!(write_record(&mut out[1..], 17, [u32::MAX; 6]), Err(Refusal::RecordTooLong));
+        assert_eq!(write_record(&mut out, u64::from(u32::MAX) + 2, [0; 6]), Err(Refusal::UnknownCode));
+        assert_eq!(write_record(&mut out[1..], 17, [u64::MAX; 6]), Err(Refusal::RecordTooLong));
         assert_eq!(out, [7; RECORD_ROOM]);
-        assert_eq!(write_record(&mut out, 4, [u32::MAX; 6]), Ok(22));
-        assert_eq!(write_record(&mut out, 17, [u32::MAX; 6]), Ok(RECORD_ROOM));
+        assert_eq!(write_record(&mut out, 4, [u64::from(u32::MAX); 6]), Ok(22));
+        assert_eq!(write_record(&mut out, 4, [u64::MAX; 6]), Ok(42));
+        assert_eq!(write_record(&mut out, 17, [u64::from(u32::MAX); 6]), Ok(32));
+        assert_eq!(write_record(&mut out, 17, [u64::MAX; 6]), Ok(RECORD_ROOM));
     }
 
     #[test]
@@ -184,8 +187,18 @@ mod tests {
         assert_eq!(read_number(&[]), None);
         assert_eq!(read_number(&[0x80]), None);
         assert_eq!(read_number(&[0xff, 0x00]), None);
-        assert_eq!(read_number(&[0xff, 0xff, 0xff, 0xff, 0x0f]), Some((u32::MAX, 5)));
-        assert_eq!(read_number(&[0x80, 0x80, 0x80, 0x80, 0x10]), None);
+        assert_eq!(read_number(&[0xff, 0xff, 0xff, 0xff, 0x0f]), Some((u32::MAX.into(), 5)));
+        assert_eq!(read_number(&[0x80, 0x80, 0x80, 0x80, 0x10]), Some((1 << 32, 5)));
         assert_eq!(read_number(&[0x00]), Some((0, 1)));
+
+        // The largest has ten bytes, of which the last has one bit.
+        let mut bytes = [0xff; 11];
+        bytes[9] = 0x01;
+        assert_eq!(read_number(&bytes), Some((u64::MAX, 10)));
+        assert_eq!(read_number(&bytes[..9]), None);
+        for last in [0x00, 0x02, 0x7f, 0x80, 0x81, 0xff] {
+            bytes[9] = last;
+            assert_eq!(read_number(&bytes), None, "a tenth byte of {last}");
+        }
     }
 }

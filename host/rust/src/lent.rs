@@ -1,5 +1,6 @@
 //! The monitor as a struct, for speed: the calls on it, and what its tables hold.
 
+use std::array::from_fn;
 use std::fmt;
 use std::mem::{align_of, offset_of, size_of};
 
@@ -7,12 +8,12 @@ use crate::answer::Answer;
 use crate::archive;
 use crate::call::{Call, NO_FREEZE};
 use crate::look::{Handle, Kind, Object, Way, OBJECTS, PLACES, SUBJECTS};
-use crate::monitor::Monitor;
+use crate::monitor::{Monitor, HANDLES_AT, NUMBERS_AT, OBJECTS_AT};
 
 /// The codes of the calls that are tried in place first.
-const OPEN_READ: u32 = 5;
-const OPEN_WRITE: u32 = 6;
-const CLOSE: u32 = 11;
+const OPEN_READ: u64 = 5;
+const OPEN_WRITE: u64 = 6;
+const CLOSE: u64 = 11;
 
 /// A monitor with its tally of handles and its kept needs, as [`Monitor`](crate::Monitor) is one, and with the same
 /// answers: but it is kept as a struct, and a call parses no bytes and lays none out. It is for speed; a `Monitor` has
@@ -20,7 +21,7 @@ const CLOSE: u32 = 11;
 ///
 /// It starts empty and only calls change it. So every answer is the rules', and its kept needs are right. It is a plain
 /// value: a clone is a state of its own. Two are equal if their tables, their counts, their freeze and their kept needs
-/// are, what stands at numbers that are not in use too.
+/// are, what stands at numbers and slots that are not in use too.
 ///
 /// ```
 /// use gatekeeper::{Answer, Call, Refusal, State};
@@ -40,6 +41,8 @@ const CLOSE: u32 = 11;
 #[repr(C)]
 #[derive(Clone, PartialEq, Eq)]
 pub struct State {
+    /// The number of the object in each slot.
+    pub(crate) numbers: [u64; OBJECTS as usize],
     pub(crate) subjects: [SubjectRecord; SUBJECTS as usize],
     pub(crate) objects: [ObjectRecord; OBJECTS as usize],
     pub(crate) handles: [HandleRecord; (SUBJECTS * PLACES) as usize],
@@ -58,7 +61,7 @@ pub(crate) struct SubjectRecord {
     level: u8,
 }
 
-/// 0 where there is no such object, and its level.
+/// A slot: 0 where no object stands in it, and its level.
 #[repr(C)]
 #[derive(Clone, Copy, PartialEq, Eq)]
 pub(crate) struct ObjectRecord {
@@ -66,25 +69,27 @@ pub(crate) struct ObjectRecord {
     level: u8,
 }
 
-/// 0 where the place is empty, its object, and 0 where it is not marked. That of place p of subject s is number 16 s + p.
+/// 0 where the place is empty, its object's slot, and 0 where it is not marked. That of place p of subject s is number
+/// 16 s + p.
 #[repr(C)]
 #[derive(Clone, Copy, PartialEq, Eq)]
 pub(crate) struct HandleRecord {
     way: u8,
-    object: u8,
+    slot: u8,
     mark: u8,
 }
 
 // `struct gatekeeper_monitor` of host/gatekeeper.h: what the archive is lent.
 const _: () = {
-    assert!(size_of::<State>() == 1848 && align_of::<State>() == 8);
-    assert!(offset_of!(State, subjects) == 0);
-    assert!(offset_of!(State, objects) == 64);
-    assert!(offset_of!(State, handles) == 192);
-    assert!(offset_of!(State, freeze) == 1728);
-    assert!(offset_of!(State, needs) == 1729);
-    assert!(offset_of!(State, sure) == 1825);
-    assert!(offset_of!(State, counts) == 1832);
+    assert!(size_of::<State>() == 2360 && align_of::<State>() == 8);
+    assert!(offset_of!(State, numbers) == 0);
+    assert!(offset_of!(State, subjects) == 512);
+    assert!(offset_of!(State, objects) == 576);
+    assert!(offset_of!(State, handles) == 704);
+    assert!(offset_of!(State, freeze) == 2240);
+    assert!(offset_of!(State, needs) == 2241);
+    assert!(offset_of!(State, sure) == 2337);
+    assert!(offset_of!(State, counts) == 2344);
 };
 
 impl State {
@@ -96,9 +101,10 @@ impl State {
         assert_eq!(version, crate::VERSION, "libhost.a is of another version than this crate");
 
         let mut state = State {
+            numbers: [0; OBJECTS as usize],
             subjects: [SubjectRecord { live: 0, level: 0 }; SUBJECTS as usize],
             objects: [ObjectRecord { kind: 0, level: 0 }; OBJECTS as usize],
-            handles: [HandleRecord { way: 0, object: 0, mark: 0 }; (SUBJECTS * PLACES) as usize],
+            handles: [HandleRecord { way: 0, slot: 0, mark: 0 }; (SUBJECTS * PLACES) as usize],
             freeze: 0,
             needs: [0; (SUBJECTS + OBJECTS) as usize],
             sure: 0,
@@ -115,7 +121,7 @@ impl State {
 
     /// Makes the call with this code, whatever it is. Numbers that the code does not use are ignored.
     #[inline]
-    pub fn direct(&mut self, code: u32, numbers: [u32; 6]) -> Answer {
+    pub fn direct(&mut self, code: u64, numbers: [u64; 6]) -> Answer {
         let quick = self.quick(code, numbers);
         let number = if quick != 0 { quick } else { archive::monitor_call(self, code, numbers) };
         Answer::from_number(number)
@@ -124,7 +130,7 @@ impl State {
     /// The answer's number to an open or a close that changes no need, which is done in place; 0, and nothing is
     /// touched, where it is not that simple.
     #[inline]
-    fn quick(&mut self, code: u32, numbers: [u32; 6]) -> u32 {
+    fn quick(&mut self, code: u64, numbers: [u64; 6]) -> u32 {
         // tools/step writes this: from here
         let [a, b, c, ..] = numbers;
         match code {
@@ -152,7 +158,7 @@ impl State {
 
     /// The level from which on files are frozen; none where no file is.
     pub fn frozen_from(&self) -> Option<u8> {
-        (u32::from(self.freeze) < NO_FREEZE).then_some(self.freeze)
+        (u64::from(self.freeze) < NO_FREEZE).then_some(self.freeze)
     }
 
     /// Whether calls go by what the state keeps, and look for no dangling handle: the header's `sure`. They do, and
@@ -167,13 +173,13 @@ impl State {
 #[doc(hidden)]
 impl State {
     /// The call in place. None, and nothing is touched, where it is not that simple.
-    pub fn quickly(&mut self, code: u32, numbers: [u32; 6]) -> Option<Answer> {
+    pub fn quickly(&mut self, code: u64, numbers: [u64; 6]) -> Option<Answer> {
         let number = self.quick(code, numbers);
         (number != 0).then(|| Answer::from_number(number))
     }
 
     /// The call by `gatekeeper_monitor_call`, whatever it is.
-    pub fn wholly(&mut self, code: u32, numbers: [u32; 6]) -> Answer {
+    pub fn wholly(&mut self, code: u64, numbers: [u64; 6]) -> Answer {
         Answer::from_number(archive::monitor_call(self, code, numbers))
     }
 
@@ -202,51 +208,71 @@ impl State {
 /// ```
 impl State {
     /// The level of a subject; none where it is not live.
-    pub fn subject(&self, subject: u32) -> Option<u8> {
-        let record = self.subjects.get(subject as usize)?;
+    pub fn subject(&self, subject: u64) -> Option<u8> {
+        let record = self.subjects.get(usize::try_from(subject).ok()?)?;
         (record.live > 0).then_some(record.level)
     }
 
     /// An object; none where it is not live.
-    pub fn object(&self, object: u32) -> Option<Object> {
-        let &ObjectRecord { kind, level } = self.objects.get(object as usize)?;
-        let kind = match kind {
-            0 => return None,
-            1 => Kind::File,
-            _ => Kind::Pipe,
-        };
-        Some(Object { kind, level })
+    pub fn object(&self, object: u64) -> Option<Object> {
+        self.object_in(self.slot_of(object)?)
+    }
+
+    /// The live objects with their numbers, the lowest number first.
+    pub fn objects(&self) -> impl Iterator<Item = (u64, Object)> + '_ {
+        let mut numbers: Vec<u64> = self.numbers.to_vec();
+        numbers.sort_unstable();
+        numbers.dedup();
+        numbers.into_iter().filter_map(|number| Some((number, self.object(number)?)))
     }
 
     /// The handle at a place; none where it is empty, the subject not live, or the handle's object not live.
-    pub fn handle(&self, subject: u32, place: u32) -> Option<Handle> {
+    pub fn handle(&self, subject: u64, place: u64) -> Option<Handle> {
         self.subject(subject)?;
         let at = (place < PLACES).then_some(PLACES * subject + place)?;
-        let &HandleRecord { way, object, mark } = self.handles.get(at as usize)?;
+        let &HandleRecord { way, slot, mark } = self.handles.get(at as usize)?;
         let way = match way {
             0 => return None,
             1 => Way::Reads,
             3 => Way::Maps,
             _ => Way::Writes,
         };
-        self.object(object.into())?;
-        Some(Handle { way, object, marked: mark > 0 })
+        let slot = usize::from(slot);
+        let object = *self.numbers.get(slot)?;
+        (self.slot_of(object) == Some(slot)).then_some(Handle { way, object, marked: mark > 0 })
     }
 
     /// The need of a subject, the lowest level that it may fall to while no handle goes; none where it is not live.
     ///
     /// The state keeps it ready, and nothing is worked out here.
-    pub fn need_of_subject(&self, subject: u32) -> Option<u8> {
+    pub fn need_of_subject(&self, subject: u64) -> Option<u8> {
         self.subject(subject)?;
-        self.needs.get(subject as usize).copied()
+        self.needs.get(usize::try_from(subject).ok()?).copied()
     }
 
     /// The need of an object: nothing of a lower level may reach it; none where it is not live.
     ///
     /// It is kept as that of a subject is ([`State::need_of_subject`]).
-    pub fn need_of_object(&self, object: u32) -> Option<u8> {
-        self.object(object)?;
-        self.needs.get((SUBJECTS + object) as usize).copied()
+    pub fn need_of_object(&self, object: u64) -> Option<u8> {
+        let slot = self.slot_of(object)?;
+        self.needs.get(SUBJECTS as usize + slot).copied()
+    }
+
+    /// The slot of an object: the first in use that has its number.
+    fn slot_of(&self, object: u64) -> Option<usize> {
+        let mut slots = self.numbers.iter().zip(&self.objects);
+        slots.position(|(&number, record)| number == object && record.kind > 0)
+    }
+
+    /// What stands in a slot.
+    fn object_in(&self, slot: usize) -> Option<Object> {
+        let &ObjectRecord { kind, level } = self.objects.get(slot)?;
+        let kind = match kind {
+            0 => return None,
+            1 => Kind::File,
+            _ => Kind::Pipe,
+        };
+        Some(Object { kind, level })
     }
 }
 
@@ -270,29 +296,28 @@ impl State {
 impl From<&Monitor> for State {
     fn from(monitor: &Monitor) -> State {
         let mut state = State::new();
+        // Each object keeps its slot, which the handles go by.
+        let bytes = monitor.as_bytes();
+        for slot in 0..OBJECTS as usize {
+            state.numbers[slot] = u64::from_le_bytes(from_fn(|byte| bytes[NUMBERS_AT + 8 * slot + byte]));
+            let [kind, level] = from_fn(|byte| bytes[OBJECTS_AT + 2 * slot + byte]);
+            state.objects[slot] = ObjectRecord { kind: if kind < 3 { kind } else { 0 }, level };
+        }
         for s in 0..SUBJECTS {
             if let Some(level) = monitor.subject(s) {
                 state.subjects[s as usize] = SubjectRecord { live: 1, level };
             }
             for p in 0..PLACES {
-                if let Some(Handle { way, object, marked }) = monitor.handle(s, p) {
+                if let Some(Handle { way, marked, .. }) = monitor.handle(s, p) {
                     let way = match way {
                         Way::Reads => 1,
                         Way::Writes => 2,
                         Way::Maps => 3,
                     };
-                    state.handles[(PLACES * s + p) as usize] =
-                        HandleRecord { way, object, mark: marked.into() };
+                    let at = (PLACES * s + p) as usize;
+                    let slot = bytes[HANDLES_AT + 3 * at + 1];
+                    state.handles[at] = HandleRecord { way, slot, mark: marked.into() };
                 }
-            }
-        }
-        for o in 0..OBJECTS {
-            if let Some(Object { kind, level }) = monitor.object(o) {
-                let kind = match kind {
-                    Kind::File => 1,
-                    Kind::Pipe => 2,
-                };
-                state.objects[o as usize] = ObjectRecord { kind, level };
             }
         }
         state.freeze = monitor.frozen_from().unwrap_or(NO_FREEZE as u8);
@@ -348,9 +373,10 @@ mod tests {
         assert!(state.subjects[31] == SubjectRecord { live: 1, level: 9 });
         assert!(state.objects[62] == ObjectRecord { kind: 2, level: 9 });
         assert!(state.objects[63] == ObjectRecord { kind: 1, level: 7 });
+        assert_eq!((state.numbers[62], state.numbers[63]), (62, 63));
         assert!(state.handles[16 * 31 + 13].way == 0);
-        assert!(state.handles[16 * 31 + 14] == HandleRecord { way: 2, object: 62, mark: 0 });
-        assert!(state.handles[16 * 31 + 15] == HandleRecord { way: 2, object: 63, mark: 1 });
+        assert!(state.handles[16 * 31 + 14] == HandleRecord { way: 2, slot: 62, mark: 0 });
+        assert!(state.handles[16 * 31 + 15] == HandleRecord { way: 2, slot: 63, mark: 1 });
         assert_eq!((state.needs[31], state.needs[32 + 63]), (7, 7));
         assert_eq!((state.freeze, state.sure, state.counts), (5, 1, [3, 1]));
         assert_eq!((state.open(), state.frozen_from()), (2, Some(5)));
@@ -420,6 +446,60 @@ mod tests {
         assert!(!state.is_sure());
     }
 
+    /// Slots 2, 5 and 9 have one number, and subject 0 has a handle on each: the first slot in use counts, in the struct,
+    /// in bytes of the same tables and in a struct that is filled from these.
+    #[test]
+    fn of_slots_with_one_number_the_first_in_use_counts() {
+        let mut state =
+            after(&[Call::Admit { subject: 0, level: 9 }, Call::Register { object: 1, level: 9 }]);
+        let mut bytes = [0; crate::STATE_BYTES];
+        bytes.copy_from_slice(after_on_bytes(&state).as_bytes());
+        for (place, (slot, kind)) in [(2, 1), (5, 2), (9, 1)].into_iter().enumerate() {
+            state.numbers[slot] = 1 << 40;
+            state.objects[slot] = ObjectRecord { kind, level: 9 };
+            state.handles[place] = HandleRecord { way: 1, slot: slot as u8, mark: 0 };
+            bytes[NUMBERS_AT + 8 * slot..][..8].copy_from_slice(&(1u64 << 40).to_le_bytes());
+            bytes[OBJECTS_AT + 2 * slot..][..2].copy_from_slice(&[kind, 9]);
+            bytes[HANDLES_AT + 3 * place..][..3].copy_from_slice(&[1, slot as u8, 0]);
+        }
+        state.sure = 0;
+        for (used, kind) in [(2, Kind::File), (5, Kind::Pipe), (9, Kind::File)] {
+            let monitor = Monitor::from_bytes(bytes);
+            let mut assured = state.clone();
+            assert!(archive::monitor_assure(&mut assured) && assured.is_sure());
+            let filled = State::from(&monitor);
+            assert!(filled == assured);
+            let expected =
+                [(1, Object { kind: Kind::File, level: 9 }), (1 << 40, Object { kind, level: 9 })];
+            assert!(monitor.objects().eq(expected));
+            for state in [&state, &assured, &filled] {
+                assert!(state.objects().eq(expected));
+                assert_eq!(state.object(1 << 40), Some(Object { kind, level: 9 }));
+                for (place, slot) in (0..).zip([2, 5, 9]) {
+                    let there = Handle { way: Way::Reads, object: 1 << 40, marked: false };
+                    assert_eq!(state.handle(0, place), (slot == used).then_some(there), "slot {slot}");
+                    assert_eq!(monitor.handle(0, place), state.handle(0, place), "slot {slot}");
+                }
+            }
+            // What counts as free is free, and what counts as empty empty.
+            let in_use = assured.objects.iter().filter(|record| record.kind > 0).count();
+            assert_eq!((in_use, assured.handles.iter().filter(|record| record.way > 0).count()), (2, 1));
+            // With the first one free, the next one counts.
+            state.objects[used].kind = 0;
+            bytes[OBJECTS_AT + 2 * used] = 0;
+        }
+        assert_eq!((state.object(1 << 40), state.objects().count()), (None, 1));
+    }
+
+    /// The monitor of bytes after the calls with which the test above begins, which has the same tables.
+    fn after_on_bytes(state: &State) -> Monitor {
+        let mut monitor = Monitor::new();
+        assert_eq!(monitor.admit(0, 9), Answer::Allowed(9));
+        assert_eq!(monitor.register(1, 9), Answer::Allowed(9));
+        assert!(State::from(&monitor) == *state);
+        monitor
+    }
+
     #[test]
     fn the_tables_are_shown() {
         let state = after(&[
@@ -433,19 +513,19 @@ mod tests {
         ]);
         let object = |kind, level| Some(Object { kind, level });
         assert_eq!(
-            [0, 1, 2, 5, 64, u32::MAX].map(|o| state.object(o)),
+            [0, 1, 2, 5, 64, u64::MAX].map(|o| state.object(o)),
             [object(Kind::File, 7), object(Kind::File, 12), None, object(Kind::Pipe, 12), None, None]
         );
-        assert_eq!([0, 1, 32, u32::MAX].map(|s| state.subject(s)), [Some(12), None, None, None]);
+        assert_eq!([0, 1, 32, u64::MAX].map(|s| state.subject(s)), [Some(12), None, None, None]);
         let handle = |way, object, marked| Some(Handle { way, object, marked });
         assert_eq!(state.handle(0, 0), handle(Way::Reads, 5, true));
         assert_eq!(state.handle(0, 1), handle(Way::Writes, 5, false));
         assert_eq!(state.handle(0, 15), handle(Way::Maps, 1, false));
-        let empty = [(0, 3), (0, 16), (1, 0), (32, 0), (0, u32::MAX), (u32::MAX, 0), (1 << 28, 0)];
+        let empty = [(0, 3), (0, 16), (1, 0), (32, 0), (0, u64::MAX), (u64::MAX, 0), (1 << 28, 0)];
         assert_eq!(empty.map(|(s, p)| state.handle(s, p)), [None; 7]);
-        assert_eq!([0, 1, 32, u32::MAX].map(|s| state.need_of_subject(s)), [Some(7), None, None, None]);
+        assert_eq!([0, 1, 32, u64::MAX].map(|s| state.need_of_subject(s)), [Some(7), None, None, None]);
         assert_eq!([0, 1, 5, 6].map(|o| state.need_of_object(o)), [Some(7), Some(12), Some(7), None]);
-        assert_eq!(state.need_of_object(u32::MAX), None);
+        assert_eq!(state.need_of_object(u64::MAX), None);
     }
 
     #[test]

@@ -1,15 +1,17 @@
 //! What a monitor's tables hold, for a screen or a log: who is live, at which level, with which handles, and how far
 //! each may fall.
 
+use std::iter;
+
 use crate::archive;
 use crate::monitor::Monitor;
 
 /// How many subjects there may be; numbers start at 0.
-pub const SUBJECTS: u32 = 32;
-/// How many objects, files and pipes together.
-pub const OBJECTS: u32 = 64;
-/// How many places for handles each subject has.
-pub const PLACES: u32 = 16;
+pub const SUBJECTS: u64 = 32;
+/// How many objects may be live at a time, files and pipes together; they have any numbers.
+pub const OBJECTS: u64 = 64;
+/// How many places for handles each subject has; numbers start at 0.
+pub const PLACES: u64 = 16;
 
 /// What an object is.
 #[derive(Clone, Copy, Debug, PartialEq, Eq)]
@@ -38,7 +40,8 @@ pub enum Way {
 #[derive(Clone, Copy, Debug, PartialEq, Eq)]
 pub struct Handle {
     pub way: Way,
-    pub object: u8,
+    /// The number of its object.
+    pub object: u64,
     pub marked: bool,
 }
 
@@ -51,10 +54,11 @@ pub struct Handle {
 /// monitor.register(0, 7).granted()?; // a book of level 7
 /// monitor.admit(3, 9).granted()?; // a step of level 9
 /// monitor.open_write(3, 0, 5).granted()?; // the book at place 5
-/// monitor.pipe(3, 1, 0, 1).granted()?; // a pipe, which place 0 reads and place 1 writes
+/// monitor.pipe(3, 1 << 40, 0, 1).granted()?; // a pipe, which place 0 reads and place 1 writes
 ///
 /// assert_eq!(monitor.object(0), Some(Object { kind: Kind::File, level: 7 }));
-/// assert_eq!(monitor.object(1), Some(Object { kind: Kind::Pipe, level: 9 }));
+/// assert_eq!(monitor.object(1 << 40), Some(Object { kind: Kind::Pipe, level: 9 }));
+/// assert_eq!(monitor.objects().map(|(number, _)| number).collect::<Vec<u64>>(), [0, 1 << 40]);
 /// assert_eq!(monitor.handle(3, 5), Some(Handle { way: Way::Writes, object: 0, marked: false }));
 /// assert_eq!(monitor.handle(3, 6), None);
 ///
@@ -69,13 +73,13 @@ pub struct Handle {
 /// ```
 impl Monitor {
     /// The level of a subject; none where it is not live.
-    pub fn subject(&self, subject: u32) -> Option<u8> {
+    pub fn subject(&self, subject: u64) -> Option<u8> {
         let [level, live, ..] = archive::subject(self.as_bytes(), subject).to_le_bytes();
         (live > 0).then_some(level)
     }
 
     /// An object; none where it is not live.
-    pub fn object(&self, object: u32) -> Option<Object> {
+    pub fn object(&self, object: u64) -> Option<Object> {
         let [level, kind, ..] = archive::object(self.as_bytes(), object).to_le_bytes();
         let kind = match kind {
             0 => return None,
@@ -86,9 +90,22 @@ impl Monitor {
         Some(Object { kind, level })
     }
 
+    /// The live objects with their numbers, the lowest number first.
+    pub fn objects(&self) -> impl Iterator<Item = (u64, Object)> + '_ {
+        let mut next = Some(0);
+        iter::from_fn(move || {
+            let from = next?;
+            let number = archive::object_from(self.as_bytes(), from);
+            // Where there is none, the archive answers with 0, which may be live, too.
+            let object = if number < from { None } else { self.object(number) };
+            next = object.and_then(|_| number.checked_add(1));
+            Some((number, object?))
+        })
+    }
+
     /// The handle at a place; none where it is empty, the subject not live, or the handle's object not live.
-    pub fn handle(&self, subject: u32, place: u32) -> Option<Handle> {
-        let [object, way, mark, _] = archive::handle(self.as_bytes(), subject, place).to_le_bytes();
+    pub fn handle(&self, subject: u64, place: u64) -> Option<Handle> {
+        let [_, way, mark, _] = archive::handle(self.as_bytes(), subject, place).to_le_bytes();
         let way = match way {
             0 => return None,
             1 => Way::Reads,
@@ -96,6 +113,7 @@ impl Monitor {
             3 => Way::Maps,
             _ => unreachable!("the archive has no handle of way {way}"),
         };
+        let object = archive::handle_object(self.as_bytes(), subject, place);
         Some(Handle { way, object, marked: mark > 0 })
     }
 
@@ -103,7 +121,7 @@ impl Monitor {
     ///
     /// The monitor keeps it ready, and nothing is worked out here. On a monitor from other bytes than those of
     /// [`Monitor::as_bytes`] it may be wrong until [`Monitor::put_right`]; no answer goes by it.
-    pub fn need_of_subject(&self, subject: u32) -> Option<u8> {
+    pub fn need_of_subject(&self, subject: u64) -> Option<u8> {
         self.subject(subject)?;
         Some(archive::subject_need(self.as_bytes(), subject) as u8)
     }
@@ -111,7 +129,7 @@ impl Monitor {
     /// The need of an object: nothing of a lower level may reach it; none where it is not live.
     ///
     /// It is kept as that of a subject is ([`Monitor::need_of_subject`]).
-    pub fn need_of_object(&self, object: u32) -> Option<u8> {
+    pub fn need_of_object(&self, object: u64) -> Option<u8> {
         self.object(object)?;
         Some(archive::object_need(self.as_bytes(), object) as u8)
     }
@@ -120,10 +138,10 @@ impl Monitor {
 #[cfg(test)]
 mod tests {
     use super::*;
+    use crate::monitor::{NEEDS_AT, NUMBERS_AT};
     use crate::{Answer, Call, Refusal, STATE_BYTES};
 
-    /// Where the kept needs stand in a monitor's bytes: those of the subjects, then those of the objects.
-    const NEEDS_AT: usize = 1745;
+    /// Where the kept needs of the objects stand in a monitor's bytes, behind those of the subjects.
     const OBJECT_NEEDS_AT: usize = NEEDS_AT + 32;
 
     fn after(calls: &[Call]) -> Monitor {
@@ -137,26 +155,30 @@ mod tests {
     /// The same tables with other kept needs.
     fn with_needs(monitor: &Monitor, byte: u8) -> Monitor {
         let mut state = *monitor.as_bytes();
-        state[NEEDS_AT..].fill(byte);
+        state[NEEDS_AT..NUMBERS_AT].fill(byte);
         Monitor::from_bytes(state)
     }
 
-    /// The kept needs of everything, and of one number out of range each.
+    /// The kept needs of every subject and of the objects of low numbers, and of one number more each.
     fn needs(monitor: &Monitor) -> Vec<Option<u8>> {
         let subjects = (0..33).map(|s| monitor.need_of_subject(s));
         subjects.chain((0..65).map(|o| monitor.need_of_object(o))).collect()
     }
 
     /// All bytes but the kept needs.
-    fn tables(monitor: &Monitor) -> &[u8] {
-        &monitor.as_bytes()[..NEEDS_AT]
+    fn tables(monitor: &Monitor) -> [&[u8]; 2] {
+        around_needs(monitor.as_bytes())
     }
 
-    fn needs_of_subjects<const N: usize>(monitor: &Monitor, subjects: [u32; N]) -> [Option<u8>; N] {
+    fn around_needs(state: &[u8; STATE_BYTES]) -> [&[u8]; 2] {
+        [&state[..NEEDS_AT], &state[NUMBERS_AT..]]
+    }
+
+    fn needs_of_subjects<const N: usize>(monitor: &Monitor, subjects: [u64; N]) -> [Option<u8>; N] {
         subjects.map(|s| monitor.need_of_subject(s))
     }
 
-    fn needs_of_objects<const N: usize>(monitor: &Monitor, objects: [u32; N]) -> [Option<u8>; N] {
+    fn needs_of_objects<const N: usize>(monitor: &Monitor, objects: [u64; N]) -> [Option<u8>; N] {
         objects.map(|o| monitor.need_of_object(o))
     }
 
@@ -178,13 +200,13 @@ mod tests {
     fn the_tables_are_shown() {
         let mut monitor = chain();
         assert_eq!(
-            [0, 1, 2, 31, 32, u32::MAX].map(|s| monitor.subject(s)),
+            [0, 1, 2, 31, 32, u64::MAX].map(|s| monitor.subject(s)),
             [Some(12), Some(12), None, None, None, None]
         );
         let object = |kind, level| Some(Object { kind, level });
         let expected =
             [object(Kind::File, 7), object(Kind::File, 2), None, object(Kind::Pipe, 12), None, None];
-        assert_eq!([0, 1, 2, 5, 64, u32::MAX].map(|o| monitor.object(o)), expected);
+        assert_eq!([0, 1, 2, 5, 64, u64::MAX].map(|o| monitor.object(o)), expected);
 
         assert_eq!(monitor.close(0, 2), Answer::Allowed(12));
         assert_eq!(monitor.map(0, 1, 15), Answer::Lowered(2));
@@ -193,9 +215,33 @@ mod tests {
         assert_eq!(monitor.handle(0, 0), handle(Way::Reads, 5, true));
         assert_eq!(monitor.handle(0, 15), handle(Way::Maps, 1, false));
         assert_eq!(monitor.handle(1, 1), handle(Way::Writes, 5, false));
-        let empty = [(0, 1), (0, 2), (0, 16), (1, 0), (2, 0), (32, 0), (0, u32::MAX), (u32::MAX, 0)];
+        let empty = [(0, 1), (0, 2), (0, 16), (1, 0), (2, 0), (32, 0), (0, u64::MAX), (u64::MAX, 0)];
         assert_eq!(empty.map(|(s, p)| monitor.handle(s, p)), [None; 8]);
         assert_eq!(monitor.subject(0), Some(2));
+        let file = |level| Object { kind: Kind::File, level };
+        let pipe = Object { kind: Kind::Pipe, level: 12 };
+        assert!(monitor.objects().eq([(0, file(7)), (1, file(2)), (5, pipe)]));
+    }
+
+    #[test]
+    fn objects_are_listed_by_their_numbers() {
+        let mut monitor = Monitor::new();
+        assert_eq!(monitor.objects().next(), None);
+        // In slots 63, 0, 1 and 2, in this order.
+        let numbers = [u64::MAX, 1 << 32, 65, 2];
+        for (number, level) in numbers.into_iter().zip(3..) {
+            assert_eq!(monitor.register(number, level), Answer::Allowed(level as u8));
+        }
+        let listed: Vec<(u64, u8)> =
+            monitor.objects().map(|(number, object)| (number, object.level)).collect();
+        assert_eq!(listed, [(2, 6), (65, 5), (1 << 32, 4), (u64::MAX, 3)]);
+
+        // With the last one gone, nothing comes behind the one before it, though 0 is live.
+        assert_eq!(monitor.register(0, 1), Answer::Allowed(1));
+        assert_eq!(monitor.retire(u64::MAX), Answer::Allowed(3));
+        let mut objects = monitor.objects().skip(3);
+        assert_eq!(objects.next().map(|(number, _)| number), Some(1 << 32));
+        assert_eq!((objects.next(), objects.next()), (None, None));
     }
 
     #[test]
@@ -210,11 +256,11 @@ mod tests {
         let state = monitor.as_bytes();
         assert_eq!((state[NEEDS_AT], state[NEEDS_AT + 31]), (3, 7));
         assert_eq!((state[OBJECT_NEEDS_AT], state[OBJECT_NEEDS_AT + 63]), (3, 7));
-        assert_eq!(OBJECT_NEEDS_AT + 64, STATE_BYTES);
+        assert_eq!((OBJECT_NEEDS_AT + 64, NUMBERS_AT + 8 * 64), (NUMBERS_AT, STATE_BYTES));
 
         // What is shown is what is kept, at each number its own.
         let mut state = *state;
-        for (byte, kept) in state[NEEDS_AT..].iter_mut().zip(100..) {
+        for (byte, kept) in state[NEEDS_AT..NUMBERS_AT].iter_mut().zip(100..) {
             *byte = kept;
         }
         let monitor = Monitor::from_bytes(state);
@@ -438,7 +484,7 @@ mod tests {
             let state = [byte; STATE_BYTES];
             let mut monitor = Monitor::from_bytes(state);
             monitor.put_right();
-            assert_eq!(tables(&monitor), &state[..NEEDS_AT]);
+            assert_eq!(tables(&monitor), around_needs(&state));
             let once = needs(&monitor);
             monitor.put_right();
             assert_eq!(needs(&monitor), once, "{byte}");
@@ -450,12 +496,13 @@ mod tests {
         // Subject 0 has file 0 open for writing, but there is no such file; it reads pipe 1, which is there.
         let mut state = *after(&[Call::Admit { subject: 0, level: 9 }]).as_bytes();
         state[66..68].copy_from_slice(&[2, 9]);
+        state[NUMBERS_AT + 8] = 1;
         state[192..198].copy_from_slice(&[2, 0, 1, 1, 1, 0]);
         let mut monitor = Monitor::from_bytes(state);
         monitor.put_right();
         assert_eq!((monitor.handle(0, 0), needs_of_subjects(&monitor, [0])), (None, [Some(0)]));
         assert_eq!(monitor.handle(0, 1), Some(Handle { way: Way::Reads, object: 1, marked: false }));
-        assert_eq!(tables(&monitor), &state[..NEEDS_AT]);
+        assert_eq!(tables(&monitor), around_needs(&state));
 
         // When the number comes into use, the place is empty still, and the need is that of an empty place.
         assert_eq!(monitor.register(0, 8), Answer::Allowed(8));

@@ -7,14 +7,21 @@ use crate::archive;
 use crate::call::{Call, NO_FREEZE};
 
 /// How many bytes a monitor, its tally and its kept needs take.
-pub const STATE_BYTES: usize = 1841;
+pub const STATE_BYTES: usize = 2353;
 
-/// How many a monitor took in versions 2.0.0 to 3.0.0: those before the kept needs.
-const STATE_BYTES_BEFORE: usize = 1745;
+/// Where the slots of the objects stand, two bytes each, and the handles, three bytes each.
+pub(crate) const OBJECTS_AT: usize = 64;
+pub(crate) const HANDLES_AT: usize = 192;
+
+/// Where the numbers of the objects stand, eight bytes each; so many bytes a monitor took in versions 4.0.0 to 5.0.0.
+pub(crate) const NUMBERS_AT: usize = 1841;
+
+/// How many it took in versions 2.0.0 to 3.0.0: those before the kept needs.
+pub(crate) const NEEDS_AT: usize = 1745;
 
 /// A monitor with its tally of handles and its kept needs. It is a plain value: a clone is a monitor of its own.
 ///
-/// Two are equal if their bytes are, the kept needs of numbers that are not in use among them.
+/// Two are equal if their bytes are, what stands at numbers and slots that are not in use among them.
 #[derive(Clone, PartialEq, Eq)]
 pub struct Monitor {
     state: [u8; STATE_BYTES],
@@ -35,8 +42,9 @@ impl Monitor {
         Monitor { state }
     }
 
-    /// The monitor that a host kept as bytes: those of this version as they are, or the 1,745 of version 2.0.0, 2.1.0
-    /// or 3.0.0, put right. None for bytes of any other length.
+    /// The monitor that a host kept as bytes: those of this version as they are, the 1,841 of versions 4.0.0 to 5.0.0
+    /// with the numbers 0 to 63 of its objects, or the 1,745 of version 2.0.0, 2.1.0 or 3.0.0 with these, put right.
+    /// None for bytes of any other length.
     ///
     /// Those of a version before these lack the third byte of each handle, which is 0, and the last, which is
     /// [`NO_FREEZE`]; with them they are bytes of version 2.0.0.
@@ -52,19 +60,29 @@ impl Monitor {
     /// let kept = monitor.as_bytes().to_vec();
     /// assert_eq!(Monitor::from_kept(&kept), Some(monitor));
     ///
-    /// let before = &kept[..1745]; // as version 3.0.0 kept it
-    /// assert_eq!(Monitor::from_kept(before).and_then(|monitor| monitor.need_of_subject(0)), Some(7));
+    /// for before in [1841, 1745] {
+    ///     let before = &kept[..before]; // as version 5.0.0 kept it, and as 3.0.0 did
+    ///     assert_eq!(Monitor::from_kept(before).and_then(|monitor| monitor.need_of_subject(0)), Some(7));
+    /// }
     /// # Ok::<(), Refusal>(())
     /// ```
     pub fn from_kept(kept: &[u8]) -> Option<Monitor> {
         if let Ok(state) = kept.try_into() {
             return Some(Monitor::from_bytes(state));
         }
-        let before: &[u8; STATE_BYTES_BEFORE] = kept.try_into().ok()?;
+        if ![NUMBERS_AT, NEEDS_AT].contains(&kept.len()) {
+            return None;
+        }
         let mut state = [0; STATE_BYTES];
-        state[..STATE_BYTES_BEFORE].copy_from_slice(before);
+        state[..kept.len()].copy_from_slice(kept);
+        // The object of number i stood at i.
+        for (bytes, number) in state[NUMBERS_AT..].chunks_exact_mut(8).zip(0u64..) {
+            bytes.copy_from_slice(&number.to_le_bytes());
+        }
         let mut monitor = Monitor::from_bytes(state);
-        monitor.put_right();
+        if kept.len() == NEEDS_AT {
+            monitor.put_right();
+        }
         Some(monitor)
     }
 
@@ -104,7 +122,7 @@ impl Monitor {
 
     /// Makes the call with this code, whatever it is. Numbers that the code does not use are ignored.
     #[inline]
-    pub fn direct(&mut self, code: u32, numbers: [u32; 6]) -> Answer {
+    pub fn direct(&mut self, code: u64, numbers: [u64; 6]) -> Answer {
         Answer::from_number(archive::call(&mut self.state, code, numbers))
     }
 
@@ -136,61 +154,61 @@ impl Monitor {
     /// ```
     pub fn frozen_from(&self) -> Option<u8> {
         let level = archive::frozen_from(&self.state);
-        (level < NO_FREEZE).then_some(level as u8)
+        (u64::from(level) < NO_FREEZE).then_some(level as u8)
     }
 }
 
 /// The calls by name; [`Call`] says what each does.
 impl Monitor {
-    pub fn admit(&mut self, subject: u32, level: u32) -> Answer {
+    pub fn admit(&mut self, subject: u64, level: u64) -> Answer {
         self.call(Call::Admit { subject, level })
     }
 
-    pub fn register(&mut self, object: u32, level: u32) -> Answer {
+    pub fn register(&mut self, object: u64, level: u64) -> Answer {
         self.call(Call::Register { object, level })
     }
 
-    pub fn create(&mut self, subject: u32, object: u32) -> Answer {
+    pub fn create(&mut self, subject: u64, object: u64) -> Answer {
         self.call(Call::Create { subject, object })
     }
 
-    pub fn pipe(&mut self, subject: u32, object: u32, reads: u32, writes: u32) -> Answer {
+    pub fn pipe(&mut self, subject: u64, object: u64, reads: u64, writes: u64) -> Answer {
         self.call(Call::Pipe { subject, object, reads, writes })
     }
 
-    pub fn open_read(&mut self, subject: u32, object: u32, place: u32) -> Answer {
+    pub fn open_read(&mut self, subject: u64, object: u64, place: u64) -> Answer {
         self.call(Call::OpenRead { subject, object, place })
     }
 
-    pub fn open_write(&mut self, subject: u32, object: u32, place: u32) -> Answer {
+    pub fn open_write(&mut self, subject: u64, object: u64, place: u64) -> Answer {
         self.call(Call::OpenWrite { subject, object, place })
     }
 
-    pub fn read(&mut self, subject: u32, place: u32) -> Answer {
+    pub fn read(&mut self, subject: u64, place: u64) -> Answer {
         self.call(Call::Read { subject, place })
     }
 
-    pub fn write(&mut self, subject: u32, place: u32) -> Answer {
+    pub fn write(&mut self, subject: u64, place: u64) -> Answer {
         self.call(Call::Write { subject, place })
     }
 
-    pub fn fork(&mut self, subject: u32, child: u32) -> Answer {
+    pub fn fork(&mut self, subject: u64, child: u64) -> Answer {
         self.call(Call::Fork { subject, child })
     }
 
-    pub fn exec(&mut self, subject: u32, object: u32) -> Answer {
+    pub fn exec(&mut self, subject: u64, object: u64) -> Answer {
         self.call(Call::Exec { subject, object })
     }
 
-    pub fn close(&mut self, subject: u32, place: u32) -> Answer {
+    pub fn close(&mut self, subject: u64, place: u64) -> Answer {
         self.call(Call::Close { subject, place })
     }
 
-    pub fn exit(&mut self, subject: u32) -> Answer {
+    pub fn exit(&mut self, subject: u64) -> Answer {
         self.call(Call::Exit { subject })
     }
 
-    pub fn retire(&mut self, object: u32) -> Answer {
+    pub fn retire(&mut self, object: u64) -> Answer {
         self.call(Call::Retire { object })
     }
 
@@ -203,15 +221,15 @@ impl Monitor {
     /// assert_eq!(monitor.map(0, 1, 0), Answer::Lowered(2)); // the importer's level: it sees the sheet from now on
     /// # Ok::<(), Refusal>(())
     /// ```
-    pub fn map(&mut self, subject: u32, object: u32, place: u32) -> Answer {
+    pub fn map(&mut self, subject: u64, object: u64, place: u64) -> Answer {
         self.call(Call::Map { subject, object, place })
     }
 
-    pub fn mark(&mut self, subject: u32, place: u32) -> Answer {
+    pub fn mark(&mut self, subject: u64, place: u64) -> Answer {
         self.call(Call::Mark { subject, place })
     }
 
-    pub fn freeze(&mut self, level: u32) -> Answer {
+    pub fn freeze(&mut self, level: u64) -> Answer {
         self.call(Call::Freeze { level })
     }
 
@@ -228,12 +246,12 @@ impl Monitor {
     /// ```
     pub fn connect(
         &mut self,
-        subject: u32,
-        peer: u32,
-        to: u32,
-        from: u32,
-        reading: u32,
-        writing: u32,
+        subject: u64,
+        peer: u64,
+        to: u64,
+        from: u64,
+        reading: u64,
+        writing: u64,
     ) -> Answer {
         self.call(Call::Connect { subject, peer, to, from, reading, writing })
     }
@@ -258,16 +276,15 @@ impl fmt::Debug for Monitor {
 #[cfg(test)]
 mod tests {
     use super::*;
-    use crate::Refusal;
+    use crate::{Kind, Object, Refusal};
 
-    /// Where the handles, the freeze and the kept needs stand in a monitor's bytes.
-    const HANDLES_AT: usize = 192;
+    /// Where the freeze stands in a monitor's bytes.
     const FREEZE_AT: usize = 1744;
-    const NEEDS_AT: usize = 1745;
 
-    /// The bytes of the tables, the tally and the freeze: all but the kept needs.
-    fn tables(monitor: &Monitor) -> &[u8] {
-        &monitor.as_bytes()[..NEEDS_AT]
+    /// All bytes but the kept needs.
+    fn tables(monitor: &Monitor) -> [&[u8]; 2] {
+        let state = monitor.as_bytes();
+        [&state[..NEEDS_AT], &state[NUMBERS_AT..]]
     }
 
     #[test]
@@ -667,24 +684,23 @@ mod tests {
         let mut monitor = station();
         assert_eq!(monitor.open_read(1, 0, 3), Answer::Allowed(9));
         let before = monitor.clone();
-        let refused = |[s, t, a, b, p, q]: [u32; 6], refusal| {
+        let taken = 0;
+        let refused = |[s, t, a, b, p, q]: [u64; 6], refusal| {
             let mut monitor = before.clone();
             let answer = monitor.connect(s, t, a, b, p, q);
             assert_eq!(answer, Answer::Refused(refusal), "{:?}", [s, t, a, b, p, q]);
             assert_eq!(monitor, before);
         };
         // Each with all that is refused after it.
-        refused([32, 32, 64, 64, 16, 16], Refusal::NoSubject);
-        refused([2, 2, 64, 64, 16, 16], Refusal::NoSubject);
-        refused([2, 1, 64, 64, 16, 16], Refusal::NoSubject);
-        refused([0, 2, 64, 64, 16, 16], Refusal::NoSubject);
-        refused([0, 32, 64, 64, 16, 16], Refusal::NoSubject);
-        refused([0, 0, 64, 64, 16, 16], Refusal::SameSubject);
+        refused([32, 32, taken, taken, 16, 16], Refusal::NoSubject);
+        refused([2, 2, taken, taken, 16, 16], Refusal::NoSubject);
+        refused([2, 1, taken, taken, 16, 16], Refusal::NoSubject);
+        refused([0, 2, taken, taken, 16, 16], Refusal::NoSubject);
+        refused([0, 32, taken, taken, 16, 16], Refusal::NoSubject);
+        refused([0, 0, taken, taken, 16, 16], Refusal::SameSubject);
         refused([1, 1, 5, 6, 0, 1], Refusal::SameSubject);
-        refused([0, 1, 64, 6, 16, 16], Refusal::NumberTaken);
-        refused([0, 1, 5, 64, 16, 16], Refusal::NumberTaken);
-        refused([0, 1, 0, 6, 16, 16], Refusal::NumberTaken);
-        refused([0, 1, 5, 0, 16, 16], Refusal::NumberTaken);
+        refused([0, 1, taken, 6, 16, 16], Refusal::NumberTaken);
+        refused([0, 1, 5, taken, 16, 16], Refusal::NumberTaken);
         refused([0, 1, 5, 5, 16, 16], Refusal::NumberTaken);
         refused([0, 1, 5, 6, 16, 1], Refusal::PlaceUnfit);
         refused([0, 1, 5, 6, 0, 16], Refusal::PlaceUnfit);
@@ -773,17 +789,19 @@ mod tests {
         assert_eq!(Monitor::from_kept(kept).as_ref(), Some(&monitor));
 
         // Those of before are the same monitor, and right; and so they are with 96 bytes of any value, put right.
-        let again = Monitor::from_kept(&kept[..NEEDS_AT]).expect("bytes of before");
-        assert_eq!(tables(&again), tables(&monitor));
+        let [again, last] = [NEEDS_AT, NUMBERS_AT].map(|len| Monitor::from_kept(&kept[..len]));
+        let (again, last) = (again.expect("bytes of 3.0.0"), last.expect("bytes of 5.0.0"));
+        assert_eq!(tables(&again), tables(&last));
         for filled in [0, 7, 255] {
-            let mut bytes = [filled; STATE_BYTES];
-            bytes[..NEEDS_AT].copy_from_slice(tables(&monitor));
+            let mut bytes = *last.as_bytes();
+            bytes[NEEDS_AT..NUMBERS_AT].fill(filled);
             let mut by_hand = Monitor::from_bytes(bytes);
             by_hand.put_right();
-            for monitor in [&again, &by_hand] {
-                assert_eq!((monitor.need_of_subject(0), monitor.need_of_subject(1)), (Some(9), Some(0)));
-                assert_eq!((monitor.need_of_object(0), monitor.need_of_object(63)), (Some(9), Some(9)));
-                assert_eq!(tables(monitor), &kept[..NEEDS_AT]);
+            for other in [&again, &last, &by_hand] {
+                assert_eq!((other.need_of_subject(0), other.need_of_subject(1)), (Some(9), Some(0)));
+                assert_eq!((other.need_of_object(0), other.need_of_object(63)), (Some(9), Some(9)));
+                assert_eq!(other.as_bytes()[..NEEDS_AT], kept[..NEEDS_AT]);
+                assert!(other.objects().eq(monitor.objects()));
             }
         }
 
@@ -792,7 +810,10 @@ mod tests {
         assert_eq!(Monitor::from_kept(&wrong), Some(Monitor::from_bytes(wrong)));
 
         let long = [1; STATE_BYTES + 1];
-        for len in [0, 1, 1232, NEEDS_AT - 1, NEEDS_AT + 1, STATE_BYTES - 1, STATE_BYTES + 1] {
+        for len in [0, 1, 1232, NEEDS_AT - 1, NEEDS_AT + 1, NUMBERS_AT - 1, NUMBERS_AT + 1] {
+            assert_eq!(Monitor::from_kept(&long[..len]), None, "{len} bytes");
+        }
+        for len in [STATE_BYTES - 1, STATE_BYTES + 1] {
             assert_eq!(Monitor::from_kept(&long[..len]), None, "{len} bytes");
         }
     }
@@ -814,7 +835,7 @@ mod tests {
 
         // Nor where the kept needs are wrong: what is refused puts nothing right.
         let mut state = *launcher().as_bytes();
-        state[NEEDS_AT..].fill(0xa5);
+        state[NEEDS_AT..NUMBERS_AT].fill(0xa5);
         let mut monitor = Monitor::from_bytes(state);
         assert_eq!(monitor.open_read(0, 1, 1), Answer::Refused(Refusal::Flow));
         assert_eq!(monitor.exec(0, 1), Answer::Refused(Refusal::Flow));
@@ -853,8 +874,14 @@ mod tests {
         assert_eq!(monitor.register(0, 0), Answer::Allowed(0));
         assert_eq!(monitor.open_write(0, 0, 0), Answer::Refused(Refusal::Frozen));
 
-        // In bytes that are all 1 every handle is there and marked, but not one that is opened anew.
-        let mut monitor = Monitor::from_bytes([1; STATE_BYTES]);
+        // In bytes that are all 1 every slot has the same number, so that the first alone counts, and no handle is on it.
+        let monitor = Monitor::from_bytes([1; STATE_BYTES]);
+        let file = Object { kind: Kind::File, level: 1 };
+        assert!(monitor.objects().eq([(0x0101_0101_0101_0101, file)]));
+        assert_eq!(monitor.handle(0, 0), None);
+
+        // With other numbers every handle is there and marked, but not one that is opened anew.
+        let mut monitor = Monitor::from_kept(&[1; NUMBERS_AT]).expect("bytes of 5.0.0");
         let gone = monitor.gone();
         assert_eq!(monitor.close(0, 5), Answer::Allowed(1));
         assert_eq!(monitor.open_read(0, 2, 5), Answer::Allowed(1));

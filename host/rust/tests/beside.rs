@@ -1,9 +1,10 @@
-//! The archive beside the independent program: every call is made in both, and answers, tally and tables are
-//! compared after each; and so is all that the archive shows: subjects, objects, handles, the freeze, and the kept
-//! needs beside needs that are worked out from nothing. The calls come from generated journals, which start with empty
-//! tables, and are drawn for states that no calls made. The same comparison has to tell every wrong variant of the
-//! independent program apart.
+//! The archive beside the independent program: every call is made in both, and answers, tally, tables and kept needs, as
+//! they stand in the bytes, are compared after each, the needs beside needs that are worked out from nothing. After many
+//! so is all that the archive shows: subjects, objects, handles, the freeze and the kept needs. The calls come from
+//! generated journals, which start with empty tables, and are drawn for states that no calls made. The same comparison
+//! has to tell every wrong variant of the independent program apart.
 
+use std::cell::Cell;
 use std::cmp::Ordering;
 use std::fmt;
 
@@ -15,36 +16,48 @@ use gatekeeper_independent::needs::{self, Needs, Thing};
 use gatekeeper_independent::random::Random;
 use gatekeeper_independent::records::{self, Body, Reader};
 use gatekeeper_independent::replies::{replies, replies_by};
-use gatekeeper_independent::tables::{Direction, Handle, Kind, Object, Subject, Tables, LIMITS};
+use gatekeeper_independent::tables::{
+    Direction, Handle, Kind, Object, StoredTables, Subject, Tables, LIMITS,
+};
 use gatekeeper_independent::variants::{self, Rules};
 use gatekeeper_independent::{numbers, refusals};
 
 const SEED: u64 = 1;
 
-/// Where the handles, the tally, the freeze and the kept needs stand in a monitor's bytes.
+/// Where the slots, the handles, the tally, the freeze, the kept needs and the numbers stand in a monitor's bytes.
+const OBJECTS_AT: usize = 64;
 const HANDLES_AT: usize = 192;
 const MADE_AT: usize = 1728;
 const FREEZE_AT: usize = 1744;
 const NEEDS_AT: usize = 1745;
+const NUMBERS_AT: usize = 1841;
 
-const REGISTER: u32 = 2;
-const OPEN_READ: u32 = 5;
-const OPEN_WRITE: u32 = 6;
-const READ: u32 = 7;
-const WRITE: u32 = 8;
-const EXEC: u32 = 10;
-const CLOSE: u32 = 11;
-const EXIT: u32 = 12;
-const MAP: u32 = 14;
-const CONNECT: u32 = 17;
+const REGISTER: u64 = 2;
+const OPEN_READ: u64 = 5;
+const OPEN_WRITE: u64 = 6;
+const READ: u64 = 7;
+const WRITE: u64 = 8;
+const EXEC: u64 = 10;
+const CLOSE: u64 = 11;
+const EXIT: u64 = 12;
+const MAP: u64 = 14;
+const CONNECT: u64 = 17;
 
 /// The refusals that answer a connect, in the order in which they are tested: RULES R105, R120.
-const REFUSING_CONNECTS: [usize; 5] = [2, 16, 3, 7, 9];
+const REFUSING_CONNECTS: [usize; 6] = [2, 16, 3, 17, 7, 9];
 
 /// How many calls each of the two large comparisons makes.
 const CALLS_OF_JOURNALS: usize = 300_000;
 const CALLS_ON_ANY_STATE: usize = 100_000;
 const CALLS_ON_EACH_STATE: usize = 20;
+
+/// After how many calls, and of how many states, all that is shown is compared: it takes the archive longer than a call.
+const CALLS_TO_A_LOOK: usize = 400;
+
+thread_local! {
+    /// How often a test came to where it may look.
+    static TURNS: Cell<usize> = const { Cell::new(0) };
+}
 
 /// A monitor of the archive and one of the independent program, in the same state.
 struct Pair {
@@ -78,7 +91,7 @@ impl Pair {
 
     /// Makes a call in both; the error says how answer or tally differ. Tables are compared too, but for a variant,
     /// which must be found by its answers.
-    fn call(&mut self, code: u32, numbers: Numbers) -> Result<Answer, String> {
+    fn call(&mut self, code: u64, numbers: Numbers) -> Result<Answer, String> {
         let before = self.proved.clone();
         let answer = self.proved.direct(code, numbers);
         let made = self.proved.made().wrapping_sub(self.made);
@@ -105,34 +118,58 @@ impl Pair {
         Ok(answer)
     }
 
-    /// Compares what the archive shows of the tables, and of the needs where the monitor is right; the error says how
-    /// it differs. A number of each that is out of range is asked for, too.
+    /// Compares the kept needs, where the monitor is right; and, where it is the turn, what the archive shows. The error
+    /// says how it differs.
     fn look(&mut self) -> Result<(), String> {
+        if self.needs.is_some() {
+            let tables = self.plain.tables();
+            let needs = Needs::of_tables(tables);
+            for thing in needs::live_things(tables) {
+                let kept = need_in(self.proved.as_bytes(), thing);
+                alike(("the need of", thing), kept.map(u64::from), Some(needs.of(thing)))?;
+            }
+            self.needs = Some(needs);
+        }
+        let turn = TURNS.get();
+        TURNS.set(turn + 1);
+        if turn % CALLS_TO_A_LOOK == 0 {
+            self.look_at_all()?;
+        }
+        Ok(())
+    }
+
+    /// Compares what the archive shows of the tables, and of the needs where the monitor is right. Numbers of each that
+    /// are out of range, or of no object, are asked for, too.
+    fn look_at_all(&self) -> Result<(), String> {
         let (proved, tables) = (&self.proved, self.plain.tables());
-        alike("the freeze", proved.frozen_from().map(u32::from), tables.frozen_from())?;
-        for s in 0..=LIMITS.subjects {
+        let far = [64, 1 << 32, u64::MAX];
+        alike("the freeze", proved.frozen_from().map(u64::from), tables.frozen_from())?;
+        for s in (0..=LIMITS.subjects).chain(far) {
             alike(("subject", s), proved.subject(s).map(subject_of), tables.subject(s))?;
-            for p in 0..=LIMITS.places {
-                alike(("the handle", s, p), proved.handle(s, p).map(handle_of), tables.handle(s, p))?;
+            if tables.subject(s).is_some() || s % 8 == 0 {
+                for p in (0..=LIMITS.places).chain(far) {
+                    alike(("the handle", s, p), proved.handle(s, p).map(handle_of), tables.handle(s, p))?;
+                }
             }
         }
-        for o in 0..=LIMITS.objects {
+        let live: Vec<u64> = tables.live_objects().collect();
+        alike("the objects", proved.objects().map(|(o, _)| o).collect(), live.clone())?;
+        let objects = || live.iter().copied().chain(0..=LIMITS.objects).chain(far);
+        for o in objects() {
             alike(("object", o), proved.object(o).map(object_of), tables.object(o))?;
         }
 
-        if self.needs.is_none() {
+        let Some(needs) = &self.needs else {
             return Ok(());
-        }
-        let needs = Needs::of_tables(tables);
-        for s in 0..=LIMITS.subjects {
+        };
+        for s in (0..=LIMITS.subjects).chain(far) {
             let need = tables.subject(s).map(|_| needs.of(Thing::Subject(s)));
-            alike(("the need of subject", s), proved.need_of_subject(s).map(u32::from), need)?;
+            alike(("the need of subject", s), proved.need_of_subject(s).map(u64::from), need)?;
         }
-        for o in 0..=LIMITS.objects {
+        for o in objects() {
             let need = tables.object(o).map(|_| needs.of(Thing::Object(o)));
-            alike(("the need of object", o), proved.need_of_object(o).map(u32::from), need)?;
+            alike(("the need of object", o), proved.need_of_object(o).map(u64::from), need)?;
         }
-        self.needs = Some(needs);
         Ok(())
     }
 
@@ -140,12 +177,15 @@ impl Pair {
     fn put_right(&mut self) -> Result<bool, String> {
         let before = self.proved.clone();
         self.proved.put_right();
-        let all_but_needs = |monitor: &Monitor| monitor.as_bytes()[..NEEDS_AT].to_vec();
+        let all_but_needs = |monitor: &Monitor| {
+            let state = monitor.as_bytes();
+            [&state[..NEEDS_AT], &state[NUMBERS_AT..]].concat()
+        };
         alike("what is not a need", all_but_needs(&self.proved), all_but_needs(&before))?;
 
         self.needs = Some(Needs::of_tables(self.plain.tables()));
         self.look()?;
-        let moved = |thing| kept_need(&before, thing) != kept_need(&self.proved, thing);
+        let moved = |thing| need_in(before.as_bytes(), thing) != need_in(self.proved.as_bytes(), thing);
         Ok(needs::live_things(self.plain.tables()).any(moved))
     }
 }
@@ -158,11 +198,32 @@ fn alike<T: fmt::Debug + PartialEq>(what: impl fmt::Debug, proved: T, plain: T) 
     Err(format!("{what:?}: the archive shows {proved:?}, the independent program has {plain:?}"))
 }
 
-fn kept_need(monitor: &Monitor, thing: Thing) -> Option<u8> {
-    match thing {
-        Thing::Subject(s) => monitor.need_of_subject(s),
-        Thing::Object(o) => monitor.need_of_object(o),
+/// The kept need of a live thing, by the layout in `host/gatekeeper.h`: that of an object is at the first slot in use
+/// that has its number.
+fn need_in(state: &[u8; STATE_BYTES], thing: Thing) -> Option<u8> {
+    let at = match thing {
+        Thing::Subject(s) => usize::try_from(s).ok()?,
+        Thing::Object(o) => {
+            32 + (0..64).find(|&slot| is_used(state, slot) && number_at(state, slot) == o)?
+        }
+    };
+    Some(state[NEEDS_AT + at])
+}
+
+fn is_used(state: &[u8; STATE_BYTES], slot: usize) -> bool {
+    matches!(state[OBJECTS_AT + 2 * slot], 1 | 2)
+}
+
+fn number_at(state: &[u8; STATE_BYTES], slot: usize) -> u64 {
+    u64::from_le_bytes(std::array::from_fn(|byte| state[NUMBERS_AT + 8 * slot + byte]))
+}
+
+/// These bytes with the number i at slot i, as objects of low numbers have them.
+fn numbered(mut state: [u8; STATE_BYTES]) -> [u8; STATE_BYTES] {
+    for (bytes, number) in state[NUMBERS_AT..].chunks_exact_mut(8).zip(0u64..) {
+        bytes.copy_from_slice(&number.to_le_bytes());
     }
+    state
 }
 
 fn subject_of(level: u8) -> Subject {
@@ -178,7 +239,7 @@ fn object_of(object: gatekeeper::Object) -> Object {
 }
 
 fn handle_of(handle: gatekeeper::Handle) -> Handle {
-    let object = handle.object.into();
+    let object = handle.object;
     let unmarked = match handle.way {
         Way::Reads => Handle::new(object, Direction::Reading),
         Way::Writes => Handle::new(object, Direction::Writing),
@@ -198,42 +259,42 @@ fn wrapped(answer: PlainAnswer) -> Answer {
 
 /// The tables that a monitor's bytes are, by the layout in `host/gatekeeper.h`.
 fn tables_of(state: &[u8; STATE_BYTES]) -> Tables {
-    let records = |from: usize, to: usize, bytes: usize| (0..).zip(state[from..to].chunks_exact(bytes));
-    let mut tables = Tables::new(LIMITS);
-    for (s, record) in records(0, 64, 2) {
+    let records = |from: usize, to: usize, bytes: usize| (0u64..).zip(state[from..to].chunks_exact(bytes));
+    let mut tables = StoredTables::new();
+    for (s, record) in records(0, OBJECTS_AT, 2) {
         let subject = Subject { level: record[1].into() };
         tables.set_subject(s, (record[0] == 1).then_some(subject));
     }
-    for (o, record) in records(64, HANDLES_AT, 2) {
-        let level = record[1].into();
-        tables.set_object(
-            o,
+    for (slot, record) in records(OBJECTS_AT, HANDLES_AT, 2) {
+        let (number, level) = (number_at(state, slot as usize), record[1].into());
+        tables.set_slot(
+            slot,
             match record[0] {
-                1 => Some(Object { kind: Kind::File, level }),
-                2 => Some(Object { kind: Kind::Pipe, level }),
+                1 => Some((number, Object { kind: Kind::File, level })),
+                2 => Some((number, Object { kind: Kind::Pipe, level })),
                 _ => None,
             },
         );
     }
     for (at, record) in records(HANDLES_AT, MADE_AT, 3) {
-        let (object, marked) = (record[1].into(), record[2] == 1);
+        let (slot, marked) = (record[1].into(), record[2] == 1);
         tables.set_handle(
             at / 16,
             at % 16,
             match record[0] {
-                1 => Some(Handle { marked, ..Handle::new(object, Direction::Reading) }),
-                2 => Some(Handle { marked, ..Handle::new(object, Direction::Writing) }),
-                3 => Some(Handle { marked, ..Handle::mapping(object) }),
+                1 => Some(Handle { marked, ..Handle::new(slot, Direction::Reading) }),
+                2 => Some(Handle { marked, ..Handle::new(slot, Direction::Writing) }),
+                3 => Some(Handle { marked, ..Handle::mapping(slot) }),
                 _ => None,
             },
         );
     }
     tables.set_freeze(state[FREEZE_AT].into());
-    tables
+    tables.tables()
 }
 
 /// The calls of a journal's records, those with an unknown code among them.
-fn calls_of(journal: &[u8]) -> Vec<(u32, Numbers)> {
+fn calls_of(journal: &[u8]) -> Vec<(u64, Numbers)> {
     let mut calls = Vec::new();
     let mut reader = Reader::new(journal, Rules::default());
     while let Some(Ok(span)) = reader.next_record() {
@@ -249,7 +310,8 @@ fn calls_of(journal: &[u8]) -> Vec<(u32, Numbers)> {
 /// A state of any bytes. In most of them many records mean something: how many handles, how many of these are
 /// marked, and how far levels lie apart, differs from state to state. As many handles are mappings as read and as
 /// write. The freeze is any byte, and often one of the levels; so is the third byte of a handle, and often a mark or
-/// none. The kept needs are any levels.
+/// none. The kept needs are any levels. The numbers of the objects are small or far apart, in some states many slots have
+/// the same, and in some nearly every slot is in use.
 fn drawn_state(random: &mut Random) -> [u8; STATE_BYTES] {
     let mut state = [0; STATE_BYTES];
     for byte in &mut state {
@@ -261,17 +323,27 @@ fn drawn_state(random: &mut Random) -> [u8; STATE_BYTES] {
     let levels = random.pick(&[1, 2, 4, 16, 256]).unwrap_or(16);
     let handles = random.pick(&[4, 8, 40, 200]).unwrap_or(4);
     let marks = random.pick(&[1, 2, 3, 256]).unwrap_or(2);
+    let is_full = random.once_in(4);
     let (things, rest) = state.split_at_mut(HANDLES_AT);
     for (index, record) in things.chunks_exact_mut(2).enumerate() {
-        let first = if index < 32 { random.below(3) } else { random.below(4) };
+        let first = match index {
+            0..32 => random.below(3),
+            _ if is_full && !random.once_in(60) => 1 + random.below(2),
+            _ => random.below(4),
+        };
         record.copy_from_slice(&[first as u8, random.below(levels) as u8]);
     }
     for record in rest[..MADE_AT - HANDLES_AT].chunks_exact_mut(3) {
         let bytes = [random.below(handles), random.below(68), random.below(marks)];
         record.copy_from_slice(&bytes.map(|byte| byte as u8));
     }
-    for need in &mut rest[NEEDS_AT - HANDLES_AT..] {
+    for need in &mut rest[NEEDS_AT - HANDLES_AT..NUMBERS_AT - HANDLES_AT] {
         *need = random.below(levels) as u8;
+    }
+    let repeats = !is_full && random.once_in(3);
+    for (slot, bytes) in (0..).zip(rest[NUMBERS_AT - HANDLES_AT..].chunks_exact_mut(8)) {
+        let number = if repeats { random.below(40) } else { slot };
+        bytes.copy_from_slice(&drawn_number(random, number).to_le_bytes());
     }
     if random.once_in(2) {
         state[FREEZE_AT] = random.below(levels.min(16)) as u8;
@@ -279,12 +351,21 @@ fn drawn_state(random: &mut Random) -> [u8; STATE_BYTES] {
     state
 }
 
+/// A number of an object: mostly the one that goes with a small one, which for some is far away; seldom another.
+fn drawn_number(random: &mut Random, small: u64) -> u64 {
+    match random.below(50) {
+        0 => small,
+        1 => random.below(u64::MAX),
+        _ => [0, 0, 64, 1 << 32, u64::MAX - 63][small as usize % 5] + small % 64,
+    }
+}
+
 /// A call whose numbers are mostly in range, and often those of live things. Many are execs, maps and connects: few of
 /// those are allowed, and only these close handles, place mappings and make channels. Many are writes to what is
 /// mapped, where something is.
-fn drawn_call(random: &mut Random, tables: &Tables) -> (u32, Numbers) {
+fn drawn_call(random: &mut Random, tables: &Tables) -> (u64, Numbers) {
     // Numbers that the code does not use are ignored, whatever they are.
-    let mut numbers = filled(&[]).map(|_| random.below(u32::MAX));
+    let mut numbers = filled(&[]).map(|_| random.below(u64::MAX));
     let code = random.pick(&[EXEC, EXEC, MAP, WRITE, CONNECT, 0, 0, 0, 0]).unwrap_or(0);
     if code == WRITE {
         if let Some((s, p)) = random.pick(&writers_of_mapped(tables)) {
@@ -295,16 +376,18 @@ fn drawn_call(random: &mut Random, tables: &Tables) -> (u32, Numbers) {
     if code == CONNECT {
         return (CONNECT, drawn_connect(random, tables));
     }
-    let any = SHAPES.get(random.below(SHAPES.len() as u32 + 1) as usize);
+    let any = SHAPES.get(random.below(SHAPES.len() as u64 + 1) as usize);
     let Some(shape) = shape_of_code(code).or(any) else {
         // Any code, or one near those that calls have.
-        let most = random.pick(&[20, u32::MAX]).unwrap_or(20);
+        let most = random.pick(&[20, u64::MAX]).unwrap_or(20);
         return (random.below(most), filled(&[]));
     };
-    let (mut subjects, mut objects): (Vec<u32>, Vec<u32>) = ((0..33).collect(), (0..65).collect());
+    let mut subjects: Vec<u64> = (0..33).collect();
+    let mut objects: Vec<u64> = tables.live_objects().collect();
     if random.once_in(2) {
         subjects.retain(|&s| tables.subject(s).is_some());
-        objects.retain(|&o| tables.object(o).is_some());
+    } else {
+        objects.extend((0..65).map(|o| drawn_number(random, o)));
     }
     for (number, name) in numbers.iter_mut().zip(shape.numbers) {
         if !random.once_in(60) {
@@ -322,8 +405,9 @@ fn drawn_call(random: &mut Random, tables: &Tables) -> (u32, Numbers) {
 /// at both.
 fn drawn_connect(random: &mut Random, tables: &Tables) -> Numbers {
     let [s, t] = drawn_pair(random, tables.live_subjects().collect(), 33);
-    let unused = (0..64).filter(|&o| tables.object(o).is_none());
-    let [a, b] = drawn_pair(random, unused.collect(), 65);
+    let mut unused: Vec<u64> = (0..64).map(|o| drawn_number(random, o)).collect();
+    unused.retain(|&o| tables.object(o).is_none());
+    let [a, b] = drawn_pair(random, unused, 65);
     let empty = (0..16).filter(|&p| [s, t].iter().all(|&holder| tables.handle(holder, p).is_none()));
     let [p, q] = drawn_pair(random, empty.collect(), 18);
     [s, t, a, b, p, q]
@@ -331,7 +415,7 @@ fn drawn_connect(random: &mut Random, tables: &Tables) -> Numbers {
 
 /// Two of the numbers that fit, or any below `all` where these are too few; now and then one of them is any, or both
 /// are the same.
-fn drawn_pair(random: &mut Random, mut fitting: Vec<u32>, all: u32) -> [u32; 2] {
+fn drawn_pair(random: &mut Random, mut fitting: Vec<u64>, all: u64) -> [u64; 2] {
     random.shuffle(&mut fitting);
     let [one, other] = [0, 1].map(|at| fitting.get(at).copied().unwrap_or_else(|| random.below(all)));
     match random.below(20) {
@@ -343,13 +427,13 @@ fn drawn_pair(random: &mut Random, mut fitting: Vec<u32>, all: u32) -> [u32; 2] 
 }
 
 /// The places that have an object open for writing which some subject, the same one or another, has mapped.
-fn writers_of_mapped(tables: &Tables) -> Vec<(u32, u32)> {
+fn writers_of_mapped(tables: &Tables) -> Vec<(u64, u64)> {
     let writing = tables.handles().filter(|(_, _, handle)| handle.direction == Direction::Writing);
     let mapped = writing.filter(|(_, _, handle)| tables.mappers(handle.object).next().is_some());
     mapped.map(|(s, p, _)| (s, p)).collect()
 }
 
-fn is_mapped_file(o: u32, tables: &Tables) -> bool {
+fn is_mapped_file(o: u64, tables: &Tables) -> bool {
     let is_file = tables.object(o).is_some_and(|object| object.kind == Kind::File);
     is_file && tables.mappers(o).next().is_some()
 }
@@ -379,7 +463,7 @@ struct Moves([usize; 18]);
 
 impl Moves {
     /// Whether there are calls of each of these codes, `least` or more, and none of any other code.
-    fn are_at(&self, codes: &[u32], least: usize) -> bool {
+    fn are_at(&self, codes: &[u64], least: usize) -> bool {
         (0..)
             .zip(self.0)
             .all(|(code, calls)| if codes.contains(&code) { calls >= least } else { calls == 0 })
@@ -399,7 +483,7 @@ impl fmt::Display for Moves {
 struct Outcomes {
     allowed: usize,
     lowered: usize,
-    refused: [usize; 17],
+    refused: [usize; 18],
 }
 
 impl Outcomes {
@@ -431,7 +515,7 @@ impl fmt::Display for Outcomes {
 
 impl Seen {
     /// Makes a call and counts what came of it.
-    fn call(&mut self, pair: &mut Pair, code: u32, numbers: Numbers) -> Result<(), String> {
+    fn call(&mut self, pair: &mut Pair, code: u64, numbers: Numbers) -> Result<(), String> {
         let [s, p, ..] = numbers;
         let before = pair.plain.tables();
         let mappings = before.handles_of(s).filter(|(_, handle)| handle.mapped).count() as u64;
@@ -513,7 +597,7 @@ impl Seen {
         assert!(*unmapped_at_exec > 100, "few mappings ended at exec");
         assert!(ended_at_exec - unmapped_at_exec > 100, "few handles ended at exec for their mark");
         // Those that answer a direct call.
-        for number in (1..=10).chain([15, 16]) {
+        for number in (1..=10).chain([15, 16, 17]) {
             let words = refusals::meaning(number as u32);
             assert!(all.refused[number] > 0, "no call was refused with {number}: {words}");
         }
@@ -582,7 +666,7 @@ fn calls_on_any_state_are_answered_alike() {
 fn opens_at_any_level_with_any_freeze_are_answered_alike() {
     let mut frozen = 0;
     for (freeze, level) in (0..=255).flat_map(|freeze| (0..=255u8).map(move |level| (freeze, level))) {
-        let mut state = [0; STATE_BYTES];
+        let mut state = numbered([0; STATE_BYTES]);
         state[..2].copy_from_slice(&[1, 255]); // subject 0
         state[2..4].copy_from_slice(&[1, level.saturating_sub(1)]); // subject 1, below the file
         state[64..66].copy_from_slice(&[1, level]); // file 0
@@ -610,7 +694,7 @@ fn opens_at_any_level_with_any_freeze_are_answered_alike() {
 fn execs_with_any_mark_are_answered_alike() {
     let mut closed = 0;
     for (mark, level) in (0..=255).flat_map(|mark| (0..16).map(move |level| (mark, level))) {
-        let mut state = [0; STATE_BYTES];
+        let mut state = numbered([0; STATE_BYTES]);
         state[..2].copy_from_slice(&[1, 12]); // subject 0
         state[64..66].copy_from_slice(&[1, 9]); // file 0
         state[66..68].copy_from_slice(&[1, level]); // file 1, the program
@@ -618,7 +702,7 @@ fn execs_with_any_mark_are_answered_alike() {
         state[HANDLES_AT..][..6].copy_from_slice(&[2, 0, mark, 1, 2, 1]); // it writes file 0, and reads the pipe
         state[FREEZE_AT] = 16;
         let mut pair = Pair::of_bytes(state);
-        let mut call = |code, numbers: &[u32]| {
+        let mut call = |code, numbers: &[u64]| {
             let answer = pair.call(code, filled(numbers));
             answer.unwrap_or_else(|difference| panic!("mark {mark}, level {level}: {difference}"))
         };
@@ -637,14 +721,14 @@ fn handles_with_any_first_byte_are_answered_alike() {
     for (byte, level) in (0..=255).flat_map(|byte| (0..16).map(move |level| (byte, level))) {
         for kind in [Kind::File, Kind::Pipe] {
             let first = if kind == Kind::File { 1 } else { 2 };
-            let mut state = [0; STATE_BYTES];
+            let mut state = numbered([0; STATE_BYTES]);
             state[..4].copy_from_slice(&[1, 9, 1, level]); // subjects 0 and 1
             state[64..68].copy_from_slice(&[first, 9, 1, 15]); // object 0, a file or a pipe; file 1, a program
             state[HANDLES_AT..][..3].copy_from_slice(&[2, 0, 0]); // subject 0 writes object 0
             state[HANDLES_AT + 3 * 16..][..6].copy_from_slice(&[byte, 0, 0, byte, 0, 0]); // subject 1 has it twice
             state[FREEZE_AT] = 16;
             let mut pair = Pair::of_bytes(state);
-            let mut call = |code, numbers: &[u32]| {
+            let mut call = |code, numbers: &[u64]| {
                 let answer = pair.call(code, filled(numbers));
                 answer.unwrap_or_else(|difference| panic!("byte {byte}, level {level}: {difference}"))
             };
@@ -667,7 +751,9 @@ fn maps_are_tested_as_opens_for_reading() {
     let mut maps = Outcomes::default();
     for draw in 0..20_000 {
         let state = drawn_state(&mut random);
-        let numbers = filled(&[random.below(33), random.below(65), random.below(18)]);
+        let slot = random.below(64);
+        let object = if random.once_in(4) { random.below(65) } else { number_at(&state, slot as usize) };
+        let numbers = filled(&[random.below(33), object, random.below(18)]);
         let answer = |code| {
             let answer = Pair::of_bytes(state).call(code, numbers);
             answer.unwrap_or_else(|difference| panic!("draw {draw}: {difference}"))
@@ -692,14 +778,14 @@ fn connects_at_any_levels_are_answered_alike() {
     let four =
         |case: usize| [case % 16, case / 16 % 16, case / 256 % 16, case / 4096].map(|level| level as u8);
     for [one, other, book, list] in (0..16_usize.pow(4)).map(four) {
-        let mut state = [0; STATE_BYTES];
+        let mut state = numbered([0; STATE_BYTES]);
         state[..4].copy_from_slice(&[1, one, 1, other]); // subjects 0 and 1
         state[64..68].copy_from_slice(&[1, book, 1, list]); // files 0 and 1
         state[HANDLES_AT..][..3].copy_from_slice(&[2, 0, 0]); // subject 0 writes file 0 at its place 0
         state[HANDLES_AT + 3 * 16..][..3].copy_from_slice(&[2, 1, 0]); // subject 1 writes file 1, likewise
         state[FREEZE_AT] = 16;
         let mut pair = Pair::of_bytes(state);
-        let mut call = |code, numbers: &[u32]| {
+        let mut call = |code, numbers: &[u64]| {
             let answer = pair.call(code, filled(numbers));
             answer.unwrap_or_else(|difference| panic!("{one}, {other}, {book}, {list}: {difference}"))
         };
@@ -727,7 +813,7 @@ fn connects_on_any_state_join_both_ways() {
         let mut pair = Pair::of_bytes(drawn_state(&mut random));
         let numbers = drawn_connect(&mut random, pair.plain.tables());
         let made = pair.proved.made();
-        let mut call = |code, numbers: &[u32]| {
+        let mut call = |code, numbers: &[u64]| {
             let answer = pair.call(code, filled(numbers));
             answer.unwrap_or_else(|difference| panic!("draw {draw}: {difference}"))
         };
@@ -774,7 +860,7 @@ fn journals_are_replied_to_alike() {
 fn numbers_are_read_alike() {
     let mut random = Random::new(SEED, 1);
     for _ in 0..300_000 {
-        let length = random.below(8) as usize;
+        let length = random.below(13) as usize;
         let bytes: Vec<u8> = (0..length)
             .map(|_| match random.below(6) {
                 0 => 0,
@@ -792,8 +878,8 @@ fn numbers_are_read_alike() {
 fn records_are_written_alike() {
     let mut random = Random::new(SEED, 2);
     for _ in 0..100_000 {
-        let shape = &SHAPES[random.below(SHAPES.len() as u32) as usize];
-        let numbers = filled(&[]).map(|_| random.below(u32::MAX) >> random.below(32));
+        let shape = &SHAPES[random.below(SHAPES.len() as u64) as usize];
+        let numbers = filled(&[]).map(|_| random.below(u64::MAX) >> random.below(64));
         let mut plain = Vec::new();
         records::write(shape.code, &numbers[..shape.numbers.len()], &mut plain);
         let mut proved = [0; gatekeeper::RECORD_ROOM];

@@ -1,9 +1,12 @@
-//! The monitor as a struct beside the monitor as bytes: every call is made on both, and the answers, the counts and all
-//! that is shown of the tables and of the kept needs are compared after each. And the two ways that a call on the struct can
-//! take, in place or by `gatekeeper_monitor_call`, beside each other: the answers and every field. The calls come from
-//! generated journals, and are drawn, with numbers a little out of range among them.
+//! The monitor as a struct beside the monitor as bytes: every call is made on both, and the answers and the counts are
+//! compared after each, and after many all that is shown of the tables and of the kept needs. And the two ways that a call
+//! on the struct can take, in place or by `gatekeeper_monitor_call`, beside each other: the answers and every field. The
+//! calls come from generated journals, and are drawn, with objects of numbers all over the range, and other numbers a
+//! little out of theirs.
 
-use gatekeeper::{Answer, Kind, Monitor, Refusal, State, Way, NO_FREEZE, OBJECTS, PLACES, SUBJECTS};
+use gatekeeper::{
+    Answer, Kind, Monitor, Object, Refusal, State, Way, NO_FREEZE, OBJECTS, PLACES, SUBJECTS,
+};
 use gatekeeper_independent::calls::{filled, Numbers, SHAPES};
 use gatekeeper_independent::generate::{self, Wish};
 use gatekeeper_independent::random::Random;
@@ -16,22 +19,28 @@ const SEED: u64 = 1;
 const CALLS_OF_JOURNALS: usize = 60_000;
 const DRAWN_CALLS: usize = 60_000;
 const DRAWN_CALLS_IN_A_ROW: usize = 1_500;
+/// After how many calls all that is shown is compared: what a monitor of bytes shows takes it longer than a call.
+const CALLS_TO_A_LOOK: usize = 150;
+/// The objects that are drawn: more than can be live.
+const DRAWN_OBJECTS: u64 = 80;
 
 /// The same monitor as a struct and as bytes.
 struct Pair {
     state: State,
     monitor: Monitor,
+    /// How many calls were made on both.
+    calls: usize,
 }
 
 impl Pair {
     fn empty() -> Pair {
-        let pair = Pair { state: State::new(), monitor: Monitor::new() };
+        let pair = Pair { state: State::new(), monitor: Monitor::new(), calls: 0 };
         pair.compare();
         pair
     }
 
     /// Makes a call on both, which have to agree.
-    fn call(&mut self, code: u32, numbers: Numbers) -> Answer {
+    fn call(&mut self, code: u64, numbers: Numbers) -> Answer {
         let before = self.state.clone();
         let answer = self.state.direct(code, numbers);
         assert_eq!(answer, self.monitor.direct(code, numbers), "code {code}, numbers {numbers:?}");
@@ -39,12 +48,19 @@ impl Pair {
             assert!(self.state == before, "a refused call changed a field: {code} {numbers:?}");
         }
         assert!(self.state.is_sure());
-        self.compare();
+        assert_eq!(
+            (self.state.made(), self.state.gone(), self.state.frozen_from()),
+            (self.monitor.made(), self.monitor.gone(), self.monitor.frozen_from())
+        );
+        self.calls += 1;
+        if self.calls % CALLS_TO_A_LOOK == 0 {
+            self.compare();
+        }
         answer
     }
 
     /// Makes a call on clones in each way, which have to agree; what it is answered in place.
-    fn each_way(&self, code: u32, numbers: Numbers) -> Option<Answer> {
+    fn each_way(&self, code: u64, numbers: Numbers) -> Option<Answer> {
         let call = format!("code {code}, numbers {numbers:?}");
         let mut whole = self.state.clone();
         let expected = whole.wholly(code, numbers);
@@ -67,7 +83,7 @@ impl Pair {
 
     /// Compares all that is shown, and a number of each that is out of range.
     fn compare(&self) {
-        let Pair { state, monitor } = self;
+        let Pair { state, monitor, .. } = self;
         assert_eq!((state.made(), state.gone()), (monitor.made(), monitor.gone()));
         assert_eq!((state.open(), state.frozen_from()), (monitor.open(), monitor.frozen_from()));
         for s in 0..=SUBJECTS {
@@ -79,9 +95,16 @@ impl Pair {
                 assert_eq!(state.handle(s, p), monitor.handle(s, p), "place {p} of subject {s}");
             }
         }
-        for o in 0..=OBJECTS {
-            assert_eq!(state.object(o), monitor.object(o), "object {o}");
+        let live: Vec<(u64, Object)> = monitor.objects().collect();
+        assert!(state.objects().eq(live.iter().copied()), "the objects are not {live:?}");
+        for &(o, object) in &live {
+            assert_eq!((state.object(o), monitor.object(o)), (Some(object), Some(object)), "object {o}");
             assert_eq!(state.need_of_object(o), monitor.need_of_object(o), "the need of object {o}");
+        }
+        for o in [OBJECTS, 1 << 32, u64::MAX].into_iter().filter(|o| live.iter().all(|(live, _)| live != o))
+        {
+            assert_eq!([state.object(o), monitor.object(o)], [None; 2], "object {o}");
+            assert_eq!([state.need_of_object(o), monitor.need_of_object(o)], [None; 2], "object {o}");
         }
     }
 }
@@ -92,7 +115,7 @@ struct Seen {
     allowed: usize,
     lowered: usize,
     /// By number.
-    refused: [usize; 17],
+    refused: [usize; 18],
     /// The most handles that were open.
     open: u64,
     quick: Quick,
@@ -106,7 +129,7 @@ struct Quick {
     opened: usize,
     closed: usize,
     /// Those that were refused in place, by number.
-    refused: [usize; 17],
+    refused: [usize; 18],
     /// Those that were allowed in place while there was a freeze, a marked handle, a mapping, and ten pipes or more; and of
     /// the closes, those of a marked handle, of a mapping, and of a handle on a pipe.
     under_freeze: usize,
@@ -119,7 +142,7 @@ struct Quick {
 }
 
 impl Quick {
-    fn call(&mut self, pair: &Pair, code: u32, numbers: Numbers) {
+    fn call(&mut self, pair: &Pair, code: u64, numbers: Numbers) {
         let answer = pair.each_way(code, numbers);
         let state = &pair.state;
         let closes = code == 11;
@@ -139,11 +162,12 @@ impl Quick {
         self.under_freeze += usize::from(state.frozen_from().is_some());
         self.beside_marked += usize::from(handles().any(|handle| handle.marked));
         self.beside_mapping += usize::from(handles().any(|handle| handle.way == Way::Maps));
-        self.beside_pipes += usize::from((0..OBJECTS).filter(|&o| is_pipe(o)).count() >= 10);
+        let pipes = state.objects().filter(|(_, object)| object.kind == Kind::Pipe);
+        self.beside_pipes += usize::from(pipes.count() >= 10);
         if let Some(handle) = state.handle(numbers[0], numbers[1]).filter(|_| closes) {
             self.of_marked += usize::from(handle.marked);
             self.of_mapping += usize::from(handle.way == Way::Maps);
-            self.of_pipe += usize::from(is_pipe(handle.object.into()));
+            self.of_pipe += usize::from(is_pipe(handle.object));
         }
     }
 
@@ -180,7 +204,7 @@ impl Quick {
 }
 
 impl Seen {
-    fn call(&mut self, pair: &mut Pair, code: u32, numbers: Numbers) {
+    fn call(&mut self, pair: &mut Pair, code: u64, numbers: Numbers) {
         self.quick.call(pair, code, numbers);
         match pair.call(code, numbers) {
             Answer::Allowed(_) => self.allowed += 1,
@@ -202,7 +226,7 @@ impl Seen {
              at most {open} handles open"
         );
         assert!(allowed > calls / 10 && lowered > 100, "few calls were allowed or lowered");
-        for number in [1, 2, 3, 4, 5, 6, 7, 8, 9, 10, 15, 16] {
+        for number in [1, 2, 3, 4, 5, 6, 7, 8, 9, 10, 15, 16, 17] {
             assert!(self.refused[number] > 0, "no call was refused with {number}");
         }
         self.quick.report();
@@ -210,7 +234,7 @@ impl Seen {
 }
 
 /// The calls of a journal's records, those with an unknown code among them.
-fn calls_of(journal: &[u8]) -> Vec<(u32, Numbers)> {
+fn calls_of(journal: &[u8]) -> Vec<(u64, Numbers)> {
     let mut calls = Vec::new();
     let mut reader = Reader::new(journal, Rules::default());
     while let Some(Ok(span)) = reader.next_record() {
@@ -225,27 +249,33 @@ fn calls_of(journal: &[u8]) -> Vec<(u32, Numbers)> {
 
 /// Mostly one of the numbers below `most` that fit; now and then any up to `most`, which is just out of range itself, and
 /// seldom one further out.
-fn drawn(random: &mut Random, most: u32, fits: impl Fn(u32) -> bool) -> u32 {
+fn drawn(random: &mut Random, most: u64, fits: impl Fn(u64) -> bool) -> u64 {
     if random.once_in(200) {
-        return random.pick(&[most + 2, 255, 256, 1 << 16, 1 << 31, u32::MAX]).unwrap_or(u32::MAX);
+        return random.pick(&[most + 2, 255, 256, 1 << 32, 1 << 63, u64::MAX]).unwrap_or(u64::MAX);
     }
     if random.once_in(12) {
         return random.between(0, most);
     }
-    let fitting: Vec<u32> = (0..most).filter(|&number| fits(number)).collect();
+    let fitting: Vec<u64> = (0..most).filter(|&number| fits(number)).collect();
     random.pick(&fitting).unwrap_or_else(|| random.between(0, most))
 }
 
+/// A number for the object that is drawn as `small`: all over the range, and four of them with the same lowest bits.
+fn number_of(small: u64) -> u64 {
+    let [near, far] = [small % 20, small / 20];
+    [near, 64 + near, (1 << 32) + near, u64::MAX - 63 + near].get(far as usize).copied().unwrap_or(small)
+}
+
 /// A call that often fits the tables. Execs, closes, exits and freezes are rarer than the others, so that the tables fill.
-fn drawn_call(random: &mut Random, state: &State) -> (u32, Numbers) {
+fn drawn_call(random: &mut Random, state: &State) -> (u64, Numbers) {
     // Numbers that the code does not use are ignored, whatever they are.
-    let mut numbers = filled(&[]).map(|_| random.below(u32::MAX));
+    let mut numbers = filled(&[]).map(|_| random.below(u64::MAX));
     let mut code = random.pick(&SHAPES.each_ref()).map_or(0, |shape| shape.code);
     if matches!(code, 10 | 11 | 12 | 16) && !random.once_in(4) {
         code = random.pick(&[4, 5, 6, 7, 8, 14, 15, 17]).unwrap_or(5);
     }
     if random.once_in(300) {
-        return (random.pick(&[0, 18, 19, 256, u32::MAX]).unwrap_or(0), numbers);
+        return (random.pick(&[0, 18, 19, 256, (1 << 32) + 5, u64::MAX]).unwrap_or(0), numbers);
     }
     let Some(shape) = SHAPES.iter().find(|shape| shape.code == code) else { return (code, numbers) };
     let subject = drawn(random, SUBJECTS, |s| state.subject(s).is_some());
@@ -256,7 +286,9 @@ fn drawn_call(random: &mut Random, state: &State) -> (u32, Numbers) {
             "s" => subject,
             "c" => drawn(random, SUBJECTS, |s| state.subject(s).is_none()),
             "t" => drawn(random, SUBJECTS, |s| s != subject && state.subject(s).is_some()),
-            "o" | "a" | "b" => drawn(random, OBJECTS, |o| makes != state.object(o).is_some()),
+            "o" | "a" | "b" => {
+                number_of(drawn(random, DRAWN_OBJECTS, |o| makes != state.object(number_of(o)).is_some()))
+            }
             "level" if code == 16 => random.between(8, NO_FREEZE + 1),
             "level" => random.between(0, 16),
             _ => {

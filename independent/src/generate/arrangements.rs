@@ -31,7 +31,7 @@ impl Draft {
             let numbers = self.numbers_for(2);
             self.record(2, &numbers);
         }
-        let mut upstream: Option<u32> = None;
+        let mut upstream: Option<u64> = None;
         for _ in 0..self.random.between(2, 9) {
             if self.records >= calls {
                 return;
@@ -73,7 +73,7 @@ impl Draft {
             1 => LIMITS.subjects,
             _ => self.random.between(6, 32),
         };
-        let mut members: Vec<u32> = (0..LIMITS.subjects).collect();
+        let mut members: Vec<u64> = (0..LIMITS.subjects).collect();
         self.random.shuffle(&mut members);
         members.truncate(length as usize);
         match self.random.below(4) {
@@ -83,7 +83,8 @@ impl Draft {
         }
         let top = self.levels.last().copied().unwrap_or(15);
         let low = self.levels.first().copied().unwrap_or(0);
-        let mut objects: Vec<u32> = (0..LIMITS.objects).collect();
+        let mut objects = self.store.clone();
+        objects.truncate(LIMITS.objects as usize);
         self.random.shuffle(&mut objects);
         for (&file, level) in objects.iter().zip([top, top, low, low]) {
             self.record(2, &[file, level]);
@@ -103,7 +104,7 @@ impl Draft {
             let pipe = objects[4 + index];
             // Two free places of a member, which has one handle so far: no link is missing.
             let tables = self.picture.tables();
-            let mut free: Vec<u32> =
+            let mut free: Vec<u64> =
                 (0..LIMITS.places).filter(|&p| tables.handle(s, p).is_none()).collect();
             self.random.shuffle(&mut free);
             let (r, w) = (free[0], free[1]);
@@ -127,14 +128,14 @@ impl Draft {
         let s = self.live_subject();
         let need = needs.of(Thing::Subject(s));
         let tables = self.picture.tables();
-        let files: Vec<(u32, u32)> = tables
+        let files: Vec<(u64, u64)> = tables
             .live_objects()
             .filter_map(|o| Some((o, tables.object(o)?)))
             .filter(|(_, object)| object.kind == Kind::File)
             .map(|(o, object)| (o, object.level))
             .collect();
-        let above: Vec<u32> = files.iter().filter(|file| file.1 >= need).map(|file| file.0).collect();
-        let below: Vec<u32> = files.iter().filter(|file| file.1 < need).map(|file| file.0).collect();
+        let above: Vec<u64> = files.iter().filter(|file| file.1 >= need).map(|file| file.0).collect();
+        let below: Vec<u64> = files.iter().filter(|file| file.1 < need).map(|file| file.0).collect();
         let p = self.free_place(s);
         let choice = self.random.below(6);
         let from = if choice < 3 { &above } else { &below };
@@ -168,7 +169,7 @@ impl Draft {
                     (6, vec![made[0], made[1], self.free_place(made[0])])
                 }
                 8 | 9 => (6, self.open_against_flow(6, Kind::File)),
-                10 => (6, self.open_against_flow(6, Kind::Pipe)),
+                10 | 14 => (6, self.open_against_flow(6, Kind::Pipe)),
                 11 | 12 => {
                     let code = self.random.pick(&[5, 14, 14]).unwrap_or(5);
                     (code, self.open_against_flow(code, Kind::File))
@@ -206,11 +207,9 @@ impl Draft {
             let (o, r, w) = (numbers[1], numbers[2], numbers[3]);
             self.record(4, &[first, o, r, w]);
         }
-        for index in 0..LIMITS.objects {
-            if self.picture.tables().object(index).is_none() {
-                let level = if self.random.once_in(3) { self.level() } else { top };
-                self.record(2, &[index, level]);
-            }
+        for o in self.free_numbers().into_iter().take(self.space() as usize) {
+            let level = if self.random.once_in(3) { self.level() } else { top };
+            self.record(2, &[o, level]);
         }
         for p in 0..LIMITS.places {
             if self.picture.tables().handle(first, p).is_none() {
@@ -224,11 +223,12 @@ impl Draft {
                 self.record(9, &[first, c]);
             }
         }
-        // One more of each, and one number beyond.
-        self.record(1, &[self.levels.len() as u32, top]);
+        // One more of each, with numbers in use and with others.
+        self.record(1, &[self.levels.len() as u64, top]);
         self.record(9, &[first, LIMITS.subjects]);
-        self.record(2, &[LIMITS.objects, top]);
-        self.record(4, &[first, LIMITS.objects - 1, 0, 1]);
+        let (more, in_use) = (self.free_object(), self.live_object(None));
+        self.record(2, &[more, top]);
+        self.record(4, &[first, in_use, 0, 1]);
         self.odd_numbers = odd;
     }
 }

@@ -7,21 +7,21 @@ use crate::tables::LIMITS;
 /// The numbers of a connect: two steps, two pipes, two places.
 #[derive(Clone, Copy)]
 struct Channel {
-    s: u32,
-    t: u32,
-    a: u32,
-    b: u32,
-    p: u32,
-    q: u32,
+    s: u64,
+    t: u64,
+    a: u64,
+    b: u64,
+    p: u64,
+    q: u64,
 }
 
 impl Channel {
-    fn numbers(self) -> [u32; 6] {
+    fn numbers(self) -> [u64; 6] {
         [self.s, self.t, self.a, self.b, self.p, self.q]
     }
 
     /// Who holds an end, and where.
-    fn ends(self) -> [(u32, u32); 4] {
+    fn ends(self) -> [(u64, u64); 4] {
         [(self.s, self.q), (self.t, self.p), (self.t, self.q), (self.s, self.p)]
     }
 }
@@ -46,12 +46,12 @@ impl Draft {
     }
 
     /// Numbers that fit, as long as there are such.
-    fn channel_between(&mut self, s: u32, t: u32) -> Channel {
+    fn channel_between(&mut self, s: u64, t: u64) -> Channel {
         let mut objects = self.free_objects();
         self.random.shuffle(&mut objects);
         let mut places = self.common_places(s, t);
         self.random.shuffle(&mut places);
-        let number = |numbers: &[u32], index: usize| numbers.get(index).copied().unwrap_or(0);
+        let number = |numbers: &[u64], index: usize| numbers.get(index).copied().unwrap_or(0);
         Channel {
             s,
             t,
@@ -62,10 +62,14 @@ impl Draft {
         }
     }
 
+    /// The numbers of a connect that fits, as far as there are such.
+    pub(super) fn fitting_channel(&mut self, s: u64, t: u64) -> [u64; 6] {
+        self.channel_between(s, t).numbers()
+    }
+
     /// A few of the free numbers, low ones as a rule, so that they are used again.
-    fn free_objects(&mut self) -> Vec<u32> {
-        let tables = self.picture.tables();
-        let mut free: Vec<u32> = (0..LIMITS.objects).filter(|&o| tables.object(o).is_none()).collect();
+    fn free_objects(&mut self) -> Vec<u64> {
+        let mut free = self.free_numbers();
         if !self.random.once_in(4) {
             free.truncate(4);
         }
@@ -73,17 +77,17 @@ impl Draft {
     }
 
     /// The places that are empty at both steps.
-    fn common_places(&self, s: u32, t: u32) -> Vec<u32> {
+    fn common_places(&self, s: u64, t: u64) -> Vec<u64> {
         let tables = self.picture.tables();
-        let is_empty = |&p: &u32| tables.handle(s, p).is_none() && tables.handle(t, p).is_none();
+        let is_empty = |&p: &u64| tables.handle(s, p).is_none() && tables.handle(t, p).is_none();
         (0..LIMITS.places).filter(is_empty).collect()
     }
 
     /// The numbers of any connect: those of one that fits, and now and then one or two of them changed.
-    pub(super) fn connect_numbers(&mut self) -> Vec<u32> {
+    pub(super) fn connect_numbers(&mut self) -> Vec<u64> {
         let s = self.live_subject();
         let others = self.picture.tables().live_subjects().filter(|&other| other != s);
-        let others: Vec<u32> = others.collect();
+        let others: Vec<u64> = others.collect();
         let t = self.random.pick(&others).unwrap_or(s);
         let t = self.maybe_odd(t, LIMITS.subjects);
         let mut channel = self.channel_between(s, t);
@@ -91,8 +95,8 @@ impl Draft {
             self.spoil(&mut channel);
         }
         let Channel { a, b, p, q, .. } = channel;
-        channel.a = self.maybe_odd(a, LIMITS.objects);
-        channel.b = self.maybe_odd(b, LIMITS.objects);
+        channel.a = self.maybe_odd_object(a);
+        channel.b = self.maybe_odd_object(b);
         channel.p = self.maybe_odd(p, LIMITS.places);
         channel.q = self.maybe_odd(q, LIMITS.places);
         channel.numbers().to_vec()
@@ -102,7 +106,8 @@ impl Draft {
     fn spoil(&mut self, channel: &mut Channel) {
         let Channel { s, t, a, p, .. } = *channel;
         match self.random.below(13) {
-            0 | 1 => channel.t = s,
+            0 => (channel.t, channel.b) = (s, a),
+            1 => channel.t = s,
             2 | 3 => {
                 // Two times the same, and not there.
                 let missing = self.free_subject();
@@ -120,8 +125,8 @@ impl Draft {
     }
 
     /// A place of the step that is in use, or else one beyond the last.
-    fn taken_place(&mut self, s: u32) -> u32 {
-        let taken: Vec<u32> = self.picture.tables().handles_of(s).map(|(p, _)| p).collect();
+    fn taken_place(&mut self, s: u64) -> u64 {
+        let taken: Vec<u64> = self.picture.tables().handles_of(s).map(|(p, _)| p).collect();
         self.random.pick(&taken).unwrap_or(LIMITS.places)
     }
 
@@ -132,7 +137,7 @@ impl Draft {
         let (from, to) = (self.level_of(s), self.level_of(t));
         let (high, low) = if from > to || from == to && self.random.once_in(2) { (s, t) } else { (t, s) };
         let places = self.common_places(s, t);
-        let mut places: Vec<u32> = places.into_iter().filter(|&place| place != p && place != q).collect();
+        let mut places: Vec<u64> = places.into_iter().filter(|&place| place != p && place != q).collect();
         self.random.shuffle(&mut places);
         let [place, other, ..] = places[..] else {
             return;

@@ -1,11 +1,12 @@
 //! Records that are not well formed: wrong codes, wrong numbers, wrong lengths.
 
+use super::stores::wide_number;
 use super::Draft;
-use crate::numbers;
+use crate::numbers::{self, MOST_BYTES};
 use crate::records;
 
 impl Draft {
-    pub(super) fn damaged_record(&mut self, code: u32, numbers: &[u32]) {
+    pub(super) fn damaged_record(&mut self, code: u64, numbers: &[u64]) {
         let mut body = Vec::new();
         numbers::write(code, &mut body);
         let first = body.len();
@@ -19,24 +20,17 @@ impl Draft {
                 let end = body.len();
                 pad_number(&mut body, end);
             }
-            // A number above 4,294,967,295: by a little, by a multiple of 2 to the 32nd, by far.
+            // The last number, or the code, in ten bytes or more: above 18,446,744,073,709,551,615, or padded. Without its
+            // upper bits most often the number that it was.
             2 | 3 => {
-                let over = [
-                    vec![0x80, 0x80, 0x80, 0x80, 0x10],
-                    vec![0xff, 0xff, 0xff, 0xff, 0x1f],
-                    vec![0x89, 0x80, 0x80, 0x80, 0x70],
-                    vec![0x80, 0x80, 0x80, 0x80, 0x80, 0x01],
-                    vec![0x82, 0x80, 0x80, 0x80, 0x80, 0x80, 0x80, 0x80, 0x80, 0x02],
-                ];
-                let which = self.random.below(over.len() as u32) as usize;
+                let last = numbers.last().copied().unwrap_or(0);
                 if self.random.once_in(3) {
-                    body = over[which].clone();
+                    body = self.overlong(code);
                 } else {
-                    let last = numbers.last().copied().unwrap_or(0);
                     let mut short = Vec::new();
                     numbers::write(last, &mut short);
                     body.truncate(body.len() - short.len());
-                    body.extend_from_slice(&over[which]);
+                    body.extend(self.overlong(last));
                 }
             }
             // The last number, or all of them, missing.
@@ -64,7 +58,9 @@ impl Draft {
             // An unknown code, with a good rest and with any rest.
             12 => {
                 let mut other = Vec::new();
-                numbers::write(self.unknown_code(), &mut other);
+                let unknown = self.unknown_code();
+                let like = code.wrapping_add(1 << 32);
+                numbers::write(if self.random.once_in(2) { like } else { unknown }, &mut other);
                 other.extend_from_slice(&body[first..]);
                 body = other;
             }
@@ -79,7 +75,7 @@ impl Draft {
             14 => body.clear(),
             15 => body = vec![0x80, 0x80],
             16 => {
-                let index = self.random.below(body.len() as u32) as usize;
+                let index = self.random.below(body.len() as u64) as usize;
                 body[index] ^= 1 << self.random.below(8);
             }
             // A length that is wrong.
@@ -92,30 +88,56 @@ impl Draft {
     }
 
     /// A record with a number too many.
-    pub(super) fn record_with_one_more(&mut self, code: u32, numbers: &[u32]) {
+    pub(super) fn record_with_one_more(&mut self, code: u64, numbers: &[u64]) {
         let more = self.random.below(20);
         records::write(code, &[numbers, &[more]].concat(), &mut self.journal);
         self.records += 1;
     }
 
     fn wrong_length(&mut self, body: &[u8]) {
-        let length = body.len() as u32;
-        match self.random.below(8) {
+        let length = body.len() as u64;
+        match self.random.below(9) {
             0 => self.journal.extend([length as u8 | 0x80, 0x00]),
-            1 => self.journal.extend([length as u8 | 0x80, 0x80, 0x80, 0x80, 0x10]),
-            2 => numbers::write(u32::MAX, &mut self.journal),
+            1 => numbers::write(length + (1 << 32), &mut self.journal),
+            2 => numbers::write(u64::MAX, &mut self.journal),
             3 => numbers::write(length + 100_000, &mut self.journal),
             4 => numbers::write(length.saturating_sub(1), &mut self.journal),
             5 => numbers::write(length + self.random.below(200), &mut self.journal),
+            6 => {
+                let overlong = self.overlong(length);
+                self.journal.extend(overlong);
+            }
             _ => numbers::write(length + 1, &mut self.journal),
         }
         self.journal.extend_from_slice(body);
     }
 
-    pub(super) fn unknown_code(&mut self) -> u32 {
-        let codes = [0, 18, 21, 77, 127, 128, 129, 256 + 1, 12_857, 65_536 + 2, u32::MAX];
-        self.random.pick(&codes).unwrap_or(0)
+    /// A number in ten or eleven bytes, of which the last is 0 or makes it too large.
+    fn overlong(&mut self, number: u64) -> Vec<u8> {
+        let number = if self.random.once_in(6) { u64::MAX } else { number };
+        let last = self.random.pick(&[0x00, 0x01, 0x02, 0x02, 0x03, 0x7f]).unwrap_or(0x02);
+        match self.random.below(3) {
+            // A last byte of 1 would be right in ten bytes.
+            0 | 1 if last != 0x01 => spread(number, MOST_BYTES, last),
+            _ => spread(number, MOST_BYTES + 1, last),
+        }
     }
+
+    pub(super) fn unknown_code(&mut self) -> u64 {
+        let codes =
+            [0, 18, 21, 77, 127, 128, 129, 256 + 1, 12_857, 65_536 + 2, (1 << 32) - 1, 1 << 32, u64::MAX];
+        match self.random.below(8) {
+            0 => (1 << 32) + self.random.below(20),
+            1 => wide_number(&mut self.random).max(18),
+            _ => self.random.pick(&codes).unwrap_or(0),
+        }
+    }
+}
+
+/// The lower groups of a number, and after them this byte: so many bytes in all.
+fn spread(number: u64, bytes: usize, last: u8) -> Vec<u8> {
+    let group = |index: usize| number.checked_shr(7 * index as u32).unwrap_or(0) as u8 | 0x80;
+    (0..bytes - 1).map(group).chain([last]).collect()
 }
 
 /// Makes the number that ends at this offset longer than it need be.

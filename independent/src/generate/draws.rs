@@ -8,32 +8,36 @@ use crate::tables::{Direction, Kind, LIMITS, NO_FREEZE};
 impl Draft {
     // Numbers.
 
-    /// This number, or now and then another one that may not fit.
-    pub(super) fn maybe_odd(&mut self, number: u32, limit: u32) -> u32 {
+    /// This number of a subject, a place or a level, or now and then another one that may not fit.
+    pub(super) fn maybe_odd(&mut self, number: u64, limit: u64) -> u64 {
         if !self.random.once_in(self.odd_numbers) {
             return number;
         }
-        match self.random.below(12) {
+        match self.random.below(16) {
             0 | 1 => limit,
             2 => limit + 1,
             3 => limit - 1,
-            4 => u32::MAX,
+            4 => self.random.pick(&[u64::MAX, (1 << 32) - 1, 1 << 32]).unwrap_or(u64::MAX),
             5 => number.wrapping_add(256),
             6 => number.wrapping_add(65_536),
             7 => number.wrapping_add(1 << 31),
             8 => self.random.between(limit, 4 * limit),
+            // What is left of it in 32 bits would fit.
+            9 | 10 => number.wrapping_add(1 << 32),
+            11 => number.wrapping_add(self.random.between(1, 1 << 31) << 32),
+            12 => number.wrapping_add(1 << 63),
             _ => self.random.below(limit),
         }
     }
 
-    pub(super) fn level(&mut self) -> u32 {
+    pub(super) fn level(&mut self) -> u64 {
         let level = self.random.pick(&self.levels).unwrap_or(0);
         self.maybe_odd(level, LIMITS.levels)
     }
 
     /// A freeze: most often one of the journal's levels; also the number above it, none, any level, and one that
     /// is too high.
-    fn freeze(&mut self) -> u32 {
+    fn freeze(&mut self) -> u64 {
         let level = self.random.pick(&self.levels).unwrap_or(0);
         let freeze = match self.random.below(10) {
             0 => level + 1,
@@ -45,53 +49,52 @@ impl Draft {
         self.maybe_odd(freeze, NO_FREEZE + 1)
     }
 
-    pub(super) fn live_subject(&mut self) -> u32 {
-        let live: Vec<u32> = self.picture.tables().live_subjects().collect();
+    pub(super) fn live_subject(&mut self) -> u64 {
+        let live: Vec<u64> = self.picture.tables().live_subjects().collect();
         let s = self.random.pick(&live).unwrap_or(0);
         self.maybe_odd(s, LIMITS.subjects)
     }
 
-    pub(super) fn free_subject(&mut self) -> u32 {
+    pub(super) fn free_subject(&mut self) -> u64 {
         let tables = self.picture.tables();
-        let free: Vec<u32> = (0..LIMITS.subjects).filter(|&s| tables.subject(s).is_none()).collect();
+        let free: Vec<u64> = (0..LIMITS.subjects).filter(|&s| tables.subject(s).is_none()).collect();
         let s = self.low_or_any(&free);
         self.maybe_odd(s, LIMITS.subjects)
     }
 
-    pub(super) fn free_object(&mut self) -> u32 {
-        let tables = self.picture.tables();
-        let free: Vec<u32> = (0..LIMITS.objects).filter(|&o| tables.object(o).is_none()).collect();
+    pub(super) fn free_object(&mut self) -> u64 {
+        let free = self.free_numbers();
         let o = self.low_or_any(&free);
-        self.maybe_odd(o, LIMITS.objects)
+        self.maybe_odd_object(o)
     }
 
     /// Often one of the first, so that numbers are used again.
-    fn low_or_any(&mut self, numbers: &[u32]) -> u32 {
+    fn low_or_any(&mut self, numbers: &[u64]) -> u64 {
         let low = &numbers[..numbers.len().min(4)];
         let any = if self.random.once_in(2) { numbers } else { low };
         self.random.pick(any).unwrap_or(0)
     }
 
-    pub(super) fn live_object(&mut self, kind: Option<Kind>) -> u32 {
+    pub(super) fn live_object(&mut self, kind: Option<Kind>) -> u64 {
         let tables = self.picture.tables();
-        let live: Vec<u32> = tables
+        let live: Vec<u64> = tables
             .live_objects()
             .filter(|&o| kind.is_none() || tables.object(o).map(|object| object.kind) == kind)
             .collect();
         let o = self.random.pick(&live).unwrap_or(0);
-        self.maybe_odd(o, LIMITS.objects)
+        self.maybe_odd_object(o)
     }
 
-    pub(super) fn free_place(&mut self, s: u32) -> u32 {
+    pub(super) fn free_place(&mut self, s: u64) -> u64 {
         let tables = self.picture.tables();
-        let free: Vec<u32> = (0..LIMITS.places).filter(|&p| tables.handle(s, p).is_none()).collect();
+        let free: Vec<u64> = (0..LIMITS.places).filter(|&p| tables.handle(s, p).is_none()).collect();
         let p = self.random.pick(&free).unwrap_or(0);
         self.maybe_odd(p, LIMITS.places)
     }
 
     /// A subject and one of its places with a handle of this direction.
-    pub(super) fn held_place(&mut self, direction: Option<Direction>) -> (u32, u32) {
-        let held: Vec<(u32, u32)> = self
+    pub(super) fn held_place(&mut self, direction: Option<Direction>) -> (u64, u64) {
+        let held: Vec<(u64, u64)> = self
             .picture
             .tables()
             .handles()
@@ -110,16 +113,16 @@ impl Draft {
             // Any code, those between and beside the known ones too, with numbers out of a hat.
             let code = self.random.below(SHAPES[SHAPES.len() - 1].code + 2);
             let count = shape_of_code(code).map_or(1, |shape| shape.numbers.len());
-            let numbers: Vec<u32> = (0..count).map(|_| self.random.below(18)).collect();
+            let numbers: Vec<u64> = (0..count).map(|_| self.random.below(18)).collect();
             return self.record(code, &numbers);
         }
         let tables = self.picture.tables();
-        let subjects = tables.live_subjects().count() as u32;
-        let objects = tables.live_objects().count() as u32;
-        let handles = tables.handle_count() as u32;
+        let subjects = tables.live_subjects().count() as u64;
+        let objects = tables.object_count();
+        let handles = tables.handle_count();
         let frozen = tables.frozen_from().is_some();
-        let few = |count: u32, wanted: u32| if count < wanted { 10 } else { 1 };
-        let some = |count: u32, weight: u32| if count > 0 { weight } else { 0 };
+        let few = |count: u64, wanted: u64| if count < wanted { 10 } else { 1 };
+        let some = |count: u64, weight: u64| if count > 0 { weight } else { 0 };
         let weights = [
             2 * few(subjects, 3),
             2 * few(objects, 4),
@@ -144,7 +147,7 @@ impl Draft {
         self.record(code, &numbers);
     }
 
-    pub(super) fn numbers_for(&mut self, code: u32) -> Vec<u32> {
+    pub(super) fn numbers_for(&mut self, code: u64) -> Vec<u64> {
         match code {
             1 => vec![self.free_subject(), self.level()],
             2 => vec![self.free_object(), self.level()],
@@ -197,7 +200,7 @@ impl Draft {
     }
 
     /// An open or a map; every second time one that is allowed is looked for.
-    fn open_numbers(&mut self, code: u32) -> Vec<u32> {
+    fn open_numbers(&mut self, code: u64) -> Vec<u64> {
         let tries = if self.random.once_in(2) { 3 } else { 1 };
         let mut numbers = Vec::new();
         for _ in 0..tries {
@@ -217,21 +220,21 @@ impl Draft {
     }
 
     /// An open that nothing but the freeze refuses, most often.
-    pub(super) fn open_but_for_freeze(&mut self, code: u32, kind: Kind) -> Vec<u32> {
+    pub(super) fn open_but_for_freeze(&mut self, code: u64, kind: Kind) -> Vec<u64> {
         self.open_answered(code, kind, |answer| matches!(answer, Answer::Allowed(_)))
     }
 
     /// An open or a map that offends the flow rule, most often; whether it meets the freeze as well is left to chance.
-    pub(super) fn open_against_flow(&mut self, code: u32, kind: Kind) -> Vec<u32> {
+    pub(super) fn open_against_flow(&mut self, code: u64, kind: Kind) -> Vec<u64> {
         self.open_answered(code, kind, |answer| answer == Answer::Refused(9))
     }
 
     /// An open or a map that would get such an answer if there were no freeze; after a few tries, any.
-    fn open_answered(&mut self, code: u32, kind: Kind, fits: impl Fn(Answer) -> bool) -> Vec<u32> {
+    fn open_answered(&mut self, code: u64, kind: Kind, fits: impl Fn(Answer) -> bool) -> Vec<u64> {
         let mut lifted = self.picture.clone();
         let _ = lifted.call(16, filled(&[NO_FREEZE]));
         let mut numbers = Vec::new();
-        for _ in 0..4 {
+        for _ in 0..6 {
             numbers = self.one_open(Some(kind));
             if fits(lifted.clone().call(code, filled(&numbers))) {
                 break;
@@ -241,7 +244,7 @@ impl Draft {
     }
 
     /// The numbers of an open of such an object.
-    fn one_open(&mut self, kind: Option<Kind>) -> Vec<u32> {
+    fn one_open(&mut self, kind: Option<Kind>) -> Vec<u64> {
         let s = self.live_subject();
         let o = self.live_object(kind);
         let mut p = self.free_place(s);

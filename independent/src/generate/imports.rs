@@ -7,9 +7,9 @@ use crate::tables::{Kind, LIMITS};
 /// Who has mapped which sheet, and where.
 #[derive(Clone, Copy)]
 struct Import {
-    s: u32,
-    sheet: u32,
-    p: u32,
+    s: u64,
+    sheet: u64,
+    p: u64,
 }
 
 impl Draft {
@@ -37,7 +37,7 @@ impl Draft {
     }
 
     /// A subject that is admitted, as a rule at the highest level.
-    pub(super) fn new_step(&mut self) -> u32 {
+    pub(super) fn new_step(&mut self) -> u64 {
         let s = self.free_subject();
         let top = self.levels.last().copied().unwrap_or(15);
         let level = if self.random.once_in(4) { self.level() } else { top };
@@ -45,7 +45,7 @@ impl Draft {
         s
     }
 
-    pub(super) fn level_of(&self, s: u32) -> u32 {
+    pub(super) fn level_of(&self, s: u64) -> u64 {
         self.picture.tables().subject(s).map_or(0, |subject| subject.level)
     }
 
@@ -83,7 +83,7 @@ impl Draft {
         }
     }
 
-    fn map_by_another(&mut self, sheet: u32) {
+    fn map_by_another(&mut self, sheet: u64) {
         let t = if self.random.once_in(2) { self.live_subject() } else { self.new_step() };
         let p = self.free_place(t);
         self.record(14, &[t, sheet, p]);
@@ -127,7 +127,7 @@ impl Draft {
     }
 
     /// A program that the step may run, as a rule.
-    fn program_for(&mut self, s: u32) -> u32 {
+    fn program_for(&mut self, s: u64) -> u64 {
         let level = if self.random.once_in(3) { self.level() } else { self.level_of(s) };
         self.file_at(level)
     }
@@ -158,7 +158,10 @@ impl Draft {
                 let pipe = self.live_object(Some(Kind::Pipe));
                 self.record(10, &[s, pipe]);
             }
-            1 => self.record(10, &[s, LIMITS.objects]),
+            1 => {
+                let missing = self.free_object();
+                self.record(10, &[s, missing]);
+            }
             _ => {
                 let level = self.level_of(s);
                 let (high, w) = (self.file_at(level), self.free_place(s));
@@ -173,7 +176,7 @@ impl Draft {
     /// Some mapping is read, written to, marked or closed.
     fn use_mapping(&mut self) {
         let mapped = self.picture.tables().handles().filter(|(_, _, handle)| handle.mapped);
-        let mapped: Vec<(u32, u32)> = mapped.map(|(s, p, _)| (s, p)).collect();
+        let mapped: Vec<(u64, u64)> = mapped.map(|(s, p, _)| (s, p)).collect();
         if let Some((s, p)) = self.random.pick(&mapped) {
             let code = self.random.pick(&[7, 7, 7, 8, 11, 15]).unwrap_or(7);
             self.record(code, &[s, p]);

@@ -6,9 +6,9 @@ use crate::tables::{Kind, LIMITS};
 /// Who launches, the high file and the low program.
 #[derive(Clone, Copy)]
 struct Launch {
-    s: u32,
-    high: u32,
-    low: u32,
+    s: u64,
+    high: u64,
+    low: u64,
 }
 
 impl Draft {
@@ -39,12 +39,12 @@ impl Draft {
     }
 
     /// A file of this level, registered if there is none.
-    pub(super) fn file_at(&mut self, level: u32) -> u32 {
+    pub(super) fn file_at(&mut self, level: u64) -> u64 {
         let tables = self.picture.tables();
-        let is_fit = |&o: &u32| {
+        let is_fit = |&o: &u64| {
             tables.object(o).is_some_and(|object| object.kind == Kind::File && object.level == level)
         };
-        let files: Vec<u32> = tables.live_objects().filter(is_fit).collect();
+        let files: Vec<u64> = tables.live_objects().filter(is_fit).collect();
         self.random.pick(&files).unwrap_or_else(|| {
             let o = self.free_object();
             self.record(2, &[o, level]);
@@ -83,7 +83,7 @@ impl Draft {
     }
 
     /// A pipe of which one end or both are marked; its number.
-    fn marked_pipe(&mut self, s: u32) -> u32 {
+    fn marked_pipe(&mut self, s: u64) -> u64 {
         let o = self.free_object();
         let (r, w) = (self.free_place(s), self.free_place(s));
         self.record(4, &[s, o, r, w]);
@@ -97,13 +97,13 @@ impl Draft {
         o
     }
 
-    fn file_or(&mut self, one: u32, other: u32) -> u32 {
+    fn file_or(&mut self, one: u64, other: u64) -> u64 {
         self.random.pick(&[one, other]).unwrap_or(one)
     }
 
     /// What follows an exec, allowed or refused: the place is used or opened again, the pipe's number is asked
     /// for, the program is run once more.
-    fn after_launch(&mut self, Launch { s, high, low }: Launch, p: u32, pipe: u32) {
+    fn after_launch(&mut self, Launch { s, high, low }: Launch, p: u64, pipe: u64) {
         match self.random.below(8) {
             0 => self.record(8, &[s, p]),
             1 => self.record(11, &[s, p]),

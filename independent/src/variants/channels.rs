@@ -14,11 +14,11 @@ pub fn bend_connected(variant: Variant, tables: &Tables, call: Call, needs: &Nee
     let Call::Connect { s, t, a, b, p, q } = call else {
         return None;
     };
-    let above = |place: u32| place >= tables.limits().places;
+    let above = |place: u64| place >= tables.limits().places;
     let taken = |holder, place| tables.handle(holder, place).is_some();
-    let is_unfit = |o: u32| o >= tables.limits().objects || tables.object(o).is_some();
+    let is_unfit = |o: u64| tables.object(o).is_some();
     let levels = tables.subject(s).zip(tables.subject(t)).map(|(from, to)| (from.level, to.level));
-    let short = |tested: &[u32]| {
+    let short = |tested: &[u64]| {
         needs.unmet(tables).any(|thing| tested.iter().any(|&s| thing == Thing::Subject(s)))
     };
     match variant {
@@ -69,7 +69,11 @@ pub fn bend_refused_connect(variant: Variant, after: &mut Monitor, call: Call, n
             place_ends(tables, call, |_| true);
         }
         (Variant::SevenLeavesPipe, 7) => make_pipe(tables, s, a),
-        (Variant::ThreeLeavesPipe, 3) if a < tables.limits().objects && tables.object(a).is_none() => {
+        (Variant::ThreeLeavesPipe, 3) if tables.object(a).is_none() => {
+            make_pipe(tables, s, a);
+            place_ends(tables, call, |handle| handle.object == a);
+        }
+        (Variant::SeventeenLeavesPipe, 17) if tables.object_count() < tables.limits().objects => {
             make_pipe(tables, s, a);
             place_ends(tables, call, |handle| handle.object == a);
         }
@@ -96,7 +100,7 @@ fn bend_connect(variant: Variant, old: &Tables, after: &mut Monitor, call: Call)
     let level = |s| old.subject(s).map_or(0, |subject| subject.level);
     let (from, to) = (level(s), level(t));
     let tables = &mut after.tables;
-    let mut set_levels = |first: u32, second: u32| {
+    let mut set_levels = |first: u64, second: u64| {
         for (o, level) in [(a, first), (b, second)] {
             tables.set_object(o, Some(Object { kind: Kind::Pipe, level }));
         }
@@ -150,8 +154,8 @@ fn bend_connect(variant: Variant, old: &Tables, after: &mut Monitor, call: Call)
 fn bend_ends(variant: Variant, before: &Monitor, after: &mut Monitor, call: Call) {
     let old = &before.tables;
     let is_pipe =
-        |tables: &Tables, o: u32| tables.object(o).is_some_and(|object| object.kind == Kind::Pipe);
-    let has_gone = |tables: &Tables, o: u32| is_pipe(old, o) && tables.object(o).is_none();
+        |tables: &Tables, o: u64| tables.object(o).is_some_and(|object| object.kind == Kind::Pipe);
+    let has_gone = |tables: &Tables, o: u64| is_pipe(old, o) && tables.object(o).is_none();
     match (variant, call) {
         (Variant::ChannelNeverEnds, Call::Close { .. } | Call::Exit { .. } | Call::Exec { .. }) => {
             for o in before.channels.concat() {
@@ -179,7 +183,7 @@ fn bend_ends(variant: Variant, before: &Monitor, after: &mut Monitor, call: Call
                 _ => None,
             });
             let places = after.tables.handles_of(s).filter(|(_, handle)| Some(handle.object) == other);
-            let places: Vec<u32> = places.map(|(p, _)| p).collect();
+            let places: Vec<u64> = places.map(|(p, _)| p).collect();
             close(after, s, &places);
         }
         _ => {}
@@ -201,7 +205,7 @@ pub fn bend_connect_answer(variant: Variant, before: &Monitor, call: Call, answe
 }
 
 /// A pipe at the level of a subject.
-fn make_pipe(tables: &mut Tables, s: u32, o: u32) {
+fn make_pipe(tables: &mut Tables, s: u64, o: u64) {
     let level = tables.subject(s).map_or(0, |subject| subject.level);
     tables.set_object(o, Some(Object { kind: Kind::Pipe, level }));
 }
@@ -212,7 +216,7 @@ fn place_ends(tables: &mut Tables, call: Call, which: impl Fn(Handle) -> bool) {
     }
 }
 
-fn swap_places(tables: &mut Tables, s: u32, p: u32, q: u32) {
+fn swap_places(tables: &mut Tables, s: u64, p: u64, q: u64) {
     let (one, other) = (tables.handle(s, p), tables.handle(s, q));
     tables.set_handle(s, p, other);
     tables.set_handle(s, q, one);

@@ -47,7 +47,7 @@ pub fn bend_frozen(variant: Variant, tables: &Tables, call: Call, offends_flow: 
 }
 
 /// Whether the subject has a frozen file open for writing.
-fn writes_to_frozen(tables: &Tables, s: u32) -> bool {
+fn writes_to_frozen(tables: &Tables, s: u64) -> bool {
     tables
         .handles_of(s)
         .any(|(_, handle)| handle.direction == Direction::Writing && tables.is_frozen(handle.object))

@@ -11,7 +11,7 @@ use crate::tables::{Direction, Handle, Kind, Subject, Tables};
 
 /// A condition that the variant holds to be other than it is, where it speaks of this call.
 pub fn bend_mapped(variant: Variant, tables: &Tables, call: Call, needs: &Needs) -> Option<Condition> {
-    let above = |p: u32| p >= tables.limits().places;
+    let above = |p: u64| p >= tables.limits().places;
     let is_mapping = |s, p| is_mapping(tables, s, p);
     let is_written = |o| tables.handles().any(|(_, _, held)| held.object == o && !reads(held));
     match (variant, call) {
@@ -118,7 +118,7 @@ pub fn bend_maps(variant: Variant, before: &Monitor, after: &mut Monitor, call: 
         }
         (Variant::ExecClosesMappedFile, Call::Exec { s, .. }) => {
             let left = after.tables.handles_of(s).filter(|&(_, handle)| maps(old, s, handle.object));
-            let left: Vec<u32> = left.map(|(p, _)| p).collect();
+            let left: Vec<u64> = left.map(|(p, _)| p).collect();
             close(after, s, &left);
         }
         (Variant::ExecClosesOthersMappings, Call::Exec { .. }) => {
@@ -163,7 +163,7 @@ fn bend_left_maps(variant: Variant, old: &Tables, after: &mut Monitor, call: Cal
     );
     if stays {
         let gone = old.handles().filter(|&(s, p, held)| held.mapped && after.tables.handle(s, p).is_none());
-        let gone: Vec<(u32, u32)> = gone.map(|(s, p, _)| (s, p)).collect();
+        let gone: Vec<(u64, u64)> = gone.map(|(s, p, _)| (s, p)).collect();
         after.left_maps.extend(gone);
     }
     match call {
@@ -178,7 +178,7 @@ fn bend_left_maps(variant: Variant, old: &Tables, after: &mut Monitor, call: Cal
 pub fn bend_map_counts(variant: Variant, before: &Monitor, after: &mut Monitor, call: Call) {
     let old = &before.tables;
     let tally = &mut after.tally;
-    let mapped = |s: u32| mapped_places(old, s).len() as u64;
+    let mapped = |s: u64| mapped_places(old, s).len() as u64;
     match (variant, call) {
         (Variant::MapNotCounted, Call::Map { .. }) => tally.made = before.tally.made,
         (Variant::MapCountedTwice, Call::Map { .. }) => tally.count_made(1),
@@ -233,54 +233,54 @@ fn reads(handle: Handle) -> bool {
     handle.direction == Direction::Reading
 }
 
-fn is_mapping(tables: &Tables, s: u32, p: u32) -> bool {
+fn is_mapping(tables: &Tables, s: u64, p: u64) -> bool {
     tables.handle(s, p).is_some_and(|handle| handle.mapped)
 }
 
 /// Whether the subject has the object mapped.
-fn maps(tables: &Tables, s: u32, o: u32) -> bool {
+fn maps(tables: &Tables, s: u64, o: u64) -> bool {
     tables.mappers(o).any(|mapper| mapper == s)
 }
 
-fn mapped_places(tables: &Tables, s: u32) -> Vec<u32> {
+fn mapped_places(tables: &Tables, s: u64) -> Vec<u64> {
     tables.handles_of(s).filter(|(_, handle)| handle.mapped).map(|(p, _)| p).collect()
 }
 
 /// The file that a write at this place is to, with its level.
-fn written_file(tables: &Tables, s: u32, p: u32) -> Option<(u32, u32)> {
+fn written_file(tables: &Tables, s: u64, p: u64) -> Option<(u64, u64)> {
     let handle = tables.handle(s, p).filter(|&handle| !reads(handle))?;
     let file = tables.object(handle.object).filter(|object| object.kind == Kind::File)?;
     Some((handle.object, file.level))
 }
 
-fn lower(tables: &mut Tables, s: u32, level: u32) {
+fn lower(tables: &mut Tables, s: u64, level: u64) {
     let lowered = tables.subject(s).map(|subject| Subject { level: subject.level.min(level) });
     tables.set_subject(s, lowered);
 }
 
 /// Makes a mapping of a handle, or a plain one.
-fn set_mapped(tables: &mut Tables, s: u32, p: u32, mapped: bool) {
+fn set_mapped(tables: &mut Tables, s: u64, p: u64, mapped: bool) {
     tables.set_handle(s, p, tables.handle(s, p).map(|handle| Handle { mapped, ..handle }));
 }
 
 /// Makes mappings of those handles of a subject, and plain ones of the others.
-fn set_mappings(tables: &mut Tables, s: u32, mapped: impl Fn(Handle) -> bool) {
-    let handles: Vec<(u32, Handle)> = tables.handles_of(s).collect();
+fn set_mappings(tables: &mut Tables, s: u64, mapped: impl Fn(Handle) -> bool) {
+    let handles: Vec<(u64, Handle)> = tables.handles_of(s).collect();
     for (p, handle) in handles {
         set_mapped(tables, s, p, mapped(handle));
     }
 }
 
-fn close_mappings(monitor: &mut Monitor, s: u32) {
+fn close_mappings(monitor: &mut Monitor, s: u64) {
     let places = mapped_places(&monitor.tables, s);
     close(monitor, s, &places);
 }
 
 /// Closes the mappings of a file by those subjects.
-fn close_mappings_of(monitor: &mut Monitor, file: Option<u32>, by: impl Fn(u32) -> bool) {
+fn close_mappings_of(monitor: &mut Monitor, file: Option<u64>, by: impl Fn(u64) -> bool) {
     let mappings = monitor.tables.handles().filter(|&(s, _, held)| held.mapped && by(s));
     let mappings = mappings.filter(|(_, _, held)| Some(held.object) == file).map(|(s, p, _)| (s, p));
-    for (s, p) in mappings.collect::<Vec<(u32, u32)>>() {
+    for (s, p) in mappings.collect::<Vec<(u64, u64)>>() {
         monitor.remove_handle(s, p);
     }
 }

@@ -9,8 +9,8 @@ use crate::refusals::Condition;
 use crate::tables::{Direction, Handle, Kind, Subject, Tables};
 
 /// The places that the test of a call leaves out.
-pub fn bend_left_out(variant: Variant, tables: &Tables, call: Call, left_out: &mut Vec<(u32, u32)>) {
-    let marked = |s: u32| tables.marked_places(s).map(move |p| (s, p));
+pub fn bend_left_out(variant: Variant, tables: &Tables, call: Call, left_out: &mut Vec<(u64, u64)>) {
+    let marked = |s: u64| tables.marked_places(s).map(move |p| (s, p));
     match (variant, call) {
         (Variant::MarkedTested, Call::Exec { .. }) => left_out.clear(),
         (Variant::OthersLeftOut, Call::Exec { .. }) => {
@@ -32,7 +32,7 @@ pub fn bend_left_out(variant: Variant, tables: &Tables, call: Call, left_out: &m
 
 /// A condition that the variant holds to be other than it is, where it speaks of this call.
 pub fn bend_marked(variant: Variant, tables: &Tables, call: Call) -> Option<Condition> {
-    let above = |p: u32| p >= tables.limits().places;
+    let above = |p: u64| p >= tables.limits().places;
     let is_marked = |s, p| tables.handle(s, p).is_some_and(|handle| handle.marked);
     let is_for = |s, p, direction| tables.handle(s, p).is_some_and(|handle| handle.direction == direction);
     match (variant, call) {
@@ -76,7 +76,7 @@ pub fn bend_refused_exec(variant: Variant, after: &mut Monitor, call: Call, numb
     let Call::Exec { s, .. } = call else {
         return;
     };
-    let marked: Vec<u32> = after.tables.marked_places(s).collect();
+    let marked: Vec<u64> = after.tables.marked_places(s).collect();
     match (variant, number) {
         (Variant::RefusedExecCloses, 9) => close(after, s, &marked),
         (Variant::UnfitExecCloses, 4 | 5) => close(after, s, &marked),
@@ -135,12 +135,12 @@ pub fn bend_marks(variant: Variant, before: &Monitor, after: &mut Monitor, call:
         }
         (Variant::ExecClosesOthers, Call::Exec { .. }) => {
             for s in old.live_subjects() {
-                let marked: Vec<u32> = after.tables.marked_places(s).collect();
+                let marked: Vec<u64> = after.tables.marked_places(s).collect();
                 close(after, s, &marked);
             }
         }
         (Variant::ExecClosesRest, Call::Exec { s, .. }) if old.marked_places(s).next().is_some() => {
-            let rest: Vec<u32> = after.tables.handles_of(s).map(|(p, _)| p).collect();
+            let rest: Vec<u64> = after.tables.handles_of(s).map(|(p, _)| p).collect();
             close(after, s, &rest);
         }
         (Variant::ExecKeepsPipes, Call::Exec { .. }) => restore_pipes(old, tables),
@@ -166,7 +166,7 @@ fn bend_left_marks(variant: Variant, old: &Tables, after: &mut Monitor, call: Ca
     );
     if stays {
         let gone = old.handles().filter(|&(s, p, held)| held.marked && after.tables.handle(s, p).is_none());
-        let gone: Vec<(u32, u32)> = gone.map(|(s, p, _)| (s, p)).collect();
+        let gone: Vec<(u64, u64)> = gone.map(|(s, p, _)| (s, p)).collect();
         after.left_marks.extend(gone);
     }
     let placed = match call {
@@ -218,18 +218,18 @@ pub fn bend_marked_answer(variant: Variant, before: &Monitor, call: Call, answer
 }
 
 /// The kind of the object at a place.
-fn kind_at(tables: &Tables, s: u32, p: u32) -> Option<Kind> {
+fn kind_at(tables: &Tables, s: u64, p: u64) -> Option<Kind> {
     tables.handle(s, p).and_then(|handle| tables.object(handle.object)).map(|object| object.kind)
 }
 
-pub(super) fn close(monitor: &mut Monitor, s: u32, places: &[u32]) {
+pub(super) fn close(monitor: &mut Monitor, s: u64, places: &[u64]) {
     for &p in places {
         monitor.remove_handle(s, p);
     }
 }
 
 /// Takes an exec's closing of such handles back: with the pipes that ended with them, and the count.
-pub(super) fn reopen(before: &Monitor, after: &mut Monitor, s: u32, which: impl Fn(u32, Handle) -> bool) {
+pub(super) fn reopen(before: &Monitor, after: &mut Monitor, s: u64, which: impl Fn(u64, Handle) -> bool) {
     let old = &before.tables;
     for (p, handle) in old.handles_of(s).filter(|&(p, handle)| which(p, handle)) {
         after.tables.set_object(handle.object, old.object(handle.object));
@@ -239,8 +239,8 @@ pub(super) fn reopen(before: &Monitor, after: &mut Monitor, s: u32, which: impl 
 }
 
 /// Marks every handle of a subject, or none.
-fn set_marks(tables: &mut Tables, s: u32, marked: bool) {
-    let handles: Vec<(u32, Handle)> = tables.handles_of(s).collect();
+fn set_marks(tables: &mut Tables, s: u64, marked: bool) {
+    let handles: Vec<(u64, Handle)> = tables.handles_of(s).collect();
     for (p, handle) in handles {
         tables.set_handle(s, p, Some(Handle { marked, ..handle }));
     }

@@ -194,7 +194,7 @@ pub(super) fn restore_pipes(old: &Tables, tables: &mut Tables) {
 
 /// Ends every pipe that has no handle of this direction.
 fn end_pipes_without(tables: &mut Tables, direction: Direction) {
-    let pipes: Vec<u32> = tables
+    let pipes: Vec<u64> = tables
         .live_objects()
         .filter(|&o| tables.object(o).is_some_and(|object| object.kind == Kind::Pipe))
         .filter(|&o| {
@@ -208,7 +208,7 @@ fn end_pipes_without(tables: &mut Tables, direction: Direction) {
 
 /// What a call is answered with.
 pub fn bend_answer(variant: Variant, before: &Monitor, call: Call, answer: Answer) -> Answer {
-    let with = |level: Option<u32>| match (answer, level) {
+    let with = |level: Option<u64>| match (answer, level) {
         (Answer::Allowed(_), Some(level)) => Answer::Allowed(level),
         (Answer::Lowered(_), Some(level)) => Answer::Lowered(level),
         _ => answer,

@@ -60,7 +60,7 @@ loop-again c = (
 )
 
 returns : tie.Need-returns Inv-loop μ-loop
-returns c = λ rest. cleaned-tables rest _ _ _ _ _ (c .loop-test .left) (c .before .loop .inv .1) (search (needs, unmapped))
+returns c = λ rest. cleaned-tables rest _ _ _ _ _ (c .loop-test .left) (c .before .loop .inv .1) (search (needs, unmapped)) (search (needs, unmapped))
 
 pub cleaned-spec : {M : Type 1} → statement M
 cleaned-spec =

@@ -5,9 +5,9 @@ use native.Mathlib.Omega.{arith}
 use lib.ListN.{length, replicate, length-set}
 use borrow.Author.Needs.{needs}
 use borrow.Author.Tests.{eq-eqb, ne-eqb}
-use Rattle.host.specs.State.{state-bytes}
-use Rattle.host.specs.State.Laws.{zeros-set, bytes-blank}
-use Rattle.host.proofs.Storing.{laid-long, Zeroed, zeroed-none, zeroed-more, zeroed-all}
+use Rattle.stored.specs.State.{state-bytes}
+use Rattle.stored.specs.State.Laws.{zeros-set, bytes-blank}
+use Rattle.stored.proofs.Storing.{laid-long, Zeroed, zeroed-none, zeroed-more, zeroed-all}
 use Rattle.host.proofs.gatekeeper_empty.Statement.{statement}
 use Rattle.host.proofs.gatekeeper_empty.Tie as tie
 

@@ -2,7 +2,7 @@
 use borrow.Author.Needs.{needs}
 use borrow.Author.Tests.{eq-eqb, ne-eqb}
 use lib.ListN.{length}
-use Rattle.host.specs.State.{state-bytes, gone-of}
+use Rattle.stored.specs.State.{state-bytes, gone-of}
 use Rattle.host.proofs.gatekeeper_gone.Statement.{statement}
 use Rattle.host.proofs.gatekeeper_gone.Tie as tie
 

@@ -12,7 +12,7 @@ use Rattle.host.proofs.gatekeeper_record.Tie as tie
 use Rattle.host.proofs.gatekeeper_record.Reads as reads
 use Rattle.host.proofs.gatekeeper_record.Lts as lts
 
--- the six numbers are 32-bit ones
+-- the six numbers are 64-bit ones
 numbers : (c : lts.Start (writer.Asked, writer.Learnt) reads.Pre reads.Post) → AtMost largest (c .args .a ∷ c .args .b ∷ c .args .c ∷ c .args .d ∷ c .args .e ∷ c .args .f ∷ [])
 numbers c zero = omega arith
 numbers c (suc zero) = omega arith
@@ -29,10 +29,10 @@ enum-known-n : tie.Need-enum-known-n
 enum-known-n c = search needs
 
 cast-result : tie.Need-cast-result
-cast-result c = omega (arith, record-short 32 _ _ (c .before .n .given .1) (c .before .before .before .before .before .write-record .ensures .1 .1))
+cast-result c = omega (arith, record-short 62 _ _ (c .before .n .given .1) (c .before .before .before .before .before .write-record .ensures .1 .1))
 
 add-result : tie.Need-add-result
-add-result c = omega (arith, record-short 32 _ _ (c .before .n .given .1) (c .before .before .before .before .before .write-record .ensures .1 .1))
+add-result c = omega (arith, record-short 62 _ _ (c .before .n .given .1) (c .before .before .before .before .before .write-record .ensures .1 .1))
 
 enum-told : tie.Need-enum-told
 enum-told c = search needs

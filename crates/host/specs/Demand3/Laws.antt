@@ -12,7 +12,7 @@ use Rattle.model.specs.Promise.Laws.{cleaned-runs, runs-right}
 use Rattle.model.specs.Promise.{done as stop, then as go}
 use Rattle.model.specs.Demand3.{Demand3}
 use Rattle.model.specs.Demand3.Laws.{demand3}
-use Rattle.host.specs.State.{Sized, state-view, state-right, stored-kind, Blank}
+use Rattle.stored.specs.State.{Sized, state-view, state-right, stored-kind, Blank}
 use Rattle.host.specs.Demand3.{Calls, done, then, answers-in}
 
 -- the calls keep their promise towards the rules, with the answers that the host reads

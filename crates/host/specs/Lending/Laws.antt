@@ -27,6 +27,7 @@ done-meets {x} {y} {r} d = subst (λ (a : Answer). Meets lent-kind x (decode r) 
   unchanged = λ k z. ap₂ (λ (m : Monitor) (t : Tally). record { monitor = m; tally = t }) (d .meets .unchanged k z) (d .counts .same k z);
   answered = d .meets .answered;
   moved = d .meets .moved;
+  emptied = d .meets .emptied;
   stays = d .meets .stays;
   neat = d .meets .neat;
   says = d .meets .says;

@@ -2,7 +2,7 @@
 use mathlib.Core.Path.{_≡_, refl, sym, ap₂, _∙_, subst}
 use mathlib.Core.Bool.{Bool, true, false, cond}
 use mathlib.Core.List.{List, [], _∷_, _++_}
-use Prim.Native.Nat.{ℕ, _+_, _*_, _/_, _%_, _≤_, _<_}
+use Prim.Native.Nat.{ℕ, _+_, _*_, _<_}
 use native.Mathlib.Omega.{arith}
 use lib.Dec.{ltb}
 use lib.ListN.{length, length-append}
@@ -14,7 +14,7 @@ use Rattle.number.specs.Leb.Laws.{number-bytes}
 use Rattle.text.specs.Reply.{end-word, space, newline, field, ending}
 use Rattle.replay.specs.Replay.{Replied, replied, replies, calls-of, records-of, lines, last-line, text, largest-journal, reply}
 use Rattle.answers.specs.Telling.{letter-of, value-of}
-use Rattle.host.specs.Numbers.{answer-number, letter-in, value-in, answer-by, answer-in, reading-number}
+use Rattle.host.specs.Numbers.{answer-number, letter-in, value-in, answer-by, answer-in, reading-used}
 
 -- ── calls ──
 -- an answer whose level or refusal number is a byte is read back
@@ -39,15 +39,9 @@ answer-some (lowered l) = omega arith
 answer-some (refused n) = omega arith
 
 -- ── numbers ──
-module _ (bytes : List ℕ) (v k : ℕ) (e : number largest bytes ≡ good v k) where
-  pub reading-some : 0 < reading-number (number largest bytes)
-  reading-some = subst (λ (r : Reading). 0 < reading-number r) (sym e) (omega (arith, number-bytes bytes v k e))
-
-  pub reading-used : v ≤ largest → reading-number (number largest bytes) / 4294967296 ≡ k
-  reading-used h = subst (λ (r : Reading). reading-number r / 4294967296 ≡ k) (sym e) (omega arith)
-
-  pub reading-value : v ≤ largest → reading-number (number largest bytes) % 4294967296 ≡ v
-  reading-value h = subst (λ (r : Reading). reading-number r % 4294967296 ≡ v) (sym e) (omega arith)
+-- 0 bytes are those of no number
+pub reading-some : (bytes : List ℕ) (v k : ℕ) → number largest bytes ≡ good v k → 0 < reading-used (number largest bytes)
+reading-some bytes v k e = subst (λ (r : Reading). 0 < reading-used r) (sym e) (omega (arith, number-bytes bytes v k e))
 
 -- ── replies ──
 -- a reply has its last line, and is never empty

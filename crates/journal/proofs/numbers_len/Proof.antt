@@ -71,7 +71,7 @@ returns : tie.Need-returns Inv-loop μ-loop
 returns c =
     let l = c .before .loop in
     let all = take-all (l .i) _ (c .loop-test .left) in
-    (l .inv .1 ∙ ap (λ (t : List ℕ). length (encodes t)) all, omega (arith, c .before .before .before .pre))
+    l .inv .1 ∙ ap (λ (t : List ℕ). length (encodes t)) all
 
 pub numbers-len-spec : {M : Type 1} → statement M
 numbers-len-spec =

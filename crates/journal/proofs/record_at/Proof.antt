@@ -42,9 +42,6 @@ enum-known-value c = search needs
 add-start : tie.Need-add-start
 add-start c = omega (arith, entry-start (read (c .before)), c .before .before .before .before .before .before .before .good)
 
-cast-len : tie.Need-cast-len
-cast-len c = search needs
-
 sub-if2 : tie.Need-sub-if2
 sub-if2 c = omega (arith, entry-start (read (c .before)))
 
@@ -76,7 +73,6 @@ record-at-spec =
     read-number-requires
     enum-known-value
     add-start
-    cast-len
     sub-if2
     returns-2
     add-next

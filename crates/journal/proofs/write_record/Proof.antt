@@ -73,9 +73,6 @@ slice-aggregate-numbers-len c = simp length-take (omega (arith, few (c .before .
 numbers-len-requires : tie.Need-numbers-len-requires
 numbers-len-requires c κs = simp length-take (omega arith)
 
-cast-len : tie.Need-cast-len
-cast-len c = omega (arith, c .numbers-len .ensures .1)
-
 add-all : tie.Need-add-all
 add-all c = omega (arith, few (c .before .before .before .before .before))
 
@@ -105,7 +102,7 @@ returns-2 c =
     let arity = c9 .arity .ensures in
     let len = c5 .numbers-len in
     let w = c2 .write-all in
-    let is = record-is code ns _ arity (len .result) (len .ensures .0) in
+    let is = record-is code ns _ arity (len .result) (len .ensures) in
     let (answer, buffer) = record-fitted code ns _ arity _ out (c8 .if1 .left) is in
     let answered = w .ensures .0 ∙ answer in
     let short = recording-length code ns out (numbers start) in
@@ -121,7 +118,6 @@ write-record-spec =
     array-share-prefix-body
     slice-aggregate-numbers-len
     numbers-len-requires
-    cast-len
     add-all
     array-share-prefix-all
     slice-aggregate-write-all

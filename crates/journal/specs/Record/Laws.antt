@@ -54,7 +54,7 @@ body-length code ns k are =
     let rest = encodes-length numbers (at-most-take largest (arity-of code) ns are) in
     omega (arith, length-append (encode code) (encodes numbers), one, rest, few)
 
--- RULES J22: a record has at most 32 bytes
+-- RULES J22: a record has at most 62 bytes
 pub record-length : (code : ℕ) (ns : List ℕ) → known code ≡ true → AtMost largest ns → length (record-of code ns) ≤ longest-record
 unfolding record-of
 record-length code ns k are =

@@ -8,7 +8,9 @@ use lib.ListN.{length}
 use Rattle.model.specs.Tables.{Tables}
 use Rattle.model.specs.Figures.{Ready}
 use Rattle.tables.proofs.Maps.{unmapped}
-use Rattle.tables.specs.Records.{reads-by}
+use Rattle.model.specs.Flow.{object}
+use Rattle.tables.specs.Records.{joins, reads-by}
+use Rattle.tables.specs.Records.Laws.{slot-low}
 use Rattle.tables.specs.Needs.{figure-of}
 use Rattle.passes.specs.Working.{demands}
 use Rattle.keeping.proofs.Closing.{apart-ready, zero-ready, backed-ready, object-then, beside-kept}
@@ -29,16 +31,18 @@ returns c =
     let c1 = c .before in
     let c2 = c1 .before in
     let a = c2 .before .before .args in
-    λ rest ss t p w g q k. subst (λ (u : Tables). Ready u (figure-of (a .n))) (sym q)
-    (apart-ready (a .n) t (a .s) p (a .h) w g k (λ e. c .if1 .taken (c2 .of-subject .ensures ∙ e ∙ sym (c1 .of-object .ensures))))
+    let l : length (a .objects) ≡ 64 = search (needs, unmapped) in
+    λ rest ss t p w g q k. let o = slot-low rest ss (a .objects) (a .handles) l t (a .h .object) (ap (λ (u : Tables). u .at (object (a .h .object))) q) (w .ends (a .s) p (joins (a .h)) g .to) in subst (λ (u : Tables). Ready u (figure-of (a .n))) (sym q)
+    (apart-ready (a .n) t (a .s) p (a .h) w g k o (λ e. c .if1 .taken (c2 .of-subject .ensures ∙ e ∙ sym (c1 .of-object .ensures))))
 
 returns-2 : tie.Need-returns-2
 returns-2 c =
     let c2 = c .before .before in
     let c3 = c2 .before in
     let a = c3 .before .before .args in
-    λ rest ss t p w g q k. subst (λ (u : Tables). Ready u (figure-of (a .n))) (sym q)
-    (zero-ready (a .n) t (a .s) p (a .h) w g k (sym (c3 .of-subject .ensures) ∙ c .before .if1 .left ∙ c2 .of-object .ensures)
+    let l : length (a .objects) ≡ 64 = search (needs, unmapped) in
+    λ rest ss t p w g q k. let o = slot-low rest ss (a .objects) (a .handles) l t (a .h .object) (ap (λ (u : Tables). u .at (object (a .h .object))) q) (w .ends (a .s) p (joins (a .h)) g .to) in subst (λ (u : Tables). Ready u (figure-of (a .n))) (sym q)
+    (zero-ready (a .n) t (a .s) p (a .h) w g k o (sym (c3 .of-subject .ensures) ∙ c .before .if1 .left ∙ c2 .of-object .ensures)
     (sym (c3 .of-subject .ensures) ∙ c .if2 .taken))
 
 object-of-requires : tie.Need-object-of-requires
@@ -53,8 +57,8 @@ returns-3 c =
     let c6 = c2 .before .before .before .before in
     let a = c6 .before .before .args in
     let l : length (a .objects) ≡ 64 = search (needs, unmapped) in
-    λ rest ss t p w g q k. subst (λ (u : Tables). Ready u (figure-of (a .n))) (sym q)
-    (backed-ready (a .n) t (a .s) p (a .h) w g k (c2 .object-of .result)
+    λ rest ss t p w g q k. let o = slot-low rest ss (a .objects) (a .handles) l t (a .h .object) (ap (λ (u : Tables). u .at (object (a .h .object))) q) (w .ends (a .s) p (joins (a .h)) g .to) in subst (λ (u : Tables). Ready u (figure-of (a .n))) (sym q)
+    (backed-ready (a .n) t (a .s) p (a .h) w g k o (c2 .object-of .result)
     (object-then rest ss (a .objects) (a .handles) t (a .s) p (a .h .object) (c2 .object-of .result) l q (c2 .object-of .ensures))
     (ap (λ (v : ℕ). reads-by (a .h .way) && demands (c2 .object-of .result) v) (sym (c6 .of-subject .ensures))
     ∙ sym (c .before .is-backed .ensures) ∙ c .if3 .taken))

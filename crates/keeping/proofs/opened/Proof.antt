@@ -1,8 +1,12 @@
 -- `keeping::opened` meets its contract. Assumes nothing.
-use mathlib.Core.Path.{sym, _∙_, ap, subst}
+use mathlib.Core.Path.{_≡_, sym, _∙_, ap, subst}
 use mathlib.Core.Bool.{not}
 use borrow.Author.Needs.{needs}
+use lib.ListN.{length}
+use Rattle.model.specs.Flow.{object}
 use Rattle.model.specs.Tables.{Tables, safe}
+use Rattle.tables.proofs.Maps.{unmapped}
+use Rattle.tables.specs.Records.Laws.{slot-low}
 use Rattle.model.specs.Invariant.{Wf}
 use Rattle.model.specs.Figures.{Ready}
 use Rattle.tables.specs.Needs.{figure-of}
@@ -18,9 +22,10 @@ returns : tie.Need-returns
 returns c =
     let a = c .before .before .args in
     let z = quiet-parts _ _ (sym (c .before .is-quiet .ensures) ∙ c .if1 .taken) in
-    λ rest t p w e v q k. let f = k (z .0) in (
-      subst (λ (u : Tables). Ready u (figure-of (a .n))) (sym q) (quiet-ready (a .n) t (a .s) p (a .h) w e v f (z .1)),
-      λ g. quiet-safe (a .n) t (a .s) p (a .h) w e v f (z .1) (g (z .0)) ∙ ap (λ (u : Tables). not (safe u)) (sym q),
+    let l : length (a .objects) ≡ 64 = search (needs, unmapped) in
+    λ rest t p w e v q k. let f = k (z .0) in let o = slot-low rest (a .subjects) (a .objects) (a .handles) l t (a .h .object) (ap (λ (u : Tables). u .at (object (a .h .object))) q) (e .to) in (
+      subst (λ (u : Tables). Ready u (figure-of (a .n))) (sym q) (quiet-ready (a .n) t (a .s) p (a .h) w e v f o (z .1)),
+      λ g. quiet-safe (a .n) t (a .s) p (a .h) w e v f o (z .1) (g (z .0)) ∙ ap (λ (u : Tables). not (safe u)) (sym q),
     )
 
 figures-requires : tie.Need-figures-requires

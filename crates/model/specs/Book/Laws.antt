@@ -11,7 +11,7 @@ use Rattle.model.specs.Lists.{In}
 use Rattle.model.specs.Label.{Label, _⊑_}
 use Rattle.model.specs.Label.Laws.{⊑-refl, ⊑-trans}
 use Rattle.model.specs.Flow.{Thing, subject, same}
-use Rattle.model.specs.Tables.{Dir, reading, writing, Entry, Handle, Tables, empty, label-of, cell, whole, handles, arc, needs}
+use Rattle.model.specs.Tables.{Dir, reading, writing, Entry, Handle, Tables, empty, label-of, cell, whole, handles, arc, needs, with-numbers}
 use Rattle.model.specs.Tables.Laws.{cell-entry, whole-alone}
 use Rattle.model.specs.Steps.{outside, blank, copied, writes, Step, enter, leave, hold, holds, mix, quits, freezes, put, fall, apply, applies, ended, reap}
 use Rattle.model.specs.Steps.Laws.{put-cases, fell}
@@ -147,6 +147,9 @@ reap-agree ℓ before t c d a = record { same-at = λ y e q l. go (ended before 
     go true y e q l = absurd (Option·none-ne-some e q)
     go false y e q l = a .same-at y e q l
 
+numbers-agree : (ℓ : Label) (t : Tables) (n : List ℕ) (c d : Contents) → Agree ℓ t c d → Agree ℓ (with-numbers t n) c d
+numbers-agree ℓ t n c d a = record { same-at = λ y e q l. a .same-at y e q l }
+
 -- ── an allowed call's steps have what they ask ──
 sheds-guards : (ℓ : Label) (o₁ o₂ : ℕ) (t : Tables) (s : ℕ) → Guards ℓ o₁ o₂ t (sheds t s)
 unfolding sheds
@@ -234,8 +237,8 @@ module _ (ℓ : Label) (h : Handling) (p q : Outside) where
       go : (o : Option ℕ) → refusal t k ≡ o → Agree ℓ (elim o as (λ _. Tables) [ none ↦ effect t k | some n ↦ t ])
           (elim o as (λ _. Contents) [ none ↦ carries h i (p i) t (steps t k) c | some n ↦ c ])
           (elim o as (λ _. Contents) [ none ↦ carries h i (q i) t (steps t k) d | some n ↦ d ])
-      go none r = reap-agree ℓ (handles t) (applies (steps t k) t) _ _
-          (steps-agree ℓ h i (p i) (q i) t c d (steps t k) (guarded ℓ (p i) (q i) t v k (λ l z. b l (brings ∙ z)) (allowed-iff t k .0 r)) a)
+      go none r = numbers-agree ℓ (reap (handles t) (applies (steps t k) t)) _ _ _ (reap-agree ℓ (handles t) (applies (steps t k) t) _ _
+          (steps-agree ℓ h i (p i) (q i) t c d (steps t k) (guarded ℓ (p i) (q i) t v k (λ l z. b l (brings ∙ z)) (allowed-iff t k .0 r)) a))
         where
           brings : brought t k ≡ brought-by (steps t k)
           brings = ap (λ (o : Option ℕ). elim o as (λ _. Option Label) [ none ↦ brought-by (steps t k) | some n ↦ none ]) r

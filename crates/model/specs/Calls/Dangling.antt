@@ -11,10 +11,10 @@ use Rattle.model.specs.Flow.{Thing, subject, object, same}
 use Rattle.model.specs.Tables.{running, file, pipe, Dir, reading, writing, Entry, entry, Handle, handle, mapping, with-mark, Tables, in-range, live}
 use Rattle.model.specs.Tables.{label-of, cell, handles, open-on}
 use Rattle.model.specs.Tables.Laws.{open-here}
-use Rattle.model.specs.Steps.{Origin, outside, blank, copied, reads, writes, runs, enter, hold, mix, row, place, apply, applies}
+use Rattle.model.specs.Steps.{Origin, outside, blank, copied, reads, writes, runs, enter, hold, mix, row, place, apply, applies, reap}
 use Rattle.model.specs.Steps.Laws.{row-cases, live-hand, applies-append}
 use Rattle.model.specs.Invariant.{Ends, Wf}
-use Rattle.model.specs.Invariant.Laws.{row-below, less-close, less-quits, less-freeze, less-wf, wf-enter, wf-hand, wf-hold, wf-without, wf-reap, wf-mix}
+use Rattle.model.specs.Invariant.Laws.{row-below, less-close, less-quits, less-freeze, less-wf, wf-enter, wf-hand, wf-hold, wf-without, wf-reap, wf-mix, less-numbers}
 use Rattle.model.specs.Calls.{Call, admit, register, create, make-pipe, opens, access, fork, exec, close, exit, retire, maps, mark, freeze, connect, unknown}
 use Rattle.model.specs.Calls.{target, marking, sheds, channel, steps, effect, next, alive, present, new, vacant, taken, idle, broken, In-order, refusal}
 use Rattle.model.specs.Calls.Refusals.{allowed-iff}
@@ -204,7 +204,7 @@ module _ (t : Tables) (w : Wf t) where
 -- RULES T19: nothing dangles in the tables after an allowed call, whichever tables it was made on
 pub effect-wf : (t : Tables) (c : Call) → Wf t → refusal t c ≡ none → Wf (effect t c)
 unfolding effect
-effect-wf t c w q = wf-reap (handles t) (applies (steps t c) t) (call-wf t w c (allowed-iff t c .0 q))
+effect-wf t c w q = less-wf (less-numbers (reap (handles t) (applies (steps t c) t)) _) (wf-reap (handles t) (applies (steps t c) t) (call-wf t w c (allowed-iff t c .0 q)))
 
 pub next-wf : (t : Tables) (c : Call) → Wf t → Wf (next t c)
 next-wf t c w = go (refusal t c) refl

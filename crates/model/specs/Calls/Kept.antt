@@ -10,28 +10,24 @@ use mathlib.Core.List.{List, [], _∷_}
 use Prim.Native.Nat.{ℕ}
 use lib.Dec.{T, T-not, not-T, eqb, eqb→eq, eqb-refl}
 use Rattle.model.specs.Bools.{test}
-use Rattle.model.specs.Label.{label}
+use Rattle.model.specs.Label.{label, _⊑_}
 use Rattle.model.specs.Flow.{Thing, subject, object, same}
-use Rattle.model.specs.Tables.{running, file, pipe, Dir, reading, writing, Entry, entry, Handle, handle, mapping, Tables, empty}
-use Rattle.model.specs.Tables.{label-of, is-pipe, cell, handles, open-on, safe}
-use Rattle.model.specs.Tables.Laws.{handles-at, open-here}
-use Rattle.model.specs.Steps.{Origin, outside, blank, Access, reads, writes, runs, enter, leave, hold, mix, quits, freezes, put}
-use Rattle.model.specs.Steps.{fall, sink, apply, applies, ended, reap}
+use Rattle.model.specs.Tables.{running, file, pipe, Dir, reading, writing, Entry, entry, Handle, handle, mapping, Tables, empty, label-of, is-pipe, cell, handles, open-on, safe, with-numbers, needs}
+use Rattle.model.specs.Tables.Laws.{handles-at, open-here, cell-same, handles-by}
+use Rattle.model.specs.Steps.{Origin, outside, blank, Access, reads, writes, runs, enter, leave, hold, mix, quits, freezes, put, fall, sink, apply, applies, ended, reap}
 use Rattle.model.specs.Steps.Laws.{put-cases, sink-cases, place-same, place-other, applies-append, ended-last}
 use Rattle.model.specs.Invariant.{Wf, Piped, Kept}
-use Rattle.model.specs.Invariant.Laws.{pot-safe, row-below, less-quits}
-use Rattle.model.specs.Invariant.Laws.{empty-wf, wf-reap}
-use Rattle.model.specs.Invariant.Laws.{empty-pot}
+use Rattle.model.specs.Invariant.Laws.{pot-safe, row-below, less-quits, empty-wf, wf-reap, empty-pot, needs-pot, less-numbers, less-wf, less-pot}
 use Rattle.model.specs.Invariant.Laws.{empty-scaled, empty-frozen, scaled-without}
 use Rattle.model.specs.Calls.{Call, admit, register, create, make-pipe, opens, access, fork, exec, close, exit, retire, maps, mark, freeze, connect, unknown, Raw, decode}
-use Rattle.model.specs.Calls.{target, sheds, channel, steps, effect, next, after, apart, refusal}
+use Rattle.model.specs.Calls.{target, sheds, channel, steps, stepped, effect, next, after, apart, refusal}
 use Rattle.model.specs.Calls.Refusals.{allowed-iff}
 use Rattle.model.specs.Calls.Passed.{is-new, is-facing, Passed, sheds-less}
 use Rattle.model.specs.Calls.Moving.{rereads-keep}
 use Rattle.model.specs.Calls.Mapped.{empty-mapped, mapped-reap, call-mapped}
 use Rattle.model.specs.Calls.Dangling.{pipe-wf, connect-wf, call-wf}
 use Rattle.model.specs.Calls.Scale.{call-scaled, call-frozen}
-use Rattle.model.specs.Calls.Sound.{kept-sound, effect-safe}
+use Rattle.model.specs.Calls.Sound.{kept-sound, stepped-pot}
 pub use Rattle.model.specs.Calls.Passed.{is-new, is-facing}
 
 -- ── pipes: what the steps of an allowed call make of them, before some end ──
@@ -197,16 +193,34 @@ reap-piped t u k = record {
     ]
 
 -- ── calls and lists of calls ──
+-- the list of numbers is of no matter to the rest
+numbers-kept : (u : Tables) (n : List ℕ) → Kept u → Kept (with-numbers u n)
+numbers-kept u n v = record {
+  wf = less-wf (less-numbers u n) (v .wf);
+  safe = pot-safe (less-pot (needs u) (less-numbers u n) (needs-pot (v .wf) (v .safe)));
+  scaled = record { within = v .scaled .within };
+  frozen = record { bounded = v .frozen .bounded };
+  mapped = record {
+    each = λ s p k q m. let r = v .mapped .each s p k q m in record {
+      for-reading = r .for-reading;
+      on-file = r .on-file;
+      under = subst (λ (x : Thing). label-of (u .at x) ⊑ label-of (u .at (object (k .to)))) (cell-same u (with-numbers u n) s) (r .under);
+    };
+  };
+  piped = record { joined = λ o h. subst (λ (hs : List Handle). T (open-on hs o)) (handles-by u (with-numbers u n) refl) (v .piped .joined o h) };
+}
+
 pub effect-kept : (t : Tables) (c : Call) → Kept t → refusal t c ≡ none → Kept (effect t c)
 unfolding effect
-effect-kept t c v q = let m = allowed-iff t c .0 q in let u = applies (steps t c) t in let w = call-wf t (v .wf) c m in record {
-  wf = wf-reap (handles t) u w;
-  safe = effect-safe t c (kept-sound v) q;
-  piped = reap-piped t u (call-pipes t (v .piped) (v .wf) c m);
-  scaled = scaled-without (λ x. ended (handles t) (handles u) x (u .at x)) u (call-scaled t (v .scaled) c m);
-  frozen = record { bounded = call-frozen t (v .frozen) c m .bounded };
-  mapped = mapped-reap (handles t) u w (call-mapped t (v .wf) (v .mapped) c m);
-}
+effect-kept t c v q = let m = allowed-iff t c .0 q in let u = applies (steps t c) t in let w = call-wf t (v .wf) c m in
+    numbers-kept (stepped t c) _ (record {
+      wf = wf-reap (handles t) u w;
+      safe = pot-safe (stepped-pot t c (kept-sound v) q);
+      piped = reap-piped t u (call-pipes t (v .piped) (v .wf) c m);
+      scaled = scaled-without (λ x. ended (handles t) (handles u) x (u .at x)) u (call-scaled t (v .scaled) c m);
+      frozen = record { bounded = call-frozen t (v .frozen) c m .bounded };
+      mapped = mapped-reap (handles t) u w (call-mapped t (v .wf) (v .mapped) c m);
+    })
 
 pub next-kept : (t : Tables) (c : Call) → Kept t → Kept (next t c)
 next-kept t c v = go (refusal t c) refl

@@ -16,8 +16,8 @@ use Rattle.model.specs.Lists.Laws.{each-in, keep-cases, any-of, any-at}
 use Rattle.model.specs.Label.{leq, _⊑_}
 use Rattle.model.specs.Flow.{Thing, subject, object, same}
 use Rattle.model.specs.Flow.Laws.{same→eq}
-use Rattle.model.specs.Tables.{Entry, Handle, Tables, with-at, subjects, places, in-range, a-file, cell, whole, things, one, handles-of}
-use Rattle.model.specs.Tables.Laws.{whole-at, of-one, thing-listed}
+use Rattle.model.specs.Tables.{Entry, Handle, Tables, with-at, subjects, places, a-file, cell, whole, things, one, handles-of}
+use Rattle.model.specs.Tables.Laws.{whole-at, of-one, thing-listed, Stands}
 use Rattle.model.specs.Steps.{reads, Step, mix, fall, apply, applies}
 use Rattle.model.specs.Steps.Laws.{applies-append, applies-keep, file-keeps, fall-twice}
 use Rattle.model.specs.Calls.{has-mapped, rereads, smaller, lowers}
@@ -183,7 +183,7 @@ pub record Lower (t u : Tables) : Type 0 where
   pub thing : Thing
   pub was : Entry
   pub now : Entry
-  pub ranged : T (in-range thing)
+  pub stands : Stands t thing
   pub there : t .at thing ≡ some was
   pub then : u .at thing ≡ some now
   pub less : T (not (leq (was .label) (now .label)))
@@ -205,7 +205,7 @@ lowers-none t u h = is-false (lowers t u) (not-T (lowers t u) (λ a. let r = any
 pub lowers-some : (t u : Tables) → Lower t u → lowers t u ≡ true
 unfolding lowers
 lowers-some t u l = is-true (lowers t u) (any-of (λ x. smaller (t .at x) (u .at x)) (things t) (l .thing)
-    (thing-listed t (l .thing) (l .was) (l .ranged) (l .there))
+    (thing-listed t (l .thing) (l .was) (l .stands) (l .there))
     (subst (λ (a : Option Entry). T (smaller (t .at (l .thing)) a)) (sym (l .then))
     (subst (λ (b : Option Entry). T (smaller b (some (l .now)))) (sym (l .there)) (l .less))))
 
@@ -215,10 +215,10 @@ lowers-is t u true f g = lowers-some t u (f tt)
 lowers-is t u false f g = lowers-none t u (g tt)
 
 -- where x alone may have another level, x tells
-pub lowers-one : (t u : Tables) (x : Thing) (e d : Entry) → T (in-range x) → t .at x ≡ some e → u .at x ≡ some d
+pub lowers-one : (t u : Tables) (x : Thing) (e d : Entry) → Stands t x → t .at x ≡ some e → u .at x ≡ some d
     → ((y : Thing) (a b : Entry) → T (not (same x y)) → t .at y ≡ some a → u .at y ≡ some b → a .label ⊑ b .label) → lowers t u ≡ not (leq (e .label) (d .label))
 lowers-one t u x e d r p q h = lowers-is t u (not (leq (e .label) (d .label)))
-    (λ n. record { thing = x; was = e; now = d; ranged = r; there = p; then = q; less = n })
+    (λ n. record { thing = x; was = e; now = d; stands = r; there = p; then = q; less = n })
     (λ n y a b s z. elim (test (same x y)) [ inl i ↦ own y a b n (same→eq x y i) s z | inr i ↦ h y a b i s z ])
   where
     own : (y : Thing) (a b : Entry) → T (not (not (leq (e .label) (d .label)))) → x ≡ y → t .at y ≡ some a → u .at y ≡ some b → a .label ⊑ b .label

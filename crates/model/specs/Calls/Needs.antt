@@ -18,8 +18,8 @@ use Rattle.model.specs.Label.Laws.{⊑-antisym}
 use Rattle.model.specs.Flow.{Thing, subject, object, same, Edge, Reaches, need}
 use Rattle.model.specs.Flow.Laws.{same→eq, same-refl, need-flow}
 use Rattle.model.specs.Flow.Changes.{Sub, Adds, flow-to, Spare, spare-below, Total, Fresh, but, need-alone, need-agree, need-others, need-pipe, need-copied, remove-below, remove-thing, remove-thing-far, remove-thing-spare, add-quiet, adds-same, need-more}
-use Rattle.model.specs.Tables.{Kind, running, file, pipe, Dir, reading, writing, Entry, entry, Handle, handle, mapping, with-mark, Tables, with-at, subjects, places, label-of, is-pipe, cell, handles, open-on, arc, flow, speaks, flows-of, edges, demand, needs}
-use Rattle.model.specs.Tables.Laws.{open-here, speaks-at, speaks-cell, cell-self, object-entry, cell-entry, flow-edge, edge-flow}
+use Rattle.model.specs.Tables.{Kind, running, file, pipe, Dir, reading, writing, Entry, entry, Handle, handle, mapping, with-mark, Tables, with-at, subjects, places, label-of, is-pipe, cell, handles, open-on, arc, flow, speaks, flows-of, edges, demand, needs, with-numbers}
+use Rattle.model.specs.Tables.Laws.{open-here, speaks-at, speaks-cell, cell-self, object-entry, cell-entry, flow-edge, edge-flow, edges-numbers}
 use Rattle.model.specs.Steps.{Origin, Access, reads, writes, runs, enter, leave, hold, holds, mix, put, place, sink, apply, applies, ended, reap}
 use Rattle.model.specs.Steps.Laws.{put-same, sink-by, row-cases, place-cases, place-same, fall-demand}
 use Rattle.model.specs.Invariant.{Wf}
@@ -66,10 +66,17 @@ needs-reap before t = needs-at t (λ x. cond (ended before (handles t) x (t .at 
     gone (object n) none = refl
     gone (object n) (some e) = by-kind n (e .kind) (e .label) _
 
+pub needs-numbers : (t : Tables) (n : List ℕ) (x : Thing) → needs (with-numbers t n) x ≡ needs t x
+needs-numbers t n x = ap (λ (es : List Edge). need (λ y. demand y (t .at y)) es x) (edges-numbers t n)
+
+relisted-needs : (t : Tables) (c : Call) (x : Thing) → needs (effect t c) x ≡ needs (reap (handles t) (applies (steps t c) t)) x
+unfolding effect
+relisted-needs t c x = needs-numbers (reap (handles t) (applies (steps t c) t)) _ x
+
 -- RULES C102: the needs after a call are those after its steps
 pub effect-needs : (t : Tables) (c : Call) (x : Thing) → needs (effect t c) x ≡ needs (applies (steps t c) t) x
 unfolding effect
-effect-needs t c = needs-reap (handles t) (applies (steps t c) t)
+effect-needs t c x = relisted-needs t c x ∙ needs-reap (handles t) (applies (steps t c) t) x
 
 -- ── steps that change no need ──
 -- data moves and labels fall
@@ -283,7 +290,7 @@ pub pipe-needs : (t : Tables) (s o r w : ℕ) → Wf t → s < subjects → r < 
     → (r ≡ w → ⊥)
     → (x : Thing) → needs (effect t (make-pipe s o r w)) x ≡ but (needs t) (object o) (needs t (subject s)) x
 unfolding effect
-pipe-needs t s o r w v ls lr lw n nr nw ne x = needs-reap (handles t) (with-at b a) x
+pipe-needs t s o r w v ls lr lw n nr nw ne x = relisted-needs t (make-pipe s o r w) x ∙ needs-reap (handles t) (with-at b a) x
     ∙ needs-at b a (put-demand (t .at) (object o) made (sym (ap (demand (object o)) n))) x
     ∙ need-pipe (λ y. demand y (t .at y)) (fresh-none t (object o) v n) (subject-object s o) (ap (demand (object o)) n)
     (opened-adds (hold-ranged t s r (some (handle reading o)) ls lr (wf-ranged v)) (hold-opened t s r (handle reading o) nr))
@@ -310,7 +317,7 @@ pipe-needs t s o r w v ls lr lw n nr nw ne x = needs-reap (handles t) (with-at b
 pub fork-needs : (t : Tables) (s c : ℕ) → Wf t → c < subjects → t .at (subject c) ≡ none → (x : Thing)
     → needs (effect t (fork s c)) x ≡ but (needs t) (subject c) (needs t (subject s)) x
 unfolding effect
-fork-needs t s c w lc n x = needs-reap (handles t) (with-at u (put (t .at) (subject c) child)) x
+fork-needs t s c w lc n x = relisted-needs t (fork s c) x ∙ needs-reap (handles t) (with-at u (put (t .at) (subject c) child)) x
     ∙ needs-at u (put (t .at) (subject c) child) (put-demand (t .at) (subject c) child (sym (subject-demand c (t .at (subject c))))) x
     ∙ need-copied (λ y. demand y (t .at y)) (record {
       more = record { all = more };
@@ -388,7 +395,7 @@ module _ (t : Tables) (s : ℕ) (w : Wf t) where
   -- the needs after an exit are those once the subject's places are empty
   pub exit-needs : (x : Thing) → needs (effect t (exit s)) x ≡ needs (apply (holds s (λ p. none)) t) x
   unfolding effect left
-  exit-needs x = needs-reap (handles t) (with-at left (put (t .at) (subject s) none)) x
+  exit-needs x = relisted-needs t (exit s) x ∙ needs-reap (handles t) (with-at left (put (t .at) (subject s) none)) x
       ∙ needs-at left (put (t .at) (subject s) none) (put-demand (t .at) (subject s) none (sym (subject-demand s (t .at (subject s))))) x
 
   -- a subject that leads to no file leaves its places: no need changes

@@ -13,7 +13,7 @@ use Rattle.model.specs.Lists.{In, any}
 use Rattle.model.specs.Lists.Laws.{any-at}
 use Rattle.model.specs.Label.{level}
 use Rattle.model.specs.Tables.{Tables}
-use Rattle.model.specs.Calls.{Call, Test, known, alive, present, no-pipe, leveled, freezable, new, vacant, taken, apart, unlike, others, facing, enough, suits, idle, thawed, number, broken, tests, order, breaks, first, earlier, In-order, refusal, effect, next, Shown, level-at, given, shown, Answer, refused, lowers, last-label, outcome, said, answer}
+use Rattle.model.specs.Calls.{Call, Test, known, alive, present, no-pipe, leveled, freezable, new, vacant, taken, apart, unlike, others, facing, enough, suits, idle, thawed, roomy, number, broken, tests, order, breaks, first, earlier, In-order, refusal, effect, next, Shown, level-at, given, shown, Answer, refused, lowers, last-label, outcome, said, answer}
 
 -- ── breaks ──
 breaks-of : (t : Tables) (n : ℕ) (ds : List Test) (d : Test) → In d ds → number d ≡ n → T (broken t d) → T (breaks t n ds)
@@ -139,6 +139,7 @@ listed d = let r = any-at (λ n. eqb n (number d)) order (stands d) in subst (λ
     stands (suits s o) = tt
     stands (idle o) = tt
     stands (thawed d o) = tt
+    stands (roomy k) = tt
 
 -- ── refusal ──
 pub allowed-iff : (t : Tables) (c : Call) → (refusal t c ≡ none) ↔ ((d : Test) → In d (tests c) → T (not (broken t d)))

@@ -10,21 +10,23 @@ use lib.Dec.{T, T-not, eqb}
 use Rattle.model.specs.Bools.{test, not-not}
 use Rattle.model.specs.Label.{Label, label, leq, _⊑_}
 use Rattle.model.specs.Label.Laws.{⊑-refl, bot-least}
-use Rattle.model.specs.Flow.{Thing, subject, object, same}
+use Rattle.model.specs.Lists.{In}
+use Rattle.model.specs.Flow.{Thing, subject, object, same, Edge, Reaches, here, step}
+use Rattle.model.specs.Flow.Laws.{need-least, object-same, subject-object}
 use Rattle.model.specs.Flow.Changes.{but, but-here}
 use Rattle.model.specs.Tables.{Kind, running, file, pipe, Dir, reading, writing, Entry, entry, Handle, handle, mapping, with-mark, Tables}
-use Rattle.model.specs.Tables.{in-range, label-of, cell, handles, arc, flow, speaks, demand, needs, safe}
+use Rattle.model.specs.Tables.{in-range, label-of, cell, handles, open-on, arc, flow, speaks, edges, demand, needs, safe}
 use Rattle.model.specs.Tables.Laws.{speaks-at, speaks-hand, speaks-cell, cell-self, cell-same, cell-entry, object-entry}
-use Rattle.model.specs.Tables.Laws.{thing-listed, listed-thing, demand-label, not-safe, safe-above}
+use Rattle.model.specs.Tables.Laws.{open-here, Flows, edge-flow, Stands, thing-listed, listed-thing, demand-label, not-safe, safe-above}
 use Rattle.model.specs.Steps.{Origin, outside, blank, copied, reads, writes, runs, enter, hold, mix, quits, freezes, put, row}
 use Rattle.model.specs.Steps.{place, apply, applies}
 use Rattle.model.specs.Steps.Laws.{row-cases, place-same, applies-append}
 use Rattle.model.specs.Invariant.{Wf, Safe, Mapped, Kept}
-use Rattle.model.specs.Invariant.Laws.{Pot, pot-safe, needs-pot, Less, less-close, less-quits, less-freeze, less-wf, less-pot, Feeds, flow-feeds}
+use Rattle.model.specs.Invariant.Laws.{Pot, pot-safe, needs-pot, Less, less-close, less-quits, less-freeze, less-numbers, less-wf, less-pot, Feeds, flow-feeds}
 use Rattle.model.specs.Invariant.Laws.{wf-mix}
 use Rattle.model.specs.Invariant.Laws.{but-other, pot-enter, pot-hand, pot-hold, pot-without, pot-reap, pot-mix}
 use Rattle.model.specs.Calls.{Call, admit, register, create, make-pipe, opens, access, fork, exec, close, exit, retire, maps, mark, freeze, connect, unknown}
-use Rattle.model.specs.Calls.{target, marking, sheds, channel, steps, effect, Test, alive, present, new, taken, facing, enough, suits, broken, refusal}
+use Rattle.model.specs.Calls.{target, marking, sheds, channel, steps, stepped, effect, Test, alive, present, new, taken, facing, enough, suits, broken, refusal}
 use Rattle.model.specs.Calls.Refusals.{allowed-iff}
 use Rattle.model.specs.Calls.Passed.{is-alive, is-present, is-new, is-taken, is-facing, Passed, sheds-less}
 use Rattle.model.specs.Calls.Moving.{Through, rereads-keep}
@@ -46,12 +48,35 @@ pub record Sound (t : Tables) : Type 0 where
 pub kept-sound : {t : Tables} → Kept t → Sound t
 kept-sound v = record { wf = v .wf; safe = v .safe; for-reading = mapped-read (v .mapped) }
 
+-- an object on which no handle is reaches nothing, so that it needs no more than its own label
+pub idle-need : (u : Tables) (o : ℕ) (e : Entry) → u .at (object o) ≡ some e → T (not (open-on (handles u) o)) → needs u (object o) ⊑ e .label
+idle-need u o e q n = need-least (edges u) (λ y. demand y (u .at y)) (object o) (e .label) only
+  where
+    from : (f : Edge) → In f (edges u) → f .src ≡ object o → ⊥
+    from f i z = let r = edge-flow u f i in stuck r (r .k .dir) refl
+      where
+        stuck : (r : Flows u f) (d : Dir) → r .k .dir ≡ d → ⊥
+        stuck r reading g = T-not (open-on (handles u) o) n (subst (λ (m : ℕ). T (open-on (handles u) m))
+            (object-same (r .k .to) o (sym (ap (λ (v : Dir). arc v (r .x) (object (r .k .to)) .src) g) ∙ ap (λ (v : Edge). v .src) (r .is) ∙ z))
+            (open-here u (r .s) (r .p) (r .k) (r .low-s) (r .low-p) (r .holds)))
+        stuck r writing g = subject-object (r .s) o (sym (cell-self u (r .s)) ∙ Option·some-injective (cell u (r .s)) (r .x) (sym (speaks-cell u (r .s)) ∙ r .speaker) ∙
+            sym (ap (λ (v : Dir). arc v (r .x) (object (r .k .to)) .src) g) ∙ ap (λ (v : Edge). v .src) (r .is) ∙ z)
+
+    only : (y : Thing) → Reaches (edges u) (object o) y → demand y (u .at y) ⊑ e .label
+    only y (here z) = subst (λ (x : Thing). demand x (u .at x) ⊑ e .label) z
+        (subst (λ (v : Option Entry). demand (object o) v ⊑ e .label) (sym q) (demand-label (object o) e))
+    only y (step f i z r) = absurd (from f i z)
+
 -- tables that pass the test
 pub safe-sound : (u : Tables) → Wf u → T (safe u) → Safe u
-safe-sound u w h = record {
-  above = λ x e q. subst (λ (o : Option Entry). needs u x ⊑ label-of o) q
-      (safe-above u h x (thing-listed u x e (w .ranged x e q) q));
-}
+safe-sound u w h = record { above = covered }
+  where
+    listed : (x : Thing) (e : Entry) → u .at x ≡ some e → Stands u x → needs u x ⊑ e .label
+    listed x e q g = subst (λ (o : Option Entry). needs u x ⊑ label-of o) q (safe-above u h x (thing-listed u x e g q))
+
+    covered : (x : Thing) (e : Entry) → u .at x ≡ some e → needs u x ⊑ e .label
+    covered (subject n) e q = listed (subject n) e q (w .ranged (subject n) e q)
+    covered (object n) e q = elim (test (open-on (handles u) n)) [ inl g ↦ listed (object n) e q g | inr g ↦ idle-need u n e q g ]
 
 pub safe-complete : (u : Tables) → Safe u → T (safe u)
 safe-complete u v = elim (test (safe u)) [
@@ -332,8 +357,11 @@ module _ (t : Tables) (v : Sound t) where
   call-safe unknown m = v .safe
 
 -- ── pipes end ──
--- no level is below its need after an allowed call
+-- no level is below its need after an allowed call; the list of numbers is of no matter
+pub stepped-pot : (t : Tables) (c : Call) → Sound t → refusal t c ≡ none → Pot (stepped t c) (needs (applies (steps t c) t))
+stepped-pot t c v q = let m = allowed-iff t c .0 q in let u = applies (steps t c) t in
+    pot-reap (handles t) u (needs u) (needs-pot (call-wf t (v .wf) c m) (call-safe t v c m))
+
 pub effect-safe : (t : Tables) (c : Call) → Sound t → refusal t c ≡ none → Safe (effect t c)
 unfolding effect
-effect-safe t c v q = let m = allowed-iff t c .0 q in let u = applies (steps t c) t in
-    pot-safe (pot-reap (handles t) u (needs u) (needs-pot (call-wf t (v .wf) c m) (call-safe t v c m)))
+effect-safe t c v q = pot-safe (less-pot (needs (applies (steps t c) t)) (less-numbers (stepped t c) _) (stepped-pot t c v q))

@@ -1,21 +1,24 @@
 -- Refusal 9, both ways: an open, a map or a connect that is otherwise in order is refused with 9 if and only if after it some live thing reaches, through
 -- open handles, a file of a higher level; an exec if and only if the file's level is below the subject's need, that is, if and only if
--- the subject reaches a file of a higher level than the program's. Refusal 15, likewise; and which of the two is said of an open. For every tables, also those that no calls made. Assumes nothing.
+-- the subject reaches a file of a higher level than the program's. Refusals 15 and 17, likewise; and which of the two is said of an open. For every tables, also those that no calls made. Assumes nothing.
 use mathlib.Core.Path.{_≡_, refl, sym, _∙_, ap, subst}
 use mathlib.Core.Bool.{Bool, true, false, not, _&&_, cond}
 use mathlib.Core.Logic.{inl, inr, _↔_}
 use mathlib.Core.Option.{Option, none, some}
-use Prim.Native.Nat.{ℕ}
+use Prim.Native.Nat.{ℕ, _+_, _<_}
+use lib.ListN.{length}
 use lib.Dec.{T, T-not, not-T, eqb, eqb→eq, eqb-refl, ltb, ltb→lt, lt→ltb, leb, leb→le, le→leb}
-use Rattle.model.specs.Bools.{cond-yes, both, both-of}
+use Rattle.model.specs.Bools.{test, cond-yes, both, both-of}
+use Rattle.model.specs.Lists.{In}
 use Rattle.model.specs.Label.{Label, level, leq, _⊑_, bot}
 use Rattle.model.specs.Label.Laws.{⊑-trans, bot-least}
-use Rattle.model.specs.Flow.{Thing, object, Reaches}
+use Rattle.model.specs.Flow.{Thing, subject, object, Reaches}
 use Rattle.model.specs.Flow.Laws.{need-upper, need-over}
-use Rattle.model.specs.Tables.{Dir, reading, writing, Entry, Tables, no-freeze, label-of, is-file, cell, edges, demand, needs, safe}
-use Rattle.model.specs.Tables.Laws.{not-safe}
+use Rattle.model.specs.Tables.{Dir, reading, writing, Entry, Tables, no-freeze, is-some, in-range, used, live, label-of, is-file, cell, handles, open-on, things, edges, demand, needs, safe}
+use Rattle.model.specs.Tables.Laws.{some-of, thing-listed, listed-live, not-safe}
 use Rattle.model.specs.Steps.{applies}
-use Rattle.model.specs.Calls.{opens, exec, maps, connect, sheds, channel, Test, number, alive, present, vacant, enough, suits, thawed, others, shut, broken, tests, order, earlier, In-order, refusal}
+use Rattle.model.specs.Calls.{Call, register, create, make-pipe, opens, exec, maps, connect, sheds, channel, Test, number, alive, present, vacant, enough, suits, thawed, others, roomy, shut, broken, tests, order, earlier, In-order, refusal}
+use Rattle.model.specs.Calls.Sound.{idle-need}
 use Rattle.model.specs.Calls.Refusals.{refused-is, refused-by, only}
 use Rattle.model.specs.Demand2.{Leaks, Offends, opened, Named, Closed}
 
@@ -41,10 +44,22 @@ leaks-over u a x l = not-T (leq (needs u x) a) (λ t. T-not (leq (l .high-entry 
     demanded = subst (λ (b : Label). b ⊑ needs u x) demand-is (need-upper (edges u) (λ y. demand y (u .at y)) (l .reaches))
 
 pub unsafe-iff : (u : Tables) → T (not (safe u)) ↔ Offends u
+unfolding used
 unsafe-iff u = (
-  λ h. (let r = not-safe u .0 h in record { low = r .0; low-live = r .1; leaks = over-leaks u (label-of (u .at (r .0))) (r .0) (r .2) }),
-  λ o. not-safe u .1 (o .low, o .low-live, leaks-over u (label-of (u .at (o .low))) (o .low) (o .leaks)),
+  λ h. (let r = not-safe u .0 h in record { low = r .0; low-live = listed-live u (r .0) (r .1); leaks = over-leaks u (label-of (u .at (r .0))) (r .0) (r .2) }),
+  λ o. not-safe u .1 (o .low, listed (o .low) (o .low-live) (o .leaks), leaks-over u (label-of (u .at (o .low))) (o .low) (o .leaks)),
 )
+  where
+    -- an object on which no handle is reaches nothing else
+    listed : (x : Thing) → T (live u x) → Leaks u (label-of (u .at x)) x → In x (things u)
+    listed (subject n) v l = let b = both-of (in-range (subject n)) (is-some (u .at (subject n))) v in
+        let e = some-of (u .at (subject n)) (b .1) in thing-listed u (subject n) (e .0) (b .0) (e .1)
+    listed (object n) v l = let e = some-of (u .at (object n)) (both-of (in-range (object n)) (is-some (u .at (object n))) v .1) in
+        elim (test (open-on (handles u) n)) [
+          | inl g ↦ thing-listed u (object n) (e .0) g (e .1)
+          | inr g ↦ absurd (T-not (leq (needs u (object n)) (label-of (u .at (object n)))) (leaks-over u (label-of (u .at (object n))) (object n) l)
+              (subst (λ (o : Option Entry). T (leq (needs u (object n)) (label-of o))) (sym (e .1)) (idle-need u n (e .0) (e .1) g .tested)))
+        ]
 
 -- ── the flow rule ──
 -- RULES R9, R109: an open
@@ -76,7 +91,7 @@ connect-refused-iff t s u a b p q = (
   λ r. (let k = refused-by t (connect s u a b p q) 9 r in (
     k .1,
     unsafe-iff (applies (channel t s u a b p q) t) .0 (only t (enough (connect s u a b p q)) (tests (connect s u a b p q))
-        (inl tt, (inl tt, (inl tt, (inl tt, (inl tt, (inl tt, (inl tt, (inl tt, (inl tt, (inl tt, (inl tt, (inr refl, tt)))))))))))) (k .0)),
+        (inl tt, (inl tt, (inl tt, (inl tt, (inl tt, (inl tt, (inl tt, (inl tt, (inl tt, (inl tt, (inl tt, (inr refl, (inl tt, tt))))))))))))) (k .0)),
   )),
   λ r. refused-is t (connect s u a b p q) (enough (connect s u a b p q)) (inr (inr (inr (inr (inr (inr (inr (inr (inr (inr (inr (inl refl))))))))))))
       (unsafe-iff (applies (channel t s u a b p q) t) .1 (r .1)) (r .0),
@@ -88,7 +103,7 @@ connect-same-iff t s u a b p q = (
   λ r. (let k = refused-by t (connect s u a b p q) 16 r in (
     k .1,
     eqb→eq s u (only t (others s u) (tests (connect s u a b p q))
-        (inl tt, (inl tt, (inr refl, (inl tt, (inl tt, (inl tt, (inl tt, (inl tt, (inl tt, (inl tt, (inl tt, (inl tt, tt)))))))))))) (k .0)),
+        (inl tt, (inl tt, (inr refl, (inl tt, (inl tt, (inl tt, (inl tt, (inl tt, (inl tt, (inl tt, (inl tt, (inl tt, (inl tt, tt))))))))))))) (k .0)),
   )),
   λ r. refused-is t (connect s u a b p q) (others s u) (inr (inr (inl refl))) (subst (λ (z : ℕ). T (eqb s z)) (r .1) (eqb-refl s)) (r .0),
 )
@@ -144,6 +159,32 @@ frozen-refused-iff t d s o p = (
       let c = shut-iff t d o .0 (only t (thawed d o) (tests (opens d s o p)) (inl tt, (inl tt, (inl tt, (inl tt, (inr refl, tt))))) (r .0)) in (r .1, c .0, c .1)),
   λ r. refused-is t (opens d s o p) (thawed d o) (inr (inr (inr (inr (inl refl))))) (shut-iff t d o .1 (r .1, r .2)) (r .0),
 )
+
+-- ── room ──
+module _ (t : Tables) (c : Call) (k : ℕ) where
+  -- RULES R17, R122, R123: a call that is in order so far, and is to make k objects, is refused with 17 if and only if more than 64 would be live
+  roomy-iff : In (roomy k) (tests c) → (((e : Test) × In e (tests c) × (number e ≡ 17) × T (broken t e)) → T (broken t (roomy k)))
+      → (refusal t c ≡ some 17) ↔ (In-order t c 17 × (64 < length (t .numbers) + k))
+  roomy-iff i f = (
+    λ q. (let r = refused-by t c 17 q in (r .1, ltb→lt 64 (length (t .numbers) + k) (f (r .0)))),
+    λ r. refused-is t c (roomy k) i (lt→ltb 64 (length (t .numbers) + k) (r .1)) (r .0),
+  )
+
+pub register-crowded-iff : (t : Tables) (o n : ℕ) → (refusal t (register o n) ≡ some 17) ↔ (In-order t (register o n) 17 × (64 < length (t .numbers) + 1))
+register-crowded-iff t o n = roomy-iff t (register o n) 1 (inr (inr (inl refl))) (only t (roomy 1) (tests (register o n)) (inl tt, (inl tt, (inr refl, tt))))
+
+pub create-crowded-iff : (t : Tables) (s o : ℕ) → (refusal t (create s o) ≡ some 17) ↔ (In-order t (create s o) 17 × (64 < length (t .numbers) + 1))
+create-crowded-iff t s o = roomy-iff t (create s o) 1 (inr (inr (inl refl))) (only t (roomy 1) (tests (create s o)) (inl tt, (inl tt, (inr refl, tt))))
+
+pub pipe-crowded-iff : (t : Tables) (s o r w : ℕ) → (refusal t (make-pipe s o r w) ≡ some 17) ↔ (In-order t (make-pipe s o r w) 17 × (64 < length (t .numbers) + 1))
+pipe-crowded-iff t s o r w = roomy-iff t (make-pipe s o r w) 1 (inr (inr (inr (inr (inr (inl refl))))))
+    (only t (roomy 1) (tests (make-pipe s o r w)) (inl tt, (inl tt, (inl tt, (inl tt, (inl tt, (inr refl, tt)))))))
+
+pub connect-crowded-iff : (t : Tables) (s u a b p q : ℕ) → (refusal t (connect s u a b p q) ≡ some 17) ↔
+    (In-order t (connect s u a b p q) 17 × (64 < length (t .numbers) + 2))
+connect-crowded-iff t s u a b p q = roomy-iff t (connect s u a b p q) 2 (inr (inr (inr (inr (inr (inr (inr (inr (inr (inr (inr (inr (inl refl)))))))))))))
+    (only t (roomy 2) (tests (connect s u a b p q))
+    (inl tt, (inl tt, (inl tt, (inl tt, (inl tt, (inl tt, (inl tt, (inl tt, (inl tt, (inl tt, (inl tt, (inl tt, (inr refl, tt))))))))))))))
 
 -- ── which of the two is said ──
 -- RULES R15, R117: an open is refused with 15 if and only if no number of it is wrong, it is for writing and the file is frozen, whatever flow it would make

@@ -16,8 +16,8 @@ use Rattle.model.specs.Flow.Laws.{same→eq, same-refl}
 use Rattle.model.specs.Flow.Changes.{but, need-alone}
 use Rattle.model.specs.Tables.{Dir, reading, writing, Entry, handle, mapping, Tables, empty, places, with-at, in-range, is-some, used, live, label-of, cell, handles, edges, demand, needs}
 use Rattle.model.specs.Tables.Laws.{live-of, used-is}
-use Rattle.model.specs.Steps.{Origin, outside, blank, copied, Step, enter, leave, hold, holds, mix, quits, freezes, put, sink, apply, applies, ended}
-use Rattle.model.specs.Steps.Laws.{put-same, sink-by, applies-keep, some-fall}
+use Rattle.model.specs.Steps.{Origin, outside, blank, copied, Step, enter, leave, hold, holds, mix, quits, freezes, put, sink, apply, applies, ended, reap}
+use Rattle.model.specs.Steps.Laws.{put-same, sink-by, applies-keep, some-fall, live-numbers}
 use Rattle.model.specs.Invariant.{Wf}
 use Rattle.model.specs.Calls.{Call, admit, register, create, make-pipe, access, fork, exec, exit, retire, maps, mark, freeze, target, sheds, steps, effect, alive, new, vacant, apart, idle, tests, refusal}
 use Rattle.model.specs.Calls.Refusals.{allowed-iff}
@@ -71,9 +71,10 @@ steps-lived ks t x n = applies-keep (λ u. T (live u x) → T (live t x)) ks
 -- a pipe that ends makes nothing live
 pub effect-lived : (t : Tables) (c : Call) (x : Thing) → T (live (effect t c) x) → T (live (applies (steps t c) t) x)
 unfolding effect
-effect-lived t c x = lived-at (applies (steps t c) t)
+effect-lived t c x l = lived-at (applies (steps t c) t)
     (λ y. cond (ended (handles t) (handles (applies (steps t c) t)) y (applies (steps t c) t .at y)) none (applies (steps t c) t .at y)) x
     (gone-some (ended (handles t) (handles (applies (steps t c) t)) x (applies (steps t c) t .at x)) (applies (steps t c) t .at x))
+    (subst T (live-numbers (reap (handles t) (applies (steps t c) t)) _ x) l)
 
 -- ── how figures stay right ──
 module _ {t u : Tables} {φ : Thing → Label} where

@@ -23,6 +23,12 @@ same→eq (subject a) (object b) t = absurd t
 same→eq (object a) (subject b) t = absurd t
 same→eq (object a) (object b) t = ap object (eqb→eq a b t)
 
+pub object-same : (a b : ℕ) → object a ≡ object b → a ≡ b
+object-same a b q = eqb→eq a b (subst (λ (x : Thing). T (same (object a) x)) q (eqb-refl a))
+
+pub subject-object : (a b : ℕ) → subject a ≡ object b → ⊥
+subject-object a b q = subst (λ (x : Thing). T (same (subject a) x)) q (eqb-refl a)
+
 pub same-refl : (x : Thing) → T (same x x)
 same-refl (subject a) = eqb-refl a
 same-refl (object a) = eqb-refl a

@@ -16,10 +16,10 @@ use Rattle.model.specs.Label.Laws.{⊑-trans, bot-least, below-in-scale}
 use Rattle.model.specs.Flow.{Thing, subject, object, same, Edge}
 use Rattle.model.specs.Flow.Laws.{same→eq, need-self, need-flow, need-below}
 use Rattle.model.specs.Flow.Changes.{but}
-use Rattle.model.specs.Tables.{Dir, reading, writing, Entry, Handle, Tables, empty, with-hand, with-freeze, subjects, places, in-range, is-some, used, live, cell, handles, arc, flow, speaks, edges, demand, needs, counted, clean}
-use Rattle.model.specs.Tables.Laws.{some-of, some-is, live-of, speaks-at, speaks-hand, speaks-freeze, speaks-cell, whole-alone, cell-entry, object-entry, open-here, flow-edge, edge-flow}
+use Rattle.model.specs.Tables.{Dir, reading, writing, Entry, Handle, Tables, empty, with-hand, with-freeze, subjects, places, in-range, is-some, used, live, cell, handles, arc, flow, speaks, edges, demand, needs, counted, clean, with-numbers}
+use Rattle.model.specs.Tables.Laws.{some-of, some-is, live-of, speaks-at, speaks-hand, speaks-freeze, speaks-cell, whole-alone, cell-entry, object-entry, open-here, flow-edge, edge-flow, speaks-numbers}
 use Rattle.model.specs.Steps.{Origin, Access, enter, hold, holds, mix, quits, put, row, place, without, vacated, sink, apply, ended, reap}
-use Rattle.model.specs.Steps.Laws.{put-cases, sink-cases, sink-by, row-cases, place-cases, live-hand, live-freeze, live-at, ended-open, ended-subject}
+use Rattle.model.specs.Steps.Laws.{put-cases, sink-cases, sink-by, row-cases, place-cases, live-hand, live-freeze, live-at, ended-open, ended-subject, live-numbers}
 use Rattle.model.specs.Steps.Laws.{fall-some, some-fall, fall-demand, fall-under, fell}
 use Rattle.model.specs.Invariant.{Ends, Wf, Safe, Scaled, Frozen}
 
@@ -234,6 +234,15 @@ less-freeze t f = record {
   hands = λ s p k q. q;
   talks = λ s p x k q z. sym (speaks-freeze t f s) ∙ z;
   ends = λ s p k q g. record { from = live-freeze t f (subject s) (g .from); to = live-freeze t f (object (k .to)) (g .to); place = g .place };
+}
+
+pub less-numbers : (t : Tables) (n : List ℕ) → Less t (with-numbers t n)
+less-numbers t n = record {
+  was-at = λ x e q. q;
+  objects-stay = λ o. refl;
+  hands = λ s p k q. q;
+  talks = λ s p x k q z. sym (speaks-numbers t n s) ∙ z;
+  ends = λ s p k q g. record { from = subst T (sym (live-numbers t n (subject s))) (g .from); to = subst T (sym (live-numbers t n (object (k .to)))) (g .to); place = g .place };
 }
 
 pub less-wf : {t u : Tables} → Less t u → Wf t → Wf u

@@ -13,8 +13,7 @@ use Rattle.model.specs.Label.{Label, _⊑_, meet, bot}
 use Rattle.model.specs.Label.Laws.{⊑-refl, meet-left, meet-right, meet-glb, meet-stays}
 use Rattle.model.specs.Flow.{Thing, subject, object, same}
 use Rattle.model.specs.Flow.Laws.{same→eq, same-refl}
-use Rattle.model.specs.Tables.{Kind, running, file, pipe, Entry, entry, Handle, Tables, with-at, with-hand, with-freeze, in-range, is-some, used, live, label-of}
-use Rattle.model.specs.Tables.{is-file, a-file, is-pipe, whole, handles, open-on, demand}
+use Rattle.model.specs.Tables.{Kind, running, file, pipe, Entry, entry, Handle, Tables, with-at, with-hand, with-freeze, in-range, is-some, used, live, label-of, is-file, a-file, is-pipe, whole, handles, open-on, demand, with-numbers}
 use Rattle.model.specs.Tables.Laws.{used-is, live-of, whole-same, whole-alone}
 use Rattle.model.specs.Steps.{Step, put, row, place, falls, sunk, fall, sink, apply, applies, ended, reap}
 
@@ -88,6 +87,9 @@ live-hand t h x l = let r = live-of t x l in both (in-range x) (used (with-hand 
 pub live-freeze : (t : Tables) (f : ℕ) (x : Thing) → T (live t x) → T (live (with-freeze t f) x)
 live-freeze t f x l = let r = live-of t x l in both (in-range x) (used (with-freeze t f) x) (r .0)
     (subst T (used-is t x ∙ sym (used-is (with-freeze t f) x)) (r .1))
+
+pub live-numbers : (t : Tables) (n : List ℕ) (x : Thing) → live (with-numbers t n) x ≡ live t x
+live-numbers t n x = ap (λ (b : Bool). in-range x && b) (used-is (with-numbers t n) x ∙ sym (used-is t x))
 
 -- entries that stay where they were leave live what was live
 pub live-at : (t : Tables) (a : Thing → Option Entry) (x : Thing) → (T (is-some (t .at x)) → T (is-some (a x))) → T (live t x) → T (live (with-at t a) x)

@@ -4,17 +4,17 @@ use mathlib.Core.Path.{_≡_, refl, sym, _∙_, ap, subst}
 use mathlib.Core.Bool.{Bool, true, false, not, cond}
 use mathlib.Core.Logic.{_⊎_, inl, inr, _↔_}
 use mathlib.Core.Option.{Option, none, some}
-use mathlib.Core.List.{[]}
+use mathlib.Core.List.{List, []}
 use Prim.Native.Nat.{ℕ, _<_}
-use lib.Dec.{T, T-not, eqb, eqb→eq, eqb-refl, ltb→lt}
-use Rattle.model.specs.Bools.{test, both-of, not-not}
+use lib.Dec.{T, T-not, eqb, eqb→eq, eqb-refl, ltb→lt, lt→ltb}
+use Rattle.model.specs.Bools.{test, both, both-of, not-not}
 use Rattle.model.specs.Lists.{In, each, keep, any}
 use Rattle.model.specs.Lists.Laws.{in-left, in-right, in-cases, in-each, each-in, keep-here, keep-cases, any-of, any-at}
 use Rattle.model.specs.Label.{leq, _⊑_, bot}
 use Rattle.model.specs.Label.Laws.{⊑-refl, bot-least}
 use Rattle.model.specs.Flow.{Thing, subject, object, same, Edge}
 use Rattle.model.specs.Flow.Laws.{same→eq, same-refl}
-use Rattle.model.specs.Tables.{Entry, Handle, Tables, with-at, with-hand, with-freeze, subjects, objects, places, in-range, is-some, used, live, label-of, is-file, cell, whole, live-objects, live-subjects, things, one, handles-of, handles, open-on, flow, speaks, flows-of, edges, demand, needs, safe}
+use Rattle.model.specs.Tables.{Entry, Handle, Tables, with-at, with-hand, with-freeze, subjects, places, in-range, is-some, used, live, label-of, is-file, cell, whole, live-objects, live-subjects, things, one, handles-of, handles, open-on, flow, speaks, flows-of, edges, demand, needs, safe, with-numbers, named}
 
 -- ── is-some, live ──
 pub some-of : {A : Type 0} (o : Option A) → T (is-some o) → (a : A) × (o ≡ some a)
@@ -44,6 +44,14 @@ speaks-hand t h s = refl
 pub speaks-freeze : (t : Tables) (f s : ℕ) → speaks (with-freeze t f) s ≡ speaks t s
 unfolding cell speaks
 speaks-freeze t f s = refl
+
+pub speaks-numbers : (t : Tables) (l : List ℕ) (s : ℕ) → speaks (with-numbers t l) s ≡ speaks t s
+unfolding cell speaks
+speaks-numbers t l s = refl
+
+pub edges-numbers : (t : Tables) (l : List ℕ) → edges (with-numbers t l) ≡ edges t
+unfolding cell speaks edges
+edges-numbers t l = refl
 
 -- who speaks, speaks as its cell; in this version everybody does, and the cell is the subject itself
 pub speaks-cell : (t : Tables) (s : ℕ) → speaks t s ≡ some (cell t s)
@@ -147,27 +155,61 @@ edge-flow t e i = let r = each-in subjects (λ s. each places (λ p. flows-of (s
     at-place s p a b (some x) (some k) z q (inr f) = absurd f
 
 -- ── things ──
-pub thing-listed : (t : Tables) (x : Thing) (e : Entry) → T (in-range x) → t .at x ≡ some e → In x (things t)
+-- a thing that the list has where it is live: a subject in range, an object on which a handle is
+abbrev pub Stands : Tables → Thing → Type 0
+Stands t (subject n) = T (in-range (subject n))
+Stands t (object n) = T (open-on (handles t) n)
+
+pub thing-listed : (t : Tables) (x : Thing) (e : Entry) → Stands t x → t .at x ≡ some e → In x (things t)
 unfolding things used cell
 thing-listed t (subject n) e r q = in-left (subject n) (live-subjects t) (live-objects t)
     (in-each subjects (λ s. keep (used t (subject s)) (cell t s) []) (subject n) n (ltb→lt n subjects r)
     (keep-here (is-some (t .at (subject n))) (subject n) [] (some-is q)))
-thing-listed t (object n) e r q = in-right (object n) (live-subjects t) (live-objects t)
-    (in-each objects (λ o. keep (used t (object o)) (object o) []) (object n) n (ltb→lt n objects r)
-    (keep-here (is-some (t .at (object n))) (object n) [] (some-is q)))
+thing-listed t (object n) e r q = let (s, p, k, ls, lp, h, z) = open-at t n r in in-right (object n) (live-subjects t) (live-objects t)
+    (in-each subjects (λ s. each places (λ p. named t (t .hand s p))) (object n) s ls
+    (in-each places (λ p. named t (t .hand s p)) (object n) p lp
+    (subst (λ (v : Option Handle). In (object n) (named t v)) (sym h)
+    (subst (λ (m : ℕ). In (object m) (named t (some k))) z
+    (keep-here (is-some (t .at (object (k .to)))) (object (k .to)) [] (some-is (ap (λ (m : ℕ). t .at (object m)) z ∙ q)))))))
 
 pub listed-thing : (t : Tables) (x : Thing) → In x (things t) → (e : Entry) × (t .at x ≡ some e)
 unfolding things used cell
 listed-thing t x i = elim (in-cases x (live-subjects t) (live-objects t) i) [
   | inl j ↦ (let r = each-in subjects (λ s. keep (used t (subject s)) (cell t s) []) x j in kept (subject (r .0))
       (keep-cases (is-some (t .at (subject (r .0)))) (subject (r .0)) [] x (r .2)))
-  | inr j ↦ (let r = each-in objects (λ o. keep (used t (object o)) (object o) []) x j in kept (object (r .0))
-      (keep-cases (is-some (t .at (object (r .0)))) (object (r .0)) [] x (r .2)))
+  | inr j ↦ (let a = each-in subjects (λ s. each places (λ p. named t (t .hand s p))) x j in let b = each-in places (λ p. named t (t .hand (a .0) p)) x (a .2) in
+      held (t .hand (a .0) (b .0)) (b .2))
 ]
   where
     kept : (y : Thing) → (T (is-some (t .at y)) × (y ≡ x)) ⊎ In x [] → (e : Entry) × (t .at x ≡ some e)
     kept y (inl c) = subst (λ (z : Thing). (e : Entry) × (t .at z ≡ some e)) (c .1) (some-of (t .at y) (c .0))
     kept y (inr b) = absurd b
+
+    held : (v : Option Handle) → In x (named t v) → (e : Entry) × (t .at x ≡ some e)
+    held none j = absurd j
+    held (some k) j = kept (object (k .to)) (keep-cases (is-some (t .at (object (k .to)))) (object (k .to)) [] x j)
+
+listed-range : (t : Tables) (x : Thing) → In x (things t) → T (in-range x)
+unfolding things used cell
+listed-range t x i = elim (in-cases x (live-subjects t) (live-objects t) i) [
+  | inl j ↦ (let r = each-in subjects (λ s. keep (used t (subject s)) (cell t s) []) x j in
+      kept (subject (r .0)) (lt→ltb (r .0) subjects (r .1)) (keep-cases (is-some (t .at (subject (r .0)))) (subject (r .0)) [] x (r .2)))
+  | inr j ↦ (let a = each-in subjects (λ s. each places (λ p. named t (t .hand s p))) x j in let b = each-in places (λ p. named t (t .hand (a .0) p)) x (a .2) in
+      held (t .hand (a .0) (b .0)) (b .2))
+]
+  where
+    kept : (y : Thing) → T (in-range y) → (T (is-some (t .at y)) × (y ≡ x)) ⊎ In x [] → T (in-range x)
+    kept y r (inl c) = subst (λ (z : Thing). T (in-range z)) (c .1) r
+    kept y r (inr b) = absurd b
+
+    held : (v : Option Handle) → In x (named t v) → T (in-range x)
+    held none j = absurd j
+    held (some k) j = kept (object (k .to)) tt (keep-cases (is-some (t .at (object (k .to)))) (object (k .to)) [] x j)
+
+-- what is listed is live
+pub listed-live : (t : Tables) (x : Thing) → In x (things t) → T (live t x)
+unfolding used
+listed-live t x i = both (in-range x) (is-some (t .at x)) (listed-range t x i) (some-is (listed-thing t x i .1))
 
 -- ── demand ──
 pub demand-label : (x : Thing) (e : Entry) → demand x (some e) ⊑ e .label

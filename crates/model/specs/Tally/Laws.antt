@@ -16,7 +16,7 @@ use Rattle.model.specs.Lists.{In, each}
 use Rattle.model.specs.Flow.{Thing, subject, object}
 use Rattle.model.specs.Tables.{running, pipe, Dir, reading, writing, Entry, entry, Handle, handle, mapping, Tables, empty, with-at, subjects, places, is-some, label-of, cell, one, handles-of, handles}
 use Rattle.model.specs.Tables.Laws.{some-of, live-of, used-is, handles-by, handles-at}
-use Rattle.model.specs.Steps.{blank, copied, writes, runs, enter, leave, hold, holds, mix, freezes, put, apply, applies}
+use Rattle.model.specs.Steps.{blank, copied, writes, runs, enter, leave, hold, holds, mix, freezes, put, apply, applies, reap}
 use Rattle.model.specs.Steps.Laws.{place-other, place-apart, applies-append}
 use Rattle.model.specs.Invariant.{Wf}
 use Rattle.model.specs.Invariant.Laws.{empty-wf}
@@ -25,6 +25,8 @@ use Rattle.model.specs.Calls.Refusals.{allowed-iff}
 use Rattle.model.specs.Calls.Passed.{is-alive, is-new, is-place}
 use Rattle.model.specs.Calls.Moving.{rereads-keep}
 use Rattle.model.specs.Calls.Dangling.{next-wf}
+use Rattle.model.specs.Calls.Renaming.{Renumbers, joined, ren}
+use Rattle.model.specs.Calls.Renaming.{held as renamed}
 use Rattle.model.specs.Tally.{held, dropped, drops, makes, removes, wrapped, Tally, zeroed, tallied, tally, difference}
 
 -- ── lengths of lists made for the numbers below a bound ──
@@ -302,7 +304,7 @@ module _ (t : Tables) (v : Wf t) where
 
 pub effect-count : (t : Tables) (c : Call) → Wf t → refusal t c ≡ none → length (handles (effect t c)) + removes t c ≡ length (handles t) + makes t c
 unfolding effect
-effect-count t c v q = ap (λ (k : ℕ). k + removes t c) (count-at (applies (steps t c) t) _) ∙ stepped-count t v c (allowed-iff t c .0 q)
+effect-count t c v q = ap (λ (l : List Handle). length l + removes t c) (handles-by (effect t c) (reap (handles t) (applies (steps t c) t)) refl) ∙ ap (λ (k : ℕ). k + removes t c) (count-at (applies (steps t c) t) _) ∙ stepped-count t v c (allowed-iff t c .0 q)
 
 -- ── lists of calls ──
 -- equal modulo 2 to the 64th
@@ -366,3 +368,24 @@ made-minus-gone rs = let m = list-moves empty zeroed rs empty-wf in
 
     go : (y : Tally) (o h : ℕ) → o ≡ 0 → y .gone < 2 ^ 64 → (y .made + 0 + o) ≈ (0 + y .gone + h) → difference y ≡ wrapped h
     go y o h z g e = omega (arith, e .sums)
+
+-- ── renumbered ──
+-- which numbers objects have is of no matter to how many handles a subject holds, nor to how many an exec drops
+module _ (ρ σ : ℕ → ℕ) (v : Renumbers ρ σ) (l : List ℕ) (t : Tables) (s : ℕ) where
+  pub held-ren : held (ren ρ σ v l t) s ≡ held t s
+  held-ren = each-same places (λ p. one (t .hand s p)) (λ p. one (ren ρ σ v l t .hand s p)) (λ p low. go (t .hand s p))
+    where
+      go : (o : Option Handle) → length (one (renamed ρ σ v l o)) ≡ length (one o)
+      go none = refl
+      go (some k) = refl
+
+  pub drops-ren : drops (ren ρ σ v l t) s ≡ drops t s
+  drops-ren = each-same places (λ p. one (dropped (t .hand s p))) (λ p. one (dropped (ren ρ σ v l t .hand s p))) (λ p low. go (t .hand s p))
+    where
+      kept : (b : Bool) (k : Handle) → length (one (cond b (some (joined ρ σ v l k)) none)) ≡ length (one (cond b (some k) none))
+      kept true k = refl
+      kept false k = refl
+
+      go : (o : Option Handle) → length (one (dropped (renamed ρ σ v l o))) ≡ length (one (dropped o))
+      go none = refl
+      go (some k) = kept (ends-at-exec k) k

@@ -270,7 +270,7 @@ number-take most k s p h = ap (judged most) (numeral-take k s) ∙ by-numeral (n
 
 -- ---- the bounds of the format
 
--- RULES J7: a good number has 1 to 5 bytes, as it is written, and as it is read
+-- RULES J7: a good number has 1 to 10 bytes, as it is written, and as it is read
 pub encode-bytes : (n : ℕ) → n ≤ largest → (1 ≤ length (encode n)) × (length (encode n) ≤ longest)
 encode-bytes n h = (encode-some n, encode-length longest n (omega arith) (omega arith))
 

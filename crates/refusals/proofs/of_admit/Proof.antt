@@ -21,6 +21,7 @@ returns c = λ t w x.
       sixteen = refl;
       three = alone (new-subject-is t (a .s) (a .x) x ∙ sym
           (c .before .subject-used .ensures));
+      seventeen = λ _. refl;
       four = refl;
       five = refl;
       six = alone (high-is t (a .level));

@@ -17,6 +17,7 @@ returns c = λ t s o w x y.
       two = alone (alive-is t w s (a .x) x);
       sixteen = refl;
       three = refl;
+      seventeen = λ _. refl;
       four = alone (present-is t w o (a .y) y);
       five = alone
           (pipe-is t o (a .y) y);

@@ -12,7 +12,7 @@ first-requires c κs = search needs
 returns : tie.Need-returns
 returns c = λ t s w x.
     let a = c .before .before .args in
-    finds (record { one = refl; two = alone (alive-is t w s (a .x) x); sixteen = refl; three = refl; four = refl; five = refl; six = refl; seven = refl; eight = refl })
+    finds (record { one = refl; two = alone (alive-is t w s (a .x) x); sixteen = refl; three = refl; seventeen = λ _. refl; four = refl; five = refl; six = refl; seven = refl; eight = refl })
     (c .first .ensures)
 
 pub of-exit-spec : {M : Type 1} → statement M

@@ -22,6 +22,7 @@ returns c = λ t s w x z.
       three = alone
           (new-subject-is t (a .c) (a .z) z ∙ sym
           (c .before .subject-used .ensures));
+      seventeen = λ _. refl;
       four = refl;
       five = refl;
       six = refl;

@@ -19,6 +19,7 @@ returns c = λ t w.
       two = refl;
       sixteen = refl;
       three = refl;
+      seventeen = λ _. refl;
       four = refl;
       five = refl;
       six = alone (beyond-is t (c .before .args .level));

@@ -16,11 +16,12 @@ first-requires c κs = search needs
 returns : tie.Need-returns
 returns c = λ t s p w x h.
     let a = c .before .before .before .args in
-    let z : Breaks t (alive s ∷ taken s p ∷ []) (eqb (a .x .live) 0) false false false false false (eqb (a .h .way) 0) false = record {
+    let z : Breaks t (alive s ∷ taken s p ∷ []) (eqb (a .x .live) 0) false false false false false false (eqb (a .h .way) 0) false = record {
       one = refl;
       two = alone (alive-is t w s (a .x) x);
       sixteen = refl;
       three = refl;
+      seventeen = λ _. refl;
       four = refl;
       five = refl;
       six = refl;

@@ -20,6 +20,7 @@ returns c = λ t d s o w x y h.
       two = alone (alive-is t w s (a .x) x);
       sixteen = refl;
       three = refl;
+      seventeen = λ _. refl;
       four = alone
           (present-is t w o (a .y) y);
       five = refl;

@@ -20,6 +20,7 @@ returns c = λ t s p w x h.
       two = alone (alive-is t w s (a .x) x);
       sixteen = refl;
       three = refl;
+      seventeen = λ _. refl;
       four = refl;
       five = refl;
       six = refl;

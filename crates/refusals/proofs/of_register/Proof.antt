@@ -1,7 +1,7 @@
 -- `refusals::of_register` meets its contract. Assumes nothing.
 use mathlib.Core.Path.{refl, sym, _∙_}
 use borrow.Author.Needs.{needs}
-use Rattle.refusals.proofs.Testing.{high-is, new-object-is}
+use Rattle.refusals.proofs.Testing.{high-is, new-object-is, free-is}
 use Rattle.refusals.proofs.Finding.{alone, finds}
 use Rattle.refusals.proofs.of_register.Statement.{statement}
 use Rattle.refusals.proofs.of_register.Tie as tie
@@ -13,7 +13,7 @@ first-requires : tie.Need-first-requires
 first-requires c κs = search needs
 
 returns : tie.Need-returns
-returns c = λ t w y.
+returns c = λ t w y room.
     let a = c .before .before .args in
     finds (record {
       one = refl;
@@ -21,6 +21,7 @@ returns c = λ t w y.
       sixteen = refl;
       three = alone (new-object-is t (a .o) (a .y) y ∙ sym
           (c .before .object-used .ensures));
+      seventeen = λ n. alone (room (free-is t (a .o) (a .y) _ y (c .before .object-used .ensures) n));
       four = refl;
       five = refl;
       six = alone (high-is t (a .level));

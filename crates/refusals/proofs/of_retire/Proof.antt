@@ -17,6 +17,7 @@ returns c = λ t o w y.
       two = refl;
       sixteen = refl;
       three = refl;
+      seventeen = λ _. refl;
       four = alone (present-is t w o (a .y) y);
       five = alone
           (pipe-is t o (a .y) y);

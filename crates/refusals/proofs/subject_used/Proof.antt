@@ -1,11 +1,7 @@
 -- `refusals::subject_used` meets its contract. Assumes nothing.
 use borrow.Author.Tests.{lt-ltb, le-ltb}
-use borrow.Author.Needs.{needs}
 use Rattle.refusals.proofs.subject_used.Statement.{statement}
 use Rattle.refusals.proofs.subject_used.Tie as tie
-
-cast-if1 : tie.Need-cast-if1
-cast-if1 c = search needs
 
 returns : tie.Need-returns
 returns c = rw (le-ltb _ _ (c .if1 .taken))
@@ -14,4 +10,4 @@ returns-2 : tie.Need-returns-2
 returns-2 c = rw (lt-ltb _ _ (c .before .if1 .left))
 
 pub subject-used-spec : {M : Type 1} → statement M
-subject-used-spec = tie.close (tie.spec cast-if1 returns returns-2)
+subject-used-spec = tie.close (tie.spec returns returns-2)

@@ -2,7 +2,7 @@
 use mathlib.Core.Path.{_≡_, sym, _∙_, ap, ap₂, subst}
 use Rattle.text.specs.Parts.Laws.{put-after, none-after}
 use Rattle.replay.specs.Replay.{last-line, largest-journal}
-use Rattle.replay.specs.Replay.Laws.{bad-inside, right-more, sure-more, one-turned}
+use Rattle.replay.specs.Replay.Laws.{bad-inside, right-more, honest-more, sure-more, one-turned}
 use mathlib.Core.Bool.{Bool, cond}
 use mathlib.Core.Option.{Option·none-ne-some}
 use Prim.Native.Nat.{ℕ, _+_, _-_, _≤_}
@@ -18,8 +18,7 @@ use Rattle.journal.specs.Journal.{entry-at, body-in}
 use Rattle.replay.specs.One.{One}
 use Rattle.journal.specs.Journal.Laws.{entry-next}
 use Rattle.answers.specs.Telling.{told, letter-of, value-of}
-use Rattle.gatekeeper.specs.View.{view, Right}
-use Rattle.gatekeeper.specs.View.Laws.{kept-honest}
+use Rattle.gatekeeper.specs.View.{view, Honest, Right}
 use Rattle.tally.specs.Counting.{counts-of}
 use Rattle.replay.specs.Demand3.Laws.{run-ended}
 use Rattle.replay.specs.Stage.{Going, going-begun, at-test, record-turn, record-ends, broken-turn, broken-ends, end-turn, ended, end-short}
@@ -28,7 +27,7 @@ use Rattle.replay.proofs.records.Tie as tie
 
 abbrev Inv-loop : tie.InvT-loop
 Inv-loop journal out₀ m₀ tally₀ at₀ position₀ used₀ going₀ out m tally at position used going =
-    ((length journal ≤ largest-journal) × Right m × (m .sure ≡ 1)) × Going journal out₀ out (view m) (counts-of tally) at position used going
+    ((length journal ≤ largest-journal) × Right m × Honest m × (m .sure ≡ 1)) × Going journal out₀ out (view m) (counts-of tally) at position used going
 
 abbrev μ-loop : tie.MeasureT-loop
 μ-loop journal out₀ m₀ tally₀ at₀ position₀ used₀ going₀ out m tally at position used going = (length journal - at) + cond going 1 0
@@ -39,7 +38,7 @@ empty-requires c κs = search needs
 loop-holds : tie.Need-loop-holds Inv-loop μ-loop
 loop-holds c =
     let a = c .before .before .before .args in
-    ((c .before .before .before .pre, c .empty .ensures .1 .0, c .empty .ensures .1 .1 .1), going-begun (a .journal .now) (a .out .now) (view (c .empty .result)) (c .empty .ensures .0))
+    ((c .before .before .before .pre, c .empty .ensures .1 .0, c .empty .ensures .1 .1 .0, c .empty .ensures .1 .1 .1), going-begun (a .journal .now) (a .out .now) (view (c .empty .result)) (c .empty .ensures .0))
 
 entry-at-requires : tie.Need-entry-at-requires Inv-loop μ-loop
 entry-at-requires c κs = search needs
@@ -143,7 +142,7 @@ loop-again c =
     (letter-of x) (value-of x) = ap₂ (λ u v. line (l .position) (k .result .code) u v)
     (c10 .letter .ensures)
     (c9 .value .ensures) in
-    let o = one-turned (l .m) (k .result .monitor) (l .tally) (k .result .tally) (k .result .code) x (body-in (take (q .0 .1 .0) (drop (q .0 .0) (a .journal .now)))) (kept-honest (l .m) (g .stage .kept) (l .inv .0 .1))
+    let o = one-turned (l .m) (k .result .monitor) (l .tally) (k .result .tally) (k .result .code) x (body-in (take (q .0 .1 .0) (drop (q .0 .0) (a .journal .now)))) (l .inv .0 .2)
     (subst (λ bs. One (l .m) (l .tally) (body-in bs) (k .result .code) x (k .result .monitor) (k .result .tally)) (c12 .body-at .ensures .bytes) (k .ensures)) in
     let thin = subst (λ y. length y ≤ longest-line) is (w .ensures .1 .1) in
     let rest = take (length (l .out) - l .used) (drop (l .used) (l .out)) in (
@@ -151,8 +150,10 @@ loop-again c =
         l .inv .0 .0,
         right-more (l .m) (k .result .monitor) (counts-of (l .tally)) (counts-of (k .result .tally)) (k .result .code) x
             (body-in (take (q .0 .1 .0) (drop (q .0 .0) (a .journal .now)))) o (l .inv .0 .1),
-        sure-more (l .m) (k .result .monitor) (counts-of (l .tally)) (counts-of (k .result .tally)) (k .result .code) x
+        honest-more (l .m) (k .result .monitor) (counts-of (l .tally)) (counts-of (k .result .tally)) (k .result .code) x
             (body-in (take (q .0 .1 .0) (drop (q .0 .0) (a .journal .now)))) o (l .inv .0 .2),
+        sure-more (l .m) (k .result .monitor) (counts-of (l .tally)) (counts-of (k .result .tally)) (k .result .code) x
+            (body-in (take (q .0 .1 .0) (drop (q .0 .0) (a .journal .now)))) o (l .inv .0 .3),
       ),
       at-test (sym (c17 .loop-test .taken)) (record-turn (a .journal .now) (a .out .now) (l .out) (l .at) (l .position) (l .used) (l .m)
           (counts-of (l .tally)) g (q .0 .0) (q .0 .1 .0) (q .0 .1 .1 .0) e (k .result .monitor) (counts-of (k .result .tally))
@@ -203,13 +204,13 @@ returns c =
     (c7 .letter .ensures)
     (c6 .value .ensures) in
     let rest = take (length (l .out) - l .used) (drop (l .used) (l .out)) in
-    let o = one-turned (l .m) (k .result .monitor) (l .tally) (k .result .tally) (k .result .code) x (body-in (take (q .0 .1 .0) (drop (q .0 .0) (a .journal .now)))) (kept-honest (l .m) (g .stage .kept) (l .inv .0 .1))
+    let o = one-turned (l .m) (k .result .monitor) (l .tally) (k .result .tally) (k .result .code) x (body-in (take (q .0 .1 .0) (drop (q .0 .0) (a .journal .now)))) (l .inv .0 .2)
     (subst (λ bs. One (l .m) (l .tally) (body-in bs) (k .result .code) x (k .result .monitor) (k .result .tally)) (c9 .body-at .ensures .bytes) (k .ensures)) in
     let thin = subst (λ y. length y ≤ longest-line) is (w .ensures .1 .1) in (
       record-ends (a .journal .now) (a .out .now) (l .out) (l .at) (l .position) (l .used) (l .m) (counts-of (l .tally)) g (q .0 .0) (q .0 .1 .0)
           (q .0 .1 .1 .0) e (k .result .monitor) (counts-of (k .result .tally)) (k .result .code) x o thin (l .inv .0 .0) (w .last .0)
           (ap writing (sym (c .enum-told .given .1)) ∙ w .ensures .0 ∙ ap (λ y. fitted y rest) is) (w .ensures .1 .0 ∙ ap (λ y. put y rest) is),
-      (λ k z. absurd (Option·none-ne-some k z), (l .inv .0 .1, (kept-honest (l .m) (g .stage .kept) (l .inv .0 .1), l .inv .0 .2))),
+      (λ k z. absurd (Option·none-ne-some k z), (l .inv .0 .1, (l .inv .0 .2, l .inv .0 .3))),
     )
 
 enum-told-2 : tie.Need-enum-told-2 Inv-loop μ-loop
@@ -299,7 +300,7 @@ returns-2 c =
     let w = c4 .write-line2 in (
       broken-ends (a .journal .now) (a .out .now) (l .out) (l .at) (l .position) (l .used) (l .m) (counts-of (l .tally)) g e (bad-inside _ _ _ e)
           (w .ensures .1 .1) (l .inv .0 .0) (w .last .0) (ap writing (sym (c .enum-told3 .given .1)) ∙ w .ensures .0) (w .ensures .1 .0),
-      (λ k z. absurd (Option·none-ne-some k z), (l .inv .0 .1, (kept-honest (l .m) (g .stage .kept) (l .inv .0 .1), l .inv .0 .2))),
+      (λ k z. absurd (Option·none-ne-some k z), (l .inv .0 .1, (l .inv .0 .2, l .inv .0 .3))),
     )
 
 enum-told-4 : tie.Need-enum-told-4 Inv-loop μ-loop
@@ -386,7 +387,7 @@ returns-3 c =
       ended (a .journal .now) (a .out .now) (l .out) (l .position) (l .used) (view (l .m)) (counts-of (l .tally)) (g .stage) (w .last .0)
           (c .before .n3 .given .0 .0) (ap writing (sym (c .before .n3 .given .1)) ∙ w .ensures .0 ∙ ap (λ y. fitted y rest) is)
           (w .ensures .1 .0 ∙ ap (λ y. put y rest) is),
-      (λ k z. run-ended (a .journal .now) (l .inv .0 .0) (view (l .m)) (counts-of (l .tally)) (g .stage .leads) (g .stage .counts), (l .inv .0 .1, (kept-honest (l .m) (g .stage .kept) (l .inv .0 .1), l .inv .0 .2))),
+      (λ k z. run-ended (a .journal .now) (l .inv .0 .0) (view (l .m)) (counts-of (l .tally)) (g .stage .leads) (g .stage .counts), (l .inv .0 .1, (l .inv .0 .2, l .inv .0 .3))),
     )
 
 same-length-4 : tie.Need-same-length-4 Inv-loop μ-loop
@@ -411,7 +412,7 @@ returns-4 c =
       end-short (a .journal .now) (a .out .now) (l .out) (view (l .m)) (counts-of (l .tally)) (l .at) (l .position) (l .used) g thin (l .inv .0 .0)
           (w .last .0) (ap writing (sym (c .enum-told5 .given .1)) ∙ w .ensures .0 ∙ ap (λ y. fitted y rest) is)
           (w .ensures .1 .0 ∙ ap (λ y. put y rest) is),
-      (λ k z. absurd (Option·none-ne-some k z), (l .inv .0 .1, (kept-honest (l .m) (g .stage .kept) (l .inv .0 .1), l .inv .0 .2))),
+      (λ k z. absurd (Option·none-ne-some k z), (l .inv .0 .1, (l .inv .0 .2, l .inv .0 .3))),
     )
 
 pub records-spec : {M : Type 1} → statement M

@@ -207,7 +207,12 @@ pub right-more : (m n : Monitor) (y z : Tally) (code : ℕ) (a : Answer) (s : Sa
 right-more m n y z code a (said c (reads ns)) o h = o .1 .1 .kept (honest-tidy m (o .1 .0)) h
 right-more m n y z code a (said c (bad j)) o h = subst Right (sym (o .2)) h
 
--- and a monitor that is sure stays so
+-- a monitor that is what it claims stays so
+pub honest-more : (m n : Monitor) (y z : Tally) (code : ℕ) (a : Answer) (s : Said) → Turned m y s code a n z → Honest m → Honest n
+honest-more m n y z code a (said c (reads ns)) o h = o .1 .1 .stays h
+honest-more m n y z code a (said c (bad j)) o h = subst Honest (sym (o .2)) h
+
+-- and one that is sure stays so
 pub sure-more : (m n : Monitor) (y z : Tally) (code : ℕ) (a : Answer) (s : Said) → Turned m y s code a n z → m .sure ≡ 1 → n .sure ≡ 1
 sure-more m n y z code a (said c (reads ns)) o h = o .1 .1 .says (honest-tidy m (o .1 .0)) ∙ h
 sure-more m n y z code a (said c (bad j)) o h = ap (λ (x : Monitor). x .sure) (o .2) ∙ h

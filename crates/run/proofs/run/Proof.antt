@@ -5,15 +5,15 @@ use native.Mathlib.Omega.{arith}
 use borrow.Author.Needs.{needs}
 use lib.ListN.{length, set, length-set}
 use Rattle.answers.specs.Telling.{told}
-use Rattle.gatekeeper.specs.View.{view, Right}
+use Rattle.gatekeeper.specs.View.{view, Honest, Right}
 use Rattle.gatekeeper.specs.View.Laws.{honest-tidy}
 use Rattle.run.specs.Buffers.{lesser}
-use Rattle.run.specs.Buffers.Laws.{lesser-left, lesser-right, So-far, so-far-none, so-far-honest, so-far-more, run-demand3}
+use Rattle.run.specs.Buffers.Laws.{lesser-left, lesser-right, So-far, so-far-none, so-far-more, run-demand3}
 use Rattle.run.proofs.run.Statement.{statement}
 use Rattle.run.proofs.run.Tie as tie
 
 abbrev Inv-loop : tie.InvT-loop
-Inv-loop calls out₀ n m₀ i₀ out m i = (i ≤ n) × (n * 7 ≤ length calls) × (n * 2 ≤ length out₀) × (length out ≡ length out₀) × So-far calls out₀ out i (view m) × Right m × (m .sure ≡ 1)
+Inv-loop calls out₀ n m₀ i₀ out m i = (i ≤ n) × (n * 7 ≤ length calls) × (n * 2 ≤ length out₀) × (length out ≡ length out₀) × So-far calls out₀ out i (view m) × Right m × Honest m × (m .sure ≡ 1)
 
 abbrev μ-loop : tie.MeasureT-loop
 μ-loop calls out₀ n m₀ i₀ out m i = n - i
@@ -28,7 +28,7 @@ loop-holds : tie.Need-loop-holds Inv-loop μ-loop
 loop-holds c =
     let a = c .before .before .before .before .args in
     let fits : c .before .fewer .result ≡ lesser (length (a .calls .now) / 7) (length (a .out .now) / 2) = c .before .fewer .ensures in
-    (omega arith, omega (arith, lesser-left (length (a .calls .now) / 7) (length (a .out .now) / 2)), omega (arith, lesser-right (length (a .calls .now) / 7) (length (a .out .now) / 2)), refl, so-far-none (a .calls .now) (a .out .now) (view (c .empty .result)) (c .empty .ensures .0), c .empty .ensures .1 .0, c .empty .ensures .1 .1 .1)
+    (omega arith, omega (arith, lesser-left (length (a .calls .now) / 7) (length (a .out .now) / 2)), omega (arith, lesser-right (length (a .calls .now) / 7) (length (a .out .now) / 2)), refl, so-far-none (a .calls .now) (a .out .now) (view (c .empty .result)) (c .empty .ensures .0), c .empty .ensures .1 .0, c .empty .ensures .1 .1 .0, c .empty .ensures .1 .1 .1)
 
 mul-at : tie.Need-mul-at Inv-loop μ-loop
 mul-at c = search needs
@@ -125,15 +125,17 @@ loop-again c =
     let l = c .before .before .before .before .before .before .before .before .before .before .before .before .loop in
     let a = c .before .before .before .before .before .before .before .before .before .before .before .before .before .before .before .before .before .args in
     let k = c .before .before .before .call in
-    let h = so-far-honest (a .calls .now) (a .out .now) (l .out) (l .i) (l .m) (l .inv .4) (l .inv .5) in (
-      omega arith,
+    let t = c .before .before .before .before .before .before .before .before .before .before .before .loop-test .taken in
+    let h = l .inv .6 in (
+      omega (arith, t),
       l .inv .1,
       l .inv .2,
       length-set (set (l .out) (l .i * 2) (c .before .before .letter .result)) (l .i * 2 + 1) (c .before .value .result) ∙ length-set (l .out) (l .i * 2) (c .before .before .letter .result) ∙ l .inv .3,
       subst₂ (λ (x y : ℕ). So-far (a .calls .now) (a .out .now) (set (set (l .out) (l .i * 2) x) (l .i * 2 + 1) y) (l .i + 1) (view (k .result .monitor))) (sym (c .before .before .letter .ensures)) (sym (c .before .value .ensures))
-          (so-far-more (a .calls .now) (a .out .now) (l .out) (l .i) (l .m) (k .result .monitor) (told (k .result .answer)) (omega (arith, l .inv .2)) (l .inv .4) h (k .ensures)),
+          (so-far-more (a .calls .now) (a .out .now) (l .out) (l .i) (l .m) (k .result .monitor) (told (k .result .answer)) (omega (arith, t, l .inv .2)) (l .inv .4) h (k .ensures)),
       k .ensures .kept (honest-tidy (l .m) h) (l .inv .5),
-      k .ensures .says (honest-tidy (l .m) h) ∙ l .inv .6,
+      k .ensures .stays h,
+      k .ensures .says (honest-tidy (l .m) h) ∙ l .inv .7,
     )
 
 same-length : tie.Need-same-length Inv-loop μ-loop
@@ -146,7 +148,7 @@ returns c =
     let s = l .inv .4 in
     let a = c .before .before .before .before .before .before .args in
     let so : So-far (a .calls .now) (a .out .now) (l .out) (c .before .before .before .fewer .result) (view (l .m)) = subst (λ (j : ℕ). So-far (a .calls .now) (a .out .now) (l .out) j (view (l .m))) all s in
-    (c .before .before .before .fewer .ensures, (so .written, (run-demand3 _ _ _ _ _ so, (l .inv .5, (so-far-honest (a .calls .now) (a .out .now) (l .out) (l .i) (l .m) s (l .inv .5), l .inv .6)))))
+    (c .before .before .before .fewer .ensures, (so .written, (run-demand3 _ _ _ _ _ so, (l .inv .5, (l .inv .6, l .inv .7)))))
 
 pub run-spec : {M : Type 1} → statement M
 run-spec =

@@ -17,9 +17,7 @@ use Rattle.model.specs.Demand3.{Demand3}
 use Rattle.model.specs.Demand3.Laws.{rules-demand3, after-more, answers-more, meets-next}
 use Rattle.gatekeeper.specs.declared.Monitor.{Monitor}
 use Rattle.answers.specs.Telling.{letter-of, value-of}
-use Rattle.model.specs.Invariant.{Kept}
-use Rattle.gatekeeper.specs.View.{view, Honest, Right, monitors}
-use Rattle.gatekeeper.specs.View.Laws.{kept-honest}
+use Rattle.gatekeeper.specs.View.{view, Honest, monitors}
 use Rattle.run.specs.Buffers.{lesser, call-at, calls-in, bytes, answers-in}
 
 pub lesser-left : (a b : ℕ) → lesser a b ≤ a
@@ -71,10 +69,6 @@ pub record So-far (calls first out : List ℕ) (i : ℕ) (t : Tables) : Type 0 w
 
 pub so-far-none : (calls first : List ℕ) (t : Tables) → t ≡ empty → So-far calls first first 0 t
 so-far-none calls first t e = record { written = refl; tables = e }
-
--- a monitor that has them, and whose needs are right, is honest
-pub so-far-honest : (calls first out : List ℕ) (i : ℕ) (m : Monitor) → So-far calls first out i (view m) → Right m → Honest m
-so-far-honest calls first out i m s r = kept-honest m (subst Kept (sym (s .tables)) (always-kept (calls-in calls i))) r
 
 module _ (calls first out : List ℕ) (i : ℕ) (m n : Monitor) (a : Answer) where
   pub so-far-more : i * 2 + 2 ≤ length first → So-far calls first out i (view m) → Honest m → Meets monitors m (decode (call-at calls i)) a n

@@ -13,9 +13,9 @@ use lib.Seq.{getD-set-same, getD-set-other}
 use lib.Dec.{T, T-not, not-T, ltb, eqb, eqb→eq, lt→ltb}
 use Rattle.model.specs.Bools.{is-true, cond-no}
 use Rattle.model.specs.Flow.{Thing, subject, object}
-use Rattle.model.specs.Tables.{Entry, Tables, empty, with-at, with-hand, in-range, is-pipe, handles, open-on, clean}
+use Rattle.model.specs.Tables.{Entry, Tables, empty, with-at, with-hand, is-some, live, is-pipe, handles, open-on, clean}
 use Rattle.model.specs.Tables.{Handle as Held}
-use Rattle.model.specs.Tables.Laws.{open-here, open-at, handles-by}
+use Rattle.model.specs.Tables.Laws.{used-is, live-of, open-here, open-at, handles-by}
 use Rattle.model.specs.Steps.{put, place, ended, reap}
 use Rattle.model.specs.Steps.Laws.{ended-of, ended-subject}
 use Rattle.model.specs.Invariant.{Wf}
@@ -24,6 +24,8 @@ use Rattle.tables.specs.declared.Subject.{Subject}
 use Rattle.tables.specs.declared.Object.{Object}
 use Rattle.tables.specs.declared.Handle.{Handle}
 use Rattle.tables.specs.Records.{subject-entry, object-entry, held, no-subject, no-object, no-handle, entries, hands, tables-of}
+use Rattle.tables.specs.Needs.{housed}
+use Rattle.tables.specs.Needs.Laws.{housed-range}
 use Rattle.tables.specs.Working.{subject-at, object-at, handle-at, Outlives}
 
 -- ── the record at a number ──
@@ -56,21 +58,31 @@ module _ (rest : Tables) (ss : List Subject) (os : List Object) (hs : List Handl
       go false x false y = refl
 
   -- ── cleaned tables ──
-  ranged : length ss ≡ 32 → length os ≡ 64 → (x : Thing) (a : Entry) → entries ss os x ≡ some a → T (in-range x)
-  ranged ls lo (subject n) a q = go (decLt n 32)
+  pub within : length ss ≡ 32 → length os ≡ 64 → (x : Thing) (a : Entry) → entries ss os x ≡ some a → T (housed x)
+  within ls lo (subject n) a q = go (decLt n 32)
     where
       go : Dec (n < 32) → T (ltb n 32)
       go (yes l) = lt→ltb n 32 l
       go (no h) = absurd (Option·none-ne-some a (sym (ap subject-entry (List·getD-eq-default ss no-subject {n = n} (omega arith))) ∙ q))
-  ranged ls lo (object n) a q = go (decLt n 64)
+  within ls lo (object n) a q = go (decLt n 64)
     where
       go : Dec (n < 64) → T (ltb n 64)
       go (yes l) = lt→ltb n 64 l
       go (no h) = absurd (Option·none-ne-some a (sym (ap object-entry (List·getD-eq-default os no-object {n = n} (omega arith))) ∙ q))
 
+  -- an object that stands in the array is one of its slots
+  pub slot-low : length os ≡ 64 → (t : Tables) (o : ℕ) → tables-of rest ss os hs .at (object o) ≡ t .at (object o) → T (live t (object o)) → o < 64
+  unfolding tables-of
+  slot-low lo t o q l = go (decLt o 64)
+    where
+      go : Dec (o < 64) → o < 64
+      go (yes h) = h
+      go (no h) = absurd (subst (λ (e : Option Entry). T (is-some e)) (sym q ∙ ap object-entry (List·getD-eq-default os no-object {n = o} (omega arith)))
+          (subst T (used-is t (object o)) (live-of t (object o) l .1)))
+
   pub cleaned-wf : (t : Tables) → length ss ≡ 32 → length os ≡ 64 → t ≡ clean (tables-of rest ss os hs) → Wf t
   unfolding tables-of
-  cleaned-wf t ls lo e = subst Wf (sym e) (clean-wf (tables-of rest ss os hs) (ranged ls lo))
+  cleaned-wf t ls lo e = subst Wf (sym e) (clean-wf (tables-of rest ss os hs) (λ x a q. housed-range x (within ls lo x a q)))
 
 -- ── the empty tables ──
 pub empty-tables : tables-of empty (replicate 32 no-subject) (replicate 64 no-object) (replicate 512 no-handle) ≡ empty

@@ -20,11 +20,11 @@ pub ending-length : (made gone held : ℕ)
 unfolding ending
 ending-length made gone held = simp length-append (omega arith)
 
-pub line-bytes : (position code letter value : ℕ) → position < 2 ^ 32 → code < 2 ^ 32 → value < 2 ^ 8
+pub line-bytes : (position code letter value : ℕ) → position < 2 ^ 32 → code < 2 ^ 64 → value < 2 ^ 8
     → length (line position code letter value) ≤ longest-line
 line-bytes position code letter value p c v =
     let a = decimal-length 10 position (omega arith) (omega arith) in
-    let b = decimal-length 10 code (omega arith) (omega arith) in
+    let b = decimal-length most-digits code (omega arith) (omega arith) in
     let d = decimal-length 3 value (omega arith) (omega arith) in
     omega (arith, line-length position code letter value)
 
@@ -37,7 +37,7 @@ ending-bytes made gone held m g o =
     omega (arith, ending-length made gone held)
 
 -- and these take that many
-pub line-longest : length (line 4294967295 4294967295 82 255) ≡ longest-line
+pub line-longest : length (line 4294967295 18446744073709551615 82 255) ≡ longest-line
 unfolding line decimal digits
 line-longest = refl
 

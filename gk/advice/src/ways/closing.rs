@@ -1,6 +1,6 @@
 //! Handles to close: which of them are enough for a call that was refused with 9, and how that is said.
 
-use gatekeeper::{Call, Monitor, Refusal};
+use gatekeeper::{Call, Refusal, State as Monitor};
 
 use super::cut::{self, Whose};
 use super::{aim_after, close_calls, refusal_of, tried, Counsel};
@@ -40,7 +40,7 @@ pub fn enough(call: Call, monitor: &Monitor, whose: Whose) -> Option<Closes> {
             let set: Vec<Held> = cut::closes(call, monitor, whose, &kept)
                 .filter(|set| calls_for(set).is_some())
                 .unwrap_or_else(all);
-            let total = |set: &[Held]| set.iter().map(|held| cut::cost(held, caller)).sum::<u32>();
+            let total = |set: &[Held]| set.iter().map(|held| cut::cost(held, caller)).sum::<u64>();
             let is_better = found.as_ref().is_none_or(|known| total(&set) < total(known));
             if is_better && calls_for(&set).is_some() {
                 found = Some(set);
@@ -66,9 +66,9 @@ pub fn enough(call: Call, monitor: &Monitor, whose: Whose) -> Option<Closes> {
 /// Handles by step, and of each step by what they are for: "place 1 (writing pipe 37) and places 2, 4 (writing file 0) of
 /// step 17, and place 3 (reading pipe 37) of step 18".
 pub fn handle_words(handles: &[Held], scene: Scene) -> String {
-    let mut steps: Vec<u32> = handles.iter().map(|held| held.step).collect();
+    let mut steps: Vec<u64> = handles.iter().map(|held| held.step).collect();
     steps.dedup();
-    let of_step = |step: u32| {
+    let of_step = |step: u64| {
         let mut groups: Vec<(Held, Vec<String>)> = Vec::new();
         for held in handles.iter().filter(|held| held.step == step) {
             let is_like =
@@ -128,7 +128,7 @@ pub fn still_open(call: Call, scene: Scene) -> Counsel {
     if let Some(calls) = aim_after(scene.monitor, &close_calls(&held), call) {
         counsel.way(format!("close {}; retire it after that.", handle_words(&held, scene)), calls);
     }
-    let mut steps: Vec<u32> = held.iter().map(|held| held.step).collect();
+    let mut steps: Vec<u64> = held.iter().map(|held| held.step).collect();
     steps.dedup();
     let exits: Vec<Call> = steps.iter().map(|&subject| Call::Exit { subject }).collect();
     if let Some(calls) = aim_after(scene.monitor, &exits, call) {

@@ -6,21 +6,23 @@
 //! the other side away from every higher file. A handle of another step costs more than all of the caller's own, so
 //! that the caller's are taken where they are enough. What is found here is tried by the caller of these functions.
 
-use gatekeeper::{Call, Monitor};
+use gatekeeper::{Call, State as Monitor};
+
+use gk_chain::Things;
 
 use crate::things::{handles, is_file, level, objects, steps, Held, Thing};
 
 /// Whose handles may be closed.
 #[derive(Clone, Copy, Debug, PartialEq, Eq)]
 pub enum Whose {
-    Only(u32),
+    Only(u64),
     Anyones,
 }
 
 /// What a handle of another step costs, when one of the caller costs 1: more than all that a step can hold.
-const OTHERS: u32 = 32;
+const OTHERS: u64 = 32;
 /// What the closing of a handle costs where a step asks.
-pub fn cost(held: &Held, caller: u32) -> u32 {
+pub fn cost(held: &Held, caller: u64) -> u64 {
     if held.step == caller {
         1
     } else {
@@ -29,15 +31,15 @@ pub fn cost(held: &Held, caller: u32) -> u32 {
 }
 
 /// What cannot be closed costs more than all handles together.
-const NEVER: u32 = 1 << 20;
+const NEVER: u64 = 1 << 20;
 
-const SOURCE: usize = Thing::COUNT;
-const SINK: usize = Thing::COUNT + 1;
-const NODES: usize = Thing::COUNT + 2;
+/// The two nodes before those of the things.
+const SOURCE: usize = 0;
+const SINK: usize = 1;
 
 /// The two sides that a call would join.
 struct Sides {
-    caller: u32,
+    caller: u64,
     /// Where data comes in; for an exec nothing upstream is asked, and only the file's level counts.
     entries: Vec<Thing>,
     exits: Vec<Thing>,
@@ -81,7 +83,10 @@ pub fn closes(call: Call, monitor: &Monitor, whose: Whose, kept: &[Held]) -> Opt
         Whose::Only(step) if held.step != step => NEVER,
         _ => cost(held, sides.caller),
     };
-    let edges: Vec<(Held, u32)> = counted.iter().map(|held| (*held, cost_of(held))).collect();
+    let graph = Graph {
+        things: Things::of(monitor, &[]),
+        edges: counted.iter().map(|held| (*held, cost_of(held))).collect(),
+    };
     let things: Vec<(Thing, u8)> = steps(monitor)
         .map(Thing::Step)
         .chain(objects(monitor).map(Thing::Object))
@@ -93,7 +98,7 @@ pub fn closes(call: Call, monitor: &Monitor, whose: Whose, kept: &[Held]) -> Opt
     let mut levels: Vec<u8> = things.iter().map(|&(_, level)| level).collect();
     levels.sort_unstable();
     levels.dedup();
-    let mut best: Option<(u32, Vec<Held>)> = None;
+    let mut best: Option<(u64, Vec<Held>)> = None;
     for between in levels {
         let is_high = |thing: Thing, level: u8| is_level_of_file(thing) && level > between;
         if sides.entries.iter().any(|&thing| of(thing) < between)
@@ -106,9 +111,9 @@ pub fn closes(call: Call, monitor: &Monitor, whose: Whose, kept: &[Held]) -> Opt
         };
         let coming = match sides.is_exec {
             true => Some((0, Vec::new())),
-            false => least_cut(&edges, &those(&|_, level| level < between), &sides.entries),
+            false => graph.least_cut(&those(&|_, level| level < between), &sides.entries),
         };
-        let going = least_cut(&edges, &sides.exits, &those(&is_high));
+        let going = graph.least_cut(&sides.exits, &those(&is_high));
         let (Some((one, mut cut)), Some((other, more))) = (coming, going) else {
             continue;
         };
@@ -122,16 +127,16 @@ pub fn closes(call: Call, monitor: &Monitor, whose: Whose, kept: &[Held]) -> Opt
 
 /// A flow network: edges with what room is left on them, each beside its own way back, and the edges out of each node.
 struct Network {
-    ends: Vec<(usize, u32)>,
+    ends: Vec<(usize, u64)>,
     out: Vec<Vec<usize>>,
 }
 
 impl Network {
-    fn new() -> Network {
-        Network { ends: Vec::new(), out: vec![Vec::new(); NODES] }
+    fn new(nodes: usize) -> Network {
+        Network { ends: Vec::new(), out: vec![Vec::new(); nodes] }
     }
 
-    fn join(&mut self, from: usize, to: usize, room: u32) {
+    fn join(&mut self, from: usize, to: usize, room: u64) {
         let known = self.out[from].iter().copied().find(|&edge| edge % 2 == 0 && self.ends[edge].0 == to);
         match known {
             Some(edge) => self.ends[edge].1 += room,
@@ -145,8 +150,8 @@ impl Network {
     }
 
     /// What can still be reached from the source, breadth first: each node with the edge that leads to it.
-    fn reached(&self) -> [Option<usize>; NODES] {
-        let mut by = [None; NODES];
+    fn reached(&self) -> Vec<Option<usize>> {
+        let mut by = vec![None; self.out.len()];
         let mut queue = vec![SOURCE];
         let mut next = 0;
         while next < queue.len() && by[SINK].is_none() {
@@ -163,47 +168,71 @@ impl Network {
     }
 }
 
-/// The cheapest handles without which no flow leads from the one set to the other, and what they cost; none where
-/// handles that cannot be closed join them.
-fn least_cut(edges: &[(Held, u32)], from: &[Thing], to: &[Thing]) -> Option<(u32, Vec<Held>)> {
-    if from.is_empty() || to.is_empty() {
-        return Some((0, Vec::new()));
+/// The handles that are counted, each with what its closing costs, and the things that they join.
+struct Graph {
+    things: Things,
+    edges: Vec<(Held, u64)>,
+}
+
+impl Graph {
+    /// The node of a thing.
+    fn node(&self, thing: Thing) -> Option<usize> {
+        self.things.place(thing).map(|place| SINK + 1 + place)
     }
-    let mut network = Network::new();
-    for &(held, cost) in edges {
-        let (one, other) = held.flow();
-        network.join(one.index(), other.index(), cost);
+
+    /// The nodes that a handle joins.
+    fn ends(&self, held: Held) -> Option<(usize, usize)> {
+        let (from, to) = held.flow();
+        self.node(from).zip(self.node(to))
     }
-    for thing in from {
-        network.join(SOURCE, thing.index(), NEVER);
-    }
-    for thing in to {
-        network.join(thing.index(), SINK, NEVER);
-    }
-    let mut total = 0;
-    loop {
-        let by = network.reached();
-        if by[SINK].is_none() {
-            let is_cut = |held: &Held| {
-                let (one, other) = held.flow();
-                by[one.index()].is_some() && by[other.index()].is_none()
-            };
-            return Some((total, edges.iter().map(|(held, _)| *held).filter(is_cut).collect()));
+
+    fn network(&self, from: &[Thing], to: &[Thing]) -> Network {
+        let mut network = Network::new(SINK + 1 + self.things.count());
+        for &(held, cost) in &self.edges {
+            if let Some((one, other)) = self.ends(held) {
+                network.join(one, other, cost);
+            }
         }
-        let mut way = Vec::new();
-        let mut at = SINK;
-        while let Some(edge) = by[at] {
-            way.push(edge);
-            at = network.ends[edge ^ 1].0;
+        for node in from.iter().filter_map(|&thing| self.node(thing)) {
+            network.join(SOURCE, node, NEVER);
         }
-        let most = way.iter().map(|&edge| network.ends[edge].1).min().unwrap_or(0);
-        for edge in way {
-            network.ends[edge].1 -= most;
-            network.ends[edge ^ 1].1 += most;
+        for node in to.iter().filter_map(|&thing| self.node(thing)) {
+            network.join(node, SINK, NEVER);
         }
-        total += most;
-        if total >= NEVER {
-            return None;
+        network
+    }
+
+    /// The cheapest handles without which no flow leads from the one set to the other, and what they cost; none where
+    /// handles that cannot be closed join them.
+    fn least_cut(&self, from: &[Thing], to: &[Thing]) -> Option<(u64, Vec<Held>)> {
+        if from.is_empty() || to.is_empty() {
+            return Some((0, Vec::new()));
+        }
+        let mut network = self.network(from, to);
+        let mut total = 0;
+        loop {
+            let by = network.reached();
+            if by[SINK].is_none() {
+                let is_cut = |held: &Held| {
+                    self.ends(*held).is_some_and(|(one, other)| by[one].is_some() && by[other].is_none())
+                };
+                return Some((total, self.edges.iter().map(|(held, _)| *held).filter(is_cut).collect()));
+            }
+            let mut way = Vec::new();
+            let mut at = SINK;
+            while let Some(edge) = by[at] {
+                way.push(edge);
+                at = network.ends[edge ^ 1].0;
+            }
+            let most = way.iter().map(|&edge| network.ends[edge].1).min().unwrap_or(0);
+            for edge in way {
+                network.ends[edge].1 -= most;
+                network.ends[edge ^ 1].1 += most;
+            }
+            total += most;
+            if total >= NEVER {
+                return None;
+            }
         }
     }
 }

@@ -1,7 +1,7 @@
 //! Ways out of a refusal 9: close what leads up, mark it, let another step do it, have the file looked over, or go one
 //! way where two were asked for.
 
-use gatekeeper::{Call, Monitor};
+use gatekeeper::{Call, State as Monitor};
 
 use super::closing::{closed_for_good, ended_words, enough, handle_words};
 use super::cut::Whose;
@@ -87,7 +87,7 @@ fn no_closing(call: Call, scene: Scene) -> String {
 }
 
 /// RULES R110: the caller's handles that its exec asks to be marked, none of them needless.
-fn marking(call: Call, step: u32, scene: Scene, counsel: &mut Counsel) {
+fn marking(call: Call, step: u64, scene: Scene, counsel: &mut Counsel) {
     let calls_for = |set: &[Held]| {
         let marks: Vec<Call> =
             set.iter().map(|held| Call::Mark { subject: held.step, place: held.place }).collect();
@@ -115,7 +115,7 @@ fn marking(call: Call, step: u32, scene: Scene, counsel: &mut Counsel) {
 }
 
 /// The same call by another step, at its first empty place.
-fn by(call: Call, step: u32, monitor: &Monitor) -> Option<Call> {
+fn by(call: Call, step: u64, monitor: &Monitor) -> Option<Call> {
     let place = empty_places(monitor, step).next()?;
     Some(with_number(with_number(call, "s", step), "p", place))
 }
@@ -182,7 +182,7 @@ fn admitted_step(call: Call, scene: Scene, counsel: &mut Counsel) {
     let Some(number) = (0..STEPS).find(|&s| scene.monitor.subject(s).is_none()) else {
         return;
     };
-    let calls_at = |level: u32| {
+    let calls_at = |level: u64| {
         let admit = Call::Admit { subject: number, level };
         aim_after(scene.monitor, &[admit], with_number(with_number(call, "s", number), "p", 0))
     };
@@ -207,7 +207,7 @@ fn looked_over(call: Call, scene: Scene, counsel: &mut Counsel) {
     if !is_file(scene.monitor, object) || handles_on(scene.monitor, object).next().is_some() {
         return;
     }
-    let calls_at = |level: u32| {
+    let calls_at = |level: u64| {
         aim_after(scene.monitor, &[Call::Retire { object }, Call::Register { object, level }], call)
     };
     if let Some((least, calls)) = from_level(calls_at) {

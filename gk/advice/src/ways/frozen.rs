@@ -27,7 +27,7 @@ pub fn counsel(call: Call, scene: Scene) -> Counsel {
     }
 
     // A handle that is held is never cut off (RULES R118); those of the step that asks first.
-    let mut held: Vec<(u32, u32)> = handles_on(monitor, object)
+    let mut held: Vec<(u64, u64)> = handles_on(monitor, object)
         .filter(|held| held.writes())
         .map(|held| (held.step, held.place))
         .filter(|&(subject, place)| tried(monitor, &[Call::Write { subject, place }]).is_ok())
@@ -51,7 +51,7 @@ pub fn counsel(call: Call, scene: Scene) -> Counsel {
         None => counsel.note(format!("Nobody has {} open for writing.", scene.object(object))),
     }
 
-    let lower: Vec<u32> = objects(monitor)
+    let lower: Vec<u64> = objects(monitor)
         .filter(|&other| other != object && is_file(monitor, other))
         .filter(|&other| tried(monitor, &[Call::OpenWrite { subject, object: other, place }]).is_ok())
         .collect();

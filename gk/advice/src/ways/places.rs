@@ -7,8 +7,8 @@ use crate::calls::{number_of, with_number};
 use crate::scene::{capital, listed, Scene};
 use crate::things::{empty_places, handles_of, Held, PLACES};
 
-fn spaced(places: &[u32]) -> String {
-    let words: Vec<String> = places.iter().map(u32::to_string).collect();
+fn spaced(places: &[u64]) -> String {
+    let words: Vec<String> = places.iter().map(u64::to_string).collect();
     words.join(", ")
 }
 
@@ -28,7 +28,7 @@ pub fn unfit(call: Call, scene: Scene) -> Counsel {
 fn held_place(call: Call, scene: Scene) -> Counsel {
     let mut counsel = Counsel::default();
     let (step, monitor) = (call.numbers()[0], scene.monitor);
-    let fit: Vec<u32> = handles_of(monitor, step)
+    let fit: Vec<u64> = handles_of(monitor, step)
         .map(|held| held.place)
         .filter(|&place| refusal_of(monitor, with_number(call, "p", place)).is_none())
         .collect();
@@ -59,11 +59,11 @@ fn empty_place(call: Call, scene: Scene) -> Counsel {
     let mut counsel = Counsel::default();
     let (step, monitor) = (call.numbers()[0], scene.monitor);
     let name = scene.step(step);
-    let empty: Vec<u32> = empty_places(monitor, step).collect();
+    let empty: Vec<u64> = empty_places(monitor, step).collect();
     let Some(&first) = empty.first() else {
         return full(call, step, scene);
     };
-    let fit: Vec<u32> = empty
+    let fit: Vec<u64> = empty
         .iter()
         .copied()
         .filter(|&place| aim(monitor, with_number(call, "p", place)).is_some())
@@ -91,7 +91,7 @@ fn then_refused(call: Call, places: &str, scene: Scene, counsel: &mut Counsel) {
 }
 
 /// All places are taken: one is closed first.
-fn full(call: Call, step: u32, scene: Scene) -> Counsel {
+fn full(call: Call, step: u64, scene: Scene) -> Counsel {
     let mut counsel = Counsel::default();
     let name = scene.step(step);
     let calls_for = |held: &Held| {
@@ -101,7 +101,7 @@ fn full(call: Call, step: u32, scene: Scene) -> Counsel {
     let fit: Vec<Held> = handles_of(scene.monitor, step).filter(|held| calls_for(held).is_some()).collect();
     match fit.first().and_then(calls_for) {
         Some(calls) => {
-            let places: Vec<u32> = fit.iter().map(|held| held.place).collect();
+            let places: Vec<u64> = fit.iter().map(|held| held.place).collect();
             let when = once_open(&calls);
             counsel.way(
                 format!(
@@ -119,12 +119,12 @@ fn full(call: Call, step: u32, scene: Scene) -> Counsel {
 }
 
 /// Two places that are empty at every step concerned, by the names that the call has for them.
-fn two_places(call: Call, steps: &[u32], names: [&str; 2], scene: Scene) -> Counsel {
+fn two_places(call: Call, steps: &[u64], names: [&str; 2], scene: Scene) -> Counsel {
     let mut counsel = Counsel::default();
     let monitor = scene.monitor;
-    let at = |one: u32, other: u32| with_number(with_number(call, names[0], one), names[1], other);
-    let is_empty = |place: u32| steps.iter().all(|&step| monitor.handle(step, place).is_none());
-    let empty: Vec<u32> = (0..PLACES).filter(|&place| is_empty(place)).collect();
+    let at = |one: u64, other: u64| with_number(with_number(call, names[0], one), names[1], other);
+    let is_empty = |place: u64| steps.iter().all(|&step| monitor.handle(step, place).is_none());
+    let empty: Vec<u64> = (0..PLACES).filter(|&place| is_empty(place)).collect();
     let whose: Vec<String> = steps.iter().map(|&step| scene.step(step)).collect();
     let whose = listed(&whose, "and at");
     if let [one, other, ..] = empty[..] {
@@ -190,7 +190,7 @@ pub fn wrong_direction(call: Call, scene: Scene) -> Counsel {
         return counsel;
     };
     let monitor = scene.monitor;
-    let Some(object) = monitor.handle(subject, place).map(|handle| u32::from(handle.object)) else {
+    let Some(object) = monitor.handle(subject, place).map(|handle| handle.object) else {
         return counsel;
     };
     let is_read = matches!(call, Call::Read { .. });
@@ -202,7 +202,7 @@ pub fn wrong_direction(call: Call, scene: Scene) -> Counsel {
         })
         .collect();
     if let Some(first) = fit.first() {
-        let places: Vec<u32> = fit.iter().map(|held| held.place).collect();
+        let places: Vec<u64> = fit.iter().map(|held| held.place).collect();
         counsel.way(
             format!("use its {word} handle on {}, at place {}.", scene.object(object), spaced(&places)),
             vec![with_number(call, "p", first.place)],

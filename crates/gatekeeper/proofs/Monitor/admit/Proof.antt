@@ -1,6 +1,6 @@
 -- `gatekeeper::Monitor::admit` meets its contract. Assumes nothing.
 use Rattle.model.specs.Calls.{admit}
-use Rattle.gatekeeper.specs.View.{view}
+use Rattle.gatekeeper.specs.View.{slots}
 use Rattle.gatekeeper.proofs.Acting.{stops, goes}
 use Rattle.gatekeeper.proofs.Owned.{owned-long}
 use Rattle.gatekeeper.proofs.Storing.{subject-got, admits}
@@ -27,7 +27,7 @@ returns c =
     let g = owned-long (a .self) (c5 .good .0) in
     λ w.
     stops (a .self) (admit (a .s) (a .level)) (c2 .of-admit .result) (c .refuse .result)
-    (c2 .of-admit .ensures (view (a .self)) w (subject-got (a .self) g (a .s) (c3 .subject-of .result) (c3 .subject-of .ensures)))
+    (c2 .of-admit .ensures (slots (a .self)) w (subject-got (a .self) g (a .s) (c3 .subject-of .result) (c3 .subject-of .ensures)))
     (c1 .if1 .taken) (c .refuse .ensures)
 
 cast-l : tie.Need-cast-l
@@ -49,7 +49,7 @@ returns-2 c =
     let a = c7 .args in
     let g = owned-long (a .self) (c7 .good .0) in
     λ w.
-    let z = goes (c4 .of-admit .ensures (view (a .self)) w
+    let z = goes (c4 .of-admit .ensures (slots (a .self)) w
     (subject-got (a .self) g (a .s) (c5 .subject-of .result) (c5 .subject-of .ensures))) (c3 .if1 .left) in
     admits (a .self) g (a .s) (a .level) (c2 .with-subject .result) (c .with-subject2 .result) w z (c2 .with-subject .ensures) (c .with-subject2 .ensures)
 

@@ -1,10 +1,26 @@
 -- `gatekeeper::Monitor::assured` meets its contract. Assumes nothing.
-use Rattle.gatekeeper.specs.View.{beside}
+use mathlib.Core.Path.{_≡_, sym, subst}
+use mathlib.Core.Bool.{not}
+use mathlib.Core.List.{List}
+use Rattle.model.specs.Tables.{Tables, empty, with-freeze, with-numbers, clean, safe}
+use Rattle.model.specs.Invariant.{Wf}
+use Rattle.model.specs.Figures.{Ready}
+use Rattle.tables.specs.declared.Subject.{Subject}
+use Rattle.tables.specs.declared.Object.{Object}
+use Rattle.tables.specs.declared.Handle.{Handle}
+use Rattle.tables.specs.Records.{tables-of}
+use Rattle.tables.specs.Needs.{figure-of, Needed}
+use Rattle.gatekeeper.specs.View.{used-slots, once, Assured}
 use Rattle.gatekeeper.proofs.Owned.{owned-long}
-use Rattle.gatekeeper.proofs.Keeping.{read-wf, assured-is}
+use Rattle.gatekeeper.proofs.Numbered.{once-long}
+use Rattle.gatekeeper.proofs.Keeping.{read-wf, right-anew, short-anew}
+use Rattle.gatekeeper.proofs.Telling.{assured-is}
 use borrow.Author.Needs.{needs}
 use Rattle.gatekeeper.proofs.Monitor.assured.Statement.{statement}
 use Rattle.gatekeeper.proofs.Monitor.assured.Tie as tie
+
+single-requires : tie.Need-single-requires
+single-requires c κs = search needs
 
 cleaned-requires : tie.Need-cleaned-requires
 cleaned-requires c κs = search needs
@@ -23,10 +39,24 @@ returns c =
     let c1 = c .before in
     let c2 = c1 .before in
     let c3 = c2 .before in
-    let c7 = c3 .before .before .before .before in
-    let a = c7 .args in
-    assured-is (a .self) (read-wf (a .self) (owned-long (a .self) (c7 .good .0))) (c3 .cleaned .result) (c2 .figures .result) (c1 .is-short .result)
-    (c3 .cleaned .ensures (beside (a .self))) (c2 .figures .ensures) (c1 .is-short .ensures) (c .earned .result) (c .earned .ensures)
+    let c4 = c3 .before in
+    let c9 = c4 .before .before .before .before .before in
+    let m = c9 .args .self in
+    let g = owned-long m (c9 .good .0) in
+    let w = read-wf (once m) (once-long m g) in
+    let o = c4 .single .ensures in
+    let hs = c3 .cleaned .result in
+    let ns = c2 .figures .result in
+    let q = subst (λ (os : List Object). tables-of (with-numbers (with-freeze empty (m .freeze)) (used-slots os)) (m .subjects) os hs
+    ≡ clean (tables-of (with-numbers (with-freeze empty (m .freeze)) (used-slots os)) (m .subjects) os (m .handles))) o
+    (c3 .cleaned .ensures (with-numbers (with-freeze empty (m .freeze)) (used-slots (c4 .single .result)))) in
+    let r = right-anew (once m) w hs ns q
+    (subst (λ (os : List Object). (rest : Tables) (ss : List Subject) → Wf (tables-of rest ss os hs) → Needed (tables-of rest ss os hs) ns) o (c2 .figures .ensures)) in
+    let t = short-anew (once m) w hs ns (c1 .is-short .result) q r
+    (subst (λ (os : List Object). (rest : Tables) (l : List Handle) → Wf (tables-of rest (m .subjects) os l) → Ready (tables-of rest (m .subjects) os l) (figure-of ns)
+    → c1 .is-short .result ≡ not (safe (tables-of rest (m .subjects) os l))) o (c1 .is-short .ensures)) in
+    subst (λ (os : List Object). Assured m (record { numbers = m .numbers; subjects = m .subjects; objects = os; handles = hs; freeze = m .freeze; needs = ns; sure = c .earned .result })) (sym o)
+    (assured-is m (g .objects) w hs ns (c1 .is-short .result) (c .earned .result) q r t (c .earned .ensures))
 
 pub assured-spec : {M : Type 1} → statement M
-assured-spec = tie.close (tie.spec cleaned-requires figures-requires is-short-requires earned-requires returns)
+assured-spec = tie.close (tie.spec single-requires cleaned-requires figures-requires is-short-requires earned-requires returns)

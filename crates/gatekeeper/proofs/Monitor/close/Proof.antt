@@ -1,6 +1,6 @@
 -- `gatekeeper::Monitor::close` meets its contract. Assumes nothing.
 use Rattle.model.specs.Calls.{close}
-use Rattle.gatekeeper.specs.View.{view}
+use Rattle.gatekeeper.specs.View.{slots}
 use Rattle.gatekeeper.proofs.Acting.{stops, goes}
 use Rattle.gatekeeper.proofs.Owned.{owned-long}
 use Rattle.gatekeeper.proofs.Storing.{subject-got, handle-got, closes}
@@ -31,7 +31,7 @@ returns c =
     let g = owned-long (a .self) (c8 .good .0) in
     λ w.
     stops (a .self) (close (a .s) (a .p)) (c2 .of-held .result) (c .refuse .result)
-    (c2 .of-held .ensures (view (a .self)) (a .s) (a .p) w (subject-got (a .self) g (a .s) (c4 .subject-of .result) (c4 .subject-of .ensures))
+    (c2 .of-held .ensures (slots (a .self)) (a .s) (a .p) w (subject-got (a .self) g (a .s) (c4 .subject-of .result) (c4 .subject-of .ensures))
     (handle-got (a .self) g (a .s) (a .p) (c3 .handle-of .result) (c3 .handle-of .ensures)) .0) (c1 .if1 .taken) (c .refuse .ensures)
 
 with-handle-requires : tie.Need-with-handle-requires
@@ -68,7 +68,7 @@ returns-2 c =
     λ w.
     let x = subject-got (a .self) g (a .s) (c10 .subject-of .result) (c10 .subject-of .ensures) in
     let h = handle-got (a .self) g (a .s) (a .p) (c9 .handle-of .result) (c9 .handle-of .ensures) in
-    let z = goes (c8 .of-held .ensures (view (a .self)) (a .s) (a .p) w x h .0) (c7 .if1 .left) in
+    let z = goes (c8 .of-held .ensures (slots (a .self)) (a .s) (a .p) w x h .0) (c7 .if1 .left) in
     closes (a .self) g (a .s) (a .p) (c10 .subject-of .result) (c9 .handle-of .result) (c4 .object-of .result) (c3 .outlived .result) (c2 .with-object .result)
     (c6 .with-handle .result) (c .closed .result) w z x h (c4 .object-of .ensures) (c6 .with-handle .ensures) (c3 .outlived .ensures) (c2 .with-object .ensures)
     (c .closed .ensures)

@@ -1,6 +1,6 @@
 -- `gatekeeper::Monitor::connect` meets its contract. Assumes nothing.
 use Rattle.model.specs.Calls.{connect}
-use Rattle.gatekeeper.specs.View.{view}
+use Rattle.gatekeeper.specs.View.{slots}
 use Rattle.gatekeeper.proofs.Acting.{stops, ends, waits, frees}
 use Rattle.gatekeeper.proofs.Owned.{owned-long}
 use Rattle.gatekeeper.proofs.Storing.{subject-got, object-got, handle-got, connect-late, connects}
@@ -53,16 +53,16 @@ returns c =
     let c14 = c10 .before .before .before .before in
     let a = c14 .args in
     let g = owned-long (a .self) (c14 .good .0) in
-    λ w.
+    λ w room.
     stops (a .self) (connect (a .s) (a .u) (a .a) (a .b) (a .p) (a .q)) (c2 .of-connect .result) (c .refuse .result)
-    (c2 .of-connect .ensures (view (a .self)) w (subject-got (a .self) g (a .s) (c10 .subject-of .result) (c10 .subject-of .ensures))
+    (c2 .of-connect .ensures (slots (a .self)) w (subject-got (a .self) g (a .s) (c10 .subject-of .result) (c10 .subject-of .ensures))
     (subject-got (a .self) g (a .u) (c9 .subject-of2 .result) (c9 .subject-of2 .ensures))
     (object-got (a .self) g (a .a) (c8 .object-of .result) (c8 .object-of .ensures))
     (object-got (a .self) g (a .b) (c7 .object-of2 .result) (c7 .object-of2 .ensures))
     (handle-got (a .self) g (a .s) (a .p) (c6 .handle-of .result) (c6 .handle-of .ensures))
     (handle-got (a .self) g (a .s) (a .q) (c5 .handle-of2 .result) (c5 .handle-of2 .ensures))
     (handle-got (a .self) g (a .u) (a .p) (c4 .handle-of3 .result) (c4 .handle-of3 .ensures))
-    (handle-got (a .self) g (a .u) (a .q) (c3 .handle-of4 .result) (c3 .handle-of4 .ensures))) (c1 .if1 .taken) (c .refuse .ensures)
+    (handle-got (a .self) g (a .u) (a .q) (c3 .handle-of4 .result) (c3 .handle-of4 .ensures)) room) (c1 .if1 .taken) (c .refuse .ensures)
 
 with-object-requires : tie.Need-with-object-requires
 with-object-requires c κs = search needs
@@ -111,19 +111,19 @@ returns-2 c =
     let c22 = c18 .before .before .before .before in
     let a = c22 .args in
     let g = owned-long (a .self) (c22 .good .0) in
-    λ w.
+    λ w room.
     let x = subject-got (a .self) g (a .s) (c18 .subject-of .result) (c18 .subject-of .ensures) in
     let y = subject-got (a .self) g (a .u) (c17 .subject-of2 .result) (c17 .subject-of2 .ensures) in
-    let z = waits (c10 .of-connect .ensures (view (a .self)) w x y
+    let z = waits (c10 .of-connect .ensures (slots (a .self)) w x y
     (object-got (a .self) g (a .a) (c16 .object-of .result) (c16 .object-of .ensures))
     (object-got (a .self) g (a .b) (c15 .object-of2 .result) (c15 .object-of2 .ensures))
     (handle-got (a .self) g (a .s) (a .p) (c14 .handle-of .result) (c14 .handle-of .ensures))
     (handle-got (a .self) g (a .s) (a .q) (c13 .handle-of2 .result) (c13 .handle-of2 .ensures))
     (handle-got (a .self) g (a .u) (a .p) (c12 .handle-of3 .result) (c12 .handle-of3 .ensures))
-    (handle-got (a .self) g (a .u) (a .q) (c11 .handle-of4 .result) (c11 .handle-of4 .ensures))) (c9 .if1 .left) in
-    let e = c2 .last .ensures (view (a .self)) (connect (a .s) (a .u) (a .a) (a .b) (a .p) (a .q)) z
+    (handle-got (a .self) g (a .u) (a .q) (c11 .handle-of4 .result) (c11 .handle-of4 .ensures)) room) (c9 .if1 .left) in
+    let e = c2 .last .ensures (slots (a .self)) (connect (a .s) (a .u) (a .a) (a .b) (a .p) (a .q)) z
     (connect-late (a .self) g (a .s) (a .u) (a .a) (a .b) (a .p) (a .q) (c18 .subject-of .result) (c17 .subject-of2 .result) (c8 .with-object .result)
-    (c7 .with-object2 .result) (c6 .with-ends .result) (c5 .with-ends2 .result) (c4 .figures .result) w z x y (c6 .with-ends .ensures)
+    (c7 .with-object2 .result) (c6 .with-ends .result) (c5 .with-ends2 .result) (c4 .figures .result) w z room x y (c6 .with-ends .ensures)
     (c5 .with-ends2 .ensures) (c8 .with-object .ensures) (c7 .with-object2 .ensures) (c4 .figures .ensures) (c3 .is-short .result)
     (c3 .is-short .ensures)) in
     ends (a .self) (connect (a .s) (a .u) (a .a) (a .b) (a .p) (a .q)) (c2 .last .result) (c .refuse2 .result) e (c1 .if2 .taken) (c .refuse2 .ensures)
@@ -150,23 +150,23 @@ returns-3 c =
     let c21 = c17 .before .before .before .before in
     let a = c21 .args in
     let g = owned-long (a .self) (c21 .good .0) in
-    λ w.
+    λ w room.
     let x = subject-got (a .self) g (a .s) (c17 .subject-of .result) (c17 .subject-of .ensures) in
     let y = subject-got (a .self) g (a .u) (c16 .subject-of2 .result) (c16 .subject-of2 .ensures) in
-    let z = waits (c9 .of-connect .ensures (view (a .self)) w x y
+    let z = waits (c9 .of-connect .ensures (slots (a .self)) w x y
     (object-got (a .self) g (a .a) (c15 .object-of .result) (c15 .object-of .ensures))
     (object-got (a .self) g (a .b) (c14 .object-of2 .result) (c14 .object-of2 .ensures))
     (handle-got (a .self) g (a .s) (a .p) (c13 .handle-of .result) (c13 .handle-of .ensures))
     (handle-got (a .self) g (a .s) (a .q) (c12 .handle-of2 .result) (c12 .handle-of2 .ensures))
     (handle-got (a .self) g (a .u) (a .p) (c11 .handle-of3 .result) (c11 .handle-of3 .ensures))
-    (handle-got (a .self) g (a .u) (a .q) (c10 .handle-of4 .result) (c10 .handle-of4 .ensures))) (c8 .if1 .left) in
-    let e = c1 .last .ensures (view (a .self)) (connect (a .s) (a .u) (a .a) (a .b) (a .p) (a .q)) z
+    (handle-got (a .self) g (a .u) (a .q) (c10 .handle-of4 .result) (c10 .handle-of4 .ensures)) room) (c8 .if1 .left) in
+    let e = c1 .last .ensures (slots (a .self)) (connect (a .s) (a .u) (a .a) (a .b) (a .p) (a .q)) z
     (connect-late (a .self) g (a .s) (a .u) (a .a) (a .b) (a .p) (a .q) (c17 .subject-of .result) (c16 .subject-of2 .result) (c7 .with-object .result)
-    (c6 .with-object2 .result) (c5 .with-ends .result) (c4 .with-ends2 .result) (c3 .figures .result) w z x y (c5 .with-ends .ensures)
+    (c6 .with-object2 .result) (c5 .with-ends .result) (c4 .with-ends2 .result) (c3 .figures .result) w z room x y (c5 .with-ends .ensures)
     (c4 .with-ends2 .ensures) (c7 .with-object .ensures) (c6 .with-object2 .ensures) (c3 .figures .ensures) (c2 .is-short .result)
     (c2 .is-short .ensures)) in
     connects (a .self) g (a .s) (a .u) (a .a) (a .b) (a .p) (a .q) (c17 .subject-of .result) (c16 .subject-of2 .result) (c7 .with-object .result)
-    (c6 .with-object2 .result) (c5 .with-ends .result) (c4 .with-ends2 .result) (c3 .figures .result) w z x y (c5 .with-ends .ensures) (c4 .with-ends2 .ensures)
+    (c6 .with-object2 .result) (c5 .with-ends .result) (c4 .with-ends2 .result) (c3 .figures .result) w z room x y (c5 .with-ends .ensures) (c4 .with-ends2 .ensures)
     (c7 .with-object .ensures) (c6 .with-object2 .ensures) (c3 .figures .ensures) (frees e (c .if2 .left))
 
 pub connect-spec : {M : Type 1} → statement M

@@ -1,6 +1,6 @@
 -- `gatekeeper::Monitor::create` meets its contract. Assumes nothing.
 use Rattle.model.specs.Calls.{create}
-use Rattle.gatekeeper.specs.View.{view}
+use Rattle.gatekeeper.specs.View.{slots}
 use Rattle.gatekeeper.proofs.Acting.{stops, goes}
 use Rattle.gatekeeper.proofs.Owned.{owned-long}
 use Rattle.gatekeeper.proofs.Storing.{subject-got, object-got, creates}
@@ -29,10 +29,10 @@ returns c =
     let c7 = c4 .before .before .before in
     let a = c7 .args in
     let g = owned-long (a .self) (c7 .good .0) in
-    λ w.
+    λ w room.
     stops (a .self) (create (a .s) (a .o)) (c2 .of-create .result) (c .refuse .result)
-    (c2 .of-create .ensures (view (a .self)) (a .s) w (subject-got (a .self) g (a .s) (c4 .subject-of .result) (c4 .subject-of .ensures))
-    (object-got (a .self) g (a .o) (c3 .object-of .result) (c3 .object-of .ensures))) (c1 .if1 .taken) (c .refuse .ensures)
+    (c2 .of-create .ensures (slots (a .self)) (a .s) w (subject-got (a .self) g (a .s) (c4 .subject-of .result) (c4 .subject-of .ensures))
+    (object-got (a .self) g (a .o) (c3 .object-of .result) (c3 .object-of .ensures)) room) (c1 .if1 .taken) (c .refuse .ensures)
 
 with-object-requires : tie.Need-with-object-requires
 with-object-requires c κs = search needs
@@ -50,11 +50,11 @@ returns-2 c =
     let c9 = c6 .before .before .before in
     let a = c9 .args in
     let g = owned-long (a .self) (c9 .good .0) in
-    λ w.
+    λ w room.
     let x = subject-got (a .self) g (a .s) (c6 .subject-of .result) (c6 .subject-of .ensures) in
-    let z = goes (c4 .of-create .ensures (view (a .self)) (a .s) w x
-    (object-got (a .self) g (a .o) (c5 .object-of .result) (c5 .object-of .ensures))) (c3 .if1 .left) in
-    creates (a .self) g (a .s) (a .o) (c6 .subject-of .result) (c2 .with-object .result) (c .with-object2 .result) w z x (c2 .with-object .ensures)
+    let z = goes (c4 .of-create .ensures (slots (a .self)) (a .s) w x
+    (object-got (a .self) g (a .o) (c5 .object-of .result) (c5 .object-of .ensures)) room) (c3 .if1 .left) in
+    creates (a .self) g (a .s) (a .o) (c6 .subject-of .result) (c2 .with-object .result) (c .with-object2 .result) w z room x (c2 .with-object .ensures)
     (c .with-object2 .ensures)
 
 pub create-spec : {M : Type 1} → statement M

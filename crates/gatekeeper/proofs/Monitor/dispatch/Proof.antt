@@ -3,9 +3,9 @@ use mathlib.Core.Path.{sym, subst}
 use Rattle.model.specs.Calls.{Call, unknown, decode}
 use Rattle.model.specs.Calls.Codes.{decode-unknown, unknown-refused}
 use Rattle.answers.specs.Telling.{told}
-use Rattle.gatekeeper.specs.View.{view, direct}
+use Rattle.gatekeeper.specs.View.{slots, direct}
 use Rattle.gatekeeper.specs.Acting.{Acts}
-use Rattle.gatekeeper.proofs.Acting.{halts, both}
+use Rattle.gatekeeper.proofs.Acting.{halts, both, unroomed, either}
 use borrow.Author.Needs.{needs}
 use Rattle.gatekeeper.proofs.Monitor.dispatch.Statement.{statement}
 use Rattle.gatekeeper.proofs.Monitor.dispatch.Tie as tie
@@ -66,7 +66,7 @@ refuse-requires c κs = search needs
 
 returns : tie.Need-returns
 unfolding decode
-returns c = rw (c .before .match .keys1) (both (c .admit .ensures))
+returns c = rw (c .before .match .keys1) (unroomed (c .admit .ensures))
 
 returns-2 : tie.Need-returns-2
 unfolding decode
@@ -82,51 +82,51 @@ returns-4 c = rw (c .before .match .keys4) (both (c .pipe .ensures))
 
 returns-5 : tie.Need-returns-5
 unfolding decode
-returns-5 c = rw (c .before .match .keys5) (c .open .ensures)
+returns-5 c = rw (c .before .match .keys5) (either (c .open .ensures))
 
 returns-6 : tie.Need-returns-6
 unfolding decode
-returns-6 c = rw (c .before .match .keys6) (c .open2 .ensures)
+returns-6 c = rw (c .before .match .keys6) (either (c .open2 .ensures))
 
 returns-7 : tie.Need-returns-7
 unfolding decode
-returns-7 c = rw (c .before .match .keys7) (both (c .read .ensures))
+returns-7 c = rw (c .before .match .keys7) (unroomed (c .read .ensures))
 
 returns-8 : tie.Need-returns-8
 unfolding decode
-returns-8 c = rw (c .before .match .keys8) (both (c .write .ensures))
+returns-8 c = rw (c .before .match .keys8) (unroomed (c .write .ensures))
 
 returns-9 : tie.Need-returns-9
 unfolding decode
-returns-9 c = rw (c .before .match .keys9) (both (c .fork .ensures))
+returns-9 c = rw (c .before .match .keys9) (unroomed (c .fork .ensures))
 
 returns-10 : tie.Need-returns-10
 unfolding decode
-returns-10 c = rw (c .before .match .keys10) (both (c .exec .ensures))
+returns-10 c = rw (c .before .match .keys10) (unroomed (c .exec .ensures))
 
 returns-11 : tie.Need-returns-11
 unfolding decode
-returns-11 c = rw (c .before .match .keys11) (both (c .close .ensures))
+returns-11 c = rw (c .before .match .keys11) (unroomed (c .close .ensures))
 
 returns-12 : tie.Need-returns-12
 unfolding decode
-returns-12 c = rw (c .before .match .keys12) (both (c .exit .ensures))
+returns-12 c = rw (c .before .match .keys12) (unroomed (c .exit .ensures))
 
 returns-13 : tie.Need-returns-13
 unfolding decode
-returns-13 c = rw (c .before .match .keys13) (both (c .retire .ensures))
+returns-13 c = rw (c .before .match .keys13) (unroomed (c .retire .ensures))
 
 returns-14 : tie.Need-returns-14
 unfolding decode
-returns-14 c = rw (c .before .match .keys14) (c .map .ensures)
+returns-14 c = rw (c .before .match .keys14) (either (c .map .ensures))
 
 returns-15 : tie.Need-returns-15
 unfolding decode
-returns-15 c = rw (c .before .match .keys15) (both (c .mark .ensures))
+returns-15 c = rw (c .before .match .keys15) (unroomed (c .mark .ensures))
 
 returns-16 : tie.Need-returns-16
 unfolding decode
-returns-16 c = rw (c .before .match .keys16) (both (c .freeze .ensures))
+returns-16 c = rw (c .before .match .keys16) (unroomed (c .freeze .ensures))
 
 returns-17 : tie.Need-returns-17
 unfolding decode
@@ -136,9 +136,9 @@ returns-18 : tie.Need-returns-18
 returns-18 c =
     let c2 = c .before .before in
     let a = c2 .args in
-    both (λ w. subst (λ (k : Call). Acts (a .self) k (told (c .refuse .result .answer)) (c .refuse .result .monitor))
+    both (λ w r. subst (λ (k : Call). Acts (a .self) k (told (c .refuse .result .answer)) (c .refuse .result .monitor))
     (sym (decode-unknown (direct (a .code) (a .a) (a .b) (a .c) (a .d) (a .e) (a .f)) (c .before .match .rest .0 .0 .0 .0 .0 .0 .0 .0 .0 .0 .0 .0 .0 .0 .0 .0 .1, (c .before .match .rest .0 .0 .0 .0 .0 .0 .0 .0 .0 .0 .0 .0 .0 .0 .0 .1, (c .before .match .rest .0 .0 .0 .0 .0 .0 .0 .0 .0 .0 .0 .0 .0 .0 .1, (c .before .match .rest .0 .0 .0 .0 .0 .0 .0 .0 .0 .0 .0 .0 .0 .1, (c .before .match .rest .0 .0 .0 .0 .0 .0 .0 .0 .0 .0 .0 .0 .1, (c .before .match .rest .0 .0 .0 .0 .0 .0 .0 .0 .0 .0 .0 .1, (c .before .match .rest .0 .0 .0 .0 .0 .0 .0 .0 .0 .0 .1, (c .before .match .rest .0 .0 .0 .0 .0 .0 .0 .0 .0 .1, (c .before .match .rest .0 .0 .0 .0 .0 .0 .0 .0 .1, (c .before .match .rest .0 .0 .0 .0 .0 .0 .0 .1, (c .before .match .rest .0 .0 .0 .0 .0 .0 .1, (c .before .match .rest .0 .0 .0 .0 .0 .1, (c .before .match .rest .0 .0 .0 .0 .1, (c .before .match .rest .0 .0 .0 .1, (c .before .match .rest .0 .0 .1, (c .before .match .rest .0 .1, (c .before .match .rest .1, tt)))))))))))))))))))
-    (halts (a .self) unknown 1 (c .refuse .result) (unknown-refused (view (a .self))) (c .refuse .ensures)))
+    (halts (a .self) unknown 1 (c .refuse .result) (unknown-refused (slots (a .self))) (c .refuse .ensures)))
 
 pub dispatch-spec : {M : Type 1} → statement M
 dispatch-spec =

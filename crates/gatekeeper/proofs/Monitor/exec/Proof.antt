@@ -1,6 +1,6 @@
 -- `gatekeeper::Monitor::exec` meets its contract. Assumes nothing.
 use Rattle.model.specs.Calls.{exec}
-use Rattle.gatekeeper.specs.View.{view}
+use Rattle.gatekeeper.specs.View.{slots}
 use Rattle.gatekeeper.proofs.Acting.{stops, ends, waits, frees}
 use Rattle.gatekeeper.proofs.Owned.{owned-long}
 use Rattle.gatekeeper.proofs.Storing.{subject-got, object-got, exec-late, execs}
@@ -31,7 +31,7 @@ returns c =
     let g = owned-long (a .self) (c7 .good .0) in
     λ w.
     stops (a .self) (exec (a .s) (a .o)) (c2 .of-exec .result) (c .refuse .result)
-    (c2 .of-exec .ensures (view (a .self)) (a .s) (a .o) w (subject-got (a .self) g (a .s) (c4 .subject-of .result) (c4 .subject-of .ensures))
+    (c2 .of-exec .ensures (slots (a .self)) (a .s) (a .o) w (subject-got (a .self) g (a .s) (c4 .subject-of .result) (c4 .subject-of .ensures))
     (object-got (a .self) g (a .o) (c3 .object-of .result) (c3 .object-of .ensures))) (c1 .if1 .taken) (c .refuse .ensures)
 
 shed-requires : tie.Need-shed-requires
@@ -66,8 +66,8 @@ returns-2 c =
     λ w.
     let x = subject-got (a .self) g (a .s) (c11 .subject-of .result) (c11 .subject-of .ensures) in
     let y = object-got (a .self) g (a .o) (c10 .object-of .result) (c10 .object-of .ensures) in
-    let z = waits (c9 .of-exec .ensures (view (a .self)) (a .s) (a .o) w x y) (c8 .if1 .left) in
-    let e = c2 .last .ensures (view (a .self)) (exec (a .s) (a .o)) z
+    let z = waits (c9 .of-exec .ensures (slots (a .self)) (a .s) (a .o) w x y) (c8 .if1 .left) in
+    let e = c2 .last .ensures (slots (a .self)) (exec (a .s) (a .o)) z
     (exec-late (a .self) g (a .s) (a .o) (c10 .object-of .result) (c6 .shed .result) (c5 .figures .result) w z y (c6 .shed .ensures)
     (c5 .figures .ensures) (c4 .of-subject .result) (c4 .of-subject .ensures)) in
     ends (a .self) (exec (a .s) (a .o)) (c2 .last .result) (c .refuse2 .result) e (c1 .if2 .taken) (c .refuse2 .ensures)
@@ -104,8 +104,8 @@ returns-3 c =
     λ w.
     let x = subject-got (a .self) g (a .s) (c16 .subject-of .result) (c16 .subject-of .ensures) in
     let y = object-got (a .self) g (a .o) (c15 .object-of .result) (c15 .object-of .ensures) in
-    let z = waits (c14 .of-exec .ensures (view (a .self)) (a .s) (a .o) w x y) (c13 .if1 .left) in
-    let e = c7 .last .ensures (view (a .self)) (exec (a .s) (a .o)) z
+    let z = waits (c14 .of-exec .ensures (slots (a .self)) (a .s) (a .o) w x y) (c13 .if1 .left) in
+    let e = c7 .last .ensures (slots (a .self)) (exec (a .s) (a .o)) z
     (exec-late (a .self) g (a .s) (a .o) (c15 .object-of .result) (c11 .shed .result) (c10 .figures .result) w z y (c11 .shed .ensures)
     (c10 .figures .ensures) (c9 .of-subject .result) (c9 .of-subject .ensures)) in
     execs (a .self) g (a .s) (a .o) (c15 .object-of .result) (c11 .shed .result) (c10 .figures .result) w z y (c11 .shed .ensures) (c10 .figures .ensures)

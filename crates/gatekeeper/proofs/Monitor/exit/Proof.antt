@@ -1,6 +1,6 @@
 -- `gatekeeper::Monitor::exit` meets its contract. Assumes nothing.
 use Rattle.model.specs.Calls.{exit}
-use Rattle.gatekeeper.specs.View.{view}
+use Rattle.gatekeeper.specs.View.{slots}
 use Rattle.gatekeeper.proofs.Acting.{stops, goes}
 use Rattle.gatekeeper.proofs.Owned.{owned-long}
 use Rattle.gatekeeper.proofs.Storing.{subject-got, exits}
@@ -27,7 +27,7 @@ returns c =
     let g = owned-long (a .self) (c5 .good .0) in
     λ w.
     stops (a .self) (exit (a .s)) (c2 .of-exit .result) (c .refuse .result)
-    (c2 .of-exit .ensures (view (a .self)) (a .s) w (subject-got (a .self) g (a .s) (c3 .subject-of .result) (c3 .subject-of .ensures))) (c1 .if1 .taken)
+    (c2 .of-exit .ensures (slots (a .self)) (a .s) w (subject-got (a .self) g (a .s) (c3 .subject-of .result) (c3 .subject-of .ensures))) (c1 .if1 .taken)
     (c .refuse .ensures)
 
 vacated-requires : tie.Need-vacated-requires
@@ -55,7 +55,7 @@ returns-2 c =
     let g = owned-long (a .self) (c11 .good .0) in
     λ w.
     let x = subject-got (a .self) g (a .s) (c9 .subject-of .result) (c9 .subject-of .ensures) in
-    let z = goes (c8 .of-exit .ensures (view (a .self)) (a .s) w x) (c7 .if1 .left) in
+    let z = goes (c8 .of-exit .ensures (slots (a .self)) (a .s) w x) (c7 .if1 .left) in
     exits (a .self) g (a .s) (c9 .subject-of .result) (c .with-subject .result) (c4 .vacated .result) (c3 .reaped .result) (c1 .vacated2 .result) w z x
     (c .with-subject .ensures) (c4 .vacated .ensures) (c3 .reaped .ensures) (c1 .vacated2 .ensures)
 

@@ -1,6 +1,6 @@
 -- `gatekeeper::Monitor::fork` meets its contract. Assumes nothing.
 use Rattle.model.specs.Calls.{fork}
-use Rattle.gatekeeper.specs.View.{view}
+use Rattle.gatekeeper.specs.View.{slots}
 use Rattle.gatekeeper.proofs.Acting.{stops, goes}
 use Rattle.gatekeeper.proofs.Owned.{owned-long}
 use Rattle.gatekeeper.proofs.Storing.{subject-got, forks}
@@ -31,7 +31,7 @@ returns c =
     let g = owned-long (a .self) (c6 .good .0) in
     λ w.
     stops (a .self) (fork (a .s) (a .c)) (c2 .of-fork .result) (c .refuse .result)
-    (c2 .of-fork .ensures (view (a .self)) (a .s) w (subject-got (a .self) g (a .s) (c4 .subject-of .result) (c4 .subject-of .ensures))
+    (c2 .of-fork .ensures (slots (a .self)) (a .s) w (subject-got (a .self) g (a .s) (c4 .subject-of .result) (c4 .subject-of .ensures))
     (subject-got (a .self) g (a .c) (c3 .subject-of2 .result) (c3 .subject-of2 .ensures))) (c1 .if1 .taken) (c .refuse .ensures)
 
 with-subject-requires : tie.Need-with-subject-requires
@@ -60,7 +60,7 @@ returns-2 c =
     let g = owned-long (a .self) (c11 .good .0) in
     λ w.
     let x = subject-got (a .self) g (a .s) (c9 .subject-of .result) (c9 .subject-of .ensures) in
-    let z = goes (c7 .of-fork .ensures (view (a .self)) (a .s) w x
+    let z = goes (c7 .of-fork .ensures (slots (a .self)) (a .s) w x
     (subject-got (a .self) g (a .c) (c8 .subject-of2 .result) (c8 .subject-of2 .ensures))) (c6 .if1 .left) in
     forks (a .self) g (a .s) (a .c) (c9 .subject-of .result) (c5 .with-subject .result) (c3 .forked .result) (c1 .of-subject .result) (c .with-subject2 .result) w z x
     (c5 .with-subject .ensures) (c3 .forked .ensures) (c1 .of-subject .ensures) (c .with-subject2 .ensures)

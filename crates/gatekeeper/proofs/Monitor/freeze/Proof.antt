@@ -1,6 +1,6 @@
 -- `gatekeeper::Monitor::freeze` meets its contract. Assumes nothing.
 use Rattle.model.specs.Calls.{freeze}
-use Rattle.gatekeeper.specs.View.{view}
+use Rattle.gatekeeper.specs.View.{slots}
 use Rattle.gatekeeper.proofs.Acting.{stops, goes}
 use Rattle.gatekeeper.proofs.Owned.{owned-long}
 use Rattle.gatekeeper.proofs.Storing.{freezes}
@@ -19,7 +19,7 @@ returns c =
     let c2 = c .before .before in
     let c3 = c2 .before in
     let a = c3 .args in
-    λ w. stops (a .self) (freeze (a .level)) (c2 .of-freeze .result) (c .refuse .result) (c2 .of-freeze .ensures (view (a .self)) w)
+    λ w. stops (a .self) (freeze (a .level)) (c2 .of-freeze .result) (c .refuse .result) (c2 .of-freeze .ensures (slots (a .self)) w)
     (c .before .if1 .taken) (c .refuse .ensures)
 
 cast-l : tie.Need-cast-l
@@ -30,7 +30,7 @@ returns-2 c =
     let c1 = c .before in
     let c2 = c1 .before in
     let a = c2 .args in
-    λ w. freezes (a .self) (owned-long (a .self) (c2 .good .0)) (a .level) w (goes (c1 .of-freeze .ensures (view (a .self)) w) (c .if1 .left))
+    λ w. freezes (a .self) (owned-long (a .self) (c2 .good .0)) (a .level) w (goes (c1 .of-freeze .ensures (slots (a .self)) w) (c .if1 .left))
 
 pub freeze-spec : {M : Type 1} → statement M
 freeze-spec = tie.close (tie.spec of-freeze-requires refuse-requires returns cast-l returns-2)

@@ -5,7 +5,7 @@ use lib.ListN.{set}
 use Rattle.model.specs.Calls.{maps}
 use Rattle.model.specs.Invariant.{Wf}
 use Rattle.refusals.specs.Refusing.{Refuses}
-use Rattle.gatekeeper.specs.View.{view}
+use Rattle.gatekeeper.specs.View.{slots}
 use Rattle.gatekeeper.proofs.Acting.{stops, ends, waits, frees, back-keeps}
 use Rattle.gatekeeper.proofs.Owned.{owned-long}
 use Rattle.gatekeeper.proofs.Storing.{subject-got, object-got, handle-got, map-late, maps-acts, maps-keeps}
@@ -40,10 +40,10 @@ returns c =
     let g = owned-long (a .self) (c9 .good .0) in (
       λ firm. let w = firm .wf in
           stops (a .self) (maps (a .s) (a .o) (a .p)) (c2 .of-map .result) (c .refuse .result)
-          (c2 .of-map .ensures (view (a .self)) (a .s) (a .o) w (subject-got (a .self) g (a .s) (c5 .subject-of .result) (c5 .subject-of .ensures))
+          (c2 .of-map .ensures (slots (a .self)) (a .s) (a .o) w (subject-got (a .self) g (a .s) (c5 .subject-of .result) (c5 .subject-of .ensures))
           (object-got (a .self) g (a .o) (c4 .object-of .result) (c4 .object-of .ensures))
           (handle-got (a .self) g (a .s) (a .p) (c3 .handle-of .result) (c3 .handle-of .ensures))) (c1 .if1 .taken) (c .refuse .ensures),
-      back-keeps (a .self) (c2 .of-map .result) (c .refuse .result) (c .refuse .ensures),
+      back-keeps (a .self) (maps (a .s) (a .o) (a .p)) (c2 .of-map .result) (c .refuse .result) (c .refuse .ensures),
     )
 
 joining-requires : tie.Need-joining-requires
@@ -81,13 +81,13 @@ returns-2 c =
       λ firm. let w = firm .wf in
           let x = subject-got (a .self) g (a .s) (c12 .subject-of .result) (c12 .subject-of .ensures) in
           let y = object-got (a .self) g (a .o) (c11 .object-of .result) (c11 .object-of .ensures) in
-          let z = waits (c9 .of-map .ensures (view (a .self)) (a .s) (a .o) w x y
+          let z = waits (c9 .of-map .ensures (slots (a .self)) (a .s) (a .o) w x y
           (handle-got (a .self) g (a .s) (a .p) (c10 .handle-of .result) (c10 .handle-of .ensures))) (c8 .if1 .left) in
-          let e = c2 .last .ensures (view (a .self)) (maps (a .s) (a .o) (a .p)) z
+          let e = c2 .last .ensures (slots (a .self)) (maps (a .s) (a .o) (a .p)) z
           (map-late (a .self) g (a .s) (a .o) (a .p) (c11 .object-of .result) (c7 .joining .result) (c6 .with-handle .result) (c3 .opened .result .needs) (c3 .opened .result .short)
           w z y (c7 .joining .ensures) (c6 .with-handle .ensures) (c3 .opened .ensures) (firm .safe)) in
           ends (a .self) (maps (a .s) (a .o) (a .p)) (c2 .last .result) (c .refuse2 .result) e (c1 .if2 .taken) (c .refuse2 .ensures),
-      back-keeps (a .self) (c2 .last .result) (c .refuse2 .result) (c .refuse2 .ensures),
+      back-keeps (a .self) (maps (a .s) (a .o) (a .p)) (c2 .last .result) (c .refuse2 .result) (c .refuse2 .ensures),
     )
 
 fallen-requires : tie.Need-fallen-requires
@@ -129,13 +129,13 @@ returns-3 c =
     let g = owned-long (a .self) (c23 .good .0) in
     let x = subject-got (a .self) g (a .s) (c19 .subject-of .result) (c19 .subject-of .ensures) in
     let y = object-got (a .self) g (a .o) (c18 .object-of .result) (c18 .object-of .ensures) in
-    let waited : Wf (view (a .self)) → Refuses (view (a .self)) (maps (a .s) (a .o) (a .p)) 0 = λ w.
-    waits (c16 .of-map .ensures (view (a .self)) (a .s) (a .o) w x y
+    let waited : Wf (slots (a .self)) → Refuses (slots (a .self)) (maps (a .s) (a .o) (a .p)) 0 = λ w.
+    waits (c16 .of-map .ensures (slots (a .self)) (a .s) (a .o) w x y
     (handle-got (a .self) g (a .s) (a .p) (c17 .handle-of .result) (c17 .handle-of .ensures))) (c15 .if1 .left) in
     let all = c3 .with-handle2 .ensures ∙ ap (set (a .self .handles) (a .s % 32 * 16 + a .p % 16)) (c4 .joining2 .ensures) in (
       λ firm. let w = firm .wf in
           let z = waited w in
-          let e = c9 .last .ensures (view (a .self)) (maps (a .s) (a .o) (a .p)) z
+          let e = c9 .last .ensures (slots (a .self)) (maps (a .s) (a .o) (a .p)) z
           (map-late (a .self) g (a .s) (a .o) (a .p) (c18 .object-of .result) (c14 .joining .result) (c13 .with-handle .result) (c10 .opened .result .needs)
           (c10 .opened .result .short) w z y (c14 .joining .ensures) (c13 .with-handle .ensures) (c10 .opened .ensures) (firm .safe)) in
           maps-acts (a .self) g (a .s) (a .o) (a .p) (c18 .object-of .result) (c14 .joining .result) (c13 .with-handle .result) (c10 .opened .result .needs)

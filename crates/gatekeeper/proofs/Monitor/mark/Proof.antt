@@ -1,6 +1,6 @@
 -- `gatekeeper::Monitor::mark` meets its contract. Assumes nothing.
 use Rattle.model.specs.Calls.{mark}
-use Rattle.gatekeeper.specs.View.{view}
+use Rattle.gatekeeper.specs.View.{slots}
 use Rattle.gatekeeper.proofs.Acting.{stops, goes}
 use Rattle.gatekeeper.proofs.Owned.{owned-long}
 use Rattle.gatekeeper.proofs.Storing.{subject-got, handle-got, marks}
@@ -31,7 +31,7 @@ returns c =
     let g = owned-long (a .self) (c7 .good .0) in
     λ w.
     stops (a .self) (mark (a .s) (a .p)) (c2 .of-held .result) (c .refuse .result)
-    (c2 .of-held .ensures (view (a .self)) (a .s) (a .p) w (subject-got (a .self) g (a .s) (c4 .subject-of .result) (c4 .subject-of .ensures))
+    (c2 .of-held .ensures (slots (a .self)) (a .s) (a .p) w (subject-got (a .self) g (a .s) (c4 .subject-of .result) (c4 .subject-of .ensures))
     (handle-got (a .self) g (a .s) (a .p) (c3 .handle-of .result) (c3 .handle-of .ensures)) .1) (c1 .if1 .taken) (c .refuse .ensures)
 
 with-handle-requires : tie.Need-with-handle-requires
@@ -49,7 +49,7 @@ returns-2 c =
     λ w.
     let x = subject-got (a .self) g (a .s) (c4 .subject-of .result) (c4 .subject-of .ensures) in
     let h = handle-got (a .self) g (a .s) (a .p) (c3 .handle-of .result) (c3 .handle-of .ensures) in
-    let z = goes (c2 .of-held .ensures (view (a .self)) (a .s) (a .p) w x h .1) (c1 .if1 .left) in
+    let z = goes (c2 .of-held .ensures (slots (a .self)) (a .s) (a .p) w x h .1) (c1 .if1 .left) in
     marks (a .self) g (a .s) (a .p) (c4 .subject-of .result) (c3 .handle-of .result) (c .with-handle .result) w z x h (c .with-handle .ensures)
 
 pub mark-spec : {M : Type 1} → statement M

@@ -1,35 +1,47 @@
 -- `gatekeeper::Monitor::need_of_object` meets its contract. Assumes nothing.
+use mathlib.Core.Path.{refl, subst}
+use mathlib.Core.Logic.{inl, inr}
+use mathlib.Core.List.{List}
+use Rattle.tables.specs.declared.Object.{Object}
+use Rattle.tables.specs.Slots.{Found}
+use Rattle.gatekeeper.specs.View.{once}
 use Rattle.gatekeeper.proofs.Owned.{owned-long}
-use Rattle.gatekeeper.proofs.Storing.{object-got}
-use Rattle.gatekeeper.proofs.Keeping.{read-wf, Told, object-dead, object-told}
+use Rattle.gatekeeper.proofs.Numbered.{once-long}
+use Rattle.gatekeeper.proofs.Keeping.{read-wf}
+use Rattle.gatekeeper.proofs.Telling.{told-need}
 use borrow.Author.Needs.{needs}
 use Rattle.gatekeeper.proofs.Monitor.need_of_object.Statement.{statement}
 use Rattle.gatekeeper.proofs.Monitor.need_of_object.Tie as tie
 
-object-of-requires : tie.Need-object-of-requires
-object-of-requires c κs = search needs
+single-requires : tie.Need-single-requires
+single-requires c κs = search needs
+
+slot-of-requires : tie.Need-slot-of-requires
+slot-of-requires c κs = search needs
 
 returns : tie.Need-returns
-unfolding Told
 returns c =
-    let c2 = c .before .before in
-    let c4 = c2 .before .before in
-    let a = c4 .args in
-    let g = owned-long (a .self) (c4 .good .0) in
-    object-dead (a .self) (read-wf (a .self) g) (a .o) (c2 .object-of .result) (object-got (a .self) g (a .o) (c2 .object-of .result) (c2 .object-of .ensures)) (c .if1 .taken)
+    let c1 = c .before in
+    let c5 = c1 .before .before .before .before in
+    let m = c5 .args .self in
+    let g = owned-long m (c5 .good .0) in
+    let f = subst (λ (l : List Object). Found l (m .numbers) (c5 .args .o) (c1 .slot-of .result)) (c1 .before .single .ensures) (c1 .slot-of .ensures) in
+    told-need m (g .objects) (read-wf (once m) (once-long m g))
+    (c5 .args .o) (c1 .slot-of .result) 0 f (inr (c .if1 .taken, refl))
 
 of-object-requires : tie.Need-of-object-requires
 of-object-requires c κs = search needs
 
 returns-2 : tie.Need-returns-2
-unfolding Told
 returns-2 c =
-    let c4 = c .before .before .before .before in
-    let c6 = c4 .before .before in
-    let a = c6 .args in
-    let g = owned-long (a .self) (c6 .good .0) in
-    object-told (a .self) (read-wf (a .self) g) (a .o) (c4 .object-of .result) (object-got (a .self) g (a .o) (c4 .object-of .result) (c4 .object-of .ensures)) (c .of-object .result)
-    (c .before .before .if1 .left) (c .of-object .ensures)
+    let c3 = c .before .before .before in
+    let c7 = c3 .before .before .before .before in
+    let m = c7 .args .self in
+    let g = owned-long m (c7 .good .0) in
+    let f = subst (λ (l : List Object). Found l (m .numbers) (c7 .args .o) (c3 .slot-of .result)) (c3 .before .single .ensures) (c3 .slot-of .ensures) in
+    told-need m (g .objects) (read-wf (once m) (once-long m g))
+    (c7 .args .o) (c3 .slot-of .result) (c .of-object .result) f (inl (c .before .before .if1 .left, c .of-object .ensures))
 
 pub need-of-object-spec : {M : Type 1} → statement M
-need-of-object-spec = tie.close (tie.spec object-of-requires returns of-object-requires returns-2)
+need-of-object-spec =
+    tie.close (tie.spec single-requires slot-of-requires returns of-object-requires returns-2)

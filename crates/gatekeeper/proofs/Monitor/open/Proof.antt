@@ -6,7 +6,7 @@ use Rattle.tables.specs.Working.{joining}
 use Rattle.tables.specs.Records.{tables-of}
 use Rattle.refusals.specs.Refusing.{Refuses, direction}
 use Rattle.model.specs.Invariant.{Wf}
-use Rattle.gatekeeper.specs.View.{view}
+use Rattle.gatekeeper.specs.View.{slots}
 use Rattle.gatekeeper.proofs.Acting.{stops, ends, waits, frees, back-keeps}
 use Rattle.gatekeeper.proofs.Owned.{owned-long}
 use Rattle.gatekeeper.proofs.Storing.{subject-got, object-got, handle-got, open-late, opens-acts, opens-keeps}
@@ -41,11 +41,11 @@ returns c =
     let g = owned-long (a .self) (c9 .good .0) in (
       λ firm. let w = firm .wf in
           stops (a .self) (opens (direction (a .reads)) (a .s) (a .o) (a .p)) (c2 .of-open .result) (c .refuse .result)
-          (c2 .of-open .ensures (view (a .self)) (direction (a .reads)) (a .s) (a .o) w
+          (c2 .of-open .ensures (slots (a .self)) (direction (a .reads)) (a .s) (a .o) w
           (subject-got (a .self) g (a .s) (c5 .subject-of .result) (c5 .subject-of .ensures))
           (object-got (a .self) g (a .o) (c4 .object-of .result) (c4 .object-of .ensures))
           (handle-got (a .self) g (a .s) (a .p) (c3 .handle-of .result) (c3 .handle-of .ensures))) (c1 .if1 .taken) (c .refuse .ensures),
-      back-keeps (a .self) (c2 .of-open .result) (c .refuse .result) (c .refuse .ensures),
+      back-keeps (a .self) (opens (direction (a .reads)) (a .s) (a .o) (a .p)) (c2 .of-open .result) (c .refuse .result) (c .refuse .ensures),
     )
 
 way-of-requires : tie.Need-way-of-requires
@@ -92,15 +92,15 @@ returns-2 c =
       λ firm. let w = firm .wf in
           let i = c8 .joining .ensures ∙ ap (λ (i : ℕ). joining i (a .o)) (c9 .way-of .ensures) in
           let y = object-got (a .self) g (a .o) (c13 .object-of .result) (c13 .object-of .ensures) in
-          let z = waits (c11 .of-open .ensures (view (a .self)) (direction (a .reads)) (a .s) (a .o) w
+          let z = waits (c11 .of-open .ensures (slots (a .self)) (direction (a .reads)) (a .s) (a .o) w
           (subject-got (a .self) g (a .s) (c14 .subject-of .result) (c14 .subject-of .ensures)) y
           (handle-got (a .self) g (a .s) (a .p) (c12 .handle-of .result) (c12 .handle-of .ensures))) (c10 .if1 .left) in
-          let e = c2 .last .ensures (view (a .self)) (opens (direction (a .reads)) (a .s) (a .o) (a .p)) z
+          let e = c2 .last .ensures (slots (a .self)) (opens (direction (a .reads)) (a .s) (a .o) (a .p)) z
           (open-late (a .self) g (a .reads) (a .s) (a .o) (a .p) (c13 .object-of .result) (c8 .joining .result) (c7 .with-handle .result) (c4 .opened .result .needs)
           (c4 .opened .result .short) w z y i (c7 .with-handle .ensures) (c4 .opened .ensures) (firm .safe) (c3 .is-frozen .result)
-          (c3 .is-frozen .ensures (view (a .self)) (a .o) refl y)) in
+          (c3 .is-frozen .ensures (slots (a .self)) (a .o) refl y)) in
           ends (a .self) (opens (direction (a .reads)) (a .s) (a .o) (a .p)) (c2 .last .result) (c .refuse2 .result) e (c1 .if2 .taken) (c .refuse2 .ensures),
-      back-keeps (a .self) (c2 .last .result) (c .refuse2 .result) (c .refuse2 .ensures),
+      back-keeps (a .self) (opens (direction (a .reads)) (a .s) (a .o) (a .p)) (c2 .last .result) (c .refuse2 .result) (c .refuse2 .ensures),
     )
 
 returns-3 : tie.Need-returns-3
@@ -125,16 +125,16 @@ returns-3 c =
     let g = owned-long (a .self) (c18 .good .0) in
     let i = c8 .joining .ensures ∙ ap (λ (i : ℕ). joining i (a .o)) (c9 .way-of .ensures) in
     let y = object-got (a .self) g (a .o) (c13 .object-of .result) (c13 .object-of .ensures) in
-    let waited : Wf (view (a .self)) → Refuses (view (a .self)) (opens (direction (a .reads)) (a .s) (a .o) (a .p)) 0 = λ w.
-    waits (c11 .of-open .ensures (view (a .self)) (direction (a .reads)) (a .s) (a .o) w
+    let waited : Wf (slots (a .self)) → Refuses (slots (a .self)) (opens (direction (a .reads)) (a .s) (a .o) (a .p)) 0 = λ w.
+    waits (c11 .of-open .ensures (slots (a .self)) (direction (a .reads)) (a .s) (a .o) w
     (subject-got (a .self) g (a .s) (c14 .subject-of .result) (c14 .subject-of .ensures)) y
     (handle-got (a .self) g (a .s) (a .p) (c12 .handle-of .result) (c12 .handle-of .ensures))) (c10 .if1 .left) in (
       λ firm. let w = firm .wf in
           let z = waited w in
-          let e = c2 .last .ensures (view (a .self)) (opens (direction (a .reads)) (a .s) (a .o) (a .p)) z
+          let e = c2 .last .ensures (slots (a .self)) (opens (direction (a .reads)) (a .s) (a .o) (a .p)) z
           (open-late (a .self) g (a .reads) (a .s) (a .o) (a .p) (c13 .object-of .result) (c8 .joining .result) (c7 .with-handle .result) (c4 .opened .result .needs)
           (c4 .opened .result .short) w z y i (c7 .with-handle .ensures) (c4 .opened .ensures) (firm .safe) (c3 .is-frozen .result)
-          (c3 .is-frozen .ensures (view (a .self)) (a .o) refl y)) in
+          (c3 .is-frozen .ensures (slots (a .self)) (a .o) refl y)) in
           opens-acts (a .self) g (a .reads) (a .s) (a .o) (a .p) (c13 .object-of .result) (c8 .joining .result) (c7 .with-handle .result) (c4 .opened .result .needs)
           (c4 .opened .result .short) w z y i (c7 .with-handle .ensures) (c4 .opened .ensures) (frees e (c1 .if2 .left)),
       λ w. opens-keeps (a .self) g (a .reads) (a .s) (a .o) (a .p) (c13 .object-of .result) (c8 .joining .result) (c7 .with-handle .result) (c4 .opened .result .needs)

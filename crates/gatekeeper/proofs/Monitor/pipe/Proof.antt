@@ -1,6 +1,6 @@
 -- `gatekeeper::Monitor::pipe` meets its contract. Assumes nothing.
 use Rattle.model.specs.Calls.{make-pipe}
-use Rattle.gatekeeper.specs.View.{view}
+use Rattle.gatekeeper.specs.View.{slots}
 use Rattle.gatekeeper.proofs.Acting.{stops, goes}
 use Rattle.gatekeeper.proofs.Owned.{owned-long}
 use Rattle.gatekeeper.proofs.Storing.{subject-got, object-got, handle-got, pipes}
@@ -37,12 +37,12 @@ returns c =
     let c10 = c6 .before .before .before .before in
     let a = c10 .args in
     let g = owned-long (a .self) (c10 .good .0) in
-    λ w.
+    λ w room.
     stops (a .self) (make-pipe (a .s) (a .o) (a .r) (a .w)) (c2 .of-pipe .result) (c .refuse .result)
-    (c2 .of-pipe .ensures (view (a .self)) (a .s) w (subject-got (a .self) g (a .s) (c6 .subject-of .result) (c6 .subject-of .ensures))
+    (c2 .of-pipe .ensures (slots (a .self)) (a .s) w (subject-got (a .self) g (a .s) (c6 .subject-of .result) (c6 .subject-of .ensures))
     (object-got (a .self) g (a .o) (c5 .object-of .result) (c5 .object-of .ensures))
     (handle-got (a .self) g (a .s) (a .r) (c4 .handle-of .result) (c4 .handle-of .ensures))
-    (handle-got (a .self) g (a .s) (a .w) (c3 .handle-of2 .result) (c3 .handle-of2 .ensures))) (c1 .if1 .taken) (c .refuse .ensures)
+    (handle-got (a .self) g (a .s) (a .w) (c3 .handle-of2 .result) (c3 .handle-of2 .ensures)) room) (c1 .if1 .taken) (c .refuse .ensures)
 
 with-object-requires : tie.Need-with-object-requires
 with-object-requires c κs = search needs
@@ -70,14 +70,14 @@ returns-2 c =
     let c14 = c10 .before .before .before .before in
     let a = c14 .args in
     let g = owned-long (a .self) (c14 .good .0) in
-    λ w.
+    λ w room.
     let x = subject-got (a .self) g (a .s) (c10 .subject-of .result) (c10 .subject-of .ensures) in
-    let z = goes (c6 .of-pipe .ensures (view (a .self)) (a .s) w x
+    let z = goes (c6 .of-pipe .ensures (slots (a .self)) (a .s) w x
     (object-got (a .self) g (a .o) (c9 .object-of .result) (c9 .object-of .ensures))
     (handle-got (a .self) g (a .s) (a .r) (c8 .handle-of .result) (c8 .handle-of .ensures))
-    (handle-got (a .self) g (a .s) (a .w) (c7 .handle-of2 .result) (c7 .handle-of2 .ensures))) (c5 .if1 .left) in
+    (handle-got (a .self) g (a .s) (a .w) (c7 .handle-of2 .result) (c7 .handle-of2 .ensures)) room) (c5 .if1 .left) in
     pipes (a .self) g (a .s) (a .o) (a .r) (a .w) (c10 .subject-of .result) (c4 .with-object .result) (c3 .with-ends .result) (c1 .of-subject .result)
-    (c .with-object2 .result) w z x (c4 .with-object .ensures) (c3 .with-ends .ensures) (c1 .of-subject .ensures) (c .with-object2 .ensures)
+    (c .with-object2 .result) w z room x (c4 .with-object .ensures) (c3 .with-ends .ensures) (c1 .of-subject .ensures) (c .with-object2 .ensures)
 
 pub pipe-spec : {M : Type 1} → statement M
 pipe-spec =

@@ -1,7 +1,7 @@
 -- `gatekeeper::Monitor::read` meets its contract. Assumes nothing.
 use Rattle.model.specs.Tables.{reading}
 use Rattle.model.specs.Calls.{access}
-use Rattle.gatekeeper.specs.View.{view}
+use Rattle.gatekeeper.specs.View.{slots}
 use Rattle.gatekeeper.proofs.Acting.{stops, goes}
 use Rattle.gatekeeper.proofs.Owned.{owned-long}
 use Rattle.gatekeeper.proofs.Storing.{subject-got, object-got, handle-got, reads}
@@ -32,7 +32,7 @@ returns c =
     let g = owned-long (a .self) (c7 .good .0) in
     λ w.
     stops (a .self) (access reading (a .s) (a .p)) (c2 .of-read .result) (c .refuse .result)
-    (c2 .of-read .ensures (view (a .self)) (a .s) (a .p) w (subject-got (a .self) g (a .s) (c4 .subject-of .result) (c4 .subject-of .ensures))
+    (c2 .of-read .ensures (slots (a .self)) (a .s) (a .p) w (subject-got (a .self) g (a .s) (c4 .subject-of .result) (c4 .subject-of .ensures))
     (handle-got (a .self) g (a .s) (a .p) (c3 .handle-of .result) (c3 .handle-of .ensures))) (c1 .if1 .taken) (c .refuse .ensures)
 
 cast-number : tie.Need-cast-number
@@ -65,7 +65,7 @@ returns-2 c =
     λ w.
     let x = subject-got (a .self) g (a .s) (c11 .subject-of .result) (c11 .subject-of .ensures) in
     let h = handle-got (a .self) g (a .s) (a .p) (c10 .handle-of .result) (c10 .handle-of .ensures) in
-    let z = goes (c9 .of-read .ensures (view (a .self)) (a .s) (a .p) w x h) (c8 .if1 .left) in
+    let z = goes (c9 .of-read .ensures (slots (a .self)) (a .s) (a .p) w x h) (c8 .if1 .left) in
     reads (a .self) g (a .s) (a .p) (c11 .subject-of .result) (c4 .fallen .result) (c10 .handle-of .result) (c5 .object-of .result) (c3 .with-subject .result) _ w z x h
     (object-got (a .self) g (c10 .handle-of .result .object) (c5 .object-of .result) (c5 .object-of .ensures)) (c4 .fallen .ensures) (c3 .with-subject .ensures)
     (c .not-refused .ensures)

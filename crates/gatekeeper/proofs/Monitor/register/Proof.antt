@@ -1,6 +1,6 @@
 -- `gatekeeper::Monitor::register` meets its contract. Assumes nothing.
 use Rattle.model.specs.Calls.{register}
-use Rattle.gatekeeper.specs.View.{view}
+use Rattle.gatekeeper.specs.View.{slots}
 use Rattle.gatekeeper.proofs.Acting.{stops, goes}
 use Rattle.gatekeeper.proofs.Owned.{owned-long}
 use Rattle.gatekeeper.proofs.Storing.{object-got, registers}
@@ -25,9 +25,9 @@ returns c =
     let c5 = c3 .before .before in
     let a = c5 .args in
     let g = owned-long (a .self) (c5 .good .0) in
-    λ w.
+    λ w room.
     stops (a .self) (register (a .o) (a .level)) (c2 .of-register .result) (c .refuse .result)
-    (c2 .of-register .ensures (view (a .self)) w (object-got (a .self) g (a .o) (c3 .object-of .result) (c3 .object-of .ensures)))
+    (c2 .of-register .ensures (slots (a .self)) w (object-got (a .self) g (a .o) (c3 .object-of .result) (c3 .object-of .ensures)) room)
     (c1 .if1 .taken) (c .refuse .ensures)
 
 cast-l : tie.Need-cast-l
@@ -48,10 +48,10 @@ returns-2 c =
     let c7 = c5 .before .before in
     let a = c7 .args in
     let g = owned-long (a .self) (c7 .good .0) in
-    λ w.
-    let z = goes (c4 .of-register .ensures (view (a .self)) w
-    (object-got (a .self) g (a .o) (c5 .object-of .result) (c5 .object-of .ensures))) (c3 .if1 .left) in
-    registers (a .self) g (a .o) (a .level) (c2 .with-object .result) (c .with-object2 .result) w z (c2 .with-object .ensures) (c .with-object2 .ensures)
+    λ w room.
+    let z = goes (c4 .of-register .ensures (slots (a .self)) w
+    (object-got (a .self) g (a .o) (c5 .object-of .result) (c5 .object-of .ensures)) room) (c3 .if1 .left) in
+    registers (a .self) g (a .o) (a .level) (c2 .with-object .result) (c .with-object2 .result) w z room (c2 .with-object .ensures) (c .with-object2 .ensures)
 
 pub register-spec : {M : Type 1} → statement M
 register-spec =

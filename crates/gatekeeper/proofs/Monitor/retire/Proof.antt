@@ -1,6 +1,6 @@
 -- `gatekeeper::Monitor::retire` meets its contract. Assumes nothing.
 use Rattle.model.specs.Calls.{retire}
-use Rattle.gatekeeper.specs.View.{view}
+use Rattle.gatekeeper.specs.View.{slots}
 use Rattle.gatekeeper.proofs.Acting.{stops, ends, waits, frees}
 use Rattle.gatekeeper.proofs.Owned.{owned-long}
 use Rattle.gatekeeper.proofs.Storing.{object-got, retire-late, retires}
@@ -27,7 +27,7 @@ returns c =
     let g = owned-long (a .self) (c5 .good .0) in
     λ w.
     stops (a .self) (retire (a .o)) (c2 .of-retire .result) (c .refuse .result)
-    (c2 .of-retire .ensures (view (a .self)) (a .o) w (object-got (a .self) g (a .o) (c3 .object-of .result) (c3 .object-of .ensures))) (c1 .if1 .taken)
+    (c2 .of-retire .ensures (slots (a .self)) (a .o) w (object-got (a .self) g (a .o) (c3 .object-of .result) (c3 .object-of .ensures))) (c1 .if1 .taken)
     (c .refuse .ensures)
 
 cast-number : tie.Need-cast-number
@@ -55,8 +55,8 @@ returns-2 c =
     let g = owned-long (a .self) (c9 .good .0) in
     λ w.
     let y = object-got (a .self) g (a .o) (c7 .object-of .result) (c7 .object-of .ensures) in
-    let z = waits (c6 .of-retire .ensures (view (a .self)) (a .o) w y) (c5 .if1 .left) in
-    let e = c2 .last .ensures (view (a .self)) (retire (a .o)) z
+    let z = waits (c6 .of-retire .ensures (slots (a .self)) (a .o) w y) (c5 .if1 .left) in
+    let e = c2 .last .ensures (slots (a .self)) (retire (a .o)) z
     (retire-late (a .self) g (a .o) z (c3 .is-open .result) (c3 .is-open .ensures)) in
     ends (a .self) (retire (a .o)) (c2 .last .result) (c .refuse2 .result) e (c1 .if2 .taken) (c .refuse2 .ensures)
 
@@ -76,8 +76,8 @@ returns-3 c =
     let g = owned-long (a .self) (c9 .good .0) in
     λ w.
     let y = object-got (a .self) g (a .o) (c7 .object-of .result) (c7 .object-of .ensures) in
-    let z = waits (c6 .of-retire .ensures (view (a .self)) (a .o) w y) (c5 .if1 .left) in
-    let e = c2 .last .ensures (view (a .self)) (retire (a .o)) z
+    let z = waits (c6 .of-retire .ensures (slots (a .self)) (a .o) w y) (c5 .if1 .left) in
+    let e = c2 .last .ensures (slots (a .self)) (retire (a .o)) z
     (retire-late (a .self) g (a .o) z (c3 .is-open .result) (c3 .is-open .ensures)) in
     retires (a .self) g (a .o) z (c7 .object-of .result) (c .with-object .result) w y (frees e (c1 .if2 .left)) (c .with-object .ensures)
 

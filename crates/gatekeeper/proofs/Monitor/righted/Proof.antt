@@ -1,11 +1,22 @@
 -- `gatekeeper::Monitor::righted` meets its contract. Assumes nothing.
-use mathlib.Core.Path.{refl}
-use Rattle.gatekeeper.specs.View.{beside}
+use mathlib.Core.Path.{_≡_, refl, subst}
+use mathlib.Core.List.{List}
+use Rattle.model.specs.Tables.{Tables, empty, with-freeze, with-numbers, clean}
+use Rattle.model.specs.Invariant.{Wf}
+use Rattle.tables.specs.declared.Subject.{Subject}
+use Rattle.tables.specs.declared.Object.{Object}
+use Rattle.tables.specs.Records.{tables-of}
+use Rattle.tables.specs.Needs.{Needed}
+use Rattle.gatekeeper.specs.View.{used-slots, once}
 use Rattle.gatekeeper.proofs.Owned.{owned-long}
+use Rattle.gatekeeper.proofs.Numbered.{once-long}
 use Rattle.gatekeeper.proofs.Keeping.{read-wf, right-anew}
 use borrow.Author.Needs.{needs}
 use Rattle.gatekeeper.proofs.Monitor.righted.Statement.{statement}
 use Rattle.gatekeeper.proofs.Monitor.righted.Tie as tie
+
+single-requires : tie.Need-single-requires
+single-requires c κs = search needs
 
 cleaned-requires : tie.Need-cleaned-requires
 cleaned-requires c κs = search needs
@@ -16,9 +27,19 @@ figures-requires c κs = search needs
 returns : tie.Need-returns
 returns c =
     let c1 = c .before in
-    let c5 = c1 .before .before .before .before in
-    let a = c5 .args in
-    record { same = refl; right = right-anew (a .self) (read-wf (a .self) (owned-long (a .self) (c5 .good .0))) (c1 .cleaned .result) (c .figures .result) (c1 .cleaned .ensures (beside (a .self))) (c .figures .ensures) }
+    let c2 = c1 .before in
+    let c7 = c2 .before .before .before .before .before in
+    let m = c7 .args .self in
+    let g = owned-long m (c7 .good .0) in
+    let o = c2 .single .ensures in
+    record {
+      same = refl;
+      right = right-anew (once m) (read-wf (once m) (once-long m g))
+          (c1 .cleaned .result) (c .figures .result)
+          (subst (λ (os : List Object). tables-of (with-numbers (with-freeze empty (m .freeze)) (used-slots os)) (m .subjects) os (c1 .cleaned .result) ≡ clean (tables-of (with-numbers (with-freeze empty (m .freeze)) (used-slots os)) (m .subjects) os (m .handles))) o
+          (c1 .cleaned .ensures (with-numbers (with-freeze empty (m .freeze)) (used-slots (c2 .single .result)))))
+          (subst (λ (os : List Object). (rest : Tables) (ss : List Subject) → Wf (tables-of rest ss os (c1 .cleaned .result)) → Needed (tables-of rest ss os (c1 .cleaned .result)) (c .figures .result)) o (c .figures .ensures));
+    }
 
 pub righted-spec : {M : Type 1} → statement M
-righted-spec = tie.close (tie.spec cleaned-requires figures-requires returns)
+righted-spec = tie.close (tie.spec single-requires cleaned-requires figures-requires returns)

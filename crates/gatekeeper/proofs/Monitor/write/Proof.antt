@@ -4,7 +4,7 @@ use mathlib.Core.Bool.{Bool}
 use Rattle.model.specs.Tables.{writing}
 use Rattle.model.specs.Calls.{outcome}
 use Rattle.model.specs.Calls.{access}
-use Rattle.gatekeeper.specs.View.{view}
+use Rattle.gatekeeper.specs.View.{slots}
 use Rattle.gatekeeper.proofs.Acting.{stops, goes}
 use Rattle.gatekeeper.proofs.Owned.{owned-long}
 use Rattle.gatekeeper.proofs.Storing.{subject-got, handle-got, writes}
@@ -35,7 +35,7 @@ returns c =
     let g = owned-long (a .self) (c7 .good .0) in
     λ w.
     stops (a .self) (access writing (a .s) (a .p)) (c2 .of-write .result) (c .refuse .result)
-    (c2 .of-write .ensures (view (a .self)) (a .s) (a .p) w (subject-got (a .self) g (a .s) (c4 .subject-of .result) (c4 .subject-of .ensures))
+    (c2 .of-write .ensures (slots (a .self)) (a .s) (a .p) w (subject-got (a .self) g (a .s) (c4 .subject-of .result) (c4 .subject-of .ensures))
     (handle-got (a .self) g (a .s) (a .p) (c3 .handle-of .result) (c3 .handle-of .ensures))) (c1 .if1 .taken) (c .refuse .ensures)
 
 cast-number : tie.Need-cast-number
@@ -80,7 +80,7 @@ returns-2 c =
     λ w.
     let x = subject-got (a .self) g (a .s) (c14 .subject-of .result) (c14 .subject-of .ensures) in
     let h = handle-got (a .self) g (a .s) (a .p) (c13 .handle-of .result) (c13 .handle-of .ensures) in
-    let z = goes (c12 .of-write .ensures (view (a .self)) (a .s) (a .p) w x h) (c11 .if1 .left) in
+    let z = goes (c12 .of-write .ensures (slots (a .self)) (a .s) (a .p) w x h) (c11 .if1 .left) in
     writes (a .self) g (a .s) (a .p) (c14 .subject-of .result) (c13 .handle-of .result) (c8 .object-of .result) (c7 .sunken .result) (c6 .reread .result)
     (c1 .with-object .result) (c3 .is-lower .result) _ w z x h (c8 .object-of .ensures) (c7 .sunken .ensures) (c6 .reread .ensures) (c3 .is-lower .ensures)
     (c1 .with-object .ensures) (c .not-refused .ensures ∙ ap (λ (b : Bool). outcome b (c7 .sunken .result .level)) (c2 .either .ensures))

@@ -23,6 +23,7 @@ lends {x = x} {y = y} {r = r} a p q e back = record {
     unchanged = λ k z. ap₂ (λ (m : Monitor) (t : Tally). record { monitor = m; tally = t }) (p .unchanged k z) (q .same k z);
     answered = p .answered;
     moved = p .moved;
+    emptied = p .emptied;
     stays = p .stays;
     neat = p .neat;
     says = p .says;

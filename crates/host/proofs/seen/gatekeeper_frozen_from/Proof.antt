@@ -2,7 +2,7 @@
 use mathlib.Core.Path.{sym, ap}
 use mathlib.Core.Bool.{Bool, cond}
 use borrow.Author.Tests.{lt-ltb, le-ltb}
-use Rattle.host.specs.State.{freeze-of}
+use Rattle.stored.specs.State.{freeze-of}
 use Rattle.host.proofs.Seeing.{sized-is, unsized-is}
 use borrow.Author.Needs.{needs}
 use Rattle.host.proofs.seen.gatekeeper_frozen_from.Statement.{statement}

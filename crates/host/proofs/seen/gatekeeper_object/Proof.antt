@@ -5,14 +5,16 @@ use Prim.Native.Nat.{_+_}
 use lib.Dec.{eqb}
 use borrow.Author.Tests.{eq-eqb, ne-eqb}
 use Rattle.host.specs.Numbers.{seen-entry}
-use Rattle.host.proofs.Seeing.{sized-is, unsized-is, object-seen, seen-object}
+use Rattle.host.proofs.Seeing.{sized-is, unsized-is, object-seen, object-number}
 use borrow.Author.Needs.{needs}
 use Rattle.host.proofs.seen.gatekeeper_object.Statement.{statement}
 use Rattle.host.proofs.seen.gatekeeper_object.Tie as tie
 
 returns : tie.Need-returns
-returns c =
-    unsized-is (c .before .before .args .state .now) _ (c .if1 .taken)
+returns c = unsized-is (c .before .before .args .state .now) _ (c .if1 .taken)
+
+slot-in-requires : tie.Need-slot-in-requires
+slot-in-requires c κs = search needs
 
 object-in-requires : tie.Need-object-in-requires
 object-in-requires c κs = search needs
@@ -21,9 +23,11 @@ returns-2 : tie.Need-returns-2
 returns-2 c =
     let c2 = c .before .before in
     let c3 = c2 .before in
-    let a = c3 .before .before .args in
+    let c4 = c3 .before in
+    let a = c4 .before .before .args in
     let y = c2 .object-in .result in
-    sized-is (a .state .now) 0 _ (c3 .if1 .left) (sym (ap seen-entry (object-seen (a .state .now) (c3 .if1 .left) (a .o) y (c2 .object-in .ensures)) ∙ seen-object y
+    sized-is (a .state .now) 0 _ (c4 .if1 .left)
+    (sym (ap seen-entry (object-seen (a .state .now) (c4 .if1 .left) (a .o) (c3 .slot-in .result) y (c3 .slot-in .ensures) (c2 .object-in .ensures)) ∙ object-number y
     ∙ ap (λ (b : Bool). cond b 0 (cond (eqb (y .kind) 1) (256 + y .level) (512 + y .level))) (eq-eqb (y .kind) 0 (c .if2 .taken))))
 
 cast-result : tie.Need-cast-result
@@ -37,9 +41,11 @@ returns-3 c =
     let c3 = c .before .before .before in
     let c5 = c3 .before .before in
     let c6 = c5 .before in
-    let a = c6 .before .before .args in
+    let c7 = c6 .before in
+    let a = c7 .before .before .args in
     let y = c5 .object-in .result in
-    sized-is (a .state .now) _ _ (c6 .if1 .left) (sym (ap seen-entry (object-seen (a .state .now) (c6 .if1 .left) (a .o) y (c5 .object-in .ensures)) ∙ seen-object y
+    sized-is (a .state .now) _ _ (c7 .if1 .left)
+    (sym (ap seen-entry (object-seen (a .state .now) (c7 .if1 .left) (a .o) (c6 .slot-in .result) y (c6 .slot-in .ensures) (c5 .object-in .ensures)) ∙ object-number y
     ∙ ap (λ (b : Bool). cond b 0 (cond (eqb (y .kind) 1) (256 + y .level) (512 + y .level))) (ne-eqb (y .kind) 0 (c3 .if2 .left))
     ∙ ap (λ (b : Bool). cond b (256 + y .level) (512 + y .level)) (eq-eqb (y .kind) 1 (c .before .if3 .taken))))
 
@@ -54,9 +60,11 @@ returns-4 c =
     let c3 = c .before .before .before in
     let c5 = c3 .before .before in
     let c6 = c5 .before in
-    let a = c6 .before .before .args in
+    let c7 = c6 .before in
+    let a = c7 .before .before .args in
     let y = c5 .object-in .result in
-    sized-is (a .state .now) _ _ (c6 .if1 .left) (sym (ap seen-entry (object-seen (a .state .now) (c6 .if1 .left) (a .o) y (c5 .object-in .ensures)) ∙ seen-object y
+    sized-is (a .state .now) _ _ (c7 .if1 .left)
+    (sym (ap seen-entry (object-seen (a .state .now) (c7 .if1 .left) (a .o) (c6 .slot-in .result) y (c6 .slot-in .ensures) (c5 .object-in .ensures)) ∙ object-number y
     ∙ ap (λ (b : Bool). cond b 0 (cond (eqb (y .kind) 1) (256 + y .level) (512 + y .level))) (ne-eqb (y .kind) 0 (c3 .if2 .left))
     ∙ ap (λ (b : Bool). cond b (256 + y .level) (512 + y .level)) (ne-eqb (y .kind) 1 (c .before .if3 .left))))
 
@@ -65,6 +73,7 @@ gatekeeper-object-spec =
     tie.close
     (tie.spec
     returns
+    slot-in-requires
     object-in-requires
     returns-2
     cast-result

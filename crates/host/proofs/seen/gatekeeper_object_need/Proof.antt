@@ -1,34 +1,33 @@
 -- `host::seen::gatekeeper_object_need` meets its contract. Assumes nothing.
-use mathlib.Core.Path.{_∙_}
+use mathlib.Core.Path.{refl, _∙_}
+use mathlib.Core.Logic.{inl, inr}
 use Prim.Native.Nat.{_+_, _%_}
 use native.Mathlib.Omega.{arith}
-use Rattle.gatekeeper.proofs.Keeping.{Told, object-dead, object-told}
-use Rattle.host.specs.State.{monitor-of}
-use Rattle.host.proofs.Seeing.{sized-is, unsized-is, need-read, state-wf, object-seen}
+use Rattle.gatekeeper.proofs.Telling.{told-need}
+use Rattle.stored.specs.State.{monitor-of}
+use Rattle.host.proofs.Seeing.{need-read, objects-long, state-wf}
 use borrow.Author.Needs.{needs}
 use Rattle.host.proofs.seen.gatekeeper_object_need.Statement.{statement}
 use Rattle.host.proofs.seen.gatekeeper_object_need.Tie as tie
 
 returns : tie.Need-returns
-returns c =
-    (unsized-is (c .before .before .args .state .now) _ (c .if1 .taken), λ h. absurd (c .if1 .taken h))
+returns c = ((λ h. absurd (c .if1 .taken h), λ h. refl), λ h. absurd (c .if1 .taken h))
 
-object-in-requires : tie.Need-object-in-requires
-object-in-requires c κs = search needs
+slot-in-requires : tie.Need-slot-in-requires
+slot-in-requires c κs = search needs
 
 returns-2 : tie.Need-returns-2
-unfolding Told
 returns-2 c =
-    let c2 = c .before .before in
-    let c3 = c2 .before in
-    let a = c3 .before .before .args in
-    let l = c3 .if1 .left in
-    let t = object-dead (monitor-of (a .state .now)) (state-wf (a .state .now) l) (a .o) (c2 .object-in .result)
-    (object-seen (a .state .now) l (a .o) (c2 .object-in .result) (c2 .object-in .ensures)) (c .if2 .taken) in
-    (sized-is (a .state .now) 0 _ l (t .0), λ h r. t .1 r)
+    let c1 = c .before in
+    let c2 = c1 .before in
+    let a = c2 .before .before .args in
+    let l = c2 .if1 .left in
+    let t = told-need (monitor-of (a .state .now)) (objects-long (a .state .now) l) (state-wf (a .state .now) l) (a .o) (c1 .slot-in .result) 0 (c1 .slot-in .ensures)
+    (inr (c .if2 .taken, refl)) in
+    ((λ h. t .0, λ h. absurd (h l)), λ h r. t .1 r)
 
-add-i : tie.Need-add-i
-add-i c = search needs
+add-k : tie.Need-add-k
+add-k c = search needs
 
 add-at : tie.Need-add-at
 add-at c = search needs
@@ -40,26 +39,15 @@ number-of-requires : tie.Need-number-of-requires
 number-of-requires c κs = search needs
 
 returns-3 : tie.Need-returns-3
-unfolding Told
 returns-3 c =
-    let c4 = c .before .before .before .before in
-    let c5 = c4 .before in
-    let a = c5 .before .before .args in
-    let l = c5 .if1 .left in
-    let t = object-told (monitor-of (a .state .now)) (state-wf (a .state .now) l) (a .o) (c4 .object-in .result)
-    (object-seen (a .state .now) l (a .o) (c4 .object-in .result) (c4 .object-in .ensures)) (c .number-of .result) (c .before .before .if2 .left)
-    (c .number-of .ensures ∙ need-read (a .state .now) l (32 + a .o % 64) (omega arith)) in
-    (sized-is (a .state .now) _ _ l (t .0), λ h r. t .1 r)
+    let c3 = c .before .before .before in
+    let c4 = c3 .before in
+    let a = c4 .before .before .args in
+    let l = c4 .if1 .left in
+    let i = c3 .slot-in .result in
+    let t = told-need (monitor-of (a .state .now)) (objects-long (a .state .now) l) (state-wf (a .state .now) l) (a .o) i (c .number-of .result) (c3 .slot-in .ensures)
+    (inl (c .before .before .if2 .left, c .number-of .ensures ∙ need-read (a .state .now) l (32 + i % 64) (omega arith))) in
+    ((λ h. t .0, λ h. absurd (h l)), λ h r. t .1 r)
 
 pub gatekeeper-object-need-spec : {M : Type 1} → statement M
-gatekeeper-object-need-spec =
-    tie.close
-    (tie.spec
-    returns
-    object-in-requires
-    returns-2
-    add-i
-    add-at
-    shared-slice-read-number-of
-    number-of-requires
-    returns-3)
+gatekeeper-object-need-spec = tie.close (tie.spec returns slot-in-requires returns-2 add-k add-at shared-slice-read-number-of number-of-requires returns-3)

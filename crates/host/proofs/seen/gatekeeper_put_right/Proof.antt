@@ -2,7 +2,7 @@
 use mathlib.Core.Path.{refl, sym}
 use lib.ListN.{length}
 use borrow.Author.Tests.{eq-eqb, ne-eqb}
-use Rattle.host.specs.State.{state-bytes}
+use Rattle.stored.specs.State.{state-bytes}
 use Rattle.host.proofs.Seeing.{put-right}
 use borrow.Author.Needs.{needs}
 use Rattle.host.proofs.seen.gatekeeper_put_right.Statement.{statement}

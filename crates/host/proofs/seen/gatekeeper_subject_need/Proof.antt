@@ -2,9 +2,11 @@
 use mathlib.Core.Path.{_∙_}
 use Prim.Native.Nat.{_%_}
 use native.Mathlib.Omega.{arith}
-use Rattle.gatekeeper.proofs.Keeping.{Told, subject-dead, subject-told}
-use Rattle.host.specs.State.{monitor-of}
-use Rattle.host.proofs.Seeing.{sized-is, unsized-is, need-read, state-wf, subject-seen}
+use Rattle.gatekeeper.proofs.Keeping.{subject-dead, subject-told}
+use Rattle.gatekeeper.specs.View.{once}
+use Rattle.gatekeeper.proofs.Telling.{subject-need}
+use Rattle.stored.specs.State.{monitor-of}
+use Rattle.host.proofs.Seeing.{sized-is, unsized-is, need-read, objects-long, state-wf, subject-slot}
 use borrow.Author.Needs.{needs}
 use Rattle.host.proofs.seen.gatekeeper_subject_need.Statement.{statement}
 use Rattle.host.proofs.seen.gatekeeper_subject_need.Tie as tie
@@ -17,14 +19,14 @@ subject-in-requires : tie.Need-subject-in-requires
 subject-in-requires c κs = search needs
 
 returns-2 : tie.Need-returns-2
-unfolding Told
 returns-2 c =
     let c2 = c .before .before in
     let c3 = c2 .before in
     let a = c3 .before .before .args in
     let l = c3 .if1 .left in
-    let t = subject-dead (monitor-of (a .state .now)) (state-wf (a .state .now) l) (a .s) (c2 .subject-in .result)
-    (subject-seen (a .state .now) l (a .s) (c2 .subject-in .result) (c2 .subject-in .ensures)) (c .if2 .taken) in
+    let w = state-wf (a .state .now) l in
+    let t = subject-need (monitor-of (a .state .now)) (objects-long (a .state .now) l) w (a .s) 0 (subject-dead (once (monitor-of (a .state .now))) w (a .s) (c2 .subject-in .result)
+    (subject-slot (a .state .now) l (a .s) (c2 .subject-in .result) (c2 .subject-in .ensures)) (c .if2 .taken)) in
     (sized-is (a .state .now) 0 _ l (t .0), λ h r. t .1 r)
 
 add-at : tie.Need-add-at
@@ -37,15 +39,15 @@ number-of-requires : tie.Need-number-of-requires
 number-of-requires c κs = search needs
 
 returns-3 : tie.Need-returns-3
-unfolding Told
 returns-3 c =
     let c4 = c .before .before .before .before in
     let c5 = c4 .before in
     let a = c5 .before .before .args in
     let l = c5 .if1 .left in
-    let t = subject-told (monitor-of (a .state .now)) (state-wf (a .state .now) l) (a .s) (c4 .subject-in .result)
-    (subject-seen (a .state .now) l (a .s) (c4 .subject-in .result) (c4 .subject-in .ensures)) (c .number-of .result) (c .before .before .if2 .left)
-    (c .number-of .ensures ∙ need-read (a .state .now) l (a .s % 32) (omega arith)) in
+    let w = state-wf (a .state .now) l in
+    let t = subject-need (monitor-of (a .state .now)) (objects-long (a .state .now) l) w (a .s) (c .number-of .result) (subject-told (once (monitor-of (a .state .now))) w (a .s) (c4 .subject-in .result)
+    (subject-slot (a .state .now) l (a .s) (c4 .subject-in .result) (c4 .subject-in .ensures)) (c .number-of .result) (c .before .before .if2 .left)
+    (c .number-of .ensures ∙ need-read (a .state .now) l (a .s % 32) (omega arith))) in
     (sized-is (a .state .now) _ _ l (t .0), λ h r. t .1 r)
 
 pub gatekeeper-subject-need-spec : {M : Type 1} → statement M

@@ -1,17 +1,10 @@
 -- `tables::looks::handle_at` meets its contract. Assumes nothing.
 use borrow.Author.Tests.{lt-ltb, le-ltb}
-use borrow.Author.Needs.{needs}
 use Rattle.tables.proofs.looks.handle_at.Statement.{statement}
 use Rattle.tables.proofs.looks.handle_at.Tie as tie
 
-cast-if1 : tie.Need-cast-if1
-cast-if1 c = search needs
-
 returns : tie.Need-returns
 returns c = rw (le-ltb _ _ (c .if1 .taken))
-
-cast-if2 : tie.Need-cast-if2
-cast-if2 c = search needs
 
 returns-2 : tie.Need-returns-2
 returns-2 c = rw (lt-ltb _ _ (c .before .if1 .left), le-ltb _ _ (c .if2 .taken))
@@ -20,4 +13,4 @@ returns-3 : tie.Need-returns-3
 returns-3 c = rw (lt-ltb _ _ (c .before .if1 .left), lt-ltb _ _ (c .if2 .left))
 
 pub handle-at-spec : {M : Type 1} → statement M
-handle-at-spec = tie.close (tie.spec cast-if1 returns cast-if2 returns-2 returns-3)
+handle-at-spec = tie.close (tie.spec returns returns-2 returns-3)

@@ -1,11 +1,7 @@
 -- `tables::looks::object_at` meets its contract. Assumes nothing.
 use borrow.Author.Tests.{lt-ltb, le-ltb}
-use borrow.Author.Needs.{needs}
 use Rattle.tables.proofs.looks.object_at.Statement.{statement}
 use Rattle.tables.proofs.looks.object_at.Tie as tie
-
-cast-if1 : tie.Need-cast-if1
-cast-if1 c = search needs
 
 returns : tie.Need-returns
 returns c = rw (le-ltb _ _ (c .if1 .taken))
@@ -14,4 +10,4 @@ returns-2 : tie.Need-returns-2
 returns-2 c = rw (lt-ltb _ _ (c .if1 .left))
 
 pub object-at-spec : {M : Type 1} → statement M
-object-at-spec = tie.close (tie.spec cast-if1 returns returns-2)
+object-at-spec = tie.close (tie.spec returns returns-2)

@@ -1,0 +1,67 @@
+-- `stored::load_numbers` meets its contract. Assumes nothing.
+use mathlib.Core.Path.{refl, ap, _∙_}
+use Prim.Native.Nat.{_+_, _*_, _-_}
+use native.Mathlib.Omega.{arith}
+use borrow.Author.Needs.{needs}
+use Rattle.stored.specs.State.{number-width, whole, numbers-at, numbers-of}
+use Rattle.stored.proofs.Loading.{bytes-taken, Loaded, loaded-none, loaded-more, loaded-all}
+use Rattle.stored.proofs.load_numbers.Statement.{statement}
+use Rattle.stored.proofs.load_numbers.Tie as tie
+
+abbrev Inv-loop : tie.InvT-loop
+Inv-loop state r₀ i₀ r i = Loaded whole 0 number-width numbers-at 64 state r i
+
+abbrev μ-loop : tie.MeasureT-loop
+μ-loop state r₀ i₀ r i = 64 - i
+
+loop-holds : tie.Need-loop-holds Inv-loop μ-loop
+loop-holds c = loaded-none whole 0 number-width numbers-at 64 _ _ refl (omega (arith, c .before .pre))
+
+mul-at : tie.Need-mul-at Inv-loop μ-loop
+mul-at c = search needs
+
+add-at : tie.Need-add-at Inv-loop μ-loop
+add-at c = search needs
+
+load-number-requires : tie.Need-load-number-requires Inv-loop μ-loop
+load-number-requires c κs = omega (arith, c .loop-test .taken, c .before .before .before .pre)
+
+mul-r : tie.Need-mul-r Inv-loop μ-loop
+mul-r c = search needs
+
+array-write-r : tie.Need-array-write-r Inv-loop μ-loop
+array-write-r c = search needs
+
+add-i : tie.Need-add-i Inv-loop μ-loop
+add-i c = search needs
+
+loop-less : tie.Need-loop-less Inv-loop μ-loop
+loop-less c = search needs
+
+loop-again : tie.Need-loop-again Inv-loop μ-loop
+loop-again c =
+    let t = c .before .loop-test .taken in
+    let l = c .before .before .loop in
+    let start = c .before .before .before .before in
+    loaded-more (l .inv) _ t (c .load-number .ensures ∙ ap whole (bytes-taken 8 (numbers-at + number-width * l .i) (start .args .state .now) (omega (arith, t, start .pre))))
+
+returns : tie.Need-returns Inv-loop μ-loop
+unfolding numbers-of
+returns c = loaded-all (c .before .loop .inv) (c .loop-test .left)
+
+pub load-numbers-spec : {M : Type 1} → statement M
+load-numbers-spec =
+    tie.close
+    (tie.spec
+    Inv-loop
+    μ-loop
+    loop-holds
+    mul-at
+    add-at
+    load-number-requires
+    mul-r
+    array-write-r
+    add-i
+    loop-less
+    loop-again
+    returns)

@@ -1,0 +1,389 @@
+/*
+ * Objects of any number of 64 bits, 64 of them live at a time: each call is made on bytes and on the struct, and must be
+ * answered as it stands here. Then the numbers of a journal, and what version 5.0.0 kept, as bytes and as a struct, which
+ * has to go on as before. Says how many calls were made. tools/hosts builds and runs it.
+ */
+#include <inttypes.h>
+#include <stdio.h>
+#include <stdlib.h>
+#include <string.h>
+
+#include "gatekeeper.h"
+
+enum { BEFORE = 1841, LISTS = 25, CALLS = 300 };
+
+static const uint64_t HIGHEST = UINT64_MAX, WIDE = (uint64_t)1 << 32;
+
+static uint8_t state[GATEKEEPER_STATE_BYTES];
+static struct gatekeeper_monitor monitor;
+static unsigned long calls;
+
+static void fail(int line, const char *what)
+{
+    printf("numbers.c, line %d: %s\n", line, what);
+    exit(1);
+}
+#define HOLDS(what) ((what) ? (void)0 : fail(__LINE__, #what))
+
+/* The numbers of a call, and 0 for each that it does not use. */
+#define WITH(...) ((const uint64_t[6]){__VA_ARGS__})
+
+static uint32_t made(const char *what, int line, uint64_t code, const uint64_t n[6])
+{
+    uint32_t answer = gatekeeper_call(state, sizeof state, code, n[0], n[1], n[2], n[3], n[4], n[5]);
+    uint32_t stepped = gatekeeper_monitor_step(&monitor, code, n[0], n[1], n[2], n[3], n[4], n[5]);
+    calls++;
+    if (answer != stepped) {
+        printf("%s: %" PRIu32 " on bytes, %" PRIu32 " on the struct\n", what, answer, stepped);
+        fail(line, "the two differ");
+    }
+    return answer;
+}
+
+/* The call is answered with this letter and this level or refusal. */
+static void is(const char *what, int line, char letter, uint32_t value, uint64_t code, const uint64_t n[6])
+{
+    uint32_t answer = made(what, line, code, n);
+    if (gatekeeper_letter(answer) != (uint32_t)letter || gatekeeper_value(answer) != value) {
+        printf("%s: answered %c %" PRIu32 "\n", what, (int)gatekeeper_letter(answer), gatekeeper_value(answer));
+        fail(line, "another answer");
+    }
+}
+#define ALLOWED(value, code, ...) is(#code " " #__VA_ARGS__, __LINE__, 'A', value, GATEKEEPER_##code, WITH(__VA_ARGS__))
+#define LOWERED(value, code, ...) is(#code " " #__VA_ARGS__, __LINE__, 'L', value, GATEKEEPER_##code, WITH(__VA_ARGS__))
+#define REFUSED(value, code, ...) \
+    is(#code " " #__VA_ARGS__, __LINE__, 'R', GATEKEEPER_##value, GATEKEEPER_##code, WITH(__VA_ARGS__))
+
+static void begin(void)
+{
+    HOLDS(gatekeeper_empty(state, sizeof state));
+    gatekeeper_monitor_empty(&monitor);
+}
+
+/* Whether the objects that are live are these, in rising order. */
+static bool live(const uint64_t *numbers, size_t count)
+{
+    uint64_t from = 0;
+    size_t at = 0;
+    do {
+        uint64_t o = gatekeeper_object_from(state, sizeof state, from);
+        if (o < from || gatekeeper_object(state, sizeof state, o) == 0)
+            break;
+        if (at == count || numbers[at++] != o)
+            return false;
+        from = o + 1;
+    } while (from != 0);
+    return at == count;
+}
+
+/* ---- objects of any number */
+
+static void any_number(void)
+{
+    const uint64_t numbers[] = {0, 63, 64, WIDE, HIGHEST};
+    uint64_t place;
+    begin();
+    HOLDS(live(NULL, 0));
+    ALLOWED(9, ADMIT, 0, 9);
+    for (place = 0; place < 5; place++) {
+        REFUSED(NO_OBJECT, OPEN_READ, 0, numbers[place], place);
+        ALLOWED(9, REGISTER, numbers[place], 9);
+        REFUSED(NUMBER_TAKEN, REGISTER, numbers[place], 9);
+        REFUSED(NUMBER_TAKEN, CREATE, 0, numbers[place]);
+        ALLOWED(9, OPEN_READ, 0, numbers[place], place);
+        HOLDS(gatekeeper_handle(state, sizeof state, 0, place) == 256 * GATEKEEPER_WAY_READS);
+        HOLDS(gatekeeper_handle_object(state, sizeof state, 0, place) == numbers[place]);
+        HOLDS(monitor.numbers[monitor.handles[place].slot] == numbers[place]);
+        HOLDS(live(numbers, (size_t)place + 1));
+    }
+    HOLDS(gatekeeper_object_from(state, sizeof state, 65) == WIDE);
+    HOLDS(gatekeeper_object_from(state, sizeof state, WIDE + 1) == HIGHEST);
+    HOLDS(gatekeeper_handle(state, sizeof state, 0, 5) == 0 && gatekeeper_handle_object(state, sizeof state, 0, 5) == 0);
+    REFUSED(STILL_OPEN, RETIRE, HIGHEST);
+    ALLOWED(9, CLOSE, 0, 4);
+    ALLOWED(9, RETIRE, HIGHEST);
+    REFUSED(NO_OBJECT, RETIRE, HIGHEST);
+    HOLDS(gatekeeper_object_from(state, sizeof state, WIDE + 1) == 0 && live(numbers, 4));
+
+    /* pipes, a channel and a program have such numbers, too */
+    ALLOWED(9, PIPE, 0, HIGHEST, 5, 6);
+    ALLOWED(9, FORK, 0, 1);
+    ALLOWED(9, CONNECT, 0, 1, HIGHEST - 1, HIGHEST - 2, 7, 8);
+    REFUSED(NUMBER_TAKEN, CONNECT, 0, 1, 7, 7, 9, 10);
+    REFUSED(NUMBER_TAKEN, CONNECT, 0, 1, HIGHEST, 7, 9, 10);
+    REFUSED(IS_PIPE, RETIRE, HIGHEST);
+    REFUSED(IS_PIPE, EXEC, 0, HIGHEST - 1);
+    ALLOWED(9, EXEC, 0, WIDE);
+    ALLOWED(9, EXIT, 0);
+    ALLOWED(9, EXIT, 1);
+    HOLDS(live(numbers, 4));
+}
+
+/* ---- 64 live at a time */
+
+static void so_many_live(void)
+{
+    uint64_t o;
+    begin();
+    ALLOWED(9, ADMIT, 0, 9);
+    ALLOWED(5, ADMIT, 1, 5);
+    for (o = 0; o < 62; o++)
+        ALLOWED(9, REGISTER, WIDE * o, 9);
+    ALLOWED(9, CONNECT, 0, 1, 7, HIGHEST, 0, 1); /* the 63rd and the 64th */
+
+    REFUSED(TOO_MANY_OBJECTS, REGISTER, 8, 9);
+    REFUSED(TOO_MANY_OBJECTS, CREATE, 0, 8);
+    REFUSED(TOO_MANY_OBJECTS, PIPE, 0, 8, 2, 3);
+    REFUSED(TOO_MANY_OBJECTS, CONNECT, 0, 1, 8, 9, 2, 3);
+    /* after 3, and before all that comes after 3 */
+    REFUSED(NUMBER_TAKEN, REGISTER, 0, 9);
+    REFUSED(NUMBER_TAKEN, CONNECT, 0, 1, 8, 8, 2, 3);
+    REFUSED(NO_SUBJECT, CREATE, 2, 8);
+    REFUSED(SAME_SUBJECT, CONNECT, 0, 0, 8, 9, 2, 3);
+    REFUSED(TOO_MANY_OBJECTS, REGISTER, 8, 16);
+    REFUSED(TOO_MANY_OBJECTS, PIPE, 0, 8, 16, 16);
+    REFUSED(TOO_MANY_OBJECTS, CONNECT, 0, 1, 8, 9, 16, 16);
+    HOLDS(strcmp(gatekeeper_refusal_text(GATEKEEPER_TOO_MANY_OBJECTS),
+                 "only 64 files and pipes may be live: retire a file or end a pipe") == 0);
+    HOLDS(strcmp(gatekeeper_refusal_text(18), "no refusal") == 0);
+
+    /* a retired file makes space for one more, and an ended pipe for another */
+    ALLOWED(9, RETIRE, 0);
+    REFUSED(TOO_MANY_OBJECTS, CONNECT, 0, 1, 8, 9, 2, 3);
+    ALLOWED(9, REGISTER, 8, 9);
+    REFUSED(TOO_MANY_OBJECTS, REGISTER, 9, 9);
+    ALLOWED(9, CLOSE, 0, 1);
+    REFUSED(TOO_MANY_OBJECTS, REGISTER, 9, 9);
+    ALLOWED(5, CLOSE, 1, 0);
+    ALLOWED(9, PIPE, 0, 9, 2, 3);
+    REFUSED(TOO_MANY_OBJECTS, REGISTER, 10, 9);
+    /* and two make space for a channel */
+    ALLOWED(9, RETIRE, 8);
+    ALLOWED(9, RETIRE, WIDE);
+    ALLOWED(9, CONNECT, 0, 1, WIDE, 8, 4, 5);
+    REFUSED(TOO_MANY_OBJECTS, CREATE, 0, 10);
+}
+
+/* ---- what has a range keeps it */
+
+static void other_numbers(void)
+{
+    begin();
+    ALLOWED(9, ADMIT, 0, 9);
+    ALLOWED(9, REGISTER, 0, 9);
+    ALLOWED(9, OPEN_READ, 0, 0, 0);
+    REFUSED(NUMBER_TAKEN, ADMIT, WIDE, 9);
+    REFUSED(NUMBER_TAKEN, ADMIT, HIGHEST, 9);
+    REFUSED(NUMBER_TAKEN, FORK, 0, WIDE);
+    REFUSED(NUMBER_TAKEN, FORK, 0, WIDE + 1);
+    REFUSED(NO_SUBJECT, OPEN_READ, WIDE, 0, 1);
+    REFUSED(NO_SUBJECT, CLOSE, WIDE, 0);
+    REFUSED(NO_SUBJECT, READ, WIDE, 0);
+    REFUSED(NO_SUBJECT, EXIT, WIDE);
+    REFUSED(NO_SUBJECT, CONNECT, 0, WIDE, 1, 2, 3, 4);
+    REFUSED(PLACE_UNFIT, READ, 0, WIDE);
+    REFUSED(PLACE_UNFIT, CLOSE, 0, WIDE);
+    REFUSED(PLACE_UNFIT, OPEN_READ, 0, 0, WIDE);
+    REFUSED(PLACE_UNFIT, OPEN_WRITE, 0, 0, WIDE + 1);
+    REFUSED(PLACE_UNFIT, PIPE, 0, 1, 1, WIDE + 2);
+    REFUSED(PLACE_UNFIT, MARK, 0, WIDE);
+    REFUSED(LEVEL_TOO_HIGH, ADMIT, 1, WIDE);
+    REFUSED(LEVEL_TOO_HIGH, ADMIT, 1, WIDE + 16);
+    REFUSED(LEVEL_TOO_HIGH, REGISTER, 1, WIDE + 9);
+    REFUSED(LEVEL_TOO_HIGH, FREEZE, WIDE + 16);
+    REFUSED(LEVEL_TOO_HIGH, FREEZE, WIDE);
+    is("another code", __LINE__, 'R', GATEKEEPER_UNKNOWN_CODE, WIDE + GATEKEEPER_ADMIT, WITH(1, 9));
+    is("another code", __LINE__, 'R', GATEKEEPER_UNKNOWN_CODE, WIDE + GATEKEEPER_CLOSE, WITH(0, 0));
+    is("another code", __LINE__, 'R', GATEKEEPER_UNKNOWN_CODE, WIDE + GATEKEEPER_OPEN_READ, WITH(0, 0, 1));
+    HOLDS(gatekeeper_subject(state, sizeof state, 0) != 0 && gatekeeper_subject(state, sizeof state, WIDE) == 0);
+    HOLDS(gatekeeper_handle(state, sizeof state, 0, 0) != 0 && gatekeeper_handle(state, sizeof state, WIDE, 0) == 0);
+    HOLDS(gatekeeper_handle(state, sizeof state, 0, WIDE) == 0);
+    HOLDS(gatekeeper_object(state, sizeof state, 0) != 0 && gatekeeper_object(state, sizeof state, WIDE) == 0);
+}
+
+/* ---- a slot used again has nothing of the object before */
+
+static void used_again(void)
+{
+    uint64_t o;
+    begin();
+    ALLOWED(15, ADMIT, 0, 15);
+    for (o = 0; o < 63; o++)
+        ALLOWED(0, REGISTER, o, 0);
+    /* the last one: a file of level 9 that is frozen, then a pipe, then a file of level 2 */
+    ALLOWED(9, REGISTER, WIDE, 9);
+    ALLOWED(9, OPEN_WRITE, 0, WIDE, 0);
+    HOLDS(gatekeeper_object_need(state, sizeof state, WIDE) == 9);
+    HOLDS(gatekeeper_subject_need(state, sizeof state, 0) == 9);
+    ALLOWED(15, MARK, 0, 0);
+    ALLOWED(15, CLOSE, 0, 0);
+    ALLOWED(9, FREEZE, 9);
+    REFUSED(FROZEN, OPEN_WRITE, 0, WIDE, 0);
+    ALLOWED(9, RETIRE, WIDE);
+
+    ALLOWED(15, PIPE, 0, HIGHEST, 0, 1);
+    HOLDS(gatekeeper_object(state, sizeof state, WIDE) == 0 && gatekeeper_object_need(state, sizeof state, WIDE) == 0);
+    HOLDS(gatekeeper_object(state, sizeof state, HIGHEST) == 256 * GATEKEEPER_KIND_PIPE + 15);
+    HOLDS(gatekeeper_object_need(state, sizeof state, HIGHEST) == 0);
+    HOLDS(gatekeeper_subject_need(state, sizeof state, 0) == 0);
+    HOLDS(!gatekeeper_is_marked(gatekeeper_handle(state, sizeof state, 0, 0)));
+    REFUSED(NO_OBJECT, OPEN_READ, 0, WIDE, 2);
+    ALLOWED(15, OPEN_WRITE, 0, HIGHEST, 2);
+    ALLOWED(15, EXIT, 0);
+
+    ALLOWED(2, REGISTER, 63, 2);
+    HOLDS(gatekeeper_object(state, sizeof state, HIGHEST) == 0);
+    HOLDS(gatekeeper_object(state, sizeof state, 63) == 256 * GATEKEEPER_KIND_FILE + 2);
+    HOLDS(gatekeeper_object_need(state, sizeof state, 63) == 2);
+    ALLOWED(15, ADMIT, 0, 15);
+    ALLOWED(2, OPEN_WRITE, 0, 63, 0);
+    ALLOWED(2, OPEN_READ, 0, 63, 1);
+    LOWERED(2, READ, 0, 1);
+    ALLOWED(2, WRITE, 0, 0);
+}
+
+/* ---- what version 5.0.0 kept: it had the objects 0 to 63 */
+
+static uint64_t seed = 3;
+
+/* A drawn number below a limit. */
+static uint64_t drawn(uint32_t limit)
+{
+    seed = seed * 6364136223846793005u + 1442695040888963407u;
+    return (uint32_t)(seed >> 33) % limit;
+}
+
+static uint32_t draw(uint8_t *bytes, struct gatekeeper_monitor *other)
+{
+    /* files and pipes come more often than the rest, and few subjects and places, which meet more often */
+    static const uint8_t often[] = {GATEKEEPER_REGISTER, GATEKEEPER_PIPE, GATEKEEPER_OPEN_READ, GATEKEEPER_OPEN_WRITE};
+    uint64_t code = drawn(3) ? often[drawn(4)] : 1 + drawn(17), n[6], s = drawn(4), o = drawn(64), p = drawn(17);
+    uint32_t x, y, z;
+    n[0] = code == GATEKEEPER_REGISTER || code == GATEKEEPER_RETIRE ? o : s;
+    n[1] = code == GATEKEEPER_ADMIT || code == GATEKEEPER_REGISTER ? p : n[0] == s ? o : drawn(64);
+    if (code >= GATEKEEPER_READ && code != GATEKEEPER_EXEC && code != GATEKEEPER_MAP)
+        n[1] = drawn(17);
+    n[2] = code == GATEKEEPER_CONNECT ? o : p;
+    n[3] = drawn(code == GATEKEEPER_CONNECT ? 64 : 16);
+    n[4] = drawn(16), n[5] = drawn(16);
+    x = made("a drawn call", __LINE__, code, n);
+    y = gatekeeper_call(bytes, GATEKEEPER_STATE_BYTES, code, n[0], n[1], n[2], n[3], n[4], n[5]);
+    z = gatekeeper_monitor_step(other, code, n[0], n[1], n[2], n[3], n[4], n[5]);
+    if (x != y || x != z)
+        fail(__LINE__, "what was kept goes on otherwise");
+    return x;
+}
+
+/* Whether the two show the same of every number that is drawn, and of one more. */
+static bool same(const uint8_t *other)
+{
+    size_t len = sizeof state;
+    uint64_t i, p;
+    for (i = 0; i < 65; i++)
+        if (gatekeeper_object(state, len, i) != gatekeeper_object(other, len, i) ||
+            gatekeeper_object_need(state, len, i) != gatekeeper_object_need(other, len, i) ||
+            gatekeeper_object_from(state, len, i) != gatekeeper_object_from(other, len, i))
+            return false;
+    for (i = 0; i < 5; i++) {
+        if (gatekeeper_subject(state, len, i) != gatekeeper_subject(other, len, i) ||
+            gatekeeper_subject_need(state, len, i) != gatekeeper_subject_need(other, len, i))
+            return false;
+        for (p = 0; p < 16; p++)
+            if (gatekeeper_handle(state, len, i, p) != gatekeeper_handle(other, len, i, p) ||
+                gatekeeper_handle_object(state, len, i, p) != gatekeeper_handle_object(other, len, i, p))
+                return false;
+    }
+    return gatekeeper_made(state, len) == gatekeeper_made(other, len) &&
+           gatekeeper_gone(state, len) == gatekeeper_gone(other, len) &&
+           gatekeeper_frozen_from(state, len) == gatekeeper_frozen_from(other, len);
+}
+
+static void kept_before(void)
+{
+    static uint8_t kept[GATEKEEPER_STATE_BYTES];
+    static struct gatekeeper_monitor filled;
+    unsigned long allowed = 0;
+    int list, call, i, k;
+    for (list = 0; list < LISTS; list++) {
+        begin();
+        for (call = 0; call < CALLS; call++) {
+            if (call % 100 == 0) {
+                /* the bytes without the numbers, and then with 0 to 63 */
+                memset(kept, 0xa5, sizeof kept);
+                memcpy(kept, state, BEFORE);
+                for (i = 0; i < GATEKEEPER_OBJECTS; i++)
+                    for (k = 0; k < 8; k++)
+                        kept[BEFORE + 8 * i + k] = (uint8_t)((uint64_t)i >> (8 * k));
+                HOLDS(same(kept));
+                /* the struct likewise */
+                memset(&filled, 0xa5, sizeof filled);
+                memcpy(filled.subjects, monitor.subjects, sizeof filled.subjects);
+                memcpy(filled.objects, monitor.objects, sizeof filled.objects);
+                memcpy(filled.handles, monitor.handles, sizeof filled.handles);
+                memcpy(filled.needs, monitor.needs, sizeof filled.needs);
+                memcpy(filled.counts, monitor.counts, sizeof filled.counts);
+                filled.freeze = monitor.freeze;
+                filled.sure = 0;
+                for (i = 0; i < GATEKEEPER_OBJECTS; i++)
+                    filled.numbers[i] = (uint64_t)i;
+                HOLDS(gatekeeper_monitor_assure(&filled) == 1 && filled.sure == 1);
+            }
+            allowed += gatekeeper_allows(draw(kept, &filled));
+        }
+        HOLDS(same(kept));
+    }
+    HOLDS(allowed > LISTS * CALLS / 10);
+}
+
+/* ---- the numbers of a journal */
+
+static void in_journals(void)
+{
+    const uint64_t numbers[] = {0, 127, 128, 16383, 16384, UINT32_MAX, WIDE, HIGHEST - 1, HIGHEST};
+    uint8_t record[GATEKEEPER_RECORD_ROOM + 1], bytes[11];
+    uint64_t value = 7;
+    uint32_t used, at, i;
+    for (i = 0; i < sizeof numbers / sizeof numbers[0]; i++) {
+        uint32_t length = gatekeeper_record(record, sizeof record, GATEKEEPER_RETIRE, numbers[i], 0, 0, 0, 0, 0);
+        HOLDS(length > 256 + 2 && record[0] == length - 257);
+        used = gatekeeper_number(record + 2, length - 258, &value);
+        HOLDS(used == length - 258 && value == numbers[i]);
+    }
+    HOLDS(used == 10);
+
+    /* a record of the greatest length, and one byte too little room for it */
+    memset(record, 7, sizeof record);
+    HOLDS(gatekeeper_record(record, GATEKEEPER_RECORD_ROOM - 1, GATEKEEPER_CONNECT, HIGHEST, HIGHEST, HIGHEST, HIGHEST,
+                            HIGHEST, HIGHEST) == GATEKEEPER_RECORD_TOO_LONG);
+    for (at = 0; at < sizeof record; at++)
+        HOLDS(record[at] == 7);
+    HOLDS(gatekeeper_record(record, sizeof record, GATEKEEPER_CONNECT, HIGHEST, HIGHEST, HIGHEST, HIGHEST, HIGHEST,
+                            HIGHEST) == 256 + GATEKEEPER_RECORD_ROOM);
+    HOLDS(record[GATEKEEPER_RECORD_ROOM] == 7);
+    HOLDS(gatekeeper_record(record, sizeof record, WIDE + 1, 0, 0, 0, 0, 0, 0) == GATEKEEPER_UNKNOWN_CODE);
+
+    /* malformed ones leave the value */
+    value = 7;
+    memset(bytes, 0xff, sizeof bytes);
+    HOLDS(gatekeeper_number(bytes, 0, &value) == 0 && value == 7);
+    HOLDS(gatekeeper_number(bytes, 9, &value) == 0 && value == 7);
+    HOLDS(gatekeeper_number(bytes, sizeof bytes, &value) == 0 && value == 7);
+    bytes[9] = 2; /* above the highest */
+    HOLDS(gatekeeper_number(bytes, sizeof bytes, &value) == 0 && value == 7);
+    bytes[9] = 0; /* longer than it need be */
+    HOLDS(gatekeeper_number(bytes, sizeof bytes, &value) == 0 && value == 7);
+    bytes[9] = 1;
+    HOLDS(gatekeeper_number(bytes, sizeof bytes, &value) == 10 && value == HIGHEST);
+}
+
+int main(void)
+{
+    any_number();
+    so_many_live();
+    other_numbers();
+    used_again();
+    kept_before();
+    in_journals();
+    printf("%lu calls with numbers of 64 bits, on bytes and on the struct, were answered as they should\n", calls);
+    return 0;
+}
