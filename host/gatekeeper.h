@@ -39,11 +39,11 @@ extern "C" {
 #endif
 
 /* The version of this header and of the archive that belongs to it, and as the number that gatekeeper_version gives. */
-#define GATEKEEPER_VERSION "6.0.0"
-#define GATEKEEPER_VERSION_NUMBER (65536 * 6 + 256 * 0 + 0)
+#define GATEKEEPER_VERSION "6.1.0"
+#define GATEKEEPER_VERSION_NUMBER (65536 * 6 + 256 * 1 + 0)
 
 /* How much stack a call of any function here takes at most, in bytes: measured (tools/hosts), not proved. */
-#define GATEKEEPER_STACK_BYTES 53248
+#define GATEKEEPER_STACK_BYTES 81920
 
 /* Sizes, in bytes. */
 #define GATEKEEPER_STATE_BYTES 2353    /* a monitor with its tally and its kept needs */
@@ -151,11 +151,11 @@ enum gatekeeper_outcome {
     GATEKEEPER_REFUSED = 'R'
 };
 
-/* Why a call, a record or a journal is refused. Where several hold, the smallest number is given, but 14 goes before
- * all others, 12 before 2 to 10 and 15 to 17, 16 right after 2, 17 right after 3, and 15 just before 9. So an open that
- * is refused with 9 is one that no freeze forbids, and one that is refused with 15 may be refused with 9 once the freeze
- * is lifted. Up to version 4.1.0 an open that offends both was refused with 9. After 17 a host retires a file or has a
- * pipe end, by closing its last handle, and asks again. */
+/* Why a call, a record, a journal or a line is refused. Where several hold, the smallest number is given, but 14 goes
+ * before all others, 12 before 2 to 10 and 15 to 17, 16 right after 2, 17 right after 3, and 15 just before 9. So an
+ * open that is refused with 9 is one that no freeze forbids, and one that is refused with 15 may be refused with 9 once
+ * the freeze is lifted. Up to version 4.1.0 an open that offends both was refused with 9. After 17 a host retires a file
+ * or has a pipe end, by closing its last handle, and asks again. */
 enum gatekeeper_refusal {
     GATEKEEPER_UNKNOWN_CODE = 1,      /* the code is none of 1 to 17 */
     GATEKEEPER_NO_SUBJECT = 2,        /* a subject that asks, or is to be connected, is out of range or not live */
@@ -173,11 +173,13 @@ enum gatekeeper_refusal {
     GATEKEEPER_JOURNAL_TOO_LONG = 14, /* journals only: above 65,536 bytes */
     GATEKEEPER_FROZEN = 15,           /* an open for writing of a file at or above the freeze */
     GATEKEEPER_SAME_SUBJECT = 16,     /* a connect of a subject to itself */
-    GATEKEEPER_TOO_MANY_OBJECTS = 17  /* more than 64 objects would be live; a connect makes two */
+    GATEKEEPER_TOO_MANY_OBJECTS = 17, /* more than 64 objects would be live; a connect makes two */
+    GATEKEEPER_LINE_BROKEN = 18,      /* lines only: the bytes are not a line */
+    GATEKEEPER_TOO_MANY_STAGES = 19   /* lines only: a pipeline has more than eight stages */
 };
 
-/* What a refusal says, in plain words, for a log or a message: a text that stays. For any other number, 0 among them,
- * which is what gatekeeper_value gives for a wrong length: "no refusal". */
+/* What a refusal says, in plain words, for a log or a message: a text that stays. For any other number "no refusal", and
+ * so for what is given for a wrong length: 0 by gatekeeper_value, GATEKEEPER_NOT_A_STATE by gatekeeper_line. */
 GATEKEEPER_INLINE const char *gatekeeper_refusal_text(uint32_t refusal)
 {
     switch (refusal) {
@@ -198,6 +200,8 @@ GATEKEEPER_INLINE const char *gatekeeper_refusal_text(uint32_t refusal)
     case GATEKEEPER_FROZEN: return "the file is frozen while the books are closed";
     case GATEKEEPER_SAME_SUBJECT: return "a step cannot be connected to itself";
     case GATEKEEPER_TOO_MANY_OBJECTS: return "only 64 files and pipes may be live: retire a file or end a pipe";
+    case GATEKEEPER_LINE_BROKEN: return "the line is not well formed";
+    case GATEKEEPER_TOO_MANY_STAGES: return "a pipeline has more than eight stages";
     default: return "no refusal";
     }
 }
@@ -472,6 +476,64 @@ GATEKEEPER_INLINE uint32_t gatekeeper_monitor_step(struct gatekeeper_monitor *mo
     /* tools/step writes this: to here */
 }
 #undef GATEKEEPER_PART
+
+/*
+ * A line, as clerks type it, stands for a list of calls. It is one pipeline or several, with `;` between each two. A
+ * pipeline is one to eight stages, with `|` between each two, which binds tighter than `;`. A stage is the number of a
+ * program; `<` and the number of what it reads may follow, and then `>` and the number of what it writes. These are the
+ * numbers of objects, in decimal, without a zero in front, up to 18446744073709551615. Spaces may stand before and
+ * behind each number and each sign, and no other byte is in a line:
+ *
+ *   20 <1 | 21 | 22 >2 ; 23
+ *
+ * With a line come three numbers: the subject that is the shell, the first child's, and the first pipe's. In each
+ * pipeline child i has the number child + i, and pipe i the number pipe + i, both modulo 2 to the 64th. These are the
+ * calls of a pipeline of n stages, with stages, children and pipes counted from 0; with one stage there is no pipe:
+ *
+ *   first          the shell makes pipe 0 to pipe n - 2: place 2 i reads pipe i, and place 2 i + 1 writes it
+ *   at stage i     the shell forks child i. The child closes those of the places 0 to 2 n - 3, in rising order, that it
+ *                  does not use: it uses 2 i - 2, to read, and 2 i + 1, to write. It opens what `<` names at place 14,
+ *                  for reading, and what `>` names at place 15, for writing. It runs its program.
+ *   then           the shell closes the places 0 to 2 n - 3, in rising order
+ *   at last        child 0 to child n - 1 exit
+ *
+ * All calls of a line are made, from left to right, whichever of them are refused: they are calls like any other. So
+ * handles that the shell already has at these places are closed, and where the number of child i is in use, its fork is
+ * refused, and the subject that has that number closes, opens, runs the program and exits, be it the shell. A host chooses
+ * `child` and `pipe` so that enough numbers from there on are free: eight of subjects, all below 32, and seven of objects
+ * are enough for every pipeline. One that would have all of a line or nothing lends a copy of its monitor, and goes on with
+ * the copy where `refused` is 0.
+ *
+ * The host is not told which calls were refused, a line has no read and no write in it, and after it its children are
+ * gone. A host that starts the programs makes the calls itself, one by one. `line_len` counts no newline and no 0 byte
+ * that ends the text: both are bytes that no line has. A line makes up to nine calls for each of its bytes, 159 for a
+ * pipeline: a host sets a limit to what it takes.
+ */
+
+/* What came of a line: how many of its calls were allowed, lowered and refused, each modulo 2 to the 64th. Where
+ * `refusal` is not 0, no call was made, and these are 0. */
+struct gatekeeper_line_outcome {
+    uint64_t allowed;
+    uint64_t lowered;
+    uint64_t refused;
+    uint64_t refusal; /* GATEKEEPER_LINE_BROKEN, GATEKEEPER_TOO_MANY_STAGES or GATEKEEPER_NOT_A_STATE; 0: its calls were made */
+};
+
+/* What gatekeeper_line has as `refusal` where `len` is not GATEKEEPER_STATE_BYTES. No refusal has this number. */
+#define GATEKEEPER_NOT_A_STATE 255
+
+/* Makes the calls of a line on the monitor that the lent bytes are, and counts the handles that they make and remove. A
+ * line that is refused changes no byte. Where `len` is not GATEKEEPER_STATE_BYTES: GATEKEEPER_NOT_A_STATE, whatever the
+ * line is, and no byte is touched. */
+GATEKEEPER_MUST_USE
+struct gatekeeper_line_outcome gatekeeper_line(uint8_t *state, size_t len, const uint8_t *line, size_t line_len,
+                                               uint64_t shell, uint64_t child, uint64_t pipe);
+
+/* The same on a lent struct, with the same outcome where the monitor is as its `sure` says. A line that is refused changes
+ * no field, whatever it says. */
+GATEKEEPER_MUST_USE
+struct gatekeeper_line_outcome gatekeeper_monitor_line(struct gatekeeper_monitor *monitor, const uint8_t *line,
+                                                       size_t line_len, uint64_t shell, uint64_t child, uint64_t pipe);
 
 /* Runs a journal from an empty monitor and writes the reply over the front of `out`: a line for each record with its
  * position, code, A, L or R, and the level or refusal number; then `end`, handles made, gone and open. Returns how many

@@ -48,10 +48,10 @@ pub fn table(rows: &[Row], text: fn(f64) -> String) -> Table {
     table
 }
 
-/// On how many inputs the proved program takes at most a half, a quarter and a tenth of what the plain one takes; numbers
-/// apart.
+/// On how many inputs the proved program takes at most a half, a quarter and a tenth of what the plain one takes; lines
+/// and numbers apart.
 pub fn verdict(rows: &[Row]) -> String {
-    let calls = rows.iter().filter(|row| !row.work.is_numbers());
+    let calls = rows.iter().filter(|row| !row.work.is_line() && !row.work.is_numbers());
     let ratios: Vec<f64> = calls.filter_map(|row| row.ratio(Side::Proved, Side::Plain)).collect();
     let at_most = |limit: f64| ratios.iter().filter(|&&ratio| ratio <= limit).count();
     format!(
@@ -154,7 +154,7 @@ pub fn instructions(counts: &[Count]) -> Vec<Row> {
     counts.iter().map(row).collect()
 }
 
-/// Which functions the instructions of calls are in.
+/// Which functions the instructions of calls and lines are in.
 pub fn shares(counts: &[Count]) -> Table {
     let mut table = Table::of_words(&["input", "proved", "plain"]);
     for Count { work, parts, .. } in counts.iter().filter(|count| !count.work.is_numbers()) {
@@ -218,7 +218,7 @@ mod tests {
     use super::*;
     use crate::inputs::WORKS;
 
-    /// Figures of the first input of calls, of the first journal and of the first of numbers.
+    /// Figures of the first input of calls, of the first journal, of the first line and of the first of numbers.
     fn rows() -> Vec<Row> {
         let row = |index: usize, figures: &[PerCall]| Row {
             work: WORKS[index],
@@ -230,6 +230,7 @@ mod tests {
             row(0, &[(proved, 40.0), (Side::Bytes, 160.0), (plain, 320.0), (Side::Sparing, 80.0)]),
             row(8, &[(proved, 100.0), (plain, 1000.0), (Side::Sparing, 500.0)]),
             row(12, &[(proved, 1.0), (plain, 100.0)]),
+            row(19, &[(proved, 1.0), (plain, 100.0)]),
         ]
     }
 

@@ -10,6 +10,7 @@ use gatekeeper_plain::{calls, replies, Answer as PlainAnswer, Monitor as PlainMo
 
 use crate::layouts::{Layout, LAYOUTS};
 use crate::leb::{self, Form};
+use crate::typed::{Typed, TYPED};
 
 const SEED: u64 = 1;
 
@@ -54,12 +55,14 @@ pub enum Work {
     Journal(Layout),
     /// A generated journal.
     Generated,
+    /// A typed line, again and again.
+    Line(Typed),
     /// Numbers alone, each at most so large, beside a plain reader in one of its forms.
     Numbers(u64, Form),
 }
 
 /// Every piece of work, in the order of the table.
-pub const WORKS: [Work; 21] = [
+pub const WORKS: [Work; 28] = [
     Work::Calls(LAYOUTS[0]),
     Work::Calls(LAYOUTS[1]),
     Work::Calls(LAYOUTS[2]),
@@ -72,6 +75,13 @@ pub const WORKS: [Work; 21] = [
     Work::Journal(LAYOUTS[1]),
     Work::Journal(LAYOUTS[7]),
     Work::Generated,
+    Work::Line(TYPED[0]),
+    Work::Line(TYPED[1]),
+    Work::Line(TYPED[2]),
+    Work::Line(TYPED[3]),
+    Work::Line(TYPED[4]),
+    Work::Line(TYPED[5]),
+    Work::Line(TYPED[6]),
     Work::Numbers(leb::MIX, Form::Called),
     Work::Numbers(leb::MIX, Form::Words),
     Work::Numbers(leb::MIX, Form::Inlined),
@@ -89,8 +99,14 @@ impl Work {
             Work::Calls(layout) => layout.name.to_string(),
             Work::Journal(layout) => format!("journal, {}", layout.name),
             Work::Generated => "journal, generated".to_string(),
+            Work::Line(typed) => typed.name.to_string(),
             Work::Numbers(largest, form) => leb::name(largest, form),
         }
+    }
+
+    /// Whether a typed line is run.
+    pub fn is_line(self) -> bool {
+        matches!(self, Work::Line(_))
     }
 
     /// Whether numbers are read, and no calls made.
@@ -110,6 +126,7 @@ impl Work {
             Work::Calls(layout) => called(layout),
             Work::Journal(layout) => replayed(as_journal(layout)),
             Work::Generated => replayed(generated()),
+            Work::Line(typed) => typed.input(),
             Work::Numbers(largest, Form::Called) => numbers_read(largest, leb::read_called),
             Work::Numbers(largest, Form::Words) => numbers_read(largest, leb::read_words),
             Work::Numbers(largest, Form::Inlined) => numbers_read(largest, leb::read),
@@ -122,7 +139,7 @@ pub type Run = Box<dyn FnMut() -> u64>;
 
 /// One piece of work, done in two ways to four.
 pub struct Input {
-    /// How many calls, records or numbers it has.
+    /// How many calls, records, lines or numbers it has.
     pub calls: usize,
     pub proved: Run,
     /// None where no monitor is lent.

@@ -12,6 +12,7 @@ mod leb;
 mod options;
 mod plot;
 mod report;
+mod typed;
 
 use std::env;
 use std::fs;

@@ -3,6 +3,7 @@
 mod arguments;
 mod commands;
 mod files;
+mod line;
 
 use std::ffi::OsString;
 use std::io::{self, Write};
@@ -53,6 +54,7 @@ pub const COMMANDS: &[Command] = &[
     command("explain", "the replies in plain words", Work::Here(commands::explain, help::EXPLAIN)),
     command("assemble", "from words to a journal", Work::Here(commands::assemble, help::ASSEMBLE)),
     command("disassemble", "from a journal to words", Work::Here(commands::disassemble, help::DISASSEMBLE)),
+    command("line", "a typed line, each call with its answer", Work::Here(line::line, help::LINE)),
     command("trace", "the trace of a real run as a journal", Work::There(gk_trace::main)),
     command("screen", "the run to look at: a screen, or a page", Work::There(gk_screen::main)),
 ];

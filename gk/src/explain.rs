@@ -48,6 +48,11 @@ pub struct End {
 #[derive(Clone, Copy, Debug, PartialEq, Eq)]
 pub struct Differs;
 
+/// What an advice is worth, said where one is given.
+pub const ADVICE: &str = "The answers are the proved gatekeeper's. What to do is advice of gk and not proved; every \
+                          advice that names calls was tried on a copy of the tables as they were before its record, \
+                          and was allowed there.";
+
 /// Which records are told.
 #[derive(Clone, Copy, Debug, PartialEq, Eq)]
 pub enum Which {
@@ -102,6 +107,11 @@ fn look(journal: &[u8], names: &Names, which: Which, mut each: impl FnMut(Moment
     }
 }
 
+/// What is said of a record that is not in a journal yet; `past` is what came before it.
+pub fn told(step: &Step, names: &Names, past: &Past) -> Told {
+    Moment { step, names, past }.told()
+}
+
 impl<'a> Moment<'a> {
     /// The tables before the record.
     fn before(&self) -> Scene<'a> {
@@ -138,7 +148,11 @@ impl<'a> Moment<'a> {
             return Told { title, names, facts, chain: Vec::new(), counsel: Counsel::default(), step };
         };
         let title = format!("{}.", asked::asked(call, before, true));
-        let mut facts = outcome::outcome(call, before, &step.after, self.past.closing);
+        // What the record makes is not called as the thing before it under its number was.
+        let mut lives = self.past.lives.clone();
+        lives.follow(&step);
+        let now = Scene { monitor: &step.after, lives: &lives, ..before };
+        let mut facts = outcome::outcome(call, before, now, self.past.closing);
         let letter = if matches!(step.answer, Answer::Lowered(_)) { "Lowered." } else { "Allowed." };
         match facts.first_mut() {
             Some(first) => *first = format!("{letter} {first}"),
@@ -202,11 +216,7 @@ pub fn explain(journal: &[u8], names: &Names, which: Which) -> Result<String, Di
         end.allowed, end.lowered, end.refused, end.made, end.gone, end.open
     ));
     if has_ways {
-        text.push_str(&paragraph(
-            "",
-            "The answers are the proved gatekeeper's. What to do is advice of gk and not proved; every advice that \
-             names calls was tried on a copy of the tables as they were before its record, and was allowed there.",
-        ));
+        text.push_str(&paragraph("", ADVICE));
     }
     Ok(text)
 }

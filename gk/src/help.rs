@@ -15,12 +15,12 @@ A first try:
   printf 'admit 0 9\\nregister 1 2\\nopen-read 0 1 0\\nread 0 0\\n' | tools/gk assemble | tools/gk run
   tools/gk explain --refused crates/payrun/stdin
 
-FILE is read from standard input if it is - or not given; screen needs a file or -. With -o FILE the output
-goes to a file, which is written whole or not at all and replaces no input; -o - is standard output. screen
-has no -o. gk --version has the version of the gatekeeper that gives the answers.
-Exit status: 0 if all went well, whatever the replies; 1 for a bad text, a failed read or write, or a
-standard input or output that is closed; 2 for a bad command line; 141, without a word, where the reader of
-the output has stopped. In the repository's folder gk is tools/gk, which builds it first.
+FILE is read from standard input if it is - or not given; screen needs a file or -, and line takes a line in
+its place. With -o FILE the output goes to a file, which is written whole or not at all and replaces no input;
+-o - is standard output. screen has no -o. gk --version has the version of the gatekeeper that gives the answers.
+Exit status: 0 if all went well, whatever the replies; 1 for a bad text, a line that is refused as such (18, 19), a
+failed read or write, or a standard input or output that is closed; 2 for a bad command line; 141, without a word,
+where the reader of the output has stopped. In the repository's folder gk is tools/gk, which builds it first.
 ";
 
 /// Pages that are no command's.
@@ -120,6 +120,90 @@ Example:
   printf '\\003\\001\\000\\011\\200\\000' | tools/gk disassemble
     admit 0 9
     bytes 80 00              # refusal 11: the length is longer than it need be; the run stops here
+";
+
+pub const LINE: &str = "\
+gk line - a typed line, each call with its answer
+
+Usage: gk line [--after JOURNAL | --set-up TEXT] [--shell N] [--child N] [--pipe N] [--refused]
+               [--append JOURNAL] [--names FILE] [-o FILE] ['LINE']
+
+A line is what a clerk types at month end. Programs, files and pipes stand in it as numbers:
+  3 < 1 > 0      a stage: program 3, which reads file 1 and writes file 0. < and > may be left out; < is first
+  3 < 1 | 4 > 0  a pipeline: at most eight stages, a pipe between each two
+  3 < 1 ; 4 > 0  pipelines, one after the other
+A number has no zeros in front and no commas. Spaces may stand anywhere but inside a number. On the command line
+the line stands in quotes; where it is not given, or -, it is read from standard input.
+
+For each pipeline the shell makes the pipes and forks a child for each stage. A child closes the ends of pipes
+that it does not use, opens what it reads at place 14 and what it writes at place 15, and runs its program. Then
+the shell closes its ends, and the children exit. A call that is refused does not stop the line.
+All of it is tried on a copy of the tables: nothing is run. Of each call is said what gk explain says of it.
+A line that is not of this form is refused (18), and so is one with a longer pipeline (19): standard error shows
+where, no call is made, and the exit status is 1.
+
+  --after JOURNAL   try it after this journal; - is standard input
+  --set-up TEXT     try it after the calls of this text, see gk help assemble; - is standard input
+  --shell N         the shell is step N; else the lowest step that is there
+  --child N         the first child is step N; else the lowest number from which on enough are free
+  --pipe N          the first pipe is pipe N; else the lowest from which on enough are free and not in the line
+  --refused         only the calls that were refused, and the end
+  --append JOURNAL  put the calls behind the records of this journal, all of them or none. Without --after and
+                    --set-up the line is tried after this very journal, as is meant. The file is replaced:
+                    not for a journal that a host has open, whose next records would be lost
+  --names FILE      the names of steps, files and pipes; else run.names beside run.journal, if it is there
+  -o FILE           write to this file
+
+Examples: a program that reads the checked hours
+  tools/gk line --set-up gk/examples/month-end.txt '3 < 2'
+    Tried on a copy of the tables after 8 records. Shell: shell (step 0), the lowest that is there.
+        Children: from step 1 on, the lowest that are free. No pipes.
+    Pipeline 1: 3 < 2
+    9. shell (step 0) forks step 1.
+      Allowed. Step 1 starts at level 12 with no handles.
+    10. Step 1 opens the checked hours (file 2) for reading at place 14.
+      Allowed. The checked hours has level 12; step 1 keeps level 12 until it reads.
+    11. Step 1 runs the pay programs (file 3).
+      Allowed. Step 1 stays at level 12.
+    The exits:
+    12. Step 1 exits.
+      Allowed. Its last level was 12; 1 handle is closed. Its number is free.
+    End of the line: 4 allowed, 0 lowered, 0 refused.
+    Handles: 1 made, 1 gone, 0 still open.
+What was refused in March: a stage reads an hours sheet that nobody has checked, and the next one writes the pay book
+  tools/gk line --refused --set-up gk/examples/month-end.txt '3 < 1 | 3 > 0'
+    Tried on a copy of the tables after 8 records. Shell: shell (step 0), the lowest that is there.
+        Children: from step 1 on, the lowest that are free. Pipes: from number 7 on, the lowest that are
+        free and not in the line.
+    Pipeline 1: 3 < 1 | 3 > 0
+    Stage 2: 3 > 0
+    16. Step 2 may not open the pay book (file 0) for writing at place 15: what the hours sheet of shop
+        3 has could get there through it.
+      Refused (9): low data could reach a higher file. Nothing is opened.
+      The hours sheet of shop 3 has level 2, and the pay book takes nothing from below level 9.
+      The chain, found by gk and not proved:
+        the hours sheet of shop 3 (level 2) → step 1 (level 12) → pipe 7 (level 12) → step 2 (level 12)
+          → the pay book (level 9)
+      What to do: close place 0 (reading pipe 7) of step 2; open it after that.
+      Or: let step 2 fork a step, number 3 is free, which closes place 0 and opens it.
+      Or: admit a step at level 9 or above, number 3 is free, and let it open it.
+    End of the line: 12 allowed, 0 lowered, 1 refused.
+    Handles: 7 made, 7 gone, 0 still open.
+    The answers are the proved gatekeeper's. What to do is advice of gk and not proved; every advice
+        that names calls was tried on a copy of the tables as they were before its record, and was
+        allowed there.
+The way out: the sheet goes to a list for a clerk, by itself; the pay book is made of the checked hours
+  tools/gk line --refused --set-up gk/examples/month-end.txt '3 < 1 > 6 ; 3 < 2 | 3 > 0'
+    Tried on a copy of the tables after 8 records. Shell: shell (step 0), the lowest that is there.
+        Children: from step 1 on, the lowest that are free. Pipes: from number 7 on, the lowest that are
+        free and not in the line.
+    End of the line: 18 allowed, 0 lowered, 0 refused.
+    Handles: 10 made, 10 gone, 0 still open.
+Lines that go into a journal
+  tools/gk assemble gk/examples/month-end.txt -o month.journal
+  tools/gk line --append month.journal '3 < 1 > 6'
+  tools/gk line --append month.journal '3 < 2 | 3 > 0'
+  tools/gk explain --summary month.journal
 ";
 
 pub const NAMES: &str = "\

@@ -11,11 +11,13 @@
 //! | [`names`] | names for steps, files and pipes, and the file that keeps them |
 //! | [`assembly`], [`disassembly`] | journals as text |
 //! | [`explain`] | all of it in sentences, as a summary, or as JSON |
+//! | [`line`] | a typed line, each of its calls with its answer |
 
 pub mod assembly;
 pub mod cli;
 pub mod disassembly;
 pub mod explain;
 pub mod help;
+pub mod line;
 pub mod names;
 pub mod text;

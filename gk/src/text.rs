@@ -24,7 +24,7 @@ fn visible(character: char) -> String {
 
 /// The part of a line around a column, counted from 1, as it may stand in a message; and the blanks that put a
 /// mark under the column. Tabs stay tabs.
-pub fn excerpt(line: &str, column: usize) -> (String, String) {
+fn excerpt(line: &str, column: usize) -> (String, String) {
     let line = line.trim_end();
     let first = (column - 1).saturating_sub(MOST_SHOWN);
     let (mut part, mut blanks) = (String::new(), String::new());
@@ -46,6 +46,14 @@ pub fn excerpt(line: &str, column: usize) -> (String, String) {
     // A column behind the line's last character.
     blanks.push_str(&" ".repeat((column - 1).saturating_sub(length.max(first))));
     (part, blanks)
+}
+
+/// The part of a line around a column, counted from 1, and marks under so many characters from there on, as far as they
+/// are shown: two lines, indented. The marks stand under plain characters.
+pub fn marked(line: &str, column: usize, count: usize) -> String {
+    let (part, blanks) = excerpt(line, column);
+    let shown = part.trim_end_matches('…').chars().count().saturating_sub(blanks.chars().count());
+    format!("    {part}\n    {blanks}{}\n", "^".repeat(count.min(shown).max(1)))
 }
 
 /// The words that someone who typed this one may have meant: the same but for the letters' size, those that start

@@ -10,6 +10,7 @@ use common::{err, gk, journals, out, Folder, ROOT};
 use gk::{cli, help};
 
 const MARCH: &str = "crates/payrun/stdin";
+/// Those that read a file; `line` takes a line in its place.
 const COMMANDS: [&str; 4] = ["run", "explain", "assemble", "disassemble"];
 
 #[test]
@@ -19,7 +20,8 @@ fn help_teaches_with_an_example() {
         assert_eq!((output.status.code(), out(&output)), (Some(0), cli::whole_help()));
     }
     let helps = cli::helps();
-    assert_eq!(helps.iter().map(|(word, _)| *word).collect::<Vec<&str>>(), COMMANDS);
+    let words: Vec<&str> = helps.iter().map(|(word, _)| *word).collect();
+    assert_eq!(words, [&COMMANDS[..], &["line"]].concat());
     for (command, text) in helps {
         assert!(cli::whole_help().contains(&format!("  {command} ")), "{command}");
         assert!(text.contains("Example"), "{command}");
@@ -81,7 +83,7 @@ fn the_examples_of_the_help_run() {
             tried += 1;
         }
     }
-    assert!(tried >= 14, "only {tried} examples were found");
+    assert!(tried >= 21, "only {tried} examples were found");
     assert!(folder.files().contains(&"march.names".to_string()));
 }
 
@@ -108,6 +110,19 @@ fn a_bad_command_line_has_status_2() {
         (&["disassemble", "--json"], "there is no option \"--json\""),
         (&["assemble", "--names", "-"], "--names needs a file, not standard output"),
         (&["--version", "x"], "expected nothing behind it, found \"x\""),
+        (&["line", "3", "<", "1"], "expected one line, found \"<\" as well: put the line in quotes"),
+        (&["line", "--shell"], "--shell needs a number behind it"),
+        (&["line", "--child", "x", "3"], "--child needs a number behind it, found \"x\""),
+        (&["line", "--pipe", "18446744073709551616", "3"], "--pipe needs a number behind it"),
+        (&["line", "--after"], "--after needs a file behind it"),
+        (&["line", "--after", MARCH, "--set-up", "/dev/null", "3"], "do not go together"),
+        (&["line", "--set-up", "/dev/null", "--names", "x", "3"], "--names goes with a journal"),
+        (&["line", "--names", "x", "3"], "--names goes with a journal"),
+        (&["line", "--after", "-"], "standard input cannot be two things"),
+        (&["line", "--set-up", "-", "-"], "standard input cannot be two things"),
+        (&["line", "--append", "-", "3"], "--append needs a file, not standard output"),
+        (&["line", "-3"], "there is no option \"-3\""),
+        (&["lines"], "Did you mean: line"),
     ];
     for (arguments, words) in wrong {
         let output = gk(arguments, b"");
@@ -214,6 +229,14 @@ fn an_output_replaces_no_input() {
         "assemble run.txt -o run.txt",
         "assemble -o run.txt <run.txt",
         "assemble run.txt -o other.journal --names run.txt",
+        "line --after run.journal -o run.journal 3",
+        "line --after run.journal -o run.names 3",
+        "line --after run.journal --names run.names -o run.names 3",
+        "line --append run.journal -o link 3",
+        "line --set-up /dev/null --append run.journal -o run.journal 3",
+        "line --set-up run.txt -o run.txt 3",
+        "line --set-up - -o run.txt 3 <run.txt",
+        "line --set-up run.txt -o run.journal <run.journal",
     ] {
         let output = Command::new("bash")
             .args(["-c", &format!("'{}' {line}", env!("CARGO_BIN_EXE_gk"))])
@@ -236,7 +259,17 @@ fn a_closed_input_has_status_1_where_it_is_to_be_read() {
     let folder = Folder::new("closed");
     let levels = format!("{ROOT}/gk/trace/tests/runs/pay.levels");
     let trace = format!("trace --levels '{levels}' -o a.journal");
-    for line in ["run", "explain -", "disassemble", "assemble -o a.journal", &trace, "screen -"] {
+    for line in [
+        "run",
+        "explain -",
+        "disassemble",
+        "assemble -o a.journal",
+        "line",
+        "line --after - 3",
+        "line --set-up - 3",
+        &trace,
+        "screen -",
+    ] {
         let line = format!("'{}' {line} <&-", env!("CARGO_BIN_EXE_gk"));
         let output = Command::new("bash").args(["-c", &line]).current_dir(&folder.0).output().unwrap();
         assert_eq!((output.status.code(), out(&output)), (Some(1), String::new()), "{line}");
@@ -314,6 +347,11 @@ fn what_is_foreign_is_shown_escaped_and_cut() {
         (&["explain", "no/such/\x1b[2J"], b""),
         (&["explain", "--names", "no/such/\x1b[2J"], b""),
         (&["run", "-o", "no/such/\x1b[2J"], b""),
+        (&["line", "3 \x1b[2J"], b""),
+        (&["line"], b"3 < \x9b\xff\x07"),
+        (&["line", "--shell", "\x1b[2J", "3"], b""),
+        (&["line", "--after", "no/such/\x1b[2J", "3"], b""),
+        (&["line"], long.as_bytes()),
         (&[&word], b""),
     ];
     for (arguments, input) in wrong {

@@ -193,7 +193,7 @@ fn every_journal_comes_back_with_names() {
         for _ in 0..60 {
             let kind = Kind::ALL[drawn(3) as usize];
             let called = ["a", "b 2", "c", "d", "e-5", "f"][drawn(6) as usize];
-            names.give(kind, drawn(8) as u64, 1 + drawn(records), Name::new(called).unwrap());
+            names.give(kind, drawn(8), 1 + drawn(records), Name::new(called).unwrap());
         }
         let text = disassemble(&journal, &names);
         let again = assemble(text.as_bytes()).unwrap();
@@ -286,14 +286,14 @@ fn a_name_is_not_taken_for_that_of_the_next_thing() {
             "3. sheet (file or pipe 2) is retired".replace("file or pipe", "file").as_str(),
             "4. intake (step 1) exits",
             "5. intake (step 1) may not read",
-            "6. Step 1 is admitted from outside at level 4.",
+            "6. Step 1 is admitted from outside at level 4.\n  Allowed. Step 1 runs at level 4, with no handles.",
             "7. Step 1 exits",
             "8. reader (step 1) is admitted",
             "9. reader (step 1) makes line (pipe 2), reading",
             "Allowed. line is empty and starts at the level of reader, 5.",
         ],
     );
-    assert_eq!(told.matches("intake").count(), 6, "{told}");
+    assert_eq!(told.matches("intake").count(), 5, "{told}");
 }
 
 #[test]

@@ -145,7 +145,7 @@ static void so_many_live(void)
     REFUSED(TOO_MANY_OBJECTS, CONNECT, 0, 1, 8, 9, 16, 16);
     HOLDS(strcmp(gatekeeper_refusal_text(GATEKEEPER_TOO_MANY_OBJECTS),
                  "only 64 files and pipes may be live: retire a file or end a pipe") == 0);
-    HOLDS(strcmp(gatekeeper_refusal_text(18), "no refusal") == 0);
+    HOLDS(strcmp(gatekeeper_refusal_text(20), "no refusal") == 0);
 
     /* a retired file makes space for one more, and an ended pipe for another */
     ALLOWED(9, RETIRE, 0);

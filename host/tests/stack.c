@@ -3,10 +3,11 @@
  * is no longer painted afterwards has been used. Prints the most that each took, and fails where one took more than
  * GATEKEEPER_STACK_BYTES. tools/hosts builds and runs it.
  *
- * The calls are those of many drawn lists, from an empty monitor and from drawn bytes, on bytes and on the struct, and
- * journals of the greatest length, so that every code, answer and refusal is met. What is seen is what these calls
- * took: no proof.
+ * The calls are those of many drawn lists and of drawn lines, from an empty monitor and from drawn bytes, on bytes and on
+ * the struct, and journals of the greatest length and long lines, so that every code, answer and refusal is met. What is
+ * seen is what these calls took: no proof.
  */
+#include <inttypes.h>
 #include <pthread.h>
 #include <stdio.h>
 #include <stdlib.h>
@@ -14,7 +15,7 @@
 
 #include "gatekeeper.h"
 
-enum { STACK = 8 << 20, PAINT = 0xa5, LISTS = 400, CALLS = 400, JOURNALS = 12, NUMBERS_AT = 1841 };
+enum { STACK = 8 << 20, PAINT = 0xa5, LISTS = 400, CALLS = 400, JOURNALS = 12, LINES = 8, NUMBERS_AT = 1841 };
 
 static uint8_t *stack;       /* the thread's, painted */
 static const uint8_t *above; /* where the thread stands when it calls */
@@ -23,8 +24,11 @@ static uint8_t state[GATEKEEPER_STATE_BYTES];
 static struct gatekeeper_monitor monitor;
 static uint8_t journal[GATEKEEPER_JOURNAL_BYTES];
 static uint8_t reply[GATEKEEPER_REPLY_ROOM];
+static char line[20000];
 static unsigned long met[256]; /* how many answers had each value, refused ones from 128 on */
 static unsigned long quick[2]; /* how many opens, and closes, were allowed in place */
+static unsigned long typed[3]; /* how many calls of lines were allowed, lowered and refused */
+static unsigned long ended[3]; /* how many lines were run, refused with 18 and with 19 */
 
 /* A drawn number below a limit. */
 static uint32_t drawn(uint32_t limit)
@@ -161,6 +165,90 @@ static void quick_calls(void)
     }
 }
 
+static void note_line(struct gatekeeper_line_outcome outcome)
+{
+    typed[0] += outcome.allowed;
+    typed[1] += outcome.lowered;
+    typed[2] += outcome.refused;
+    ended[outcome.refusal == 0 ? 0 : outcome.refusal == GATEKEEPER_LINE_BROKEN ? 1 : 2]++;
+}
+
+/* A drawn line of a few pipelines, now and then with too many stages, or with a byte that does not fit; its length. */
+static size_t draw_line(void)
+{
+    size_t length = 0;
+    for (uint32_t left = 1 + drawn(3); left > 0; left--) {
+        uint32_t stages = drawn(20) ? 1 + drawn(8) : 9;
+        for (uint32_t stage = 0; stage < stages; stage++) {
+            length += (size_t)sprintf(line + length, "%s%" PRIu64, stage ? " | " : "", object(6));
+            if (drawn(2))
+                length += (size_t)sprintf(line + length, " <%" PRIu64, object(6));
+            if (drawn(2))
+                length += (size_t)sprintf(line + length, " >%" PRIu64, object(6));
+        }
+        if (left > 1)
+            line[length++] = ';';
+    }
+    if (drawn(8) == 0)
+        line[drawn((uint32_t)length)] = (char)drawn(256);
+    return length;
+}
+
+/* Many times one text, and a 7 as its last byte; its length. */
+static size_t draw_long_line(int which)
+{
+    static const char *const texts[] = {" ", "9", "1;", "1|", "<1", "0<0>0|1;"};
+    const char *text = texts[which % 6];
+    size_t length = 0;
+    while (length + strlen(text) < sizeof line) {
+        memcpy(line + length, text, strlen(text));
+        length += strlen(text);
+    }
+    line[length - 1] = '7';
+    return length;
+}
+
+static void one_line(size_t length)
+{
+    uint64_t shell = drawn(6), child = drawn(10) ? drawn(32) : UINT64_MAX, pipe = object(6);
+    note_line(gatekeeper_line(state, sizeof state, (const uint8_t *)line, length, shell, child, pipe));
+}
+
+static void one_monitor_line(size_t length)
+{
+    uint64_t shell = drawn(6), child = drawn(10) ? drawn(32) : UINT64_MAX, pipe = object(6);
+    note_line(gatekeeper_monitor_line(&monitor, (const uint8_t *)line, length, shell, child, pipe));
+}
+
+/* Lines after some calls, and long ones. */
+static void typed_lines(void)
+{
+    for (int list = 0; list < LISTS; list++) {
+        if (list % 2 != 0)
+            draw_state();
+        else if (!gatekeeper_empty(state, sizeof state))
+            exit(1);
+        for (int call = 0; call < 100; call++)
+            one_call();
+        for (int count = 0; count < LINES; count++)
+            one_line(list < 2 && count < 6 ? draw_long_line(count) : draw_line());
+    }
+}
+
+static void monitor_lines(void)
+{
+    for (int list = 0; list < LISTS; list++) {
+        if (list % 2 == 0)
+            gatekeeper_monitor_empty(&monitor);
+        else
+            draw_monitor(list % 4 == 1);
+        for (int call = 0; call < 100; call++)
+            one_monitor_call();
+        for (int count = 0; count < LINES; count++)
+            one_monitor_line(list < 2 && count < 6 ? draw_long_line(count) : draw_line());
+    }
+}
+
 static void empty(void)
 {
     if (!gatekeeper_empty(state, sizeof state))
@@ -290,6 +378,8 @@ int main(void)
                  {"gatekeeper_monitor_call", monitor_calls},
                  {"gatekeeper_monitor_step", monitor_steps},
                  {"gatekeeper_quick_open, close", quick_calls},
+                 {"gatekeeper_line", typed_lines},
+                 {"gatekeeper_monitor_line", monitor_lines},
                  {"gatekeeper_monitor_empty", monitor_empty},
                  {"gatekeeper_monitor_assure", assures},
                  {"gatekeeper_made, gone", counts},
@@ -316,6 +406,10 @@ int main(void)
         }
     if (quick[0] == 0 || quick[1] == 0) {
         fputs("stack: no drawn open, or no drawn close, was allowed in place\n", stderr);
+        return 1;
+    }
+    if (typed[0] == 0 || typed[1] == 0 || typed[2] == 0 || ended[0] == 0 || ended[1] == 0 || ended[2] == 0) {
+        fputs("stack: no call of a drawn line was allowed, lowered or refused, or no line was run or refused\n", stderr);
         return 1;
     }
     printf("the most: %zu of %d bytes\n", most, GATEKEEPER_STACK_BYTES);

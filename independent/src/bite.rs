@@ -1,6 +1,8 @@
 //! Shows that the generated journals find mistakes: for each wrong variant, how many of them it takes
 //! until its replies differ from the right ones.
 
+pub mod lines;
+
 use crate::generate::{journal, Wish};
 use crate::replies::{replies, Run};
 use crate::variants::{Rules, Variant, ALL};
@@ -46,20 +48,25 @@ fn differs(journal: &[u8], rules: Rules, right: &str) -> bool {
     rest != run.end_line()
 }
 
-/// The table of the bites, in the order of the variants, and a line that sums it up.
-pub fn table(bites: &[Bite], journals: u64) -> String {
+/// The table of the bites, in the order of the variants.
+pub fn table(bites: &[Bite]) -> String {
     let width = bites.iter().map(|bite| bite.name.len()).max().unwrap_or(0);
     let mut text = format!("{:<width$}  journals  what it does wrong\n", "variant");
     for bite in bites {
         let count = bite.journals.map_or("never".to_string(), |count| count.to_string());
         text.push_str(&format!("{:<width$}  {count:>8}  {}\n", bite.name, bite.what));
     }
+    text
+}
+
+/// What sums the table up.
+pub fn summary(bites: &[Bite], journals: u64) -> String {
     let missed = bites.iter().filter(|bite| bite.journals.is_none()).count();
     let most = bites.iter().filter_map(|bite| bite.journals).max().unwrap_or(0);
-    text.push_str(&if missed == 0 {
-        format!("All {} variants told apart, the last after {most} journals.\n", bites.len())
+    let count = bites.len();
+    if missed == 0 {
+        format!("All {count} variants told apart, the last after {most} journals")
     } else {
-        format!("{missed} of {} variants not told apart in {journals} journals.\n", bites.len())
-    });
-    text
+        format!("{missed} of {count} variants not told apart in {journals} journals")
+    }
 }

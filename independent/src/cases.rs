@@ -2,7 +2,10 @@
 //! mappings (RULES C14, C111), of two-way channels (RULES C17, R16) and of the host's own file numbers (RULES T2, R3,
 //! R4, R17, J5 to J7), DWARF's examples of numbers, and numbers at the limit.
 //!
-//! The replies stand here as the rules settle them; they are not worked out by this program.
+//! The replies stand here as the rules settle them; they are not worked out by this program. Typed lines have cases of
+//! their own, in `lines`.
+
+pub mod lines;
 
 use crate::calls::shape_of_word;
 use crate::tables::LIMITS;

@@ -8,12 +8,15 @@ use std::process::ExitCode;
 use std::time::{Duration, SystemTime, UNIX_EPOCH};
 
 use crate::bite;
+use crate::cases::lines::{LineCase, LINE_CASES};
 use crate::cases::{self, Case};
 use crate::compare::{self, Program};
 use crate::generate::{self, Style, Wish, STYLES};
 use crate::help;
-use crate::replies::{replies_by, LONGEST_JOURNAL};
+use crate::lines::{run_by, Start};
+use crate::replies::{monitor_after, replies_by, LONGEST_JOURNAL};
 use crate::text::{indented, meant, shown};
+use crate::variants::lines::{LineRules, LINES};
 use crate::variants::{Rules, ALL};
 use crate::words::words_of;
 
@@ -71,6 +74,7 @@ fn dispatch(arguments: Vec<OsString>) -> Done {
     }
     match command.as_str() {
         "run" => run(rest),
+        "line" => line_command(rest),
         "cases" => cases_command(rest),
         "generate" => generate_command(rest),
         "compare" => compare_command(rest),
@@ -247,10 +251,41 @@ fn rules_of(arguments: &Arguments) -> Result<Rules, Failure> {
     Rules::named(&name).ok_or_else(unknown)
 }
 
+/// Runs a typed line and says each call with its answer.
+fn line_command(arguments: Vec<OsString>) -> Done {
+    let valued = ["--journal", "--shell", "--child", "--pipe", "--variant"];
+    let arguments = Arguments::sort("line", arguments, &valued, &[])?;
+    let line = match arguments.files.as_slice() {
+        [line] => line.as_encoded_bytes(),
+        [] => return Err(arguments.wrong("expected a LINE")),
+        _ => return Err(arguments.wrong("expected one LINE, in quotes where it has spaces or signs")),
+    };
+    let number = |option: &str, default: u64| Ok(arguments.number(option)?.unwrap_or(default));
+    let start =
+        Start { shell: number("--shell", 0)?, child: number("--child", 1)?, pipe: number("--pipe", 64)? };
+    let rules = match arguments.value("--variant").map(|name| name.to_string_lossy()) {
+        None => LineRules::default(),
+        Some(name) => LineRules::named(&name).ok_or_else(|| {
+            let name = shown(&name);
+            let message = format!("there is no variant \"{name}\" of lines. Type: second variants --lines");
+            Failure::Usage(message)
+        })?,
+    };
+    let journal = match arguments.value("--journal") {
+        Some(path) => read_journal(Some(path))?,
+        None => Vec::new(),
+    };
+    let mut monitor = monitor_after(&journal);
+    write_output(run_by(&mut monitor, line, start, rules).text().as_bytes())
+}
+
 fn cases_command(arguments: Vec<OsString>) -> Done {
-    let switches = ["--hex", "--replies", "--journal", "--numbers"];
+    let switches = ["--hex", "--replies", "--journal", "--numbers", "--lines"];
     let arguments = Arguments::sort("cases", arguments, &[], &switches)?;
     let name = arguments.file()?.map(|name| name.to_string_lossy().into_owned());
+    if arguments.switches == ["--lines"] {
+        return line_cases(&arguments, name.as_deref());
+    }
     let chosen: Vec<Case> = match &name {
         None => cases::all(),
         Some(name) => match cases::named(name) {
@@ -265,7 +300,10 @@ fn cases_command(arguments: Vec<OsString>) -> Done {
     let mode = match arguments.switches.as_slice() {
         [] => "",
         [mode] => mode,
-        _ => return Err(arguments.wrong("expected one of --hex, --replies, --journal and --numbers")),
+        _ => {
+            let modes = "expected one of --hex, --replies, --journal, --numbers and --lines";
+            return Err(arguments.wrong(modes));
+        }
     };
     if mode == "--numbers" {
         if name.is_some() {
@@ -288,6 +326,17 @@ fn cases_command(arguments: Vec<OsString>) -> Done {
         }
     }
     write_output(&output)
+}
+
+fn line_cases(arguments: &Arguments, name: Option<&str>) -> Done {
+    let chosen: Vec<&LineCase> =
+        LINE_CASES.iter().filter(|case| name.is_none_or(|name| name == case.name)).collect();
+    if chosen.is_empty() {
+        let name = shown(name.unwrap_or(""));
+        return Err(arguments.wrong(&format!("there is no case \"{name}\" of lines")));
+    }
+    let text: String = chosen.iter().map(|case| case.text()).collect();
+    write_output(text.as_bytes())
 }
 
 fn case_text(case: &Case) -> String {
@@ -334,21 +383,37 @@ fn style_of(arguments: &Arguments) -> Result<Style, Failure> {
 }
 
 fn variants_command(arguments: Vec<OsString>) -> Done {
-    let arguments = Arguments::sort("variants", arguments, &[], &[])?;
+    let arguments = Arguments::sort("variants", arguments, &[], &["--lines"])?;
     arguments.no_files()?;
-    let width = ALL.iter().map(|(_, name, _)| name.len()).max().unwrap_or(0);
-    let lines: String = ALL.iter().map(|(_, name, what)| format!("{name:<width$}  {what}\n")).collect();
+    let listed: Vec<(&str, &str)> = if arguments.switches.is_empty() {
+        ALL.iter().map(|&(_, name, what)| (name, what)).collect()
+    } else {
+        LINES.iter().map(|&(_, name, what)| (name, what)).collect()
+    };
+    let width = listed.iter().map(|(name, _)| name.len()).max().unwrap_or(0);
+    let lines: String = listed.iter().map(|(name, what)| format!("{name:<width$}  {what}\n")).collect();
     write_output(lines.as_bytes())
 }
 
 fn bite_command(arguments: Vec<OsString>) -> Done {
-    let arguments = Arguments::sort("bite", arguments, &["--seed", "--journals"], &[])?;
+    let arguments = Arguments::sort("bite", arguments, &["--seed", "--journals", "--lines"], &[])?;
     arguments.no_files()?;
     let seed = arguments.number("--seed")?.unwrap_or(1);
     let journals = arguments.number("--journals")?.unwrap_or(2000);
-    let bites = bite::bite(seed, journals);
-    write_output(bite::table(&bites, journals).as_bytes())?;
-    match bites.iter().filter(|bite| bite.journals.is_none()).count() {
+    let lines = arguments.number("--lines")?.unwrap_or(2000);
+    let of_journals = bite::bite(seed, journals);
+    write_output(format!("{}\n", bite::table(&of_journals)).as_bytes())?;
+    let of_lines = bite::lines::bite(seed, lines);
+    let text = format!(
+        "{}{}; {}.\n",
+        bite::lines::table(&of_lines),
+        bite::summary(&of_journals, journals),
+        bite::lines::summary(&of_lines, lines)
+    );
+    write_output(text.as_bytes())?;
+    let missed = of_journals.iter().filter(|bite| bite.journals.is_none()).count()
+        + of_lines.iter().filter(|bite| bite.told().is_none()).count();
+    match missed {
         0 => Ok(()),
         missed => Err(Failure::Failed(format!("bite: {missed} variants were not told apart"))),
     }

@@ -6,7 +6,7 @@
 //! wrong, records are damaged, tables fill up, pipes form chains and rings, and journals take every length up to 65,537
 //! bytes, as the style says. In every second journal the books are closed now and then, for a few calls; in most of them
 //! launchers mark what they opened and run programs below it, importers map sheets that others write to, and print
-//! stations are connected.
+//! stations are connected. Typed lines, with calls that come before them, are in `lines`.
 
 mod arrangements;
 mod channels;
@@ -15,6 +15,7 @@ mod damage;
 mod draws;
 mod imports;
 mod launches;
+pub mod lines;
 mod stores;
 
 use crate::calls::filled;

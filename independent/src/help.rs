@@ -10,11 +10,12 @@ byte for byte.
 Usage: second COMMAND [OPTIONS] [FILE]
 
   run          the replies to a journal
+  line         the calls of a typed line, with their answers
   cases        the worked cases of the rules, with their replies
   generate     a journal by seed
   compare      another program beside this one, on the cases and on generated journals
-  variants     the wrong programs that the generated journals must tell apart
-  bite         how many generated journals it takes to tell each of them apart
+  variants     the wrong programs that the generated journals and lines must tell apart
+  bite         how many of these it takes to tell each of them apart
 
 A first try:
   tools/second run crates/payrun/stdin
@@ -29,6 +30,7 @@ in words, and replies explained, there is tools/gk.
 /// Every command with its help text.
 pub const COMMANDS: &[(&str, &str)] = &[
     ("run", RUN),
+    ("line", LINE),
     ("cases", CASES),
     ("generate", GENERATE),
     ("compare", COMPARE),
@@ -55,10 +57,45 @@ Example, the journal of RULES K17:
     end 1 0 1
 ";
 
+const LINE: &str = "\
+second line - the calls of a typed line, with their answers
+
+Usage: second line [--journal FILE] [--shell N] [--child N] [--pipe N] [--variant NAME] LINE
+
+LINE is what a clerk types (RULES L1 to L5): the numbers of programs, each with `< N` and `> N` behind it or
+not, with `|` between the stages of a pipeline and `;` between pipelines. Put it in quotes. Its calls are
+made and printed in their order, each with A (allowed), L (lowered) or R (refused), and the level or the
+refusal number. The last line is `counts`, with how many were allowed, lowered and refused, or `refusal`
+with 18 or 19, and then no call was made.
+
+  --journal FILE  make them after the calls of this journal; without it, from nothing
+  --shell N       the subject that is the shell (0)
+  --child N       the first child's number (1)
+  --pipe N        the first pipe's number (64)
+  --variant NAME  by a rule that is wrong on purpose; see `second variants --lines`
+
+Example, RULES K7 as a line, after file 0 at 9, file 1 at 2, subject 0 at 9 and file 2 at 9:
+  printf '\\003\\002\\000\\011\\003\\002\\001\\002\\003\\001\\000\\011\\003\\002\\002\\011' | tools/second line --journal - '2>0 | 2<1'
+    pipe 0 64 0 1: A 9
+    fork 0 1: A 9
+    close 1 0: A 9
+    open-write 1 0 15: A 9
+    exec 1 2: A 9
+    fork 0 2: A 9
+    close 2 1: A 9
+    open-read 2 1 14: A 2
+    exec 2 2: A 9
+    close 0 0: A 9
+    close 0 1: A 9
+    exit 1: A 9
+    exit 2: A 9
+    counts 13 0 0
+";
+
 const CASES: &str = "\
 second cases - the worked cases of the rules, DWARF's examples of numbers, and numbers at the limit
 
-Usage: second cases [--hex | --replies | --journal | --numbers] [NAME]
+Usage: second cases [--hex | --replies | --journal | --numbers | --lines] [NAME]
 
 Without an option: each case with what it shows, its calls and its replies. A NAME picks one case.
   --hex      a line for each case: its name and its journal in hex
@@ -66,6 +103,7 @@ Without an option: each case with what it shows, its calls and its replies. A NA
   --journal  the journal itself, for one NAME
   --numbers  DWARF's examples and the numbers at the limit alone, a line for each: the number, or
              `malformed`, and its bytes in hex
+  --lines    the cases of typed lines: the calls before, the line, and its calls with their answers
 
 Example: the same bytes for another program
   tools/second cases --journal K6 | ./run - | diff - <(tools/second cases --replies K6)
@@ -111,24 +149,28 @@ Example: a wrong program is found out
 ";
 
 const VARIANTS: &str = "\
-second variants - the wrong programs that the generated journals must tell apart
+second variants - the wrong programs that the generated journals and lines must tell apart
 
-Usage: second variants
+Usage: second variants [--lines]
 
 A line for each: its name, for `second run --variant NAME`, and what it does wrong.
+  --lines  those of typed lines, for `second line --variant NAME`
 
 Example:
   tools/second cases --journal K1 | tools/second run --variant opener-only
 ";
 
 const BITE: &str = "\
-second bite - how many generated journals it takes to tell each wrong variant apart
+second bite - how many generated journals, or lines, it takes to tell each wrong variant apart
 
-Usage: second bite [--seed N] [--journals N]
+Usage: second bite [--seed N] [--journals N] [--lines N]
 
-Exit status 1 if some variant is not told apart.
-  --seed N      which journals (1)
-  --journals N  how many at most (2000)
+Exit status 1 if some variant is not told apart. For a variant of lines it is said in what it was seen: in
+the answer, which is the refusal or the counts, the tables after the line and the tally; or, where that never
+differs, in the calls that are made.
+  --seed N      which journals and lines (1)
+  --journals N  how many journals at most (2000)
+  --lines N     how many lines at most (2000)
 
 Example:
   tools/second bite --seed 7

@@ -15,10 +15,11 @@
 //! | [`refusals`] | R: conditions and which is said |
 //! | [`numbers`], [`records`] | J: numbers and records |
 //! | [`replies`] | P: the program's reply lines |
+//! | [`lines`] | L: typed lines |
 //! | [`cases`] | K: worked cases, and DWARF's examples of numbers |
 //!
-//! Tools around it: [`generate`] (journals by seed), [`variants`] and [`bite`] (wrong programs that the generated
-//! journals must tell apart), [`compare`] and [`shrink`] (another program beside this one), [`words`] (journals as
+//! Tools around it: [`generate`] (journals and lines by seed), [`variants`] and [`bite`] (wrong programs that these
+//! must tell apart), [`compare`] and [`shrink`] (another program beside this one), [`words`] (journals as
 //! text, for the cases and for what is shown of a difference).
 
 #[doc = include_str!("../README.md")]
@@ -32,6 +33,7 @@ pub mod cli;
 pub mod compare;
 pub mod generate;
 pub mod help;
+pub mod lines;
 pub mod monitor;
 pub mod needs;
 pub mod numbers;

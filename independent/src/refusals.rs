@@ -30,6 +30,8 @@ pub fn meaning(number: u32) -> &'static str {
         15 => "the file is frozen while the books are closed",
         16 => "a step cannot be connected to itself",
         17 => "only 64 files and pipes may be live: retire a file or end a pipe",
+        18 => "the line is not well formed",
+        19 => "a pipeline has more than eight stages",
         _ => "not a refusal of this document",
     }
 }

@@ -142,6 +142,13 @@ pub fn replies(journal: &[u8]) -> String {
     replies_by(journal, Rules::default())
 }
 
+/// RULES P22: the monitor that a journal leads to.
+pub fn monitor_after(journal: &[u8]) -> Monitor {
+    let mut run = Run::new(journal, Rules::default());
+    while run.next_step().is_some() {}
+    run.monitor
+}
+
 /// The replies to a journal by other rules; see `variants`.
 pub fn replies_by(journal: &[u8], rules: Rules) -> String {
     let mut run = Run::new(journal, rules);

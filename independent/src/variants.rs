@@ -2,7 +2,8 @@
 //!
 //! `Rules` says which variant is on; by default none is, and then every function here leaves the rules
 //! as they are. Each variant is read at exactly one place: here, in `channels`, in `freeze`, in `maps`, in
-//! `marks`, in `outcomes`, in `stores`, or at the one place in the reader that it speaks of.
+//! `marks`, in `outcomes`, in `stores`, or at the one place in the reader that it speaks of. Typed lines have
+//! variants of their own, in `lines`.
 
 mod channels;
 mod freeze;
@@ -28,18 +29,23 @@ use marks::bend_marked;
 use outcomes::{bend_answer, bend_effect, bend_refused};
 use stores::{bend_space, bend_stored};
 
+/// A list of wrong programs: an enum of them, and a constant with all.
 macro_rules! variants {
-    ($($name:ident $word:literal $what:literal;)*) => {
+    ($enum:ident $all:ident; $($name:ident $word:literal $what:literal;)*) => {
         /// One wrong program.
         #[derive(Clone, Copy, Debug, PartialEq, Eq)]
-        pub enum Variant { $($name),* }
+        pub enum $enum { $($name),* }
 
         /// Every variant with its name on the command line and what it does wrong.
-        pub const ALL: &[(Variant, &str, &str)] = &[$((Variant::$name, $word, $what)),*];
+        pub const $all: &[($enum, &str, &str)] = &[$(($enum::$name, $word, $what)),*];
     };
 }
 
+// It uses the list above.
+pub mod lines;
+
 variants! {
+    Variant ALL;
     // Limits.
     Level16Allowed "level-16-allowed" "takes levels 0 to 16";
     Level15Refused "level-15-refused" "takes levels 0 to 14";

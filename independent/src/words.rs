@@ -4,7 +4,7 @@
 //! One call a line, as `open-read 0 1 2`; `call 77 1 2` is a record with any code and any numbers, `bytes 80 00` any
 //! bytes.
 
-use crate::calls::{shape_of_code, shape_of_word};
+use crate::calls::{shape_of_code, shape_of_word, Numbers};
 use crate::numbers;
 use crate::records::{self, Body, Reader};
 use crate::variants::Rules;
@@ -68,6 +68,15 @@ pub fn words_of(journal: &[u8]) -> String {
             }
         }
     }
+}
+
+/// A direct call in words, with the numbers that it uses; one of an unknown code with all of them.
+pub fn call_in_words(code: u64, numbers: &Numbers) -> String {
+    let (word, used) = match shape_of_code(code) {
+        Some(shape) => (shape.word.to_string(), shape.numbers.len()),
+        None => (format!("call {code}"), numbers.len()),
+    };
+    numbers[..used].iter().fold(word, |words, number| format!("{words} {number}"))
 }
 
 /// The body as a list of good numbers, if it is one.

@@ -3,6 +3,9 @@
 use std::io::{Read, Write};
 use std::process::{Command, Output, Stdio};
 
+use gatekeeper_independent::cases::lines::LINE_CASES;
+use gatekeeper_independent::lines::Start;
+use gatekeeper_independent::variants::lines::LINES;
 use gatekeeper_independent::{cases, help};
 
 fn second(arguments: &[&str], input: &[u8]) -> Output {
@@ -61,6 +64,48 @@ fn run_reads_standard_input_or_a_file() {
     assert_eq!(out(&output), "1 0 R 14\nend 0 0 0\n");
 }
 
+/// Each case of a line, after its journal from standard input.
+#[test]
+fn line_makes_the_calls_of_a_line() {
+    let all = out(&second(&["cases", "--lines"], b""));
+    for case in LINE_CASES {
+        let Start { shell, child, pipe } = case.start;
+        let [shell, child, pipe] = [shell, child, pipe].map(|number| number.to_string());
+        let arguments = ["line", "--journal", "-", "--shell", &shell, "--child", &child, "--pipe", &pipe];
+        let output = second(&[&arguments[..], &[case.line]].concat(), &case.journal());
+        assert_eq!((output.status.code(), out(&output)), (Some(0), case.replies()), "{}", case.name);
+        assert_eq!(out(&second(&["cases", "--lines", case.name], b"")), case.text());
+        assert!(all.contains(&case.text()), "{}", case.name);
+    }
+}
+
+#[test]
+fn a_line_starts_from_nothing_with_numbers_of_its_own() {
+    let output = second(&["line", "7|7"], b"");
+    assert_eq!(output.status.code(), Some(0));
+    assert!(out(&output).starts_with("pipe 0 64 0 1: R 2\nfork 0 1: R 2\n"), "{}", out(&output));
+    assert!(out(&output).ends_with("\ncounts 0 0 11\n"), "{}", out(&output));
+    for line in ["", " ", "1;", "\t1", "7 7", "-7"] {
+        let output = second(&["line", "--", line], b"");
+        assert_eq!((output.status.code(), out(&output)), (Some(0), "refusal 18\n".to_string()), "{line:?}");
+    }
+    let output = second(&["line", "--variant", "trailing-semicolon", "1;"], b"");
+    assert_eq!(out(&output), "fork 0 1: R 2\nexec 1 1: R 2\nexit 1: R 2\ncounts 0 0 3\n");
+    let output = second(&["line", "--journal", "no/such/file", "1"], b"");
+    assert_eq!(output.status.code(), Some(1));
+}
+
+#[test]
+fn variants_of_lines_are_listed_by_themselves() {
+    let names = |arguments: &[&str]| -> Vec<String> {
+        let text = out(&second(arguments, b""));
+        text.lines().map(|line| line.split(' ').next().unwrap_or("").to_string()).collect()
+    };
+    let own = names(&["variants", "--lines"]);
+    assert_eq!(own, LINES.iter().map(|(_, name, _)| *name).collect::<Vec<&str>>());
+    assert!(names(&["variants"]).iter().all(|name| !own.contains(name)));
+}
+
 #[test]
 fn a_bad_command_line_has_status_2() {
     let wrong: &[&[&str]] = &[
@@ -82,6 +127,14 @@ fn a_bad_command_line_has_status_2() {
         &["cases", "--numbers", "K1"],
         &["variants", "more"],
         &["bite", "--journals", "-1"],
+        &["bite", "--lines", "x"],
+        &["line"],
+        &["line", "1", "2"],
+        &["line", "--shell", "x", "1"],
+        &["line", "--variant", "none", "1"],
+        &["line", "--variant", "opener-only", "1"],
+        &["cases", "--lines", "K1"],
+        &["cases", "--lines", "--hex"],
         &["compare"],
     ];
     for arguments in wrong {
@@ -126,7 +179,7 @@ fn what_is_foreign_is_shown_escaped_and_cut() {
 #[test]
 fn a_word_that_was_meant_is_named() {
     assert!(err(&second(&["generat"], b"")).contains("Did you mean: generate"));
-    assert!(err(&second(&["payroll"], b"")).contains("The commands are: run, cases"));
+    assert!(err(&second(&["payroll"], b"")).contains("The commands are: run, line, cases"));
 }
 
 #[test]

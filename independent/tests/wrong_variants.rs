@@ -4,13 +4,14 @@ use std::collections::BTreeSet;
 use std::fs;
 use std::path::Path;
 
-use gatekeeper_independent::bite::bite;
+use gatekeeper_independent::bite::{self, bite};
 use gatekeeper_independent::calls::Call;
 use gatekeeper_independent::generate::{journal, Wish};
 use gatekeeper_independent::needs::Needs;
 use gatekeeper_independent::records::Body;
 use gatekeeper_independent::refusals::{conditions, needs_for};
 use gatekeeper_independent::replies::{Content, Run};
+use gatekeeper_independent::variants::lines::{LineRules, LINES, ONLY_BY_CALLS};
 use gatekeeper_independent::variants::{Rules, ALL};
 
 #[test]
@@ -78,14 +79,45 @@ fn sources(folder: &Path, text: &mut String) {
     }
 }
 
+/// How often the word stands in the text, not as a part of a longer one.
+fn times(text: &str, word: &str) -> usize {
+    let is_letter = |next: char| next.is_alphanumeric();
+    let is_whole = |start: usize| {
+        !text[..start].ends_with(is_letter) && !text[start + word.len()..].starts_with(is_letter)
+    };
+    text.match_indices(word).filter(|(start, _)| is_whole(*start)).count()
+}
+
 #[test]
 fn every_variant_is_read_at_exactly_one_place() {
     let mut text = String::new();
     sources(&Path::new(env!("CARGO_MANIFEST_DIR")).join("src"), &mut text);
     for (variant, name, _) in ALL {
-        let word = format!("Variant::{variant:?}");
-        let is_whole = |end: usize| !text[end..].starts_with(|next: char| next.is_alphanumeric());
-        let places = text.match_indices(&word).filter(|(start, found)| is_whole(start + found.len()));
-        assert_eq!(places.count(), 1, "{name}");
+        assert_eq!(times(&text, &format!("Variant::{variant:?}")), 1, "{name}");
     }
+    for (variant, name, _) in LINES {
+        assert_eq!(times(&text, &format!("LineVariant::{variant:?}")), 1, "{name}");
+    }
+}
+
+/// In the answer, but for those of which only the list of calls tells.
+#[test]
+fn every_variant_of_lines_is_told_apart() {
+    for seed in [1, 2] {
+        for bite in bite::lines::bite(seed, 2000) {
+            let by = if ONLY_BY_CALLS.contains(&bite.name) { "calls" } else { "answer" };
+            assert_eq!(bite.told().map(|told| told.1), Some(by), "{} with seed {seed}", bite.name);
+        }
+    }
+}
+
+#[test]
+fn variants_of_lines_have_names_of_their_own() {
+    assert!(LINES.len() >= 18);
+    for (variant, name, _) in LINES {
+        assert_eq!(LineRules::named(name), Some(LineRules::from(*variant)));
+    }
+    assert!(ONLY_BY_CALLS.iter().all(|name| LineRules::named(name).is_some()));
+    assert_eq!(LineRules::named("no-such-variant"), None);
+    assert!(LineRules::default().are_right());
 }

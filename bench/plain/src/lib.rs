@@ -14,6 +14,7 @@
 //! | [`monitor`] | the calls: each refuses, then takes effect |
 //! | [`journal`] | numbers and records |
 //! | [`mod@replies`] | the reply to a whole journal |
+//! | [`lines`] | typed lines: their calls, and how many of them were allowed, lowered and refused |
 //!
 //! To add a call: its variant, its code and its numbers in [`calls`]; a method in [`monitor`] that first refuses, in
 //! the order that [`refusals`] tells, and then takes effect; a refusal of its own in [`refusals`].
@@ -22,6 +23,7 @@
 
 pub mod calls;
 pub mod journal;
+pub mod lines;
 pub mod monitor;
 pub mod needs;
 pub mod refusals;

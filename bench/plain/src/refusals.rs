@@ -5,7 +5,7 @@
 
 use crate::tables::{slot_among, Direction, Kind, Level, Object, Place, Slots, Tables, LEVELS, NO_FREEZE};
 
-/// Why a call is refused; the number is what the answer gives.
+/// Why a call, a journal or a line is refused; the number is what the answer gives.
 #[derive(Clone, Copy, Debug, PartialEq, Eq)]
 pub enum Refusal {
     UnknownCode = 1,
@@ -24,6 +24,8 @@ pub enum Refusal {
     Frozen = 15,
     SameSubject = 16,
     TooManyObjects = 17,
+    LineBroken = 18,
+    TooManyStages = 19,
 }
 
 /// A number as an index. Where it is too large for one, it is out of every table's range.

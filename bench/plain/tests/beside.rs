@@ -172,7 +172,7 @@ fn drawn(random: &mut Random) -> u64 {
     match random.below(120) {
         0 => random.between(0, u64::MAX),
         1..10 => random.pick(&[15, 16, 31, 32, 63, 64, 1 << 32, u64::MAX]).unwrap_or(0),
-        10..30 => 1 << 32 | 64 * random.below(200),
+        10..30 => (1 << 32) | (64 * random.below(200)),
         _ => random.below(9),
     }
 }

@@ -1,4 +1,4 @@
-// A monitor and its tally as a struct that a host keeps and lends, in place of the lent bytes (RULES S1, H12, H23, H24): nothing is parsed at a call, and nothing
+// A monitor and its tally as a struct that a host keeps and lends, in place of the lent bytes (RULES S1, H12, H23, H24, H29): nothing is parsed at a call, and nothing
 // laid out. It has bytes and 66 numbers of 64 bits, each value of which is one, so that every value is a state. What can be false of it is what it says of itself
 // (RULES F19).
 ghost use mathlib.Core.Path.{_≡_};
@@ -7,9 +7,10 @@ ghost use Prim.Native.Nat.{ℕ};
 ghost use lib.ListN.{length};
 ghost use Rattle.gatekeeper.specs.View.{direct};
 ghost use Rattle.quick.specs.Parts.{Tried};
-ghost use Rattle.host.specs.Lending.{Lends, Begins, Assures};
+ghost use Rattle.host.specs.Lending.{Lends, Lends-line, Begins, Assures};
 use gatekeeper::Monitor;
 use tally::Tally;
+use typed::Outcome;
 
 // A monitor and its tally, as a host keeps them.
 #[repr(C)]
@@ -43,6 +44,32 @@ fn step(state: State, code: u64, a: u64, b: u64, c: u64, d: u64, e: u64, f: u64)
     Stepped {
         state: next,
         number: number,
+    }
+}
+
+// What a typed line hands back: the next state, and what the line came to.
+struct Lined {
+    state: State,
+    outcome: Outcome,
+}
+
+// The work of a typed line, with the state by value.
+fn line_step(state: State, line: &[u8], shell: u64, child: u64, pipe: u64) -> Lined
+    ensures { λ r. ⌜ Lends-line state (now (line .entry)) shell child pipe (r .outcome) (r .state) ⌝ }
+{
+    let m = state.monitor;
+    let t = state.tally;
+    let out = typed::counted_line(m, t, line, shell, child, pipe);
+    let left = out.monitor;
+    let counts = out.tally;
+    let outcome = out.outcome;
+    let next = State {
+        monitor: left,
+        tally: counts,
+    };
+    Lined {
+        state: next,
+        outcome: outcome,
     }
 }
 
@@ -104,6 +131,23 @@ pub extern "C" fn gatekeeper_monitor_call(
     let out = step(was, code, a, b, c, d, e, f);
     *state = out.state;
     out.number
+}
+
+// A typed line on the monitor and the tally that are lent: its calls, made one after the other, or nothing where it is refused.
+#[no_mangle]
+pub extern "C" fn gatekeeper_monitor_line(
+    state: &mut State,
+    line: &[u8],
+    shell: u64,
+    child: u64,
+    pipe: u64,
+) -> Outcome
+    ensures { λ r. ⌜ Lends-line (now (state .entry)) (now (line .entry)) shell child pipe r (now (state .exit)) ⌝ }
+{
+    let was = *state;
+    let out = line_step(was, line, shell, child, pipe);
+    *state = out.state;
+    out.outcome
 }
 
 // A state that says nothing of itself, as one that was loaded from kept bytes or changed by the host, made one that calls may rely on: what dangles is emptied, a slot that repeats a number freed, the needs are

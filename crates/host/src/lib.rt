@@ -1,4 +1,4 @@
-// The gatekeeper for a host in C or Rust (RULES S1, H4 to H15): the tables, the calls, the journal reader and writer. Each
+// The gatekeeper for a host in C or Rust (RULES S1, H4 to H15, H29): the tables, the calls, the journal reader and writer. Each
 // function below "exported" has its plain name in the archive; a slice crosses as a pointer and a length, and an answer as a number
 // (specs/Numbers.antt). The monitor with its tally crosses as lent bytes, laid out as in crate `stored`. Every byte string of that length is a
 // monitor, so that a host can hand in nothing wrong but the length, and then nothing is touched. As a struct that
@@ -18,6 +18,7 @@ ghost use Rattle.gatekeeper.specs.View.{direct};
 ghost use Rattle.stored.specs.State.{state-bytes, Sized, made-of, gone-of, blank-bytes, Blank};
 ghost use Rattle.host.specs.Numbers.{version, sized, answer-number, answer-in, record-number, roomy-number, reading-used, reading-value};
 ghost use Rattle.host.specs.Demand3.{Called};
+ghost use Rattle.host.specs.Typing.{Types};
 use answers::Answer;
 use journal::Call;
 use journal::Numbers;
@@ -29,15 +30,19 @@ use stored::GONE_AT;
 use stored::MADE_AT;
 use stored::STATE_BYTES;
 use tables::NO_FREEZE;
+use typed::Outcome;
 
 mod lent;
 mod seen;
 
 // The version, its three parts in one number (specs/Numbers.antt).
-const VERSION: u32 = 65536 * 6 + 256 * 0 + 0;
+const VERSION: u32 = 65536 * 6 + 256 * 1 + 0;
 
 // The answer to a call on bytes of another length, which is no answer of a call.
 const UNSIZED: u32 = 0;
+
+// And to a line on such bytes, which is the number of no refusal.
+const UNSIZED_LINE: u64 = 255;
 
 // ---- answers as numbers
 
@@ -118,6 +123,39 @@ pub extern "C" fn gatekeeper_call(
     let after = counted.tally;
     stored::store(state, monitor, after);
     r
+}
+
+// A typed line on the monitor and the tally that the bytes stand for: its calls, made one after the other, or nothing where it is refused; `UNSIZED_LINE`, and nothing is touched,
+// where there are more bytes or fewer.
+#[no_mangle]
+pub extern "C" fn gatekeeper_line(
+    state: &mut [u8],
+    line: &[u8],
+    shell: u64,
+    child: u64,
+    pipe: u64,
+) -> Outcome
+    ensures { λ r. ⌜ Types (now (state .entry)) (now (line .entry)) shell child pipe r (now (state .exit)) ⌝ }
+{
+    if state.len() != STATE_BYTES {
+        return Outcome {
+            allowed: 0,
+            lowered: 0,
+            refused: 0,
+            refusal: UNSIZED_LINE,
+        };
+    }
+    let m = stored::load_monitor(&state[..]);
+    let tally = stored::load_tally(&state[..]);
+    let out = typed::counted_line(m, tally, line, shell, child, pipe);
+    let outcome = out.outcome;
+    if !out.moved {
+        return outcome;
+    }
+    let monitor = out.monitor;
+    let counts = out.tally;
+    stored::store(state, monitor, counts);
+    outcome
 }
 
 // Handles made, over the history of calls; 0 where the bytes have another length.

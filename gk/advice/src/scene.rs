@@ -95,11 +95,6 @@ pub struct Scene<'a> {
 }
 
 impl<'a> Scene<'a> {
-    /// The same moment with another monitor.
-    pub fn with(self, monitor: &'a Monitor) -> Scene<'a> {
-        Scene { monitor, ..self }
-    }
-
     /// What a thing is called: its name, or its kind and number.
     pub fn thing(&self, thing: Thing) -> String {
         self.name(thing).map_or_else(|| self.number(thing), str::to_string)

@@ -1,7 +1,8 @@
 //! A journal that is still being written, as a duty screen shows it.
 
-use std::fs::File;
+use std::fs::{self, File, Metadata};
 use std::io::{self, IsTerminal, Read};
+use std::os::unix::fs::MetadataExt;
 use std::process::{Command, Stdio};
 use std::thread::sleep;
 use std::time::Duration;
@@ -89,7 +90,8 @@ enum More {
 }
 
 enum Source {
-    File(File, u64),
+    /// With its path, and how many bytes were read of it.
+    File(File, String, u64),
     Input,
 }
 
@@ -97,7 +99,7 @@ impl Source {
     fn of(path: &str) -> Result<Source, Failure> {
         match path {
             "-" => Ok(Source::Input),
-            path => Ok(Source::File(open(path)?, 0)),
+            path => Ok(Source::File(open(path)?, path.to_string(), 0)),
         }
     }
 
@@ -109,19 +111,39 @@ impl Source {
                 journal.extend(&part[..count]);
                 Ok(if count == 0 { More::End } else { More::Now })
             }
-            Source::File(file, taken) => {
+            Source::File(file, path, taken) => {
                 let count = file.read(&mut part)?;
                 journal.extend(&part[..count]);
                 *taken += count as u64;
                 let data = file.metadata()?;
                 Ok(match count {
                     0 if data.is_file() && data.len() < *taken => More::Cut,
-                    0 => More::Later,
+                    0 => match longer(path, &data, journal) {
+                        Some(other) => {
+                            *file = other;
+                            More::Now
+                        }
+                        None => More::Later,
+                    },
                     _ => More::Now,
                 })
             }
         }
     }
+}
+
+/// The file in the place of one that was read whole, where it is another one that starts with the same bytes, as
+/// `gk line --append` leaves it; behind these bytes.
+fn longer(path: &str, data: &Metadata, journal: &[u8]) -> Option<File> {
+    let there = fs::metadata(path).ok().filter(Metadata::is_file)?;
+    let is_other = (there.dev(), there.ino()) != (data.dev(), data.ino()) && data.is_file();
+    if !is_other || there.len() < journal.len() as u64 {
+        return None;
+    }
+    let mut file = File::open(path).ok()?;
+    let mut first = vec![0; journal.len()];
+    file.read_exact(&mut first).ok().filter(|()| first == journal)?;
+    Some(file)
 }
 
 /// The lines of the terminal, where that can be known.

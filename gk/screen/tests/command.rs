@@ -245,11 +245,17 @@ fn a_journal_is_followed_while_it_is_written() {
         }
     };
     await_words("! The next record is not whole yet.");
-    for end in [12, 500, journal.len()] {
+    for end in [12, 500, 900, journal.len()] {
         let mut file = fs::OpenOptions::new().append(true).open(&path).expect("the file");
         let begin = fs::metadata(&path).expect("its length").len() as usize;
         file.write_all(&journal[begin..end]).expect("a write");
         sleep(Duration::from_millis(300));
+        if end == 500 {
+            // A longer one takes its place, as `gk line --append` leaves it.
+            let part = scratch.write("part", &journal[..700]);
+            fs::rename(part, &path).expect("a move");
+            sleep(Duration::from_millis(300));
+        }
     }
     await_words("\n306 12 A 12");
     child.kill().expect("it is ended");

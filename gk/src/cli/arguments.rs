@@ -6,6 +6,10 @@ use std::path::Path;
 use super::{Done, Failure};
 use crate::names::files::{replaces, INPUT, REPLACES};
 use crate::text::{meant, shown};
+use gk_names::number::of_text;
+
+/// The options that take a number; any other with a value takes a file.
+pub const NUMBERS: [&str; 3] = ["--shell", "--child", "--pipe"];
 
 /// Arguments, sorted.
 pub struct Arguments {
@@ -40,7 +44,10 @@ impl Arguments {
                         return Err(sorted.wrong(&format!("{option} is given twice")));
                     }
                     Some(value) => sorted.options.push((option, value)),
-                    None => return Err(sorted.wrong(&format!("{option} needs a file behind it"))),
+                    None => {
+                        let what = if NUMBERS.contains(option) { "a number" } else { "a file" };
+                        return Err(sorted.wrong(&format!("{option} needs {what} behind it")));
+                    }
                 }
             } else {
                 let known: Vec<&str> = valued.iter().chain(switches).copied().collect();
@@ -91,15 +98,31 @@ impl Arguments {
         }
     }
 
+    /// The number behind an option of [`NUMBERS`].
+    pub fn number(&self, option: &str) -> Result<Option<u64>, Failure> {
+        let Some(value) = self.value(option) else {
+            return Ok(None);
+        };
+        let text = value.to_string_lossy();
+        let wrong =
+            || self.wrong(&format!("{option} needs a number behind it, found \"{}\"", shown(&text)));
+        of_text(&text).map(Some).ok_or_else(wrong)
+    }
+
     /// The one file; none for standard input.
     pub fn file(&self) -> Result<Option<&OsStr>, Failure> {
+        self.one("file", "")
+    }
+
+    /// The one argument that is no option; none for standard input. What else to say where there are more.
+    pub fn one(&self, what: &str, advice: &str) -> Result<Option<&OsStr>, Failure> {
         match self.files.as_slice() {
             [] => Ok(None),
-            [file] if file == "-" => Ok(None),
-            [file] => Ok(Some(file)),
+            [one] if one == "-" => Ok(None),
+            [one] => Ok(Some(one)),
             [_, second, ..] => {
                 let second = shown(&second.to_string_lossy());
-                Err(self.wrong(&format!("expected one file, found \"{second}\" as well")))
+                Err(self.wrong(&format!("expected one {what}, found \"{second}\" as well{advice}")))
             }
         }
     }

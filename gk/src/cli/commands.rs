@@ -13,14 +13,14 @@ use crate::disassembly;
 use crate::explain::{self, json, summary, Differs, Which};
 use crate::names::files::no_names;
 use crate::names::{self, Names};
-use crate::text::{excerpt, shown};
+use crate::text::{marked, shown};
 use gk_advice::records::{Body, Record, Records};
 
 /// The longest text that is assembled, in bytes: comments take room, but input without end is no text.
 const LONGEST_TEXT: usize = 1 << 24;
 
 /// A journal; one byte past the limit is enough to know that it is above it.
-fn read_journal(command: &str, file: Option<&OsStr>) -> Result<Vec<u8>, Failure> {
+pub fn read_journal(command: &str, file: Option<&OsStr>) -> Result<Vec<u8>, Failure> {
     let journal = read_input(file, JOURNAL_BYTES + 1)?;
     if journal.len() > JOURNAL_BYTES && command != "run" {
         remark(&format!("{command}: the journal is longer than 65,536 bytes; the first 65,537 were read"));
@@ -43,22 +43,21 @@ fn looks_like_text(journal: &[u8]) -> bool {
     !text.is_empty() && text.iter().take(16).all(is_letter) && has_no_call()
 }
 
-/// The names file beside the journal, if it is there.
-fn names_beside(arguments: &Arguments) -> Result<Option<PathBuf>, Failure> {
-    let beside = arguments.file()?.map(|file| names::beside(Path::new(file)));
-    Ok(beside.filter(|path| path.is_file()))
+/// The names file beside a journal, if it is there.
+pub fn names_beside(journal: Option<&OsStr>) -> Option<PathBuf> {
+    journal.map(|file| names::beside(Path::new(file))).filter(|path| path.is_file())
 }
 
 /// Writes what was made of a journal and its names, and replaces neither.
 fn write_result(arguments: &Arguments, text: &str) -> Done {
-    let beside = names_beside(arguments)?;
+    let beside = names_beside(arguments.file()?);
     let names = arguments.value("--names").map(Path::new).or(beside.as_deref());
     arguments.keep_input(&[arguments.out().map(Path::new)], &[names])?;
     write_to(arguments.out(), text.as_bytes())
 }
 
 /// The names behind `--names`, or of the file beside the journal, or none.
-fn read_names(arguments: &Arguments) -> Result<Names, Failure> {
+pub fn read_names(arguments: &Arguments, journal: Option<&OsStr>) -> Result<Names, Failure> {
     let bad = |path: &Path, fault: names::Fault| {
         Failure::Failed(format!("cannot take the names in {}: {fault}", shown(&path.to_string_lossy())))
     };
@@ -72,7 +71,7 @@ fn read_names(arguments: &Arguments) -> Result<Names, Failure> {
             false => Names::load(path).map_err(|fault| bad(path, fault)),
         };
     }
-    let Some(path) = names_beside(arguments)? else {
+    let Some(path) = names_beside(journal) else {
         return Ok(Names::new());
     };
     // It may only happen to be called so: what is said without names is true as well.
@@ -96,7 +95,7 @@ pub fn explain(arguments: Vec<OsString>) -> Done {
     }
     // The journal first: in a pipe, who writes it may write the names as well, and has done so when it is whole.
     let journal = read_journal("explain", arguments.file()?)?;
-    let names = read_names(&arguments)?;
+    let names = read_names(&arguments, arguments.file()?)?;
     let which = if arguments.has("--refused") { Which::Refused } else { Which::All };
     let text = if arguments.has("--summary") {
         summary::summary(&journal, &names)
@@ -119,7 +118,7 @@ pub fn disassemble(arguments: Vec<OsString>) -> Done {
     let arguments = Arguments::sort("disassemble", arguments, &["-o", "--names"], &[])?;
     // The journal first: in a pipe, who writes it may write the names as well, and has done so when it is whole.
     let journal = read_journal("disassemble", arguments.file()?)?;
-    let names = read_names(&arguments)?;
+    let names = read_names(&arguments, arguments.file()?)?;
     write_result(&arguments, &disassembly::disassemble(&journal, &names))
 }
 
@@ -128,14 +127,7 @@ pub fn assemble(arguments: Vec<OsString>) -> Done {
     if arguments.value("--names").is_some_and(|path| path == "-") {
         return Err(arguments.wrong("--names needs a file, not standard output"));
     }
-    let file = arguments.file()?;
-    let name = name_of(file);
-    let text = read_input(file, LONGEST_TEXT + 1)?;
-    if text.len() > LONGEST_TEXT {
-        return Err(Failure::Failed(format!("{name}: the text is longer than {LONGEST_TEXT} bytes")));
-    }
-    let assembled =
-        assembly::assemble(&text).map_err(|fault| Failure::Failed(fault_text(&name, &text, &fault)))?;
+    let assembled = assembled(arguments.file()?)?;
     if assembled.journal.len() > JOURNAL_BYTES {
         remark(&format!(
             "assemble: the journal has {} bytes. Above 65,536 it is refused (14), and nothing of it is run: split it",
@@ -143,6 +135,16 @@ pub fn assemble(arguments: Vec<OsString>) -> Done {
         ));
     }
     write_assembled(&arguments, &assembled)
+}
+
+/// What a text says; none is standard input.
+pub fn assembled(file: Option<&OsStr>) -> Result<Assembled, Failure> {
+    let name = name_of(file);
+    let text = read_input(file, LONGEST_TEXT + 1)?;
+    if text.len() > LONGEST_TEXT {
+        return Err(Failure::Failed(format!("{name}: the text is longer than {LONGEST_TEXT} bytes")));
+    }
+    assembly::assemble(&text).map_err(|fault| Failure::Failed(fault_text(&name, &text, &fault)))
 }
 
 /// The journal to its place, and the names to theirs.
@@ -184,9 +186,6 @@ fn write_assembled(arguments: &Arguments, assembled: &Assembled) -> Done {
 /// A fault with its line, and a mark under the column.
 fn fault_text(name: &str, text: &[u8], fault: &assembly::Fault) -> String {
     let line = lines(text).nth(fault.line - 1).unwrap_or(&[]);
-    let (part, blanks) = excerpt(&String::from_utf8_lossy(line), fault.column);
-    format!(
-        "{name}:{}:{}: {}\n    {part}\n    {blanks}^\n{}",
-        fault.line, fault.column, fault.expected, fault.advice
-    )
+    let marked = marked(&String::from_utf8_lossy(line), fault.column, 1);
+    format!("{name}:{}:{}: {}\n{marked}{}", fault.line, fault.column, fault.expected, fault.advice)
 }

@@ -1,7 +1,7 @@
 //! Reading files, and writing them whole or not at all.
 
 use std::ffi::OsStr;
-use std::fs::{self, File, OpenOptions};
+use std::fs::{self, File, OpenOptions, Permissions};
 use std::io::{self, Read, Write};
 use std::path::{Path, PathBuf};
 
@@ -75,7 +75,7 @@ pub fn write_whole(files: &[(&Path, &[u8])]) -> Done {
                     _ => failed("write", path, error),
                 })
             }
-            // A link stays a link: what it leads to is replaced.
+            // A link stays a link: what it leads to is replaced, and who may read it stays as it was.
             there => {
                 let place = match there {
                     Ok(_) => fs::canonicalize(path).map_err(|error| failed("write", path, error))?,
@@ -83,7 +83,8 @@ pub fn write_whole(files: &[(&Path, &[u8])]) -> Done {
                 };
                 let part = part_beside(&place);
                 waiting.push((part.clone(), place));
-                write_new(&part, bytes).map_err(|error| failed("write", path, error))
+                let rights = there.ok().map(|there| there.permissions());
+                write_new(&part, bytes, rights).map_err(|error| failed("write", path, error))
             }
         }
     });
@@ -100,8 +101,9 @@ pub fn write_whole(files: &[(&Path, &[u8])]) -> Done {
     moved
 }
 
-fn write_new(path: &Path, bytes: &[u8]) -> io::Result<()> {
+fn write_new(path: &Path, bytes: &[u8], rights: Option<Permissions>) -> io::Result<()> {
     let mut file = OpenOptions::new().write(true).create_new(true).open(path)?;
+    rights.map_or(Ok(()), |rights| file.set_permissions(rights))?;
     file.write_all(bytes)?;
     file.sync_all()
 }

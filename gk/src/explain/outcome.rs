@@ -5,9 +5,9 @@ use gatekeeper::{Call, State as Monitor, NO_FREEZE};
 use gk_advice::scene::{capital, listed, way_word, Closing, Scene};
 use gk_advice::things::{handles_of, has_mapped, level, objects, steps, Held, Thing};
 
-/// The sentences; `before` is the moment before the call, `after` the monitor after it, `closing` the freeze before it.
-pub fn outcome(call: Call, before: Scene, after: &Monitor, closing: Option<Closing>) -> Vec<String> {
-    let now = before.with(after);
+/// The sentences; `before` and `now` are the moments before the call and after it, `closing` the freeze before it.
+pub fn outcome(call: Call, before: Scene, now: Scene, closing: Option<Closing>) -> Vec<String> {
+    let after = now.monitor;
     let old = |thing: Thing| level(before.monitor, thing).unwrap_or(0);
     let new = |thing: Thing| level(after, thing).unwrap_or(0);
     let (step, object) = (Thing::Step, Thing::Object);

@@ -41,7 +41,7 @@ impl Answer {
     }
 }
 
-/// Why a call, a record or a journal was refused. Where several hold, the smallest number is given, but 14 goes
+/// Why a call, a record, a journal or a line was refused. Where several hold, the smallest number is given, but 14 goes
 /// before all others, 12 before 2 to 10 and 15 to 17, 16 right after 2, 17 right after 3, and 15 just before 9. So an
 /// open that is `Flow` is one that no freeze forbids, and one that is `Frozen` may be `Flow` once the freeze is lifted.
 #[non_exhaustive]
@@ -64,11 +64,13 @@ pub enum Refusal {
     Frozen = 15,
     SameSubject = 16,
     TooManyObjects = 17,
+    LineBroken = 18,
+    TooManyStages = 19,
 }
 
 impl Refusal {
     /// Every refusal, by number.
-    pub const ALL: [Refusal; 17] = [
+    pub const ALL: [Refusal; 19] = [
         Refusal::UnknownCode,
         Refusal::NoSubject,
         Refusal::NumberTaken,
@@ -86,9 +88,11 @@ impl Refusal {
         Refusal::Frozen,
         Refusal::SameSubject,
         Refusal::TooManyObjects,
+        Refusal::LineBroken,
+        Refusal::TooManyStages,
     ];
 
-    /// The number of the refusal in the rules, 1 to 17.
+    /// The number of the refusal in the rules, 1 to 19.
     pub fn number(self) -> u32 {
         self as u32
     }
@@ -124,6 +128,8 @@ impl Refusal {
             Refusal::Frozen => "the file is frozen while the books are closed",
             Refusal::SameSubject => "a step cannot be connected to itself",
             Refusal::TooManyObjects => "only 64 files and pipes may be live: retire a file or end a pipe",
+            Refusal::LineBroken => "the line is not well formed",
+            Refusal::TooManyStages => "a pipeline has more than eight stages",
         }
     }
 }
@@ -147,7 +153,7 @@ mod tests {
             assert_eq!(Refusal::from_number(number), Some(refusal));
         }
         assert_eq!(Refusal::from_number(0), None);
-        assert_eq!(Refusal::from_number(18), None);
+        assert_eq!(Refusal::from_number(20), None);
     }
 
     #[test]

@@ -11,7 +11,7 @@ use std::mem::size_of_val;
 use crate::lent::State;
 
 mod c {
-    use super::State;
+    use super::{LineOutcome, State};
 
     extern "C" {
         #[cfg(test)]
@@ -88,6 +88,23 @@ mod c {
             s: u64,
             p: u64,
         ) -> u32;
+        pub fn gatekeeper_line(
+            state: *mut u8,
+            len: usize,
+            line: *const u8,
+            line_len: usize,
+            shell: u64,
+            child: u64,
+            pipe: u64,
+        ) -> LineOutcome;
+        pub fn gatekeeper_monitor_line(
+            monitor: *mut State,
+            line: *const u8,
+            line_len: usize,
+            shell: u64,
+            child: u64,
+            pipe: u64,
+        ) -> LineOutcome;
         pub fn gatekeeper_replay(journal: *const u8, len: usize, out: *mut u8, room: usize) -> usize;
         pub fn gatekeeper_record(
             out: *mut u8,
@@ -103,6 +120,19 @@ mod c {
         pub fn gatekeeper_number(bytes: *const u8, len: usize, value: *mut u64) -> u32;
     }
 }
+
+/// What came of a line: `struct gatekeeper_line_outcome` of host/gatekeeper.h. The counts are 0 where the refusal is not.
+#[repr(C)]
+#[derive(Clone, Copy, Debug, PartialEq, Eq)]
+pub struct LineOutcome {
+    pub allowed: u64,
+    pub lowered: u64,
+    pub refused: u64,
+    pub refusal: u64,
+}
+
+/// The refusal of a line where the length of the monitor is wrong.
+pub const NOT_A_STATE: u64 = 255;
 
 /// Said where the archive finds the length of a monitor wrong.
 pub const OTHER_VERSION: &str =
@@ -270,6 +300,15 @@ unsafe fn quick_close_of(monitor: &mut State, lengths: Lengths, s: u64, p: u64) 
     }
 }
 
+pub fn line(state: &mut [u8], line: &[u8], shell: u64, child: u64, pipe: u64) -> LineOutcome {
+    let (len, line_len) = (state.len(), line.len());
+    unsafe { c::gatekeeper_line(state.as_mut_ptr(), len, line.as_ptr(), line_len, shell, child, pipe) }
+}
+
+pub fn monitor_line(monitor: &mut State, line: &[u8], shell: u64, child: u64, pipe: u64) -> LineOutcome {
+    unsafe { c::gatekeeper_monitor_line(monitor, line.as_ptr(), line.len(), shell, child, pipe) }
+}
+
 pub fn replay(journal: &[u8], out: &mut [u8]) -> usize {
     unsafe { c::gatekeeper_replay(journal.as_ptr(), journal.len(), out.as_mut_ptr(), out.len()) }
 }
@@ -312,6 +351,12 @@ mod tests {
                 assert_eq!((subject(&state, 0), object(&state, number), handle(&state, 0, 0)), (0, 0, 0));
                 assert_eq!((object_from(&state, 0), handle_object(&state, 0, 0)), (0, 0));
                 assert_eq!((subject_need(&state, 0), object_need(&state, number)), (0, 0));
+                // Whatever the line is.
+                for text in ["1", "1 < 2 | 3 > 4", "", "01", "1|1|1|1|1|1|1|1|1"] {
+                    let outcome = line(&mut state, text.as_bytes(), 0, 1, 2);
+                    let nothing = LineOutcome { allowed: 0, lowered: 0, refused: 0, refusal: NOT_A_STATE };
+                    assert_eq!(outcome, nothing, "{text}");
+                }
                 assert_eq!(state, vec![byte; len]);
             }
         }

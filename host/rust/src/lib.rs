@@ -26,6 +26,8 @@
 //!
 //! [`State`] is a monitor that is kept as a struct in place of bytes, and answers the same, faster.
 //!
+//! [`Monitor::line`] makes the calls of a pipeline that a clerk has typed.
+//!
 //! [`replay`] answers a whole journal, [`Call::write_record`] writes one, [`read_number`] reads its numbers.
 
 mod answer;
@@ -33,6 +35,7 @@ mod archive;
 mod call;
 mod journal;
 mod lent;
+mod line;
 mod look;
 mod monitor;
 
@@ -41,6 +44,7 @@ pub use call::{Call, NO_FREEZE};
 pub use journal::{read_number, replay, replay_into, write_record};
 pub use journal::{JOURNAL_BYTES, RECORD_ROOM, REPLY_ROOM};
 pub use lent::State;
+pub use line::Counts;
 pub use look::{Handle, Kind, Object, Way, OBJECTS, PLACES, SUBJECTS};
 pub use monitor::{Monitor, STATE_BYTES};
 

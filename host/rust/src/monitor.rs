@@ -24,7 +24,7 @@ pub(crate) const NEEDS_AT: usize = 1745;
 /// Two are equal if their bytes are, what stands at numbers and slots that are not in use among them.
 #[derive(Clone, PartialEq, Eq)]
 pub struct Monitor {
-    state: [u8; STATE_BYTES],
+    pub(crate) state: [u8; STATE_BYTES],
 }
 
 impl Monitor {
