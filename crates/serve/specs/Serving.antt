@@ -9,13 +9,13 @@ use mathlib.Core.List.{List}
 use lib.ListN.{length, take}
 use Rattle.number.specs.Put.{put}
 use Rattle.replay.specs.Replay.{reply, Begun, largest-journal, reply-room}
-use Rattle.serve.specs.Ports.{goes, filled, Sending, Saying}
-use Rattle.serve.specs.declared.ports.Port.the-variants.{Input, Output, Error}
-use Rattle.serve.specs.declared.ports.Intake.{Intake}
-use Rattle.serve.specs.declared.ports.Sent.{Sent}
-use Rattle.serve.specs.declared.ports.Filled.{Filled}
-use Rattle.serve.specs.declared.ports.Filled.the-variants.{Ended, Full, Failed}
-use Rattle.serve.specs.declared.ports.Message.the-variants as message-is
+use Rattle.ports.specs.Ports.{goes, filled, Sending, Saying}
+use Rattle.ports.specs.declared.Port.the-variants.{Input, Output, Error}
+use Rattle.ports.specs.declared.Intake.{Intake}
+use Rattle.ports.specs.declared.Sent.{Sent}
+use Rattle.ports.specs.declared.Filled.{Filled}
+use Rattle.ports.specs.declared.Filled.the-variants.{Ended, Full, Failed}
+use Rattle.ports.specs.declared.Message.the-variants as message-is
 use Rattle.serve.specs.declared.Run.{Run}
 use Rattle.serve.specs.declared.Served.{Served}
 use Rattle.serve.specs.declared.Served.the-variants.{Replied, Unwritten, NoRoom, Unended, Unread}

@@ -5,9 +5,6 @@ ghost use Prim.Native.Nat.{_≤_};
 ghost use lib.ListN.{length};
 ghost use Rattle.replay.specs.Replay.{reply-room};
 ghost use Rattle.serve.specs.Serving.{Finished, journal-room, Sized, Replying, Answering, Serving, Ran, Roomy};
-
-mod ports;
-
 use number::Written;
 use ports::Filled;
 use ports::Intake;

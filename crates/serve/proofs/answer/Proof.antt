@@ -2,7 +2,7 @@
 use mathlib.Core.Path.{refl, sym, subst, _∙_}
 use native.Mathlib.Omega.{arith}
 use Rattle.serve.specs.Serving.{Within, Answering-by}
-use Rattle.serve.specs.declared.ports.Filled.{Filled}
+use Rattle.ports.specs.declared.Filled.{Filled}
 use Rattle.serve.specs.declared.Served.the-variants.{Unended, Unread}
 use borrow.Author.Needs.{needs}
 use Rattle.serve.proofs.answer.Statement.{statement}

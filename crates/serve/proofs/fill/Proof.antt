@@ -3,8 +3,8 @@
 use Prim.Native.Nat.{ℕ, _<_}
 use mathlib.Core.Path.{sym, subst, _∙_}
 use lib.ListN.{length}
-use Rattle.serve.specs.declared.ports.Intake.{Intake}
-use Rattle.serve.specs.Ports.Laws.{left, left-less}
+use Rattle.ports.specs.declared.Intake.{Intake}
+use Rattle.ports.specs.Ports.Laws.{left, left-less}
 use Rattle.serve.specs.Serving.Laws.{Reading, reading-begun, reading-next, reading-over}
 use Rattle.serve.proofs.fill.Statement.{statement}
 use Rattle.serve.proofs.fill.Tie as tie

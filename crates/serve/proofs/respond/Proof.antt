@@ -12,9 +12,9 @@ use Rattle.serve.proofs.respond.Tie as tie
 use Rattle.serve.proofs.respond.Reads as reads
 use Rattle.serve.proofs.respond.Lts as lts
 use Rattle.replay.proofs.replay.Reads as replay-reads
-use Rattle.serve.proofs.ports.is_whole.Reads as is-whole-reads
-use Rattle.serve.proofs.ports.say.Reads as say-reads
-use Rattle.serve.proofs.ports.send.Reads as send-reads
+use Rattle.ports.proofs.is_whole.Reads as is-whole-reads
+use Rattle.ports.proofs.say.Reads as say-reads
+use Rattle.ports.proofs.send.Reads as send-reads
 
 -- the reply has its place in the buffer
 replied :

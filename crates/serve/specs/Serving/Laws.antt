@@ -14,13 +14,13 @@ use lib.Seq.{take-at, length-take-le}
 use Rattle.number.specs.Put.{put, fitted}
 use Rattle.number.specs.Put.Laws.{fits, fits-not, put-fits}
 use Rattle.replay.specs.Replay.{reply, Begun, reply-room}
-use Rattle.serve.specs.Ports.{step, brought-by, begun, Advanced, goes, filled-by, filled, Sending}
-use Rattle.serve.specs.Ports.Laws.{goes-room}
-use Rattle.serve.specs.declared.ports.Port.the-variants.{Input, Output}
-use Rattle.serve.specs.declared.ports.Sent.{Sent}
-use Rattle.serve.specs.declared.ports.Intake.{Intake}
-use Rattle.serve.specs.declared.ports.Filled.{Filled}
-use Rattle.serve.specs.declared.ports.Filled.the-variants.{Ended, Full, Failed}
+use Rattle.ports.specs.Ports.{step, brought-by, begun, Advanced, goes, filled-by, filled, Sending}
+use Rattle.ports.specs.Ports.Laws.{goes-room}
+use Rattle.ports.specs.declared.Port.the-variants.{Input, Output}
+use Rattle.ports.specs.declared.Sent.{Sent}
+use Rattle.ports.specs.declared.Intake.{Intake}
+use Rattle.ports.specs.declared.Filled.{Filled}
+use Rattle.ports.specs.declared.Filled.the-variants.{Ended, Full, Failed}
 use Rattle.serve.specs.declared.Run.{Run}
 use Rattle.serve.specs.declared.Served.{Served}
 use Rattle.serve.specs.declared.Served.the-variants.{Replied, Unwritten, NoRoom, Unended, Unread}
