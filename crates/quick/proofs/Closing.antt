@@ -45,8 +45,9 @@ use Rattle.gatekeeper.proofs.Lifting.{lift-none}
 use Rattle.gatekeeper.proofs.Doing.{found-live, full-held}
 use Rattle.gatekeeper.proofs.Acting.{stops, goes, acts-keeps}
 use Rattle.gatekeeper.proofs.Storing.{subject-got, object-got, handle-got, closes}
-use Rattle.quick.specs.Parts.{Whole, subjects-in, objects-in, handles-in, monitor-in, tally-in, Beside, Done, Loose, Settles}
-use Rattle.quick.specs.Parts.Laws.{length-objects, length-handles}
+use Rattle.inplace.specs.Bytes.{subjects-in, objects-in, handles-in, Beside}
+use Rattle.inplace.specs.Bytes.Laws.{length-objects, length-handles}
+use Rattle.quick.specs.Parts.{Whole, monitor-in, tally-in, Done, Loose, Settles}
 use Rattle.quick.proofs.Doing.{whole-long, refusing, allowing, settles-by, counted-made, counted-gone}
 use Rattle.quick.proofs.Renumbering.{close-ren}
 

@@ -30,8 +30,9 @@ use Rattle.gatekeeper.proofs.Telling.{view-read}
 use Rattle.tally.specs.declared.Tally.{Tally}
 use Rattle.tally.specs.Counting.{counts-of}
 use Rattle.tally.proofs.Counting.{tally-same, tally-moved}
-use Rattle.quick.specs.Parts.{Whole, objects-in, monitor-in, tally-in, Done, Settles}
-use Rattle.quick.specs.Parts.Laws.{length-subjects, length-objects, length-handles}
+use Rattle.inplace.specs.Bytes.{objects-in}
+use Rattle.inplace.specs.Bytes.Laws.{length-subjects, length-objects, length-handles}
+use Rattle.quick.specs.Parts.{Whole, monitor-in, tally-in, Done, Settles}
 
 never : {X : Type 0} {l k : ℕ} → _≡_ {A = Told} (allowed l) (refused k) → X
 never e = let z : _≡_ {A = ℕ} 0 1 = cc in absurd (omega arith)

@@ -50,10 +50,11 @@ use Rattle.gatekeeper.proofs.Lifting.{lift-named}
 use Rattle.gatekeeper.proofs.Doing.{passed}
 use Rattle.gatekeeper.proofs.Acting.{stops, ends, waits, goes, frees}
 use Rattle.gatekeeper.proofs.Storing.{subject-got, object-got, handle-got, Opening, open-late, opens-acts, opens-keeps}
-use Rattle.quick.specs.Parts.{Whole, subjects-in, objects-in, handles-in, monitor-in, tally-in, Done, Needs-stay, Settles}
+use Rattle.inplace.specs.Bytes.{subjects-in, objects-in, handles-in}
+use Rattle.inplace.specs.Bytes.Laws.{length-objects}
+use Rattle.quick.specs.Parts.{Whole, monitor-in, tally-in, Done, Needs-stay, Settles}
 use Rattle.quick.proofs.Doing.{whole-long, refusing, allowing, settles-by, counted-made, counted-gone}
 use Rattle.quick.proofs.Renumbering.{open-ren}
-use Rattle.quick.specs.Parts.Laws.{length-objects}
 
 -- the code says which open it is
 pub opens-is : (code s o p : ℕ) → (eqb code 5 || eqb code 6) ≡ true → decode (direct code s o p 0 0 0) ≡ opens (direction (eqb code 5)) s o p

@@ -1,3 +1,2 @@
--- What this crate's contracts cite: the parts of a monitor as bytes, and a call that was done in place (Parts). Below it are its laws, which nobody has to believe. Assumes
--- nothing.
+-- What this crate's contracts cite: the parts of a monitor as bytes, and a call that was done in place (Parts). Assumes nothing.
 pub mod Parts

@@ -1,10 +1,9 @@
 -- A monitor's parts as the bytes that they are in memory, and a call that was done on them. States RULES H24 and H12, and T15, Y9 and R102 of such a call. Assumes nothing.
 use mathlib.Core.Path.{_≡_}
-use mathlib.Core.Bool.{true}
 use mathlib.Core.Logic.{_⊎_}
 use mathlib.Core.Option.{none, some}
-use mathlib.Core.List.{List, [], _∷_}
-use Prim.Native.Nat.{ℕ, zero, suc, _+_, _*_, _<_}
+use mathlib.Core.List.{List}
+use Prim.Native.Nat.{ℕ, _+_, _*_, _<_}
 use lib.ListN.{length, getD}
 use lib.Dec.{T}
 use Rattle.model.specs.Label.{_⊑_, bot}
@@ -14,17 +13,12 @@ use Rattle.model.specs.Tables.{Dir, reading, Tables, live, demand, needs}
 use Rattle.model.specs.Tables.{Handle as Held}
 use Rattle.model.specs.Calls.{Call, opens, close, Raw, decode, refusal, effect, Answer}
 use Rattle.model.specs.Promise.{Meets}
-use Rattle.tables.specs.declared.Subject.{Subject}
-use Rattle.tables.specs.declared.Object.{Object}
-use Rattle.tables.specs.declared.Handle.{Handle}
-use Rattle.tables.specs.Records.{no-handle}
-use Rattle.handles.specs.Working.{on}
 use Rattle.answers.specs.Telling.{letter-of, value-of}
 use Rattle.gatekeeper.specs.declared.Monitor.{Monitor}
 use Rattle.gatekeeper.specs.View.{view, Honest, monitors}
 use Rattle.tally.specs.declared.Tally.{Tally}
 use Rattle.tally.specs.Counting.{Tallies}
-pub mod Laws
+use Rattle.inplace.specs.Bytes.{subjects-in, objects-in, handles-in}
 
 -- ── parts ──
 -- RULES H24: each part has its bytes, and there are 64 numbers and two counts
@@ -35,30 +29,6 @@ pub record Whole (ns sb ob hb nb cs : List ℕ) : Type 0 where
   pub handles : length hb ≡ 1536
   pub needs : length nb ≡ 96
   pub counts : length cs ≡ 2
-
--- f k, and so on: n of them
-unfoldable pub from : {A : Type 0} → (ℕ → A) → ℕ → ℕ → List A
-from f k zero = []
-from f k (suc n) = f k ∷ from f (suc k) n
-
--- RULES H24: a record's bytes in the order of its fields, one after the other
-abbrev pub subject-of : List ℕ → ℕ → Subject
-subject-of b i = record { live = getD b (2 * i) 0; level = getD b (2 * i + 1) 0 }
-
-abbrev pub object-of : List ℕ → ℕ → Object
-object-of b i = record { kind = getD b (2 * i) 0; level = getD b (2 * i + 1) 0 }
-
-abbrev pub handle-of : List ℕ → ℕ → Handle
-handle-of b i = record { way = getD b (3 * i) 0; object = getD b (3 * i + 1) 0; mark = getD b (3 * i + 1 + 1) 0 }
-
-unfoldable pub subjects-in : List ℕ → List Subject
-subjects-in b = from (subject-of b) 0 32
-
-unfoldable pub objects-in : List ℕ → List Object
-objects-in b = from (object-of b) 0 64
-
-unfoldable pub handles-in : List ℕ → List Handle
-handles-in b = from (handle-of b) 0 512
 
 abbrev pub monitor-in : (numbers subjects objects handles needs : List ℕ) (freeze sure : ℕ) → Monitor
 monitor-in numbers subjects objects handles needs freeze sure = record {
@@ -118,11 +88,3 @@ Tried codes ns sb ob hb nb cs fz su r n hb′ cs′ =
     × (n ≡ 0 → (hb′ ≡ hb) × (cs′ ≡ cs))
     × (In (r .code) codes → Whole ns sb ob hb nb cs → su ≡ 1 → Honest (monitor-in ns sb ob hb nb fz su)
     → Settles (view (monitor-in ns sb ob hb nb fz su)) (decode r) n)
-
--- ── inner functions alone cite this ──
--- a handle other than that at index `at` is on object o
-pub record Beside (hs : List Handle) (o at : ℕ) : Type 0 where
-  pub index : ℕ
-  pub below : index < 512
-  pub apart : index ≡ at → ⊥
-  pub is-on : on (getD hs index no-handle) o ≡ true

@@ -1,34 +1,20 @@
 // Opens and closes that change no need, in place: on the bytes of the struct's parts, of which they read and store the few that the call is about. Whatever else a call
 // may be, it is left alone, and 0 says so: then the monitor's own call is to be made. What is never left is said by `Settles` in specs/Parts.antt.
 //
-// The parts are those of the monitor (`gatekeeper::Monitor`) as they lie in memory, and the two counts. What they stand for is in specs/Parts.antt.
+// The parts are those of the monitor (`gatekeeper::Monitor`) as they lie in memory, and the two counts. What they stand for is in specs/Parts.antt;
+// a record among them is read and stored by the functions of `inplace`.
 ghost use mathlib.Core.Path.{_≡_};
-ghost use mathlib.Core.Bool.{true, false, not, _&&_, _||_};
-ghost use mathlib.Core.Logic.{_⊎_, _↔_};
 ghost use mathlib.Core.List.{List, [], _∷_};
-ghost use Prim.Native.Nat.{ℕ, _+_, _*_, _%_, _<_};
-ghost use lib.Dec.{eqb};
-ghost use lib.ListN.{length, getD, set};
-ghost use Rattle.model.specs.Tally.{wrapped};
-ghost use Rattle.tables.specs.Records.{reads-by, no-subject, no-object, no-handle};
-ghost use Rattle.tables.specs.Slots.{slot-used, Found};
-ghost use Rattle.tables.specs.Working.{subject-at, object-at, handle-at};
-ghost use Rattle.passes.specs.Working.{demands};
+ghost use Prim.Native.Nat.{ℕ};
+ghost use lib.ListN.{length};
 ghost use Rattle.gatekeeper.specs.View.{direct};
 ghost use Rattle.gatekeeper.specs.Acting.{way-by};
-ghost use Rattle.quick.specs.Parts.{subjects-in, objects-in, handles-in, Beside, Tried};
+ghost use Rattle.quick.specs.Parts.{Tried};
 use gatekeeper::SURE;
 use tables::EMPTY;
-use tables::FILE;
-use tables::FREE;
-use tables::HANDLES;
 use tables::Handle;
-use tables::OBJECT_NUMBERS;
 use tables::OBJECTS;
-use tables::Object;
 use tables::READS;
-use tables::SUBJECTS;
-use tables::Subject;
 use tables::WRITES;
 use tables::looks;
 
@@ -43,98 +29,6 @@ const REFUSED: u32 = 256 * 82;
 // The refusal that is told before the flow is asked about: the file is frozen.
 const FROZEN: u32 = REFUSED + 15;
 
-// How many bytes each part has; the counts are two numbers.
-const SUBJECT_BYTES: usize = 2 * SUBJECTS;
-
-const OBJECT_BYTES: usize = 2 * OBJECTS;
-
-const HANDLE_BYTES: usize = 3 * HANDLES;
-
-// ---- one record
-
-fn subject_in(subjects: &[u8], s: u64) -> Subject
-    requires { ⌜ length (now subjects) ≡ 64 ⌝ }
-    ensures there { λ r. ⌜ r ≡ subject-at s (getD (subjects-in (now (subjects .entry))) (s % 32) no-subject) ⌝ }
-    ensures byte { λ r. ⌜ r .level < 256 ⌝ }
-{
-    let at = 2 * (s as usize % SUBJECTS);
-    let live = subjects[at];
-    let next = at + 1;
-    let level = subjects[next];
-    let x = Subject { live, level };
-    looks::subject_at(s, x)
-}
-
-fn object_in(objects: &[u8], o: u64) -> Object
-    requires { ⌜ length (now objects) ≡ 128 ⌝ }
-    ensures there { λ r. ⌜ r ≡ object-at o (getD (objects-in (now (objects .entry))) (o % 64) no-object) ⌝ }
-    ensures byte { λ r. ⌜ r .level < 256 ⌝ }
-{
-    let at = 2 * (o as usize % OBJECTS);
-    let kind = objects[at];
-    let next = at + 1;
-    let level = objects[next];
-    let y = Object { kind, level };
-    looks::object_at(o, y)
-}
-
-fn handle_in(handles: &[u8], s: u64, p: u64) -> Handle
-    requires { ⌜ length (now handles) ≡ 1536 ⌝ }
-    ensures { λ r. ⌜ r ≡ handle-at s p (getD (handles-in (now (handles .entry))) (s % 32 * 16 + p % 16) no-handle) ⌝ }
-{
-    let i = looks::slot_of(s, p);
-    let at = 3 * i;
-    let way = handles[at];
-    let next = at + 1;
-    let object = handles[next];
-    let last = next + 1;
-    let mark = handles[last];
-    let h = Handle { way, object, mark };
-    looks::handle_at(s, p, h)
-}
-
-fn put(handles: &mut [u8], s: u64, p: u64, h: Handle)
-    requires { ⌜ length (now handles) ≡ 1536 ⌝ }
-    ensures put { λ _. ⌜ handles-in (now (handles .exit)) ≡ set (handles-in (now (handles .entry))) (s % 32 * 16 + p % 16) h ⌝ }
-    ensures size { λ _. ⌜ length (now (handles .exit)) ≡ 1536 ⌝ }
-{
-    let i = looks::slot_of(s, p);
-    let at = 3 * i;
-    let next = at + 1;
-    let last = next + 1;
-    handles[at] = h.way;
-    handles[next] = h.object;
-    handles[last] = h.mark;
-}
-
-// The need of subject s, and of object o, each modulo how many there are.
-fn subject_need(needs: &[u8], s: u64) -> u8
-    requires { ⌜ length (now needs) ≡ 96 ⌝ }
-    ensures { λ r. ⌜ r ≡ getD (now (needs .entry)) (s % 32) 0 ⌝ }
-{
-    let at = s as usize % SUBJECTS;
-    needs[at]
-}
-
-fn object_need(needs: &[u8], o: u64) -> u8
-    requires { ⌜ length (now needs) ≡ 96 ⌝ }
-    ensures { λ r. ⌜ r ≡ getD (now (needs .entry)) (32 + o % 64) 0 ⌝ }
-{
-    let at = SUBJECTS + o as usize % OBJECTS;
-    needs[at]
-}
-
-// So many more handles made, and gone.
-fn count(counts: &mut [u64], made: u64, gone: u64)
-    requires { ⌜ length (now counts) ≡ 2 ⌝ }
-    ensures { λ _. ⌜ now (counts .exit) ≡ set (set (now (counts .entry)) 0 (wrapped (getD (now (counts .entry)) 0 0 + made))) 1 (wrapped (getD (now (counts .entry)) 1 0 + gone)) ⌝ }
-{
-    let first = counts[0];
-    let second = counts[1];
-    counts[0] = std::num::wrapping_add_u64(first, made);
-    counts[1] = std::num::wrapping_add_u64(second, gone);
-}
-
 // The way of a handle for reading, or for writing.
 fn way_of(reads: bool) -> u8
     ensures { λ r. ⌜ r ≡ way-by reads ⌝ }
@@ -143,85 +37,6 @@ fn way_of(reads: bool) -> u8
         return READS;
     }
     WRITES
-}
-
-// ---- what is asked first
-
-// The parts have their lengths.
-fn are_whole(subjects: usize, objects: usize, handles: usize, needs: usize, counts: usize) -> bool
-    ensures { λ r. ⌜ (r ≡ true) ↔ ((subjects ≡ 64) × (objects ≡ 128) × (handles ≡ 1536) × (needs ≡ 96) × (counts ≡ 2)) ⌝ }
-{
-    if subjects != SUBJECT_BYTES {
-        return false;
-    }
-    if objects != OBJECT_BYTES {
-        return false;
-    }
-    if handles != HANDLE_BYTES {
-        return false;
-    }
-    if needs != SUBJECTS + OBJECTS {
-        return false;
-    }
-    counts == 2
-}
-
-// A handle other than that at index `at` is on object o. It looks from there on, and then from the front.
-fn is_beside(handles: &[u8], o: u8, at: usize) -> bool
-    requires { ⌜ (length (now handles) ≡ 1536) × (at < 512) ⌝ }
-    ensures { λ r. ⌜ (r ≡ true) ↔ Beside (handles-in (now (handles .entry))) o at ⌝ }
-{
-    let mut k: usize = 1;
-    while k < HANDLES {
-        let i = (at + k) % HANDLES;
-        let first = 3 * i;
-        let way = handles[first];
-        let next = first + 1;
-        let object = handles[next];
-        if object != o {
-            k += 1;
-            continue;
-        }
-        if way != EMPTY {
-            return true;
-        }
-        k += 1;
-    }
-    false
-}
-
-// ---- the slot of an object
-
-// Slot i, modulo how many there are, is in use and has the number o.
-fn is_at(objects: &[u8], numbers: &[u64], i: u64, o: u64) -> bool
-    requires { ⌜ (length (now objects) ≡ 128) × (length (now numbers) ≡ 64) ⌝ }
-    ensures { λ r. ⌜ r ≡ (slot-used (objects-in (now (objects .entry))) (i % 64) && eqb (getD (now (numbers .entry)) (i % 64) 0) o) ⌝ }
-{
-    let j = (i % OBJECT_NUMBERS) as usize;
-    let at = 2 * j;
-    let kind = objects[at];
-    let n = numbers[j];
-    let used = kind != FREE;
-    let same = n == o;
-    looks::both(used, same)
-}
-
-// The slot of object o, which is looked for at o modulo OBJECTS first; OBJECTS where it is not live.
-fn slot_in(objects: &[u8], numbers: &[u64], o: u64) -> u64
-    requires { ⌜ (length (now objects) ≡ 128) × (length (now numbers) ≡ 64) ⌝ }
-    ensures { λ r. ⌜ Found (objects-in (now (objects .entry))) (now (numbers .entry)) o r ⌝ }
-{
-    if is_at(objects, numbers, o, o) {
-        return o % OBJECT_NUMBERS;
-    }
-    let mut i: u64 = 0;
-    while i < OBJECT_NUMBERS {
-        if is_at(objects, numbers, i, o) {
-            return i;
-        }
-        i += 1;
-    }
-    OBJECT_NUMBERS
 }
 
 // ---- calls 5 and 6
@@ -245,7 +60,7 @@ pub fn opened(
     ensures { λ r. ⌜ Tried (5 ∷ 6 ∷ []) (now (numbers .entry)) (now (subjects .entry)) (now (objects .entry)) (now (handles .entry)) (now (needs .entry)) (now (counts .entry)) freeze sure
         (direct code s o p 0 0 0) r (now (handles .exit)) (now (counts .exit)) ⌝ }
 {
-    let whole = are_whole(
+    let whole = inplace::are_whole(
         subjects.len(),
         objects.len(),
         handles.len(),
@@ -267,10 +82,10 @@ pub fn opened(
     if !opens {
         return NOT_DONE;
     }
-    let x = subject_in(subjects, s);
-    let i = slot_in(objects, numbers, o);
-    let y = object_in(objects, i);
-    let h = handle_in(&handles[..], s, p);
+    let x = inplace::subject_in(subjects, s);
+    let i = inplace::slot_in(objects, numbers, o);
+    let y = inplace::object_in(objects, i);
+    let h = inplace::handle_in(&handles[..], s, p);
     let n = refusals::of_open(p, x, y, h);
     if n != 0 {
         return REFUSED + n as u32;
@@ -279,42 +94,20 @@ pub fn opened(
     if frozen {
         return FROZEN;
     }
-    let mine = subject_need(needs, s);
-    let its = object_need(needs, i);
+    let mine = inplace::subject_need(needs, s);
+    let its = inplace::object_need(needs, i);
     let down = keeping::falls(reads, mine, its);
     if !down {
         return NOT_DONE;
     }
     let way = way_of(reads);
     let new = looks::joining(way, i);
-    put(handles, s, p, new);
-    count(counts, 1, 0);
+    inplace::put(handles, s, p, new);
+    inplace::count(counts, 1, 0);
     ALLOWED + y.level as u32
 }
 
 // ---- call 11
-
-// No need changes where subject s closes handle h: the needs of its two ends differ, both are 0, or h read the file y, which demands as much by itself.
-fn is_quiet(h: Handle, y: Object, mine: u8, its: u8) -> bool
-    ensures { λ r. ⌜ r ≡ (not (eqb mine its) || (eqb mine 0 || (reads-by (h .way) && demands y mine))) ⌝ }
-{
-    let apart = mine != its;
-    let none = mine == 0;
-    let backed = keeping::is_backed(h, y, mine);
-    let same = looks::either(none, backed);
-    looks::either(apart, same)
-}
-
-// The object y of a handle outlives it: it is a file, or another handle is on it.
-fn is_outlived(handles: &[u8], y: Object, o: u8, at: usize) -> bool
-    requires { ⌜ (length (now handles) ≡ 1536) × (at < 512) ⌝ }
-    ensures { λ r. ⌜ (r ≡ true) ↔ ((y .kind < 2) ⊎ Beside (handles-in (now (handles .entry))) o at) ⌝ }
-{
-    if y.kind <= FILE {
-        return true;
-    }
-    is_beside(handles, o, at)
-}
 
 // A close of the handle at place p of subject s: done where the monitor is sure, no need changes by it, and its object outlives it.
 pub fn closed(
@@ -331,7 +124,7 @@ pub fn closed(
     ensures { λ r. ⌜ ((ns : List ℕ) → length ns ≡ 64 → Tried (11 ∷ []) ns (now (subjects .entry)) (now (objects .entry)) (now (handles .entry)) (now (needs .entry)) (now (counts .entry)) freeze sure
         (direct 11 s p 0 0 0 0) r (now (handles .exit)) (now (counts .exit))) ⌝ }
 {
-    let whole = are_whole(
+    let whole = inplace::are_whole(
         subjects.len(),
         objects.len(),
         handles.len(),
@@ -344,21 +137,21 @@ pub fn closed(
     if sure != SURE {
         return NOT_DONE;
     }
-    let x = subject_in(subjects, s);
-    let h = handle_in(&handles[..], s, p);
+    let x = inplace::subject_in(subjects, s);
+    let h = inplace::handle_in(&handles[..], s, p);
     let n = refusals::of_held(x, h);
     if n != 0 {
         return REFUSED + n as u32;
     }
     let number = h.object as u64;
-    let y = object_in(objects, number);
-    let mine = subject_need(needs, s);
-    let its = object_need(needs, number);
-    if !is_quiet(h, y, mine, its) {
+    let y = inplace::object_in(objects, number);
+    let mine = inplace::subject_need(needs, s);
+    let its = inplace::object_need(needs, number);
+    if !inplace::is_quiet(h, y, mine, its) {
         return NOT_DONE;
     }
     let at = looks::slot_of(s, p);
-    if !is_outlived(&handles[..], y, h.object, at) {
+    if !inplace::is_outlived(&handles[..], y, h.object, at) {
         return NOT_DONE;
     }
     let empty = Handle {
@@ -366,7 +159,7 @@ pub fn closed(
         object: 0,
         mark: 0,
     };
-    put(handles, s, p, empty);
-    count(counts, 0, 1);
+    inplace::put(handles, s, p, empty);
+    inplace::count(counts, 0, 1);
     ALLOWED + x.level as u32
 }

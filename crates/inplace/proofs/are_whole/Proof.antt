@@ -1,11 +1,11 @@
--- `quick::are_whole` meets its contract. Assumes nothing.
+-- `inplace::are_whole` meets its contract. Assumes nothing.
 use mathlib.Core.Path.{sym, subst}
 use borrow.Author.Tests.{eq-eqb}
 use lib.Dec.{T, eqb→eq}
 use Rattle.passes.proofs.Raising.{true-false}
 use borrow.Author.Needs.{needs}
-use Rattle.quick.proofs.are_whole.Statement.{statement}
-use Rattle.quick.proofs.are_whole.Tie as tie
+use Rattle.inplace.proofs.are_whole.Statement.{statement}
+use Rattle.inplace.proofs.are_whole.Tie as tie
 
 returns : tie.Need-returns
 returns c = (λ e. true-false (sym e), λ w. absurd (c .if1 .taken (w .0)))

@@ -1,14 +1,14 @@
--- `quick::handle_in` meets its contract. Assumes nothing.
+-- `inplace::handle_in` meets its contract. Assumes nothing.
 use mathlib.Core.Path.{sym, _∙_, ap}
 use Prim.Native.Nat.{_+_, _*_, _%_}
 use native.Mathlib.Omega.{arith}
 use denote.Ref.{now}
 use Rattle.tables.specs.Working.{handle-at}
-use Rattle.quick.specs.Parts.{handle-of}
-use Rattle.quick.specs.Parts.Laws.{handle-there}
+use Rattle.inplace.specs.Bytes.{handle-of}
+use Rattle.inplace.specs.Bytes.Laws.{handle-there}
 use borrow.Author.Needs.{needs}
-use Rattle.quick.proofs.handle_in.Statement.{statement}
-use Rattle.quick.proofs.handle_in.Tie as tie
+use Rattle.inplace.proofs.handle_in.Statement.{statement}
+use Rattle.inplace.proofs.handle_in.Tie as tie
 
 slot-of-requires : tie.Need-slot-of-requires
 slot-of-requires c κs = search needs

@@ -1,13 +1,13 @@
--- `quick::object_in` meets its contract. Assumes nothing.
+-- `inplace::object_in` meets its contract. Assumes nothing.
 use mathlib.Core.Path.{sym, _∙_, ap}
 use Prim.Native.Nat.{_%_}
 use native.Mathlib.Omega.{arith}
 use denote.Ref.{now}
 use Rattle.tables.specs.Working.{object-at}
-use Rattle.quick.specs.Parts.Laws.{object-there}
+use Rattle.inplace.specs.Bytes.Laws.{object-there}
 use borrow.Author.Needs.{needs}
-use Rattle.quick.proofs.object_in.Statement.{statement}
-use Rattle.quick.proofs.object_in.Tie as tie
+use Rattle.inplace.proofs.object_in.Statement.{statement}
+use Rattle.inplace.proofs.object_in.Tie as tie
 
 mul-at : tie.Need-mul-at
 mul-at c = search needs

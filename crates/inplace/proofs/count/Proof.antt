@@ -1,10 +1,10 @@
--- `quick::count` meets its contract. Assumes nothing.
+-- `inplace::count` meets its contract. Assumes nothing.
 use mathlib.Core.Path.{ap₂}
 use Prim.Native.Nat.{ℕ}
 use lib.ListN.{set}
 use borrow.Author.Needs.{needs}
-use Rattle.quick.proofs.count.Statement.{statement}
-use Rattle.quick.proofs.count.Tie as tie
+use Rattle.inplace.proofs.count.Statement.{statement}
+use Rattle.inplace.proofs.count.Tie as tie
 
 slice-read-first : tie.Need-slice-read-first
 slice-read-first c = search needs

@@ -8,7 +8,7 @@ use lib.ListN.{length, getD, set, length-set}
 use lib.Seq.{getD-set-same, getD-set-other, ext-getD}
 use Rattle.tables.specs.declared.Handle.{Handle}
 use Rattle.tables.specs.Records.{no-subject, no-object, no-handle}
-use Rattle.quick.specs.Parts.{from, subject-of, object-of, handle-of, subjects-in, objects-in, handles-in}
+use Rattle.inplace.specs.Bytes.{from, subject-of, object-of, handle-of, subjects-in, objects-in, handles-in}
 
 module _ {A : Type 0} (f : ℕ → A) where
   pub length-from : (k n : ℕ) → length (from f k n) ≡ n

@@ -1,10 +1,10 @@
--- `quick::is_quiet` meets its contract. Assumes nothing.
+-- `inplace::is_quiet` meets its contract. Assumes nothing.
 use mathlib.Core.Path.{_∙_, ap}
 use mathlib.Core.Bool.{Bool, not, _||_}
 use lib.Dec.{eqb}
 use borrow.Author.Needs.{needs}
-use Rattle.quick.proofs.is_quiet.Statement.{statement}
-use Rattle.quick.proofs.is_quiet.Tie as tie
+use Rattle.inplace.proofs.is_quiet.Statement.{statement}
+use Rattle.inplace.proofs.is_quiet.Tie as tie
 
 is-backed-requires : tie.Need-is-backed-requires
 is-backed-requires c κs = search needs

@@ -1,4 +1,4 @@
--- `quick::slot_in` meets its contract. Assumes nothing.
+-- `inplace::slot_in` meets its contract. Assumes nothing.
 use mathlib.Core.Path.{_≡_, refl}
 use mathlib.Core.Logic.{inl, inr}
 use Prim.Native.Nat.{ℕ, _-_, _≤_, _<_}
@@ -9,9 +9,9 @@ use denote.Ref.{now}
 use borrow.Author.Needs.{needs}
 use Rattle.tables.specs.Slots.{slot-used}
 use Rattle.tables.proofs.Seating.{here, missed, further}
-use Rattle.quick.specs.Parts.{objects-in}
-use Rattle.quick.proofs.slot_in.Statement.{statement}
-use Rattle.quick.proofs.slot_in.Tie as tie
+use Rattle.inplace.specs.Bytes.{objects-in}
+use Rattle.inplace.proofs.slot_in.Statement.{statement}
+use Rattle.inplace.proofs.slot_in.Tie as tie
 
 abbrev Inv-loop : tie.InvT-loop
 Inv-loop objects numbers o i₀ i = (i ≤ 64) × ((j : ℕ) → j < i → T (slot-used (objects-in objects) j) → getD numbers j 0 ≡ o → ⊥)

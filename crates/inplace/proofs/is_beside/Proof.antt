@@ -1,4 +1,4 @@
--- `quick::is_beside` meets its contract. Assumes nothing.
+-- `inplace::is_beside` meets its contract. Assumes nothing.
 use mathlib.Core.Path.{_≡_, refl, sym, _∙_, ap, subst}
 use mathlib.Core.Bool.{Bool, true, false, cond}
 use mathlib.Core.List.{List}
@@ -14,10 +14,10 @@ use Rattle.tables.specs.declared.Handle.{Handle}
 use Rattle.tables.specs.Records.{no-handle}
 use Rattle.handles.specs.Working.{on}
 use Rattle.passes.proofs.Raising.{true-false}
-use Rattle.quick.specs.Parts.{handle-of, handles-in}
-use Rattle.quick.specs.Parts.Laws.{handle-there}
-use Rattle.quick.proofs.is_beside.Statement.{statement}
-use Rattle.quick.proofs.is_beside.Tie as tie
+use Rattle.inplace.specs.Bytes.{handle-of, handles-in}
+use Rattle.inplace.specs.Bytes.Laws.{handle-there}
+use Rattle.inplace.proofs.is_beside.Statement.{statement}
+use Rattle.inplace.proofs.is_beside.Tie as tie
 
 -- what holds of the numbers from 1 on, below k and of k, holds below k + 1
 more : (P : ℕ → Type 0) (k : ℕ) → ((j : ℕ) → 0 < j → j < k → P j) → P k → (j : ℕ) → 0 < j → j < k + 1 → P j

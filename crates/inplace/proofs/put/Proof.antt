@@ -1,13 +1,13 @@
--- `quick::put` meets its contract. Assumes nothing.
+-- `inplace::put` meets its contract. Assumes nothing.
 use mathlib.Core.Path.{_∙_, ap}
 use Prim.Native.Nat.{ℕ, _+_, _*_, _<_}
 use native.Mathlib.Omega.{arith}
 use lib.ListN.{set, length-set}
-use Rattle.quick.specs.Parts.{handles-in}
-use Rattle.quick.specs.Parts.Laws.{handles-stored, length-stored}
+use Rattle.inplace.specs.Bytes.{handles-in}
+use Rattle.inplace.specs.Bytes.Laws.{handles-stored, length-stored}
 use borrow.Author.Needs.{needs}
-use Rattle.quick.proofs.put.Statement.{statement}
-use Rattle.quick.proofs.put.Tie as tie
+use Rattle.inplace.proofs.put.Statement.{statement}
+use Rattle.inplace.proofs.put.Tie as tie
 
 slot-of-requires : tie.Need-slot-of-requires
 slot-of-requires c κs = search needs

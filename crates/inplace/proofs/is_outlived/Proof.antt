@@ -1,10 +1,10 @@
--- `quick::is_outlived` meets its contract. Assumes nothing.
+-- `inplace::is_outlived` meets its contract. Assumes nothing.
 use mathlib.Core.Path.{refl}
 use mathlib.Core.Logic.{inl, inr}
 use native.Mathlib.Omega.{arith}
 use borrow.Author.Needs.{needs}
-use Rattle.quick.proofs.is_outlived.Statement.{statement}
-use Rattle.quick.proofs.is_outlived.Tie as tie
+use Rattle.inplace.proofs.is_outlived.Statement.{statement}
+use Rattle.inplace.proofs.is_outlived.Tie as tie
 
 returns : tie.Need-returns
 returns c = (λ e. inl (omega (arith, c .if1 .taken)), λ v. refl)

@@ -1,4 +1,4 @@
--- `quick::is_at` meets its contract. Assumes nothing.
+-- `inplace::is_at` meets its contract. Assumes nothing.
 use mathlib.Core.Path.{sym, _∙_, ap}
 use mathlib.Core.Bool.{not, _&&_}
 use Prim.Native.Nat.{_%_}
@@ -8,9 +8,9 @@ use lib.Dec.{eqb}
 use denote.Ref.{now}
 use borrow.Author.Needs.{needs}
 use Rattle.tables.specs.declared.Object.{Object}
-use Rattle.quick.specs.Parts.Laws.{object-there}
-use Rattle.quick.proofs.is_at.Statement.{statement}
-use Rattle.quick.proofs.is_at.Tie as tie
+use Rattle.inplace.specs.Bytes.Laws.{object-there}
+use Rattle.inplace.proofs.is_at.Statement.{statement}
+use Rattle.inplace.proofs.is_at.Tie as tie
 
 mul-at : tie.Need-mul-at
 mul-at c = search needs
