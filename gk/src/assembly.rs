@@ -12,8 +12,9 @@ mod words;
 
 use crate::names::{Kind, Name, Names};
 use crate::text::{meant, shown};
+use gatekeeper::Call;
 use gk_advice::calls::{shape_of_word, Role, Shape, SHAPES};
-use gk_advice::records::{write_any, Records};
+use gk_advice::records::{write_any, Body, Record, Records};
 use gk_names::number::of_text;
 use words::fault;
 pub use words::{words_of, Fault, Word};
@@ -51,6 +52,17 @@ pub fn assemble(text: &[u8]) -> Result<Assembled, Fault> {
     }
     let names = assembler.names();
     Ok(Assembled { journal: assembler.journal, names })
+}
+
+/// The call of one line. A name stands for what it stood for last.
+pub fn call_of(line: &[u8], names: &Names) -> Result<Call, Fault> {
+    let mut assembler = Assembler { known: names.clone(), ..Assembler::default() };
+    assembler.line(line)?;
+    let mut records = Records::new(&assembler.journal);
+    match (records.next(), records.next()) {
+        (Some(Ok(Record { body: Body::Call(call), .. })), None) => Ok(call),
+        _ => Err(fault(1, "expected a call, found none", "Type a call, for example: open-read 0 1 2")),
+    }
 }
 
 impl Assembler {

@@ -4,6 +4,8 @@ mod arguments;
 mod commands;
 mod files;
 mod line;
+mod trying;
+mod why;
 
 use std::ffi::OsString;
 use std::io::{self, Write};
@@ -52,9 +54,15 @@ const fn command(word: &'static str, what: &'static str, work: Work) -> Command 
 pub const COMMANDS: &[Command] = &[
     command("run", "the replies to a journal", Work::Here(commands::run, help::RUN)),
     command("explain", "the replies in plain words", Work::Here(commands::explain, help::EXPLAIN)),
+    command("why", "where the level of a step or pipe comes from", Work::Here(why::why, help::WHY)),
     command("assemble", "from words to a journal", Work::Here(commands::assemble, help::ASSEMBLE)),
     command("disassemble", "from a journal to words", Work::Here(commands::disassemble, help::DISASSEMBLE)),
     command("line", "a typed line, each call with its answer", Work::Here(line::line, help::LINE)),
+    command(
+        "try",
+        "some calls after a journal, with their answers",
+        Work::Here(trying::try_calls, help::TRY),
+    ),
     command("trace", "the trace of a real run as a journal", Work::There(gk_trace::main)),
     command("screen", "the run to look at: a screen, or a page", Work::There(gk_screen::main)),
 ];

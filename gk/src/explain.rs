@@ -70,6 +70,11 @@ pub fn tell(
     look(journal, names, which, |moment| each(moment.told()))
 }
 
+/// Goes through a journal record by record, each with what came before it. The replies are held as [`tell`] holds them.
+pub fn walk(journal: &[u8], names: &Names, mut each: impl FnMut(&Step, &Past)) -> Result<End, Differs> {
+    look(journal, names, Which::All, |moment| each(moment.step, moment.past))
+}
+
 /// A record in its run, of which something may be said.
 struct Moment<'a> {
     step: &'a Step,
@@ -107,7 +112,7 @@ fn look(journal: &[u8], names: &Names, which: Which, mut each: impl FnMut(Moment
     }
 }
 
-/// What is said of a record that is not in a journal yet; `past` is what came before it.
+/// What is said of a record, be it in a journal or not; `past` is what came before it.
 pub fn told(step: &Step, names: &Names, past: &Past) -> Told {
     Moment { step, names, past }.told()
 }

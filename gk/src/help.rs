@@ -15,12 +15,13 @@ A first try:
   printf 'admit 0 9\\nregister 1 2\\nopen-read 0 1 0\\nread 0 0\\n' | tools/gk assemble | tools/gk run
   tools/gk explain --refused crates/payrun/stdin
 
-FILE is read from standard input if it is - or not given; screen needs a file or -, and line takes a line in
-its place. With -o FILE the output goes to a file, which is written whole or not at all and replaces no input;
+FILE is read from standard input if it is - or not given; screen, try and why need a file or -, and line takes a
+line in its place. With -o FILE the output goes to a file, which is written whole or not at all and replaces no input;
 -o - is standard output. screen has no -o. gk --version has the version of the gatekeeper that gives the answers.
 Exit status: 0 if all went well, whatever the replies; 1 for a bad text, a line that is refused as such (18, 19), a
-failed read or write, or a standard input or output that is closed; 2 for a bad command line; 141, without a word,
-where the reader of the output has stopped. In the repository's folder gk is tools/gk, which builds it first.
+thing that is never there, a failed read or write, or a standard input or output that is closed; 2 for a bad
+command line; 141, without a word, where the reader of the output has stopped. In the repository's folder gk is
+tools/gk, which builds it first.
 ";
 
 /// Pages that are no command's.
@@ -69,6 +70,54 @@ Examples: the pay run of March; its refusals; who held what; the refusals for an
   tools/gk explain --refused crates/payrun/stdin
   tools/gk explain --summary crates/payrun/stdin
   tools/gk explain --refused --json crates/payrun/stdin
+";
+
+pub const WHY: &str = "\
+gk why - where the level of a step or pipe comes from
+
+Usage: gk why JOURNAL THING [--at N] [--names FILE] [-o FILE]
+
+THING is a step or pipe, by number or by name: step 17, pipe 37, merge; or a file. Says which level it has,
+since which record, and which file the level is that of, or which step was admitted at it. Then come the records
+that brought it here, each as gk explain tells it: reads, writes, runs and maps at which a level fell, and
+forks, pipes and connects that handed it on. Where there are two ways, it is the one that was taken first. A file
+that a step created has its level from that step: ask for the file. The answers are the proved gatekeeper's; which
+records they are is found by gk and not proved.
+
+It is told of the end of the journal, or of the last record at which the thing is there. A number that is used
+again is another thing's: the last one's, or with --at the one's that is there then.
+
+  --at N        after record N, in place of the last one; 0 is before the first
+  --names FILE  the names of steps, files and pipes; else run.names beside run.journal, if it is there
+  -o FILE       write to this file
+
+Examples: in March, why step 1 is low; then what it created
+  tools/gk why crates/payrun/stdin step 1
+    After record 209, step 1 has level 2. It has had it since record 205; it started with level 12, at
+        record 203. The level is that of file 1. It is there until record 210.
+    How it came there, found by gk and not proved; the answers are the proved gatekeeper's:
+    2. File 1 is registered from outside at level 2.
+      Allowed. File 1 has level 2 for good.
+    205. Step 1 reads at place 0, its reading handle on file 1 (level 2).
+      Lowered. Step 1 falls from level 12 to level 2.
+    Another step 1 was there before it, from record 9 to record 202.
+  tools/gk why crates/payrun/stdin file 6
+    After record 304, file 6 has level 2. It has had it since record 206: that is the level it started
+        with. The level is that of file 1. It is there until record 305.
+    How it came there, found by gk and not proved; the answers are the proved gatekeeper's:
+    2. File 1 is registered from outside at level 2.
+      Allowed. File 1 has level 2 for good.
+    205. Step 1 reads at place 0, its reading handle on file 1 (level 2).
+      Lowered. Step 1 falls from level 12 to level 2.
+    206. Step 1 creates file 6.
+      Allowed. File 6 is empty and has the level of step 1, 2, for good.
+The step that had the number before; and with names
+  tools/gk why crates/payrun/stdin step 1 --at 202
+    After record 202, step 1 is not there. It was there from record 9 to record 202, and another one is
+        there from record 203 to record 210.
+  tools/gk why crates/payrun/stdin step 1 --at 201
+  tools/gk assemble gk/examples/march.txt -o march.journal
+  tools/gk why march.journal sheet reader
 ";
 
 pub const ASSEMBLE: &str = "\
@@ -206,6 +255,51 @@ Lines that go into a journal
   tools/gk explain --summary month.journal
 ";
 
+pub const TRY: &str = "\
+gk try - some calls after a journal, each with its answer
+
+Usage: gk try JOURNAL [--at N] [--refused] [--names FILE] [-o FILE] 'CALL' ...
+
+What would the gatekeeper say now? Each CALL is one line of gk help assemble, in quotes; they are made in their
+order, on a copy of the tables that the journal leaves. Nothing is run, and the journal stays as it is. Of each call
+is said what gk explain says of a record, with ways out where it is refused. A name stands for what it stood for
+at that point of the journal. A call that is refused does not stop the next one.
+
+  --at N        after record N, in place of the last one; 0 is before the first
+  --refused     only the calls that were refused, and the end
+  --names FILE  the names of steps, files and pipes; else run.names beside run.journal, if it is there
+  -o FILE       write to this file
+
+Examples: March, where record 196 is refused; and what is advised there
+  tools/gk try crates/payrun/stdin --at 195 'open-read 17 1 5' 'close 17 1' 'close 17 4' 'open-read 17 1 5'
+    Tried on a copy of the tables after 195 records.
+    196. Step 17 may not open file 1 for reading at place 5: it writes file 0.
+      Refused (9): low data could reach a higher file. Nothing is opened.
+      File 1 has level 2, and file 0 takes nothing from below level 9.
+      With the handles that there are, step 17 has to stay at level 12 or above.
+      The chain, found by gk and not proved:
+        file 1 (level 2) → step 17 (level 12) → file 0 (level 9)
+      What to do: close place 1 (writing pipe 37) and place 4 (writing file 0) of step 17; open it after
+        that.
+      Or: let another step open it: step 0 may.
+      Or: when a clerk has looked file 1 over, retire it, register it at level 12 or above, and open it
+        then.
+    197. Step 17 closes place 1, its writing handle on pipe 37 (level 12).
+      Allowed. Place 1 is empty.
+    198. Step 17 closes place 4, its writing handle on file 0 (level 9).
+      Allowed. Place 4 is empty.
+    199. Step 17 opens file 1 for reading at place 5.
+      Allowed. File 1 has level 2; step 17 keeps level 12 until it reads.
+    End of the calls: 3 allowed, 0 lowered, 1 refused.
+    Handles: 155 made, 92 gone, 63 still open.
+    The answers are the proved gatekeeper's. What to do is advice of gk and not proved; every advice
+        that names calls was tried on a copy of the tables as they were before its record, and was
+        allowed there.
+The same with names
+  tools/gk assemble gk/examples/march.txt -o march.journal
+  tools/gk try march.journal --at 195 'close merge 4' 'open-read merge \"the hours sheet of shop 3\" 5'
+";
+
 pub const NAMES: &str = "\
 Names for steps, files and pipes
 
@@ -226,8 +320,8 @@ number gets another name, or the name another number. Where a step exits, a file
 and the number is used again, gk explain does not take the old name for the new thing. A step's number is 0 to
 31; that of a file or pipe is 0 to 18446744073709551615, in a names file without commas.
 
-The names stand in a file beside the journal, run.names beside run.journal, which explain, disassemble and
-screen find there; --names FILE names another one. Its first line is `names 1`. Each other line is empty, a comment
+The names stand in a file beside the journal, run.names beside run.journal, which explain, why, disassemble, line, try
+and screen find there; --names FILE names another one. Its first line is `names 1`. Each other line is empty, a comment
 that starts with #, or a kind, a number, the first record and the name, with one space between two of them:
   names 1
   step 17 1 merge

@@ -11,7 +11,9 @@
 //! | [`names`] | names for steps, files and pipes, and the file that keeps them |
 //! | [`assembly`], [`disassembly`] | journals as text |
 //! | [`explain`] | all of it in sentences, as a summary, or as JSON |
+//! | [`trial`] | calls tried after a journal, each with its answer |
 //! | [`line`] | a typed line, each of its calls with its answer |
+//! | [`why`] | where the level of a step or pipe comes from |
 
 pub mod assembly;
 pub mod cli;
@@ -21,3 +23,5 @@ pub mod help;
 pub mod line;
 pub mod names;
 pub mod text;
+pub mod trial;
+pub mod why;

@@ -11,56 +11,11 @@ pub mod taken;
 mod telling;
 
 use gatekeeper::{Answer, Counts, Refusal, State as Monitor};
-use gk_advice::run::{agrees, Content, Run};
-use gk_advice::scene::Past;
 use gk_advice::things::{PLACES, STEPS};
 
+use crate::trial::Start;
 use calls::{calls_of, Numbers};
 use reading::{read, Fault, Pipeline};
-
-/// The tables that a journal leaves, and what a later record looks back on.
-pub struct Start {
-    pub monitor: Monitor,
-    pub records: u64,
-    /// The first record that was refused.
-    pub refused: Option<(u64, Refusal)>,
-    past: Past,
-}
-
-/// Why no line is tried after a journal.
-#[derive(Clone, Copy, Debug, PartialEq, Eq)]
-pub enum Unfit {
-    /// RULES R11, R14: it is not run to its end.
-    Refused(Refusal),
-    /// Record by record it got other replies than as a whole: a fault of this program.
-    Differs,
-}
-
-impl Start {
-    /// The tables after a journal. Its replies are held to the proved run of it.
-    pub fn after(journal: &[u8]) -> Result<Start, Unfit> {
-        let mut run = Run::new(journal);
-        let mut start = Start { monitor: Monitor::new(), records: 0, refused: None, past: Past::default() };
-        let mut lines = String::new();
-        for step in &mut run {
-            if let (Content::Stop(..) | Content::TooLong, Some(refusal)) = (step.content, step.refusal()) {
-                return Err(Unfit::Refused(refusal));
-            }
-            lines.push_str(&step.line());
-            lines.push('\n');
-            start.past.follow(&step);
-            start.records = step.position;
-            start.refused = start.refused.or(step.refusal().map(|refusal| (step.position, refusal)));
-        }
-        lines.push_str(&run.end_line());
-        lines.push('\n');
-        start.monitor = run.monitor().clone();
-        match agrees(journal, &lines) {
-            true => Ok(start),
-            false => Err(Unfit::Differs),
-        }
-    }
-}
 
 /// What the archive says of a line, and this program with it.
 #[derive(Clone, Debug, PartialEq, Eq)]
@@ -157,7 +112,7 @@ fn holds_same(one: &Monitor, other: &Monitor) -> bool {
 mod tests {
     use super::*;
     use crate::assembly::assemble;
-    use gatekeeper::{Call, JOURNAL_BYTES};
+    use gatekeeper::Call;
 
     const NUMBERS: Numbers = Numbers { shell: 0, child: 1, pipe: 10 };
 
@@ -225,15 +180,5 @@ mod tests {
         assert!(other.call(Call::OpenRead { subject: 0, object: 3, place: 2 }).granted().is_ok());
         assert!(other.call(Call::Close { subject: 0, place: 2 }).granted().is_ok());
         assert!(!holds_same(&one, &other));
-    }
-
-    #[test]
-    fn a_journal_that_is_not_run_to_its_end_leaves_no_tables() {
-        let unfit = |journal: &[u8]| Start::after(journal).map(|start| start.records);
-        assert_eq!(unfit(&[3, 1, 0, 9]), Ok(1));
-        assert_eq!(unfit(&[3, 1, 0, 9, 3]), Err(Unfit::Refused(Refusal::JournalBroken)));
-        assert_eq!(unfit(&[0; JOURNAL_BYTES + 1]), Err(Unfit::Refused(Refusal::JournalTooLong)));
-        let start = Start::after(&[1, 77, 3, 1, 0, 9]).unwrap();
-        assert_eq!((start.records, start.refused), (2, Some((1, Refusal::UnknownCode))));
     }
 }

@@ -4,45 +4,18 @@ mod common;
 
 use std::fs;
 use std::os::unix::fs::PermissionsExt;
-use std::process::{Command, Stdio};
 
-use common::{err, gk, journals, out, sees, Folder, ROOT};
+use common::{err, gk, journals, out, sees, types, Folder, ROOT};
 use gatekeeper::{Refusal, State as Monitor};
 use gk::assembly::assemble;
 use gk::explain::{explain, Which};
 use gk::line::calls::Numbers;
 use gk::line::taken::{taken, Given};
-use gk::line::{reading, verdict, Made, Start, Verdict};
+use gk::line::{reading, verdict, Made, Verdict};
 use gk::names::Names;
+use gk::trial::Start;
 
 const MONTH_END: &str = "gk/examples/month-end.txt";
-
-/// Types each command of a text, and holds what it writes to what stands below it; at `…` lines are left out. Says how
-/// many there were.
-fn types(name: &str, text: &str) -> usize {
-    let commands = text.split("$ tools/gk line ").skip(1);
-    let tried = commands.map(|part| {
-        let (typed, shown) = part.split_once('\n').unwrap();
-        let line = format!("'{}' line {typed} 2>&1", env!("CARGO_BIN_EXE_gk"));
-        let mut bash = Command::new("bash");
-        let output = bash.args(["-c", &line]).current_dir(ROOT).stdin(Stdio::null()).output().unwrap();
-        let text = out(&output);
-        let mut lines = text.lines();
-        let mut is_left_out = false;
-        for shown in shown.lines() {
-            let is_there = match (shown, is_left_out) {
-                ("…", _) => true,
-                (_, true) => lines.any(|line| line == shown),
-                (_, false) => lines.next() == Some(shown),
-            };
-            assert!(is_there, "{name} shows \"{shown}\" for {typed}, and this comes:\n{text}");
-            is_left_out = shown == "…";
-        }
-        assert!(is_left_out || lines.next().is_none(), "{name} does not show all of {typed}:\n{text}");
-        assert_eq!(output.status.code(), Some(i32::from(text.starts_with("gk: "))), "{typed}");
-    });
-    tried.count()
-}
 
 #[test]
 fn the_place_of_an_18_and_the_pipeline_of_a_19_are_marked() {
@@ -62,13 +35,6 @@ fn wrong(line: &str) -> String {
     let output = gk(&["line", line], b"");
     assert_eq!((output.status.code(), out(&output)), (Some(1), String::new()), "{line}");
     err(&output)
-}
-
-#[test]
-fn the_page_for_operators_shows_what_comes() {
-    let page = fs::read_to_string(format!("{ROOT}/docs/OPERATOR.md")).unwrap();
-    let blocks = page.split("```\n").skip(1).step_by(2);
-    assert_eq!(blocks.map(|block| types("docs/OPERATOR.md", block)).sum::<usize>(), 5);
 }
 
 #[test]

@@ -6,11 +6,11 @@ use std::fs;
 use std::io::Read;
 use std::process::{Command, Stdio};
 
-use common::{err, gk, journals, out, Folder, ROOT};
+use common::{err, gk, journals, out, types, Folder, ROOT};
 use gk::{cli, help};
 
 const MARCH: &str = "crates/payrun/stdin";
-/// Those that read a file; `line` takes a line in its place.
+/// Those that read a file; `line` takes a line in its place, `try` calls and `why` a thing behind it.
 const COMMANDS: [&str; 4] = ["run", "explain", "assemble", "disassemble"];
 
 #[test]
@@ -21,7 +21,7 @@ fn help_teaches_with_an_example() {
     }
     let helps = cli::helps();
     let words: Vec<&str> = helps.iter().map(|(word, _)| *word).collect();
-    assert_eq!(words, [&COMMANDS[..], &["line"]].concat());
+    assert_eq!(words, ["run", "explain", "why", "assemble", "disassemble", "line", "try"]);
     for (command, text) in helps {
         assert!(cli::whole_help().contains(&format!("  {command} ")), "{command}");
         assert!(text.contains("Example"), "{command}");
@@ -83,8 +83,15 @@ fn the_examples_of_the_help_run() {
             tried += 1;
         }
     }
-    assert!(tried >= 21, "only {tried} examples were found");
+    assert!(tried >= 30, "only {tried} examples were found");
     assert!(folder.files().contains(&"march.names".to_string()));
+}
+
+#[test]
+fn the_page_for_operators_shows_what_comes() {
+    let page = fs::read_to_string(format!("{ROOT}/docs/OPERATOR.md")).unwrap();
+    let blocks = page.split("```\n").skip(1).step_by(2);
+    assert_eq!(blocks.map(|block| types("docs/OPERATOR.md", block)).sum::<usize>(), 8);
 }
 
 #[test]
@@ -123,6 +130,18 @@ fn a_bad_command_line_has_status_2() {
         (&["line", "--append", "-", "3"], "--append needs a file, not standard output"),
         (&["line", "-3"], "there is no option \"-3\""),
         (&["lines"], "Did you mean: line"),
+        (&["why"], "expected a journal, and a thing behind it, as: step 17, pipe 37, or a name"),
+        (&["why", MARCH], "expected a journal, and a thing behind it"),
+        (&["why", MARCH, "17"], "expected a journal, and a thing behind it"),
+        (&["why", MARCH, "step 1", "--at", "307"], "a record of the journal, which has 306 records"),
+        (&["why", MARCH, "step 1", "--at", "x"], "--at needs a number behind it, found \"x\""),
+        (&["why", "--refused", MARCH, "step 1"], "Its options are: --at, --names, -o"),
+        (&["try"], "expected a journal, and calls behind it, each in quotes"),
+        (&["try", MARCH], "expected a journal, and calls behind it, each in quotes"),
+        (&["try", MARCH, "--at"], "--at needs a number behind it"),
+        (&["try", MARCH, "--at", "last", "exit 0"], "--at needs a number behind it, found \"last\""),
+        (&["try", MARCH, "--at", "307", "exit 0"], "a record of the journal, which has 306 records"),
+        (&["try", "--json", MARCH, "exit 0"], "Its options are: --at, --names, -o, --refused"),
     ];
     for (arguments, words) in wrong {
         let output = gk(arguments, b"");
@@ -237,6 +256,11 @@ fn an_output_replaces_no_input() {
         "line --set-up run.txt -o run.txt 3",
         "line --set-up - -o run.txt 3 <run.txt",
         "line --set-up run.txt -o run.journal <run.journal",
+        "why run.journal -o run.journal step 0",
+        "why - step 0 -o run.journal <run.journal",
+        "try run.journal -o run.journal 'exit 0'",
+        "try - -o run.journal 'exit 0' <run.journal",
+        "try run.journal -o run.names 'exit 0'",
     ] {
         let output = Command::new("bash")
             .args(["-c", &format!("'{}' {line}", env!("CARGO_BIN_EXE_gk"))])
@@ -267,6 +291,8 @@ fn a_closed_input_has_status_1_where_it_is_to_be_read() {
         "line",
         "line --after - 3",
         "line --set-up - 3",
+        "try - 'exit 0'",
+        "why - step 0",
         &trace,
         "screen -",
     ] {

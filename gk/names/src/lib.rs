@@ -195,6 +195,15 @@ impl Names {
             .then_some((kind, number))
     }
 
+    /// The names as they were up to a record: those that were given later are left out.
+    pub fn until(&self, record: u64) -> Names {
+        let mut names = Names::new();
+        for entry in self.entries().take_while(|entry| entry.from <= record) {
+            names.give(entry.kind, entry.number, entry.from, entry.name.clone());
+        }
+        names
+    }
+
     /// Every entry, rising by record, then as given.
     pub fn entries(&self) -> impl Iterator<Item = &Entry> {
         let mut order: Vec<&Entry> = self.entries.iter().collect();
@@ -270,5 +279,8 @@ mod tests {
         assert_eq!(called(&names, Kind::Step, 17, 40), Some("merge"));
         assert_eq!(names.find("merge", 39), Some((Kind::Step, 3)));
         assert_eq!(names.find("merge", 40), Some((Kind::Step, 17)));
+        assert_eq!(names.until(39).find("merge", u64::MAX), Some((Kind::Step, 3)));
+        assert_eq!(names.until(40), names);
+        assert!(names.until(0).is_empty());
     }
 }

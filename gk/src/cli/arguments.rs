@@ -9,7 +9,7 @@ use crate::text::{meant, shown};
 use gk_names::number::of_text;
 
 /// The options that take a number; any other with a value takes a file.
-pub const NUMBERS: [&str; 3] = ["--shell", "--child", "--pipe"];
+pub const NUMBERS: [&str; 4] = ["--shell", "--child", "--pipe", "--at"];
 
 /// Arguments, sorted.
 pub struct Arguments {
@@ -72,6 +72,19 @@ impl Arguments {
         Failure::Usage(format!("{command}: {message}. Type: gk help {command}"))
     }
 
+    /// A complaint about a record that the journal does not have.
+    pub fn beyond(&self, records: u64) -> Failure {
+        let records = match records {
+            1 => "1 record".to_string(),
+            records => format!("{records} records"),
+        };
+        self.wrong(&format!("--at needs a record of the journal, which has {records}"))
+    }
+
+    pub fn command(&self) -> &'static str {
+        self.command
+    }
+
     pub fn has(&self, switch: &str) -> bool {
         self.switches.contains(&switch)
     }
@@ -107,6 +120,11 @@ impl Arguments {
         let wrong =
             || self.wrong(&format!("{option} needs a number behind it, found \"{}\"", shown(&text)));
         of_text(&text).map(Some).ok_or_else(wrong)
+    }
+
+    /// What stands behind the first argument that is no option, which is then the one file.
+    pub fn behind_file(&mut self) -> Vec<OsString> {
+        self.files.split_off(self.files.len().min(1))
     }
 
     /// The one file; none for standard input.

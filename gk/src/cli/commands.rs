@@ -49,7 +49,7 @@ pub fn names_beside(journal: Option<&OsStr>) -> Option<PathBuf> {
 }
 
 /// Writes what was made of a journal and its names, and replaces neither.
-fn write_result(arguments: &Arguments, text: &str) -> Done {
+pub fn write_result(arguments: &Arguments, text: &str) -> Done {
     let beside = names_beside(arguments.file()?);
     let names = arguments.value("--names").map(Path::new).or(beside.as_deref());
     arguments.keep_input(&[arguments.out().map(Path::new)], &[names])?;

@@ -13,14 +13,16 @@ use gk_names::number::shown as with_commas;
 use super::arguments::Arguments;
 use super::commands::{assembled, names_beside, read_journal, read_names};
 use super::files::{name_of, read_input, write_output, write_whole};
+use super::trying::{untried, REPORT};
 use super::{remark, Done, Failure};
 use crate::explain::Which;
 use crate::line::reading::{read, Fault};
 use crate::line::taken::{taken, Given};
-use crate::line::{verdict, Differs, Start, Unfit, Verdict};
+use crate::line::{verdict, Differs, Verdict};
 use crate::names::files::{is_input_open, replaces, INPUT, REPLACES};
 use crate::names::Names;
 use crate::text::marked;
+use crate::trial::Start;
 
 /// The longest line that is tried, in bytes: nobody types so much, and input without end is no line.
 const LONGEST_LINE: usize = 1 << 16;
@@ -39,7 +41,7 @@ pub fn line(arguments: Vec<OsString>) -> Done {
     let base = Base::of(&arguments, typed)?;
     base.keep_inputs(&arguments, typed)?;
     let (journal, names) = base.read(&arguments)?;
-    let start = Start::after(&journal).map_err(|unfit| base.unfit(unfit))?;
+    let start = Start::after(&journal).map_err(|unfit| untried(&arguments, base.file(), "line", unfit))?;
     let line = read_line(typed)?;
 
     let (numbers, words) = taken(given, &start, &read(&line).unwrap_or_default(), &names);
@@ -128,19 +130,6 @@ impl<'a> Base<'a> {
             _ => Ok(()),
         }
     }
-
-    fn unfit(&self, unfit: Unfit) -> Failure {
-        let name = name_of(self.file());
-        Failure::Failed(match unfit {
-            Unfit::Refused(refusal) => {
-                format!("line: {name}: {} No line is tried after it", answer_words(refusal))
-            }
-            Unfit::Differs => format!(
-                "line: {name}: record by record it got other replies than as a whole, and no line is tried after it. \
-                 {REPORT}"
-            ),
-        })
-    }
 }
 
 /// What is typed, without the end of a line that stands behind it on standard input.
@@ -168,8 +157,6 @@ fn read_line(typed: Option<&OsStr>) -> Result<Vec<u8>, Failure> {
         false => Ok(line),
     }
 }
-
-const REPORT: &str = "That is a fault of gk: please report it";
 
 fn differs(differs: Differs) -> Failure {
     let what = match differs {

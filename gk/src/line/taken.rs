@@ -8,9 +8,9 @@ use gk_names::number::shown;
 
 use super::calls::Numbers;
 use super::reading::Pipeline;
-use super::Start;
 use crate::names::Names;
 use crate::text::paragraph;
+use crate::trial::Start;
 
 /// What was given; none where it is to be found.
 #[derive(Clone, Copy, Debug, Default, PartialEq, Eq)]
@@ -74,11 +74,7 @@ fn words(
 ) -> String {
     let Start { monitor, records, .. } = start;
     let scene = Scene { monitor, record: records + 1, names, lives: &start.past.lives, unnamed: None };
-    let tried = match records {
-        0 => "Tried on empty tables.".to_string(),
-        1 => "Tried on a copy of the tables after 1 record.".to_string(),
-        records => format!("Tried on a copy of the tables after {records} records."),
-    };
+    let tried = start.words();
     let pipe = pipe.map_or_else(
         || "No pipes.".to_string(),
         |why| format!("Pipes: from number {} on, {why}.", shown(numbers.pipe)),

@@ -1,14 +1,14 @@
 //! What is said of a line's calls: each with its answer, as `explain` tells a record, stage by stage; and the counts.
 
-use gatekeeper::{Call, Counts};
-use gk_advice::run::{Content, Step};
+use gatekeeper::Call;
 
 use super::calls::{calls_of, Part};
 use super::reading::Pipeline;
-use super::{Made, Start};
-use crate::explain::{told, Which, ADVICE};
+use super::Made;
+use crate::explain::Which;
 use crate::names::Names;
 use crate::text::paragraph;
+use crate::trial::{Start, Trial};
 
 impl Made {
     /// The calls, in order.
@@ -19,46 +19,25 @@ impl Made {
 
     /// The calls with their answers in sentences, as the records behind those of the start, and the counts.
     pub fn text(&self, start: &Start, names: &Names, which: Which) -> String {
-        let mut monitor = start.monitor.clone();
-        let mut past = start.past.clone();
-        let mut position = start.records;
+        let mut trial = Trial::new(start, names, which);
         let mut text = String::new();
-        let mut has_ways = false;
         for (count, pipeline) in (1..).zip(&self.pipelines) {
             let mut over = None;
             for (part, call) in calls_of(&pipeline.stages, self.numbers) {
-                position += 1;
-                let before = monitor.clone();
-                let answer = monitor.call(call);
-                let (code, content, after) = (call.code(), Content::Call(call), monitor.clone());
-                let step = Step { position, code, content, answer, before, after };
-                if which == Which::All || step.refusal().is_some() {
-                    if over.is_none() {
-                        text.push_str(&paragraph("", &format!("Pipeline {count}: {pipeline}")));
-                    }
-                    if over != Some(part) {
-                        text.push_str(&heading(part, pipeline));
-                    }
-                    over = Some(part);
-                    let told = told(&step, names, &past);
-                    has_ways |= told.counsel.is_tried();
-                    text.push_str(&told.text());
+                let Some(told) = trial.call(call) else {
+                    continue;
+                };
+                if over.is_none() {
+                    text.push_str(&paragraph("", &format!("Pipeline {count}: {pipeline}")));
                 }
-                past.follow(&step);
+                if over != Some(part) {
+                    text.push_str(&heading(part, pipeline));
+                }
+                over = Some(part);
+                text.push_str(&told);
             }
         }
-        let Counts { allowed, lowered, refused } = self.counts;
-        text.push_str(&format!(
-            "End of the line: {allowed} allowed, {lowered} lowered, {refused} refused.\n\
-             Handles: {} made, {} gone, {} still open.\n",
-            monitor.made(),
-            monitor.gone(),
-            monitor.open()
-        ));
-        if has_ways {
-            text.push_str(&paragraph("", ADVICE));
-        }
-        text
+        text + &trial.end("line")
     }
 }
 

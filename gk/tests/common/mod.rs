@@ -50,6 +50,33 @@ pub fn sees(text: &str, parts: &[&str]) {
     }
 }
 
+/// Types each command of a text, and holds what it writes to what stands below it; at `…` lines are left out. Says how
+/// many there were.
+pub fn types(name: &str, text: &str) -> usize {
+    let commands = text.split("$ tools/gk ").skip(1);
+    let tried = commands.map(|part| {
+        let (typed, shown) = part.split_once('\n').unwrap();
+        let line = format!("'{}' {typed} 2>&1", env!("CARGO_BIN_EXE_gk"));
+        let mut bash = Command::new("bash");
+        let output = bash.args(["-c", &line]).current_dir(ROOT).stdin(Stdio::null()).output().unwrap();
+        let text = out(&output);
+        let mut lines = text.lines();
+        let mut is_left_out = false;
+        for shown in shown.lines() {
+            let is_there = match (shown, is_left_out) {
+                ("…", _) => true,
+                (_, true) => lines.any(|line| line == shown),
+                (_, false) => lines.next() == Some(shown),
+            };
+            assert!(is_there, "{name} shows \"{shown}\" for {typed}, and this comes:\n{text}");
+            is_left_out = shown == "…";
+        }
+        assert!(is_left_out || lines.next().is_none(), "{name} does not show all of {typed}:\n{text}");
+        assert_eq!(output.status.code(), Some(i32::from(text.starts_with("gk: "))), "{typed}");
+    });
+    tried.count()
+}
+
 /// The stored journals, by name: those that the independent program has drawn, and the pay run of March.
 pub fn journals() -> Vec<(String, Vec<u8>)> {
     let folder = Path::new(env!("CARGO_MANIFEST_DIR")).join("tests/journals");

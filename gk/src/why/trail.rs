@@ -1,0 +1,179 @@
+//! Where levels come from: each thing of a run, when it was there, and which records set its level, with the thing that
+//! each took it from. All levels are asked of the proved monitor; which thing one was taken from is worked out here.
+
+use std::collections::{BTreeMap, BTreeSet};
+
+use gatekeeper::{Call, State as Monitor};
+use gk_advice::run::{Content, Step};
+use gk_advice::things::{is_pipe, level, objects, Thing, STEPS};
+use gk_names::Kind;
+
+/// A thing, for as long as it has its number: under a number that is used again stands another one.
+#[derive(Clone, Debug, PartialEq, Eq)]
+pub struct Stay {
+    pub kind: Kind,
+    pub number: u64,
+    /// The record that made it.
+    pub from: u64,
+    /// The record with which it went.
+    pub until: Option<u64>,
+    /// The record with which the thing before it under this number went; 0 where there was none.
+    pub before: u64,
+    /// The records that set its level: the one that made it, and those at which it fell.
+    pub marks: Vec<Mark>,
+}
+
+/// A record that set the level of a thing.
+#[derive(Clone, Copy, Debug, PartialEq, Eq)]
+pub struct Mark {
+    pub record: u64,
+    pub level: u8,
+    /// The thing that it took the level from, by its place in the list; none where it came from outside.
+    source: Option<usize>,
+}
+
+/// A link of a chain: a thing, by its place in the list, and the record that gave it the level.
+#[derive(Clone, Copy, Debug, PartialEq, Eq)]
+pub struct Link {
+    pub stay: usize,
+    pub record: u64,
+    pub level: u8,
+}
+
+/// Every thing of a run.
+#[derive(Clone, Debug, Default)]
+pub struct Trail {
+    pub stays: Vec<Stay>,
+    /// How many records there were.
+    pub records: u64,
+    /// The last thing under each number: the one that is there, where one is.
+    last: BTreeMap<Thing, usize>,
+}
+
+impl Stay {
+    pub fn thing(&self) -> Thing {
+        match self.kind {
+            Kind::Step => Thing::Step(self.number),
+            Kind::File | Kind::Pipe => Thing::Object(self.number),
+        }
+    }
+
+    /// Whether it is there after a record.
+    pub fn is_at(&self, record: u64) -> bool {
+        self.from <= record && self.until.is_none_or(|until| record < until)
+    }
+
+    /// What set the level that it has after a record.
+    pub fn mark(&self, record: u64) -> Option<Mark> {
+        self.marks.iter().rev().find(|mark| mark.record <= record).copied()
+    }
+}
+
+impl Trail {
+    /// Takes note of a record.
+    pub fn follow(&mut self, step: &Step) {
+        self.records = step.position;
+        let (Content::Call(call), None) = (step.content, step.refusal()) else {
+            return;
+        };
+        let objects = objects(&step.before).chain(objects(&step.after)).map(Thing::Object);
+        let things: BTreeSet<Thing> = (0..STEPS).map(Thing::Step).chain(objects).collect();
+        let levels = |thing: Thing| (level(&step.before, thing), level(&step.after, thing));
+        let changed: Vec<Thing> =
+            things.into_iter().filter(|&thing| levels(thing).0 != levels(thing).1).collect();
+        // All that is taken is there before the record; so the sources are found first.
+        let sources: Vec<Option<usize>> = changed
+            .iter()
+            .map(|&thing| source(thing, call, &step.before).and_then(|from| self.last.get(&from).copied()))
+            .collect();
+        for (thing, source) in changed.into_iter().zip(sources) {
+            match (levels(thing), self.last.get(&thing).copied()) {
+                ((None, Some(level)), _) => {
+                    let mark = Mark { record: step.position, level, source };
+                    self.arrive(thing, mark, &step.after);
+                }
+                ((_, Some(level)), Some(stay)) => {
+                    self.stays[stay].marks.push(Mark { record: step.position, level, source });
+                }
+                (_, Some(stay)) => self.stays[stay].until = Some(step.position),
+                (_, None) => {}
+            }
+        }
+    }
+
+    fn arrive(&mut self, thing: Thing, mark: Mark, after: &Monitor) {
+        let (kind, number) = match thing {
+            Thing::Step(s) => (Kind::Step, s),
+            Thing::Object(o) if is_pipe(after, o) => (Kind::Pipe, o),
+            Thing::Object(o) => (Kind::File, o),
+        };
+        let place = self.stays.len();
+        let last = self.last.insert(thing, place);
+        let before = last.and_then(|last| self.stays[last].until).unwrap_or(0);
+        let (from, until, marks) = (mark.record, None, vec![mark]);
+        self.stays.push(Stay { kind, number, from, until, before, marks });
+    }
+
+    /// How a thing came to the level that it has after a record, from the first link on; none where it is not there then.
+    /// The first link is a file, or a step that was admitted: with them a level comes in.
+    pub fn chain(&self, stay: usize, record: u64) -> Vec<Link> {
+        let mut chain: Vec<Link> = Vec::new();
+        let mut next = Some((stay, record)).filter(|_| self.stays[stay].is_at(record));
+        while let Some((stay, record)) = next {
+            let Some(mark) = self.stays[stay].mark(record) else {
+                break;
+            };
+            // A file has its level for good. Only where it is the file itself that is asked for goes the chain on.
+            let is_end = self.stays[stay].kind == Kind::File && !chain.is_empty();
+            chain.push(Link { stay, record: mark.record, level: mark.level });
+            // What the source had just before the record.
+            next = mark.source.map(|source| (source, mark.record - 1)).filter(|_| !is_end);
+        }
+        chain.reverse();
+        chain
+    }
+}
+
+/// From where a thing takes the level that a call gives it; none where the level comes from outside.
+fn source(thing: Thing, call: Call, before: &Monitor) -> Option<Thing> {
+    let (step, object) = (Thing::Step, Thing::Object);
+    match call {
+        Call::Create { subject, .. } | Call::Pipe { subject, .. } | Call::Fork { subject, .. } => {
+            Some(step(subject))
+        }
+        Call::Connect { subject, to, .. } if thing == object(to) => Some(step(subject)),
+        Call::Connect { peer, .. } => Some(step(peer)),
+        Call::Read { subject, place } => before.handle(subject, place).map(|handle| object(handle.object)),
+        Call::Write { subject, place } => {
+            let written = object(before.handle(subject, place)?.object);
+            // RULES C111: who has a file mapped reads it after each write to it.
+            Some(if thing == written { step(subject) } else { written })
+        }
+        Call::Exec { object: o, .. } | Call::Map { object: o, .. } => Some(object(o)),
+        _ => None,
+    }
+}
+
+#[cfg(test)]
+mod tests {
+    use super::*;
+
+    /// RULES C111. No journal has a reader that falls so, but a host's tables could.
+    #[test]
+    fn who_has_a_file_mapped_takes_its_level_from_the_file() {
+        let mut monitor = Monitor::new();
+        for call in [
+            Call::Register { object: 1, level: 3 },
+            Call::Admit { subject: 0, level: 9 },
+            Call::Admit { subject: 4, level: 9 },
+            Call::Map { subject: 0, object: 1, place: 0 },
+            Call::OpenWrite { subject: 4, object: 1, place: 2 },
+        ] {
+            assert!(monitor.call(call).granted().is_ok(), "{call:?}");
+        }
+        let write = Call::Write { subject: 4, place: 2 };
+        assert_eq!(source(Thing::Step(0), write, &monitor), Some(Thing::Object(1)));
+        assert_eq!(source(Thing::Object(1), write, &monitor), Some(Thing::Step(4)));
+        assert_eq!(source(Thing::Object(1), Call::Write { subject: 4, place: 3 }, &monitor), None);
+    }
+}

@@ -1,0 +1,372 @@
+//! Where a level comes from: the chain of records behind it.
+
+mod common;
+
+use std::collections::BTreeMap;
+use std::fs;
+
+use common::{err, gk, journals, out, sees, Folder};
+use gk::names::Kind;
+use gk::why::trail::{Link, Trail};
+use gk_advice::run::{Content, Run, Step};
+use gk_advice::things::{level, objects, steps, Thing};
+
+/// What is said of a thing of a text's journal.
+fn why(text: &str, arguments: &[&str]) -> String {
+    let journal = gk(&["assemble"], text.as_bytes());
+    assert_eq!(journal.status.code(), Some(0), "{}", err(&journal));
+    let output = gk(&[&["why", "-"], arguments].concat(), &journal.stdout);
+    assert_eq!((output.status.code(), err(&output)), (Some(0), String::new()), "{arguments:?}");
+    out(&output)
+}
+
+/// The records of the chain that is told.
+fn records(told: &str) -> Vec<u64> {
+    told.lines().filter_map(|line| line.split_once(". ")?.0.parse().ok()).collect()
+}
+
+/// That a thing has this chain, and that these words are said.
+fn has(text: &str, arguments: &[&str], chain: &[u64], words: &[&str]) {
+    let told = why(text, arguments);
+    assert_eq!(records(&told), chain, "{told}");
+    sees(&told.split_whitespace().collect::<Vec<&str>>().join(" "), words);
+}
+
+#[test]
+fn a_level_is_followed_through_reads_writes_and_pipes() {
+    let text =
+        "register 1 2\nadmit 0 9\nadmit 1 9\npipe 0 5 0 1\nopen-read 1 5 0\nopen-read 0 1 2\nread 0 2\n\
+                write 0 1\nread 1 0\nread 1 0\nwrite 0 1\n";
+    has(
+        text,
+        &["step", "0"],
+        &[1, 7],
+        &["step 0 has level 2. It has had it since record 7; it started with level 9"],
+    );
+    has(
+        text,
+        &["pipe", "5"],
+        &[1, 7, 8],
+        &["pipe 5 has level 2. It has had it since record 8", "that of file 1."],
+    );
+    assert_eq!(
+        why(text, &["step", "1"]),
+        "After record 11, step 1 has level 2. It has had it since record 9; it started with level 9, at\n    record 3. \
+         The level is that of file 1.\n\
+         How it came there, found by gk and not proved; the answers are the proved gatekeeper's:\n\
+         1. File 1 is registered from outside at level 2.\n  Allowed. File 1 has level 2 for good.\n\
+         7. Step 0 reads at place 2, its reading handle on file 1 (level 2).\n  Lowered. Step 0 falls from level 9 to \
+         level 2.\n\
+         8. Step 0 writes at place 1, its writing handle on pipe 5 (level 9).\n  Lowered. Pipe 5 falls from level 9 to \
+         level 2.\n\
+         9. Step 1 reads at place 0, its reading handle on pipe 5 (level 2).\n  Lowered. Step 1 falls from level 9 to \
+         level 2.\n"
+    );
+    // Before it fell.
+    has(
+        text,
+        &["step 1", "--at", "8"],
+        &[3],
+        &["has level 9. It has had it since record 3: that is the level it started"],
+    );
+}
+
+#[test]
+fn a_level_is_handed_on_by_forks_pipes_and_connects() {
+    let low = "register 1 2\nadmit 0 9\nopen-read 0 1 0\nread 0 0\n";
+    let is_start = "that is the level it started with. The level is that of file 1.";
+    has(&format!("{low}fork 0 3\n"), &["step 3"], &[1, 4, 5], &[is_start]);
+    has(&format!("{low}fork 0 3\nfork 3 4\nexit 3\n"), &["step 4"], &[1, 4, 5, 6], &[is_start]);
+    has(&format!("{low}pipe 0 5 1 2\n"), &["pipe 5"], &[1, 4, 5], &[is_start]);
+    // A fork before the fall hands on what there was.
+    has(
+        "register 1 2\nadmit 0 9\nfork 0 3\nopen-read 0 1 0\nread 0 0\n",
+        &["step 3"],
+        &[2, 3],
+        &["has level 9."],
+    );
+    // Each pipe of a connect has the level of its own writer.
+    let talk = "admit 0 9\nadmit 1 2\nconnect 0 1 5 6 0 1\nread 0 0\n";
+    has(talk, &["pipe 5"], &[1, 3], &["The level is that at which step 0 was admitted."]);
+    has(talk, &["pipe 6"], &[2, 3], &["The level is that at which step 1 was admitted."]);
+    has(talk, &["step 0"], &[2, 3, 4], &["it started with level 9", "that at which step 1 was admitted."]);
+    has(talk, &["step 1"], &[2], &["that is the level it started with. How"]);
+}
+
+#[test]
+fn what_is_run_or_mapped_lowers() {
+    let run = "admit 0 9\nregister 7 4\nregister 8 12\nexec 0 8\nexec 0 7\nexec 0 7\n";
+    has(run, &["step 0"], &[2, 5], &["it started with level 9, at record 1. The level is that of file 7."]);
+    // A write to a mapped file is read by who has it mapped, and lowers nobody: the level came with the map.
+    let map =
+        "admit 0 9\nregister 1 3\nadmit 4 9\nmap 0 1 0\nopen-write 4 1 0\nwrite 4 0\nfork 0 2\nwrite 4 0\n";
+    has(
+        map,
+        &["step 0"],
+        &[2, 4],
+        &["since record 4; it started with level 9", "The level is that of file 1."],
+    );
+    has(map, &["step 2"], &[2, 4, 7], &["that is the level it started with. The level is that of file 1."]);
+    has(map, &["step 4"], &[3], &["has level 9."]);
+}
+
+/// Of two ways that would do, the one that was taken is told; of two falls the last one.
+#[test]
+fn the_way_that_was_taken_is_told() {
+    let text = "register 1 2\nregister 2 2\nregister 3 5\nadmit 0 9\nopen-read 0 1 0\nopen-read 0 2 1\nopen-read 0 3 2\n\
+                read 0 2\nread 0 1\nread 0 0\n";
+    has(
+        text,
+        &["step 0"],
+        &[2, 9],
+        &["has level 2. It has had it since record 9", "The level is that of file 2."],
+    );
+    has(text, &["step 0", "--at", "8"], &[3, 8], &["has level 5.", "The level is that of file 3."]);
+    // The pipe was low already when the second step wrote to it.
+    let two = "admit 0 2\nadmit 1 2\nadmit 2 9\npipe 2 5 0 1\nopen-write 0 5 0\nopen-write 1 5 0\nwrite 1 0\nwrite 0 0\nread 2 0\n";
+    has(two, &["step 2"], &[2, 7, 9], &["The level is that at which step 1 was admitted."]);
+    // What was refused is no link, though it asked for the same.
+    let refused = "register 1 2\nregister 9 9\nadmit 0 9\nopen-write 0 9 0\nopen-read 0 1 1\nclose 0 0\nopen-read 0 1 1\nread 0 1\n";
+    has(refused, &["step 0"], &[1, 8], &["has level 2."]);
+}
+
+/// A number that is used again is another thing's, whatever the first one came to.
+#[test]
+fn numbers_that_are_used_again_are_told_apart() {
+    let text = "name file 1 sheet\nname step 0 reader\nregister 1 2\nadmit 0 9\nopen-read 0 1 0\nread 0 0\npipe 0 5 1 2\n\
+                fork 0 3\nclose 0 0\nclose 3 0\nretire 1\nregister 1 12\nexit 0\nadmit 0 7\nexit 3\npipe 0 5 1 2\n";
+    let folder = Folder::new("why-again");
+    let journal = folder.path("run.journal");
+    assert_eq!(gk(&["assemble", "-o", &journal], text.as_bytes()).status.code(), Some(0));
+    let told = |arguments: &[&str]| out(&gk(&[&["why", &journal], arguments].concat(), b""));
+    // The file is retired and its number another one's; the chain has the one that was read.
+    let step = told(&["step 3"]);
+    assert_eq!(records(&step), [1, 4, 6]);
+    sees(&step, &["The level is that of sheet (file 1)."]);
+    // The step that is there now has not fallen, and is not called as the one before it.
+    let step = told(&["step 0"]);
+    assert_eq!(records(&step), [12]);
+    sees(
+        &step,
+        &[
+            "After record 14, step 0 has level 7.",
+            "Another step 0 was there before it, from record 2 to record 11.",
+        ],
+    );
+    let reader = told(&["reader"]);
+    assert_eq!(records(&reader), [1, 4]);
+    sees(&reader, &["After record 10, reader (step 0) has level 2.", "It is there until record 11."]);
+    assert_eq!(records(&told(&["step 0", "--at", "9"])), [1, 4]);
+    let pipe = told(&["pipe 5"]);
+    assert_eq!(records(&pipe), [12, 14]);
+    assert_eq!(records(&told(&["pipe 5", "--at", "12"])), [1, 4, 5]);
+    sees(&told(&["pipe 5", "--at", "12"]), &["Another pipe 5 comes after it, from record 14 on."]);
+    assert_eq!(records(&told(&["file 1"])), [10]);
+    assert_eq!(records(&told(&["sheet"])), [1]);
+    // Between two of them there is none.
+    assert_eq!(
+        told(&["step", "0", "--at", "11"]),
+        "After record 11, step 0 is not there. It was there from record 2 to record 11, and another one is\n    there from \
+         record 12 on.\n"
+    );
+    assert_eq!(
+        told(&["step 0", "--at", "0"]),
+        "After record 0, step 0 is not there. It is there from record 2 to record 11.\n"
+    );
+    assert_eq!(
+        told(&["reader", "--at", "14"]),
+        "After record 14, reader is not there. It was there from record 2 to record 11.\n"
+    );
+    assert_eq!(
+        told(&["step 3", "--at", "14"]),
+        "After record 14, step 3 is not there. It was there from record 6 to record 13.\n"
+    );
+}
+
+/// A chain ends at a file, also at one that a step created; from there on the file itself is asked for.
+#[test]
+fn a_created_file_is_asked_for_itself() {
+    let text = "register 1 2\nadmit 0 9\nopen-read 0 1 0\nread 0 0\ncreate 0 6\nadmit 1 9\nopen-read 1 6 0\nread 1 0\n";
+    has(text, &["step 1"], &[5, 8], &["The level is that of file 6."]);
+    has(
+        text,
+        &["file 6"],
+        &[1, 4, 5],
+        &["that is the level it started with. The level is that of file 1."],
+    );
+    has(
+        text,
+        &["file 1"],
+        &[1],
+        &["has level 2. It has had it since record 1: that is the level it started with. How"],
+    );
+}
+
+#[test]
+fn march_is_told_with_its_names() {
+    let folder = Folder::new("why-march");
+    let [journal, text] = ["march.journal", "text"].map(|name| folder.path(name));
+    assert_eq!(gk(&["assemble", "gk/examples/march.txt", "-o", &journal], b"").status.code(), Some(0));
+    for (thing, chain) in [
+        ("step 1", &[2, 205][..]),
+        ("sheet reader", &[2, 205]),
+        ("intake", &[7, 9]),
+        ("merge", &[7, 104]),
+        ("pipe 37", &[7, 103]),
+        ("the list of odd hours", &[2, 205, 206]),
+    ] {
+        let output = gk(&["why", &journal, thing], b"");
+        assert_eq!((output.status.code(), err(&output)), (Some(0), String::new()), "{thing}");
+        assert_eq!(records(&out(&output)), chain, "{thing}: {}", out(&output));
+        // The same from words apart, and with what explain says of each record.
+        let apart: Vec<&str> = thing.split(' ').collect();
+        assert_eq!(out(&gk(&[&["why", &journal], &apart[..]].concat(), b"")), out(&output));
+        let explained = include_str!("../examples/march.explained.txt");
+        let told = out(&output);
+        let body = told.split_once("gatekeeper's:\n").unwrap().1;
+        for line in body.lines().filter(|line| !line.starts_with("Another ")) {
+            assert!(explained.contains(&format!("\n{line}\n")) || explained.starts_with(line), "{line}");
+        }
+    }
+    let bytes = fs::read(&journal).unwrap();
+    let names = folder.path("march.names");
+    let output = gk(&["why", "-", "merge", "--names", &names, "-o", &text], &bytes);
+    assert_eq!((output.status.code(), out(&output)), (Some(0), String::new()));
+    sees(&fs::read_to_string(&text).unwrap(), &["merge (step 17) has level 12."]);
+}
+
+#[test]
+fn what_is_never_there_has_status_1() {
+    let text = b"name step 0 reader\nadmit 0 9\nregister 3 9\n";
+    let folder = Folder::new("why-never");
+    let journal = folder.path("run.journal");
+    assert_eq!(gk(&["assemble", "-o", &journal], text).status.code(), Some(0));
+    for (thing, words) in [
+        ("step 5", "the journal has no step 5\n"),
+        ("pipe 3", "the journal has no pipe 3. Did you mean: file 3"),
+        ("file 0", "the journal has no file 0. Did you mean: step 0"),
+        ("step 18,446,744,073,709,551,615", "has no step 18,446,744,073,709,551,615"),
+        ("raeder", "the journal has no raeder. Did you mean: reader"),
+        ("step reader", "has no step reader."),
+        ("payroll", "has no payroll. A thing without a name has its kind and number: step 17"),
+    ] {
+        let output = gk(&["why", &journal, thing], b"");
+        assert_eq!((output.status.code(), out(&output)), (Some(1), String::new()), "{thing}");
+        sees(&err(&output), &[words]);
+    }
+    // A journal that breaks off is looked at up to there; of one that is too long nothing is run.
+    let output = gk(&["why", "-", "step 0"], &[3, 1, 0, 9, 3]);
+    assert_eq!(output.status.code(), Some(0));
+    sees(&out(&output), &["After record 2, step 0 has level 9."]);
+    sees(
+        &err(&output),
+        &["why: standard input, record 2: Refused (11): the journal breaks off here. What comes before"],
+    );
+    let output = gk(&["why", "-", "step 0"], &[0; 65_537]);
+    assert_eq!((output.status.code(), out(&output)), (Some(1), String::new()));
+    sees(&err(&output), &["Refused (14)", "Nothing is told"]);
+}
+
+/// The level of each thing after each record, by an own run of the journal; before the first record there is none.
+fn levels(run: &[Step]) -> Vec<BTreeMap<Thing, u8>> {
+    let of = |step: &Step| {
+        let things = steps(&step.after).map(Thing::Step).chain(objects(&step.after).map(Thing::Object));
+        things.filter_map(|thing| Some((thing, level(&step.after, thing)?))).collect()
+    };
+    std::iter::once(BTreeMap::new()).chain(run.iter().map(of)).collect()
+}
+
+/// Whether a call, not refused, hands a level from one thing to the other, as RULES C3 to C17 have it.
+fn hands_on(step: &Step, from: Thing, to: Thing) -> bool {
+    use gatekeeper::Call::*;
+    let Content::Call(call) = step.content else {
+        return false;
+    };
+    let held = |subject: u64, place: u64| {
+        step.before.handle(subject, place).map(|handle| Thing::Object(handle.object))
+    };
+    let target = to;
+    match call {
+        Read { subject, place } => held(subject, place) == Some(from) && target == Thing::Step(subject),
+        Write { subject, place } => from == Thing::Step(subject) && held(subject, place) == Some(target),
+        Exec { subject, object } | Map { subject, object, .. } => {
+            from == Thing::Object(object) && target == Thing::Step(subject)
+        }
+        Fork { subject, child } => from == Thing::Step(subject) && target == Thing::Step(child),
+        Create { subject, object } | Pipe { subject, object, .. } => {
+            from == Thing::Step(subject) && target == Thing::Object(object)
+        }
+        Connect { subject, peer, to, from: back, .. } => {
+            (from, target) == (Thing::Step(subject), Thing::Object(to))
+                || (from, target) == (Thing::Step(peer), Thing::Object(back))
+        }
+        _ => false,
+    }
+}
+
+/// Of every thing of every stored journal, after each record that set its level and at its end. Every link of its chain
+/// has the level that the thing has then. The records rise, none was refused, and each made its thing or lowered it; from
+/// that record on, up to the next link's, the thing was there and kept the level, which the next record handed on. The
+/// first link came with a register, a create or an admit. A thing that has fallen has a chain of two links or more.
+#[test]
+fn every_chain_leads_from_where_the_level_came_in_to_the_thing() {
+    let (mut chains, mut longest, mut fallen) = (0, 0, 0);
+    for (name, journal) in journals() {
+        let run: Vec<Step> = Run::new(&journal).collect();
+        let levels = levels(&run);
+        let mut trail = Trail::default();
+        run.iter().for_each(|step| trail.follow(step));
+        // Each thing that is there after a record is in the list, once.
+        for (record, there) in levels.iter().enumerate() {
+            let count = trail.stays.iter().filter(|stay| stay.is_at(record as u64)).count();
+            assert_eq!(count, there.len(), "{name}, {record}");
+        }
+        for place in 0..trail.stays.len() {
+            let stay = trail.stays[place].clone();
+            let end = stay.until.map_or(trail.records, |until| until - 1);
+            assert!(trail.chain(place, stay.from - 1).is_empty(), "{name}: {stay:?}");
+            assert!(
+                stay.until.is_none_or(|until| trail.chain(place, until).is_empty()),
+                "{name}: {stay:?}"
+            );
+            for at in stay.marks.iter().map(|mark| mark.record).chain([end]) {
+                let chain: Vec<Link> = trail.chain(place, at);
+                let thing = stay.thing();
+                let level = levels[at as usize][&thing];
+                let here = format!("{name}: {thing:?} after {at}: {chain:?}");
+                assert_eq!(chain.last().map(|link| link.stay), Some(place), "{here}");
+                assert!(chain.iter().all(|link| link.level == level), "{here}");
+                assert!(chain.is_sorted_by(|one, next| one.record < next.record), "{here}");
+                let ends = chain.iter().skip(1).map(|link| link.record - 1).chain([at]);
+                for (link, until) in chain.iter().zip(ends) {
+                    let (thing, step) = (trail.stays[link.stay].thing(), &run[link.record as usize - 1]);
+                    let before = levels[link.record as usize - 1].get(&thing).copied();
+                    assert!(
+                        step.refusal().is_none() && before.is_none_or(|before| before > level),
+                        "{here}"
+                    );
+                    let mut kept = levels[link.record as usize..=until as usize].iter();
+                    assert!(kept.all(|levels| levels.get(&thing) == Some(&level)), "{here}");
+                }
+                for pair in chain.windows(2) {
+                    let [from, to] = [pair[0], pair[1]].map(|link| trail.stays[link.stay].thing());
+                    assert!(hands_on(&run[pair[1].record as usize - 1], from, to), "{here}");
+                }
+                let (first, code) = (chain[0], run[chain[0].record as usize - 1].code);
+                assert_eq!(first.record, trail.stays[first.stay].from, "{here}");
+                match trail.stays[first.stay].kind {
+                    Kind::Step => assert_eq!(code, 1, "{here}"),
+                    Kind::File => assert!(matches!(code, 2 | 3), "{here}"),
+                    Kind::Pipe => panic!("{here}"),
+                }
+                if level < stay.marks[0].level {
+                    assert!(chain.len() >= 2, "{here}");
+                    fallen += 1;
+                }
+                (chains, longest) = (chains + 1, longest.max(chain.len()));
+            }
+        }
+    }
+    println!("{chains} chains, {fallen} of things that have fallen; the longest has {longest} links");
+    assert!(chains > 1_000 && fallen > 50 && longest >= 5, "{chains} {fallen} {longest}");
+}
