@@ -13,7 +13,7 @@ use Rattle.model.specs.Invariant.{Wf}
 use Rattle.model.specs.Invariant.Laws.{clean-wf}
 use Rattle.model.specs.Calls.{Raw, answers, after}
 use Rattle.model.specs.Tally.{tally}
-use Rattle.model.specs.Promise.Laws.{cleaned-runs, runs-right}
+use Rattle.model.specs.Promise.Laws.{runs-right}
 use Rattle.gatekeeper.specs.declared.Monitor.{Monitor}
 use Rattle.gatekeeper.specs.View.{slots, once, view, Honest, Tidy, monitors}
 use Rattle.gatekeeper.specs.View.Laws.{honest-tidy}
@@ -29,7 +29,7 @@ use Rattle.lines.specs.Calls.{calls-of}
 use Rattle.typed.specs.declared.Outcome.{Outcome}
 use Rattle.typed.specs.declared.Hand.{Hand}
 use Rattle.typed.specs.Typed.{outcome-of, refused-line, moves, Ran, Handed}
-use Rattle.typed.specs.Typed.Laws.{made-runs, made-tally, made-tables, made-same, made-whole}
+use Rattle.typed.specs.Typed.Laws.{made-runs, made-rules, made-tables, made-same, made-whole}
 use Rattle.host.specs.Typing.{read-tables, Leaves, Types}
 
 -- ── bytes as a monitor ──
@@ -70,11 +70,8 @@ module _ (s : List ℕ) (cs : List Raw) (out : Outcome) (n : Monitor) (z : Tally
   abbrev t : Tables
   t = read-tables s
 
-  by-rules : (k .answers ≡ answers t cs) × (clean (view n) ≡ after t cs)
-  by-rules = cleaned-runs monitors cs (monitor-of s) n (k .answers) (state-wf s) (state-honest s) (made-runs (k .made))
-
-  by-tally : counts-of z ≡ tally t (counts-of (tally-of s)) cs
-  by-tally = made-tally (state-wf s) (state-honest s) (k .made)
+  by-rules : (k .answers ≡ answers t cs) × (clean (view n) ≡ after t cs) × (counts-of z ≡ tally t (counts-of (tally-of s)) cs)
+  by-rules = made-rules (state-wf s) (state-honest s) (k .made)
 
   is-told : out ≡ outcome-of (answers t cs)
   is-told = k .told ∙ ap outcome-of (by-rules .0)
@@ -85,7 +82,7 @@ module _ (s : List ℕ) (cs : List Raw) (out : Outcome) (n : Monitor) (z : Tally
     told = is-told;
     size = h;
     tables = ap (λ (m : Monitor). clean (view m)) (sym (f .0)) ∙ by-rules .1;
-    counts = ap counts-of (sym (f .1)) ∙ by-tally;
+    counts = ap counts-of (sym (f .1)) ∙ by-rules .2;
     right = λ r. r;
     same = λ _. refl;
     moved = λ e. absurd (contrary e (ap moves (sym (by-rules .0)) ∙ q));
@@ -100,7 +97,7 @@ module _ (s : List ℕ) (cs : List Raw) (out : Outcome) (n : Monitor) (z : Tally
     told = is-told;
     size = u .size;
     tables = ap clean (u .tables) ∙ by-rules .1;
-    counts = ap counts-of (u .tally) ∙ by-tally;
+    counts = ap counts-of (u .tally) ∙ by-rules .2;
     right = λ r. u .right (runs-right monitors cs (monitor-of s) n (k .answers) tidy (made-runs (k .made)) r);
     same = λ e. absurd (contrary (ap moves (sym (by-rules .0)) ∙ q) e);
     moved = λ _. (u .tables ∙ made-tables (state-wf s) (state-honest s) q (k .made), u .whole (made-whole tidy q (k .made)), u .again);

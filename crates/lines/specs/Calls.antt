@@ -51,6 +51,7 @@ stage-calls shell pipes i c s =
 abbrev pub exit-call : ℕ → ℕ → List Raw
 exit-call child i = call 12 (counted-from child i ∷ [])
 
+-- what `getD` asks for behind the last stage; no call comes of it, as i is below the number of stages
 abbrev pub no-stage : Stage
 no-stage = record { program = 0; from = none; into = none }
 

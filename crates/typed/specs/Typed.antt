@@ -1,9 +1,10 @@
 -- What a typed line comes to: its calls made and counted one after the other on a monitor and its tally, or nothing at all. States RULES L13, L14, R18, R19, R102, R103 and R125. What a
 -- single call promises is `Meets`, and of the tally `Tallies`: nothing else of the monitor is gone by. The laws are in Typed/Laws. Assumes nothing.
 use mathlib.Core.Path.{_≡_}
-use mathlib.Core.Bool.{Bool, true, false, not, _||_, cond}
+use mathlib.Core.Bool.{Bool, true, false, not, cond}
 use mathlib.Core.List.{List, [], _∷_}
 use Prim.Native.Nat.{ℕ, _+_}
+use Rattle.model.specs.Lists.{any}
 use Rattle.model.specs.Calls.{Raw, decode, Answer, allowed, lowered, refused}
 use Rattle.model.specs.Promise.{Meets}
 use Rattle.model.specs.Tally.{wrapped}
@@ -63,8 +64,7 @@ pub record Typed (m : Monitor) (y : Tally) (bs : List ℕ) (shell child pipe : �
 
 -- RULES R102, R103: whether one of the answers is not a refusal
 abbrev pub moves : List Answer → Bool
-moves [] = false
-moves (a ∷ l) = not (refuses a) || moves l
+moves l = any (λ a. not (refuses a)) l
 
 -- the same by value: what is handed back also says whether a call was not refused; where none was, monitor and tally are as they were (`made-same` in Typed/Laws)
 pub record Handed (m : Monitor) (y : Tally) (bs : List ℕ) (shell child pipe : ℕ) (r : Hand) : Type 0 where
