@@ -39,14 +39,14 @@ extern "C" {
 #endif
 
 /* The version of this header and of the archive that belongs to it, and as the number that gatekeeper_version gives. */
-#define GATEKEEPER_VERSION "6.1.0"
-#define GATEKEEPER_VERSION_NUMBER (65536 * 6 + 256 * 1 + 0)
+#define GATEKEEPER_VERSION "7.0.0"
+#define GATEKEEPER_VERSION_NUMBER (65536 * 7 + 256 * 0 + 0)
 
 /* How much stack a call of any function here takes at most, in bytes: measured (tools/hosts), not proved. */
 #define GATEKEEPER_STACK_BYTES 81920
 
 /* Sizes, in bytes. */
-#define GATEKEEPER_STATE_BYTES 2353    /* a monitor with its tally and its kept needs */
+#define GATEKEEPER_STATE_BYTES 2385    /* a monitor with its tally, its kept needs and its groups */
 #define GATEKEEPER_RECORD_ROOM 62      /* room for every record */
 #define GATEKEEPER_JOURNAL_BYTES 65536 /* the longest journal that is run */
 #define GATEKEEPER_REPLY_ROOM 2490435  /* room for the reply to every journal */
@@ -63,7 +63,8 @@ extern "C" {
 
 /*
  * The bytes of a monitor, for a host that keeps them: subjects, objects, handles, the tally, the freeze, the kept needs,
- * and the numbers of the objects. What stands in them is looked at with the functions below, from gatekeeper_subject on.
+ * the numbers of the objects, and the groups of the subjects. What stands in them is looked at with the functions below,
+ * from gatekeeper_subject on.
  *
  *   at 0, 32 times     1 where the subject is live, and its level
  *   at 64, 64 times    a slot for an object: 1 for a file, 2 for a pipe, and its level
@@ -74,14 +75,15 @@ extern "C" {
  *   at 1744            the freeze, one byte: the level from which on files are frozen; 16 and above: none is
  *   at 1745, 96 times  a kept need, one byte: of the 32 subjects, then of the 64 slots
  *   at 1841, 64 times  the number of the object that stands in the slot, eight bytes, the lowest first
+ *   at 2353, 32 times  the group of the subject, one byte: live subjects with the same byte are in one group
  *
  * Any other first byte says that there is no such subject or handle, or that the slot is free; any other third byte,
  * that the handle is not marked. Where two slots in use have one number, the first counts, and any other counts as free.
  * A handle dangles where its subject is not live, or its slot is free or above 63: it counts as an empty place. An
- * allowed call frees such slots and empties such places. Which slot a new object gets is left open, and so is what
- * stands beside a subject that is not live and a slot that is free: a host goes by numbers. The empty monitor has 16 as
- * its freeze and 0 everywhere else: bytes that are all 0 have no subject, object or handle either, but they freeze every
- * file.
+ * allowed call frees such slots and empties such places. Which slot a new object gets is left open, and so is which byte
+ * a group has, and what stands beside a subject that is not live and a slot that is free: a host goes by numbers. The empty
+ * monitor has 16 as its freeze and 0 everywhere else: bytes that are all 0 have no subject, object or handle either, but
+ * they freeze every file.
  *
  * The need of a subject or an object is the highest level of all files that it reaches through the handles that there
  * are now, or 0 where it reaches none; a file reaches itself. On a monitor that started empty it is the lowest level
@@ -90,11 +92,14 @@ extern "C" {
  * one. No answer goes by a kept need: a call on a monitor that is not right is answered by the rules all the same, and
  * only what is kept may then be wrong.
  *
- * Bytes that version 4.0.0, 4.1.0 or 5.0.0 kept have no numbers: there are 1841 of them, which is a wrong length. With
- * the numbers 0 to 63 after them, each in eight bytes, the lowest first, they are the same monitor, and right: object i
+ * Bytes that version 6.0.0 or 6.1.0 kept have no groups: there are 2353 of them, which is a wrong length. With the bytes
+ * 0 to 31 after them they are the same monitor, and right: each subject was in a group by itself.
+ * Bytes that version 4.0.0, 4.1.0 or 5.0.0 kept have no numbers either: there are 1841 of them. With the numbers 0 to 63
+ * after them, each in eight bytes, the lowest first, and then these groups, they are the same monitor, and right: object i
  * stood in slot i.
  * Bytes that version 2.0.0, 2.1.0 or 3.0.0 kept have no kept needs either: there are 1745 of them. With 96 bytes of any
- * value after them, and these numbers, and after one gatekeeper_put_right, they are the same monitor, and right.
+ * value after them, these numbers and these groups, and after one gatekeeper_put_right, they are the same monitor, and
+ * right.
  * Those of a version before these have neither marks nor a freeze either. With a byte 0 after the two of each handle,
  * and a byte of GATEKEEPER_NO_FREEZE after all, they are bytes of version 2.0.0.
  */
@@ -122,6 +127,16 @@ extern "C" {
  * by a fork and closed by itself, and each pipe ends with its last handle. Where a step closes a socket that is its end
  * of a channel, the host closes both places.
  *
+ * Subjects that share their memory are threads of one step: members of one group, and each other's mates. A host reports
+ * one with GATEKEEPER_THREAD: c is a new member of s's group, at s's level and without handles. The members of a group have
+ * one level and one need, and data flows among them freely: what one of them reads, maps or runs lowers all of them, and
+ * the flow rule is asked as if what comes to one came to all. A handle is one member's own, at one of its own 16 places:
+ * where threads share their descriptors, a host says of each which member holds it, and reads and writes as that one. An
+ * admitted subject and a fork's child are in a group by themselves; a fork copies the handles of s, and none of its mates'.
+ * An exit ends s alone. An exec of s that is not refused ends the mates of s as an exit does, before the program is run: the
+ * flow rule is asked as if they and their handles were not there, and their handles count as gone; what the program is to
+ * keep, s itself holds. A refused exec ends nobody. Two members may be connected.
+ *
  * A freeze is one for all subjects, in the place of the one before it; pipes, channels, opens for reading, maps and
  * handles that are held go on as without it. */
 enum gatekeeper_code {
@@ -134,14 +149,15 @@ enum gatekeeper_code {
     GATEKEEPER_READ = 7,       /* s, p: s falls to the object's level if that is lower */
     GATEKEEPER_WRITE = 8,      /* s, p: a pipe falls to s's level if that is lower; who has a file mapped reads it */
     GATEKEEPER_FORK = 9,       /* s, c: a new subject: s's level, and s's handles, marks and mappings at their places */
-    GATEKEEPER_EXEC = 10,      /* s, o: file o is run; s falls to its level if lower; marked handles and mappings end */
+    GATEKEEPER_EXEC = 10,      /* s, o: file o is run; s falls to its level if lower; marked handles, mappings, mates end */
     GATEKEEPER_CLOSE = 11,     /* s, p: the place is empty */
     GATEKEEPER_EXIT = 12,      /* s: all its handles are closed, its number is free */
     GATEKEEPER_RETIRE = 13,    /* o: the file is gone, its number is free */
     GATEKEEPER_MAP = 14,       /* s, o, p: a mapping, and a read: s falls to the file's level if that is lower */
     GATEKEEPER_MARK = 15,      /* s, p: the handle is marked: it ends when s runs a program */
     GATEKEEPER_FREEZE = 16,    /* level: files at or above it are frozen: no open for writing; with 16, none is */
-    GATEKEEPER_CONNECT = 17    /* s, t, a, b, p, q: a channel: new pipes a to t and b to s; place p reads, q writes */
+    GATEKEEPER_CONNECT = 17,   /* s, t, a, b, p, q: a channel: new pipes a to t and b to s; place p reads, q writes */
+    GATEKEEPER_THREAD = 18     /* s, c: a new subject in s's group: s's level, without handles */
 };
 
 /* How a call came out. */
@@ -157,7 +173,7 @@ enum gatekeeper_outcome {
  * the freeze is lifted. Up to version 4.1.0 an open that offends both was refused with 9. After 17 a host retires a file
  * or has a pipe end, by closing its last handle, and asks again. */
 enum gatekeeper_refusal {
-    GATEKEEPER_UNKNOWN_CODE = 1,      /* the code is none of 1 to 17 */
+    GATEKEEPER_UNKNOWN_CODE = 1,      /* the code is none of 1 to 18 */
     GATEKEEPER_NO_SUBJECT = 2,        /* a subject that asks, or is to be connected, is out of range or not live */
     GATEKEEPER_NUMBER_TAKEN = 3,      /* a new subject is out of range or in use, a new object in use; a = b */
     GATEKEEPER_NO_OBJECT = 4,         /* the object is not live */
@@ -257,8 +273,8 @@ GATEKEEPER_INLINE bool gatekeeper_allows(uint32_t answer)
 
 /* The level in an answer of gatekeeper_call, or where it was refused the `enum gatekeeper_refusal`. On a monitor that
  * started empty a level is below GATEKEEPER_LEVELS, but for that of a freeze that is lifted: GATEKEEPER_NO_FREEZE.
- * After a read, an exec, a map and a connect it is s's; after an open and a write it is the object's, also where what
- * the write made fall is a subject that has the file mapped. */
+ * After a read, an exec, a map and a connect it is s's, after a fork and a thread c's; after an open and a write it is the
+ * object's, also where what the write made fall is a subject that has the file mapped. */
 GATEKEEPER_INLINE uint32_t gatekeeper_value(uint32_t answer) { return answer % 256; }
 
 /* Handles made and handles gone over all calls on this monitor, modulo 2 to the 64th. On a monitor that started empty
@@ -267,16 +283,19 @@ GATEKEEPER_INLINE uint32_t gatekeeper_value(uint32_t answer) { return answer % 2
 uint64_t gatekeeper_made(const uint8_t *state, size_t len);
 uint64_t gatekeeper_gone(const uint8_t *state, size_t len);
 
-/* What the tables hold, for a host that shows it: a subject, an object, and the handle at place p of subject s. Any
- * number may be given. 0 where it is out of range or not live, where the place is empty or its handle dangles, and
- * where `len` is not GATEKEEPER_STATE_BYTES. Else
+/* What the tables hold, for a host that shows it: a subject, the group that it is in, an object, and the handle at place p
+ * of subject s. Any number may be given. 0 where it is out of range or not live, where the place is empty or its handle
+ * dangles, and where `len` is not GATEKEEPER_STATE_BYTES. Else
  *
  *   of a subject   256, and its level: see gatekeeper_level_of
+ *   of a group     256, and the lowest number that a member of it has: see gatekeeper_first_of. Two subjects are in one
+ *                  group where it is the same number, and not 0, for both
  *   of an object   256 times its kind, and its level: see gatekeeper_kind_of and gatekeeper_level_of
  *   of a handle    256 times its way, and 256 times 256 where it is marked: see gatekeeper_way_of and
  *                  gatekeeper_is_marked
  */
 uint32_t gatekeeper_subject(const uint8_t *state, size_t len, uint64_t s);
+uint32_t gatekeeper_group(const uint8_t *state, size_t len, uint64_t s);
 uint32_t gatekeeper_object(const uint8_t *state, size_t len, uint64_t o);
 uint32_t gatekeeper_handle(const uint8_t *state, size_t len, uint64_t s, uint64_t p);
 
@@ -302,6 +321,10 @@ uint64_t gatekeeper_object_from(const uint8_t *state, size_t len, uint64_t o);
 /* The level in an answer of gatekeeper_subject or gatekeeper_object that is not 0. On a monitor that started empty it
  * is below GATEKEEPER_LEVELS. */
 GATEKEEPER_INLINE uint32_t gatekeeper_level_of(uint32_t thing) { return thing % 256; }
+
+/* The lowest number of a member, in an answer of gatekeeper_group that is not 0. It is s itself where s has no mates, or
+ * only such of higher numbers. */
+GATEKEEPER_INLINE uint32_t gatekeeper_first_of(uint32_t group) { return group % 256; }
 
 /* The kind in an answer of gatekeeper_object: an `enum gatekeeper_kind`, or 0 where there is no object. */
 GATEKEEPER_INLINE uint32_t gatekeeper_kind_of(uint32_t object) { return object / 256; }
@@ -335,9 +358,10 @@ uint32_t gatekeeper_frozen_from(const uint8_t *state, size_t len);
  * monitor of its own. Between `sure` and `counts` are six bytes of padding, which mean nothing and may change at any
  * call: a host that compares two monitors does so field by field.
  *
- * Slots, their numbers, dangling handles, the freeze and the kept needs mean the same here as in the bytes. Object o
- * stands in the first slot in use that has the number o, and a handle's object has the number of its slot. What the
- * other fields say with a value that no call makes differs:
+ * Slots, their numbers, dangling handles, the freeze, the kept needs and the groups mean the same here as in the bytes.
+ * Object o stands in the first slot in use that has the number o, and a handle's object has the number of its slot. Live
+ * subjects whose bytes in `groups` are equal are in one group. What the other fields say with a value that no call makes
+ * differs:
  *
  *                   here                                      in the bytes of gatekeeper_call
  *   live, mark      any but 0: live, marked                   1 alone: live, marked
@@ -357,8 +381,9 @@ uint32_t gatekeeper_frozen_from(const uint8_t *state, size_t len);
  *                   for gatekeeper_call. But the call is slow, and `sure` stays what it is.
  *
  * So a host never sets `sure` to 1: it sets it to 0 where it changes another field, and lends the monitor to
- * gatekeeper_monitor_assure once it has filled the tables. It does so with a struct of version 5.0.0, too, which has no
- * numbers: it copies the fields, and sets number i to i.
+ * gatekeeper_monitor_assure once it has filled the tables. It does so with a struct of version 6.0.0 or 6.1.0, too, which
+ * has no groups: it copies the fields, and sets group i to i; and with one of version 5.0.0, which has no numbers either:
+ * it sets number i to i as well.
  */
 struct gatekeeper_monitor {
     uint64_t numbers[GATEKEEPER_OBJECTS]; /* the number of the object that stands in each slot */
@@ -377,6 +402,7 @@ struct gatekeeper_monitor {
     } handles[GATEKEEPER_SUBJECTS * GATEKEEPER_PLACES]; /* place p of subject s is the (16 s + p)th */
     uint8_t freeze; /* the level from which on files are frozen; 16 and above: none is */
     uint8_t needs[GATEKEEPER_SUBJECTS + GATEKEEPER_OBJECTS]; /* the kept needs: of the subjects, then of the slots */
+    uint8_t groups[GATEKEEPER_SUBJECTS]; /* live subjects with the same byte are in one group; since version 7.0.0 */
     uint8_t sure;       /* 1: calls go by what is kept, and look for nothing that dangles; a host sets it only to 0 */
     uint64_t counts[2]; /* handles over all calls, modulo 2 to the 64th: at GATEKEEPER_MADE, and at GATEKEEPER_GONE */
 };
@@ -396,7 +422,7 @@ enum gatekeeper_count {
 #define GATEKEEPER_ALIGNMENT(type) _Alignof(type)
 #endif
 #ifdef GATEKEEPER_HOLDS
-GATEKEEPER_HOLDS(sizeof(struct gatekeeper_monitor) == 2360);
+GATEKEEPER_HOLDS(sizeof(struct gatekeeper_monitor) == 2392);
 GATEKEEPER_HOLDS(GATEKEEPER_ALIGNMENT(struct gatekeeper_monitor) == 8);
 GATEKEEPER_HOLDS(offsetof(struct gatekeeper_monitor, numbers) == 0);
 GATEKEEPER_HOLDS(offsetof(struct gatekeeper_monitor, subjects) == 512);
@@ -404,8 +430,9 @@ GATEKEEPER_HOLDS(offsetof(struct gatekeeper_monitor, objects) == 576);
 GATEKEEPER_HOLDS(offsetof(struct gatekeeper_monitor, handles) == 704);
 GATEKEEPER_HOLDS(offsetof(struct gatekeeper_monitor, freeze) == 2240);
 GATEKEEPER_HOLDS(offsetof(struct gatekeeper_monitor, needs) == 2241);
-GATEKEEPER_HOLDS(offsetof(struct gatekeeper_monitor, sure) == 2337);
-GATEKEEPER_HOLDS(offsetof(struct gatekeeper_monitor, counts) == 2344);
+GATEKEEPER_HOLDS(offsetof(struct gatekeeper_monitor, groups) == 2337);
+GATEKEEPER_HOLDS(offsetof(struct gatekeeper_monitor, sure) == 2369);
+GATEKEEPER_HOLDS(offsetof(struct gatekeeper_monitor, counts) == 2376);
 #undef GATEKEEPER_HOLDS
 #undef GATEKEEPER_ALIGNMENT
 #endif
@@ -417,7 +444,8 @@ void gatekeeper_monitor_empty(struct gatekeeper_monitor *monitor);
 /* Makes a monitor that a host has filled itself, as from bytes that it kept, one that calls may rely on: slots in use
  * that have the number of one before them are freed, places whose handle dangles are emptied, the kept needs are worked
  * out anew, and `sure` is 1, and so is what is returned. Where some level is below its need, which calls never make, it
- * cannot be: then `sure` is 0, and 0 is returned. The other entries, the freeze and the counts stay as they are. */
+ * cannot be: then `sure` is 0, and 0 is returned. The other entries, the groups, the freeze and the counts stay as they
+ * are. */
 GATEKEEPER_MUST_USE
 uint32_t gatekeeper_monitor_assure(struct gatekeeper_monitor *monitor);
 

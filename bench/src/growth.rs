@@ -164,25 +164,31 @@ type Machine = Box<dyn FnMut(Call) -> u64>;
 
 /// A monitor whose tables are filled.
 fn filled(side: Side, layout: Layout) -> Machine {
-    let mut monitor: Machine = match side {
+    match side {
         Side::Proved => {
             let mut state = State::new();
+            fill(layout, |code, numbers| figure(state.direct(code, numbers)));
             Box::new(move |call| figure(state.call(call)))
         }
         Side::Bytes => {
             let mut monitor = Monitor::new();
+            fill(layout, |code, numbers| figure(monitor.direct(code, numbers)));
             Box::new(move |call| figure(monitor.call(call)))
         }
         Side::Plain | Side::Sparing => {
             let when = if side == Side::Plain { When::EachCall } else { When::Asked };
             let mut monitor = PlainMonitor::new(when);
+            fill(layout, |code, numbers| plain_figure(monitor.direct(code, numbers)));
             Box::new(move |call| plain_figure(monitor.direct(call.code(), call.numbers())))
         }
-    };
-    for call in layout.filling() {
-        monitor(call);
     }
-    monitor
+}
+
+/// Fills the tables of a monitor, which answers its calls with figures.
+fn fill(layout: Layout, mut direct: impl FnMut(u64, [u64; 6]) -> u64) {
+    for (code, numbers) in layout.filling() {
+        direct(code, numbers);
+    }
 }
 
 /// A line of the plot, and a row of its table.

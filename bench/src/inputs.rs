@@ -2,11 +2,11 @@
 
 use std::hint::black_box;
 
-use gatekeeper::{Answer, Call, Monitor, State};
+use gatekeeper::{Answer, Monitor, State};
 use gatekeeper_independent::generate::{self, Style, Wish};
 use gatekeeper_independent::numbers;
 use gatekeeper_independent::random::Random;
-use gatekeeper_plain::{calls, replies, Answer as PlainAnswer, Monitor as PlainMonitor, When};
+use gatekeeper_plain::{replies, Answer as PlainAnswer, Monitor as PlainMonitor, When};
 
 use crate::layouts::{Layout, LAYOUTS};
 use crate::leb::{self, Form};
@@ -62,7 +62,7 @@ pub enum Work {
 }
 
 /// Every piece of work, in the order of the table.
-pub const WORKS: [Work; 28] = [
+pub const WORKS: [Work; 30] = [
     Work::Calls(LAYOUTS[0]),
     Work::Calls(LAYOUTS[1]),
     Work::Calls(LAYOUTS[2]),
@@ -71,6 +71,8 @@ pub const WORKS: [Work; 28] = [
     Work::Calls(LAYOUTS[5]),
     Work::Calls(LAYOUTS[6]),
     Work::Calls(LAYOUTS[7]),
+    Work::Calls(LAYOUTS[8]),
+    Work::Calls(LAYOUTS[9]),
     Work::Journal(LAYOUTS[0]),
     Work::Journal(LAYOUTS[1]),
     Work::Journal(LAYOUTS[7]),
@@ -199,18 +201,17 @@ fn replayed(journal: Vec<u8>) -> Input {
 /// The tables filled, then a round over them.
 fn as_journal(layout: Layout) -> Vec<u8> {
     let mut journal = Vec::new();
-    for call in layout.filling().into_iter().chain(layout.round()) {
-        call.write_record(&mut journal);
+    for (code, numbers) in layout.filling().into_iter().chain(layout.round()) {
+        let mut record = [0; gatekeeper::RECORD_ROOM];
+        let length = gatekeeper::write_record(&mut record, code, numbers).expect("each code is a call's");
+        journal.extend_from_slice(&record[..length]);
     }
     journal
 }
 
 /// A round over full tables, call by call.
 fn called(layout: Layout) -> Input {
-    let numbered = |call: Call| (call.code(), call.numbers());
-    let filling: Vec<(u64, [u64; calls::NUMBERS])> = layout.filling().into_iter().map(numbered).collect();
-    let round: Vec<(u64, [u64; calls::NUMBERS])> = layout.round().into_iter().map(numbered).collect();
-
+    let (filling, round) = (layout.filling(), layout.round());
     let (mut proved, mut bytes) = (State::new(), Monitor::new());
     for &(code, numbers) in &filling {
         for answer in [proved.direct(code, numbers), bytes.direct(code, numbers)] {

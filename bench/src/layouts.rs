@@ -5,9 +5,11 @@
 //!
 //! In rings, each subject reads one pipe and writes another. The end of a ring writes the file of level 12, and from
 //! there the need of 12 has to travel all the way round, from the reader of each pipe to its writer.
+//!
+//! Two layouts have the handles of others, but subjects that are threads of one step, four by four.
 
 use gatekeeper::Call;
-use gatekeeper_plain::tables;
+use gatekeeper_plain::{calls, tables};
 
 /// How many there are of each in full tables.
 const SUBJECTS: u64 = tables::SUBJECTS as u64;
@@ -20,6 +22,17 @@ const END_FILE: u64 = 32;
 
 /// A file of level 0: nobody whose need is above 0 may open it for reading.
 pub const LOW_FILE: u64 = 33;
+
+/// The codes of the calls that make a file, and a thread.
+pub const REGISTER: u64 = 2;
+const THREAD: u64 = 18;
+
+/// A call as each program takes it: its code and its numbers.
+pub type Numbered = (u64, [u64; calls::NUMBERS]);
+
+pub fn numbered(call: Call) -> Numbered {
+    (call.code(), call.numbers())
+}
 
 /// What one place of a subject holds.
 #[derive(Clone, Copy, Debug, PartialEq, Eq)]
@@ -35,6 +48,18 @@ pub struct Layout {
     subjects: u64,
     shape: Shape,
     numbers: Numbers,
+    groups: Groups,
+}
+
+/// Which subjects are threads of one step.
+#[derive(Clone, Copy, Debug)]
+enum Groups {
+    /// Each is a step by itself.
+    Single,
+    /// Four neighbours are: 0 to 3, 4 to 7, and so on.
+    Neighbours,
+    /// Four that are eight apart are: 0, 8, 16 and 24, and so on.
+    Apart,
 }
 
 /// The numbers by which the host knows the objects.
@@ -75,11 +100,11 @@ const fn rings(name: &'static str, size: u64, with_order: bool, files: Files) ->
 }
 
 const fn full(name: &'static str, shape: Shape) -> Layout {
-    Layout { name, subjects: SUBJECTS, shape, numbers: Numbers::Low }
+    Layout { name, subjects: SUBJECTS, shape, numbers: Numbers::Low, groups: Groups::Single }
 }
 
 /// Full tables: 32 subjects, 64 objects, 512 handles.
-pub const LAYOUTS: [Layout; 8] = [
+pub const LAYOUTS: [Layout; 10] = [
     rings("8 rings of 4", 4, false, Files::Several),
     full("4 rings of 8 with chords", Shape::Chords),
     rings("1 ring of 32, one file, against the order", 32, false, Files::One),
@@ -88,6 +113,11 @@ pub const LAYOUTS: [Layout; 8] = [
     full("pipes alone", Shape::Pipes),
     full("pipes and one file", Shape::PipesAndOneFile),
     Layout { numbers: Numbers::Far, ..rings("8 rings of 4, far objects", 4, false, Files::Several) },
+    Layout { groups: Groups::Apart, ..rings("8 rings of 4, in 8 groups", 4, false, Files::Several) },
+    Layout {
+        groups: Groups::Neighbours,
+        ..rings("1 ring of 32, one file, in 8 groups", 32, false, Files::One)
+    },
 ];
 
 /// Tables of so many subjects with 16 handles each, in rings of 4, or of fewer where there are not so many.
@@ -156,6 +186,25 @@ impl Layout {
         }
     }
 
+    /// The first member of a subject's group.
+    fn first_member(self, subject: u64) -> u64 {
+        match self.groups {
+            Groups::Single => subject,
+            Groups::Neighbours => subject - subject % 4,
+            Groups::Apart => subject % 8,
+        }
+    }
+
+    /// The call that brings a subject in: from outside, or as a thread of the first member of its group.
+    fn bringing(self, subject: u64) -> Numbered {
+        let first = self.first_member(subject);
+        if first == subject {
+            numbered(Call::Admit { subject, level: LEVEL })
+        } else {
+            (THREAD, [first, subject, 0, 0, 0, 0])
+        }
+    }
+
     /// The call that opens the handle at a place of a subject.
     pub fn opening(self, subject: u64, place: u64) -> Call {
         let Held { object, writes } = self.held(subject, place);
@@ -169,11 +218,11 @@ impl Layout {
 
     /// The calls that fill empty tables. A pipe is made by the first who writes it; the reading end that this subject
     /// gets with it, at a place that is still empty, is closed again.
-    pub fn filling(self) -> Vec<Call> {
+    pub fn filling(self) -> Vec<Numbered> {
         let files = (0..OBJECTS).filter_map(|object| Some((object, self.file(object)?)));
         let register = |(object, level)| Call::Register { object: self.number(object), level };
-        let mut calls: Vec<Call> = files.map(register).collect();
-        calls.extend((0..self.subjects).map(|subject| Call::Admit { subject, level: LEVEL }));
+        let mut calls: Vec<Numbered> = files.map(register).map(numbered).collect();
+        calls.extend((0..self.subjects).map(|subject| self.bringing(subject)));
         let mut made = Vec::new();
         for object in (0..OBJECTS).filter(|&object| self.file(object).is_none()) {
             let written = Held { object, writes: true };
@@ -183,18 +232,18 @@ impl Layout {
             made.push((subject, writes));
             let is_empty = |place: &u64| !made.contains(&(subject, *place));
             let Some(reads) = (0..PLACES).find(is_empty) else { continue };
-            calls.push(Call::Pipe { subject, object: self.number(object), reads, writes });
-            calls.push(Call::Close { subject, place: reads });
+            calls.push(numbered(Call::Pipe { subject, object: self.number(object), reads, writes }));
+            calls.push(numbered(Call::Close { subject, place: reads }));
         }
         let others = self.places().filter(|place| !made.contains(place));
-        calls.extend(others.map(|(subject, place)| self.opening(subject, place)));
+        calls.extend(others.map(|(subject, place)| numbered(self.opening(subject, place))));
         calls
     }
 
     /// A round: each handle is closed, and opened again at its place.
-    pub fn round(self) -> Vec<Call> {
+    pub fn round(self) -> Vec<Numbered> {
         let close_and_open =
-            |(subject, place)| [Call::Close { subject, place }, self.opening(subject, place)];
+            |(subject, place)| [Call::Close { subject, place }, self.opening(subject, place)].map(numbered);
         self.places().flat_map(close_and_open).collect()
     }
 }
@@ -273,40 +322,39 @@ mod tests {
     use super::*;
     use gatekeeper::{Answer, Monitor, State};
     use gatekeeper_independent::monitor::{Answer as AnswerBeside, Monitor as MonitorBeside};
-    use gatekeeper_independent::needs::{live_things, Flow, Needs, Thing};
-    use gatekeeper_independent::tables::{Kind, Tables};
+    use gatekeeper_independent::needs::{Needs, Thing};
+    use gatekeeper_plain::tables::{object_as_thing, Kind};
     use gatekeeper_plain::{Answer as PlainAnswer, Monitor as PlainMonitor, When};
 
-    /// How many passes over the handles it takes until no need changes, the last one counted.
-    fn passes(tables: &Tables) -> usize {
-        let need_of_none = |thing| match thing {
-            Thing::Object(o) => {
-                tables.object(o).filter(|object| object.kind == Kind::File).map_or(0, |o| o.level)
-            }
-            Thing::Subject(_) => 0,
-        };
-        let mut needs: Vec<_> = live_things(tables).map(|thing| (thing, need_of_none(thing))).collect();
-        for pass in 1.. {
-            let mut changed = false;
-            for flow in tables.handles().map(|(s, _, handle)| Flow::of(s, handle)) {
-                let beyond = needs.iter().find(|need| need.0 == flow.to).map_or(0, |need| need.1);
-                if let Some(need) = needs.iter_mut().find(|need| need.0 == flow.from && need.1 < beyond) {
-                    need.1 = beyond;
-                    changed = true;
-                }
-            }
-            if !changed {
-                return pass;
+    /// How many passes over its handles it takes the plain program until no need changes, the last one counted.
+    fn passes(layout: Layout) -> usize {
+        let mut monitor = PlainMonitor::new(When::Asked);
+        for (code, numbers) in layout.filling() {
+            monitor.direct(code, numbers);
+        }
+        let tables = monitor.tables();
+        let mut needs = [0; 256];
+        for (slot, object) in tables.objects.iter().enumerate() {
+            if let Some(file) = object.filter(|object| object.kind == Kind::File) {
+                needs[usize::from(object_as_thing(slot))] = file.level;
             }
         }
-        0
+        let raised = |needs: &mut [u8]| {
+            let before = needs.to_vec();
+            for place in tables.places.as_flattened() {
+                let [from, to] = [place.from, place.to].map(usize::from);
+                needs[from] = needs[from].max(needs[to]);
+            }
+            before != needs
+        };
+        (1..).find(|_| !raised(&mut needs)).unwrap_or(0)
     }
 
     fn filled(layout: Layout) -> MonitorBeside {
         let mut monitor = MonitorBeside::new();
-        for call in layout.filling() {
-            let answer = monitor.call(call.code(), call.numbers());
-            assert!(matches!(answer, AnswerBeside::Allowed(_)), "{}: {call:?}", layout.name);
+        for (code, numbers) in layout.filling() {
+            let answer = monitor.call(code, numbers);
+            assert!(matches!(answer, AnswerBeside::Allowed(_)), "{}: {code} {numbers:?}", layout.name);
         }
         monitor
     }
@@ -329,8 +377,27 @@ mod tests {
 
     #[test]
     fn the_layouts_differ_in_how_many_passes_they_take() {
-        let passes = LAYOUTS.map(|layout| passes(filled(layout).tables()));
-        assert_eq!(passes, [9, 12, 65, 2, 3, 1, 7, 9]);
+        let passes = LAYOUTS.map(passes);
+        assert_eq!(passes, [9, 12, 65, 2, 3, 1, 7, 9, 6, 17]);
+    }
+
+    /// The calls that fill the tables, but for those that bring subjects in.
+    fn without_subjects(layout: Layout) -> Vec<Numbered> {
+        let mut calls = layout.filling();
+        calls.retain(|call| ![1, THREAD].contains(&call.0));
+        calls
+    }
+
+    #[test]
+    fn two_layouts_have_the_handles_of_others_in_8_groups_of_4() {
+        for (layout, beside) in [(LAYOUTS[8], LAYOUTS[0]), (LAYOUTS[9], LAYOUTS[2])] {
+            assert_eq!(layout.round(), beside.round());
+            assert_eq!(without_subjects(layout), without_subjects(beside));
+            for first in (0..SUBJECTS).map(|subject| layout.first_member(subject)) {
+                let members = (0..SUBJECTS).filter(|&subject| layout.first_member(subject) == first);
+                assert_eq!(members.count(), 4, "{}, {first}", layout.name);
+            }
+        }
     }
 
     #[test]
@@ -340,16 +407,17 @@ mod tests {
             let mut bytes = Monitor::new();
             let mut plain = [PlainMonitor::new(When::EachCall), PlainMonitor::new(When::Asked)];
             let mut independent = MonitorBeside::new();
-            for call in layout.filling().into_iter().chain(layout.round()) {
-                let Answer::Allowed(level) = proved.call(call) else {
-                    panic!("{}: {call:?} is not allowed", layout.name);
+            for (code, numbers) in layout.filling().into_iter().chain(layout.round()) {
+                let call = format!("{}: {code} {numbers:?}", layout.name);
+                let Answer::Allowed(level) = proved.direct(code, numbers) else {
+                    panic!("{call} is not allowed");
                 };
-                assert_eq!(bytes.call(call), Answer::Allowed(level), "{}: {call:?}", layout.name);
+                assert_eq!(bytes.direct(code, numbers), Answer::Allowed(level), "{call}");
                 for plain in &mut plain {
-                    assert_eq!(plain.direct(call.code(), call.numbers()), PlainAnswer::Allowed(level));
+                    assert_eq!(plain.direct(code, numbers), PlainAnswer::Allowed(level), "{call}");
                 }
-                let beside = independent.call(call.code(), call.numbers());
-                assert_eq!(beside, AnswerBeside::Allowed(level.into()), "{}: {call:?}", layout.name);
+                let beside = independent.call(code, numbers);
+                assert_eq!(beside, AnswerBeside::Allowed(level.into()), "{call}");
             }
             assert_eq!((proved.open(), bytes.open()), (512, 512));
             assert_eq!(plain.map(|plain| plain.tally().open()), [512; 2]);
@@ -360,7 +428,7 @@ mod tests {
     fn rings_of_32_are_the_ring_against_the_order() {
         assert_eq!(rings_of(32).round(), LAYOUTS[2].round());
         assert_eq!(rings_of(32).filling(), LAYOUTS[2].filling());
-        let passes = [4, 8, 16, 32].map(|size| passes(filled(rings_of(size)).tables()));
+        let passes = [4, 8, 16, 32].map(|size| passes(rings_of(size)));
         assert_eq!(passes, [9, 17, 33, 65]);
     }
 

@@ -8,7 +8,7 @@ use gatekeeper_plain::refusals::Refusal as PlainRefusal;
 use gatekeeper_plain::{Monitor as PlainMonitor, When};
 
 use crate::inputs::Input;
-use crate::layouts::{rings_of_4, LOW_FILE};
+use crate::layouts::{numbered, rings_of_4, Numbered, LOW_FILE, REGISTER};
 
 /// How often the line is typed in a round.
 const LINES: usize = 50;
@@ -59,12 +59,12 @@ pub const TYPED: [Typed; 7] = [
 
 impl Typed {
     /// The calls before the line: files, the others' handles, and the shell.
-    fn filling(self) -> Vec<Call> {
+    fn filling(self) -> Vec<Numbered> {
         let mut calls = rings_of_4(self.others.max(1)).filling();
         if self.others == 0 {
-            calls.retain(|call| matches!(call, Call::Register { .. }));
+            calls.retain(|call| call.0 == REGISTER);
         }
-        calls.push(Call::Admit { subject: self.start().shell, level: LEVEL });
+        calls.push(numbered(Call::Admit { subject: self.start().shell, level: LEVEL }));
         calls
     }
 
@@ -101,8 +101,8 @@ impl Typed {
     /// The line, run on each program's monitor again and again.
     pub fn input(self) -> Input {
         let (mut proved, mut bytes) = (State::new(), Monitor::new());
-        for call in self.filling() {
-            for answer in [proved.call(call), bytes.call(call)] {
+        for (code, numbers) in self.filling() {
+            for answer in [proved.direct(code, numbers), bytes.direct(code, numbers)] {
                 answer.granted().expect("the calls that fill the tables are allowed");
             }
         }
@@ -124,8 +124,8 @@ impl Typed {
 
     fn plain(self, when: When) -> PlainMonitor {
         let mut monitor = PlainMonitor::new(when);
-        for call in self.filling() {
-            monitor.direct(call.code(), call.numbers());
+        for (code, numbers) in self.filling() {
+            monitor.direct(code, numbers);
         }
         monitor
     }

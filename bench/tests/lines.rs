@@ -40,7 +40,7 @@ impl Shown {
 
     fn of_plain(monitor: &PlainMonitor) -> Shown {
         let (tables, tally) = (monitor.tables(), monitor.tally());
-        let subject = |(s, level): (u64, &Option<u8>)| Some((s, (*level)?));
+        let subject = |s: u64| Some((s, tables.live(s as usize)?.level));
         let object = |(slot, &number): (usize, &u64)| {
             let object = tables.objects[slot]?;
             let kind = match object.kind {
@@ -55,7 +55,7 @@ impl Shown {
         Shown {
             tally: [tally.made, tally.gone],
             frozen_from: Some(tables.freeze).filter(|&level| level < 16),
-            subjects: (0..).zip(&tables.subjects).filter_map(subject).collect(),
+            subjects: (0..SUBJECTS).filter_map(subject).collect(),
             objects,
             handles: places().filter_map(|(s, p)| Some((s, p, plain_handle(monitor, s, p)?))).collect(),
         }

@@ -8,14 +8,15 @@ pub mod summary;
 
 use gatekeeper::{Answer, State as Monitor};
 use gk_advice::asked;
+use gk_advice::calls::{shape_of_code, Role};
 use gk_advice::refused::{of_record, Refused};
 use gk_advice::run::{agrees, Content, Run, Step};
 use gk_advice::scene::{Past, Scene};
-use gk_advice::things::Thing;
+use gk_advice::things::{handles_of, members, Held, Thing};
 use gk_advice::ways::Counsel;
 use gk_chain::Link;
 
-use crate::names::Names;
+use crate::names::{Kind, Names};
 use crate::text::{paragraph, wrapped};
 use alike::Alike;
 
@@ -30,7 +31,19 @@ pub struct Told {
     pub facts: Vec<String>,
     /// The chain behind a 9, or behind a 15 that is a 9 once the books are open, with what each thing is called.
     pub chain: Vec<(Link, String)>,
+    /// The threads of the step that asks, itself among them; none where it has no mates.
+    pub threads: Vec<Thread>,
     pub counsel: Counsel,
+}
+
+/// A thread of a step as it is after a record; one that the record has ended, as it last was.
+#[derive(Clone, Debug, PartialEq, Eq)]
+pub struct Thread {
+    pub number: u64,
+    pub called: String,
+    pub level: u8,
+    pub is_ended: bool,
+    pub holds: Vec<Held>,
 }
 
 /// How a run came out.
@@ -135,6 +148,7 @@ impl<'a> Moment<'a> {
 
     fn told_in(&self, before: Scene) -> Told {
         let step = self.step.clone();
+        let threads = self.threads(before);
         let names = match step.content {
             Content::Call(call) => asked::names_in(call, before),
             _ => Vec::new(),
@@ -146,11 +160,19 @@ impl<'a> Moment<'a> {
                 None if !answer.is_empty() => facts.push(answer),
                 None => {}
             }
-            return Told { title, names, facts, chain, counsel, step };
+            return Told { title, names, facts, chain, threads, counsel, step };
         }
         let Content::Call(call) = step.content else {
             let (title, facts) = (String::new(), Vec::new());
-            return Told { title, names, facts, chain: Vec::new(), counsel: Counsel::default(), step };
+            return Told {
+                title,
+                names,
+                facts,
+                chain: Vec::new(),
+                threads,
+                counsel: Counsel::default(),
+                step,
+            };
         };
         let title = format!("{}.", asked::asked(call, before, true));
         // What the record makes is not called as the thing before it under its number was.
@@ -163,7 +185,38 @@ impl<'a> Moment<'a> {
             Some(first) => *first = format!("{letter} {first}"),
             None => facts.push(letter.to_string()),
         }
-        Told { title, names, facts, chain: Vec::new(), counsel: Counsel::default(), step }
+        Told { title, names, facts, chain: Vec::new(), threads, counsel: Counsel::default(), step }
+    }
+
+    /// The threads of the step that asks, by number: those before the record, and those after it.
+    fn threads(&self, before: Scene) -> Vec<Thread> {
+        let Content::Call(call) = self.step.content else {
+            return Vec::new();
+        };
+        let is_asked_by_step = shape_of_code(call.code())
+            .and_then(|shape| shape.parts().next())
+            .is_some_and(|(_, role)| role == Role::Step);
+        let (old, new) = (&self.step.before, &self.step.after);
+        let asks = call.numbers()[0];
+        let mut all = [members(old, asks), members(new, asks)].concat();
+        all.sort_unstable();
+        all.dedup();
+        if !is_asked_by_step || all.len() < 2 {
+            return Vec::new();
+        }
+        let thread = |number: u64| {
+            let is_ended = new.subject(number).is_none();
+            let monitor = if is_ended { old } else { new };
+            let level = monitor.subject(number).unwrap_or(0);
+            let called = match old.subject(number) {
+                Some(_) => before.step(number),
+                None => {
+                    before.new_name(Kind::Step, number).map_or_else(|| before.step(number), str::to_string)
+                }
+            };
+            Thread { number, called, level, is_ended, holds: handles_of(monitor, number).collect() }
+        };
+        all.into_iter().map(thread).collect()
     }
 }
 

@@ -57,10 +57,11 @@ Every answer is the proved gatekeeper's. What to do is not proved, but tried: ca
 were made on a copy of the tables as they were before the record, and were allowed there. For refusal 9 it
 shows a chain that data could have taken from a low thing to a higher file, which is not proved either;
 for refusal 15, too, where the open would be refused with 9 once the books are open. For refusal 17 it names
-what could go to make room. Numbers from 10,000 on have a comma before each three digits.
+what could go to make room. Of threads of one step it says who falls with whom, which of them holds what, and whom an
+exec has ended. Numbers from 10,000 on have a comma before each three digits.
 
   --refused     only the records that were refused, those that are alike in one paragraph, and the end
-  --summary     for each step its levels over time, what it held, and what it was refused
+  --summary     for each step its levels over time, its threads, what it held, and what it was refused
   --json        an object a line: one for each record, and a last one for the end (docs/JSON.md)
   --names FILE  the names of steps, files and pipes; else run.names beside run.journal, if it is there
   -o FILE       write to this file
@@ -80,7 +81,8 @@ Usage: gk why JOURNAL THING [--at N] [--names FILE] [-o FILE]
 THING is a step or pipe, by number or by name: step 17, pipe 37, merge; or a file. Says which level it has,
 since which record, and which file the level is that of, or which step was admitted at it. Then come the records
 that brought it here, each as gk explain tells it: reads, writes, runs and maps at which a level fell, and
-forks, pipes and connects that handed it on. Where there are two ways, it is the one that was taken first. A file
+forks, threads, pipes and connects that handed it on. A step that fell because another thread of it read has that
+read among them. Where there are two ways, it is the one that was taken first. A file
 that a step created has its level from that step: ask for the file. The answers are the proved gatekeeper's; which
 records they are is found by gk and not proved.
 
@@ -130,13 +132,14 @@ One call a line; # starts a comment. The calls and their numbers:
   open-read s o p     open-write s o p     read s p           write s p
   fork s c            exec s o             close s p          exit s
   retire o            map s o p            mark s p           freeze level
-  connect s t a b p q
+  connect s t a b p q                      thread s c
 s and c are steps, and so is t; o is a file or pipe, a and b are new pipes; p, q, r and w are places. A file that
 is mapped is read at that moment and after each write to it. A mapping, and a handle that is marked, is closed by
 its step's next exec. `freeze 9` closes the books from level 9 up, `freeze 16` opens them again. A connect makes
-pipe a from s to t and pipe b from t to s; each step reads at p and writes at q. For a record with any code and any
-numbers write `call 77 1 2`, for any bytes `bytes 80 00` (hex). A journal above 65,536 bytes is written, and
-standard error says that it will be refused.
+pipe a from s to t and pipe b from t to s; each step reads at p and writes at q. A thread starts step c without
+handles, and s and c share memory: they are one step, with one level, and what one of them reads, both have read. An
+exec of one of them ends the others. For a record with any code and any numbers write `call 77 1 2`, for any bytes
+`bytes 80 00` (hex). A journal above 65,536 bytes is written, and standard error says that it will be refused.
 
 A step is 0 to 31. A file or pipe has any number up to 18,446,744,073,709,551,615, and at most 64 are live at a
 time. A number stands as it is, or with a comma before each three digits: 18446744073709551615 is the same.
@@ -146,11 +149,13 @@ Names: `name step 17 merge`, and from the next line on merge stands for step 17.
   -o FILE       write the journal to this file, and the names beside it: run.journal, run.names
   --names FILE  write the names to this file
 
-Examples: a step of level 9 reads a sheet of level 2; the pay run of March, with names
+Examples: a step of level 9 reads a sheet of level 2; the pay run of March, with names; a step of three threads
   printf 'admit 0 9\\nregister 1 2\\nopen-read 0 1 0\\nread 0 0\\n' | tools/gk assemble -o sheet.journal
   tools/gk explain sheet.journal
   tools/gk assemble gk/examples/march.txt -o march.journal
   tools/gk explain march.journal
+  tools/gk assemble gk/examples/tax.txt -o tax.journal
+  tools/gk explain tax.journal
 ";
 
 pub const DISASSEMBLE: &str = "\

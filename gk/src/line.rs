@@ -93,12 +93,13 @@ impl Made {
     }
 }
 
-/// Whether two monitors hold the same: tables, needs, freeze and tally. What stands where nothing is live is left out.
+/// Whether two monitors hold the same: tables, groups, needs, freeze and tally. What stands where nothing is live is left
+/// out.
 fn holds_same(one: &Monitor, other: &Monitor) -> bool {
     let counts = |monitor: &Monitor| (monitor.made(), monitor.gone(), monitor.frozen_from());
     let step = |monitor: &Monitor, s: u64| {
         let handles: Vec<_> = (0..PLACES).map(|p| monitor.handle(s, p)).collect();
-        (monitor.subject(s), monitor.need_of_subject(s), handles)
+        (monitor.subject(s), monitor.need_of_subject(s), monitor.group(s), handles)
     };
     let objects = |monitor: &Monitor| -> Vec<_> {
         monitor.objects().map(|(o, object)| (o, object, monitor.need_of_object(o))).collect()
@@ -170,6 +171,7 @@ mod tests {
             Call::Freeze { level: 3 },
             Call::OpenRead { subject: 0, object: 3, place: 2 },
             Call::Pipe { subject: 0, object: 9, reads: 0, writes: 1 },
+            Call::Thread { subject: 0, member: 5 },
         ] {
             let mut other = one.clone();
             assert!(other.call(call).granted().is_ok());
@@ -180,5 +182,13 @@ mod tests {
         assert!(other.call(Call::OpenRead { subject: 0, object: 3, place: 2 }).granted().is_ok());
         assert!(other.call(Call::Close { subject: 0, place: 2 }).granted().is_ok());
         assert!(!holds_same(&one, &other));
+        // A step by itself and a thread differ in their group alone.
+        let [thread, alone] =
+            [Call::Thread { subject: 0, member: 5 }, Call::Admit { subject: 5, level: 12 }].map(|call| {
+                let mut other = one.clone();
+                assert!(other.call(call).granted().is_ok());
+                other
+            });
+        assert!(!holds_same(&thread, &alone));
     }
 }

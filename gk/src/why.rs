@@ -138,8 +138,14 @@ fn stopped(step: &Step) -> Option<(u64, Refusal)> {
 /// The level, where it comes from, and the records that brought it here.
 fn tell(journal: &[u8], names: &Names, trail: &Trail, place: usize, at: u64) -> Result<String, Differs> {
     let chain = trail.chain(place, at);
+    let mark = trail.stays[place].mark(at);
     let (mut called, mut records) = (BTreeMap::new(), String::new());
+    let mut mate = String::new();
     walk(journal, names, |step, past| {
+        if let Some(read) = mark.filter(|mark| mark.record == step.position).and_then(|mark| mark.mate) {
+            let who = called_after(step, past, names, &trail.stays[read]);
+            mate = format!(", when {who}, a thread of the same step, read");
+        }
         if let Some(link) = chain.iter().find(|link| link.record == step.position) {
             called.insert(link.stay, called_after(step, past, names, &trail.stays[link.stay]));
             records.push_str(&told(step, names, past).text());
@@ -155,7 +161,7 @@ fn tell(journal: &[u8], names: &Names, trail: &Trail, place: usize, at: u64) -> 
 
     let stay = &trail.stays[place];
     let mut text = format!(
-        "After record {at}, {} has level {}. It has had it since record {}",
+        "After record {at}, {} has level {}. It has had it since record {}{mate}",
         called(own),
         own.level,
         own.record

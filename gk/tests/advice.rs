@@ -160,7 +160,8 @@ fn what_a_note_says_to_be_refused_is_refused() {
                 if note.contains(" and room for it, ") {
                     make_room(&mut copy, 1);
                 }
-                let name = if matches!(case.call, Call::Fork { .. }) { "c" } else { "o" };
+                let name =
+                    if matches!(case.call, Call::Fork { .. } | Call::Thread { .. }) { "c" } else { "o" };
                 (1, other(name, "for example ").unwrap())
             } else if note.starts_with("With step ") {
                 let subject = behind(note, "With step ").unwrap();
@@ -235,7 +236,8 @@ fn nothing_helps(case: &Case, at: &str) {
     }
 }
 
-/// A close of another's handle counts more than all of the caller's; what is advised is as cheap as can be.
+/// A close of a mate's handle counts more than all of the caller's, and one of another step's more than all of these; what
+/// is advised is as cheap as can be.
 #[test]
 fn no_cheaper_set_of_closes_is_enough() {
     let mut compared = 0;
@@ -244,7 +246,11 @@ fn no_cheaper_set_of_closes_is_enough() {
             continue;
         };
         let caller = case.call.numbers()[0];
-        let cost = |step: u64| if step == caller { 1 } else { 32 };
+        let cost = |step: u64| match step {
+            _ if step == caller => 1,
+            _ if case.monitor.group(step) == case.monitor.group(caller) => 32,
+            _ => 1 << 14,
+        };
         let (closes, rest) = closes_of(advice);
         let given: u64 = closes.iter().map(|call| cost(call.numbers()[0])).sum();
         let all: Vec<Held> = handles(&case.monitor).collect();
@@ -265,7 +271,7 @@ fn no_cheaper_set_of_closes_is_enough() {
 
 #[test]
 fn the_chain_of_a_9_is_one() {
-    let mut seen = 0;
+    let (mut seen, mut through_threads) = (0, 0);
     for case in cases().into_iter().filter(Case::is_nine) {
         let at = format!("{}, record {}: {}", case.journal, case.told.step.position, case.told.text());
         let chain: Vec<_> = case.told.chain.iter().map(|(link, _)| *link).collect();
@@ -275,11 +281,59 @@ fn the_chain_of_a_9_is_one() {
         for pair in chain.windows(2) {
             let flow = (pair[0].thing, pair[1].thing);
             let is_held = handles(&case.monitor).any(|held| held.flow() == flow);
-            assert!(is_held || is_sought(case.call, flow), "{at}");
+            let is_shared = match flow {
+                (Thing::Step(one), Thing::Step(other)) => {
+                    case.monitor.group(one) == case.monitor.group(other)
+                }
+                _ => false,
+            };
+            assert!(is_held || is_shared || is_sought(case.call, flow), "{at}");
+            // It is said that they are threads of one step, and which of them holds what.
+            if is_shared {
+                through_threads += 1;
+                assert!(
+                    at.contains(" are threads of one\n") || at.contains(" threads of one step"),
+                    "{at}"
+                );
+            }
         }
         seen += 1;
     }
-    assert!(seen >= 100, "{seen}");
+    assert!(seen >= 100 && through_threads >= 10, "{seen}, {through_threads} through threads");
+}
+
+/// An exec that is refused: another thread of the step that may run the program is named, each that is named may, and what
+/// the others hold is closed then.
+#[test]
+fn the_threads_that_are_advised_to_run_a_program_may() {
+    let mut tried = 0;
+    for case in cases() {
+        let ways = case.told.counsel.ways.iter();
+        for advice in
+            ways.filter(|way| way.text.starts_with("let another thread of the same step run it: "))
+        {
+            let Call::Exec { subject, .. } = case.call else { panic!("{}", advice.text) };
+            let group = case.monitor.group(subject);
+            let able: Vec<u64> = advice
+                .text
+                .split(" may. ")
+                .next()
+                .unwrap_or("")
+                .split("step ")
+                .skip(2)
+                .filter_map(|part| of_text(part.split([' ', ',']).next()?))
+                .collect();
+            assert!(!able.is_empty(), "{}", advice.text);
+            for mate in able {
+                assert_eq!(case.monitor.group(mate), group, "{}: {}", case.journal, advice.text);
+                let ran = after(&case.monitor, &[with_number(case.call, "s", mate)]);
+                let ran = ran.unwrap_or_else(|| panic!("{}: {}", case.journal, advice.text));
+                assert!(ran.subject(subject).is_none() && ran.subject(mate).is_some(), "{}", advice.text);
+            }
+            tried += 1;
+        }
+    }
+    assert!(tried >= 3, "{tried}");
 }
 
 /// RULES R117: a 15 tells of a 9 exactly where one comes once the books are open, and waiting is advised elsewhere.

@@ -86,6 +86,21 @@ fn a_refusal_says_what_did_not_happen() {
             "Neither pipe is made",
         ),
         ("connect 0 1 5 5 0 1", "both pipes would have the same number", "Neither pipe is made"),
+        (
+            "thread 0 1",
+            "Step 0 may not start step 1 as a thread: step 1 is there already",
+            "No thread is started",
+        ),
+        (
+            "thread 0 32",
+            "Step 0 may not start step 32 as a thread: steps have the numbers 0 to 31",
+            "No thread is started",
+        ),
+        (
+            "thread 9 2",
+            "Step 9 may not start step 2 as a thread: step 9 is not there",
+            "No thread is started",
+        ),
     ] {
         let text = explained(&format!("{BOOKS}{call}\n"));
         sees(&text, &[title, &format!(". {nothing}. ")]);
@@ -576,7 +591,7 @@ fn an_advice_without_calls_is_not_said_to_be_tried() {
     sees(
         &out(&output).split_whitespace().collect::<Vec<&str>>().join(" "),
         &[
-            "1. A record that is no call. Refused (1): no call has the code 32; calls have 1 to 17. What to do: look \
+            "1. A record that is no call. Refused (1): no call has the code 32; calls have 1 to 18. What to do: look \
              at the program that wrote the journal; the next record is read.",
         ],
     );

@@ -91,7 +91,7 @@ fn the_examples_of_the_help_run() {
 fn the_page_for_operators_shows_what_comes() {
     let page = fs::read_to_string(format!("{ROOT}/docs/OPERATOR.md")).unwrap();
     let blocks = page.split("```\n").skip(1).step_by(2);
-    assert_eq!(blocks.map(|block| types("docs/OPERATOR.md", block)).sum::<usize>(), 8);
+    assert_eq!(blocks.map(|block| types("docs/OPERATOR.md", block)).sum::<usize>(), 9);
 }
 
 #[test]

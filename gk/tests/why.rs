@@ -9,7 +9,7 @@ use common::{err, gk, journals, out, sees, Folder};
 use gk::names::Kind;
 use gk::why::trail::{Link, Trail};
 use gk_advice::run::{Content, Run, Step};
-use gk_advice::things::{level, objects, steps, Thing};
+use gk_advice::things::{level, members, objects, steps, Thing};
 
 /// What is said of a thing of a text's journal.
 fn why(text: &str, arguments: &[&str]) -> String {
@@ -276,7 +276,7 @@ fn levels(run: &[Step]) -> Vec<BTreeMap<Thing, u8>> {
     std::iter::once(BTreeMap::new()).chain(run.iter().map(of)).collect()
 }
 
-/// Whether a call, not refused, hands a level from one thing to the other, as RULES C3 to C17 have it.
+/// Whether a call, not refused, hands a level from one thing to the other, as RULES C3 to C18 and C114 have it.
 fn hands_on(step: &Step, from: Thing, to: Thing) -> bool {
     use gatekeeper::Call::*;
     let Content::Call(call) = step.content else {
@@ -286,13 +286,16 @@ fn hands_on(step: &Step, from: Thing, to: Thing) -> bool {
         step.before.handle(subject, place).map(|handle| Thing::Object(handle.object))
     };
     let target = to;
+    let is_member =
+        |subject: u64| members(&step.before, subject).into_iter().any(|s| target == Thing::Step(s));
     match call {
-        Read { subject, place } => held(subject, place) == Some(from) && target == Thing::Step(subject),
+        Read { subject, place } => held(subject, place) == Some(from) && is_member(subject),
         Write { subject, place } => from == Thing::Step(subject) && held(subject, place) == Some(target),
-        Exec { subject, object } | Map { subject, object, .. } => {
-            from == Thing::Object(object) && target == Thing::Step(subject)
+        Exec { subject, object } => from == Thing::Object(object) && target == Thing::Step(subject),
+        Map { subject, object, .. } => from == Thing::Object(object) && is_member(subject),
+        Fork { subject, child: new } | Thread { subject, member: new } => {
+            from == Thing::Step(subject) && target == Thing::Step(new)
         }
-        Fork { subject, child } => from == Thing::Step(subject) && target == Thing::Step(child),
         Create { subject, object } | Pipe { subject, object, .. } => {
             from == Thing::Step(subject) && target == Thing::Object(object)
         }
@@ -310,7 +313,7 @@ fn hands_on(step: &Step, from: Thing, to: Thing) -> bool {
 /// first link came with a register, a create or an admit. A thing that has fallen has a chain of two links or more.
 #[test]
 fn every_chain_leads_from_where_the_level_came_in_to_the_thing() {
-    let (mut chains, mut longest, mut fallen) = (0, 0, 0);
+    let (mut chains, mut longest, mut fallen, mut with_mates) = (0, 0, 0, 0);
     for (name, journal) in journals() {
         let run: Vec<Step> = Run::new(&journal).collect();
         let levels = levels(&run);
@@ -329,6 +332,19 @@ fn every_chain_leads_from_where_the_level_came_in_to_the_thing() {
                 stay.until.is_none_or(|until| trail.chain(place, until).is_empty()),
                 "{name}: {stay:?}"
             );
+            // The mate that has read, where the step itself has not.
+            for mark in &stay.marks {
+                let step = &run[mark.record as usize - 1];
+                let Some(mate) = mark.mate else { continue };
+                let Content::Call(call) = step.content else { panic!("{name}: {mark:?}") };
+                assert_eq!(trail.stays[mate].thing(), Thing::Step(call.numbers()[0]), "{name}: {mark:?}");
+                assert_eq!(step.before.group(stay.number), step.before.group(call.numbers()[0]), "{name}");
+                assert!(
+                    trail.stays[mate].thing() != stay.thing() && stay.kind == Kind::Step,
+                    "{name}: {mark:?}"
+                );
+                with_mates += 1;
+            }
             for at in stay.marks.iter().map(|mark| mark.record).chain([end]) {
                 let chain: Vec<Link> = trail.chain(place, at);
                 let thing = stay.thing();
@@ -369,4 +385,5 @@ fn every_chain_leads_from_where_the_level_came_in_to_the_thing() {
     }
     println!("{chains} chains, {fallen} of things that have fallen; the longest has {longest} links");
     assert!(chains > 1_000 && fallen > 50 && longest >= 5, "{chains} {fallen} {longest}");
+    assert!(with_mates > 10, "only {with_mates} fell because another thread read");
 }

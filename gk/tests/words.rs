@@ -33,6 +33,11 @@ fn words_become_records() {
     assert_eq!(bytes("call 1,000 2,000"), bytes("call 1000 2000"));
     assert_eq!(bytes("\u{feff}admit 0 9\r\n"), [3, 1, 0, 9]);
     assert_eq!(bytes("connect 0 1 5 6 0 1"), [7, 17, 0, 1, 5, 6, 0, 1]);
+    assert_eq!(bytes("thread 0 1"), [3, 18, 0, 1]);
+    assert_eq!(
+        bytes("name step 4 tax\nname step 5 \"tax reader\"\nthread tax \"tax reader\""),
+        [3, 18, 4, 5]
+    );
 }
 
 #[test]
@@ -54,6 +59,9 @@ fn what_is_wrong_is_named_with_its_place() {
         ("admit 0 1000,000", 1, 9, "a comma stands before each three digits"),
         ("exit -1", 1, 6, "in decimal"),
         ("exit 0 1 2", 1, 8, "call 12 0 1 2"),
+        ("thread 0", 1, 9, "expected the number c, found the end of the line"),
+        ("thred 0 1", 1, 1, "Did you mean: thread"),
+        ("name file 0 book\nthread 0 book", 2, 10, "expected a step, found \"book\", the name of a file"),
         ("call", 1, 5, "expected a code"),
         ("call 77 -1", 1, 9, "expected a number in decimal"),
         ("bytes", 1, 6, "expected bytes in hex"),

@@ -12,7 +12,7 @@
 #include "gatekeeper.h"
 
 /* The numbers that this host gives: subjects, files, pipes. */
-enum { SHELL = 0, ADDER = 1 };
+enum { SHELL = 0, ADDER = 1, TAX = 2, TAX_THREAD = 3 };
 enum { PAY_BOOK = 0, SHEET = 1, PIPE = 8 };
 #define RECEIPT UINT64_MAX /* a number of the file store */
 
@@ -56,6 +56,16 @@ static void show(const struct gatekeeper_monitor *monitor)
         printf("The duty screen shows: step %u is at level %u and may fall to %u; handles: %u.\n", step,
                monitor->subjects[step].level, monitor->needs[step], handles);
     }
+}
+
+/* Who is in one group: live steps whose bytes are equal. */
+static void share(const struct gatekeeper_monitor *monitor)
+{
+    for (unsigned one = 0; one < GATEKEEPER_SUBJECTS; one++)
+        for (unsigned other = one + 1; other < GATEKEEPER_SUBJECTS; other++)
+            if (monitor->subjects[one].live != 0 && monitor->subjects[other].live != 0 &&
+                monitor->groups[one] == monitor->groups[other])
+                printf("The duty screen shows: steps %u and %u are threads of one step.\n", one, other);
 }
 
 /* The objects of a step's handles: each handle has the slot in which its object stands, with its number beside it. */
@@ -104,6 +114,15 @@ int main(void)
     must(&monitor, "The bank's receipt is file 18446744073709551615.", GATEKEEPER_REGISTER, WITH(RECEIPT, 12));
     must(&monitor, "The shell opens the receipt for reading.", GATEKEEPER_OPEN_READ, WITH(SHELL, RECEIPT, 3));
     list(&monitor, SHELL);
+
+    puts("\nThe tax step runs as two threads, which share memory");
+    must(&monitor, "The tax step is step 2.", GATEKEEPER_ADMIT, WITH(TAX, 12));
+    must(&monitor, "It starts a thread, step 3.", GATEKEEPER_THREAD, WITH(TAX, TAX_THREAD));
+    share(&monitor);
+    must(&monitor, "The thread maps the sheet: both fall.", GATEKEEPER_MAP, WITH(TAX_THREAD, SHEET, 0));
+    show(&monitor);
+    must(&monitor, "The tax step exits, and its thread goes on.", GATEKEEPER_EXIT, WITH(TAX));
+    must(&monitor, "The thread exits.", GATEKEEPER_EXIT, WITH(TAX_THREAD));
     uint64_t made = monitor.counts[GATEKEEPER_MADE], gone = monitor.counts[GATEKEEPER_GONE];
     printf("\nHandles made: %" PRIu64 ", gone: %" PRIu64 ", open: %" PRIu64 ".\n", made, gone, made - gone);
     return fflush(stdout) == 0 ? 0 : 1;

@@ -12,6 +12,7 @@
 
 /* What comes from outside, and the numbers that this host gives to it and to what it makes: subjects, files, pipes. */
 enum { SHELL = 0, ADDER = 1, LISTER = 2, LAUNCHER = 3, IMPORTER = 4, TERMINAL = 5, STATION = 6, PAYSLIPS = 7 };
+enum { TAX = 8, TAX_THREAD = 9 };
 enum { PAY_BOOK = 0, SHEET = 1, HOURS = 2, LIST = 3, VIEWER = 4 };
 enum { PIPE = 8, SLIPS = 9, REPORTS = 10 }; /* from the adder to the shell; to the print station, and back */
 #define RECEIPT UINT64_MAX                  /* a number of the file store */
@@ -80,8 +81,8 @@ static const char *kind_words(uint32_t object)
     return gatekeeper_kind_of(object) == GATEKEEPER_KIND_PIPE ? "pipe" : "file";
 }
 
-/* What the duty screen shows of a step: its level, the lowest one that it may fall to while no handle goes, and its
- * handles. */
+/* What the duty screen shows of a step: its level, the lowest one that it may fall to while no handle goes, its
+ * handles, and its mates, which share its memory. */
 static void show(const struct host *host, uint64_t step)
 {
     const uint8_t *monitor = host->monitor;
@@ -101,6 +102,10 @@ static void show(const struct host *host, uint64_t step)
                kind_words(gatekeeper_object(monitor, len, object)), object,
                gatekeeper_is_marked(handle) ? ", until exec" : "");
     }
+    uint32_t group = gatekeeper_group(monitor, len, step);
+    for (uint64_t mate = 0; mate < GATEKEEPER_SUBJECTS; mate++)
+        if (mate != step && gatekeeper_group(monitor, len, mate) == group)
+            printf("  Step %" PRIu64 " is a thread of the same step.\n", mate);
 }
 
 /* What it lists: the files and pipes that are live, the lowest number first. */
@@ -203,6 +208,22 @@ int main(void)
     must(&host, "The payslip step reads that.", GATEKEEPER_READ, WITH(PAYSLIPS, 3));
     must(&host, "The payslip step exits.", GATEKEEPER_EXIT, WITH(PAYSLIPS));
     must(&host, "The station exits.", GATEKEEPER_EXIT, WITH(STATION));
+
+    puts("\nThe tax step runs as two threads, which share memory: what one of them reads, both have read");
+    must(&host, "The tax step is step 8.", GATEKEEPER_ADMIT, WITH(TAX, 12));
+    must(&host, "It starts a thread, step 9.", GATEKEEPER_THREAD, WITH(TAX, TAX_THREAD));
+    must(&host, "The tax step opens the pay book for writing.", GATEKEEPER_OPEN_WRITE, WITH(TAX, PAY_BOOK, 0));
+    if (!ask(&host, "Its thread opens the sheet of shop 3 for reading.", GATEKEEPER_OPEN_READ,
+             WITH(TAX_THREAD, SHEET, 0))) {
+        show(&host, TAX_THREAD);
+        must(&host, "The tax step closes the pay book.", GATEKEEPER_CLOSE, WITH(TAX, 0));
+        must(&host, "Its thread opens the sheet of shop 3 for reading.", GATEKEEPER_OPEN_READ,
+             WITH(TAX_THREAD, SHEET, 0));
+    }
+    must(&host, "Its thread reads it: both fall.", GATEKEEPER_READ, WITH(TAX_THREAD, 0));
+    show(&host, TAX);
+    must(&host, "The tax step runs the viewer: its thread ends.", GATEKEEPER_EXEC, WITH(TAX, VIEWER));
+    must(&host, "The viewer exits.", GATEKEEPER_EXIT, WITH(TAX));
 
     puts("\nThe books are closed until the bank file is sent; who has the pay book open goes on");
     must(&host, "Files of level 9 and above are frozen.", GATEKEEPER_FREEZE, WITH(9));

@@ -1,7 +1,7 @@
 /*
  * Objects of any number of 64 bits, 64 of them live at a time: each call is made on bytes and on the struct, and must be
- * answered as it stands here. Then the numbers of a journal, and what version 5.0.0 kept, as bytes and as a struct, which
- * has to go on as before. Says how many calls were made. tools/hosts builds and runs it.
+ * answered as it stands here. Then threads of one step, the numbers of a journal, and what versions 6.1.0 and 5.0.0 kept,
+ * as bytes and as a struct, which has to go on as before. Says how many calls were made. tools/hosts builds and runs it.
  */
 #include <inttypes.h>
 #include <stdio.h>
@@ -10,7 +10,7 @@
 
 #include "gatekeeper.h"
 
-enum { BEFORE = 1841, LISTS = 25, CALLS = 300 };
+enum { NUMBERS_AT = 1841, GROUPS_AT = 2353, LISTS = 25, CALLS = 300 };
 
 static const uint64_t HIGHEST = UINT64_MAX, WIDE = (uint64_t)1 << 32;
 
@@ -242,7 +242,64 @@ static void used_again(void)
     ALLOWED(2, WRITE, 0, 0);
 }
 
-/* ---- what version 5.0.0 kept: it had the objects 0 to 63 */
+/* ---- threads of one step */
+
+/* Whether two subjects are in one group, on bytes and on the struct. */
+static bool mates(uint64_t one, uint64_t other)
+{
+    uint32_t group = gatekeeper_group(state, sizeof state, one);
+    bool shown = group != 0 && group == gatekeeper_group(state, sizeof state, other);
+    bool kept = monitor.subjects[one].live != 0 && monitor.subjects[other].live != 0 &&
+                monitor.groups[one] == monitor.groups[other];
+    HOLDS(shown == kept);
+    return shown;
+}
+
+static void threads(void)
+{
+    begin();
+    HOLDS(gatekeeper_group(state, sizeof state, 0) == 0);
+    REFUSED(NO_SUBJECT, THREAD, 4, 5);
+    ALLOWED(9, ADMIT, 4, 9);
+    REFUSED(NUMBER_TAKEN, THREAD, 4, 4);
+    REFUSED(NUMBER_TAKEN, THREAD, 4, 32);
+    REFUSED(NUMBER_TAKEN, THREAD, 4, WIDE + 5);
+    REFUSED(NO_SUBJECT, THREAD, WIDE + 4, 5);
+    ALLOWED(9, THREAD, 4, 31);
+    ALLOWED(9, THREAD, 31, 2);
+    HOLDS(mates(4, 31) && mates(4, 2) && mates(2, 31));
+    HOLDS(gatekeeper_first_of(gatekeeper_group(state, sizeof state, 31)) == 2);
+    HOLDS(gatekeeper_group(state, sizeof state, 32) == 0 && gatekeeper_group(state, sizeof state, WIDE + 4) == 0);
+    ALLOWED(9, REGISTER, 0, 9);
+    ALLOWED(2, REGISTER, 1, 2);
+    ALLOWED(9, OPEN_WRITE, 4, 0, 0);
+    HOLDS(gatekeeper_subject_need(state, sizeof state, 2) == 9 && monitor.needs[2] == 9);
+    REFUSED(FLOW, OPEN_READ, 2, 1, 0);
+    ALLOWED(9, FORK, 2, 3);
+    HOLDS(!mates(2, 3) && gatekeeper_subject_need(state, sizeof state, 3) == 0);
+    ALLOWED(2, OPEN_READ, 3, 1, 0);
+    ALLOWED(9, CLOSE, 4, 0);
+    LOWERED(2, MAP, 2, 1, 0);
+    HOLDS(gatekeeper_subject(state, sizeof state, 4) == 256 + 2 && monitor.subjects[31].level == 2);
+    HOLDS(gatekeeper_subject(state, sizeof state, 3) == 256 + 9);
+    /* an exec ends the others, with their handles; a refused one ends nobody */
+    ALLOWED(2, OPEN_WRITE, 31, 1, 7);
+    ALLOWED(0, REGISTER, 5, 0);
+    REFUSED(FLOW, EXEC, 31, 5);
+    HOLDS(mates(4, 31) && mates(2, 31));
+    LOWERED(0, EXEC, 4, 5);
+    HOLDS(gatekeeper_group(state, sizeof state, 4) == 256 + 4 && gatekeeper_group(state, sizeof state, 2) == 0);
+    HOLDS(monitor.subjects[2].live == 0 && monitor.subjects[31].live == 0);
+    HOLDS(gatekeeper_made(state, sizeof state) == 4 && gatekeeper_gone(state, sizeof state) == 3);
+    HOLDS(monitor.counts[GATEKEEPER_MADE] == 4 && monitor.counts[GATEKEEPER_GONE] == 3);
+    /* the first of a group may go, and its number be another step's */
+    ALLOWED(0, THREAD, 4, 6);
+    ALLOWED(0, EXIT, 4);
+    ALLOWED(7, ADMIT, 4, 7);
+    HOLDS(!mates(4, 6));
+}
+
+/* ---- what version 6.1.0 kept, in which each subject was by itself, and version 5.0.0, with the objects 0 to 63 */
 
 static uint64_t seed = 3;
 
@@ -286,7 +343,8 @@ static bool same(const uint8_t *other)
             return false;
     for (i = 0; i < 5; i++) {
         if (gatekeeper_subject(state, len, i) != gatekeeper_subject(other, len, i) ||
-            gatekeeper_subject_need(state, len, i) != gatekeeper_subject_need(other, len, i))
+            gatekeeper_subject_need(state, len, i) != gatekeeper_subject_need(other, len, i) ||
+            gatekeeper_group(state, len, i) != gatekeeper_group(other, len, i))
             return false;
         for (p = 0; p < 16; p++)
             if (gatekeeper_handle(state, len, i, p) != gatekeeper_handle(other, len, i, p) ||
@@ -308,12 +366,14 @@ static void kept_before(void)
         begin();
         for (call = 0; call < CALLS; call++) {
             if (call % 100 == 0) {
-                /* the bytes without the numbers, and then with 0 to 63 */
+                /* the bytes without the groups, and in every second list without the numbers; and then with these */
                 memset(kept, 0xa5, sizeof kept);
-                memcpy(kept, state, BEFORE);
-                for (i = 0; i < GATEKEEPER_OBJECTS; i++)
+                memcpy(kept, state, list % 2 ? GROUPS_AT : NUMBERS_AT);
+                for (i = 0; i < GATEKEEPER_OBJECTS && list % 2 == 0; i++)
                     for (k = 0; k < 8; k++)
-                        kept[BEFORE + 8 * i + k] = (uint8_t)((uint64_t)i >> (8 * k));
+                        kept[NUMBERS_AT + 8 * i + k] = (uint8_t)((uint64_t)i >> (8 * k));
+                for (i = 0; i < GATEKEEPER_SUBJECTS; i++)
+                    kept[GROUPS_AT + i] = (uint8_t)i;
                 HOLDS(same(kept));
                 /* the struct likewise */
                 memset(&filled, 0xa5, sizeof filled);
@@ -325,7 +385,9 @@ static void kept_before(void)
                 filled.freeze = monitor.freeze;
                 filled.sure = 0;
                 for (i = 0; i < GATEKEEPER_OBJECTS; i++)
-                    filled.numbers[i] = (uint64_t)i;
+                    filled.numbers[i] = list % 2 ? monitor.numbers[i] : (uint64_t)i;
+                for (i = 0; i < GATEKEEPER_SUBJECTS; i++)
+                    filled.groups[i] = (uint8_t)i;
                 HOLDS(gatekeeper_monitor_assure(&filled) == 1 && filled.sure == 1);
             }
             allowed += gatekeeper_allows(draw(kept, &filled));
@@ -382,6 +444,7 @@ int main(void)
     so_many_live();
     other_numbers();
     used_again();
+    threads();
     kept_before();
     in_journals();
     printf("%lu calls with numbers of 64 bits, on bytes and on the struct, were answered as they should\n", calls);

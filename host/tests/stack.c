@@ -15,7 +15,7 @@
 
 #include "gatekeeper.h"
 
-enum { STACK = 8 << 20, PAINT = 0xa5, LISTS = 400, CALLS = 400, JOURNALS = 12, LINES = 8, NUMBERS_AT = 1841 };
+enum { STACK = 8 << 20, PAINT = 0xa5, LISTS = 400, CALLS = 400, JOURNALS = 12, LINES = 8, NUMBERS_AT = 1841, GROUPS_AT = 2353 };
 
 static uint8_t *stack;       /* the thread's, painted */
 static const uint8_t *above; /* where the thread stands when it calls */
@@ -54,7 +54,7 @@ static uint64_t n[7];
 
 static void draw(uint32_t few)
 {
-    n[0] = 1 + drawn(18);
+    n[0] = 1 + drawn(19);
     n[1] = n[0] == GATEKEEPER_REGISTER || n[0] == GATEKEEPER_RETIRE ? object(few) : drawn(few);
     n[2] = n[0] <= GATEKEEPER_REGISTER || n[0] >= GATEKEEPER_MARK || drawn(2) ? drawn(few) : object(few);
     n[3] = n[0] == GATEKEEPER_CONNECT ? object(few) : drawn(few);
@@ -106,8 +106,8 @@ static void one_quick_call(void)
 static void draw_state(void)
 {
     for (size_t at = 0; at < sizeof state; at++)
-        state[at] = at >= NUMBERS_AT ? (uint8_t)((at - NUMBERS_AT) % 8 == 0 ? drawn(64) : 0)
-                                     : (uint8_t)drawn(drawn(2) ? 4 : 256);
+        state[at] = at >= NUMBERS_AT && at < GROUPS_AT ? (uint8_t)((at - NUMBERS_AT) % 8 == 0 ? drawn(64) : 0)
+                                                       : (uint8_t)drawn(drawn(2) ? 4 : 256);
 }
 
 static void calls(void)
@@ -270,6 +270,7 @@ static void looks(void)
         draw_state();
         uint64_t s = drawn(33), p = drawn(17), o = drawn(70), number = object(40);
         met[gatekeeper_subject(state, sizeof state, s) % 256]++;
+        met[gatekeeper_group(state, sizeof state, s) % 128]++;
         met[gatekeeper_object(state, sizeof state, o) % 256]++;
         met[gatekeeper_handle(state, sizeof state, s, p) % 256]++;
         met[gatekeeper_handle_object(state, sizeof state, s, p) % 256]++;
@@ -306,7 +307,7 @@ static void replays(void)
         while (which > 0 && length + GATEKEEPER_RECORD_ROOM < sizeof journal) {
             uint32_t few = which % 2 ? 6 : 40;
             draw(few);
-            if (n[0] == 18)
+            if (n[0] == 19)
                 continue;
             uint32_t bytes = gatekeeper_record(journal + length, GATEKEEPER_RECORD_ROOM, n[0], n[1], n[2], n[3], n[4],
                                                n[5], n[6]);
@@ -323,7 +324,7 @@ static void records(void)
 {
     uint8_t room[GATEKEEPER_RECORD_ROOM];
     const uint64_t most = UINT64_MAX;
-    for (uint64_t code = 0; code < 20; code++) {
+    for (uint64_t code = 0; code < 21; code++) {
         uint32_t written = gatekeeper_record(room, sizeof room, code, most, most, most, most, most, most);
         if (written == 0)
             exit(1);

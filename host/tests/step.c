@@ -28,19 +28,31 @@ static uint64_t far_from(uint64_t small)
     return start[drawn(8) ? small % 4 : drawn(4)] + small;
 }
 
-/* Whether two monitors are the same, but for the bytes between their fields and the numbers of free slots. */
+/* The group of a subject of the struct, as gatekeeper_group shows it of bytes. */
+static uint32_t group(const struct gatekeeper_monitor *m, int s)
+{
+    uint32_t first;
+    for (first = 0; m->subjects[s].live != 0; first++)
+        if (m->subjects[first].live != 0 && m->groups[first] == m->groups[s]) return 256 + first;
+    return 0;
+}
+
+/* Whether two monitors are the same, but for the bytes between their fields, the numbers of free slots, and which byte a
+ * group has. */
 static int same(const struct gatekeeper_monitor *a, const struct gatekeeper_monitor *b)
 {
     int i;
     for (i = 0; i < GATEKEEPER_OBJECTS; i++)
         if (a->objects[i].kind != 0 && a->numbers[i] != b->numbers[i]) return 0;
+    for (i = 0; i < GATEKEEPER_SUBJECTS; i++)
+        if (group(a, i) != group(b, i)) return 0;
     return memcmp(a->subjects, b->subjects, sizeof a->subjects) == 0 && memcmp(a->objects, b->objects, sizeof a->objects) == 0 &&
            memcmp(a->handles, b->handles, sizeof a->handles) == 0 && a->freeze == b->freeze &&
            memcmp(a->needs, b->needs, sizeof a->needs) == 0 && a->sure == b->sure && a->counts[0] == b->counts[0] &&
            a->counts[1] == b->counts[1];
 }
 
-/* Whether the bytes show what stands in the struct: the objects with their numbers and needs, and the handles. */
+/* Whether the bytes show what stands in the struct: the objects with their numbers and needs, the handles, and the groups. */
 static int shows(const uint8_t *state, const struct gatekeeper_monitor *m)
 {
     const size_t len = GATEKEEPER_STATE_BYTES;
@@ -58,12 +70,14 @@ static int shows(const uint8_t *state, const struct gatekeeper_monitor *m)
         used--;
         from = o + 1;
     } while (from != 0);
-    for (s = 0; s < GATEKEEPER_SUBJECTS; s++)
+    for (s = 0; s < GATEKEEPER_SUBJECTS; s++) {
+        if (gatekeeper_group(state, len, s) != group(m, (int)s)) return 0;
         for (p = 0; p < GATEKEEPER_PLACES; p++) {
             uint8_t way = m->handles[16 * s + p].way, slot = m->handles[16 * s + p].slot, mark = m->handles[16 * s + p].mark;
             if (gatekeeper_handle(state, len, s, p) != (way ? 256u * way + 65536u * mark : 0)) return 0;
             if (gatekeeper_handle_object(state, len, s, p) != (way ? m->numbers[slot] : 0)) return 0;
         }
+    }
     return used == 0;
 }
 
@@ -86,7 +100,7 @@ int main(void)
 {
     static struct gatekeeper_monitor stepped, called;
     static uint8_t state[GATEKEEPER_STATE_BYTES];
-    unsigned long calls = 0, quick = 0, allowed = 0, full = 0;
+    unsigned long calls = 0, quick = 0, allowed = 0, full = 0, threads = 0;
     int list, i, k;
     for (list = 0; list < LISTS; list++) {
         gatekeeper_monitor_empty(&stepped);
@@ -95,7 +109,7 @@ int main(void)
         for (i = 0; i < CALLS; i++) {
             /* opens and closes more often than the rest, and small numbers, which meet more often */
             static const uint32_t often[] = {GATEKEEPER_OPEN_READ, GATEKEEPER_OPEN_WRITE, GATEKEEPER_CLOSE};
-            uint64_t code = drawn(2) ? often[drawn(3)] : drawn(19), n[6];
+            uint64_t code = drawn(2) ? often[drawn(3)] : drawn(20), n[6];
             uint32_t few = drawn(4) ? 6 : 40, x, y, z, done;
             for (k = 0; k < 6; k++) n[k] = drawn(few);
             if (list % 3 == 0 && i < 64) {
@@ -123,8 +137,12 @@ int main(void)
             quick += done != 0;
             allowed += done != 0 && gatekeeper_allows(done);
             full += !gatekeeper_allows(x) && gatekeeper_value(x) == GATEKEEPER_TOO_MANY_OBJECTS;
+            threads += code == GATEKEEPER_THREAD && gatekeeper_allows(x);
             for (k = 0; k < 32 && gatekeeper_allows(x); k++)
-                if (gatekeeper_subject_need(state, sizeof state, (uint64_t)k) != (stepped.subjects[k].live ? stepped.needs[k] : 0u)) {
+                if (gatekeeper_group(state, sizeof state, (uint64_t)k) != group(&stepped, k)) {
+                    printf("subject %d is in another group on bytes\n", k);
+                    return 1;
+                } else if (gatekeeper_subject_need(state, sizeof state, (uint64_t)k) != (stepped.subjects[k].live ? stepped.needs[k] : 0u)) {
                     printf("the need of subject %d is kept differently\n", k);
                     return 1;
                 }
@@ -143,7 +161,8 @@ int main(void)
             return 1;
         }
     }
-    printf("%lu calls were answered alike by step, by call and on bytes; %lu of them in place, %lu of these allowed; %lu were refused with 17\n",
-           calls, quick, allowed, full);
-    return quick > calls / 10 && allowed > calls / 50 && full > 100 ? 0 : 1;
+    printf("%lu calls were answered alike by step, by call and on bytes; %lu of them in place, %lu of these allowed; %lu were refused with 17; "
+           "%lu threads were made\n",
+           calls, quick, allowed, full, threads);
+    return quick > calls / 10 && allowed > calls / 50 && full > 100 && threads > 100 ? 0 : 1;
 }

@@ -1,4 +1,4 @@
-//! The seventeen calls: RULES C1 to C17, codes and numbers.
+//! The eighteen calls: RULES C1 to C18, codes and numbers.
 //!
 //! Which numbers a call takes and what each of them names. The effects are in `monitor`, the conditions
 //! in `refusals`.
@@ -33,8 +33,8 @@ const fn shape(code: u64, word: &'static str, numbers: &'static [&'static str]) 
     Shape { code, word, numbers }
 }
 
-/// RULES C1 to C17, in the order of their codes.
-pub const SHAPES: [Shape; 17] = [
+/// RULES C1 to C18, in the order of their codes.
+pub const SHAPES: [Shape; 18] = [
     shape(1, "admit", &["s", "level"]),
     shape(2, "register", &["o", "level"]),
     shape(3, "create", &["s", "o"]),
@@ -52,9 +52,10 @@ pub const SHAPES: [Shape; 17] = [
     shape(15, "mark", &["s", "p"]),
     shape(16, "freeze", &["level"]),
     shape(17, "connect", &["s", "t", "a", "b", "p", "q"]),
+    shape(18, "thread", &["s", "c"]),
 ];
 
-/// The shape of the call with this code; none for a code not 1 to 17 (RULES R1).
+/// The shape of the call with this code; none for a code not 1 to 18 (RULES R1).
 pub fn shape_of_code(code: u64) -> Option<&'static Shape> {
     SHAPES.iter().find(|shape| shape.code == code)
 }
@@ -64,7 +65,7 @@ pub fn shape_of_word(word: &str) -> Option<&'static Shape> {
     SHAPES.iter().find(|shape| shape.word == word)
 }
 
-/// A call with its numbers by name, as RULES C1 to C17 name them.
+/// A call with its numbers by name, as RULES C1 to C18 name them.
 #[derive(Clone, Copy, Debug, PartialEq, Eq)]
 pub enum Call {
     Admit { s: u64, level: u64 },
@@ -84,6 +85,7 @@ pub enum Call {
     Mark { s: u64, p: u64 },
     Freeze { level: u64 },
     Connect { s: u64, t: u64, a: u64, b: u64, p: u64, q: u64 },
+    Thread { s: u64, c: u64 },
 }
 
 impl Call {
@@ -108,11 +110,12 @@ impl Call {
             15 => Call::Mark { s: a, p: b },
             16 => Call::Freeze { level: a },
             17 => Call::Connect { s: a, t: b, a: c, b: d, p: e, q: f },
+            18 => Call::Thread { s: a, c: b },
             _ => return None,
         })
     }
 
-    /// The subject s that asks, in C3 to C12, C14, C15 and C17.
+    /// The subject s that asks, in C3 to C12, C14, C15, C17 and C18.
     pub fn asker(self) -> Option<u64> {
         match self {
             Call::Create { s, .. }
@@ -127,7 +130,8 @@ impl Call {
             | Call::Exit { s }
             | Call::Map { s, .. }
             | Call::Mark { s, .. }
-            | Call::Connect { s, .. } => Some(s),
+            | Call::Connect { s, .. }
+            | Call::Thread { s, .. } => Some(s),
             Call::Admit { .. } | Call::Register { .. } | Call::Retire { .. } | Call::Freeze { .. } => None,
         }
     }
@@ -140,11 +144,11 @@ impl Call {
         }
     }
 
-    /// The number for a new subject: C1, C9.
+    /// The number for a new subject: C1, C9, C18.
     pub fn new_subject(self) -> Option<u64> {
         match self {
             Call::Admit { s, .. } => Some(s),
-            Call::Fork { c, .. } => Some(c),
+            Call::Fork { c, .. } | Call::Thread { c, .. } => Some(c),
             _ => None,
         }
     }

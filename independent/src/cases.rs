@@ -1,6 +1,7 @@
 //! Worked cases: RULES K0 to K17, single sentences of the freeze (RULES C16, R15), of marks (RULES C15, R110), of
-//! mappings (RULES C14, C111), of two-way channels (RULES C17, R16) and of the host's own file numbers (RULES T2, R3,
-//! R4, R17, J5 to J7), DWARF's examples of numbers, and numbers at the limit.
+//! mappings (RULES C14, C111), of two-way channels (RULES C17, R16), of threads (RULES C18, C113 to C117, F22, R110) and
+//! of the host's own file numbers (RULES T2, R3, R4, R17, J5 to J7), DWARF's examples of numbers, and numbers at the
+//! limit.
 //!
 //! The replies stand here as the rules settle them; they are not worked out by this program. Typed lines have cases of
 //! their own, in `lines`.
@@ -503,6 +504,159 @@ const AFTER_START: &[(&str, &str, &str, &str)] = &[
         "4 1 A 9; 5 16 A 0; 6 17 A 9; 7 8 A 9; end 4 0 4",
     ),
     (
+        "thread-answer",
+        "a thread is a new subject at its maker's level, without handles; a thread can make another, and goes on without \
+         its maker",
+        "open-write 0 0 0; thread 0 1; write 1 0; close 1 0; thread 1 2; exit 0; close 2 0; create 2 5",
+        "4 6 A 9; 5 18 A 9; 6 8 R 7; 7 11 R 7; 8 18 A 9; 9 12 A 9; 10 11 R 7; 11 3 A 9; end 1 1 0",
+    ),
+    (
+        "thread-refused",
+        "2 for a maker that is out of range or not live, then 3 for a number that is out of range or in use, its own too",
+        "thread 32 32; thread 1 1; thread 1 0; thread 0 0; thread 0 32; thread 0 18446744073709551615; admit 1 2; \
+         thread 0 1; thread 0 31; thread 31 0; create 1 5",
+        "4 18 R 2; 5 18 R 2; 6 18 R 2; 7 18 R 3; 8 18 R 3; 9 18 R 3; 10 1 A 2; 11 18 R 3; 12 18 A 9; 13 18 R 3; \
+         14 3 A 2; end 0 0 0",
+    ),
+    (
+        "thread-flow",
+        "data flows between members: with the pay book open at one, the other does not open or map a low sheet, nor the \
+         other way round: 9",
+        "thread 0 1; open-write 0 0 0; open-read 1 1 0; map 1 1 0; close 0 0; open-read 1 1 0; open-write 0 0 0; \
+         close 1 0; open-write 0 0 0",
+        "4 18 A 9; 5 6 A 9; 6 5 R 9; 7 14 R 9; 8 11 A 9; 9 5 A 2; 10 6 R 9; 11 11 A 9; 12 6 A 9; end 3 2 1",
+    ),
+    (
+        "thread-flow-beyond",
+        "a chain goes on through a mate: what a step behind its pipe writes to, the other members need, and a thread that is \
+         made afterwards",
+        "pipe 0 5 0 1; fork 0 1; close 0 0; close 1 1; open-write 1 0 2; thread 0 2; open-read 2 1 0; thread 2 3; \
+         open-read 3 1 0; close 0 1; open-read 3 1 0",
+        "4 4 A 9; 5 9 A 9; 6 11 A 9; 7 11 A 9; 8 6 A 9; 9 18 A 9; 10 5 R 9; 11 18 A 9; 12 5 R 9; 13 11 A 9; 14 5 A 2; \
+         end 6 3 3",
+    ),
+    (
+        "thread-fall",
+        "what lowers one lowers all: a read by the second of three",
+        "thread 0 1; thread 1 2; open-read 1 1 0; read 1 0; create 0 5; create 2 6; thread 2 3; fork 0 4; read 1 0",
+        "4 18 A 9; 5 18 A 9; 6 5 A 2; 7 7 L 2; 8 3 A 2; 9 3 A 2; 10 18 A 2; 11 9 A 2; 12 7 A 2; end 1 0 1",
+    ),
+    (
+        "thread-map",
+        "a map by one lowers all; two members may have one file mapped, and a write to it lowers nobody any more",
+        "thread 0 1; map 1 1 0; map 0 1 0; open-write 0 1 1; write 0 1; read 1 0; close 0 0; write 0 1; close 1 0; retire 1",
+        "4 18 A 9; 5 14 L 2; 6 14 A 2; 7 6 A 2; 8 8 A 2; 9 7 A 2; 10 11 A 2; 11 8 A 2; 12 11 A 2; 13 13 R 10; end 3 2 1",
+    ),
+    (
+        "thread-pipe",
+        "a pipe that a member makes starts at the group's level, and falls by what another member writes",
+        "thread 0 1; pipe 0 5 0 1; open-write 1 5 0; open-read 1 1 1; read 1 1; write 1 0; pipe 0 6 2 3",
+        "4 18 A 9; 5 4 A 9; 6 6 A 9; 7 5 A 2; 8 7 L 2; 9 8 L 2; 10 4 A 2; end 6 0 6",
+    ),
+    (
+        "thread-exec",
+        "exec ends the other members: the pay book that one of them has open is not in its way, their handles are counted, \
+         their pipe ends, and their numbers are free",
+        "thread 0 1; thread 0 2; open-write 1 0 0; pipe 2 5 0 1; open-read 0 0 0; exec 0 1; write 1 0; close 2 0; read 0 0; \
+         register 5 4; admit 1 9; thread 0 2",
+        "4 18 A 9; 5 18 A 9; 6 6 A 9; 7 4 A 9; 8 5 A 9; 9 10 L 2; 10 8 R 2; 11 11 R 2; 12 7 A 2; 13 2 A 4; 14 1 A 9; \
+         15 18 A 2; end 4 3 1",
+    ),
+    (
+        "thread-exec-by-thread",
+        "an exec by a thread ends the one that made it",
+        "thread 0 1; open-write 0 0 0; exec 1 1; write 0 0; create 1 5; admit 0 9",
+        "4 18 A 9; 5 6 A 9; 6 10 L 2; 7 8 R 2; 8 3 A 2; 9 1 A 9; end 1 1 0",
+    ),
+    (
+        "thread-exec-same-level",
+        "an exec that lowers nothing ends the other members all the same",
+        "thread 0 1; open-read 1 0 0; exec 0 0; read 1 0; thread 0 1; read 1 0",
+        "4 18 A 9; 5 5 A 9; 6 10 A 9; 7 7 R 2; 8 18 A 9; 9 7 R 7; end 1 1 0",
+    ),
+    (
+        "thread-exec-own",
+        "exec is tested by the caller's own handles, and by what they lead to; its marked ones are left out as ever",
+        "thread 0 1; open-write 0 0 0; exec 0 1; exec 1 0; admit 0 9; open-write 0 0 0; thread 0 2; exec 0 1; mark 0 0; \
+         exec 0 1; write 0 0; exit 2",
+        "4 18 A 9; 5 6 A 9; 6 10 R 9; 7 10 A 9; 8 1 A 9; 9 6 A 9; 10 18 A 9; 11 10 R 9; 12 15 A 9; 13 10 L 2; 14 8 R 7; \
+         15 12 R 2; end 2 2 0",
+    ),
+    (
+        "thread-exec-chain",
+        "a chain through a mate is left out of an exec's test, one through another step is not",
+        "thread 0 1; pipe 0 5 0 1; open-read 1 5 0; open-write 1 0 1; admit 2 9; open-read 2 5 0; open-write 2 0 1; exec 0 1; \
+         close 2 0; exec 0 1; write 0 1",
+        "4 18 A 9; 5 4 A 9; 6 5 A 9; 7 6 A 9; 8 1 A 9; 9 5 A 9; 10 6 A 9; 11 10 R 9; 12 11 A 9; 13 10 L 2; 14 8 L 2; \
+         end 6 3 3",
+    ),
+    (
+        "thread-exec-refused",
+        "an exec refused with 9, 5 or 4 ends nobody and counts nothing",
+        "thread 0 1; open-write 1 0 0; open-write 0 0 0; pipe 0 5 1 2; exec 0 1; exec 0 5; exec 0 6; write 1 0; thread 1 2; \
+         open-read 2 1 0; mark 0 0; exec 0 1; write 1 0; exit 2",
+        "4 18 A 9; 5 6 A 9; 6 6 A 9; 7 4 A 9; 8 10 R 9; 9 10 R 5; 10 10 R 4; 11 8 A 9; 12 18 A 9; 13 5 R 9; 14 15 A 9; \
+         15 10 L 2; 16 8 R 2; 17 12 R 2; end 4 2 2",
+    ),
+    (
+        "thread-fork",
+        "a fork's child has the handles of its caller alone and a group to itself: it opens a low sheet where its caller's \
+         mate has the pay book open, and falls alone",
+        "thread 0 1; open-write 1 0 0; fork 0 2; open-read 2 1 0; read 2 0; create 0 5; fork 1 3; open-read 3 1 1; write 3 0; \
+         exit 3; open-read 0 1 0",
+        "4 18 A 9; 5 6 A 9; 6 9 A 9; 7 5 A 2; 8 7 L 2; 9 3 A 9; 10 9 A 9; 11 5 R 9; 12 8 A 9; 13 12 A 9; 14 5 R 9; end 3 1 2",
+    ),
+    (
+        "thread-exit",
+        "exit ends one member, the first too: the others go on, and fall together",
+        "thread 0 1; thread 0 2; open-write 0 0 0; open-read 1 0 0; exit 0; write 0 0; read 1 0; open-read 2 1 0; read 2 0; \
+         create 1 5; exit 1; create 2 6; exit 2",
+        "4 18 A 9; 5 18 A 9; 6 6 A 9; 7 5 A 9; 8 12 A 9; 9 8 R 2; 10 7 A 9; 11 5 A 2; 12 7 L 2; 13 3 A 2; 14 12 A 2; \
+         15 3 A 2; 16 12 A 2; end 3 3 0",
+    ),
+    (
+        "thread-again",
+        "the number of a member that has left is used again: by an admit for a group of its own, by a thread for a member",
+        "thread 0 1; exit 0; admit 0 9; open-write 0 0 0; open-read 1 1 0; read 1 0; create 0 5; exit 0; thread 1 0; \
+         create 0 6; open-write 0 0 0",
+        "4 18 A 9; 5 12 A 9; 6 1 A 9; 7 6 A 9; 8 5 A 2; 9 7 L 2; 10 3 A 9; 11 12 A 9; 12 18 A 2; 13 3 A 2; 14 6 R 9; \
+         end 2 1 1",
+    ),
+    (
+        "thread-connect",
+        "two members may be connected: they are not the same subject; the flow between them was there already",
+        "thread 0 1; connect 0 0 5 6 0 1; open-write 0 0 2; connect 0 1 5 6 0 1; write 0 1; read 1 0; open-read 1 1 2; \
+         exec 1 1; write 0 1; register 5 4; register 6 4",
+        "4 18 A 9; 5 17 R 16; 6 6 A 9; 7 17 A 9; 8 8 A 9; 9 7 A 9; 10 5 R 9; 11 10 L 2; 12 8 R 2; 13 2 R 3; 14 2 R 3; \
+         end 5 3 2",
+    ),
+    (
+        "thread-places",
+        "each member has places of its own",
+        "thread 0 1; open-read 0 0 0; read 1 0; mark 1 0; open-read 1 0 0; close 0 0; read 0 0; read 1 0; open-write 0 0 0; \
+         write 1 0",
+        "4 18 A 9; 5 5 A 9; 6 7 R 7; 7 15 R 7; 8 5 A 9; 9 11 A 9; 10 7 R 7; 11 7 A 9; 12 6 A 9; 13 8 R 8; end 3 1 2",
+    ),
+    (
+        "thread-two-groups",
+        "groups have nothing to do with each other",
+        "admit 1 9; thread 0 2; thread 1 3; open-write 2 0 0; open-read 3 1 0; read 3 0; create 0 5; create 1 6; exec 3 1; \
+         create 1 7; create 2 7",
+        "4 1 A 9; 5 18 A 9; 6 18 A 9; 7 6 A 9; 8 5 A 2; 9 7 L 2; 10 3 A 9; 11 3 A 2; 12 10 A 2; 13 3 R 2; 14 3 A 9; end 2 0 2",
+    ),
+    (
+        "thread-freeze",
+        "a freeze asks nothing of a thread",
+        "freeze 0; thread 0 1; open-write 1 0 0; open-read 1 0 0",
+        "4 16 A 0; 5 18 A 9; 6 6 R 15; 7 5 A 9; end 1 0 1",
+    ),
+    (
+        "thread-subject",
+        "subject 4294967296 gives 2 as the maker of a thread, and 3 as its number",
+        "thread 4294967296 1; thread 0 4294967297; thread 0 9223372036854775809; thread 0 1",
+        "4 18 R 2; 5 18 R 3; 6 18 R 3; 7 18 A 9; end 0 0 0",
+    ),
+    (
         "h-subject",
         "subject 4294967296 gives 2, in every call with a subject",
         "create 4294967296 2; pipe 4294967296 2 0 1; open-read 4294967296 0 0; open-write 4294967296 0 0; \
@@ -614,6 +768,13 @@ const FROM_EMPTY: &[(&str, &str, &str, &str)] = &[
          12 7 L 4; end 4 0 4",
     ),
     (
+        "thread-record",
+        "a record of a thread has two numbers, the maker first",
+        "admit 1 9; call 18; call 18 1; call 18 1 2 3; bytes 03 12 01 82; bytes 03 12 00 01; bytes 03 12 01 00; \
+         bytes 03 12 00 02",
+        "1 1 A 9; 2 18 R 12; 3 18 R 12; 4 18 R 12; 5 18 R 12; 6 18 R 2; 7 18 A 9; 8 18 A 9; end 0 0 0",
+    ),
+    (
         "connect-32-bytes",
         "a record of 32 bytes: six numbers of five each",
         "bytes 1f 11 ff ff ff ff 0f ff ff ff ff 0f ff ff ff ff 0f ff ff ff ff 0f ff ff ff ff 0f ff ff ff ff 0f; \
@@ -622,9 +783,9 @@ const FROM_EMPTY: &[(&str, &str, &str, &str)] = &[
     ),
     (
         "known-codes",
-        "codes 1 to 17 are known, 0 and 18 are not",
-        "call 0 9; call 1 9; call 13; call 14 9; call 15 9; call 16 9; call 17 9; call 18 9",
-        "1 0 R 1; 2 1 R 12; 3 13 R 12; 4 14 R 12; 5 15 R 12; 6 16 A 9; 7 17 R 12; 8 18 R 1; end 0 0 0",
+        "codes 1 to 18 are known, 0 and 19 are not",
+        "call 0 9; call 1 9; call 13; call 14 9; call 15 9; call 16 9; call 17 9; call 18 9; call 19 9",
+        "1 0 R 1; 2 1 R 12; 3 13 R 12; 4 14 R 12; 5 15 R 12; 6 16 A 9; 7 17 R 12; 8 18 R 12; 9 19 R 1; end 0 0 0",
     ),
     (
         "h-level",

@@ -411,7 +411,7 @@ fn bite_command(arguments: Vec<OsString>) -> Done {
         bite::lines::summary(&of_lines, lines)
     );
     write_output(text.as_bytes())?;
-    let missed = of_journals.iter().filter(|bite| bite.journals.is_none()).count()
+    let missed = of_journals.iter().filter(|bite| !bite.is_told()).count()
         + of_lines.iter().filter(|bite| bite.told().is_none()).count();
     match missed {
         0 => Ok(()),

@@ -5,8 +5,8 @@
 //! against need are often close. Objects have numbers that the journal keeps to, small ones as a rule. Then numbers go
 //! wrong, records are damaged, tables fill up, pipes form chains and rings, and journals take every length up to 65,537
 //! bytes, as the style says. In every second journal the books are closed now and then, for a few calls; in most of them
-//! launchers mark what they opened and run programs below it, importers map sheets that others write to, and print
-//! stations are connected. Typed lines, with calls that come before them, are in `lines`.
+//! launchers mark what they opened and run programs below it, importers map sheets that others write to, print
+//! stations are connected, and tax steps run as threads. Typed lines, with calls that come before them, are in `lines`.
 
 mod arrangements;
 mod channels;
@@ -17,6 +17,7 @@ mod imports;
 mod launches;
 pub mod lines;
 mod stores;
+mod threads;
 
 use crate::calls::filled;
 use crate::monitor::{Answer, Monitor};
@@ -44,7 +45,7 @@ pub enum Style {
 pub const STYLES: &[(Style, &str, &str)] = &[
     (Style::Mixed, "mixed", "one of the others, by turns (the default)"),
     (Style::Payrun, "payrun", "a shell that joins steps by pipes and forks, then lets them work"),
-    (Style::Calls, "calls", "all seventeen calls, mostly allowed"),
+    (Style::Calls, "calls", "all eighteen calls, mostly allowed"),
     (Style::Edges, "edges", "numbers out of range, in use or not live; several faults in one call"),
     (Style::Full, "full", "32 subjects, 64 objects, 512 handles, then calls on them; or the objects alone, and calls for more"),
     (Style::Rings, "rings", "long chains and rings of pipes, opened and closed"),
@@ -106,6 +107,8 @@ struct Draft {
     imports: u64,
     /// One call in so many is the first of a print station's; 0 for none, and then hardly a step is connected.
     channels: u64,
+    /// One call in so many is the first of a tax step's; 0 for none, and then hardly a step has mates.
+    threads: u64,
     journal: Vec<u8>,
     records: u32,
 }
@@ -131,6 +134,7 @@ impl Draft {
             launches: 0,
             imports: 0,
             channels: 0,
+            threads: 0,
             journal: Vec::new(),
             records: 0,
         }
@@ -159,11 +163,15 @@ impl Draft {
         // In a ring one handle matters that a freeze would keep out.
         let closings = if style == Style::Rings { [0, 0, 0, 40] } else { [0, 0, 15, 40] };
         self.closings = self.random.pick(&closings).unwrap_or(0);
-        // Nor should an exec take its links away, a map lower its members, or a connect fill its places.
+        // Nor should an exec take its links away, a map lower its members, a connect fill its places, or a thread
+        // shorten it.
         let turns = if style == Style::Rings { [0, 0, 0, 60] } else { [0, 20, 20, 50] };
         self.launches = self.random.pick(&turns).unwrap_or(0);
         self.imports = self.random.pick(&turns).unwrap_or(0);
         self.channels = self.random.pick(&turns).unwrap_or(0);
+        // A tax step has many calls.
+        let turns = if style == Style::Rings { [0, 0, 0, 60] } else { [0, 30, 40, 60] };
+        self.threads = self.random.pick(&turns).unwrap_or(0);
         match style {
             Style::Payrun => self.pipeline(calls),
             Style::Rings => self.ring(),
@@ -187,6 +195,8 @@ impl Draft {
                 self.import();
             } else if self.random.once_in(self.channels) {
                 self.channel();
+            } else if self.random.once_in(self.threads) {
+                self.group();
             } else if style == Style::Rings && self.random.once_in(3) {
                 self.ring_turn();
             } else {

@@ -140,8 +140,8 @@ difference the journal is made shorter while the two still differ, and shown wit
   --seconds N   how long the program may take for one journal (10)
   --save FILE   where to write the short journal at a difference
   --variant NAME
-                hold it against this variant in place of the rules: one from before request (h), which gave
-                objects the host's own numbers, answers as before-request-h does
+                hold it against this variant in place of the rules: one from before request (i), which brought
+                threads, answers as code-18-unknown does
   -- ARGUMENT   what to hand to the program
 
 Example: a wrong program is found out
@@ -165,7 +165,8 @@ second bite - how many generated journals, or lines, it takes to tell each wrong
 
 Usage: second bite [--seed N] [--journals N] [--lines N]
 
-Exit status 1 if some variant is not told apart. For a variant of lines it is said in what it was seen: in
+Exit status 1 if some variant is not told apart. A variant that answers every journal as the rules do is tried
+on tables that no calls made, and `tables` is said in the place of a number. For a variant of lines it is said in what it was seen: in
 the answer, which is the refusal or the counts, the tables after the line and the tally; or, where that never
 differs, in the calls that are made.
   --seed N      which journals and lines (1)

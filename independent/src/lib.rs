@@ -8,9 +8,9 @@
 //!
 //! | module | states |
 //! |---|---|
-//! | [`tables`] | T: subjects, objects, handles with their marks and mappings, their limits, and the freeze |
+//! | [`tables`] | T: subjects and their groups, objects, handles with their marks and mappings, their limits, and the freeze |
 //! | [`needs`] | F: flow and need |
-//! | [`calls`] | C: the seventeen codes and what their numbers name |
+//! | [`calls`] | C: the eighteen codes and what their numbers name |
 //! | [`monitor`] | C: effects and answers; the direct call |
 //! | [`refusals`] | R: conditions and which is said |
 //! | [`numbers`], [`records`] | J: numbers and records |

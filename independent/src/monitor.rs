@@ -1,5 +1,5 @@
-//! The monitor: RULES C1 to C17, effects and levels in the answers; and the counting of handles, RULES Y1 to Y9
-//! and Y13.
+//! The monitor: RULES C1 to C18 and C113 to C117, effects and levels in the answers; and the counting of handles, RULES
+//! Y1 to Y9 and Y13.
 //!
 //! `Monitor::call` is the direct call: a code and six numbers in, an answer out.
 
@@ -64,6 +64,15 @@ pub struct Monitor {
     pub(crate) channels: Vec<[u64; 2]>,
     /// Numbers of objects that are gone. No rule looks at them: only variants in which they still take space.
     pub(crate) left_objects: Vec<u64>,
+    /// The live subjects that a thread made. No rule looks at them: only variants in which the first of a group, which
+    /// is none of them, counts for more.
+    pub(crate) threads: Vec<u64>,
+    /// Numbers of subjects that are gone, each with a mate that stayed. No rule looks at them: only variants in which
+    /// such a number is in its group again.
+    pub(crate) left_mates: Vec<(u64, u64)>,
+    /// Children, each with what its parent's group needed. No rule looks at them: only the variant in which they need
+    /// it, too.
+    pub(crate) floors: Vec<(u64, u64)>,
     rules: Rules,
 }
 
@@ -96,6 +105,9 @@ impl Monitor {
             left_maps: Vec::new(),
             channels: Vec::new(),
             left_objects: Vec::new(),
+            threads: Vec::new(),
+            left_mates: Vec::new(),
+            floors: Vec::new(),
             rules,
         }
     }
@@ -137,10 +149,10 @@ impl Monitor {
         self.effect(call)
     }
 
-    /// RULES C1 to C17, row by row, for a call that is not refused.
+    /// RULES C1 to C18, row by row, for a call that is not refused.
     fn effect(&mut self, call: Call) -> Answer {
         match call {
-            // RULES C1.
+            // RULES C1, C113.
             Call::Admit { s, level } => {
                 self.tables.set_subject(s, Some(Subject { level }));
                 Answer::Allowed(level)
@@ -200,7 +212,7 @@ impl Monitor {
                 }
             }
 
-            // RULES C9: each handle with its mark, and a mapping as a mapping.
+            // RULES C9, C113: each handle with its mark, and a mapping as a mapping; a group of its own.
             Call::Fork { s, c } => {
                 let level = self.subject_level(s);
                 self.tables.set_subject(c, Some(Subject { level }));
@@ -211,9 +223,13 @@ impl Monitor {
                 Answer::Allowed(level)
             }
 
-            // RULES C10, Y13: the marked handles and the mappings go.
+            // RULES C10, C116, Y13: the mates end, and the marked handles and the mappings go.
             Call::Exec { s, o } => {
                 let level = self.object_level(o);
+                let mates: Vec<u64> = self.tables.mates(s).collect();
+                for mate in mates {
+                    self.end_subject(mate);
+                }
                 let ending: Vec<u64> = self.tables.places_ending_at_exec(s).collect();
                 for p in ending {
                     self.remove_handle(s, p);
@@ -227,13 +243,10 @@ impl Monitor {
                 Answer::Allowed(self.subject_level(s))
             }
 
-            // RULES C12.
+            // RULES C12, C115: s alone.
             Call::Exit { s } => {
                 let level = self.subject_level(s);
-                for p in 0..self.tables.limits().places {
-                    self.remove_handle(s, p);
-                }
-                self.tables.set_subject(s, None);
+                self.end_subject(s);
                 Answer::Allowed(level)
             }
 
@@ -271,6 +284,14 @@ impl Monitor {
                 }
                 Answer::Allowed(self.subject_level(s))
             }
+
+            // RULES C18: no handle comes with it.
+            Call::Thread { s, c } => {
+                let level = self.subject_level(s);
+                self.tables.set_subject(c, Some(Subject { level }));
+                self.tables.join_groups(s, c);
+                Answer::Allowed(level)
+            }
         }
     }
 
@@ -296,9 +317,17 @@ impl Monitor {
         }
     }
 
-    /// RULES C8, C104, C111: what follows a write to a file of this level. Each subject that has it mapped
-    /// reads it once, the lowest number first; the answer has the file's level, and is lowered if one of them
-    /// fell.
+    /// RULES C12, C116: the places of a subject are emptied, and its number is free.
+    pub(crate) fn end_subject(&mut self, s: u64) {
+        for p in 0..self.tables.limits().places {
+            self.remove_handle(s, p);
+        }
+        self.tables.set_subject(s, None);
+    }
+
+    /// RULES C8, C104, C111, C117: what follows a write to a file of this level. Each subject that has it mapped
+    /// reads it once, the lowest number first; the answer has the file's level, and is lowered if one of them, or a
+    /// mate, fell.
     fn reread(&mut self, o: u64, level: u64) -> Answer {
         let mappers: Vec<u64> = self.tables.mappers(o).collect();
         let mut answer = Answer::Allowed(level);
@@ -310,14 +339,19 @@ impl Monitor {
         answer
     }
 
-    /// The level that a subject has after falling to `level`: the smaller of the two.
+    /// RULES C104, C114: a subject and each of its mates take the smaller of their own level and this one. The answer has
+    /// the subject's, and is lowered if one of them fell.
     fn lower_subject(&mut self, s: u64, level: u64) -> Answer {
+        let higher = |&member: &u64| level < self.subject_level(member);
+        let falling: Vec<u64> = self.tables.members(s).filter(higher).collect();
+        for &member in &falling {
+            self.tables.set_subject(member, Some(Subject { level }));
+        }
         let own = self.subject_level(s);
-        if level < own {
-            self.tables.set_subject(s, Some(Subject { level }));
-            Answer::Lowered(level)
-        } else {
+        if falling.is_empty() {
             Answer::Allowed(own)
+        } else {
+            Answer::Lowered(own)
         }
     }
 

@@ -1,6 +1,6 @@
-//! Flow and need: RULES F1 to F7.
+//! Flow and need: RULES F1 to F7 and F22.
 //!
-//! Where data can flow, and the need of every thing, worked out from nothing in passes over all handles
+//! Where data can flow, and the need of every thing, worked out from nothing in passes over all handles and all mates
 //! until none changes.
 
 use crate::tables::{Direction, Handle, Kind, Tables};
@@ -28,6 +28,11 @@ impl Flow {
             Direction::Writing => Flow { from: subject, to: object },
             Direction::Reading => Flow { from: object, to: subject },
         }
+    }
+
+    /// RULES F22: the flow from a member of a group to another one.
+    pub fn between((s, t): (u64, u64)) -> Flow {
+        Flow { from: Thing::Subject(s), to: Thing::Subject(t) }
     }
 }
 
@@ -94,7 +99,7 @@ impl Needs {
     /// RULES F4, F5, F6: the largest of the levels of all files that a chain of flows leads to, 0 if there
     /// are none.
     ///
-    /// `sought` are flows that are tried beside those of the handles in the table.
+    /// `sought` are flows that are tried beside those of the handles in the table and those between mates.
     pub fn work_out(tables: &Tables, sought: &[Flow], rules: Rules, kept: &Needs) -> Needs {
         // A chain of no flow: a file reaches itself.
         let mut needs = Needs::none(tables);
@@ -107,7 +112,9 @@ impl Needs {
 
         // A chain that is one flow longer: what the flow's end reaches, its beginning reaches too.
         let held = tables.handles().map(|(s, _, handle)| Flow::of(s, handle));
-        let flows = held.chain(sought.iter().copied()).filter(|&flow| rules.carries(tables, flow));
+        let shared = tables.pairs_of_mates().filter(|&pair| rules.joins(pair)).map(Flow::between);
+        let flows = held.chain(shared).chain(sought.iter().copied());
+        let flows = flows.filter(|&flow| rules.carries(tables, flow));
         let places = flows.filter_map(|flow| needs.place(flow.from).zip(needs.place(flow.to)));
         let places: Vec<(usize, usize)> = places.collect();
         for pass in 0.. {

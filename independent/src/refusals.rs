@@ -71,7 +71,7 @@ fn subject_is_missing(tables: &Tables, call: Call) -> bool {
     [call.asker(), call.partner()].into_iter().flatten().any(|s| tables.subject(s).is_none())
 }
 
-/// RULES R16: the two subjects of a connect are the same.
+/// RULES R16: the two subjects of a connect are the same. Two mates are not.
 fn subject_is_its_own_partner(call: Call) -> bool {
     matches!(call, Call::Connect { s, t, .. } if s == t)
 }
@@ -146,7 +146,7 @@ fn direction_is_wrong(tables: &Tables, call: Call) -> bool {
 }
 
 /// The needs that a call is tested by: with the flows that an open, a map or a connect asks for (RULES R9,
-/// R119), without the handles that an exec leaves out (RULES R110).
+/// R119), without the mates and the handles that an exec leaves out (RULES R110).
 pub fn needs_for(tables: &Tables, call: Call, rules: Rules, kept: &Needs) -> Needs {
     let mut sought = sought_flows(tables, call);
     rules.bend_sought(&mut sought, call);
@@ -155,22 +155,36 @@ pub fn needs_for(tables: &Tables, call: Call, rules: Rules, kept: &Needs) -> Nee
 
 /// RULES R110: the tables in which the needs of a call are worked out.
 pub fn tables_tested(tables: &Tables, call: Call, rules: Rules) -> Cow<'_, Tables> {
-    let mut left_out = left_out(tables, call);
-    rules.bend_left_out(tables, call, &mut left_out);
-    if left_out.is_empty() {
+    let mut places = places_left_out(tables, call);
+    rules.bend_left_out(tables, call, &mut places);
+    let mut mates = mates_left_out(tables, call);
+    rules.bend_mates_left_out(tables, call, &mut mates);
+    if places.is_empty() && mates.is_empty() {
         return Cow::Borrowed(tables);
     }
     let mut tested = tables.clone();
-    for (s, p) in left_out {
+    for (s, p) in places {
         tested.set_handle(s, p, None);
+    }
+    for mate in mates {
+        // Its handles go with it: RULES T18.
+        tested.set_subject(mate, None);
     }
     Cow::Owned(tested)
 }
 
 /// RULES R110: for an exec, the places of s with a marked handle or a mapping, and of no other subject.
-fn left_out(tables: &Tables, call: Call) -> Vec<(u64, u64)> {
+fn places_left_out(tables: &Tables, call: Call) -> Vec<(u64, u64)> {
     match call {
         Call::Exec { s, .. } => tables.places_ending_at_exec(s).map(|p| (s, p)).collect(),
+        _ => Vec::new(),
+    }
+}
+
+/// RULES R110: for an exec, the mates of s, whom it would end.
+fn mates_left_out(tables: &Tables, call: Call) -> Vec<u64> {
+    match call {
+        Call::Exec { s, .. } => tables.mates(s).collect(),
         _ => Vec::new(),
     }
 }

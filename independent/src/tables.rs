@@ -1,10 +1,10 @@
-//! The tables: RULES T1 to T20, T32, T33, T35 and T37; and the tally: RULES Y1 to Y10.
+//! The tables: RULES T1 to T20, T32, T33, T35, T37 and T45 to T47; and the tally: RULES Y1 to Y10.
 //!
-//! Subjects, objects and handles by number, what counts as a handle, the freeze, and the tally of handles
-//! made and gone. No rule of a call is here; see `monitor` and `refusals`. Every number has 64 bits, levels too, and
-//! none is ever cut.
+//! Subjects, objects and handles by number, what counts as a handle, who is in one group, the freeze, and the tally of
+//! handles made and gone. No rule of a call is here; see `monitor` and `refusals`. Every number has 64 bits, levels too,
+//! and none is ever cut.
 
-use std::collections::BTreeMap;
+use std::collections::{BTreeMap, BTreeSet};
 
 /// How many of each there may be, and how many levels: RULES T1 to T4. A subject's number is below their count;
 /// an object's is any, and so many of them may be live at a time.
@@ -76,8 +76,8 @@ impl Handle {
     }
 }
 
-/// The three tables and the freeze. Every number may be asked for and set: at a subject or a place out of range
-/// there is nothing, and setting it changes nothing.
+/// The three tables, the groups and the freeze. Every number may be asked for and set: at a subject or a place out of
+/// range there is nothing, and setting it changes nothing.
 #[derive(Clone, Debug, PartialEq, Eq)]
 pub struct Tables {
     limits: Limits,
@@ -85,6 +85,8 @@ pub struct Tables {
     /// RULES T2, T6: those that are live, by their numbers.
     objects: BTreeMap<u64, Object>,
     handles: Vec<Option<Handle>>,
+    /// RULES T45: each two live subjects that are in one group, both ways round. A group has no number.
+    mates: BTreeSet<(u64, u64)>,
     freeze: u64,
 }
 
@@ -96,6 +98,7 @@ impl Tables {
             subjects: vec![None; limits.subjects as usize],
             objects: BTreeMap::new(),
             handles: vec![None; (limits.subjects * limits.places) as usize],
+            mates: BTreeSet::new(),
             freeze: NO_FREEZE,
         }
     }
@@ -175,6 +178,26 @@ impl Tables {
         self.objects.keys().copied()
     }
 
+    /// RULES T45: the other members of the group that a live subject is in, the lowest number first.
+    pub fn mates(&self, s: u64) -> impl Iterator<Item = u64> + '_ {
+        self.mates.range((s, 0)..=(s, u64::MAX)).map(|&(_, mate)| mate)
+    }
+
+    /// Whether these are two members of one group.
+    pub fn are_mates(&self, s: u64, t: u64) -> bool {
+        self.mates.contains(&(s, t))
+    }
+
+    /// Each two members of one group, both ways round.
+    pub fn pairs_of_mates(&self) -> impl Iterator<Item = (u64, u64)> + '_ {
+        self.mates.iter().copied()
+    }
+
+    /// A live subject and its mates, the lowest number first.
+    pub fn members(&self, s: u64) -> impl Iterator<Item = u64> + '_ {
+        self.live_subjects().filter(move |&other| other == s || self.are_mates(s, other))
+    }
+
     /// How many objects are live.
     pub fn object_count(&self) -> u64 {
         self.objects.len() as u64
@@ -200,9 +223,36 @@ impl Tables {
         self.freeze = freeze;
     }
 
+    /// RULES T45: a subject that was not live is in a group of its own, one that was live stays in its group, and one
+    /// that is gone is in none.
     pub fn set_subject(&mut self, s: u64, subject: Option<Subject>) {
         if let Some(index) = self.subject_index(s) {
             self.subjects[index] = subject;
+        }
+        if subject.is_none() {
+            self.leave_group(s);
+        }
+    }
+
+    /// RULES C18: the groups of two live subjects are one.
+    pub fn join_groups(&mut self, s: u64, t: u64) {
+        let (ours, theirs): (Vec<u64>, Vec<u64>) = (self.members(s).collect(), self.members(t).collect());
+        for &one in &ours {
+            for &other in &theirs {
+                self.set_mates(one, other);
+            }
+        }
+    }
+
+    /// The subject is in a group of its own.
+    pub fn leave_group(&mut self, s: u64) {
+        self.mates.retain(|&(one, other)| one != s && other != s);
+    }
+
+    /// These two are in one group; nothing is said of their other mates.
+    pub(crate) fn set_mates(&mut self, s: u64, t: u64) {
+        if s != t && self.subject(s).is_some() && self.subject(t).is_some() {
+            self.mates.extend([(s, t), (t, s)]);
         }
     }
 
@@ -252,11 +302,12 @@ impl Tables {
     }
 }
 
-/// Tables as a host stores them: each object stands in one of 64 slots, beside its number, and a handle names a
-/// slot. No call looks at them: [`StoredTables::tables`] says which tables they are.
+/// Tables as a host stores them: each object stands in one of 64 slots, beside its number, a handle names a slot, and
+/// beside each subject is a byte, its group. No call looks at them: [`StoredTables::tables`] says which tables they are.
 #[derive(Clone, Debug)]
 pub struct StoredTables {
     slots: Vec<Option<(u64, Object)>>,
+    groups: Vec<u8>,
     /// All but the objects; the object of a handle is the slot that it names.
     rest: Tables,
 }
@@ -268,9 +319,13 @@ impl Default for StoredTables {
 }
 
 impl StoredTables {
-    /// Every slot free, and all else as in empty tables.
+    /// Every slot free, each subject's byte its own number, and all else as in empty tables.
     pub fn new() -> StoredTables {
-        StoredTables { slots: vec![None; LIMITS.objects as usize], rest: Tables::new(LIMITS) }
+        StoredTables {
+            slots: vec![None; LIMITS.objects as usize],
+            groups: (0..LIMITS.subjects as u8).collect(),
+            rest: Tables::new(LIMITS),
+        }
     }
 
     /// The number of the object in this slot, and the object; none for a free slot.
@@ -289,6 +344,13 @@ impl StoredTables {
         self.rest.set_subject(s, subject);
     }
 
+    /// RULES T47: every byte is one that a group can have.
+    pub fn set_group(&mut self, s: u64, group: u8) {
+        if s < LIMITS.subjects {
+            self.groups[s as usize] = group;
+        }
+    }
+
     pub fn set_freeze(&mut self, freeze: u64) {
         self.rest.set_freeze(freeze);
     }
@@ -303,9 +365,17 @@ impl StoredTables {
     }
 
     /// The tables that these are. A handle on a slot that is free, that counts as free or that there is not is one
-    /// on an object that is not live, and so counts as an empty place: RULES T17.
+    /// on an object that is not live, and so counts as an empty place: RULES T17. Two live subjects are in one group
+    /// where their bytes are equal: RULES T47.
     pub fn tables(&self) -> Tables {
         let mut tables = self.rest.clone();
+        for (s, group) in (0..).zip(&self.groups) {
+            for (t, other) in (0..s).zip(&self.groups) {
+                if group == other {
+                    tables.set_mates(s, t);
+                }
+            }
+        }
         for (slot, entry) in (0..).zip(&self.slots) {
             if let (Some((number, object)), Some(_)) = (*entry, self.counts(slot)) {
                 tables.set_object(number, Some(object));

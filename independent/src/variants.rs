@@ -1,16 +1,18 @@
 //! Deliberately wrong variants of the program, to show that the generated journals find mistakes.
 //!
 //! `Rules` says which variant is on; by default none is, and then every function here leaves the rules
-//! as they are. Each variant is read at exactly one place: here, in `channels`, in `freeze`, in `maps`, in
-//! `marks`, in `outcomes`, in `stores`, or at the one place in the reader that it speaks of. Typed lines have
-//! variants of their own, in `lines`.
+//! as they are. Each variant is read at exactly one place: here, in `channels`, in `freeze`, in `groups`, in `maps`,
+//! in `marks`, in `outcomes`, in `stores`, in `threads`, or at the one place in the reader that it speaks of. Typed
+//! lines have variants of their own, in `lines`.
 
 mod channels;
 mod freeze;
+mod groups;
 mod maps;
 mod marks;
 mod outcomes;
 mod stores;
+mod threads;
 
 use std::cmp::Reverse;
 
@@ -24,10 +26,12 @@ use crate::replies::{Content, Step, LONGEST_JOURNAL};
 use crate::tables::{Direction, Kind, Limits, Tables, LIMITS};
 use channels::bend_connected;
 use freeze::bend_frozen;
+use groups::bend_fall_answer;
 use maps::bend_mapped;
 use marks::bend_marked;
 use outcomes::{bend_answer, bend_effect, bend_refused};
 use stores::{bend_space, bend_stored};
+use threads::{bend_thread_answer, bend_threaded};
 
 /// A list of wrong programs: an enum of them, and a constant with all.
 macro_rules! variants {
@@ -159,6 +163,32 @@ variants! {
     PlacesAtPartnerOnly "places-at-partner-only" "a connect tests the places of t only";
     ReadingPlacesOnly "reading-places-only" "a connect may write at a place that is in use";
     FreezeConnects "freeze-connects" "a subject at or above the freeze is not connected";
+    // Threads: what is refused. That a connect of two mates is tested cannot be told: data flows between them already.
+    ThreadCallerUntested "thread-caller-untested" "a thread of a subject that is not there is not refused with 2";
+    ThreadItselfAllowed "thread-itself-allowed" "a thread to the caller's own number is allowed";
+    ThreadItself16 "thread-itself-16" "a thread to the caller's own number is refused with 16";
+    Thread32Allowed "thread-32-allowed" "a thread to a number above 31 is allowed";
+    ThreadTakesLive "thread-takes-live" "a thread takes a live subject into the group";
+    ThreadInUse7 "thread-in-use-7" "a thread to a number in use is refused with 7";
+    ThreadOfHolder7 "thread-of-holder-7" "a subject that has handles makes no thread: 7";
+    ThreadByFirstOnly "thread-by-first-only" "a member that a thread made is refused with 2 as the maker of another";
+    GroupOf8 "group-of-8" "a group has at most eight members";
+    FreezeThreads "freeze-threads" "a subject at or above the freeze makes no thread";
+    FullThreads "full-threads" "a thread is refused with 17 while 64 objects are live";
+    MatesNoFlow "mates-no-flow" "no data flows between members";
+    MatesFlowDown "mates-flow-down" "data flows from a member to those with higher numbers only";
+    MatesFlowUp "mates-flow-up" "data flows from a member to those with lower numbers only";
+    OpensLeaveMatesOut "opens-leave-mates-out" "an open leaves the opener's mates out of its test";
+    ExecMatesTested "exec-mates-tested" "exec tests the need with the caller's mates and their handles in";
+    ExecOneMateTested "exec-one-mate-tested" "exec leaves all mates but the highest number out of its test";
+    ExecLowerMatesTested "exec-lower-mates-tested" "exec leaves mates with higher numbers only out of its test";
+    ExecAllGroupsLeftOut "exec-all-groups-left-out" "exec leaves the members of all groups out of its test";
+    MatesRunAll "mates-run-all" "exec by a member that has mates is not tested";
+    MatesRunNone "mates-run-none" "exec by a member that has mates is refused with 10";
+    ConnectMates16 "connect-mates-16" "a connect of two members of one group is refused with 16";
+    MatesPlacesTaken "mates-places-taken" "a place that a mate has in use is taken";
+    MatesHandlesUsed "mates-handles-used" "at an empty place a member has the handle that a mate has there";
+    ForkKeepsNeed "fork-keeps-need" "a fork's child needs what its parent's group needed then";
     // The host's own file numbers: which objects there are, and how many.
     BeforeRequestH "before-request-h" "has objects 0 to 63 and numbers up to 4294967295, as before request (h)";
     NewAbove63 "new-above-63" "a new object above 63 is refused with 3";
@@ -293,9 +323,9 @@ variants! {
     RefusedExecCloses "refused-exec-closes" "an exec refused with 9 still closes the marked handles";
     UnfitExecCloses "unfit-exec-closes" "an exec refused with 4 or 5 still closes the marked handles";
     RefusedExecUnmarks "refused-exec-unmarks" "an exec refused with 9 takes the marks off";
-    // That the reads after a write lower a mapper, and their order, cannot be told from empty tables: a mapper
-    // fell to the file's level when it mapped it (RULES T38). Nor can it be told whether a mapping is marked
-    // (RULES C10).
+    // That the reads after a write lower a mapper cannot be told from empty tables: it fell to the file's level when it
+    // mapped it (RULES T38; see ONLY_BY_TABLES). Nor can their order be told, nor whether a mapping is marked (RULES
+    // C10).
     MapKeepsLevel "map-keeps-level" "a map does not lower the subject";
     MapTakesLevel "map-takes-level" "a map raises the subject, too";
     MapPlacesNone "map-places-none" "a map places no handle";
@@ -344,6 +374,60 @@ variants! {
     ChannelNeverEnds "channel-never-ends" "a pipe of a connect stays when its last handle goes";
     ChannelEndsTogether "channel-ends-together" "when one pipe of a connect ends, so does the other";
     ChannelClosesBoth "channel-closes-both" "a close of one end of a connect closes the subject's other end";
+    ThreadOwnGroup "thread-own-group" "a thread is in a group of its own";
+    ThreadJoinsMakerOnly "thread-joins-maker-only" "a thread has its maker as a mate, and none of its maker's mates";
+    OneGroupForAll "one-group-for-all" "a thread makes one group of all groups";
+    ThreadCopiesHandles "thread-copies-handles" "a thread gets the handles of its maker, too";
+    ThreadMovesHandles "thread-moves-handles" "a thread takes the handles of its maker along";
+    ThreadTopLevel "thread-top-level" "a thread starts at level 15";
+    ThreadAtZero "thread-at-zero" "a thread starts at level 0";
+    FallsAlone "falls-alone" "each member has a level of its own: what lowers one lowers no other";
+    ReaderFallsAlone "reader-falls-alone" "a read lowers the caller and none of its mates";
+    MapperFallsAlone "mapper-falls-alone" "a map lowers the caller and none of its mates";
+    HighestKeepsLevel "highest-keeps-level" "the mate with the highest number does not fall with the others";
+    OneMateFalls "one-mate-falls" "of the mates only the one with the lowest number falls";
+    HigherMatesFall "higher-mates-fall" "only mates with higher numbers fall";
+    FirstKeepsLevel "first-keeps-level" "the first of a group does not fall with its threads";
+    FirstLowersAll "first-lowers-all" "only what lowers the first of a group lowers the others";
+    HoldersFall "holders-fall" "only mates that have handles fall";
+    MatesTakeLevel "mates-take-level" "a read or a map raises the mates, too";
+    ForkJoinsGroup "fork-joins-group" "a fork's child is in the group of its parent";
+    ForkLeavesGroup "fork-leaves-group" "a fork puts its caller into a group of its own";
+    ForkCopiesMates "fork-copies-mates" "fork copies the handles of the mates, too";
+    ExecKeepsMates "exec-keeps-mates" "an allowed exec ends nobody";
+    ExecKeepsOneMate "exec-keeps-one-mate" "an allowed exec keeps the mate with the lowest number";
+    ExecKeepsFirst "exec-keeps-first" "an allowed exec keeps the first of the group";
+    ExecKeepsHolders "exec-keeps-holders" "an allowed exec keeps the mates that have handles";
+    ExecEqualKeepsMates "exec-equal-keeps-mates" "an exec that lowers nothing ends nobody";
+    ExecByFirstEnds "exec-by-first-ends" "only an exec by the first of a group ends the others";
+    ExecEmptiesMates "exec-empties-mates" "an allowed exec closes the handles of the mates, but they stay";
+    ExecKeepsMatesPipes "exec-keeps-mates-pipes" "a pipe stays when exec ends the mate that has its last handle";
+    ExecEndsMatesPipes "exec-ends-mates-pipes" "a pipe ends with a mate that has a handle on it, the last or not";
+    ExecEndsAllGroups "exec-ends-all-groups" "an allowed exec ends the members of all groups";
+    RefusedExecEndsMates "refused-exec-ends-mates" "an exec refused with 9 still ends the mates";
+    UnfitExecEndsMates "unfit-exec-ends-mates" "an exec refused with 4 or 5 still ends the mates";
+    RefusedExecClosesMates "refused-exec-closes-mates" "an exec refused with 9 still closes the handles of the mates";
+    RefusedExecSplits "refused-exec-splits" "an exec refused with 9 puts its caller into a group of its own";
+    ExitEndsGroup "exit-ends-group" "the exit of a member ends the others";
+    FirstExitEndsGroup "first-exit-ends-group" "the exit of the first of a group ends the others";
+    LowestExitEndsGroup "lowest-exit-ends-group" "the exit of the lowest number of a group ends the others";
+    FirstExitLevel0 "first-exit-level-0" "the exit of the first of a group leaves the others at level 0";
+    FirstExitSplits "first-exit-splits" "the exit of the first of a group leaves each other in a group of its own";
+    LowestExitSplits "lowest-exit-splits" "the exit of the lowest number leaves each other in a group of its own";
+    ExitClosesMates "exit-closes-mates" "the exit of a member closes the handles of the others";
+    AdmitRejoins "admit-rejoins" "who is admitted with the number of a member that is gone is in its group";
+    ForkRejoins "fork-rejoins" "who is forked with the number of a member that is gone is in its group";
+    ThreadRejoins "thread-rejoins" "a thread with the number of a member that is gone brings its old group along";
+    // Only tables that no calls made tell these.
+    RereadLowersNobody "reread-lowers-nobody" "a write to a mapped file lowers nobody";
+    RereadLowersMappers "reread-lowers-mappers" "a write to a mapped file lowers its mappers and none of their mates";
+    RereadLowersLowest "reread-lowers-lowest" "a write to a mapped file lowers of each group the lowest of its mappers";
+    RereadOfMateUnsaid "reread-of-mate-unsaid" "a write that lowers mates of mappers alone is said as allowed";
+    FallEvens "fall-evens" "a read or a map brings all members to the level of its caller";
+    MateFallUnsaid "mate-fall-unsaid" "a read or a map that lowers mates alone is said as allowed";
+    ReadAnswersLowest "read-answers-lowest" "a read or a map answers with the lowest level of the group";
+    ThreadAtLowest "thread-at-lowest" "a thread starts at the lowest level of its group";
+    ThreadEvens "thread-evens" "a thread brings all members to the level of its maker";
     OldMonitor "old-monitor" "hands the old monitor back";
     // Answers.
     OpenAnswersSubject "open-answers-subject" "an open answers with the subject's level";
@@ -366,6 +450,8 @@ variants! {
     ConnectAnswersPartner "connect-answers-partner" "a connect answers with the level of t";
     ConnectAnswersLower "connect-answers-lower" "a connect answers with the lower of the two levels";
     ConnectAsLowered "connect-as-lowered" "a connect to a lower subject is said as lowered";
+    ThreadAnswersZero "thread-answers-zero" "a thread answers with level 0";
+    ThreadAnswersNumber "thread-answers-number" "a thread answers with its number";
     LoweredAsAllowed "lowered-as-allowed" "lowered is said as allowed";
     PipeLoweredAsAllowed "pipe-lowered-as-allowed" "a lowered pipe is said as allowed";
     EqualAsLowered "equal-as-lowered" "a read at the same level is said as lowered";
@@ -396,6 +482,13 @@ variants! {
     ConnectCountedTwo "connect-counted-two" "a connect counts two handles made";
     ConnectCountedThree "connect-counted-three" "a connect counts three handles made";
     RefusedConnectCounted "refused-connect-counted" "a refused connect counts four handles made";
+    ThreadCounted "thread-counted" "a thread counts as many handles made as its maker has";
+    ExecMatesNotCounted "exec-mates-not-counted" "exec does not count the handles of the mates that it ends";
+    ExecMatesCountedOnce "exec-mates-counted-once" "exec counts one handle gone for each mate that it ends";
+    ExecCountsMatesMarked "exec-counts-mates-marked" "exec counts of the mates' handles only the marked ones and mappings";
+    ExecCountsMatesUnmarked "exec-counts-mates-unmarked" "exec does not count the marked handles and mappings of the mates";
+    RefusedExecCountsMates "refused-exec-counts-mates" "an exec refused with 9 counts the handles of the mates gone";
+    ExitCountsGroup "exit-counts-group" "the exit of a member counts the handles of the others gone";
     OpenAsMade "open-as-made" "the end line gives the handles made as those open";
     // Codes.
     Code14Unknown "code-14-unknown" "does not know code 14";
@@ -407,6 +500,9 @@ variants! {
     Code17Unknown "code-17-unknown" "does not know code 17";
     Code17AsPipe "code-17-as-pipe" "takes code 17 for a pipe";
     Code18AsConnect "code-18-as-connect" "takes code 18 for a connect";
+    Code18AsFork "code-18-as-fork" "takes code 18 for a fork";
+    Code18Unknown "code-18-unknown" "does not know code 18, as before request (i)";
+    Code19AsThread "code-19-as-thread" "takes code 19 for a thread";
     CodeMod32 "code-mod-32-bits" "takes codes modulo 2 to the 32nd";
     // Numbers and records.
     PaddedAccepted "padded-accepted" "a number longer than it need be is taken";
@@ -432,6 +528,9 @@ variants! {
     ConnectPartnerFirst "connect-partner-first" "a connect has t before s";
     ConnectBackFirst "connect-back-first" "a connect has b before a";
     ConnectPipesBetween "connect-pipes-between" "a connect has a before t";
+    ThreadOneNumber "thread-one-number" "a record of a thread has one number";
+    ThreadThreeNumbers "thread-three-numbers" "a record of a thread has three numbers";
+    ThreadSwapped "thread-swapped" "a thread has c before s";
     MissingIsZero "missing-is-zero" "a missing number is taken as 0";
     LeftOverIgnored "left-over-ignored" "what is left over in a record is ignored";
     UnknownRestRead "unknown-rest-read" "a malformed number behind an unknown code is 12";
@@ -450,6 +549,20 @@ variants! {
     CodeShownMod32 "code-shown-mod-32-bits" "writes a code modulo 2 to the 32nd";
     FourteenAtZero "14-at-0" "writes 14 with position 0";
 }
+
+/// These answer every journal as the rules do: only tables that no calls made tell them apart. From empty tables the
+/// members of a group have one level, and all of them fell when one mapped a file (RULES T38, T48).
+pub const ONLY_BY_TABLES: &[&str] = &[
+    "reread-lowers-nobody",
+    "reread-lowers-mappers",
+    "reread-lowers-lowest",
+    "reread-of-mate-unsaid",
+    "fall-evens",
+    "mate-fall-unsaid",
+    "read-answers-lowest",
+    "thread-at-lowest",
+    "thread-evens",
+];
 
 /// Which rules hold: those of docs/RULES.md, or one variant of them.
 #[derive(Clone, Copy, Debug, Default, PartialEq, Eq)]
@@ -509,6 +622,9 @@ impl Rules {
             (Some(Variant::Code17Unknown), 17) => 0,
             (Some(Variant::Code17AsPipe), 17) => 4,
             (Some(Variant::Code18AsConnect), 18) => 17,
+            (Some(Variant::Code18AsFork), 18) => 9,
+            (Some(Variant::Code18Unknown), 18) => 0,
+            (Some(Variant::Code19AsThread), 19) => 18,
             (Some(Variant::CodeMod32), _) => code % (1 << 32),
             _ => code,
         }
@@ -524,6 +640,8 @@ impl Rules {
             Some(Variant::FreezeTwoNumbers) if shape.code == 16 => 2,
             Some(Variant::ConnectFourNumbers) if shape.code == 17 => 4,
             Some(Variant::ConnectFiveNumbers) if shape.code == 17 => 5,
+            Some(Variant::ThreadOneNumber) if shape.code == 18 => 1,
+            Some(Variant::ThreadThreeNumbers) if shape.code == 18 => 3,
             _ => shape.numbers.len(),
         }
     }
@@ -539,6 +657,7 @@ impl Rules {
             Some(Variant::ConnectPartnerFirst) if code == 17 => [b, a, c, d, e, f],
             Some(Variant::ConnectBackFirst) if code == 17 => [a, b, d, c, e, f],
             Some(Variant::ConnectPipesBetween) if code == 17 => [a, c, b, d, e, f],
+            Some(Variant::ThreadSwapped) if code == 18 => [b, a, c, d, e, f],
             Some(Variant::Mod256) => numbers.map(|number| number % 256),
             Some(Variant::Mod65536) => numbers.map(|number| number % 65_536),
             Some(Variant::Mod31Bits) => numbers.map(|number| number % (1 << 31)),
@@ -547,9 +666,13 @@ impl Rules {
         }
     }
 
-    /// The call with the object that is found where it names one that is not live.
+    /// The call with the object that is found where it names one that is not live, and with the subject that has the
+    /// handle it names.
     pub fn bend_named(self, tables: &Tables, call: Call) -> Call {
-        self.variant.map_or(call, |variant| stores::bend_named(variant, tables, call))
+        let Some(variant) = self.variant else {
+            return call;
+        };
+        threads::bend_caller(variant, tables, stores::bend_named(variant, tables, call))
     }
 
     /// Whether a number of these groups is taken although it is longer than it need be.
@@ -596,6 +719,18 @@ impl Rules {
         if let Some(variant) = self.variant {
             marks::bend_left_out(variant, tables, call, left_out);
         }
+    }
+
+    /// RULES R110: the mates that the test of a call leaves out.
+    pub fn bend_mates_left_out(self, tables: &Tables, call: Call, mates: &mut Vec<u64>) {
+        if let Some(variant) = self.variant {
+            threads::bend_mates_left_out(variant, tables, call, mates);
+        }
+    }
+
+    /// RULES F22: whether data flows from one of these mates to the other.
+    pub fn joins(self, pair: (u64, u64)) -> bool {
+        self.variant.is_none_or(|variant| threads::joins(variant, pair))
     }
 
     /// The needs from which the passes start.
@@ -653,6 +788,9 @@ impl Rules {
             set(number, holds);
         }
         if let Some((number, holds)) = bend_stored(variant, tables, call) {
+            set(number, holds);
+        }
+        if let Some((number, holds)) = bend_threaded(variant, tables, call) {
             set(number, holds);
         }
         // A map is tested as an open is.
@@ -788,6 +926,8 @@ impl Rules {
             _ => bend_effect(variant, before, after, call),
         }
         let answer = bend_answer(variant, before, call, answer);
+        let answer = bend_fall_answer(variant, before, after, call, answer);
+        let answer = bend_thread_answer(variant, before, after, call, answer);
         bend_space(variant, before, after, call, answer)
     }
 

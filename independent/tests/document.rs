@@ -2,6 +2,7 @@
 
 use gatekeeper_independent::cases;
 use gatekeeper_independent::monitor::{Answer, Monitor};
+use gatekeeper_independent::needs::{Needs, Thing};
 use gatekeeper_independent::replies::replies;
 use gatekeeper_independent::tables::{
     Direction, Handle, Kind, Object, StoredTables, Subject, Tables, LIMITS,
@@ -72,6 +73,28 @@ fn the_cases_are_all_there() {
         "connect-ends",
         "connect-record",
         "connect-32-bytes",
+        "thread-answer",
+        "thread-refused",
+        "thread-flow",
+        "thread-flow-beyond",
+        "thread-fall",
+        "thread-map",
+        "thread-pipe",
+        "thread-exec",
+        "thread-exec-by-thread",
+        "thread-exec-same-level",
+        "thread-exec-own",
+        "thread-exec-chain",
+        "thread-exec-refused",
+        "thread-fork",
+        "thread-exit",
+        "thread-again",
+        "thread-connect",
+        "thread-places",
+        "thread-two-groups",
+        "thread-freeze",
+        "thread-subject",
+        "thread-record",
         "known-codes",
         "h-subject",
         "h-subject-new",
@@ -114,13 +137,15 @@ fn a_direct_call_ignores_the_numbers_its_code_does_not_use() {
     assert_eq!(monitor.call(5, [0, 0, 0, any, 0, 0]), Answer::Allowed(9));
     assert_eq!(monitor.call(14, [0, 0, 1, any, 0, 0]), Answer::Allowed(9));
     assert_eq!(monitor.call(15, [0, 0, any, any, 0, 0]), Answer::Allowed(9));
+    assert_eq!(monitor.call(18, [0, 1, any, any, any, any]), Answer::Allowed(9));
+    assert_eq!(monitor.call(12, [1, any, any, any, 0, 0]), Answer::Allowed(9));
     assert_eq!(monitor.call(12, [0, any, any, any, 0, 0]), Answer::Allowed(9));
     assert_eq!(monitor.call(13, [0, any, any, any, 0, 0]), Answer::Allowed(9));
     assert_eq!(monitor.call(16, [9, any, any, any, 0, 0]), Answer::Allowed(9));
-    for code in [0, 18, 19, 255, 256, 256 + 14, 256 + 15, 256 + 16, 256 + 17, u64::MAX] {
+    for code in [0, 19, 20, 255, 256, 256 + 14, 256 + 15, 256 + 16, 256 + 17, 256 + 18, u64::MAX] {
         assert_eq!(monitor.call(code, [0, 0, 0, 0, 0, 0]), Answer::Refused(1));
     }
-    for code in 0..=18 {
+    for code in 0..=19 {
         for above in [1 << 32, 1 << 63, 17 << 32] {
             assert_eq!(monitor.call(above + code, [0, 0, 0, 0, 0, 0]), Answer::Refused(1));
         }
@@ -133,7 +158,7 @@ fn a_refusal_answers_with_level_0_and_changes_nothing() {
     assert_eq!(monitor.call(1, [0, 9, 0, 0, 0, 0]), Answer::Allowed(9));
     assert_eq!(monitor.call(16, [9, 0, 0, 0, 0, 0]), Answer::Allowed(9));
     let (tables, tally) = (monitor.tables().clone(), monitor.tally());
-    for code in 0..=18 {
+    for code in 0..=19 {
         let answer = monitor.call(code, [99, 99, 99, 99, 0, 0]);
         assert!(matches!(answer, Answer::Refused(_)), "{code}");
         assert_eq!(answer.level(), 0);
@@ -659,6 +684,358 @@ fn where_a_thing_is_below_its_need_already_every_connect_is_refused() {
     assert_eq!(monitor.call(17, CONNECT), Answer::Allowed(9));
 }
 
+// Threads.
+
+/// Subjects 0, 1 and so on of these levels, all in one group; file 0 is at level 9.
+fn group(levels: &[u64], fill: impl Fn(&mut Tables)) -> Monitor {
+    made_up(|tables| {
+        for (s, &level) in (0..).zip(levels) {
+            tables.set_subject(s, Some(Subject { level }));
+            tables.join_groups(0, s);
+        }
+        fill(tables);
+    })
+}
+
+fn levels(monitor: &Monitor) -> Vec<u64> {
+    let tables = monitor.tables();
+    tables.live_subjects().filter_map(|s| tables.subject(s)).map(|subject| subject.level).collect()
+}
+
+fn mates(monitor: &Monitor, s: u64) -> Vec<u64> {
+    monitor.tables().mates(s).collect()
+}
+
+/// RULES C18, T46, T48, Y7: beside a maker that has a handle at every place, and mates of other levels.
+#[test]
+fn a_thread_is_a_new_member_at_its_maker_s_level_without_handles() {
+    for level in 0..=15 {
+        for c in 2..32 {
+            let mut monitor = group(&[level, 15 - level], |tables| {
+                for p in 0..16 {
+                    let held = [handle(0, READING), marked(0, READING), mapping(0)][p as usize % 3];
+                    tables.set_handle(0, p, held);
+                }
+                // It does not come with the number.
+                tables.set_handle(c, 0, handle(0, WRITING));
+            });
+            assert_eq!(monitor.call(18, [0, c, 0, 0, 0, 0]), Answer::Allowed(level));
+            assert_eq!(levels(&monitor), [level, 15 - level, level]);
+            assert_eq!([mates(&monitor, 0), mates(&monitor, c)], [vec![1, c], vec![0, 1]]);
+            assert_eq!((monitor.tables().handle_count(), monitor.tally().made), (16, 0));
+            assert_eq!(monitor.call(5, [c, 0, 0, 0, 0, 0]), Answer::Allowed(9));
+        }
+    }
+}
+
+/// RULES R2, R3.
+#[test]
+fn the_numbers_of_a_thread_are_tested_in_order() {
+    let monitor = group(&[9, 9], |tables| tables.set_subject(31, Some(Subject { level: 2 })));
+    let answer = |s: u64, c: u64| monitor.clone().call(18, [s, c, 0, 0, 0, 0]);
+    for missing in [2, 30, 32, 256, 1 << 32, u64::MAX] {
+        for c in [0, 2, 32, missing] {
+            assert_eq!(answer(missing, c), Answer::Refused(2));
+        }
+    }
+    for s in [0, 1, 31] {
+        for c in [0, 1, 31, 32, 256 + 2, (1 << 32) + 2, u64::MAX] {
+            assert_eq!(answer(s, c), Answer::Refused(3), "{s} {c}");
+        }
+        assert_eq!(answer(s, 2).level(), if s == 31 { 2 } else { 9 });
+    }
+}
+
+/// RULES C113, C115, C116: the largest group there can be.
+#[test]
+fn all_subjects_may_be_in_one_group() {
+    let mut monitor = made_up(|_| ());
+    for c in 1..32 {
+        // Each is made by the one before it.
+        assert_eq!(monitor.call(18, [c - 1, c, 0, 0, 0, 0]), Answer::Allowed(9));
+        assert_eq!(monitor.call(6, [c, 0, c % 16, 0, 0, 0]), Answer::Allowed(9));
+    }
+    assert_eq!(monitor.call(18, [0, 32, 0, 0, 0, 0]), Answer::Refused(3));
+    assert_eq!(mates(&monitor, 17).len(), 31);
+    assert_eq!(monitor.call(2, [1, 4, 0, 0, 0, 0]), Answer::Allowed(4));
+    assert_eq!(monitor.call(5, [0, 1, 0, 0, 0, 0]), Answer::Refused(9));
+    assert_eq!(monitor.call(10, [0, 1, 0, 0, 0, 0]), Answer::Lowered(4));
+    assert_eq!((levels(&monitor), monitor.tally().gone), (vec![4], 31));
+    assert_eq!(monitor.call(13, [0, 0, 0, 0, 0, 0]), Answer::Allowed(9));
+}
+
+/// RULES C7, C14, C104, C114, T48: at every three levels, of the caller, of a mate and of the file. The answer has the
+/// caller's, and one that falls is enough for lowered.
+#[test]
+fn what_lowers_one_lowers_each_of_its_mates_to_the_same_level() {
+    for own in 0..=15 {
+        for mate in 0..=15 {
+            for file in 0..=15 {
+                let start = group(&[own, mate], |tables| {
+                    tables.set_subject(7, Some(Subject { level: 15 }));
+                    tables.set_object(0, Some(Object { kind: Kind::File, level: file }));
+                    tables.set_handle(0, 0, handle(0, READING));
+                });
+                let after = [own.min(file), mate.min(file), 15];
+                let fell = own > file || mate > file;
+                for (code, numbers) in [(7, [0, 0, 0, 0, 0, 0]), (14, [0, 0, 1, 0, 0, 0])] {
+                    let mut monitor = start.clone();
+                    let answer = monitor.call(code, numbers);
+                    assert_eq!((answer.letter(), answer.level()), (if fell { 'L' } else { 'A' }, after[0]));
+                    assert_eq!(levels(&monitor), after);
+                }
+            }
+        }
+    }
+}
+
+/// RULES C8, C104, C111, C114, C117: in tables that no calls made a mapper, or a mate of one, may be above the file.
+#[test]
+fn a_write_to_a_mapped_file_lowers_the_mates_of_each_mapper() {
+    for mappers in [vec![1], vec![3], vec![1, 2], vec![2, 3], vec![0], vec![4], vec![]] {
+        for levels_before in [[9, 9, 9, 9], [9, 4, 5, 9], [4, 9, 5, 5], [5, 5, 5, 5], [3, 4, 5, 2]] {
+            let mut monitor = group(&levels_before, |tables| {
+                tables.set_object(0, Some(Object { kind: Kind::File, level: 5 }));
+                // Who writes is 5; 4 and 5 are no mates of the others, nor of each other.
+                tables.set_subject(4, Some(Subject { level: 9 }));
+                tables.set_subject(5, Some(Subject { level: 9 }));
+                tables.set_handle(5, 0, handle(0, WRITING));
+                mappers.iter().for_each(|&s| tables.set_handle(s, 0, mapping(0)));
+            });
+            let is_read = mappers.iter().any(|&s| s < 4);
+            let fall = |level: u64, falls: bool| if falls { level.min(5) } else { level };
+            let mut after: Vec<u64> = levels_before.iter().map(|&level| fall(level, is_read)).collect();
+            after.extend([fall(9, mappers.contains(&4)), 9]);
+            let fell = levels(&monitor) != after;
+            let answer = if fell { Answer::Lowered(5) } else { Answer::Allowed(5) };
+            assert_eq!(monitor.call(8, [5, 0, 0, 0, 0, 0]), answer, "{mappers:?} {levels_before:?}");
+            assert_eq!(levels(&monitor), after, "{mappers:?} {levels_before:?}");
+        }
+    }
+}
+
+/// RULES C8, T48: a pipe falls to the level of the member that writes, and to no mate's.
+#[test]
+fn a_pipe_falls_to_its_writer_s_level() {
+    let mut monitor = group(&[7, 2], |tables| {
+        tables.set_object(5, Some(Object { kind: Kind::Pipe, level: 9 }));
+        tables.set_handle(0, 0, handle(5, WRITING));
+        tables.set_handle(1, 0, handle(5, READING));
+    });
+    assert_eq!(monitor.call(8, [0, 0, 0, 0, 0, 0]), Answer::Lowered(7));
+    assert_eq!((levels(&monitor), monitor.call(7, [1, 0, 0, 0, 0, 0])), (vec![7, 2], Answer::Allowed(2)));
+}
+
+/// RULES C10, C116, R110, Y13: the level of the program against the need of the caller without its mates, at every
+/// three levels: of the program, of what the caller writes to, of what a mate writes to.
+#[test]
+fn exec_is_tested_without_the_mates_and_ends_them() {
+    for program in 0..=15 {
+        for own in 0..=15 {
+            for book in 0..=15 {
+                let mut monitor = group(&[15, 15, 15], |tables| {
+                    for (o, level) in [(0, program), (1, own), (2, book)] {
+                        tables.set_object(o, Some(Object { kind: Kind::File, level }));
+                    }
+                    tables.set_object(5, Some(Object { kind: Kind::Pipe, level: 15 }));
+                    tables.set_handle(1, 0, handle(1, WRITING));
+                    tables.set_handle(1, 1, mapping(0));
+                    // A chain to the book that passes a mate.
+                    tables.set_handle(1, 2, handle(5, WRITING));
+                    tables.set_handle(0, 0, handle(5, READING));
+                    tables.set_handle(0, 1, handle(2, WRITING));
+                    tables.set_handle(2, 0, marked(2, READING));
+                });
+                let before = monitor.tables().clone();
+                let answer = monitor.call(10, [1, 0, 0, 0, 0, 0]);
+                if program < own {
+                    assert_eq!((answer, monitor.tables()), (Answer::Refused(9), &before));
+                    assert_eq!(monitor.tally().gone, 0);
+                } else {
+                    assert_eq!(answer.level(), program);
+                    assert_eq!(answer.letter(), if program < 15 { 'L' } else { 'A' });
+                    assert_eq!(monitor.tables().live_subjects().collect::<Vec<u64>>(), [1]);
+                    assert_eq!((monitor.tables().handle_count(), monitor.tally().gone), (2, 4));
+                    assert!(monitor.tables().object(5).is_some());
+                }
+            }
+        }
+    }
+}
+
+/// RULES C116, R102: over all that can be wrong with the program.
+#[test]
+fn a_refused_exec_ends_nobody() {
+    let mut monitor = group(&[9, 9], |tables| {
+        tables.set_object(1, Some(Object { kind: Kind::File, level: 2 }));
+        tables.set_object(5, Some(Object { kind: Kind::Pipe, level: 9 }));
+        tables.set_handle(0, 0, handle(0, WRITING));
+        tables.set_handle(1, 0, handle(5, READING));
+        tables.set_handle(1, 1, marked(0, WRITING));
+        // It counts as an empty place, and stays so.
+        tables.set_handle(1, 2, handle(40, READING));
+    });
+    let before = monitor.tables().clone();
+    for (o, number) in [(1, 9), (5, 5), (7, 4)] {
+        assert_eq!(monitor.call(10, [0, o, 0, 0, 0, 0]), Answer::Refused(number));
+        assert_eq!((monitor.tables(), monitor.tally().gone), (&before, 0));
+    }
+    assert_eq!(monitor.call(10, [2, 0, 0, 0, 0, 0]), Answer::Refused(2));
+    // The mate itself may: its book is marked, and the other's goes with the other.
+    assert_eq!(monitor.call(10, [1, 1, 0, 0, 0, 0]), Answer::Lowered(2));
+    assert_eq!((levels(&monitor), monitor.tally().gone), (vec![2], 2));
+}
+
+/// RULES C102, T17, Y11, Y13: what goes with the mates that an exec ends.
+#[test]
+fn the_handles_of_ended_mates_are_counted_and_their_pipes_end() {
+    let mut monitor = group(&[9, 9, 9], |tables| {
+        for o in [5, 6, 7] {
+            tables.set_object(o, Some(Object { kind: Kind::Pipe, level: 9 }));
+        }
+        // Pipe 5 is between the mates, pipe 6 has an end at a step beside them, on pipe 7 there is no handle.
+        tables.set_handle(1, 0, handle(5, READING));
+        tables.set_handle(2, 15, handle(5, WRITING));
+        tables.set_handle(2, 3, handle(6, WRITING));
+        tables.set_subject(9, Some(Subject { level: 9 }));
+        tables.set_handle(9, 0, handle(6, READING));
+        // These count as empty places.
+        tables.set_handle(1, 4, handle(40, WRITING));
+        tables.set_handle(8, 0, handle(7, WRITING));
+    });
+    assert_eq!(monitor.call(10, [0, 0, 0, 0, 0, 0]), Answer::Allowed(9));
+    assert_eq!((monitor.tally().gone, monitor.tables().handle_count()), (3, 1));
+    assert_eq!(monitor.tables().live_objects().collect::<Vec<u64>>(), [0, 6, 7]);
+    assert_eq!(monitor.tables().live_subjects().collect::<Vec<u64>>(), [0, 9]);
+}
+
+/// RULES C9, C113: the child has one group, one set of handles and one need: its own.
+#[test]
+fn a_fork_by_a_member_makes_a_group_of_its_own() {
+    let mut monitor = group(&[9, 9], |tables| {
+        tables.set_object(1, Some(Object { kind: Kind::File, level: 2 }));
+        tables.set_handle(0, 0, handle(0, READING));
+        tables.set_handle(1, 1, handle(0, WRITING));
+    });
+    assert_eq!(monitor.call(9, [0, 2, 0, 0, 0, 0]), Answer::Allowed(9));
+    assert_eq!((mates(&monitor, 2), mates(&monitor, 0)), (vec![], vec![1]));
+    assert_eq!((monitor.tables().handles_of(2).count(), monitor.tally().made), (1, 1));
+    assert_eq!(monitor.call(5, [0, 1, 5, 0, 0, 0]), Answer::Refused(9));
+    assert_eq!(monitor.call(14, [2, 1, 5, 0, 0, 0]), Answer::Lowered(2));
+    assert_eq!(levels(&monitor), [9, 9, 2]);
+    // The child of the other one has the book.
+    assert_eq!(monitor.call(9, [1, 3, 0, 0, 0, 0]), Answer::Allowed(9));
+    assert_eq!(monitor.call(10, [3, 1, 0, 0, 0, 0]), Answer::Refused(9));
+    assert_eq!(monitor.call(10, [2, 1, 0, 0, 0, 0]), Answer::Allowed(2));
+    assert_eq!(levels(&monitor), [9, 9, 2, 9]);
+}
+
+/// RULES C115: each of three in turn, which are of different levels here; and its number again.
+#[test]
+fn exit_ends_one_member_whichever_it_is() {
+    for gone in 0..3 {
+        let start = group(&[9, 8, 7], |tables| {
+            for s in 0..3 {
+                tables.set_handle(s, s, handle(0, READING));
+                tables.set_handle(s, 5, mapping(0));
+            }
+        });
+        let mut monitor = start.clone();
+        assert_eq!(monitor.call(12, [gone, 0, 0, 0, 0, 0]), Answer::Allowed(9 - gone));
+        assert_eq!((monitor.tables().handle_count(), monitor.tally().gone), (4, 2));
+        let left: Vec<u64> = (0..3).filter(|&s| s != gone).collect();
+        for &s in &left {
+            assert_eq!(monitor.tables().subject(s), start.tables().subject(s));
+            assert!(monitor.tables().handles_of(s).eq(start.tables().handles_of(s)));
+        }
+        assert_eq!(mates(&monitor, left[0]), [left[1]]);
+        assert_eq!(mates(&monitor, gone), []);
+        for (code, number, are) in [(1, gone, false), (9, left[0], false), (18, left[0], true)] {
+            let mut again = monitor.clone();
+            let numbers = if code == 1 { [gone, 9, 0, 0, 0, 0] } else { [number, gone, 0, 0, 0, 0] };
+            assert!(matches!(again.call(code, numbers), Answer::Allowed(_)));
+            assert_eq!(again.tables().are_mates(left[1], gone), are, "{code}");
+        }
+    }
+}
+
+/// RULES F22, R9: data flows from each member to each other, so that what one writes to all need.
+#[test]
+fn members_have_one_need_whoever_holds_the_handle() {
+    for holder in 0..4 {
+        let monitor = group(&[9, 9, 9, 9], |tables| {
+            tables.set_subject(9, Some(Subject { level: 9 }));
+            tables.set_object(1, Some(Object { kind: Kind::File, level: 2 }));
+            tables.set_handle(holder, 0, handle(0, WRITING));
+        });
+        let needs = Needs::of_tables(monitor.tables());
+        assert_eq!([0, 1, 2, 3, 9].map(|s| needs.of(Thing::Subject(s))), [9, 9, 9, 9, 0]);
+        for (s, number) in [(0, 9), (1, 9), (2, 9), (3, 9), (9, 2)] {
+            let answer = if s == 9 { Answer::Allowed(number) } else { Answer::Refused(9) };
+            assert_eq!(monitor.clone().call(5, [s, 1, 1, 0, 0, 0]), answer);
+        }
+    }
+}
+
+/// RULES R9, R16, T48: two mates are not the same subject, and are connected as any two are; where a member is below
+/// what a mate writes to, as no calls make it, every connect and every open is refused.
+#[test]
+fn two_members_are_connected_as_any_two_subjects() {
+    let book = |tables: &mut Tables| tables.set_handle(1, 7, handle(0, WRITING));
+    let mut monitor = group(&[9, 9], book);
+    assert_eq!(monitor.call(17, [1, 1, 5, 6, 0, 1]), Answer::Refused(16));
+    assert_eq!(monitor.call(17, [0, 1, 5, 6, 7, 1]), Answer::Refused(7));
+    assert_eq!(monitor.call(17, CONNECT), Answer::Allowed(9));
+    assert_eq!((mates(&monitor, 0), monitor.tables().handle_count()), (vec![1], 5));
+    let mut monitor = group(&[8, 9], book);
+    assert_eq!(monitor.call(17, CONNECT), Answer::Refused(9));
+    assert_eq!(monitor.call(5, [1, 0, 0, 0, 0, 0]), Answer::Refused(9));
+    // An exec looks at its caller alone.
+    assert_eq!(monitor.call(10, [0, 0, 0, 0, 0, 0]), Answer::Allowed(8));
+}
+
+/// RULES T47, H30: equal bytes of live subjects, whichever they are, and nothing else.
+#[test]
+fn a_group_is_a_byte_beside_each_subject() {
+    let stored = |bytes: [u8; 4]| {
+        let mut stored = StoredTables::new();
+        for s in [0, 1, 2] {
+            stored.set_subject(s, Some(Subject { level: 9 }));
+        }
+        (0..).zip(bytes).for_each(|(s, byte)| stored.set_group(s, byte));
+        stored.set_group(32, bytes[0]);
+        Monitor::of_tables(stored.tables(), Rules::default())
+    };
+    for byte in 0..=255_u8 {
+        let other = byte.wrapping_add(1);
+        let mut monitor = stored([byte, other, byte, byte]);
+        assert_eq!([0, 1, 2, 3].map(|s| mates(&monitor, s)), [vec![2], vec![], vec![0], vec![]]);
+        // Which byte it is, nothing tells.
+        assert_eq!(monitor.tables(), stored([7, 8, 7, 9]).tables());
+        // What stands beside a subject that is not live is not looked at.
+        assert_eq!(monitor.call(1, [3, 9, 0, 0, 0, 0]), Answer::Allowed(9));
+        assert_eq!(monitor.call(9, [0, byte.into(), 0, 0, 0, 0]).level() == 9, (4..32).contains(&byte));
+        assert_eq!([0, 3].map(|s| mates(&monitor, s)), [vec![2], vec![]]);
+        assert_eq!(mates(&stored([byte; 4]), 1), [0, 2]);
+    }
+    // Without a byte, each is in a group of its own.
+    let mut alone = StoredTables::new();
+    (0..32).for_each(|s| alone.set_subject(s, Some(Subject { level: 9 })));
+    assert_eq!(alone.tables().pairs_of_mates().count(), 0);
+}
+
+/// RULES T19, R102.
+#[test]
+fn a_thread_empties_places_that_count_as_empty_and_a_refused_one_does_not() {
+    let stale = |tables: &mut Tables| tables.set_handle(0, 3, handle(1, READING));
+    let mut monitor = made_up(stale);
+    let tables = monitor.tables().clone();
+    assert_eq!(monitor.call(18, [0, 0, 0, 0, 0, 0]), Answer::Refused(3));
+    assert_eq!(*monitor.tables(), tables);
+    assert_eq!(monitor.call(18, [0, 1, 0, 0, 0, 0]), Answer::Allowed(9));
+    assert_eq!(monitor.tables(), group(&[9, 9], |_| ()).tables());
+}
+
 // The host's own file numbers.
 
 /// Numbers of which 32 bits, or 63, or six, say something else.
@@ -679,13 +1056,14 @@ fn no_number_of_a_direct_call_is_cut() {
         assert_eq!((copy.tables(), copy.tally()), (monitor.tables(), monitor.tally()));
     };
     for upper in [1 << 32, 3 << 32, 1 << 63, u64::MAX << 32] {
-        for code in [3, 4, 5, 6, 7, 8, 9, 10, 11, 12, 14, 15] {
+        for code in [3, 4, 5, 6, 7, 8, 9, 10, 11, 12, 14, 15, 18] {
             refused(code, [upper, 0, 0, 0, 0, 0], 2);
         }
         refused(17, [upper, 1, 5, 6, 2, 3], 2);
         refused(17, [0, upper + 1, 5, 6, 2, 3], 2);
         refused(1, [upper + 2, 9, 0, 0, 0, 0], 3);
         refused(9, [0, upper + 2, 0, 0, 0, 0], 3);
+        refused(18, [0, upper + 2, 0, 0, 0, 0], 3);
         refused(1, [2, upper, 0, 0, 0, 0], 6);
         refused(2, [2, upper, 0, 0, 0, 0], 6);
         refused(16, [upper, 0, 0, 0, 0, 0], 6);

@@ -203,7 +203,7 @@ fn flow_met(call: Call, answer: Answer, before: &Tables, holding: &[u32]) -> Opt
 #[test]
 fn the_freeze_and_the_flow_rule_are_met_together_often() {
     let mut met = BTreeMap::new();
-    for journal in mixed(300) {
+    for journal in mixed(450) {
         each_call(&journal, |call, answer, before| {
             let needs = needs_for(before, call, Rules::default(), &Needs::none(before));
             let rows = conditions(before, call, &needs);
@@ -254,7 +254,10 @@ fn handles_are_marked_as_the_calls_say() {
                 Call::Close { s, p } => {
                     marked.remove(&(s, p));
                 }
-                Call::Exec { s, .. } | Call::Exit { s } => marked.retain(|&(other, _)| other != s),
+                Call::Exec { s, .. } => {
+                    marked.retain(|&(other, _)| other != s && !before.are_mates(s, other));
+                }
+                Call::Exit { s } => marked.retain(|&(other, _)| other != s),
                 Call::Fork { s, c } => {
                     let own: Vec<u64> =
                         marked.iter().filter(|mark| mark.0 == s).map(|mark| mark.1).collect();
@@ -266,10 +269,10 @@ fn handles_are_marked_as_the_calls_say() {
     }
 }
 
-/// RULES C10, R110, Y13: an exec goes by the need of the tables without its marked handles and its mappings,
-/// found by a search; it closes these and no others, or none if it is refused.
+/// RULES C10, C116, R110, Y13: an exec goes by the need of the tables without its marked handles, its mappings and its
+/// mates, found by a search; it closes these and ends those and no others, or none if it is refused.
 #[test]
-fn an_exec_closes_the_marked_handles_and_mappings_of_its_caller_and_no_others() {
+fn an_exec_closes_the_marked_handles_and_mappings_of_its_caller_ends_its_mates_and_no_others() {
     for journal in mixed(150) {
         let mut run = Run::new(&journal, Rules::default());
         loop {
@@ -291,9 +294,15 @@ fn an_exec_closes_the_marked_handles_and_mappings_of_its_caller_and_no_others() 
                     without.set_handle(s, p, None);
                 }
             }
+            for mate in before.mates(s) {
+                without_marked.set_subject(mate, None);
+                without.set_subject(mate, None);
+            }
             let handles = |tables: &Tables| tables.handles().collect::<Vec<_>>();
+            let subjects = |tables: &Tables| tables.live_subjects().collect::<Vec<_>>();
             let closes = !matches!(step.answer, Answer::Refused(_));
             assert_eq!(handles(after), handles(if closes { &without } else { &before }));
+            assert_eq!(subjects(after), subjects(if closes { &without } else { &before }));
             assert_eq!(run.tally().gone - tally.gone, before.handle_count() - after.handle_count());
             // RULES C102.
             for o in before.live_objects() {
@@ -414,7 +423,10 @@ fn handles_are_mappings_as_the_calls_say() {
                     mapped.insert((s, p, o));
                 }
                 Call::Close { s, p } => mapped.retain(|&(other, place, _)| (other, place) != (s, p)),
-                Call::Exec { s, .. } | Call::Exit { s } => mapped.retain(|&(other, ..)| other != s),
+                Call::Exec { s, .. } => {
+                    mapped.retain(|&(other, ..)| other != s && !before.are_mates(s, other));
+                }
+                Call::Exit { s } => mapped.retain(|&(other, ..)| other != s),
                 Call::Fork { s, c } => {
                     let own: Vec<(u64, u64, u64)> =
                         mapped.iter().copied().filter(|mapping| mapping.0 == s).collect();
@@ -481,7 +493,9 @@ fn a_map_is_an_open_for_reading_and_a_read() {
                 let mut tables = before.tables().clone();
                 let level = |tables: &Tables, thing| level(tables, thing).unwrap();
                 let lower = level(&tables, Thing::Subject(s)).min(level(&tables, Thing::Object(o)));
-                tables.set_subject(s, Some(Subject { level: lower }));
+                for member in before.tables().members(s) {
+                    tables.set_subject(member, Some(Subject { level: lower }));
+                }
                 tables.set_handle(s, p, Some(Handle::mapping(o)));
                 assert!(Needs::of_tables(&tables).unmet(&tables).next().is_some());
             }
@@ -614,7 +628,7 @@ fn with_channel(before: &Tables, [s, t, a, b, p, q]: [u64; 6]) -> Tables {
 #[test]
 fn a_connect_goes_by_both_flows() {
     let mut connects = [0, 0];
-    for journal in mixed(150) {
+    for journal in mixed(200) {
         each_call(&journal, |call, answer, before| {
             let Call::Connect { s, t, a, b, p, q } = call else {
                 return;
@@ -753,7 +767,7 @@ fn channels_met(call: Call, answer: Answer, before: &Tables, pipes: &BTreeSet<u6
 #[test]
 fn channels_are_met_often() {
     let mut met = BTreeMap::new();
-    for journal in mixed(200) {
+    for journal in mixed(300) {
         let mut pipes = BTreeSet::new();
         each_call(&journal, |call, answer, before| {
             let live = pipes.len();
@@ -771,6 +785,280 @@ fn channels_are_met_often() {
     }
     assert_eq!(met.len(), 33, "{met:?}");
     assert!(met.values().all(|&times| times >= 10), "{met:?}");
+}
+
+/// RULES C18, C113, C115, C116: who is in one group, kept beside the journal by its calls and their answers alone: a
+/// number for each group.
+#[test]
+fn subjects_are_in_groups_as_the_calls_say() {
+    for journal in mixed(200) {
+        let mut group_of: BTreeMap<u64, u64> = BTreeMap::new();
+        let mut groups = 0;
+        each_call(&journal, |call, answer, before| {
+            assert!(before.live_subjects().eq(group_of.keys().copied()), "{call:?}");
+            for (s, group) in &group_of {
+                let is_mate = |(t, other): &(&u64, &u64)| *t != s && *other == group;
+                let mates: Vec<u64> = group_of.iter().filter(is_mate).map(|(t, _)| *t).collect();
+                assert_eq!(before.mates(*s).collect::<Vec<u64>>(), mates, "{call:?}");
+            }
+            if matches!(answer, Answer::Refused(_)) {
+                return;
+            }
+            groups += 1;
+            match call {
+                Call::Admit { s, .. } => drop(group_of.insert(s, groups)),
+                Call::Fork { c, .. } => drop(group_of.insert(c, groups)),
+                Call::Thread { s, c } => drop(group_of.insert(c, group_of[&s])),
+                Call::Exit { s } => drop(group_of.remove(&s)),
+                Call::Exec { s, .. } => {
+                    let own = group_of[&s];
+                    group_of.retain(|&t, &mut group| t == s || group != own);
+                }
+                _ => {}
+            }
+        });
+    }
+}
+
+/// RULES F22, T48: the members of a group have one level and one need. The need is that of one subject which has all
+/// their handles, as a search finds it.
+#[test]
+fn the_members_of_a_group_have_one_level_and_one_need() {
+    let mut groups = 0;
+    for journal in mixed(150) {
+        each_call(&journal, |call, _, before| {
+            let firsts = before.live_subjects().filter(|&s| before.members(s).min() == Some(s));
+            let firsts: Vec<u64> = firsts.filter(|&s| before.mates(s).next().is_some()).collect();
+            if firsts.is_empty() {
+                return;
+            }
+            let needs = Needs::of_tables(before);
+            for s in firsts {
+                let need = need_of_one(before, s);
+                for member in before.members(s) {
+                    assert_eq!(before.subject(member), before.subject(s), "{call:?}");
+                    assert_eq!(needs.of(Thing::Subject(member)), need, "{call:?}");
+                }
+                groups += 1;
+            }
+        });
+    }
+    assert!(groups >= 5000, "{groups}");
+}
+
+/// The need of a group, in a graph in which each group is one thing: the lowest of its members.
+fn need_of_one(tables: &Tables, s: u64) -> u64 {
+    let one = |thing: Thing| match thing {
+        Thing::Subject(s) => Thing::Subject(tables.members(s).min().unwrap_or(s)),
+        Thing::Object(_) => thing,
+    };
+    let flows = tables.handles().map(|(s, _, handle)| Flow::of(s, handle));
+    let flows: Vec<(Thing, Thing)> = flows.map(|flow| (one(flow.from), one(flow.to))).collect();
+    let mut reached = vec![one(Thing::Subject(s))];
+    let mut next = 0;
+    while next < reached.len() {
+        let ends = flows.iter().filter(|(from, _)| *from == reached[next]).map(|(_, to)| *to);
+        for end in ends.collect::<Vec<Thing>>() {
+            if !reached.contains(&end) {
+                reached.push(end);
+            }
+        }
+        next += 1;
+    }
+    reached.iter().filter_map(|&thing| file_level(tables, thing)).max().unwrap_or(0)
+}
+
+/// RULES F18: an open for reading that nothing else refuses is refused exactly where the file is below the need of its
+/// subject, and so of all its mates.
+#[test]
+fn an_open_of_a_file_for_reading_goes_by_the_need_of_its_subject() {
+    let mut opens = [0, 0];
+    for journal in mixed(150) {
+        each_call(&journal, |call, answer, before| {
+            let (Call::OpenRead { s, o, .. } | Call::Map { s, o, .. }) = call else {
+                return;
+            };
+            let refused = match answer {
+                Answer::Refused(9) => true,
+                Answer::Refused(_) => return,
+                _ => false,
+            };
+            if let Some(level) = file_level(before, Thing::Object(o)) {
+                assert_eq!(refused, level < need_of_one(before, s), "{call:?}");
+                opens[usize::from(refused)] += usize::from(before.mates(s).next().is_some());
+            }
+        });
+    }
+    assert!(opens.iter().all(|&times| times >= 200), "{opens:?}");
+}
+
+/// RULES R9, R109: an open by a member that nothing else refuses is refused exactly where, with the new handle, some
+/// live thing's level is below its need, as a search finds it.
+#[test]
+fn an_open_by_a_member_goes_by_all_live_things() {
+    let mut opens = [0, 0];
+    for journal in mixed(150) {
+        each_call(&journal, |call, answer, before| {
+            let Call::OpenWrite { s, o, p } = call else {
+                return;
+            };
+            let refused = match answer {
+                Answer::Allowed(_) => false,
+                Answer::Refused(9) => true,
+                _ => return,
+            };
+            if before.mates(s).next().is_none() {
+                return;
+            }
+            let mut after = before.clone();
+            after.set_handle(s, p, Some(Handle::new(o, Direction::Writing)));
+            let is_below = |thing| level(&after, thing).unwrap() < need_by_search(&after, thing);
+            assert_eq!(refused, live_things(&after).any(is_below), "{call:?}");
+            opens[usize::from(refused)] += 1;
+        });
+    }
+    assert!(opens.iter().all(|&times| times >= 50), "{opens:?}");
+}
+
+/// What threads come to in a call; `left` has numbers of members that are gone, with a mate that stayed, and `first`
+/// those who have made a thread and are none.
+fn threads_met(
+    call: Call,
+    answer: Answer,
+    before: &Tables,
+    left: &BTreeSet<(u64, u64)>,
+    first: &BTreeSet<u64>,
+) -> Vec<&'static str> {
+    let mut met = Vec::new();
+    let allowed = !matches!(answer, Answer::Refused(_));
+    let has_mates = |s: u64| before.mates(s).next().is_some();
+    let holds = |s: u64| before.handles_of(s).next().is_some();
+    let again = call.new_subject().is_some_and(|c| left.iter().any(|&(gone, _)| gone == c));
+    match call {
+        Call::Thread { .. } if answer == Answer::Refused(2) => met.push("2"),
+        Call::Thread { s, c } if !allowed => met.push(match before.subject(c) {
+            _ if s == c => "3, its own number",
+            Some(_) => "3, a number in use",
+            None => "3, a number above 31",
+        }),
+        Call::Thread { s, c } => {
+            met.push(if has_mates(s) { "one more member" } else { "a first thread" });
+            met.extend(holds(s).then_some("made by one that has handles"));
+            met.extend((has_mates(s) && !first.contains(&s)).then_some("made by a thread"));
+            met.extend((before.members(s).count() >= 8).then_some("made in a group of eight"));
+            if again {
+                let own =
+                    left.iter().any(|&(gone, stayed)| gone == c && before.members(s).any(|t| t == stayed));
+                met.push(if own { "a number in its group again" } else { "a number in another group" });
+            }
+        }
+        Call::Admit { .. } if allowed && again => met.push("admitted with a member's number"),
+        Call::Fork { .. } if allowed && again => met.push("forked with a member's number"),
+        _ => {}
+    }
+    let Some(s) = call.asker().filter(|&s| has_mates(s)) else {
+        return met;
+    };
+    match (call, answer) {
+        (Call::Read { .. }, Answer::Lowered(_)) => met.push("all fall by a read"),
+        (Call::Map { .. }, Answer::Lowered(_)) => met.push("all fall by a map"),
+        (Call::OpenRead { .. } | Call::OpenWrite { .. } | Call::Map { .. }, _) => {
+            let mut alone = before.clone();
+            alone.leave_group(s);
+            let needs = needs_for(&alone, call, Rules::default(), &Needs::none(&alone));
+            let by_mates = answer == Answer::Refused(9) && needs.unmet(&alone).next().is_none();
+            met.extend(by_mates.then_some(match call {
+                Call::OpenWrite { .. } => "9, for what a mate reads",
+                Call::Map { .. } => "9 of a map, for what a mate writes",
+                _ => "9, for what a mate writes",
+            }));
+        }
+        (Call::Write { p, .. }, Answer::Allowed(_)) => {
+            let file = before.handle(s, p).map(|handle| handle.object);
+            let mappers = file.map_or(0, |o| before.mappers(o).filter(|&t| before.are_mates(s, t)).count());
+            met.extend((mappers > 0).then_some("written to, and mates have it mapped"));
+        }
+        (Call::Fork { .. }, Answer::Allowed(_)) => {
+            met.push("forked");
+            met.extend(before.mates(s).any(holds).then_some("forked, and mates have handles"));
+        }
+        (Call::Exit { .. }, _) => {
+            met.push(if first.contains(&s) { "the first leaves" } else { "a thread leaves" })
+        }
+        (Call::Connect { t, .. }, Answer::Allowed(_)) if before.are_mates(s, t) => {
+            met.push("mates connected")
+        }
+        (Call::Exec { .. }, Answer::Refused(number)) => {
+            met.push(if number == 9 { "exec refused with 9" } else { "exec refused otherwise" });
+        }
+        (Call::Exec { o, .. }, _) => {
+            let level = before.object(o).map_or(0, |object| object.level);
+            let need = need_by_search(before, Thing::Subject(s));
+            met.push(if level < need { "exec, though a mate writes higher" } else { "exec" });
+            met.push(if matches!(answer, Answer::Lowered(_)) { "exec, lowered" } else { "exec, allowed" });
+            met.extend(before.mates(s).any(holds).then_some("exec, and mates have handles"));
+            met.extend(before.mates(s).any(|mate| first.contains(&mate)).then_some("exec ends the first"));
+            let by_mates = |o: u64| {
+                let on = |t: u64| before.handles_of(t).any(|(_, handle)| handle.object == o);
+                before.mates(s).any(on) && before.live_subjects().all(|t| !on(t) || before.are_mates(s, t))
+            };
+            let is_pipe = |o: u64| before.object(o).is_some_and(|object| object.kind == Kind::Pipe);
+            let ends = before.live_objects().any(|o| is_pipe(o) && by_mates(o));
+            met.extend(ends.then_some("exec ends a pipe of mates"));
+        }
+        _ => {}
+    }
+    met
+}
+
+/// What threads do, and what they must not do, stands in the journals often enough to be compared.
+#[test]
+fn threads_are_met_often() {
+    let mut met = BTreeMap::new();
+    for journal in mixed(200) {
+        let (mut left, mut first) = (BTreeSet::new(), BTreeSet::new());
+        each_call(&journal, |call, answer, before| {
+            for what in threads_met(call, answer, before, &left, &first) {
+                *met.entry(what).or_insert(0) += 1;
+            }
+            if matches!(answer, Answer::Refused(_)) {
+                return;
+            }
+            match call {
+                Call::Thread { s, .. } if before.mates(s).next().is_none() => drop(first.insert(s)),
+                Call::Exit { s } => {
+                    first.remove(&s);
+                    left.extend(before.mates(s).map(|mate| (s, mate)));
+                }
+                Call::Exec { s, .. } => {
+                    first.retain(|&t| t == s || !before.are_mates(s, t));
+                    left.extend(before.mates(s).map(|mate| (mate, s)));
+                }
+                _ => {}
+            }
+            left.retain(|&(gone, _)| call.new_subject() != Some(gone));
+        });
+    }
+    assert_eq!(met.len(), 33, "{met:?}");
+    assert!(met.values().all(|&times| times >= 10), "{met:?}");
+}
+
+/// Request (i): a journal without a record of code 18 gets the replies that it got before.
+#[test]
+fn request_i_left_journals_without_threads_as_they_were() {
+    let as_before = Rules::named("code-18-unknown").unwrap();
+    let mut same = [0, 0];
+    for journal in mixed(300) {
+        let is_same = replies_by(&journal, as_before) == replies(&journal);
+        let mut run = Run::new(&journal, Rules::default());
+        let mut threads = 0;
+        while let Some(step) = run.next_step() {
+            threads += u64::from(step.code == 18);
+        }
+        assert!(is_same == (threads == 0));
+        same[usize::from(is_same)] += 1;
+    }
+    assert!(same.iter().all(|&times| times >= 50), "{same:?}");
 }
 
 /// RULES R3, R17: 17 is said exactly where nothing before it holds and the new objects would make more than 64 live,
@@ -859,7 +1147,7 @@ fn stores_met(
 fn the_store_is_met_often() {
     let mut met = BTreeMap::new();
     let mut lengths = [0; 10];
-    for journal in mixed(300) {
+    for journal in mixed(450) {
         let mut gone = BTreeMap::new();
         let mut known: BTreeMap<u64, Kind> = BTreeMap::new();
         each_call(&journal, |call, answer, before| {
@@ -921,23 +1209,34 @@ fn request_h_left_journals_of_small_numbers_as_they_were() {
 
 /// RULES F5, F6: the need, by a search from the thing.
 fn need_by_search(tables: &Tables, start: Thing) -> u64 {
-    let file_level = |thing: &Thing| match *thing {
-        Thing::Object(o) => tables.object(o).filter(|object| object.kind == Kind::File),
-        Thing::Subject(_) => None,
-    };
     let reached = reached_from(tables, start);
-    reached.iter().filter_map(file_level).map(|file| file.level).max().unwrap_or(0)
+    reached.iter().filter_map(|&thing| file_level(tables, thing)).max().unwrap_or(0)
 }
 
-/// RULES F4: what a chain of flows leads to.
+/// The level of a file.
+fn file_level(tables: &Tables, thing: Thing) -> Option<u64> {
+    match thing {
+        Thing::Object(o) => {
+            tables.object(o).filter(|object| object.kind == Kind::File).map(|file| file.level)
+        }
+        Thing::Subject(_) => None,
+    }
+}
+
+/// RULES F4, F22: what a chain of flows leads to.
 fn reached_from(tables: &Tables, start: Thing) -> Vec<Thing> {
     let mut reached = vec![start];
     let mut next = 0;
     while next < reached.len() {
-        for (s, _, handle) in tables.handles() {
-            let flow = Flow::of(s, handle);
-            if flow.from == reached[next] && !reached.contains(&flow.to) {
-                reached.push(flow.to);
+        let held = tables.handles().map(|(s, _, handle)| Flow::of(s, handle));
+        let mates = match reached[next] {
+            Thing::Subject(s) => tables.mates(s).map(Thing::Subject).collect(),
+            Thing::Object(_) => Vec::new(),
+        };
+        let ends = held.filter(|flow| flow.from == reached[next]).map(|flow| flow.to);
+        for end in ends.chain(mates).collect::<Vec<Thing>>() {
+            if !reached.contains(&end) {
+                reached.push(end);
             }
         }
         next += 1;

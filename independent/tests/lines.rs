@@ -4,7 +4,9 @@ use std::collections::{BTreeMap, BTreeSet};
 
 use gatekeeper_independent::cases::lines::LINE_CASES;
 use gatekeeper_independent::generate::lines::{trials, Trial};
-use gatekeeper_independent::lines::{calls_of, judge, read, run, run_by, written, Counts, Ran, Stage};
+use gatekeeper_independent::lines::{
+    calls_of, judge, read, run, run_by, written, Counts, Made, Ran, Stage,
+};
 use gatekeeper_independent::monitor::{Answer, Monitor};
 use gatekeeper_independent::needs::Needs;
 use gatekeeper_independent::tables::{Kind, Tables};
@@ -19,7 +21,7 @@ fn every_case_gets_its_answers() {
         assert_eq!(ran.text(), case.replies(), "case {}", case.name);
         assert!(names.insert(case.name) && case.text().contains(case.line), "case {}", case.name);
     }
-    for name in ["line-k6", "line-k7", "line-goes-on", "line-lowered", "line-18", "line-19"] {
+    for name in ["line-k6", "line-k7", "line-goes-on", "line-lowered", "line-mates", "line-18", "line-19"] {
         assert!(names.contains(name), "{name}");
     }
 }
@@ -260,6 +262,13 @@ fn met(trial: &Trial) -> Vec<&'static str> {
     let lives = |s: &u64| is_live(tables, *s);
     add("some children in use", children.iter().any(lives) && !children.iter().all(lives));
     add("the shell is a child", children.contains(&trial.shell));
+    let mates: Vec<u64> = tables.mates(trial.shell).collect();
+    let is_ended_by_mate =
+        |call: &Made| call.code == 10 && mates.contains(&call.numbers[0]) && !is_refused(call.answer);
+    add("shell has mates", !mates.is_empty());
+    add("shell has mates that hold handles", mates.iter().any(|&mate| tables.handles_of(mate).count() > 0));
+    add("a mate is a child", children.iter().any(|child| mates.contains(child)));
+    add("a mate's exec ends the shell", ran.made.iter().any(is_ended_by_mate));
     add("children past 31", children.contains(&31) && children.contains(&32));
     add("children go on at 0", children.contains(&u64::MAX) && children.contains(&0));
     let pipes: Vec<u64> = (0..most - 1).map(|i| trial.pipe.wrapping_add(i)).collect();
@@ -321,6 +330,10 @@ fn the_trials_reach_all_that_a_line_can_meet() {
         "shell holds a marked handle or a mapping",
         "some children in use",
         "the shell is a child",
+        "shell has mates",
+        "shell has mates that hold handles",
+        "a mate is a child",
+        "a mate's exec ends the shell",
         "children past 31",
         "children go on at 0",
         "pipes go on at 0",

@@ -10,15 +10,32 @@ use gatekeeper_independent::generate::{journal, Wish};
 use gatekeeper_independent::needs::Needs;
 use gatekeeper_independent::records::Body;
 use gatekeeper_independent::refusals::{conditions, needs_for};
-use gatekeeper_independent::replies::{Content, Run};
+use gatekeeper_independent::replies::{replies, replies_by, Content, Run};
 use gatekeeper_independent::variants::lines::{LineRules, LINES, ONLY_BY_CALLS};
-use gatekeeper_independent::variants::{Rules, ALL};
+use gatekeeper_independent::variants::{Rules, ALL, ONLY_BY_TABLES};
 
 #[test]
 fn every_variant_is_told_apart() {
     for seed in [1, 2] {
         for bite in bite(seed, 2000) {
-            assert!(bite.journals.is_some(), "{} with seed {seed}", bite.name);
+            assert!(bite.is_told(), "{} with seed {seed}", bite.name);
+        }
+    }
+}
+
+/// They are told apart by tables, and by no journal.
+#[test]
+fn some_variants_are_told_by_tables_that_no_calls_made_alone() {
+    let rules_of = |name: &&str| Rules::named(name).unwrap();
+    for name in ONLY_BY_TABLES {
+        assert!(bite::tables::bite(rules_of(name)).is_some(), "{name}");
+    }
+    assert_eq!(bite::tables::bite(Rules::default()), None);
+    for index in 0..80 {
+        let journal = journal(1, index, Wish::default());
+        let right = replies(&journal);
+        for name in ONLY_BY_TABLES {
+            assert_eq!(replies_by(&journal, rules_of(name)), right, "{name}, journal {index}");
         }
     }
 }

@@ -1,4 +1,4 @@
-//! The seventeen calls by code, and what a call is answered with.
+//! The eighteen calls by code, and what a call is answered with.
 
 use crate::refusals::Refusal;
 use crate::tables::{Direction, Level};
@@ -38,6 +38,7 @@ pub enum Call {
     Mark { s: u64, p: u64 },
     Freeze { level: u64 },
     Connect { s: u64, t: u64, a: u64, b: u64, p: u64, q: u64 },
+    Thread { s: u64, c: u64 },
 }
 
 /// The most numbers that a call takes.
@@ -50,7 +51,7 @@ impl Call {
             17 => Some(6),
             4 => Some(4),
             5 | 6 | 14 => Some(3),
-            1..=3 | 7..=11 | 15 => Some(2),
+            1..=3 | 7..=11 | 15 | 18 => Some(2),
             12 | 13 | 16 => Some(1),
             _ => None,
         }
@@ -76,6 +77,7 @@ impl Call {
             15 => Call::Mark { s: a, p: b },
             16 => Call::Freeze { level: a },
             17 => Call::Connect { s: a, t: b, a: c, b: d, p: e, q: f },
+            18 => Call::Thread { s: a, c: b },
             _ => return None,
         })
     }

@@ -140,12 +140,14 @@ mod tests {
     #[test]
     fn records_are_cut_and_read() {
         let broken = |code| Record::Read { code, call: Err(Refusal::RecordBroken) };
-        let cases: [(&[u8], &[Record]); 8] = [
+        let cases: [(&[u8], &[Record]); 10] = [
             (&[], &[]),
             (&[0x80, 0x00], &[Record::Broken]),
             (&[0x00], &[broken(0)]),
             (&[2, 12, 7], &[Record::Read { code: 12, call: Ok(Call::Exit { s: 7 }) }]),
             (&[1, 12, 3, 12, 7, 7], &[broken(12), broken(12)]),
+            (&[3, 18, 7, 8], &[Record::Read { code: 18, call: Ok(Call::Thread { s: 7, c: 8 }) }]),
+            (&[2, 18, 7, 4, 18, 7, 8, 9], &[broken(18), broken(18)]),
             (&[2, 99, 0x80], &[Record::Read { code: 99, call: Err(Refusal::UnknownCode) }]),
             (&[2, 12], &[Record::Broken]),
             // A length that is 1 if it is cut to 32 bits.

@@ -7,9 +7,9 @@
 //!
 //! | module | has |
 //! |---|---|
-//! | [`tables`] | subjects, objects with their numbers, and handles, the marks, the mappings and the freeze |
+//! | [`tables`] | subjects, their groups, objects with their numbers, and handles, the marks, the mappings and the freeze |
 //! | [`needs`] | the need of every subject and object |
-//! | [`calls`] | the seventeen calls by code, and what a call is answered with |
+//! | [`calls`] | the eighteen calls by code, and what a call is answered with |
 //! | [`refusals`] | what refuses a call's numbers |
 //! | [`monitor`] | the calls: each refuses, then takes effect |
 //! | [`journal`] | numbers and records |

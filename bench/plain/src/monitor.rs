@@ -3,7 +3,7 @@
 use crate::calls::{Answer, Call, NUMBERS};
 use crate::needs::Needs;
 use crate::refusals::{freeze_in_range, level_in_range, Held, Refusal};
-use crate::tables::{Direction, Kind, Level, Object, Place, Tables, Tally, PLACES};
+use crate::tables::{numbers, Direction, Kind, Level, Object, Place, Subject, Tables, Tally, PLACES};
 
 /// When needs are worked out.
 #[derive(Clone, Copy, Debug, PartialEq, Eq)]
@@ -38,7 +38,7 @@ impl Monitor {
     }
 
     /// The needs worked out last: for an open, a map or a connect, as if it were allowed; for an exec, without the
-    /// caller's marked handles.
+    /// caller's marked handles, and without its mates and theirs.
     pub fn needs(&self) -> &Needs {
         &self.needs
     }
@@ -73,6 +73,7 @@ impl Monitor {
             Call::Mark { s, p } => self.mark(s, p),
             Call::Freeze { level } => self.freeze(level),
             Call::Connect { s, t, a, b, p, q } => self.connect([s, t], [a, b], [p, q]),
+            Call::Thread { s, c } => self.thread(s, c),
         };
         answer.unwrap_or_else(Answer::from)
     }
@@ -83,7 +84,7 @@ impl Monitor {
     fn admit(&mut self, s: u64, level: u64) -> Result<Answer, Refusal> {
         let s = self.tables.new_subject(s)?;
         let level = level_in_range(level)?;
-        self.tables.subjects[s] = Some(level);
+        self.tables.admit(s, level);
         Ok(Answer::Allowed(level))
     }
 
@@ -95,95 +96,95 @@ impl Monitor {
     }
 
     fn create(&mut self, s: u64, o: u64) -> Result<Answer, Refusal> {
-        let (_, level) = self.tables.subject(s)?;
+        let s = self.tables.subject(s)?;
         let slot = self.tables.new_object(o)?;
-        self.tables.bring(slot, o, Kind::File, level);
-        Ok(Answer::Allowed(level))
+        self.tables.bring(slot, o, Kind::File, s.level);
+        Ok(Answer::Allowed(s.level))
     }
 
     fn pipe(&mut self, s: u64, o: u64, r: u64, w: u64) -> Result<Answer, Refusal> {
-        let (s, level) = self.tables.subject(s)?;
+        let s = self.tables.subject(s)?;
         let slot = self.tables.new_object(o)?;
         let [r, w] = self.tables.two_empty_places(s, r, w)?;
-        self.tables.bring(slot, o, Kind::Pipe, level);
+        self.tables.bring(slot, o, Kind::Pipe, s.level);
         self.tables.fill(s, r, slot, Direction::Reading);
         self.tables.fill(s, w, slot, Direction::Writing);
-        Ok(Answer::Allowed(level))
+        Ok(Answer::Allowed(s.level))
     }
 
     fn open(&mut self, s: u64, o: u64, p: u64, direction: Direction) -> Result<Answer, Refusal> {
-        let (s, _) = self.tables.subject(s)?;
+        let s = self.tables.subject(s)?;
         let (o, object) = self.tables.object(o)?;
         let p = self.tables.empty_place(s, p)?;
         if direction == Direction::Writing {
             self.tables.writable(object)?;
         }
-        self.test_flow([Place::of(s, o, direction)])?;
+        self.test_flow([Place::of(s.group, o, direction)])?;
         self.tables.fill(s, p, o, direction);
         Ok(Answer::Allowed(object.level))
     }
 
     fn read(&mut self, s: u64, p: u64) -> Result<Answer, Refusal> {
-        let (s, level) = self.tables.subject(s)?;
+        let s = self.tables.subject(s)?;
         let Held { object, .. } = self.tables.held_for(s, p, Direction::Reading)?;
-        Ok(fall(level, object.level, |level| self.tables.subjects[s] = Some(level)))
+        Ok(self.subject_falls(s, object.level))
     }
 
     fn write(&mut self, s: u64, p: u64) -> Result<Answer, Refusal> {
-        let (s, level) = self.tables.subject(s)?;
+        let s = self.tables.subject(s)?;
         let Held { o, object, .. } = self.tables.held_for(s, p, Direction::Writing)?;
         Ok(match object.kind {
-            // Who has it mapped reads it now, and fell to its level when it mapped it: nobody falls any more.
+            // Who has it mapped reads it now, and fell to its level, with its mates, when it mapped it: nobody falls any more.
             Kind::File => Answer::Allowed(object.level),
-            Kind::Pipe => {
-                fall(object.level, level, |level| self.tables.objects[o] = Some(Object { level, ..object }))
-            }
+            Kind::Pipe => fall(object.level, s.level, |level| {
+                self.tables.objects[o] = Some(Object { level, ..object })
+            }),
         })
     }
 
     fn fork(&mut self, s: u64, c: u64) -> Result<Answer, Refusal> {
-        let (s, level) = self.tables.subject(s)?;
+        let s = self.tables.subject(s)?;
         let c = self.tables.new_subject(c)?;
-        self.tables.subjects[c] = Some(level);
+        let c = self.tables.admit(c, s.level);
         for place in 0..PLACES {
-            if let Some((o, direction)) = self.tables.places[s][place].handle() {
+            if let Some((o, direction)) = self.tables.places[s.number][place].handle() {
                 self.tables.fill(c, place, o, direction);
             }
         }
-        self.tables.marks[c] = self.tables.marks[s];
-        self.tables.maps[c] = self.tables.maps[s];
-        Ok(Answer::Allowed(level))
+        self.tables.marks[c.number] = self.tables.marks[s.number];
+        self.tables.maps[c.number] = self.tables.maps[s.number];
+        Ok(Answer::Allowed(s.level))
     }
 
     fn exec(&mut self, s: u64, o: u64) -> Result<Answer, Refusal> {
-        let (s, level) = self.tables.subject(s)?;
+        let s = self.tables.subject(s)?;
         let (_, object) = self.tables.file(o)?;
-        self.ask(|tables| Needs::without_marked(tables, s));
+        self.ask(|tables| Needs::at_exec(tables, s));
         if object.level < self.needs.subject(s) {
             return Err(Refusal::Flow);
         }
+        for mate in numbers(self.tables.mates(s)) {
+            self.tables.leave(Subject { number: mate, ..s });
+        }
         for place in 0..PLACES {
-            if self.tables.ends_at_exec(s, place) {
-                self.tables.empty(s, place);
+            if self.tables.ends_at_exec(s.number, place) {
+                self.tables.empty(s.number, place);
             }
         }
-        Ok(fall(level, object.level, |level| self.tables.subjects[s] = Some(level)))
+        Ok(self.subject_falls(s, object.level))
     }
 
     fn close(&mut self, s: u64, p: u64) -> Result<Answer, Refusal> {
-        let (s, level) = self.tables.subject(s)?;
+        let s = self.tables.subject(s)?;
         let Held { p, .. } = self.tables.held(s, p)?;
-        self.tables.empty(s, p);
-        Ok(Answer::Allowed(level))
+        self.tables.empty(s.number, p);
+        Ok(Answer::Allowed(s.level))
     }
 
     fn exit(&mut self, s: u64) -> Result<Answer, Refusal> {
-        let (s, level) = self.tables.subject(s)?;
-        for place in 0..PLACES {
-            self.tables.empty(s, place);
-        }
-        self.tables.subjects[s] = None;
-        Ok(Answer::Allowed(level))
+        let s = self.tables.subject(s)?;
+        self.tables.leave(s);
+        Ok(Answer::Allowed(s.level))
     }
 
     fn retire(&mut self, o: u64) -> Result<Answer, Refusal> {
@@ -196,20 +197,20 @@ impl Monitor {
     }
 
     fn map(&mut self, s: u64, o: u64, p: u64) -> Result<Answer, Refusal> {
-        let (s, level) = self.tables.subject(s)?;
+        let s = self.tables.subject(s)?;
         let (o, object) = self.tables.file(o)?;
         let p = self.tables.empty_place(s, p)?;
-        self.test_flow([Place::of(s, o, Direction::Reading)])?;
+        self.test_flow([Place::of(s.group, o, Direction::Reading)])?;
         self.tables.fill(s, p, o, Direction::Reading);
-        self.tables.map(s, p);
-        Ok(fall(level, object.level, |level| self.tables.subjects[s] = Some(level)))
+        self.tables.map(s.number, p);
+        Ok(self.subject_falls(s, object.level))
     }
 
     fn mark(&mut self, s: u64, p: u64) -> Result<Answer, Refusal> {
-        let (s, level) = self.tables.subject(s)?;
+        let s = self.tables.subject(s)?;
         let Held { p, .. } = self.tables.held(s, p)?;
-        self.tables.mark(s, p);
-        Ok(Answer::Allowed(level))
+        self.tables.mark(s.number, p);
+        Ok(Answer::Allowed(s.level))
     }
 
     fn freeze(&mut self, level: u64) -> Result<Answer, Refusal> {
@@ -219,16 +220,28 @@ impl Monitor {
 
     /// Pipe a from s to t and pipe b from t to s, each read at p and written at q.
     fn connect(&mut self, [s, t]: [u64; 2], [a, b]: [u64; 2], [p, q]: [u64; 2]) -> Result<Answer, Refusal> {
-        let [(s, level), (t, other)] = self.tables.two_subjects(s, t)?;
+        let [s, t] = self.tables.two_subjects(s, t)?;
         let [slot_a, slot_b] = self.tables.two_new_objects(a, b)?;
         let [p, q] = self.tables.two_empty_places(s, p, q).and(self.tables.two_empty_places(t, p, q))?;
         self.test_flow([Place::between(s, t), Place::between(t, s)])?;
-        for (writer, reader, slot, o, level) in [(s, t, slot_a, a, level), (t, s, slot_b, b, other)] {
-            self.tables.bring(slot, o, Kind::Pipe, level);
+        for (writer, reader, slot, o) in [(s, t, slot_a, a), (t, s, slot_b, b)] {
+            self.tables.bring(slot, o, Kind::Pipe, writer.level);
             self.tables.fill(writer, q, slot, Direction::Writing);
             self.tables.fill(reader, p, slot, Direction::Reading);
         }
-        Ok(Answer::Allowed(level))
+        Ok(Answer::Allowed(s.level))
+    }
+
+    fn thread(&mut self, s: u64, c: u64) -> Result<Answer, Refusal> {
+        let s = self.tables.subject(s)?;
+        let c = self.tables.new_subject(c)?;
+        self.tables.join(s, c);
+        Ok(Answer::Allowed(s.level))
+    }
+
+    /// A subject falls to a level if that is lower, and its mates with it.
+    fn subject_falls(&mut self, s: Subject, to: Level) -> Answer {
+        fall(s.level, to, |level| self.tables.set_level(s, level))
     }
 }
 
@@ -253,16 +266,16 @@ impl Monitor {
     }
 
     /// The needs that a call is tested by, where the subjects and the object that it names are live: for an exec, without
-    /// the caller's marked handles; for an open, a map or a connect, with what it seeks.
+    /// what does not count then; for an open, a map or a connect, with what it seeks.
     fn needs_for(&self, call: Call) -> Needs {
         let tables = &self.tables;
         let needs = match call {
-            Call::Exec { s, .. } => tables.subject(s).map(|(s, _)| Needs::without_marked(tables, s)),
+            Call::Exec { s, .. } => tables.subject(s).map(|s| Needs::at_exec(tables, s)),
             Call::Open { s, o, direction, .. } => self.needs_with(s, o, direction),
             Call::Map { s, o, .. } => self.needs_with(s, o, Direction::Reading),
-            Call::Connect { s, t, .. } => tables.two_subjects(s, t).map(|[(s, _), (t, _)]| {
-                Needs::work_out(tables, [Place::between(s, t), Place::between(t, s)])
-            }),
+            Call::Connect { s, t, .. } => tables
+                .two_subjects(s, t)
+                .map(|[s, t]| Needs::work_out(tables, [Place::between(s, t), Place::between(t, s)])),
             _ => return Needs::work_out(tables, []),
         };
         needs.unwrap_or_else(|_| Needs::work_out(tables, []))
@@ -270,9 +283,9 @@ impl Monitor {
 
     /// The needs with a handle that is sought.
     fn needs_with(&self, s: u64, o: u64, direction: Direction) -> Result<Needs, Refusal> {
-        let (s, _) = self.tables.subject(s)?;
+        let s = self.tables.subject(s)?;
         let (o, _) = self.tables.object(o)?;
-        Ok(Needs::work_out(&self.tables, [Place::of(s, o, direction)]))
+        Ok(Needs::work_out(&self.tables, [Place::of(s.group, o, direction)]))
     }
 }
 
@@ -330,10 +343,12 @@ mod tests {
         assert_eq!(last(&[(16, [CUT, 0, 0, 0])]), Answer::Refused(6));
         let start = [(1, [0, 9, 0, 0]), (2, [0, 9, 0, 0]), (5, [0, 0, 0, 0])];
         let after = |code, numbers| last(&[&start[..], &[(code, numbers)]].concat());
-        for code in (3..=12).chain([14, 15]) {
+        for code in (3..=12).chain([14, 15, 18]) {
             assert_eq!(after(code, [CUT, 0, 0, 0]), Answer::Refused(2), "{code}");
         }
-        assert_eq!(after(9, [0, CUT | 1, 0, 0]), Answer::Refused(3));
+        for code in [9, 18] {
+            assert_eq!(after(code, [0, CUT | 1, 0, 0]), Answer::Refused(3), "{code}");
+        }
         for code in [5, 6, 10, 14] {
             assert_eq!(after(code, [0, CUT, 1, 0]), Answer::Refused(4), "{code}");
         }

@@ -1,8 +1,9 @@
 //! The need of every subject and object: the highest level among the files it reaches, 0 if it reaches none.
 //!
-//! One thing reaches another by a chain of flows: from a subject to what it writes, from what is read to its reader.
+//! One thing reaches another by a chain of flows: from a subject to what it writes, from what is read to its reader. A
+//! group of subjects is one thing.
 
-use crate::tables::{object_as_thing, subject_as_thing, Kind, Level, Place, Tables, Thing};
+use crate::tables::{object_as_thing, Kind, Level, Place, Subject, Tables, Thing};
 
 /// A need for every thing; 0 for those that are not live.
 #[derive(Clone, Debug, PartialEq, Eq)]
@@ -14,9 +15,9 @@ pub struct Needs {
 impl Needs {
     pub const NONE: Needs = Needs { levels: [0; Thing::MAX as usize + 1] };
 
-    /// The need of a subject.
-    pub fn subject(&self, s: usize) -> Level {
-        self.levels[usize::from(subject_as_thing(s))]
+    /// The need of a subject, which is that of its group.
+    pub fn subject(&self, s: Subject) -> Level {
+        self.levels[usize::from(s.group)]
     }
 
     /// The need of the object in a slot.
@@ -39,14 +40,14 @@ impl Needs {
         needs
     }
 
-    /// The same without the marked handles of a subject. Its mappings may stay: a flow to it does not change its need.
-    pub fn without_marked(tables: &Tables, s: usize) -> Needs {
-        if tables.marks[s] == 0 {
-            return Needs::work_out(tables, []);
+    /// The same for a subject that runs a program.
+    pub fn at_exec(tables: &Tables, s: Subject) -> Needs {
+        let all_counts = tables.marks[s.number] == 0 && tables.mates(s) == 0;
+        if all_counts {
+            Needs::work_out(tables, [])
+        } else {
+            Needs::work_out(&tables.at_exec(s), [])
         }
-        let mut left = tables.clone();
-        left.places[s] = tables.unmarked(s);
-        Needs::work_out(&left, [])
     }
 
     /// One pass over all handles; whether a need changed.
@@ -55,8 +56,8 @@ impl Needs {
         for flow in sought {
             self.carry(flow, &mut changed);
         }
-        for (level, places) in tables.subjects.iter().zip(&tables.places) {
-            if level.is_some() {
+        for (subject, places) in tables.subjects.iter().zip(&tables.places) {
+            if subject.is_some() {
                 for &place in places {
                     self.carry(place, &mut changed);
                 }
@@ -77,9 +78,10 @@ impl Needs {
 
     /// Whether every live subject and object has at least the level of its need.
     pub fn are_met(&self, tables: &Tables) -> bool {
-        let mut subjects = tables.subjects.iter().enumerate();
+        let mut groups = tables.groups.iter().zip(&self.levels);
         let mut objects = tables.objects.iter().enumerate();
-        subjects.all(|(s, level)| level.is_none_or(|level| level >= self.subject(s)))
+        // Nobody holds a handle for a group without members: its need is 0.
+        groups.all(|(group, &need)| group.level >= need)
             && objects.all(|(o, entry)| entry.is_none_or(|entry| entry.level >= self.object(o)))
     }
 }
@@ -97,54 +99,52 @@ mod tests {
     use super::*;
     use crate::tables::Direction;
 
-    /// Subjects 0 to 2 of level 12 in a ring of pipes 0 to 2, s reading pipe s and writing the next one; file 3 of level 9.
-    fn ring() -> Tables {
+    /// Subject 3, who holds nothing, and subjects 0 to 2 in a ring of pipes 0 to 2, s reading pipe s and writing the next
+    /// one, all of level 12; file 3 of level 9.
+    fn ring() -> (Tables, [Subject; 4]) {
         let mut tables = Tables::EMPTY;
         tables.bring(3, 3, Kind::File, 9);
-        for s in 0..3 {
-            tables.subjects[s] = Some(12);
-            tables.bring(s, s as u64, Kind::Pipe, 12);
+        let subjects = [0, 1, 2, 3].map(|s| tables.admit(s, 12));
+        for o in 0..3 {
+            tables.bring(o, o as u64, Kind::Pipe, 12);
         }
-        for s in 0..3 {
-            tables.fill(s, 0, s, Direction::Reading);
-            tables.fill(s, 1, (s + 1) % 3, Direction::Writing);
+        for &s in &subjects[..3] {
+            tables.fill(s, 0, s.number, Direction::Reading);
+            tables.fill(s, 1, (s.number + 1) % 3, Direction::Writing);
         }
-        tables
-    }
-
-    fn of_subjects(needs: &Needs) -> [Level; 4] {
-        [0, 1, 2, 3].map(|s| needs.subject(s))
+        (tables, subjects)
     }
 
     #[test]
     fn a_need_travels_round_a_ring_and_sinks_again() {
-        let mut tables = ring();
-        assert_eq!(of_subjects(&Needs::work_out(&tables, [])), [0; 4]);
-        tables.fill(1, 2, 3, Direction::Writing);
-        let needs = Needs::work_out(&tables, []);
-        assert_eq!(of_subjects(&needs), [9, 9, 9, 0]);
-        assert_eq!([0, 1, 2, 3].map(|o| needs.object(o)), [9; 4]);
+        let (mut tables, subjects) = ring();
+        let needs = |tables: &Tables| subjects.map(|s| Needs::work_out(tables, []).subject(s));
+        assert_eq!(needs(&tables), [0; 4]);
+        tables.fill(subjects[1], 2, 3, Direction::Writing);
+        assert_eq!(needs(&tables), [9, 9, 9, 0]);
+        assert_eq!([0, 1, 2, 3].map(|o| Needs::work_out(&tables, []).object(o)), [9; 4]);
         tables.empty(1, 2);
-        assert_eq!(of_subjects(&Needs::work_out(&tables, [])), [0; 4]);
+        assert_eq!(needs(&tables), [0; 4]);
     }
 
     #[test]
     fn a_sought_handle_counts_and_is_not_kept() {
-        let tables = ring();
-        let needs = Needs::work_out(&tables, [Place::of(2, 3, Direction::Writing)]);
-        assert_eq!(of_subjects(&needs), [9, 9, 9, 0]);
-        assert_eq!(of_subjects(&Needs::work_out(&tables, [])), [0; 4]);
-        // Subject 3, which is live in no table here, and a way from it into the ring.
-        let ways = [Place::between(3, 0), Place::of(2, 3, Direction::Writing)];
-        assert_eq!(of_subjects(&Needs::work_out(&tables, ways)), [9; 4]);
+        let (tables, subjects) = ring();
+        let write = Place::of(subjects[2].group, 3, Direction::Writing);
+        let needs = Needs::work_out(&tables, [write]);
+        assert_eq!(subjects.map(|s| needs.subject(s)), [9, 9, 9, 0]);
+        assert_eq!(subjects.map(|s| Needs::work_out(&tables, []).subject(s)), [0; 4]);
+        // And a way from subject 3 into the ring.
+        let needs = Needs::work_out(&tables, [Place::between(subjects[3], subjects[0]), write]);
+        assert_eq!(subjects.map(|s| needs.subject(s)), [9; 4]);
     }
 
     #[test]
     fn needs_are_met_up_to_the_level() {
-        let mut tables = ring();
-        tables.fill(1, 2, 3, Direction::Writing);
+        let (mut tables, subjects) = ring();
+        tables.fill(subjects[1], 2, 3, Direction::Writing);
         for (level, met) in [(8, false), (9, true)] {
-            tables.subjects[0] = Some(level);
+            tables.set_level(subjects[0], level);
             assert_eq!(Needs::work_out(&tables, []).are_met(&tables), met);
         }
     }

@@ -3,7 +3,9 @@
 //! A call goes through them by rising refusal number, so that the smallest is given; but that 16 comes right after 2,
 //! 17 right after 3, and 15 just before 9.
 
-use crate::tables::{slot_among, Direction, Kind, Level, Object, Place, Slots, Tables, LEVELS, NO_FREEZE};
+use crate::tables::{
+    slot_among, Direction, Kind, Level, Object, Place, Slots, Subject, Tables, LEVELS, NO_FREEZE,
+};
 
 /// Why a call, a journal or a line is refused; the number is what the answer gives.
 #[derive(Clone, Copy, Debug, PartialEq, Eq)]
@@ -44,14 +46,12 @@ pub struct Held {
 
 impl Tables {
     /// Refusal 2: the subject that asks is live.
-    pub fn subject(&self, s: u64) -> Result<(usize, Level), Refusal> {
-        let s = index(s);
-        let entry = self.subjects.get(s).copied().flatten();
-        entry.map(|level| (s, level)).ok_or(Refusal::NoSubject)
+    pub fn subject(&self, s: u64) -> Result<Subject, Refusal> {
+        self.live(index(s)).ok_or(Refusal::NoSubject)
     }
 
-    /// Refusals 2 and 16: two subjects are live, and not the same.
-    pub fn two_subjects(&self, s: u64, t: u64) -> Result<[(usize, Level); 2], Refusal> {
+    /// Refusals 2 and 16: two subjects are live, and not the same. They may be mates.
+    pub fn two_subjects(&self, s: u64, t: u64) -> Result<[Subject; 2], Refusal> {
         let subjects = [self.subject(s)?, self.subject(t)?];
         if s == t {
             return Err(Refusal::SameSubject);
@@ -109,16 +109,16 @@ impl Tables {
     }
 
     /// Refusal 7: the place is in range and empty.
-    pub fn empty_place(&self, s: usize, p: u64) -> Result<usize, Refusal> {
+    pub fn empty_place(&self, s: Subject, p: u64) -> Result<usize, Refusal> {
         let p = index(p);
-        match self.places[s].get(p) {
+        match self.places[s.number].get(p) {
             Some(&Place::EMPTY) => Ok(p),
             _ => Err(Refusal::PlaceUnfit),
         }
     }
 
     /// Refusal 7: two places are in range and empty, and not the same.
-    pub fn two_empty_places(&self, s: usize, p: u64, q: u64) -> Result<[usize; 2], Refusal> {
+    pub fn two_empty_places(&self, s: Subject, p: u64, q: u64) -> Result<[usize; 2], Refusal> {
         let places = [self.empty_place(s, p)?, self.empty_place(s, q)?];
         if p == q {
             return Err(Refusal::PlaceUnfit);
@@ -127,16 +127,16 @@ impl Tables {
     }
 
     /// Refusal 7: the place is in range and holds a handle.
-    pub fn held(&self, s: usize, p: u64) -> Result<Held, Refusal> {
+    pub fn held(&self, s: Subject, p: u64) -> Result<Held, Refusal> {
         let p = index(p);
-        let handle = self.places[s].get(p).and_then(|place| place.handle());
+        let handle = self.places[s.number].get(p).and_then(|place| place.handle());
         let (o, direction) = handle.ok_or(Refusal::PlaceUnfit)?;
         let object = self.objects[o].ok_or(Refusal::PlaceUnfit)?;
         Ok(Held { p, o, object, direction })
     }
 
     /// Refusals 7 and 8: the same, and the handle is for this direction.
-    pub fn held_for(&self, s: usize, p: u64, direction: Direction) -> Result<Held, Refusal> {
+    pub fn held_for(&self, s: Subject, p: u64, direction: Direction) -> Result<Held, Refusal> {
         let held = self.held(s, p)?;
         if held.direction == direction {
             Ok(held)

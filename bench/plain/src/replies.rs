@@ -84,6 +84,8 @@ mod tests {
         assert_eq!(reply(&[]), "end 0 0 0\n");
         assert_eq!(reply(&[0x80, 0x00]), "1 0 R 11\nend 0 0 0\n");
         assert_eq!(reply(&[0x00, 2, 99, 5]), "1 0 R 12\n2 99 R 1\nend 0 0 0\n");
+        // Code 19 is the first that is no call.
+        assert_eq!(reply(&[1, 18, 1, 19]), "1 18 R 12\n2 19 R 1\nend 0 0 0\n");
         // Code 2^32 + 1 is not cut to 1.
         assert_eq!(reply(&[7, 0x81, 0x80, 0x80, 0x80, 0x10, 0, 9]), "1 4294967297 R 1\nend 0 0 0\n");
         assert_eq!(reply(&[0; LONGEST + 1]), "1 0 R 14\nend 0 0 0\n");

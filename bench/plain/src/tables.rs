@@ -1,7 +1,12 @@
-//! The tables: subjects by number, objects by slot, handles by subject and place, the marks, the mappings, the freeze, and
-//! the tally of handles.
+//! The tables: subjects by number, their groups, objects by slot, handles by subject and place, the marks, the mappings, the
+//! freeze, and the tally of handles.
 //!
 //! A live object has one of 64 slots and any number. Inside, it goes by its slot.
+//!
+//! Data flows freely among the members of a group, and they have one level: for flows a group is one thing, and what its
+//! members hold are the handles of that thing.
+
+use std::iter;
 
 /// How many there are of each; of objects, how many are live at a time.
 pub const SUBJECTS: usize = 32;
@@ -38,19 +43,46 @@ pub enum Direction {
     Writing,
 }
 
-/// A subject or an object as one number: the subjects, then the objects by slot.
+/// A group of subjects or an object as one number: the groups, then the objects by slot.
 pub type Thing = u8;
-
-pub fn subject_as_thing(s: usize) -> Thing {
-    s as Thing
-}
 
 pub fn object_as_thing(o: usize) -> Thing {
     (SUBJECTS + o) as Thing
 }
 
-/// What a place holds, kept as the flow that it makes: from a subject to an object that it writes, from an object to a
-/// subject that reads it. An empty place is a flow from a thing to itself, which carries nothing anywhere.
+/// Subjects, subject s as bit s.
+pub type Subjects = u32;
+
+/// The numbers of some subjects, the lowest first.
+pub fn numbers(mut subjects: Subjects) -> impl Iterator<Item = usize> {
+    iter::from_fn(move || {
+        let lowest = subjects.trailing_zeros() as usize;
+        subjects &= subjects.wrapping_sub(1);
+        (lowest < SUBJECTS).then_some(lowest)
+    })
+}
+
+/// A subject or several that are threads of one step. One without members is free, and its level says nothing.
+#[derive(Clone, Copy, Debug, PartialEq, Eq)]
+pub struct Group {
+    pub level: Level,
+    pub members: Subjects,
+}
+
+impl Group {
+    pub const FREE: Group = Group { level: 0, members: 0 };
+}
+
+/// A live subject, with its group and the level of that.
+#[derive(Clone, Copy, Debug, PartialEq, Eq)]
+pub struct Subject {
+    pub number: usize,
+    pub group: Thing,
+    pub level: Level,
+}
+
+/// What a place holds, kept as the flow that it makes: from its subject's group to an object that is written, from an
+/// object that is read to the group. An empty place is a flow from a thing to itself, which carries nothing anywhere.
 #[derive(Clone, Copy, Debug, PartialEq, Eq)]
 pub struct Place {
     pub from: Thing,
@@ -60,18 +92,18 @@ pub struct Place {
 impl Place {
     pub const EMPTY: Place = Place { from: 0, to: 0 };
 
-    /// A handle of a subject on an object.
-    pub fn of(s: usize, o: usize, direction: Direction) -> Place {
+    /// A handle of a member of a group on an object.
+    pub fn of(group: Thing, o: usize, direction: Direction) -> Place {
         match direction {
-            Direction::Reading => Place { from: object_as_thing(o), to: subject_as_thing(s) },
-            Direction::Writing => Place { from: subject_as_thing(s), to: object_as_thing(o) },
+            Direction::Reading => Place { from: object_as_thing(o), to: group },
+            Direction::Writing => Place { from: group, to: object_as_thing(o) },
         }
     }
 
     /// The flow from one subject to another that a pipe makes which nobody else has a handle on. No place holds it: it
     /// is only ever sought.
-    pub fn between(s: usize, t: usize) -> Place {
-        Place { from: subject_as_thing(s), to: subject_as_thing(t) }
+    pub fn between(s: Subject, t: Subject) -> Place {
+        Place { from: s.group, to: t.group }
     }
 
     /// The handle's object and its direction; none for an empty place.
@@ -123,11 +155,13 @@ pub fn slot_among(free: Slots, o: u64) -> Option<usize> {
 
 /// Every table. A subject that is not live holds no handle, every handle's object is live, and an empty place has no
 /// mark and is no mapping. A mapping is a reading handle on a file that its subject is not above. No two live objects
-/// have the same number.
+/// have the same number. The members of a group are the live subjects that are in it.
 #[derive(Clone, Debug, PartialEq, Eq)]
 pub struct Tables {
-    /// The levels of the live subjects; none for a number that is free.
-    pub subjects: [Option<Level>; SUBJECTS],
+    /// The groups of the live subjects; none for a number that is free.
+    pub subjects: [Option<Thing>; SUBJECTS],
+    /// The groups by number, as many as there can be.
+    pub groups: [Group; SUBJECTS],
     /// The live objects, by slot; none for a slot that is free.
     pub objects: [Option<Object>; OBJECTS],
     /// Their numbers, by slot. That of a free slot says nothing.
@@ -148,6 +182,7 @@ pub struct Tables {
 impl Tables {
     pub const EMPTY: Tables = Tables {
         subjects: [None; SUBJECTS],
+        groups: [Group::FREE; SUBJECTS],
         objects: [None; OBJECTS],
         numbers: [0; OBJECTS],
         free: Slots::MAX,
@@ -157,6 +192,47 @@ impl Tables {
         freeze: NO_FREEZE,
         tally: Tally { made: 0, gone: 0 },
     };
+
+    /// The live subject with a number.
+    pub fn live(&self, number: usize) -> Option<Subject> {
+        let group = (*self.subjects.get(number)?)?;
+        Some(Subject { number, group, level: self.groups[usize::from(group)].level })
+    }
+
+    /// A new subject, without handles, in a group of its own. The group gets the number of the subject, or the lowest
+    /// that is free where others still have that one: there are as many numbers as subjects.
+    pub fn admit(&mut self, number: usize, level: Level) -> Subject {
+        let is_free = |group: &usize| self.groups[*group].members == 0;
+        let group = iter::once(number).chain(0..SUBJECTS).find(is_free).unwrap_or(number);
+        self.groups[group] = Group { level, members: 1 << number };
+        self.subjects[number] = Some(group as Thing);
+        Subject { number, group: group as Thing, level }
+    }
+
+    /// A new subject, without handles, in the group of another.
+    pub fn join(&mut self, s: Subject, c: usize) {
+        self.groups[usize::from(s.group)].members |= 1 << c;
+        self.subjects[c] = Some(s.group);
+    }
+
+    /// The others in the group of a subject.
+    pub fn mates(&self, s: Subject) -> Subjects {
+        self.groups[usize::from(s.group)].members & !(1 << s.number)
+    }
+
+    /// Sets the level of a subject, and so of its mates.
+    pub fn set_level(&mut self, s: Subject, level: Level) {
+        self.groups[usize::from(s.group)].level = level;
+    }
+
+    /// The subject is gone with its handles, and its number is free. Its mates stay.
+    pub fn leave(&mut self, s: Subject) {
+        for p in 0..PLACES {
+            self.empty(s.number, p);
+        }
+        self.groups[usize::from(s.group)].members = self.mates(s);
+        self.subjects[s.number] = None;
+    }
 
     /// The slot of the live object with a number: the first guess, or else a scan finds it.
     pub fn slot_of(&self, o: u64) -> Option<usize> {
@@ -182,8 +258,8 @@ impl Tables {
     }
 
     /// Places a handle on a live object at an empty place of a live subject. It has no mark and is no mapping.
-    pub fn fill(&mut self, s: usize, p: usize, o: usize, direction: Direction) {
-        self.places[s][p] = Place::of(s, o, direction);
+    pub fn fill(&mut self, s: Subject, p: usize, o: usize, direction: Direction) {
+        self.places[s.number][p] = Place::of(s.group, o, direction);
         if let Some(object) = &mut self.objects[o] {
             object.handles += 1;
         }
@@ -220,6 +296,18 @@ impl Tables {
         places
     }
 
+    /// The tables as the need of a subject that runs a program goes by them: without its marked handles, and without its
+    /// mates and all that they hold. Its mappings may stay, as a flow to it does not change its need.
+    pub fn at_exec(&self, s: Subject) -> Tables {
+        let mut tables = self.clone();
+        tables.places[s.number] = self.unmarked(s.number);
+        for mate in numbers(self.mates(s)) {
+            tables.subjects[mate] = None;
+            tables.places[mate] = [Place::EMPTY; PLACES];
+        }
+        tables
+    }
+
     /// Empties a place; a mark or a mapping goes with its handle. A pipe ends when its last handle goes.
     pub fn empty(&mut self, s: usize, p: usize) {
         let Some((o, _)) = self.places[s][p].handle() else { return };
@@ -243,9 +331,9 @@ mod tests {
     #[test]
     fn a_place_is_what_was_put_there() {
         assert_eq!(Place::EMPTY.handle(), None);
-        for (s, o) in [(0, 0), (0, 63), (31, 0), (31, 63)] {
+        for (group, o) in [(0, 0), (0, 63), (31, 0), (31, 63)] {
             for direction in [Direction::Reading, Direction::Writing] {
-                assert_eq!(Place::of(s, o, direction).handle(), Some((o, direction)));
+                assert_eq!(Place::of(group, o, direction).handle(), Some((o, direction)));
             }
         }
     }
@@ -275,18 +363,72 @@ mod tests {
     }
 
     #[test]
+    fn subjects_are_numbered_by_their_bits() {
+        assert_eq!(numbers(0).count(), 0);
+        assert!(numbers(1 | 1 << 4 | 1 << 31).eq([0, 4, 31]));
+        assert!(numbers(Subjects::MAX).eq(0..SUBJECTS));
+    }
+
+    #[test]
+    fn a_group_stays_until_its_last_member_leaves() {
+        let mut tables = Tables::EMPTY;
+        let first = tables.admit(5, 9);
+        tables.join(first, 31);
+        let second = Subject { number: 31, ..first };
+        assert_eq!((tables.live(5), tables.live(31), tables.live(0)), (Some(first), Some(second), None));
+        assert_eq!((tables.mates(first), tables.mates(second)), (1 << 31, 1 << 5));
+        tables.leave(first);
+        assert_eq!((tables.live(5), tables.live(31), tables.mates(second)), (None, Some(second), 0));
+        // The number of the group is the subject's where it is free.
+        assert_eq!([tables.admit(5, 9), tables.admit(3, 9)].map(|s| s.group), [0, 3]);
+        assert_eq!(tables.admit(0, 9).group, 1);
+        tables.leave(second);
+        tables.leave(Subject { number: 5, group: 0, level: 9 });
+        assert_eq!(tables.admit(5, 9).group, 5);
+    }
+
+    #[test]
+    fn a_level_is_all_members_level() {
+        let mut tables = Tables::EMPTY;
+        let (s, other) = (tables.admit(0, 9), tables.admit(1, 9));
+        tables.join(s, 2);
+        tables.set_level(s, 4);
+        assert_eq!([0, 1, 2].map(|s| tables.live(s).map(|s| s.level)), [Some(4), Some(9), Some(4)]);
+        assert_eq!(tables.live(1), Some(other));
+    }
+
+    #[test]
+    fn an_exec_is_tested_without_marked_handles_and_without_mates() {
+        let mut tables = Tables::EMPTY;
+        let (s, other) = (tables.admit(0, 9), tables.admit(1, 9));
+        tables.join(s, 2);
+        tables.bring(5, 5, Kind::File, 9);
+        let mate = Subject { number: 2, ..s };
+        for (subject, p) in [(s, 0), (s, 1), (other, 0), (mate, 0)] {
+            tables.fill(subject, p, 5, Direction::Writing);
+        }
+        tables.mark(0, 1);
+        tables.mark(1, 0);
+        let left = tables.at_exec(s);
+        let write = |s: Subject| Place::of(s.group, 5, Direction::Writing);
+        assert_eq!(left.places[0][..2], [write(s), Place::EMPTY]);
+        assert_eq!((left.places[1][0], left.places[2][0]), (write(other), Place::EMPTY));
+        assert_eq!([0, 1, 2].map(|s| left.live(s).is_some()), [true, true, false]);
+    }
+
+    #[test]
     fn a_mark_goes_with_its_handle() {
         let mut tables = Tables::EMPTY;
-        tables.subjects[31] = Some(9);
+        let s = tables.admit(31, 9);
         tables.bring(5, 5, Kind::File, 9);
         for p in [0, 15] {
-            tables.fill(31, p, 5, Direction::Writing);
+            tables.fill(s, p, 5, Direction::Writing);
             assert!(!tables.is_marked(31, p));
             tables.mark(31, p);
             assert!(tables.is_marked(31, p));
             assert_eq!((tables.unmarked(31)[p], tables.unmarked(31)[1]), (Place::EMPTY, Place::EMPTY));
             tables.empty(31, p);
-            tables.fill(31, p, 5, Direction::Reading);
+            tables.fill(s, p, 5, Direction::Reading);
             assert_eq!(tables.unmarked(31)[p], Place::of(31, 5, Direction::Reading));
         }
         assert_eq!(tables.marks, [0; SUBJECTS]);
@@ -295,15 +437,15 @@ mod tests {
     #[test]
     fn a_mapping_goes_with_its_handle() {
         let mut tables = Tables::EMPTY;
-        tables.subjects[31] = Some(9);
+        let s = tables.admit(31, 9);
         tables.bring(5, 5, Kind::File, 9);
         for p in [0, 15] {
-            tables.fill(31, p, 5, Direction::Reading);
+            tables.fill(s, p, 5, Direction::Reading);
             assert!(!tables.ends_at_exec(31, p));
             tables.map(31, p);
             assert!(tables.ends_at_exec(31, p) && !tables.is_marked(31, p) && !tables.ends_at_exec(31, 1));
             tables.empty(31, p);
-            tables.fill(31, p, 5, Direction::Reading);
+            tables.fill(s, p, 5, Direction::Reading);
             assert!(!tables.ends_at_exec(31, p));
         }
         assert_eq!(tables.maps, [0; SUBJECTS]);
@@ -313,10 +455,10 @@ mod tests {
     fn a_pipe_ends_with_its_last_handle_and_a_file_does_not() {
         for (kind, left) in [(Kind::Pipe, false), (Kind::File, true)] {
             let mut tables = Tables::EMPTY;
-            tables.subjects[0] = Some(9);
+            let s = tables.admit(0, 9);
             tables.bring(5, u64::MAX, kind, 9);
-            tables.fill(0, 0, 5, Direction::Reading);
-            tables.fill(0, 1, 5, Direction::Writing);
+            tables.fill(s, 0, 5, Direction::Reading);
+            tables.fill(s, 1, 5, Direction::Writing);
             tables.empty(0, 0);
             assert_eq!(tables.objects[5], Some(Object { kind, level: 9, handles: 1 }));
             tables.empty(0, 1);

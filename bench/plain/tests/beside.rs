@@ -1,8 +1,8 @@
 //! The plain program beside the independent one: the same replies to every journal, and after each direct call the
-//! same answer, the same tally, levels, marks, mappings and freeze, and the needs as the independent program works them
-//! out.
+//! same answer, the same tally, levels, groups, marks, mappings and freeze, and the needs as the independent program works
+//! them out.
 
-use gatekeeper_independent::calls::{Numbers, NUMBERS, SHAPES};
+use gatekeeper_independent::calls::{Numbers, Shape, NUMBERS, SHAPES};
 use gatekeeper_independent::cases;
 use gatekeeper_independent::generate::{self, Style, Wish, STYLES};
 use gatekeeper_independent::monitor::{Answer as AnswerBeside, Monitor as MonitorBeside};
@@ -11,6 +11,7 @@ use gatekeeper_independent::random::Random;
 use gatekeeper_independent::records::{self, Body, Reader};
 use gatekeeper_independent::replies::replies as replies_beside;
 use gatekeeper_independent::variants::Rules;
+use gatekeeper_plain::tables::{numbers, Subjects};
 use gatekeeper_plain::{replies, Answer, Monitor, When};
 
 const SEED: u64 = 1;
@@ -18,6 +19,9 @@ const SEED: u64 = 1;
 /// How many generated journals of each style are replayed, and how many calls are made directly.
 const JOURNALS: u64 = 60;
 const CALLS: u32 = 20_000;
+
+/// How many lists the calls of steps with threads are in.
+const THREAD_LISTS: u64 = 400;
 
 const BOTH: [When; 2] = [When::EachCall, When::Asked];
 
@@ -83,6 +87,7 @@ impl Pair {
         assert_eq!(u64::from(self.plain.tables().freeze), self.independent.tables().freeze());
         self.compare_handles();
         self.compare_levels();
+        self.compare_groups();
         if let Answer::Refused(_) = answer {
             assert_eq!(self.plain.tables(), &before, "a refused call changed a table");
         }
@@ -105,8 +110,9 @@ impl Pair {
     /// Sees that the same subjects and objects are live, at the same levels.
     fn compare_levels(&self) {
         let (plain, tables) = (self.plain.tables(), self.independent.tables());
-        for (s, level) in (0..).zip(plain.subjects) {
-            assert_eq!(level.map(u64::from), tables.subject(s).map(|subject| subject.level), "subject {s}");
+        for s in 0..32 {
+            let level = plain.live(s).map(|subject| u64::from(subject.level));
+            assert_eq!(level, tables.subject(s as u64).map(|subject| subject.level), "subject {s}");
         }
         let mut live = 0;
         for (slot, o) in self.objects() {
@@ -117,6 +123,20 @@ impl Pair {
         }
         assert_eq!(live, tables.live_objects().count());
         assert_eq!(live, plain.free.count_zeros() as usize);
+    }
+
+    /// Sees that the same subjects are mates.
+    fn compare_groups(&self) {
+        for s in 0..32 {
+            let mates = numbers(self.mates(s)).map(|mate| mate as u64);
+            assert!(mates.eq(self.independent.tables().mates(s)), "mates of subject {s}");
+        }
+    }
+
+    /// The mates of a subject, none where it is not live.
+    fn mates(&self, s: u64) -> Subjects {
+        let tables = self.plain.tables();
+        tables.live(s as usize).map_or(0, |s| tables.mates(s))
     }
 
     /// The slots in use, each with its object's number.
@@ -130,7 +150,8 @@ impl Pair {
     fn compare_needs(&self) {
         let needs = Needs::of_tables(self.independent.tables());
         for s in 0..32 {
-            assert_eq!(u64::from(self.plain.needs().subject(s)), needs.of(Thing::Subject(s as u64)));
+            let need = self.plain.tables().live(s).map_or(0, |s| self.plain.needs().subject(s));
+            assert_eq!(u64::from(need), needs.of(Thing::Subject(s as u64)));
         }
         for (slot, o) in self.objects() {
             assert_eq!(u64::from(self.plain.needs().object(slot)), needs.of(Thing::Object(o)));
@@ -195,4 +216,76 @@ fn any_numbers_get_the_same_answers() {
         let drawn = (1..=17).filter(|&number| refused[number] > 0);
         assert!(drawn.eq((1..=10).chain([15, 16, 17])), "a refusal was never drawn: {refused:?}");
     }
+}
+
+/// What is there before the calls of steps with threads: two steps, of three threads and of two, and three files.
+const STEPS: [(u64, Numbers); 8] = [
+    (1, [0, 12, 0, 0, 0, 0]),
+    (18, [0, 1, 0, 0, 0, 0]),
+    (18, [1, 2, 0, 0, 0, 0]),
+    (1, [3, 12, 0, 0, 0, 0]),
+    (18, [3, 4, 0, 0, 0, 0]),
+    (2, [0, 3, 0, 0, 0, 0]),
+    (2, [1, 9, 0, 0, 0, 0]),
+    (2, [2, 12, 0, 0, 0, 0]),
+];
+
+/// How often each of their calls is drawn. No freeze is, as it would keep the upper files out.
+fn weight(shape: &Shape) -> u64 {
+    match shape.code {
+        5..=7 | 18 => 12,
+        1 | 8 | 9 | 10 | 11 => 3,
+        16 => 0,
+        _ => 2,
+    }
+}
+
+/// A number for such a call: few subjects meet at few objects and places.
+fn drawn_few(random: &mut Random, name: &str) -> u64 {
+    match name {
+        "s" | "t" | "c" => random.below(6),
+        "p" | "q" | "r" | "w" => random.below(3),
+        "level" => random.pick(&[3, 9, 12, 12]).unwrap_or(0),
+        _ => random.below(4),
+    }
+}
+
+/// How often subjects with mates fell at a read or a map, ended them by an exec, and were refused one for the flow.
+#[derive(Debug, Default)]
+struct Met {
+    fell: u32,
+    ended: u32,
+    stayed: u32,
+}
+
+#[test]
+fn threads_get_the_same_answers() {
+    let weights: Vec<u64> = SHAPES.iter().map(weight).collect();
+    let mut met = Met::default();
+    for index in 0..THREAD_LISTS {
+        let mut random = Random::new(SEED, index);
+        let mut pair = Pair::new(When::EachCall);
+        for (code, numbers) in STEPS {
+            pair.call(code, numbers);
+        }
+        for _ in 0..CALLS / THREAD_LISTS as u32 {
+            let shape = &SHAPES[random.weighted(&weights)];
+            let mut numbers = [0; NUMBERS];
+            for (number, name) in numbers.iter_mut().zip(shape.numbers) {
+                *number = drawn_few(&mut random, name);
+            }
+            let has_mates = pair.mates(numbers[0]) != 0;
+            match (shape.code, pair.call(shape.code, numbers)) {
+                (7 | 14, Answer::Lowered(_)) if has_mates => met.fell += 1,
+                (10, Answer::Allowed(_) | Answer::Lowered(_)) if has_mates => met.ended += 1,
+                (10, Answer::Refused(9)) if has_mates => met.stayed += 1,
+                _ => {}
+            }
+            // A refused call that seeks no handle.
+            pair.call(12, [32, 0, 0, 0, 0, 0]);
+            pair.compare_needs();
+        }
+    }
+    // A comparison that met little says little.
+    assert!([met.fell, met.ended, met.stayed].into_iter().all(|met| met > 20), "{met:?}");
 }

@@ -1,2 +1,3 @@
--- Levels below needs (Short). Assumes nothing.
+-- Needs as figures (Nodes), levels below needs (Short). Assumes nothing.
+pub mod Nodes
 pub mod Short

@@ -13,7 +13,8 @@ ghost use Rattle.tables.specs.Records.{no-subject, no-object, tables-of};
 ghost use Rattle.model.specs.Figures.{Ready};
 ghost use Rattle.tables.specs.Needs.{figure-of, Needed};
 ghost use Rattle.tables.specs.Working.{some-below};
-ghost use Rattle.passes.specs.Working.{demanded-by, Marked, low-by, short-subject, short-object};
+ghost use Rattle.groups.specs.Groups.{kin-of};
+ghost use Rattle.passes.specs.Working.{demanded-by, Marked, Spread, low-by, short-subject, short-object};
 use tables::FILE;
 use tables::FREE;
 use tables::HANDLES;
@@ -50,16 +51,37 @@ pub fn marks(objects: [Object; OBJECTS]) -> [u8; THINGS]
     r
 }
 
-// The need of each thing, in tables in which nothing dangles.
-pub fn figures(objects: [Object; OBJECTS], handles: [Handle; HANDLES]) -> [u8; THINGS]
-    ensures { λ r. ⌜ ((rest : Tables) (ss : List Subject) → Wf (tables-of rest ss objects handles) →
-        Needed (tables-of rest ss objects handles) r) ⌝ }
+// The figures with that of its lead, modulo SUBJECTS, for each subject.
+pub fn spread(n: [u8; THINGS], leads: [u8; SUBJECTS]) -> [u8; THINGS]
+    ensures { λ r. ⌜ Spread leads n r ⌝ }
+{
+    let mut r = n;
+    let mut s: usize = 0;
+    while s < SUBJECTS {
+        let lead = leads[s] as usize % SUBJECTS;
+        r[s] = n[lead];
+        s += 1;
+    }
+    r
+}
+
+// The need of each thing, in tables in which nothing dangles. A group is one thing for the passes, and all its members have its need.
+pub fn figures(
+    subjects: [Subject; SUBJECTS],
+    groups: [u8; SUBJECTS],
+    objects: [Object; OBJECTS],
+    handles: [Handle; HANDLES],
+) -> [u8; THINGS]
+    ensures { λ r. ⌜ ((rest : Tables) → rest .kin ≡ kin-of subjects groups → Wf (tables-of rest subjects objects handles) →
+        Needed (tables-of rest subjects objects handles) r) ⌝ }
 {
     let start = marks(objects);
+    let leads = groups::leads(subjects, groups);
     let all = [0u8; THINGS];
-    let e = passes::listed(handles, all, 0);
+    let e = passes::listed(handles, leads, all, 0);
     let w = passes::worked(e, start, false, 0, 0);
-    w.figures
+    let led = w.figures;
+    spread(led, leads)
 }
 
 // In use, and of a level below v.

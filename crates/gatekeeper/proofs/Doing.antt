@@ -4,31 +4,32 @@ use mathlib.Core.Path.{_≡_, refl, sym, _∙_, ap, ap₂, subst, subst₂, fun-
 use mathlib.Core.Bool.{Bool, true, false, not, _||_, cond}
 use mathlib.Core.Logic.{_⊎_, inl, inr}
 use mathlib.Core.Option.{Option, none, some, Option·none-ne-some, Option·some-injective}
-use mathlib.Core.List.{List, []}
+use mathlib.Core.List.{List, [], _∷_}
 use Prim.Native.Nat.{ℕ, _<_}
 use native.Mathlib.Omega.{arith}
 use native.Mathlib.Decide.{decLt}
 use native.Mathlib.Nat.{le-refl}
 use borrow.Author.Tests.{lt-ltb, le-ltb, le-leb, ltb-true, ltb-false}
 use lib.Dec.{T, T-not, eqb, eqb→eq, leb, ltb, ltb→lt}
-use Rattle.model.specs.Bools.{is-true, neither, not-not, cond-no}
+use Rattle.model.specs.Bools.{test, both, is-true, neither, not-not, cond-no, cond-yes}
 use Rattle.model.specs.Lists.{In}
 use Rattle.model.specs.Label.{Label, leq, _⊑_, meet, label, level}
 use Rattle.model.specs.Label.Laws.{⊑-refl, level-label, le→⊑, not-least-is-below, meet-stays, meet-falls}
 use Rattle.model.specs.Flow.{Thing, subject, object, same}
-use Rattle.model.specs.Flow.Laws.{same→eq, same-refl}
-use Rattle.model.specs.Tables.{Kind, running, file, pipe, Dir, reading, writing, Entry, entry, handle, mapping, with-mark, Tables, with-at, with-hand, with-freeze, subjects, places, is-some, live, label-of, a-file, cell, handles, open-on}
+use Rattle.model.specs.Flow.Laws.{same→eq}
+use Rattle.model.specs.Tables.{Kind, running, file, pipe, Dir, reading, writing, Entry, entry, handle, mapping, with-mark, Tables, with-at, with-hand, with-freeze, with-kin, subjects, places, is-some, live, label-of, a-file, cell, whole, mates, handles, open-on}
 use Rattle.model.specs.Tables.{Handle as Held}
-use Rattle.model.specs.Tables.Laws.{Stands, live-of, used-is, cell-self, handles-by, handles-at, open-here, open-at}
-use Rattle.model.specs.Steps.{Step, put, row, place, sunk, fall, applies, ended, reap}
-use Rattle.model.specs.Steps.Laws.{sink-one, put-cases, put-same, put-apart, place-other, place-apart, ended-subject, reap-more, file-keeps}
+use Rattle.model.specs.Tables.Laws.{Stands, live-of, used-is, cell-self, whole-self, whole-object, whole-by, whole-kin, whole-no-object, handles-by, handles-at, open-here, open-at}
+use Rattle.model.specs.Steps.{Step, runs, mix, put, row, place, parted, bound, sunk, fall, sink, applies, ended, reap}
+use Rattle.model.specs.Steps.Laws.{sink-one, put-cases, put-same, put-apart, place-other, place-apart, applies-append, ended-subject, reap-more, file-keeps}
 use Rattle.model.specs.Invariant.{Wf}
-use Rattle.model.specs.Calls.{Call, admit, register, create, make-pipe, opens, access, fork, exec, close, exit, retire, maps, mark, freeze, connect, target, rereads, marking, lasting, sheds, channel, steps, stepped, effect, Test, roomy, alive, new, present, vacant, taken, apart, unlike, others, broken, tests, refusal, level-at, shown, refused, allowed, lowers, last-label, outcome, said, answer}
+use Rattle.model.specs.Invariant.Laws.{Less, parted-cases}
+use Rattle.model.specs.Calls.{Call, admit, register, create, make-pipe, opens, access, fork, thread, exec, close, exit, retire, maps, mark, freeze, connect, target, rereads, marking, sheds, channel, steps, stepped, effect, Test, roomy, alive, new, present, vacant, taken, apart, unlike, others, broken, tests, refusal, level-at, shown, refused, allowed, lowers, last-label, outcome, said, answer}
 use Rattle.model.specs.Calls.{Answer as Told}
 use Rattle.model.specs.Calls.Refusals.{allowed-iff}
-use Rattle.model.specs.Calls.Moving.{reread-by, rereads-none, rereads-file, None-lower, lowers-none, lowers-one}
+use Rattle.model.specs.Calls.Moving.{took, reread-by, rereads-none, rereads-file, None-lower, lowers-none, lowers-one}
 use Rattle.model.specs.Calls.Listed.{said-effect}
-use Rattle.model.specs.Calls.Passed.{is-alive, is-present, is-new, is-place}
+use Rattle.model.specs.Calls.Passed.{is-alive, is-present, is-new, is-place, not-own-mate, sheds-less}
 use Rattle.tables.specs.declared.Subject.{Subject}
 use Rattle.tables.specs.declared.Object.{Object}
 use Rattle.tables.specs.declared.Handle.{Handle}
@@ -98,6 +99,9 @@ module _ (t : Tables) (c : Call) (e : refusal t c ≡ none) where
 
       pub step-is : t .at (subject s) ≡ some (entry running (label (x .level)))
       step-is = step-full .0
+
+      pub step-lives : eqb (x .live) 0 ≡ false
+      step-lives = step-full .1
 
       pub cell-is : t .at (cell t s) ≡ some (entry running (label (x .level)))
       cell-is = ap (t .at) (cell-self t s) ∙ step-is
@@ -288,6 +292,22 @@ fork-does t s c x w e q = joined t (fork s c) (subject c) running (x .level) (ro
     bare p k z = subst (λ (o : Option Entry). T (is-some o)) (fresh t (fork s c) e (subject c) (inr (inl refl)))
         (subst T (used-is t (subject c)) (live-of t (subject c) (w .ends c p k z .from) .1))
 
+-- a new member, with no handles
+pub thread-does : (t : Tables) (s c : ℕ) (x : Subject) → refusal t (thread s c) ≡ none → t .at (subject s) ≡ subject-entry x
+    → Does t (thread s c) (allowed (x .level)) (with-kin (with-at t (put (t .at) (subject c) (some (entry running (label (x .level)))))) (bound c s (t .kin)))
+thread-does t s c x e q = plain t (thread s c) (subject c) (x .level) u e is refl (new-one t (subject c) v (fresh t (thread s c) e (subject c) (inr (inl refl))))
+    (ap (last-label (t .at (subject c))) (put-same (t .at) (subject c) v))
+  where
+    v : Option Entry
+    v = some (entry running (label (x .level)))
+
+    u : Tables
+    u = with-kin (with-at t (put (t .at) (subject c) v)) (bound c s (t .kin))
+
+    is : stepped t (thread s c) ≡ u
+    is = ap (λ (l : Label). reap (handles t) (with-kin (with-at t (put (t .at) (subject c) (some (entry running l)))) (bound c s (t .kin))))
+        (own t (thread s c) e s (inl refl) x q) ∙ reap-more t u (more-open t u (λ s p k q. q))
+
 -- ── connect ──
 pub connect-does : (t : Tables) (s u a b p q : ℕ) (x z : Subject) → refusal t (connect s u a b p q) ≡ none → t .at (subject s) ≡ subject-entry x
     → t .at (subject u) ≡ subject-entry z
@@ -407,13 +427,14 @@ close-does t s p x e q = plain t (close s p) (cell t s) (x .level) (reap (handle
         (ended-subject (handles t) (handles u) s (t .at (subject s)))
 
 pub exit-does : (t : Tables) (s : ℕ) (x : Subject) → refusal t (exit s) ≡ none → t .at (subject s) ≡ subject-entry x
-    → Does t (exit s) (allowed (x .level)) (reap (handles t) (with-at (with-hand t (row (t .hand) s (λ p. none))) (put (t .at) (subject s) none)))
+    → Does t (exit s) (allowed (x .level)) (reap (handles t)
+    (with-kin (with-at (with-hand t (row (t .hand) s (λ p. none))) (put (t .at) (subject s) none)) (parted (same (subject s)) (t .kin))))
 exit-does t s x e q = plain t (exit s) (cell t s) (x .level) (reap (handles t) u) e refl refl
     (λ y d z. inl (without (subject s) y d (left-over (ended (handles t) (handles u) y (u .at y)) (u .at y) d z)))
     (ap (λ (y : Thing). last-label (t .at y) (reap (handles t) u .at y)) (cell-self t s) ∙ ap₂ last-label (step-is t (exit s) e s (inl refl) x q) gone)
   where
     u : Tables
-    u = with-at (with-hand t (row (t .hand) s (λ p. none))) (put (t .at) (subject s) none)
+    u = with-kin (with-at (with-hand t (row (t .hand) s (λ p. none))) (put (t .at) (subject s) none)) (parted (same (subject s)) (t .kin))
 
     without : (x y : Thing) (d : Entry) → put (t .at) x none y ≡ some d → t .at y ≡ some d
     without x y d z = elim (put-cases (t .at) x none y (some d) z) [ inl c ↦ absurd (Option·none-ne-some d (c .1)) | inr c ↦ c .1 ]
@@ -446,7 +467,8 @@ meet-level k l = go (ltb l k) refl
 
 -- y, of kind kd and level k, takes in z, of level l, and has level n then; u is what the steps make, by y's entry after them, and y does not end with the call
 module _ (t : Tables) (c : Call) (y z : Thing) (kd kz : Kind) (k l : ℕ) (e : refusal t c ≡ none) (u : Option Entry → Tables)
-    (q : applies (steps t c) t ≡ u (fall y (t .at y) (t .at z))) (g : shown t c ≡ level-at y) (w : (v : Option Entry) → u v .at ≡ put (t .at) y v)
+    (q : applies (steps t c) t ≡ u (fall y (t .at y) (t .at z))) (g : shown t c ≡ level-at y)
+    (w : (v : Option Entry) (x : Thing) (b : Entry) → T (not (same y x)) → u v .at x ≡ some b → t .at x ≡ some b)
     (there : (d : Entry) → reap (handles t) (u (some d)) .at y ≡ some d) (r : Stands t y)
     (o : t .at y ≡ some (entry kd (label k))) (s : t .at z ≡ some (entry kz (label l))) where
   taken-in : (n : ℕ) → sunk y kd (label k) (label l) ≡ label n → Does t c (outcome (ltb n k) n) (reap (handles t) (u (some (entry kd (label n)))))
@@ -464,42 +486,26 @@ module _ (t : Tables) (c : Call) (y z : Thing) (kd kz : Kind) (k l : ℕ) (e : r
 
       -- any other thing is as it was, or gone
       others : (x : Thing) (a b : Entry) → T (not (same y x)) → t .at x ≡ some a → after .at x ≡ some b → a .label ⊑ b .label
-      others x a b n p h = elim (put-cases (t .at) y (some d) x (some b) (ap (λ (f : Thing → Option Entry). f x) (sym (w (some d)))
-          ∙ left-over (ended (handles t) (handles (u (some d))) x (u (some d) .at x)) (u (some d) .at x) b h)) [
-            | inl i ↦ absurd (T-not (same y x) n (subst (λ (v : Thing). T (same y v)) (i .0) (same-refl y)))
-            | inr i ↦ subst (λ (j : Entry). a .label ⊑ j .label) (Option·some-injective a b (sym p ∙ i .1)) ⊑-refl
-          ]
+      others x a b n p h = subst (λ (j : Entry). a .label ⊑ j .label) (Option·some-injective a b (sym p
+          ∙ w (some d) x b n (left-over (ended (handles t) (handles (u (some d))) x (u (some d) .at x)) (u (some d) .at x) b h))) ⊑-refl
 
       shows : said t (reap (handles t) (applies (steps t c) t)) (shown t c) ≡ outcome (ltb n k) n
       shows = ap (said t (reap (handles t) (applies (steps t c) t))) g ∙ ap (λ (v : Tables). said t v (level-at y)) is
           ∙ ap₂ outcome (lowers-one t after y (entry kd (label k)) d r o (there d) others ∙ below-is k n)
           (ap (λ (v : Option Entry). level (last-label (t .at y) v)) (there d) ∙ level-label n)
 
--- s, whose record is x, takes in something of level l
-falls-in : (t : Tables) (c : Call) (s : ℕ) (i : In (alive s) (tests c)) (x : Subject) (z : Thing) (kz : Kind) (l : ℕ) (e : refusal t c ≡ none)
-    → t .at (subject s) ≡ subject-entry x → (u : Option Entry → Tables) → applies (steps t c) t ≡ u (fall (cell t s) (t .at (cell t s)) (t .at z))
-    → shown t c ≡ level-at (cell t s) → ((v : Option Entry) → u v .at ≡ put (t .at) (cell t s) v)
-    → ((d : Entry) → reap (handles t) (u (some d)) .at (cell t s) ≡ some d) → t .at z ≡ some (entry kz (label l))
-    → Does t c (outcome (ltb (fallen-by x l .level) (x .level)) (fallen-by x l .level)) (reap (handles t) (u (subject-entry (fallen-by x l))))
-falls-in t c s i x z kz l e q u a g p w h = subst (λ (v : Option Entry). Does t c (outcome (ltb n (x .level)) n) (reap (handles t) (u v)))
-    (by (ltb l (x .level)) refl)
-    (taken-in t c (cell t s) z running kz (x .level) l e u a g p w ranged (cell-is t c e s i x q) h n
-    (ap (λ (y : Thing). sunk y running (label (x .level)) (label l)) (cell-self t s) ∙ meet-level (x .level) l ∙ ap label (level-by (ltb l (x .level)))))
+-- any other entry is as it was
+put-others : (a : Thing → Option Entry) (y : Thing) (v : Option Entry) (x : Thing) (b : Entry) → T (not (same y x)) → put a y v x ≡ some b → a x ≡ some b
+put-others a y v x b n h = sym (cond-no (same y x) v (a x) n) ∙ h
+
+-- the record of a live subject that takes in something of level l
+fell : (s : ℕ) (x : Subject) (k : Kind) (l : ℕ) → eqb (x .live) 0 ≡ false
+    → fall (subject s) (some (entry running (label (x .level)))) (some (entry k (label l))) ≡ some (entry running (label (fallen-by x l .level)))
+fell s x k l z = ap (λ (b : Label). some (entry running b)) (meet-level (x .level) l ∙ ap label (by (ltb l (x .level))))
   where
-    n : ℕ
-    n = fallen-by x l .level
-
-    ranged : Stands t (cell t s)
-    ranged = subst (λ (y : Thing). Stands t y) (sym (cell-self t s)) (live-of t (subject s) (low-row-live t c e s i) .0)
-
-    level-by : (b : Bool) → cond b l (x .level) ≡ cond b (record { live = x .live; level = l }) x .level
-    level-by true = refl
-    level-by false = refl
-
-    by : (b : Bool) → ltb l (x .level) ≡ b → _≡_ {A = Option Entry} (some (entry running (label (cond b (record { live = x .live; level = l }) x .level))))
-        (subject-entry (cond b (record { live = x .live; level = l }) x))
-    by true f = sym (step-at t c e s i x q l)
-    by false f = sym (sym q ∙ step-is t c e s i x q)
+    by : (b : Bool) → cond b l (x .level) ≡ cond b (record { live = x .live; level = l }) x .level
+    by true = refl
+    by false = refl
 
 -- where only y's entry changes, no pipe ends
 one-changed : (t : Tables) (y : Thing) (d : Entry) → reap (handles t) (with-at t (put (t .at) y (some d))) .at y ≡ some d
@@ -533,67 +539,109 @@ module _ (t : Tables) (w : Wf t) (c : Call) (s p : ℕ) (h : Handle) (e : refusa
   pub found-target : target (t .hand s p) ≡ object (h .object)
   found-target = ap target (found .1) ∙ ap object (sym found-to)
 
-pub read-does : (t : Tables) (w : Wf t) (s p : ℕ) (x : Subject) (h : Handle) (y : Object) → refusal t (access reading s p) ≡ none → t .at
-    (subject s) ≡ subject-entry x
-    → t .hand s p ≡ held h → t .at (object (h .object)) ≡ object-entry y
-    → Does t (access reading s p) (outcome (ltb (fallen-by x (y .level) .level) (x .level)) (fallen-by x (y .level) .level))
-    (with-at t (put (t .at) (subject s) (subject-entry (fallen-by x (y .level)))))
-read-does t w s p x h y e q r z = subst (Does t (access reading s p) (outcome (ltb (fallen-by x (y .level) .level) (x .level)) (fallen-by x (y .level) .level)))
-    (steady t (put (t .at) (cell t s) v) ∙ ap (λ (c : Thing). with-at t (put (t .at) c v)) (cell-self t s))
-    (falls-in t (access reading s p) s (inl refl) x (object (h .object)) _ (y .level) e q (λ a. with-at t (put (t .at) (cell t s) a))
-    (ap (with-at t) (sink-one t (cell t s) (t .at (target (t .hand s p))))
-    ∙ ap (λ (o : Thing). with-at t (put (t .at) (cell t s) (fall (cell t s) (t .at (cell t s)) (t .at o))))
-    (found-target t w (access reading s p) s p h e (inr (inl refl)) r)) refl (λ v. refl) (one-changed t (cell t s))
-    (thing-is t (access reading s p) e (h .object) (found-live t w (access reading s p) s p h e (inr (inl refl)) r) y z))
+-- s and its mates take in z, which has level l: u has their entries, and b says whether some level got smaller
+group-does : (t : Tables) (w : Wf t) (c : Call) (s : ℕ) (i : In (alive s) (tests c)) (x : Subject) (z : Thing) (k : Kind) (l : ℕ) (u : Tables) (b : Bool) (e : refusal t c ≡ none)
+    → t .at (subject s) ≡ subject-entry x → t .at z ≡ some (entry k (label l)) → stepped t c ≡ u → shown t c ≡ level-at (cell t s)
+    → u .at (subject s) ≡ sink t (subject s) (t .at z) (subject s) → lowers t u ≡ b → Does t c (outcome b (fallen-by x l .level)) u
+group-does t w c s i x z k l u b e q h is g a n = does t c (outcome b (fallen-by x l .level)) u e (sym (ap (said t (stepped t c)) (g ∙ ap level-at (cell-self t s))
+    ∙ ap (λ (v : Tables). said t v (level-at (subject s))) is ∙ ap₂ outcome n (ap (λ (v : Option Entry). level (last-label (t .at (subject s)) v)) now ∙ level-label (fallen-by x l .level))))
+    (sym is)
   where
-    v : Option Entry
-    v = subject-entry (fallen-by x (y .level))
+    now : u .at (subject s) ≡ some (entry running (label (fallen-by x l .level)))
+    now = a ∙ cond-yes (whole t (subject s) (subject s)) (fall (subject s) (t .at (subject s)) (t .at z)) (t .at (subject s)) (whole-self t (subject s) (w .teams .itself))
+        ∙ ap₂ (fall (subject s)) (step-is t c e s i x q) h ∙ fell s x k l (step-lives t c e s i x q)
 
-pub exec-does : (t : Tables) (s o : ℕ) (x : Subject) (y : Object) → refusal t (exec s o) ≡ none → t .at (subject s) ≡ subject-entry x
-    → t .at (object o) ≡ object-entry y
-    → Does t (exec s o) (outcome (ltb (fallen-by x (y .level) .level) (x .level)) (fallen-by x (y .level) .level)) (reap (handles t) (with-hand
-    (with-at t (put (t .at) (subject s) (subject-entry (fallen-by x (y .level))))) (row (t .hand) s (λ p. lasting (t .hand s p)))))
-unfolding sheds
-exec-does t s o x y e q z = subst (Does t (exec s o) (outcome (ltb (fallen-by x (y .level) .level) (x .level)) (fallen-by x (y .level) .level)))
-    (ap (λ (c : Thing). reap (handles t) (u c (subject-entry (fallen-by x (y .level))))) (cell-self t s))
-    (falls-in t (exec s o) s (inl refl) x (object o) _ (y .level) e q (u (cell t s))
-    (ap (with-at shed) (sink-one shed (cell t s) (t .at (object o)))) refl (λ v. refl)
-    (λ d. stays d (cell t s) (sym (cell-self t s))) (thing-is t (exec s o) e o (present-live t (exec s o) e o (inr (inl refl))) y z))
+pub read-does : (t : Tables) (w : Wf t) (s p : ℕ) (x : Subject) (h : Handle) (y : Object) (u : Tables) (b : Bool) → refusal t (access reading s p) ≡ none
+    → t .at (subject s) ≡ subject-entry x → t .hand s p ≡ held h → t .at (object (h .object)) ≡ object-entry y
+    → u ≡ with-at t (sink t (subject s) (t .at (object (h .object)))) → lowers t u ≡ b
+    → Does t (access reading s p) (outcome b (fallen-by x (y .level) .level)) u
+read-does t w s p x h y u b e q r z f n = group-does t w (access reading s p) s (inl refl) x (object (h .object)) _ (y .level) u b e q
+    (thing-is t (access reading s p) e (h .object) (found-live t w (access reading s p) s p h e (inr (inl refl)) r) y z)
+    (ap₂ (λ (c o : Thing). reap (handles t) (with-at t (sink t c (t .at o)))) (cell-self t s) (found-target t w (access reading s p) s p h e (inr (inl refl)) r)
+    ∙ steady t (sink t (subject s) (t .at (object (h .object)))) ∙ sym f) refl (ap (λ (v : Tables). v .at (subject s)) f) n
+
+pub map-does : (t : Tables) (w : Wf t) (s o p : ℕ) (x : Subject) (y : Object) (u : Tables) (b : Bool) → refusal t (maps s o p) ≡ none
+    → t .at (subject s) ≡ subject-entry x → t .at (object o) ≡ object-entry y
+    → u ≡ with-hand (with-at t (sink t (subject s) (t .at (object o)))) (place (t .hand) s p (some (mapping o))) → lowers t u ≡ b
+    → Does t (maps s o p) (outcome b (fallen-by x (y .level) .level)) u
+map-does t w s o p x y u b e q z f n = group-does t w (maps s o p) s (inl refl) x (object o) _ (y .level) u b e q
+    (thing-is t (maps s o p) e o (present-live t (maps s o p) e o (inr (inl refl))) y z)
+    (ap (λ (a : Thing → Option Entry). reap (handles t) (with-hand (with-at t a) (place (t .hand) s p (some (mapping o)))))
+    (fun-ext (λ v. ap (λ (c : Thing). sink mapped c (t .at (object o)) v) (cell-self t s) ∙ same-sink v)) ∙ still ∙ sym f) refl (ap (λ (v : Tables). v .at (subject s)) f) n
   where
+    mapped : Tables
+    mapped = with-hand t (place (t .hand) s p (some (mapping o)))
+
+    now : Tables
+    now = with-hand (with-at t (sink t (subject s) (t .at (object o)))) (place (t .hand) s p (some (mapping o)))
+
+    same-sink : (v : Thing) → sink mapped (subject s) (t .at (object o)) v ≡ sink t (subject s) (t .at (object o)) v
+    same-sink v = ap (λ (b : Bool). cond b (fall v (t .at v) (t .at (object o))) (t .at v)) (whole-by mapped t refl (subject s) v)
+
+    -- no handle goes
+    still : reap (handles t) now ≡ now
+    still = reap-more t now (more-open t now (place-more (t .hand) s p (some (mapping o)) (place-free t (maps s o p) e s p (inr (inr (inr (inl refl)))))))
+
+-- s is alone then, and takes the file in for itself
+pub exec-does : (t : Tables) (w : Wf t) (s o : ℕ) (x : Subject) (y : Object) → refusal t (exec s o) ≡ none → t .at (subject s) ≡ subject-entry x
+    → t .at (object o) ≡ object-entry y
+    → Does t (exec s o) (outcome (ltb (fallen-by x (y .level) .level) (x .level)) (fallen-by x (y .level) .level))
+    (reap (handles t) (with-at (applies (sheds t s) t) (put (applies (sheds t s) t .at) (subject s) (subject-entry (fallen-by x (y .level))))))
+unfolding sheds
+exec-does t w s o x y e q z = subst₂ (λ (c : Thing) (v : Option Entry). Does t (exec s o) (outcome (ltb n (x .level)) n) (reap (handles t) (u c v)))
+    (cell-self t s) (sym (subject-now (ltb (y .level) (x .level)) refl))
+    (taken-in t (exec s o) (cell t s) (object o) running _ (x .level) (y .level) e (u (cell t s))
+    (applies-append (sheds t s) (mix runs (subject s) (object o) (cell t s) (object o) ∷ []) t
+    ∙ ap (with-at shed) (ap (λ (c : Thing). sink shed c (t .at (object o))) (cell-self t s) ∙ sink-one shed (subject s) (t .at (object o)) (whole-self shed (subject s) (less .teamed (w .teams) .itself)) only
+    ∙ ap₂ (λ (c : Thing) (v : Option Entry). put (shed .at) c (fall c v (t .at (object o)))) (sym (cell-self t s)) (own-entry ∙ ap (t .at) (sym (cell-self t s)))))
+    refl (λ v c b m h. less .was-at c b (put-others (shed .at) (cell t s) v c b m h)) (λ d. stays d (cell t s) (sym (cell-self t s))) ranged
+    (cell-is t (exec s o) e s (inl refl) x q) (thing-is t (exec s o) e o (present-live t (exec s o) e o (inr (inl refl))) y z) n
+    (ap (λ (c : Thing). sunk c running (label (x .level)) (label (y .level))) (cell-self t s) ∙ meet-level (x .level) (y .level) ∙ ap label (level-by (ltb (y .level) (x .level)))))
+  where
+    n : ℕ
+    n = fallen-by x (y .level) .level
+
     shed : Tables
-    shed = with-hand t (row (t .hand) s (λ p. lasting (t .hand s p)))
+    shed = applies (sheds t s) t
+
+    less : Less t shed
+    less = sheds-less t s
 
     u : Thing → Option Entry → Tables
-    u c v = with-hand (with-at t (put (t .at) c v)) (row (t .hand) s (λ p. lasting (t .hand s p)))
+    u c v = with-at shed (put (shed .at) c v)
+
+    level-by : (b : Bool) → cond b (y .level) (x .level) ≡ cond b (record { live = x .live; level = y .level }) x .level
+    level-by true = refl
+    level-by false = refl
+
+    subject-now : (b : Bool) → ltb (y .level) (x .level) ≡ b → subject-entry (cond b (record { live = x .live; level = y .level }) x)
+        ≡ some (entry running (label (cond b (record { live = x .live; level = y .level }) x .level)))
+    subject-now true f = step-at t (exec s o) e s (inl refl) x q (y .level)
+    subject-now false f = sym q ∙ step-is t (exec s o) e s (inl refl) x q
+
+    ranged : Stands t (cell t s)
+    ranged = subst (λ (y : Thing). Stands t y) (sym (cell-self t s)) (live-of t (subject s) (low-row-live t (exec s o) e s (inl refl)) .0)
+
+    own-entry : shed .at (subject s) ≡ t .at (subject s)
+    own-entry = cond-no (mates t s (subject s)) none (t .at (subject s)) (not-own-mate t s)
+
+    -- nobody else is in its group
+    only : (y : Thing) → T (whole shed (subject s) y) → subject s ≡ y
+    only (subject a) h = elim (parted-cases (mates t s) (t .kin) s a (subst T (whole-kin shed s a) h)) [
+      | inl r ↦ ap subject r
+      | inr r ↦ elim (test (eqb s a)) [
+        | inl f ↦ ap subject (eqb→eq s a f)
+        | inr f ↦ absurd (T-not (mates t s (subject a)) (r .1) (both (not (eqb s a)) (t .kin s a) f (r .2)))
+      ]
+    ]
+    only (object a) h = absurd (subst T (whole-no-object shed s a) h)
 
     -- a subject is no pipe, and does not end
     stays : (d : Entry) (c : Thing) → subject s ≡ c → reap (handles t) (u c (some d)) .at c ≡ some d
     stays d c f = subst (λ (c : Thing). reap (handles t) (u c (some d)) .at c ≡ some d) f
         (cond-no (ended (handles t) (handles (u (subject s) (some d))) (subject s) (u (subject s) (some d) .at (subject s))) none
         (u (subject s) (some d) .at (subject s))
-        (ended-subject (handles t) (handles (u (subject s) (some d))) s (u (subject s) (some d) .at (subject s))) ∙ put-same (t .at) (subject s) (some d))
-
-pub map-does : (t : Tables) (s o p : ℕ) (x : Subject) (y : Object) → refusal t (maps s o p) ≡ none → t .at (subject s) ≡ subject-entry x
-    → t .at (object o) ≡ object-entry y
-    → Does t (maps s o p) (outcome (ltb (fallen-by x (y .level) .level) (x .level)) (fallen-by x (y .level) .level)) (with-hand
-    (with-at t (put (t .at) (subject s) (subject-entry (fallen-by x (y .level))))) (place (t .hand) s p (some (mapping o))))
-map-does t s o p x y e q z = subst (Does t (maps s o p) (outcome (ltb (fallen-by x (y .level) .level) (x .level)) (fallen-by x (y .level) .level)))
-    (still (subject-entry (fallen-by x (y .level))) ∙ ap (λ (c : Thing). u c (subject-entry (fallen-by x (y .level)))) (cell-self t s))
-    (falls-in t (maps s o p) s (inl refl) x (object o) _ (y .level) e q (u (cell t s))
-    (ap (with-at mapped) (sink-one mapped (cell t s) (t .at (object o)))) refl (λ v. refl)
-    (λ d. ap (λ (v : Tables). v .at (cell t s)) (still (some d)) ∙ put-same (t .at) (cell t s) (some d))
-    (thing-is t (maps s o p) e o (present-live t (maps s o p) e o (inr (inl refl))) y z))
-  where
-    mapped : Tables
-    mapped = with-hand t (place (t .hand) s p (some (mapping o)))
-
-    u : Thing → Option Entry → Tables
-    u c v = with-hand (with-at t (put (t .at) c v)) (place (t .hand) s p (some (mapping o)))
-
-    -- no handle goes
-    still : (v : Option Entry) → reap (handles t) (u (cell t s) v) ≡ u (cell t s) v
-    still v = reap-more t (u (cell t s) v) (more-open t (u (cell t s) v)
-        (place-more (t .hand) s p (some (mapping o)) (place-free t (maps s o p) e s p (inr (inr (inr (inl refl)))))))
+        (ended-subject (handles t) (handles (u (subject s) (some d))) s (u (subject s) (some d) .at (subject s))) ∙ put-same (shed .at) (subject s) (some d))
 
 -- ── write ──
 put-self : (a : Thing → Option Entry) (x : Thing) (v : Option Entry) → v ≡ a x → put a x v ≡ a
@@ -635,8 +683,8 @@ write-does t w s p x h y after b e q r z f n = by (eqb (y .kind) 1) refl (ltb (x
     g = ap level-at to
 
     made : applies (steps t (access writing s p)) t ≡ applies (rereads t o) (with-at t (put (t .at) o (fall o (t .at o) (t .at (cell t s)))))
-    made = ap (λ (a : Thing → Option Entry). applies (rereads t (target (t .hand s p))) (with-at t a)) (sink-one t (target (t .hand s p)) (t .at (cell t s)))
-        ∙ ap (λ (v : Thing). applies (rereads t v) (with-at t (put (t .at) v (fall v (t .at v) (t .at (cell t s)))))) to
+    made = ap (λ (v : Thing). applies (rereads t v) (with-at t (sink t v (t .at (cell t s))))) to
+        ∙ ap (λ (a : Thing → Option Entry). applies (rereads t o) (with-at t a)) (sink-one t o (t .at (cell t s)) (whole-self t o (w .teams .itself)) (whole-object t (h .object)))
 
     Written : Object → Type 0
     Written v = Does t (access writing s p) (outcome (ltb (v .level) (y .level) || b) (v .level)) (with-at after (put (after .at) o (object-entry v)))
@@ -655,7 +703,11 @@ write-does t w s p x h y after b e q r z f n = by (eqb (y .kind) 1) refl (ltb (x
         read = f ∙ rereads-file t (h .object) a-file-there
 
         same-o : after .at o ≡ t .at o
-        same-o = ap (λ (u : Tables). u .at o) read
+        same-o = ap (λ (u : Tables). u .at o) read ∙ go (took t (h .object) subjects o)
+          where
+            go : (b : Bool) → cond b (fall o (t .at o) (t .at o)) (t .at o) ≡ t .at o
+            go true = file-keeps o (t .at o) (t .at o) a-file-there
+            go false = refl
 
         is : reap (handles t) (applies (steps t (access writing s p)) t) ≡ after
         is = ap (reap (handles t)) (made ∙ ap (λ (a : Thing → Option Entry). applies (rereads t o) (with-at t a))
@@ -674,7 +726,7 @@ write-does t w s p x h y after b e q r z f n = by (eqb (y .kind) 1) refl (ltb (x
         (steady t (put (t .at) o (some (entry pipe (label (v .level)))))
         ∙ ap₂ (λ (u : Tables) (c : Option Entry). with-at u (put (u .at) o c)) (sym unread) (sym i))
         (taken-in t (access writing s p) o (cell t s) pipe running (y .level) (x .level) e (λ c. with-at t (put (t .at) o c))
-        (made ∙ ap (λ (ks : List Step). applies ks (with-at t (put (t .at) o (fall o (t .at o) (t .at (cell t s)))))) none-read) g (λ c. refl) (one-changed t o)
+        (made ∙ ap (λ (ks : List Step). applies ks (with-at t (put (t .at) o (fall o (t .at o) (t .at (cell t s)))))) none-read) g (put-others (t .at) o) (one-changed t o)
         open-there (kind-is false m) (cell-is t (access writing s p) e s (inl refl) x q) (v .level) d)
       where
         none-read : rereads t o ≡ []

@@ -12,7 +12,7 @@ use Rattle.model.specs.Bools.{is-true, both}
 use Rattle.model.specs.Label.{label}
 use Rattle.model.specs.Label.Laws.{label-zero}
 use Rattle.model.specs.Flow.{Thing, subject}
-use Rattle.model.specs.Tables.{running, Entry, entry, Tables, empty, in-range, is-some, used, live, clean, needs, safe}
+use Rattle.model.specs.Tables.{running, Entry, entry, Tables, empty, with-freeze, with-numbers, in-range, is-some, used, live, clean, needs, safe}
 use Rattle.model.specs.Tables.Laws.{used-is, some-is, live-of}
 use Rattle.model.specs.Steps.Laws.{live-hand}
 use Rattle.model.specs.Invariant.{Wf}
@@ -26,13 +26,16 @@ use Rattle.tables.specs.Records.{subject-entry, tables-of}
 use Rattle.tables.specs.Records.Laws.{cleaned-wf}
 use Rattle.tables.specs.Needs.{node, figure-of, Needed}
 use Rattle.gatekeeper.specs.declared.Monitor.{Monitor}
-use Rattle.gatekeeper.specs.View.{beside, slots, Steady}
+use Rattle.groups.specs.Groups.{kin-of}
+use Rattle.groups.specs.Groups.Laws.{any-teams}
+use Rattle.gatekeeper.specs.View.{used-slots, beside, slots, Steady}
 use Rattle.gatekeeper.specs.Acting.{Fit}
 use Rattle.gatekeeper.proofs.Owned.{Long}
 
 -- nothing dangles in the tables as they are read
 pub read-wf : (m : Monitor) → Long m → Wf (clean (slots m))
-read-wf m g = cleaned-wf (beside m) (m .subjects) (m .objects) (m .handles) (clean (slots m)) (g .subjects) (g .objects) refl
+read-wf m g = cleaned-wf (beside m) (m .subjects) (m .objects) (m .handles) (clean (slots m)) (g .subjects) (g .objects)
+    (any-teams (with-numbers (with-freeze empty (m .freeze)) (used-slots (m .objects))) (m .subjects) (m .objects) (m .handles) (m .groups) (g .subjects) (g .objects)) refl
 
 module _ (m : Monitor) (w : Wf (clean (slots m))) where
   -- ── what is live ──
@@ -100,10 +103,10 @@ module _ (m : Monitor) (w : Wf (clean (slots m))) where
 
   -- ── worked out anew ──
   pub right-anew : (hs : List Handle) (ns : List ℕ) → tables-of (beside m) (m .subjects) (m .objects) hs ≡ clean (slots m)
-      → ((rest : Tables) (ss : List Subject) → Wf (tables-of rest ss (m .objects) hs) → Needed (tables-of rest ss (m .objects) hs) ns)
+      → ((rest : Tables) → rest .kin ≡ kin-of (m .subjects) (m .groups) → Wf (tables-of rest (m .subjects) (m .objects) hs) → Needed (tables-of rest (m .subjects) (m .objects) hs) ns)
       → Ready (clean (slots m)) (figure-of ns)
   right-anew hs ns q f = ready-anew (clean (slots m)) (tables-of (beside m) (m .subjects) (m .objects) hs) (figure-of ns)
-      (f (beside m) (m .subjects) (subst Wf (sym q) w) .need-is) (λ x. ap (λ (t : Tables). needs t x) (sym q))
+      (f (beside m) refl (subst Wf (sym q) w) .need-is) (λ x. ap (λ (t : Tables). needs t x) (sym q))
 
   -- what dangles is gone and the needs are worked out anew: whether some level is below its need
   pub short-anew : (hs : List Handle) (ns : List ℕ) (short : Bool) → tables-of (beside m) (m .subjects) (m .objects) hs ≡ clean (slots m) → Ready (clean (slots m)) (figure-of ns)

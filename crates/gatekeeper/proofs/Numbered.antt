@@ -273,7 +273,7 @@ pub single-long : (os : List Object) (ns : List ℕ) → length (single os ns) �
 single-long os ns = singled-long (repeated os ns) 0 os
 
 pub once-long : (m : Monitor) → Long m → Long (once m)
-once-long m g = record { subjects = g .subjects; objects = single-long (m .objects) (m .numbers) ∙ g .objects; handles = g .handles; needs = g .needs }
+once-long m g = record { subjects = g .subjects; objects = single-long (m .objects) (m .numbers) ∙ g .objects; handles = g .handles; needs = g .needs; groups = g .groups }
 
 single-used : (os : List Object) (ns : List ℕ) (i : ℕ) → T (slot-used (single os ns) i) → T (slot-used os i) × T (not (repeated os ns i))
 single-used os ns i u = go (repeated os ns i) (subst (λ (y : Object). T (not (eqb (y .kind) 0))) (single-at os ns i) u)
@@ -298,7 +298,7 @@ pub once-same : (m : Monitor) → length (m .objects) ≡ 64 → Apart m → onc
 once-same m lo d = ap (λ (os : List Object). made-of m os) (single-same m lo d)
   where
     made-of : Monitor → List Object → Monitor
-    made-of m os = record { subjects = m .subjects; objects = os; handles = m .handles; freeze = m .freeze; needs = m .needs; sure = m .sure; numbers = m .numbers }
+    made-of m os = record { subjects = m .subjects; objects = os; handles = m .handles; freeze = m .freeze; needs = m .needs; groups = m .groups; sure = m .sure; numbers = m .numbers }
 
 -- ── the call, for every monitor ──
 -- m is the monitor that came, and the call is made on it once of slots with one number the first alone counts

@@ -1,39 +1,44 @@
 -- What stands in a monitor's arrays at the numbers that a call names, and each call's stores as the rules' effect: one law a call. Assumes nothing.
-use mathlib.Core.Path.{_≡_, refl, sym, _∙_, ap, ap₂, subst, subst₂}
-use mathlib.Core.Bool.{Bool, true, false, not, _||_, cond}
+use mathlib.Core.Path.{_≡_, refl, sym, _∙_, ap, ap₂, subst, subst₂, fun-ext}
+use mathlib.Core.Bool.{Bool, true, false, not, _||_, _&&_, cond}
 use mathlib.Core.Logic.{inl, inr}
 use mathlib.Core.Option.{Option, none, some, Option·none-ne-some, Option·some-injective}
 use mathlib.Core.List.{List}
 use Prim.Native.Nat.{ℕ, _+_, _*_, _%_, _≤_, _<_}
 use native.Mathlib.Omega.{arith}
-use borrow.Author.Tests.{lt-ltb, ltb-false}
-use lib.ListN.{getD, set, length-set}
+use native.Mathlib.Decide.{ℕ-discrete}
+use borrow.Author.Tests.{lt-ltb, ltb-false, eq-eqb, ne-eqb}
+use lib.ListN.{length, getD, set, length-set}
+use lib.Seq.{getD-set-same, getD-set-other}
 use lib.Dec.{T, T-not, eqb, eqb→eq, eqb-refl, leb, ltb, ltb→lt, lt→ltb}
 use Rattle.model.specs.Bools.{is-false, neither}
 use Rattle.model.specs.Lists.{In}
 use Rattle.model.specs.Label.{Label, leq, label, bot}
 use Rattle.model.specs.Label.Laws.{label-zero}
-use Rattle.model.specs.Flow.{subject, object}
+use Rattle.model.specs.Flow.{Thing, subject, object, same}
 use Rattle.model.specs.Flow.Changes.{but}
-use Rattle.model.specs.Tables.{running, pipe, reading, writing, Entry, entry, handle, mapping, Tables, empty, with-at, with-hand, is-some, live, label-of, cell, handles, open-on, needs, safe}
+use Rattle.model.specs.Tables.{running, file, pipe, reading, writing, Entry, entry, handle, mapping, Tables, empty, with-at, with-hand, with-kin, is-some, live, label-of, cell, handles, open-on, needs, safe}
 use Rattle.model.specs.Tables.{Handle as Held}
-use Rattle.model.specs.Tables.Laws.{used-is, live-of, cell-self, handles-by}
-use Rattle.model.specs.Steps.{outside, enter, hold, holds, put, row, place, apply, applies, reap}
+use Rattle.model.specs.Tables.Laws.{used-is, live-of, cell-self, whole-by, handles-by}
+use Rattle.model.specs.Steps.{reads as reads-file, hold, mix, quits, put, row, place, parted, bound, fall, sink, apply, applies, reap}
 use Rattle.model.specs.Invariant.{Ends, Wf, Safe}
-use Rattle.model.specs.Invariant.Laws.{wf-enter, wf-hold, less-wf}
-use Rattle.model.specs.Calls.{Call, admit, register, create, make-pipe, opens, access, fork, exec, close, exit, retire, maps, mark, freeze, connect, rereads, marking, lasting, sheds, channel, steps, effect, Test, number, known, alive, present, no-pipe, leveled, freezable, new, vacant, taken, apart, unlike, others, facing, enough, suits, idle, thawed, broken, tests, order, earlier, In-order, breaks, refusal, allowed, lowers, outcome, roomy}
+use Rattle.model.specs.Invariant.Laws.{wf-hold, wf-mix, less-wf}
+use Rattle.model.specs.Calls.{Call, admit, register, create, make-pipe, opens, access, fork, thread, exec, close, exit, retire, maps, mark, freeze, connect, rereads, marking, sheds, channel, steps, effect, Test, number, known, alive, present, no-pipe, leveled, freezable, new, vacant, taken, apart, unlike, others, facing, enough, suits, idle, thawed, broken, tests, order, earlier, In-order, breaks, refusal, allowed, lowers, outcome, roomy}
 use Rattle.model.specs.Calls.{Answer as Told}
 use Rattle.model.specs.Calls.Refusals.{refused-by}
 use Rattle.model.specs.Calls.Passed.{is-alive, is-present, is-new, is-place, is-vacant, sheds-less}
 use Rattle.model.specs.Calls.Dangling.{connect-wf}
+use Rattle.model.specs.Calls.Needs.{own-need}
 use Rattle.model.specs.Figures.{Ready}
-use Rattle.model.specs.Figures.Laws.{access-ready, mark-ready, freeze-ready, retire-ready, admit-ready, register-ready, create-ready, pipe-ready, fork-ready, effect-ready, anew-ready, mapping-ready, map-ready, exec-ready, exit-ready}
+use Rattle.model.specs.Figures.Laws.{access-ready, mark-ready, freeze-ready, retire-ready, admit-ready, register-ready, create-ready, pipe-ready, fork-ready, thread-ready, effect-ready, anew-ready, mapping-ready, map-ready, exec-ready, exit-ready}
 use Rattle.tables.specs.declared.Subject.{Subject}
 use Rattle.tables.specs.declared.Object.{Object}
 use Rattle.tables.specs.declared.Handle.{Handle}
 use Rattle.tables.specs.Records.{subject-entry, object-entry, joins, held, no-subject, no-object, no-handle, hands, tables-of}
 use Rattle.tables.specs.Records.Laws.{subject-there, object-there, handle-there, store-subject, store-object, store-handle, store-close, slot-low}
 use Rattle.tables.specs.Needs.{figure-of, Needed}
+use Rattle.groups.specs.Groups.{stands, kin-of, Fresh}
+use Rattle.groups.specs.Groups.Laws.{kin-live, kin-new, kin-joined, kin-parted}
 use Rattle.tables.specs.Needs.Laws.{set-ready}
 use Rattle.refusals.proofs.Finding.{alone}
 use Rattle.refusals.specs.Refusing.{Room, Refuses, Late, direction}
@@ -44,12 +49,15 @@ use Rattle.gatekeeper.specs.declared.Monitor.{Monitor}
 use Rattle.gatekeeper.specs.View.{beside, slots}
 use Rattle.gatekeeper.specs.Acting.{Acts, Keeps, way-by}
 use Rattle.gatekeeper.proofs.Owned.{Long}
-use Rattle.gatekeeper.proofs.Doing.{Does, passed, row-low, new-row, not-leb, new-column, place-low, found, found-place, found-to, found-live, full-subject, full-object, full-held, own, low-row-live, admit-does, register-does, create-does, pipe-does, open-does, read-does, write-does, fork-does, exec-does, map-does, connect-does, close-does, exit-does, retire-does, mark-does, freeze-does}
+use Rattle.gatekeeper.proofs.Doing.{Does, passed, row-low, new-row, not-leb, new-column, place-low, found, found-place, found-to, found-live, full-subject, full-object, full-held, own, low-row-live, admit-does, register-does, create-does, pipe-does, open-does, read-does, write-does, fork-does, thread-does, exec-does, map-does, connect-does, close-does, exit-does, retire-does, mark-does, freeze-does}
 use Rattle.gatekeeper.proofs.Acting.{seen, acts}
 
--- the monitor with these arrays, and the freeze of m
+-- the monitor with these arrays and groups, and the freeze of m; and with the groups of m
+abbrev pub grouped : Monitor → List Subject → List ℕ → List Object → List Handle → List ℕ → Monitor
+grouped m ss gs os hs ns = record { subjects = ss; objects = os; handles = hs; freeze = m .freeze; needs = ns; groups = gs; sure = m .sure; numbers = m .numbers }
+
 abbrev pub monitor : Monitor → List Subject → List Object → List Handle → List ℕ → Monitor
-monitor m ss os hs ns = record { subjects = ss; objects = os; handles = hs; freeze = m .freeze; needs = ns; sure = m .sure; numbers = m .numbers }
+monitor m ss os hs ns = grouped m ss (m .groups) os hs ns
 
 -- a level that a call may name is a byte
 leveled-low : (t : Tables) (c : Call) (l : ℕ) → refusal t c ≡ none → In (leveled l) (tests c) → l % 256 ≡ l
@@ -59,6 +67,11 @@ leveled-low t c l e i = let h : l ≤ 15 = ltb-false 15 l (is-false (ltb 15 l) (
 all-handles : (m : Monitor) → handles (slots m) ≡ handles (with-hand empty (hands (m .handles)))
 unfolding tables-of
 all-handles m = handles-by (slots m) (with-hand empty (hands (m .handles))) refl
+
+-- pipes end whatever the groups are
+reap-kin : (before : List Held) (t : Tables) (k : ℕ → ℕ → Bool) → with-kin (reap before t) k ≡ reap before (with-kin t k)
+unfolding handles
+reap-kin before t k = refl
 
 -- ── the tests before the late ones ──
 abbrev then : Bool → ℕ → Option ℕ → Option ℕ
@@ -129,8 +142,8 @@ abbrev Reaps : List Object → List Handle → List Handle → List Object → T
 Reaps os before after left = (rest : Tables) (ss : List Subject) (t : Tables) → handles t ≡ handles (with-hand empty (hands before))
     → tables-of rest ss left after ≡ reap (handles t) (tables-of rest ss os after)
 
-abbrev Works : List Object → List Handle → List ℕ → Type 0
-Works os hs ns = (rest : Tables) (ss : List Subject) → Wf (tables-of rest ss os hs) → Needed (tables-of rest ss os hs) ns
+abbrev Works : List Subject → List ℕ → List Object → List Handle → List ℕ → Type 0
+Works ss gs os hs ns = (rest : Tables) → rest .kin ≡ kin-of ss gs → Wf (tables-of rest ss os hs) → Needed (tables-of rest ss os hs) ns
 
 abbrev Shorts : List Subject → List Object → List ℕ → Bool → Type 0
 Shorts ss os ns r = (rest : Tables) (hs : List Handle) → Wf (tables-of rest ss os hs) → Ready (tables-of rest ss os hs) (figure-of ns)
@@ -138,21 +151,9 @@ Shorts ss os ns r = (rest : Tables) (hs : List Handle) → Wf (tables-of rest ss
 
 -- the figures once a handle came, and whether some level is below one
 abbrev pub Opening : Monitor → Bool → List Handle → ℕ → Handle → List ℕ → Bool → Type 0
-Opening m sure next s h ns short = (rest : Tables) (t : Tables) (p : ℕ) → Wf t → Ends t s p (joins h) → t .hand s p ≡ none
+Opening m sure next s h ns short = (rest : Tables) (t : Tables) (p : ℕ) → rest .kin ≡ kin-of (m .subjects) (m .groups) → Wf t → Ends t s p (joins h) → t .hand s p ≡ none
     → tables-of rest (m .subjects) (m .objects) next ≡ apply (hold s p (some (joins h))) t → (sure ≡ true → Ready t (figure-of (m .needs)))
     → Ready (tables-of rest (m .subjects) (m .objects) next) (figure-of ns) × ((sure ≡ true → Safe t) → short ≡ not (safe (tables-of rest (m .subjects) (m .objects) next)))
-
--- who is live stays so where it falls
-fallen-lives : (y : Subject) (l : ℕ) → T (is-some (subject-entry y)) → subject-entry (fallen-by y l) ≡ some (entry running (label (fallen-by y l .level)))
-fallen-lives y l h = by (ltb l (y .level))
-  where
-    used-here : (f : Bool) → T (is-some (cond f none (some (entry running (label (y .level)))))) → f ≡ false
-    used-here true k = absurd k
-    used-here false k = refl
-
-    by : (b : Bool) → subject-entry (cond b (record { live = y .live; level = l }) y) ≡ some (entry running (label (cond b (record { live = y .live; level = l }) y .level)))
-    by true = ap (λ (f : Bool). cond f none (some (entry running (label l)))) (used-here (eqb (y .live) 0) h)
-    by false = ap (λ (f : Bool). cond f none (some (entry running (label (y .level))))) (used-here (eqb (y .live) 0) h)
 
 -- what a monitor that is sure says
 abbrev Says : Monitor → Type 0
@@ -174,9 +175,54 @@ module _ (m : Monitor) (g : Long m) where
   object-low o l = ap (λ (b : Bool). cond b (getD (m .objects) (o % 64) no-object) no-object) (lt-ltb o 64 l)
 
   -- ── stores ──
-  pub put-subject : (s : ℕ) (v : Subject) (ns : List ℕ) → s < 32 → seen m (monitor m (set (m .subjects) (s % 32) v) (m .objects) (m .handles) ns) ≡ with-at (slots m)
+  -- the tables by three arrays, whose groups follow
+  seen-is : (ss : List Subject) (gs : List ℕ) (os : List Object) (hs : List Handle) (ns : List ℕ) → seen m (grouped m ss gs os hs ns)
+      ≡ with-kin (tables-of (beside m) ss os hs) (kin-of ss gs)
+  unfolding tables-of
+  seen-is ss gs os hs ns = refl
+
+  put-subject : (s : ℕ) (v : Subject) → s < 32 → tables-of (beside m) (set (m .subjects) (s % 32) v) (m .objects) (m .handles) ≡ with-at (slots m)
       (put (slots m .at) (subject s) (subject-entry v))
-  put-subject s v ns l = store-subject (beside m) (m .subjects) (m .objects) (m .handles) s v (g .subjects) l
+  put-subject s v l = store-subject (beside m) (m .subjects) (m .objects) (m .handles) s v (g .subjects) l
+
+  -- the groups of m are beside its arrays
+  kept-kin : (ss : List Subject) (os : List Object) (hs : List Handle) (a : Thing → Option Entry)
+      → (with-kin (tables-of (beside m) ss os hs) (slots m .kin) ≡ tables-of (beside m) ss os hs)
+      × (with-kin (with-at (tables-of (beside m) ss os hs) a) (slots m .kin) ≡ with-at (tables-of (beside m) ss os hs) a)
+  unfolding tables-of
+  kept-kin ss os hs a = (refl, refl)
+
+  -- the groups where who is live stays so
+  same-kin : (ss : List Subject) → ((a : ℕ) → stands ss a ≡ stands (m .subjects) a) → kin-of ss (m .groups) ≡ slots m .kin
+  unfolding tables-of
+  same-kin ss f = kin-live (m .subjects) ss (m .groups) f
+
+  own-kin : slots m .kin ≡ kin-of (m .subjects) (m .groups)
+  unfolding tables-of
+  own-kin = refl
+
+  -- a number that is not in use, and one that is
+  not-standing : (c : ℕ) → c < 32 → slots m .at (subject c) ≡ none → T (not (stands (m .subjects) (c % 32)))
+  unfolding tables-of
+  not-standing c l q = let e : c % 32 ≡ c = omega arith in go (eqb (getD (m .subjects) (c % 32) no-subject .live) 0) (ap (λ (i : ℕ). subject-entry (getD (m .subjects) i no-subject)) e ∙ q)
+    where
+      go : (b : Bool) → cond b none (some (entry running (label (getD (m .subjects) (c % 32) no-subject .level)))) ≡ none → T (not (not b))
+      go true z = tt
+      go false z = absurd (Option·none-ne-some _ (sym z))
+
+  standing : (s : ℕ) → s < 32 → T (live (slots m) (subject s)) → T (stands (m .subjects) (s % 32))
+  unfolding tables-of
+  standing s l h = let e : s % 32 ≡ s = omega arith in go (eqb (getD (m .subjects) (s % 32) no-subject .live) 0)
+      (subst (λ (i : ℕ). T (is-some (subject-entry (getD (m .subjects) i no-subject)))) (sym e) (subst T (used-is (slots m) (subject s)) (live-of (slots m) (subject s) h .1)))
+    where
+      go : (b : Bool) → T (is-some (cond b none (some (entry running (label (getD (m .subjects) (s % 32) no-subject .level)))))) → T (not b)
+      go true z = absurd z
+      go false z = tt
+
+  -- a new subject by itself
+  alone-kin : (c v : ℕ) (x : Subject) → c < 32 → slots m .at (subject c) ≡ none → Fresh (m .subjects) (m .groups) v
+      → kin-of (set (m .subjects) (c % 32) x) (set (m .groups) (c % 32) v) ≡ slots m .kin
+  alone-kin c v x l q f = kin-new (m .subjects) (m .groups) (c % 32) x (g .subjects) (g .groups) (omega arith) v (not-standing c l q) f ∙ sym own-kin
 
   pub put-object : (o : ℕ) (v : Object) (ns : List ℕ) → o < 64 → seen m (monitor m (m .subjects) (set (m .objects) (o % 64) v) (m .handles) ns) ≡ with-at (slots m)
       (put (slots m .at) (object o) (object-entry v))
@@ -198,17 +244,19 @@ module _ (m : Monitor) (g : Long m) where
   own-figure s l = let e : s % 32 ≡ s = omega arith in ap (λ (i : ℕ). label (getD (m .needs) i 0)) e
 
   -- figures that were worked out for the tables that the steps make
-  worked : (c : Call) (ss : List Subject) (os : List Object) (hs : List Handle) (ns : List ℕ) → tables-of (beside m) ss os hs ≡ applies (steps (slots m) c) (slots m)
-      → Wf (tables-of (beside m) ss os hs) → Works os hs ns → Ready (effect (slots m) c) (figure-of ns)
-  worked c ss os hs ns q w f = anew-ready (slots m) c (figure-of ns)
-      (λ x h. f (beside m) ss w .need-is x h ∙ ap (λ (t : Tables). needs t x) q)
+  worked : (c : Call) (os : List Object) (hs : List Handle) (ns : List ℕ) → tables-of (beside m) (m .subjects) os hs ≡ applies (steps (slots m) c) (slots m)
+      → Wf (tables-of (beside m) (m .subjects) os hs) → Works (m .subjects) (m .groups) os hs ns → Ready (effect (slots m) c) (figure-of ns)
+  worked c os hs ns q w f = anew-ready (slots m) c (figure-of ns)
+      (λ x h. f (beside m) refl w .need-is x h ∙ ap (λ (t : Tables). needs t x) q)
 
   -- ── admit, register, create ──
-  pub admits : (s l : ℕ) (ss : List Subject) (ns : List ℕ) → Wf (slots m) → refusal (slots m) (admit s l) ≡ none
-      → ss ≡ set (m .subjects) (s % 32) (record { live = 1; level = l % 256 }) → ns ≡ set (m .needs) (s % 32) 0
-      → Acts m (admit s l) (allowed (l % 256)) (monitor m ss (m .objects) (m .handles) ns)
-  admits s l ss ns w e p q = rw (p, q, leveled-low (slots m) (admit s l) l e (inr (inl refl)))
-      (acts m (admit s l) (allowed l) _ _ refl refl (admit-does (slots m) s l e) (put-subject s (record { live = 1; level = l }) (set (m .needs) (s % 32) 0) low)
+  pub admits : (s l : ℕ) (ss : List Subject) (gs : List ℕ) (v : ℕ) (ns : List ℕ) → Wf (slots m) → refusal (slots m) (admit s l) ≡ none
+      → ss ≡ set (m .subjects) (s % 32) (record { live = 1; level = l % 256 }) → Fresh (m .subjects) (m .groups) v → gs ≡ set (m .groups) (s % 32) v
+      → ns ≡ set (m .needs) (s % 32) 0 → Acts m (admit s l) (allowed (l % 256)) (grouped m ss gs (m .objects) (m .handles) ns)
+  admits s l ss gs v ns w e p f d q = rw (p, d, q, leveled-low (slots m) (admit s l) l e (inr (inl refl)))
+      (acts m (admit s l) (allowed l) _ _ refl refl (admit-does (slots m) s l e)
+      (seen-is _ (set (m .groups) (s % 32) v) (m .objects) (m .handles) (set (m .needs) (s % 32) 0) ∙ ap₂ with-kin (put-subject s (record { live = 1; level = l }) low)
+      (alone-kin s v (record { live = 1; level = l }) low (is-new (slots m) (subject s) (passed (slots m) (admit s l) e (new (subject s)) (inl refl)) .1) f))
       (λ k. kept-subject s 0 bot _ low label-zero (admit-ready (slots m) (figure-of (m .needs)) w k s l e)))
     where
       low : s < 32
@@ -235,32 +283,48 @@ module _ (m : Monitor) (g : Long m) where
       low = new-column (slots m) (create s o) e o (inr (inl refl)) (inr (inr (inl refl))) room
 
   -- ── read, write ──
-  pub reads : (s p : ℕ) (x v : Subject) (h : Handle) (y : Object) (ss : List Subject) (a : Told) → Wf (slots m) → refusal (slots m) (access reading s p) ≡ none
+  -- what one of a group takes in, stored for all of them, and whether a level is smaller by that
+  abbrev Takes : ℕ → ℕ → List Subject → Bool → Type 0
+  Takes s l after b = ((rest : Tables) (os : List Object) (hs : List Handle) (d : Entry) → s < 32 → rest .kin ≡ kin-of (m .subjects) (m .groups) → d .label ≡ label l
+      → tables-of rest after os hs ≡ with-at (tables-of rest (m .subjects) os hs) (sink (tables-of rest (m .subjects) os hs) (subject s) (some d)))
+      × (((rest : Tables) (os : List Object) (hs : List Handle) → lowers (tables-of rest (m .subjects) os hs) (tables-of rest after os hs) ≡ b)
+      × ((a : ℕ) → stands after a ≡ stands (m .subjects) a))
+
+  pub reads : (s p : ℕ) (x v : Subject) (h : Handle) (y : Object) (ss : List Subject) (b : Bool) (a : Told) → Wf (slots m) → refusal (slots m) (access reading s p) ≡ none
       → slots m .at (subject s) ≡ subject-entry x → slots m .hand s p ≡ held h → slots m .at (object (h .object)) ≡ object-entry y → v ≡ fallen-by x (y .level)
-      → ss ≡ set (m .subjects) (s % 32) v → a ≡ outcome (ltb (v .level) (x .level)) (v .level)
-      → Acts m (access reading s p) a (monitor m ss (m .objects) (m .handles) (m .needs))
-  reads s p x v h y ss a w e q r o f n k = rw n (acts m (access reading s p) a _ _ refl refl (subst₂ (λ (b : Told) (z : Subject). Does (slots m) (access reading s p) b
-      (with-at (slots m) (put (slots m .at) (subject s) (subject-entry z)))) (sym (k ∙ ap (λ (z : Subject). outcome (ltb (z .level) (x .level)) (z .level)) f))
-      (sym f) (read-does (slots m) w s p x h y e q r o))
-      (put-subject s v (m .needs) (row-low (slots m) (access reading s p) e s (inl refl)))
-      (λ k. access-ready (slots m) (figure-of (m .needs)) w k reading s p))
+      → Takes s (y .level) ss b → a ≡ outcome b (v .level) → Acts m (access reading s p) a (monitor m ss (m .objects) (m .handles) (m .needs))
+  reads s p x v h y ss b a w e q r o f n k = acts m (access reading s p) a _ _ refl refl
+      (subst (λ (c : Told). Does (slots m) (access reading s p) c u) (sym (k ∙ ap (λ (z : Subject). outcome b (z .level)) f))
+      (read-does (slots m) w s p x h y u b e q r o
+      (n .0 (beside m) (m .objects) (m .handles) (entry _ (label (y .level))) (row-low (slots m) (access reading s p) e s (inl refl)) refl refl
+      ∙ ap (λ (d : Option Entry). with-at (slots m) (sink (slots m) (subject s) d)) (sym there)) (n .1 .0 (beside m) (m .objects) (m .handles))))
+      (seen-is ss (m .groups) (m .objects) (m .handles) (m .needs) ∙ ap (with-kin u) (same-kin ss (n .1 .1)) ∙ kept-kin ss (m .objects) (m .handles) (u .at) .0)
+      (λ k. access-ready (slots m) (figure-of (m .needs)) w k reading s p)
+    where
+      u : Tables
+      u = tables-of (beside m) ss (m .objects) (m .handles)
+
+      there : slots m .at (object (h .object)) ≡ some (entry (cond (eqb (y .kind) 1) file pipe) (label (y .level)))
+      there = full-object (slots m) (h .object) y o (found-live (slots m) w (access reading s p) s p h e (inr (inl refl)) r)
 
   -- the subjects once those who have the object mapped have read it, and whether one of them has a smaller level then
   pub writes : (s p : ℕ) (x : Subject) (h : Handle) (y v : Object) (after : List Subject) (os : List Object) (b : Bool) (a : Told) → Wf (slots m)
       → refusal (slots m) (access writing s p) ≡ none → slots m .at (subject s) ≡ subject-entry x → slots m .hand s p ≡ held h
       → y ≡ object-at (h .object) (getD (m .objects) (h .object % 64) no-object) → v ≡ sunken-by y (x .level)
-      → ((rest : Tables) (os : List Object) → getD os (h .object) no-object ≡ y
+      → ((rest : Tables) (os : List Object) → rest .kin ≡ kin-of (m .subjects) (m .groups) → getD os (h .object) no-object ≡ y
       → tables-of rest after os (m .handles) ≡ applies (rereads (tables-of rest (m .subjects) os (m .handles)) (object (h .object)))
       (tables-of rest (m .subjects) os (m .handles)))
-      → ((rest : Tables) (os : List Object) (hs : List Handle) → lowers (tables-of rest (m .subjects) os hs) (tables-of rest after os hs) ≡ b)
+      → ((i : ℕ) → stands after i ≡ stands (m .subjects) i) → ((rest : Tables) (os : List Object) (hs : List Handle) → lowers (tables-of rest (m .subjects) os hs) (tables-of rest after os hs) ≡ b)
       → os ≡ set (m .objects) (h .object % 64) v → a ≡ outcome (ltb (v .level) (y .level) || b) (v .level)
       → Acts m (access writing s p) a (monitor m after os (m .handles) (m .needs))
-  writes s p x h y v after os b a w e q r o f n l c k = rw c (acts m (access writing s p) a _ _ refl refl (subst₂ (λ (c : Told) (z : Object). Does (slots m) (access writing s p) c
+  writes s p x h y v after os b a w e q r o f n lives l c k = rw c (acts m (access writing s p) a _ _ refl refl (subst₂ (λ (c : Told) (z : Object). Does (slots m) (access writing s p) c
       (with-at u (put (u .at) (object (h .object)) (object-entry z)))) (sym (k ∙ ap (λ (z : Object). outcome (ltb (z .level) (y .level) || b) (z .level)) f))
       (sym f)
       (write-does (slots m) w s p x h y u b e q r (object-got (h .object) y o)
-      (n (beside m) (m .objects) (ap (λ (i : ℕ). getD (m .objects) i no-object) same ∙ sym (o ∙ object-low (h .object) low)))
-      (l (beside m) (m .objects) (m .handles)))) (store-object (beside m) after (m .objects) (m .handles) (h .object) v (g .objects) low)
+      (n (beside m) (m .objects) refl (ap (λ (i : ℕ). getD (m .objects) i no-object) same ∙ sym (o ∙ object-low (h .object) low)))
+      (l (beside m) (m .objects) (m .handles)))) (seen-is after (m .groups) (set (m .objects) (h .object % 64) v) (m .handles) (m .needs)
+      ∙ ap₂ with-kin (store-object (beside m) after (m .objects) (m .handles) (h .object) v (g .objects) low) (same-kin after lives)
+      ∙ kept-kin after (m .objects) (m .handles) (put (u .at) (object (h .object)) (object-entry v)) .1)
       (λ k. access-ready (slots m) (figure-of (m .needs)) w k writing s p))
     where
       u : Tables
@@ -302,7 +366,7 @@ module _ (m : Monitor) (g : Long m) where
       (i : slots m .at (subject s) ≡ subject-entry x) (j : slots m .at (subject u) ≡ subject-entry z)
       (f : Joins (m .handles) (s % 32) (p % 16) (q % 16) (b % 64) (a % 64) one) (g′ : Joins one (u % 32) (p % 16) (q % 16) (a % 64) (b % 64) next)
       (is-one : os₁ ≡ set (m .objects) (a % 64) (record { kind = 2; level = x .level }))
-      (is-both : os ≡ set os₁ (b % 64) (record { kind = 2; level = z .level })) (h : Works os next ns) where
+      (is-both : os ≡ set os₁ (b % 64) (record { kind = 2; level = z .level })) (h : Works (m .subjects) (m .groups) os next ns) where
     passes : In-order (slots m) (connect s u a b p q) 15
     passes = early-passed (slots m) (connect s u a b p q) k
 
@@ -376,26 +440,27 @@ module _ (m : Monitor) (g : Long m) where
     connect-late r f = record { nine = alone tested; ten = refl; fifteen = refl }
       where
         tested : broken (slots m) (enough (connect s u a b p q)) ≡ r
-        tested = sym (f (beside m) next wf-now (anew (beside m) (m .subjects) os next ns (h (beside m) (m .subjects) wf-now)) ∙ ap (λ (v : Tables). not (safe v)) flows-now)
+        tested = sym (f (beside m) next wf-now (anew (beside m) (m .subjects) os next ns (h (beside m) refl wf-now)) ∙ ap (λ (v : Tables). not (safe v)) flows-now)
 
     pub connects : refusal (slots m) (connect s u a b p q) ≡ none → Acts m (connect s u a b p q) (allowed (x .level)) (monitor m (m .subjects) os next ns)
     connects e = acts m (connect s u a b p q) (allowed (x .level)) _ _ refl refl (connect-does (slots m) s u a b p q x z e i j)
         (ap (λ (l : List Object). tables-of (beside m) (m .subjects) l next) os-is ∙ connected)
-        (λ k. worked (connect s u a b p q) (m .subjects) os next ns flows-now wf-now h)
+        (λ k. worked (connect s u a b p q) os next ns flows-now wf-now h)
 
   -- ── close, exit, fork ──
   pub closes : (s p : ℕ) (x : Subject) (h : Handle) (y r : Object) (os : List Object) (hs : List Handle) (ns : List ℕ) → Wf (slots m)
       → refusal (slots m) (close s p) ≡ none → slots m .at (subject s) ≡ subject-entry x → slots m .hand s p ≡ held h
       → y ≡ object-at (h .object) (getD (m .objects) (h .object % 64) no-object)
       → hs ≡ set (m .handles) (s % 32 * 16 + p % 16) no-handle → Outlives hs y (h .object) r → os ≡ set (m .objects) (h .object % 64) r
-      → ((rest : Tables) (ss : List Subject) (t : Tables) (p : ℕ) → Wf t → t .hand s p ≡ some (joins h) → tables-of rest ss (m .objects) hs ≡ apply (hold s p none) t
-      → Ready t (figure-of (m .needs)) → Ready (tables-of rest ss (m .objects) hs) (figure-of ns))
+      → ((rest : Tables) (t : Tables) (p : ℕ) → rest .kin ≡ kin-of (m .subjects) (m .groups) → Wf t → t .hand s p ≡ some (joins h)
+      → tables-of rest (m .subjects) (m .objects) hs ≡ apply (hold s p none) t
+      → Ready t (figure-of (m .needs)) → Ready (tables-of rest (m .subjects) (m .objects) hs) (figure-of ns))
       → Acts m (close s p) (allowed (x .level)) (monitor m (m .subjects) os hs ns)
   closes s p x h y r os hs ns w e q z o n d v f = acts m (close s p) (allowed (x .level)) _ _ refl refl (close-does (slots m) s p x e q)
       (ap₂ (λ (a : List Object) (b : List Handle). tables-of (beside m) (m .subjects) a b) v n
       ∙ store-close (beside m) (m .subjects) (m .objects) (m .handles) s p (h .object) (k .0) no-handle r (g .objects) (g .handles) low-s low-p low
       (k .1) to (subst₂ (λ (l : List Handle) (a : Object). Outlives l a (h .object) r) n (o ∙ object-low (h .object) low) d))
-      (λ c. effect-ready (slots m) (close s p) (figure-of ns) (subst (λ (t : Tables). Ready t (figure-of ns)) shut (f (beside m) (m .subjects) (slots m) p w taken-at shut c)))
+      (λ c. effect-ready (slots m) (close s p) (figure-of ns) (subst (λ (t : Tables). Ready t (figure-of ns)) shut (f (beside m) (slots m) p refl w taken-at shut c)))
     where
       k : (k : Held) × (slots m .hand s p ≡ some k)
       k = found (slots m) w (close s p) s p h e (inr (inl refl)) z
@@ -422,34 +487,55 @@ module _ (m : Monitor) (g : Long m) where
   pub exits : (s : ℕ) (x : Subject) (ss : List Subject) (after : List Handle) (left : List Object) (ns : List ℕ) → Wf (slots m) → refusal (slots m) (exit s) ≡ none
       → slots m .at (subject s) ≡ subject-entry x → ss ≡ set (m .subjects) (s % 32) no-subject
       → Rowed (m .handles) (s % 32) (λ p. none) after → Reaps (m .objects) (m .handles) after left
-      → ((rest : Tables) (ss : List Subject) (t : Tables) → Wf t → T (live t (subject s)) → tables-of rest ss (m .objects) after ≡ apply (holds s (λ p. none)) t
+      → ((rest : Tables) (t : Tables) → rest .kin ≡ kin-of ss (m .groups) → Wf t → T (live t (subject s)) → tables-of rest ss (m .objects) after ≡ apply (quits (same (subject s))) t
       → Ready t (figure-of (m .needs)) → Ready (tables-of rest ss (m .objects) after) (figure-of ns))
       → Acts m (exit s) (allowed (x .level)) (monitor m ss left after ns)
   unfolding tables-of
-  exits s x ss after left ns w e q n a b f = rw n (acts m (exit s) (allowed (x .level)) _ _ refl refl (exit-does (slots m) s x e q)
-      (b (beside m) _ (slots m) (all-handles m) ∙ ap (reap (handles (slots m))) (a (beside m) _ _ ∙ ap₂ (λ (u : Tables) (f : ℕ → ℕ → Option Held). with-hand u f)
-      (put-subject s no-subject (m .needs) low) (ap (λ (i : ℕ). row (hands (m .handles)) i (λ p. none)) same)))
-      (λ k. exit-ready (slots m) s (figure-of ns) w (subst (λ (t : Tables). Ready t (figure-of ns)) vacant-now
-      (f (beside m) (m .subjects) (slots m) w (low-row-live (slots m) (exit s) e s (inl refl)) vacant-now k))))
+  exits s x ss after left ns w e q n a b f = acts m (exit s) (allowed (x .level)) _ _ refl refl (exit-does (slots m) s x e q)
+      (seen-is ss (m .groups) left after ns ∙ ap (λ (u : Tables). with-kin u (kin-of ss (m .groups))) (b (beside m) ss (slots m) (all-handles m)) ∙ reap-kin (handles (slots m)) (tables-of (beside m) ss (m .objects) after) (kin-of ss (m .groups))
+      ∙ ap (reap (handles (slots m))) gone-now)
+      (λ k. exit-ready (slots m) s (figure-of ns) (subst (λ (t : Tables). Ready t (figure-of ns)) left-now
+      (f (with-kin (beside m) (kin-of ss (m .groups))) (slots m) refl w (low-row-live (slots m) (exit s) e s (inl refl)) left-now k)))
     where
       low : s < 32
       low = row-low (slots m) (exit s) e s (inl refl)
 
-      same : s % 32 ≡ s
-      same = omega (arith, low)
+      same-s : s % 32 ≡ s
+      same-s = omega (arith, low)
 
-      vacant-now : tables-of (beside m) (m .subjects) (m .objects) after ≡ apply (holds s (λ p. none)) (slots m)
-      vacant-now = a (beside m) (m .subjects) (m .objects) ∙ ap (λ (i : ℕ). with-hand (slots m) (row (hands (m .handles)) i (λ p. none))) same
+      kin-now : kin-of ss (m .groups) ≡ parted (same (subject s)) (slots m .kin)
+      kin-now = kin-parted (m .subjects) ss (m .groups) (same (subject s)) (λ i. ap (λ (l : List Subject). stands l i) n ∙ gone i (ℕ-discrete i (s % 32)))
+          ∙ ap (parted (same (subject s))) (sym own-kin)
+        where
+          gone : (i : ℕ) → Dec (i ≡ s % 32) → stands (set (m .subjects) (s % 32) no-subject) i ≡ (not (eqb s i) && stands (m .subjects) i)
+          gone i (yes z) = ap (λ (y : Subject). not (eqb (y .live) 0)) (ap (λ (j : ℕ). getD (set (m .subjects) (s % 32) no-subject) j no-subject) z
+              ∙ getD-set-same (m .subjects) (s % 32) no-subject no-subject (omega (arith, g .subjects)))
+              ∙ sym (ap (λ (b : Bool). not b && stands (m .subjects) i) (eq-eqb s i (sym same-s ∙ sym z)))
+          gone i (no z) = ap (λ (y : Subject). not (eqb (y .live) 0)) (getD-set-other (m .subjects) (s % 32) i no-subject no-subject z)
+              ∙ sym (ap (λ (b : Bool). not b && stands (m .subjects) i) (ne-eqb s i (λ k. z (sym k ∙ sym same-s))))
 
-  pub forks : (s c : ℕ) (x : Subject) (ss : List Subject) (after : List Handle) (v : ℕ) (ns : List ℕ) → Wf (slots m) → refusal (slots m) (fork s c) ≡ none
+      rows-now : tables-of (beside m) ss (m .objects) after ≡ with-at (with-hand (slots m) (row (slots m .hand) s (λ p. none))) (put (slots m .at) (subject s) none)
+      rows-now = a (beside m) ss (m .objects) ∙ ap₂ (λ (u : Tables) (f : ℕ → ℕ → Option Held). with-hand u f)
+          (ap (λ (l : List Subject). tables-of (beside m) l (m .objects) (m .handles)) n ∙ put-subject s no-subject low) (ap (λ (i : ℕ). row (hands (m .handles)) i (λ p. none)) same-s)
+
+      gone-now : with-kin (tables-of (beside m) ss (m .objects) after) (kin-of ss (m .groups))
+          ≡ with-kin (with-at (with-hand (slots m) (row (slots m .hand) s (λ p. none))) (put (slots m .at) (subject s) none)) (parted (same (subject s)) (slots m .kin))
+      gone-now = ap₂ with-kin rows-now kin-now
+
+      left-now : tables-of (with-kin (beside m) (kin-of ss (m .groups))) ss (m .objects) after ≡ apply (quits (same (subject s))) (slots m)
+      left-now = gone-now
+
+  pub forks : (s c : ℕ) (x : Subject) (ss : List Subject) (gs : List ℕ) (i : ℕ) (after : List Handle) (v : ℕ) (ns : List ℕ) → Wf (slots m) → refusal (slots m) (fork s c) ≡ none
       → slots m .at (subject s) ≡ subject-entry x → ss ≡ set (m .subjects) (c % 32) (record { live = 1; level = x .level })
-      → Rowed (m .handles) (c % 32) (hands (m .handles) (s % 32)) after → v ≡ getD (m .needs) (s % 32) 0 → ns ≡ set (m .needs) (c % 32) v
-      → Acts m (fork s c) (allowed (x .level)) (monitor m ss (m .objects) after ns)
+      → Fresh (m .subjects) (m .groups) i → gs ≡ set (m .groups) (c % 32) i → Rowed (m .handles) (c % 32) (hands (m .handles) (s % 32)) after
+      → ((rest : Tables) (ss : List Subject) (os : List Object) → length os ≡ 64 → s < 32 → Wf (tables-of rest ss os (m .handles)) → Ready (tables-of rest ss os (m .handles)) (figure-of (m .needs))
+      → label v ≡ own-need (tables-of rest ss os (m .handles)) s) → ns ≡ set (m .needs) (c % 32) v
+      → Acts m (fork s c) (allowed (x .level)) (grouped m ss gs (m .objects) after ns)
   unfolding tables-of
-  forks s c x ss after v ns w e q n a d r = rw (n, r) (acts m (fork s c) (allowed (x .level)) _ _ refl refl (fork-does (slots m) s c x w e q)
-      (a (beside m) _ _ ∙ ap₂ (λ (u : Tables) (f : ℕ → ℕ → Option Held). with-hand u f) (put-subject c (record { live = 1; level = x .level }) (m .needs) low)
-      (ap₂ (λ (i : ℕ) (f : ℕ → Option Held). row (hands (m .handles)) i f) same (ap (hands (m .handles)) same-s)))
-      (λ k. kept-subject c v _ _ low (ap label d ∙ own-figure s low-s) (fork-ready (slots m) (figure-of (m .needs)) w k s c e)))
+  forks s c x ss gs i after v ns w e q n f d a o r = rw (n, d, r) (acts m (fork s c) (allowed (x .level)) _ _ refl refl (fork-does (slots m) s c x w e q)
+      (seen-is _ (set (m .groups) (c % 32) i) (m .objects) after (set (m .needs) (c % 32) v) ∙ ap₂ with-kin rows
+      (alone-kin c i (record { live = 1; level = x .level }) low (is-new (slots m) (subject c) (passed (slots m) (fork s c) e (new (subject c)) (inr (inl refl))) .1) f))
+      (λ k. kept-subject c v (label v) _ low refl (fork-ready (slots m) (figure-of (m .needs)) w k s c (label v) (o (beside m) (m .subjects) (m .objects) (g .objects) low-s w k) e)))
     where
       low : c < 32
       low = new-row (slots m) (fork s c) e c (inr (inl refl))
@@ -457,11 +543,50 @@ module _ (m : Monitor) (g : Long m) where
       low-s : s < 32
       low-s = row-low (slots m) (fork s c) e s (inl refl)
 
-      same : c % 32 ≡ c
-      same = omega (arith, low)
+      same-c : c % 32 ≡ c
+      same-c = omega (arith, low)
 
       same-s : s % 32 ≡ s
       same-s = omega (arith, low-s)
+
+      rows : tables-of (beside m) (set (m .subjects) (c % 32) (record { live = 1; level = x .level })) (m .objects) after
+          ≡ with-hand (with-at (slots m) (put (slots m .at) (subject c) (some (entry running (label (x .level)))))) (row (slots m .hand) c (slots m .hand s))
+      rows = a (beside m) _ _ ∙ ap₂ (λ (u : Tables) (f : ℕ → ℕ → Option Held). with-hand u f) (put-subject c (record { live = 1; level = x .level }) low)
+          (ap₂ (λ (i : ℕ) (f : ℕ → Option Held). row (hands (m .handles)) i f) same-c (ap (hands (m .handles)) same-s))
+
+  -- a new member has the byte and the need of the one that it joins
+  pub threads : (s c : ℕ) (x : Subject) (ss : List Subject) (gs : List ℕ) (b v : ℕ) (ns : List ℕ) → Wf (slots m) → refusal (slots m) (thread s c) ≡ none
+      → slots m .at (subject s) ≡ subject-entry x → ss ≡ set (m .subjects) (c % 32) (record { live = 1; level = x .level })
+      → b ≡ getD (m .groups) (s % 32) 0 → gs ≡ set (m .groups) (c % 32) b → v ≡ getD (m .needs) (s % 32) 0 → ns ≡ set (m .needs) (c % 32) v
+      → Acts m (thread s c) (allowed (x .level)) (grouped m ss gs (m .objects) (m .handles) ns)
+  threads s c x ss gs b v ns w e q n i d j r = rw (n, d, r) (acts m (thread s c) (allowed (x .level)) _ _ refl refl (thread-does (slots m) s c x e q)
+      (seen-is _ (set (m .groups) (c % 32) b) (m .objects) (m .handles) (set (m .needs) (c % 32) v) ∙ ap₂ with-kin (put-subject c (record { live = 1; level = x .level }) low) joined-kin)
+      (λ k. kept-subject c v _ _ low (ap label j ∙ own-figure s low-s) (thread-ready (slots m) (figure-of (m .needs)) w k s c e)))
+    where
+      free : slots m .at (subject c) ≡ none
+      free = is-new (slots m) (subject c) (passed (slots m) (thread s c) e (new (subject c)) (inr (inl refl))) .1
+
+      low : c < 32
+      low = new-row (slots m) (thread s c) e c (inr (inl refl))
+
+      low-s : s < 32
+      low-s = row-low (slots m) (thread s c) e s (inl refl)
+
+      same-c : c % 32 ≡ c
+      same-c = omega (arith, low)
+
+      same-s : s % 32 ≡ s
+      same-s = omega (arith, low-s)
+
+      apart-now : s % 32 ≡ c % 32 → ⊥
+      apart-now z = subst (λ (o : Option Entry). T (is-some o)) (ap (λ (i : ℕ). slots m .at (subject i)) (sym same-s ∙ z ∙ same-c) ∙ free)
+          (subst T (used-is (slots m) (subject s)) (live-of (slots m) (subject s) (low-row-live (slots m) (thread s c) e s (inl refl)) .1))
+
+      joined-kin : kin-of (set (m .subjects) (c % 32) (record { live = 1; level = x .level })) (set (m .groups) (c % 32) b) ≡ bound c s (slots m .kin)
+      joined-kin = ap (λ (i : ℕ). kin-of (set (m .subjects) (c % 32) (record { live = 1; level = x .level })) (set (m .groups) (c % 32) i)) i
+          ∙ kin-joined (m .subjects) (m .groups) (c % 32) (record { live = 1; level = x .level }) (g .subjects) (g .groups) (omega arith) (s % 32) apart-now
+          (not-standing c low free) (standing s low-s (low-row-live (slots m) (thread s c) e s (inl refl))) tt
+          ∙ ap₂ (λ (a b : ℕ). bound a b (kin-of (m .subjects) (m .groups))) same-c same-s ∙ ap (bound c s) (sym own-kin)
 
   -- ── open ──
   module _ (b : Bool) (s o p : ℕ) (x : Object) (h : Handle) (next : List Handle) (ns : List ℕ) (r : Bool) (w : Wf (slots m))
@@ -510,7 +635,7 @@ module _ (m : Monitor) (g : Long m) where
     -- what the code works out
     out : (m .sure ≡ 1 → Ready (slots m) (figure-of (m .needs))) → Ready (tables-of (beside m) (m .subjects) (m .objects) next) (figure-of ns)
         × ((eqb (m .sure) 1 ≡ true → Safe (slots m)) → r ≡ not (safe (tables-of (beside m) (m .subjects) (m .objects) next)))
-    out k = f (beside m) (slots m) p w (subst (Ends (slots m) s p) (sym joins-is) its-ends)
+    out k = f (beside m) (slots m) p refl w (subst (Ends (slots m) s p) (sym joins-is) its-ends)
         (is-vacant (slots m) s p (early-passed (slots m) (opens (direction b) s o p) z (vacant s p) (inr (inr (inl refl))) tt))
         (placed ∙ ap (λ (j : Held). with-hand (slots m) (place (slots m .hand) s p (some j))) (sym joins-is)) (λ q. k (eqb→eq (m .sure) 1 (subst T (sym q) tt)))
 
@@ -566,7 +691,7 @@ module _ (m : Monitor) (g : Long m) where
     -- what the code works out
     map-out : (m .sure ≡ 1 → Ready (slots m) (figure-of (m .needs))) → Ready (tables-of (beside m) (m .subjects) (m .objects) next) (figure-of ns)
         × ((eqb (m .sure) 1 ≡ true → Safe (slots m)) → r ≡ not (safe (tables-of (beside m) (m .subjects) (m .objects) next)))
-    map-out k = f (beside m) (slots m) p w (subst (Ends (slots m) s p) (sym map-joins) map-ends) map-vacant
+    map-out k = f (beside m) (slots m) p refl w (subst (Ends (slots m) s p) (sym map-joins) map-ends) map-vacant
         (map-placed ∙ ap (λ (j : Held). with-hand (slots m) (place (slots m .hand) s p (some j))) (sym map-joins)) (λ q. k (eqb→eq (m .sure) 1 (subst T (sym q) tt)))
 
     pub map-late : Says m → Late (slots m) (maps s o p) r false false
@@ -576,51 +701,70 @@ module _ (m : Monitor) (g : Long m) where
       fifteen = refl;
     }
 
-    -- the tables with the mapping and the subject that fell
-    map-stored : (v : Subject) → slots (monitor m (set (m .subjects) (s % 32) v) (m .objects) (set (m .handles) (s % 32 * 16 + p % 16) (joining 3 o)) ns)
-        ≡ with-hand (with-at (slots m) (put (slots m .at) (subject s) (subject-entry v))) (place (slots m .hand) s p (some (mapping o)))
-    map-stored v = store-handle (beside m) (set (m .subjects) (s % 32) v) (m .objects) (m .handles) s p (joining 3 o) (g .handles) map-low-s map-low-p
-        ∙ ap (λ (u : Tables). with-hand u (place (u .hand) s p (held (joining 3 o)))) (put-subject s v ns map-low-s)
-        ∙ ap (λ (n : ℕ). with-hand (with-at (slots m) (put (slots m .at) (subject s) (subject-entry v))) (place (slots m .hand) s p (some (mapping n)))) same-o
+    -- the tables with the mapping and the group that fell
+    fallen-now : (ss : List Subject) (b : Bool) → Takes s (x .level) ss b
+        → tables-of (beside m) ss (m .objects) (m .handles) ≡ with-at (slots m) (sink (slots m) (subject s) (slots m .at (object o)))
+    fallen-now ss b n = n .0 (beside m) (m .objects) (m .handles) (entry _ (label (x .level))) map-low-s refl refl
+        ∙ ap (λ (d : Option Entry). with-at (slots m) (sink (slots m) (subject s) d)) (sym (full-object (slots m) o x k map-there))
+
+    map-stored : (ss : List Subject) (b : Bool) → Takes s (x .level) ss b → tables-of (beside m) ss (m .objects) (set (m .handles) (s % 32 * 16 + p % 16) (joining 3 o))
+        ≡ with-hand (with-at (slots m) (sink (slots m) (subject s) (slots m .at (object o)))) (place (slots m .hand) s p (some (mapping o)))
+    map-stored ss b n = store-handle (beside m) ss (m .objects) (m .handles) s p (joining 3 o) (g .handles) map-low-s map-low-p
+        ∙ ap (λ (u : Tables). with-hand u (place (u .hand) s p (held (joining 3 o)))) (fallen-now ss b n)
+        ∙ ap (λ (n : ℕ). with-hand (with-at (slots m) (sink (slots m) (subject s) (slots m .at (object o)))) (place (slots m .hand) s p (some (mapping n)))) same-o
+
+    -- the groups stay
+    map-seen : (ss : List Subject) (b : Bool) (n : Takes s (x .level) ss b) → with-kin (tables-of (beside m) ss (m .objects) (set (m .handles) (s % 32 * 16 + p % 16) (joining 3 o)))
+        (kin-of ss (m .groups)) ≡ with-hand (with-at (slots m) (sink (slots m) (subject s) (slots m .at (object o)))) (place (slots m .hand) s p (some (mapping o)))
+    map-seen ss b n = ap₂ with-kin (map-stored ss b n) (same-kin ss (n .1 .1))
+
+    -- which levels are smaller is seen without the handle
+    map-lower : (ss : List Subject) (b : Bool) (n : Takes s (x .level) ss b)
+        → lowers (slots m) (with-hand (with-at (slots m) (sink (slots m) (subject s) (slots m .at (object o)))) (place (slots m .hand) s p (some (mapping o)))) ≡ b
+    unfolding lowers
+    map-lower ss b n = ap (lowers (slots m)) (sym (fallen-now ss b n)) ∙ n .1 .0 (beside m) (m .objects) (m .handles)
 
     map-ready-now : Ready (slots m) (figure-of (m .needs)) → Ready (apply (hold s p (some (handle reading o))) (slots m)) (figure-of ns)
     map-ready-now k = subst (λ (t : Tables). Ready t (figure-of ns)) map-placed (map-out (λ q. k) .0)
 
-    pub maps-acts : (y v : Subject) (ss : List Subject) (hs : List Handle) (b : Told) → slots m .at (subject s) ≡ subject-entry y
-        → refusal (slots m) (maps s o p) ≡ none → v ≡ fallen-by y (x .level) → ss ≡ set (m .subjects) (s % 32) v
-        → hs ≡ set (m .handles) (s % 32 * 16 + p % 16) (joining 3 o) → b ≡ outcome (ltb (v .level) (y .level)) (v .level)
-        → Acts m (maps s o p) b (monitor m ss (m .objects) hs ns)
-    maps-acts y v ss hs b q e d i j h = rw (i, j) (acts m (maps s o p) b _ _ refl refl (subst₂ (λ (c : Told) (z : Subject). Does (slots m) (maps s o p) c
-        (with-hand (with-at (slots m) (put (slots m .at) (subject s) (subject-entry z))) (place (slots m .hand) s p (some (mapping o)))))
-        (sym (h ∙ ap (λ (z : Subject). outcome (ltb (z .level) (y .level)) (z .level)) d)) (sym d) (map-does (slots m) s o p y x e q k))
-        (map-stored v) (λ k. map-ready (slots m) s o p (figure-of ns) w e (map-ready-now k)))
+    pub maps-acts : (y v : Subject) (ss : List Subject) (hs : List Handle) (c : Bool) (b : Told) → slots m .at (subject s) ≡ subject-entry y
+        → refusal (slots m) (maps s o p) ≡ none → v ≡ fallen-by y (x .level) → Takes s (x .level) ss c
+        → hs ≡ set (m .handles) (s % 32 * 16 + p % 16) (joining 3 o) → b ≡ outcome c (v .level) → Acts m (maps s o p) b (monitor m ss (m .objects) hs ns)
+    maps-acts y v ss hs c b q e d n j h = rw j (acts m (maps s o p) b _ _ refl refl
+        (subst (λ (a : Told). Does (slots m) (maps s o p) a u) (sym (h ∙ ap (λ (z : Subject). outcome c (z .level)) d))
+        (map-does (slots m) w s o p y x u c e q k refl (map-lower ss c n)))
+        (seen-is ss (m .groups) (m .objects) (set (m .handles) (s % 32 * 16 + p % 16) (joining 3 o)) ns ∙ map-seen ss c n)
+        (λ k. map-ready (slots m) s o p (figure-of ns) w e (map-ready-now k)))
+      where
+        u : Tables
+        u = with-hand (with-at (slots m) (sink (slots m) (subject s) (slots m .at (object o)))) (place (slots m .hand) s p (some (mapping o)))
 
-    pub maps-keeps : (y v : Subject) (ss : List Subject) (hs : List Handle) → slots m .at (subject s) ≡ subject-entry y → v ≡ fallen-by y (x .level)
-        → ss ≡ set (m .subjects) (s % 32) v → hs ≡ set (m .handles) (s % 32 * 16 + p % 16) (joining 3 o) → Keeps m (maps s o p) (monitor m ss (m .objects) hs ns)
-    maps-keeps y v ss hs q d i j = rw (i, j) (record {
-      whole = subst Wf (sym now) (wf-enter (apply (hold s p (some (mapping o))) (slots m)) (subject s) e outside (lt→ltb s 32 map-low-s) (wf-hold (slots m) s p (mapping o) w
+    pub maps-keeps : (ss : List Subject) (hs : List Handle) (c : Bool) → Takes s (x .level) ss c → hs ≡ set (m .handles) (s % 32 * 16 + p % 16) (joining 3 o)
+        → Keeps m (maps s o p) (monitor m ss (m .objects) hs ns)
+    unfolding tables-of
+    maps-keeps ss hs c n j = rw j (record {
+      whole = subst Wf (sym now) (wf-mix u reads-file (subject s) (object o) (subject s) (object o) (wf-hold (slots m) s p (mapping o) w
           (record { from = map-lives; to = map-there; place = map-low-p })));
-      kept = λ k. subst (λ (t : Tables). Ready t (figure-of ns)) (sym now) (mapping-ready (slots m) s o p e (figure-of ns) w map-lives map-low-p map-vacant (map-ready-now k));
+      kept = λ k. subst (λ (t : Tables). Ready t (figure-of ns)) (sym now) (mapping-ready (slots m) s o p (subject s) (figure-of ns) w map-lives map-low-p map-vacant (map-ready-now k));
       says = refl;
       numbered = refl;
       came = λ i u. inl u;
     })
       where
-        e : Entry
-        e = entry running (label (v .level))
+        u : Tables
+        u = apply (hold s p (some (mapping o))) (slots m)
 
-        lives-now : T (is-some (subject-entry y))
-        lives-now = subst (λ (o : Option Entry). T (is-some o)) q (subst T (used-is (slots m) (subject s)) (live-of (slots m) (subject s) map-lives .1))
-
-        now : slots (monitor m (set (m .subjects) (s % 32) v) (m .objects) (set (m .handles) (s % 32 * 16 + p % 16) (joining 3 o)) ns)
-            ≡ apply (enter (subject s) e outside) (apply (hold s p (some (mapping o))) (slots m))
-        now = map-stored v ∙ ap (λ (a : Option Entry). with-hand (with-at (slots m) (put (slots m .at) (subject s) a)) (place (slots m .hand) s p (some (mapping o))))
-            (ap subject-entry d ∙ fallen-lives y (x .level) lives-now ∙ ap (λ (a : Subject). some (entry running (label (a .level)))) (sym d))
+        now : slots (monitor m ss (m .objects) (set (m .handles) (s % 32 * 16 + p % 16) (joining 3 o)) ns)
+            ≡ apply (mix reads-file (subject s) (object o) (subject s) (object o)) u
+        now = map-seen ss c n ∙ ap (λ (a : Thing → Option Entry). with-hand (with-at (slots m) a) (place (slots m .hand) s p (some (mapping o))))
+            (fun-ext (λ v. ap (λ (b : Bool). cond b (fall v (slots m .at v) (slots m .at (object o))) (slots m .at v)) (whole-by (slots m) u refl (subject s) v)))
 
   -- ── exec ──
-  module _ (s o : ℕ) (y : Object) (after : List Handle) (ns : List ℕ) (w : Wf (slots m)) (z : Refuses (slots m) (exec s o) 0)
-      (q : slots m .at (object o) ≡ object-entry y) (a : Rowed (m .handles) (s % 32) (λ p. lasting (hands (m .handles) (s % 32) p)) after)
-      (f : Works (m .objects) after ns) where
+  module _ (s o : ℕ) (y : Object) (own-ss : List Subject) (after : List Handle) (ns : List ℕ) (w : Wf (slots m)) (z : Refuses (slots m) (exec s o) 0)
+      (q : slots m .at (object o) ≡ object-entry y)
+      (a : (rest : Tables) (os : List Object) → s < 32 → rest .kin ≡ kin-of (m .subjects) (m .groups)
+      → tables-of (with-kin rest (kin-of own-ss (m .groups))) own-ss os after ≡ applies (sheds (tables-of rest (m .subjects) os (m .handles)) s) (tables-of rest (m .subjects) os (m .handles)))
+      (f : Works own-ss (m .groups) (m .objects) after ns) where
     exec-lives : T (live (slots m) (subject s))
     exec-lives = is-alive (slots m) s (early-passed (slots m) (exec s o) z (alive s) (inl refl) tt)
 
@@ -633,21 +777,18 @@ module _ (m : Monitor) (g : Long m) where
     same-row : s % 32 ≡ s
     same-row = omega (arith, low-run)
 
-    -- the handles are those that are left once s has dropped what it drops
-    shed : (ss : List Subject) → tables-of (beside m) ss (m .objects) after ≡ with-hand (tables-of (beside m) ss (m .objects) (m .handles))
-        (row (hands (m .handles)) s (λ p. lasting (hands (m .handles) s p)))
-    shed ss = a (beside m) ss (m .objects) ∙ ap (λ (i : ℕ). with-hand (tables-of (beside m) ss (m .objects) (m .handles))
-        (row (hands (m .handles)) i (λ p. lasting (hands (m .handles) i p)))) same-row
+    abbrev beside-own : Tables
+    beside-own = with-kin (beside m) (kin-of own-ss (m .groups))
 
-    sheds-now : tables-of (beside m) (m .subjects) (m .objects) after ≡ applies (sheds (slots m) s) (slots m)
-    unfolding sheds tables-of
-    sheds-now = shed (m .subjects)
+    -- the tables are those that are left once s has dropped what it drops
+    sheds-now : tables-of beside-own own-ss (m .objects) after ≡ applies (sheds (slots m) s) (slots m)
+    sheds-now = a (beside m) (m .objects) low-run refl
 
-    shed-wf : Wf (tables-of (beside m) (m .subjects) (m .objects) after)
+    shed-wf : Wf (tables-of beside-own own-ss (m .objects) after)
     shed-wf = subst Wf (sym sheds-now) (less-wf (sheds-less (slots m) s) w)
 
-    needed-now : Needed (tables-of (beside m) (m .subjects) (m .objects) after) ns
-    needed-now = f (beside m) (m .subjects) shed-wf
+    needed-now : Needed (tables-of beside-own own-ss (m .objects) after) ns
+    needed-now = f beside-own refl shed-wf
 
     pub exec-late : (v : ℕ) → v ≡ getD ns (s % 32) 0 → Late (slots m) (exec s o) (ltb (y .level) v) false false
     exec-late v e = record { nine = alone unfit; ten = refl; fifteen = refl }
@@ -655,30 +796,60 @@ module _ (m : Monitor) (g : Long m) where
         u : Tables
         u = applies (sheds (slots m) s) (slots m)
 
-        own-need : label v ≡ needs u (cell (slots m) s)
-        own-need = ap label e ∙ ap (λ (i : ℕ). label (getD ns i 0)) same-row ∙ needed-now .need-is (subject s) (lt→ltb s 32 low-run)
+        its-need : label v ≡ needs u (cell (slots m) s)
+        its-need = ap label e ∙ ap (λ (i : ℕ). label (getD ns i 0)) same-row ∙ needed-now .need-is (subject s) (lt→ltb s 32 low-run)
             ∙ ap₂ needs sheds-now (sym (cell-self (slots m) s))
 
         own-level : label-of (slots m .at (object o)) ≡ label (y .level)
         own-level = ap label-of (full-object (slots m) o y q exec-there)
 
         unfit : broken (slots m) (suits s o) ≡ ltb (y .level) v
-        unfit = sym (below-test v (y .level) ∙ ap₂ (λ (a b : Label). not (leq a b)) own-need (sym own-level))
+        unfit = sym (below-test v (y .level) ∙ ap₂ (λ (a b : Label). not (leq a b)) its-need (sym own-level))
 
-    pub execs : (x v : Subject) (ss : List Subject) (left : List Object) (b : Told) → slots m .at (subject s) ≡ subject-entry x
-        → refusal (slots m) (exec s o) ≡ none → v ≡ fallen-by x (y .level) → ss ≡ set (m .subjects) (s % 32) v
+    pub execs : (x v : Subject) (ss : List Subject) (left : List Object) (b : Told) → length own-ss ≡ 32 → getD own-ss (s % 32) no-subject ≡ getD (m .subjects) (s % 32) no-subject
+        → slots m .at (subject s) ≡ subject-entry x → refusal (slots m) (exec s o) ≡ none → v ≡ fallen-by x (y .level) → ss ≡ set own-ss (s % 32) v
         → b ≡ outcome (ltb (v .level) (x .level)) (v .level) → Reaps (m .objects) (m .handles) after left
         → Acts m (exec s o) b (monitor m ss left after ns)
     unfolding tables-of
-    execs x v ss left b r e d n h c = rw n (acts m (exec s o) b _ _ refl refl (subst₂ (λ (c : Told) (z : Subject). Does (slots m) (exec s o) c (reap (handles (slots m))
-        (with-hand (with-at (slots m) (put (slots m .at) (subject s) (subject-entry z))) dropped)))
-        (sym (h ∙ ap (λ (z : Subject). outcome (ltb (z .level) (x .level)) (z .level)) d)) (sym d) (exec-does (slots m) s o x y e r q))
-        (c (beside m) _ (slots m) (all-handles m) ∙ ap (reap (handles (slots m))) (shed (set (m .subjects) (s % 32) v)
-        ∙ ap (λ (u : Tables). with-hand u dropped) (put-subject s v ns low-run)))
-        (λ k. exec-ready (slots m) s o (figure-of ns) (λ x h. needed-now .need-is x h ∙ ap (λ (t : Tables). needs t x) sheds-now)))
+    execs x v ss left b lo i r e d n h c = acts m (exec s o) b _ _ refl refl (subst₂ (λ (c : Told) (z : Subject). Does (slots m) (exec s o) c (reap (handles (slots m))
+        (with-at u (put (u .at) (subject s) (subject-entry z)))))
+        (sym (h ∙ ap (λ (z : Subject). outcome (ltb (z .level) (x .level)) (z .level)) d)) (sym d) (exec-does (slots m) w s o x y e r q))
+        (seen-is ss (m .groups) left after ns ∙ ap (λ (t : Tables). with-kin t (kin-of ss (m .groups))) (c (beside m) ss (slots m) (all-handles m))
+        ∙ reap-kin (handles (slots m)) (tables-of (beside m) ss (m .objects) after) (kin-of ss (m .groups)) ∙ ap (reap (handles (slots m))) ran-now)
+        (λ k. exec-ready (slots m) s o (figure-of ns) (λ x h. needed-now .need-is x h ∙ ap (λ (t : Tables). needs t x) sheds-now))
       where
-        dropped : ℕ → ℕ → Option Held
-        dropped = row (hands (m .handles)) s (λ p. lasting (hands (m .handles) s p))
+        u : Tables
+        u = applies (sheds (slots m) s) (slots m)
+
+        -- s is as live as it was
+        stays : (b : Bool) → not (eqb (cond b (record { live = x .live; level = y .level }) x .live) 0) ≡ not (eqb (x .live) 0)
+        stays true = refl
+        stays false = refl
+
+        lives-still : (j : ℕ) → stands ss j ≡ stands own-ss j
+        lives-still j = ap (λ (l : List Subject). stands l j) n ∙ elim (ℕ-discrete j (s % 32)) [
+          | yes k ↦ ap (λ (y : Subject). not (eqb (y .live) 0)) (ap (λ (t : ℕ). getD (set own-ss (s % 32) v) t no-subject) k
+              ∙ getD-set-same own-ss (s % 32) v no-subject (omega arith)) ∙ ap (λ (y : Subject). not (eqb (y .live) 0)) d ∙ stays (ltb (y .level) (x .level))
+              ∙ own-live ∙ ap (stands own-ss) (sym k)
+          | no k ↦ ap (λ (y : Subject). not (eqb (y .live) 0)) (getD-set-other own-ss (s % 32) j v no-subject k)
+        ]
+          where
+            own-live : not (eqb (x .live) 0) ≡ stands own-ss (s % 32)
+            own-live = sym (some-stands x) ∙ ap is-some (sym r ∙ subject-there (beside m) (m .subjects) (m .objects) (m .handles) s (g .subjects)
+                ∙ ap subject-entry (ap (λ (b : Bool). cond b (getD (m .subjects) (s % 32) no-subject) no-subject) (lt-ltb s 32 low-run) ∙ sym i))
+                ∙ some-stands (getD own-ss (s % 32) no-subject)
+              where
+                some-stands : (x : Subject) → is-some (subject-entry x) ≡ not (eqb (x .live) 0)
+                some-stands x = go (eqb (x .live) 0)
+                  where
+                    go : (b : Bool) → is-some (cond b none (some (entry running (label (x .level))))) ≡ not b
+                    go true = refl
+                    go false = refl
+
+        ran-now : with-kin (tables-of (beside m) ss (m .objects) after) (kin-of ss (m .groups)) ≡ with-at u (put (u .at) (subject s) (subject-entry v))
+        ran-now = ap₂ with-kin (ap (λ (l : List Subject). tables-of (beside m) l (m .objects) after) n
+            ∙ store-subject (beside m) own-ss (m .objects) after s v lo low-run) (kin-live own-ss ss (m .groups) lives-still)
+            ∙ ap (λ (t : Tables). with-at t (put (t .at) (subject s) (subject-entry v))) sheds-now
 
   -- ── mark ──
   pub marks : (s p : ℕ) (x : Subject) (h : Handle) (hs : List Handle) → Wf (slots m) → refusal (slots m) (mark s p) ≡ none
@@ -716,7 +887,7 @@ module _ (m : Monitor) (g : Long m) where
 
   -- ── freeze ──
   pub freezes : (n : ℕ) → Wf (slots m) → refusal (slots m) (freeze n) ≡ none → Acts m (freeze n) (allowed (n % 256))
-      (record { subjects = m .subjects; objects = m .objects; handles = m .handles; freeze = n % 256; needs = m .needs; sure = m .sure; numbers = m .numbers })
+      (record { subjects = m .subjects; objects = m .objects; handles = m .handles; freeze = n % 256; needs = m .needs; groups = m .groups; sure = m .sure; numbers = m .numbers })
   unfolding tables-of
   freezes n w e = rw low (acts m (freeze n) (allowed n) _ _ refl refl (freeze-does (slots m) n e) refl (λ k. freeze-ready (slots m) (figure-of (m .needs)) w k n))
     where

@@ -207,7 +207,7 @@ module _ (m : Monitor) (lo : length (m .objects) ≡ 64) (w : Wf (clean (slots (
     (q : tables-of (beside (once m)) (m .subjects) (single (m .objects) (m .numbers)) hs ≡ clean (slots (once m))) (r : Ready (clean (slots (once m))) (figure-of ns))
     (tested : short ≡ not (safe (clean (slots (once m))))) (e : k ≡ cond short 0 1) where
   abbrev n : Monitor
-  n = record { subjects = m .subjects; objects = single (m .objects) (m .numbers); handles = hs; freeze = m .freeze; needs = ns; sure = k; numbers = m .numbers }
+  n = record { subjects = m .subjects; objects = single (m .objects) (m .numbers); handles = hs; freeze = m .freeze; needs = ns; groups = m .groups; sure = k; numbers = m .numbers }
 
   t : Tables
   t = clean (slots (once m))

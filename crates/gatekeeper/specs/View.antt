@@ -1,4 +1,4 @@
--- The monitor seen as the tables of the rules, and the needs that it keeps beside them. States RULES T13, T15, T33, T39 to T41, T44, F10 to F12, F15, F16,
+-- The monitor seen as the tables of the rules, and the needs that it keeps beside them. States RULES T13, T15, T33, T39 to T41, T44, T47, F10 to F12, F15, F16,
 -- F19 to F21 and C106. A reader goes by `view`, which reads the numbers off the struct; `slots` is what the methods go by. Assumes nothing.
 use mathlib.Core.Path.{_≡_}
 use mathlib.Core.Bool.{cond}
@@ -10,7 +10,7 @@ use Rattle.model.specs.Lists.{each, keep, inserts}
 use Rattle.model.specs.Tables.Numbers.{by-number, Distinct}
 use Rattle.tables.specs.declared.Object.{Object}
 use Rattle.model.specs.Flow.{subject}
-use Rattle.model.specs.Tables.{Tables, empty, with-freeze, live, clean, safe, with-numbers}
+use Rattle.model.specs.Tables.{Tables, empty, with-freeze, with-kin, live, clean, safe, with-numbers}
 use Rattle.model.specs.Calls.{Raw}
 use Rattle.model.specs.Invariant.{Wf, Safe}
 use Rattle.model.specs.Figures.{Ready}
@@ -18,6 +18,7 @@ use Rattle.model.specs.Promise.{Kind}
 use Rattle.tables.specs.Records.{tables-of}
 use Rattle.tables.specs.Slots.{slot-used, Absent, Here, single}
 use Rattle.tables.specs.Needs.{node, figure-of}
+use Rattle.groups.specs.Groups.{kin-of}
 use Rattle.gatekeeper.specs.declared.Monitor.{Monitor}
 pub mod Laws
 
@@ -26,9 +27,9 @@ pub mod Laws
 abbrev pub used-slots : List Object → List ℕ
 used-slots os = each (length os) (λ i. keep (slot-used os i) i [])
 
--- RULES T13: what the tables by slot have that is in no array: the freeze, and the slots in use as their list
+-- RULES T13, T47: what the tables by slot have beside the three arrays: the freeze, the slots in use as their list, and the groups
 abbrev pub beside : Monitor → Tables
-beside m = with-numbers (with-freeze empty (m .freeze)) (used-slots (m .objects))
+beside m = with-kin (with-numbers (with-freeze empty (m .freeze)) (used-slots (m .objects))) (kin-of (m .subjects) (m .groups))
 
 -- RULES T13, T33: the three arrays and the freeze, each byte as it is: the tables by slot
 abbrev pub slots : Monitor → Tables
@@ -48,7 +49,7 @@ straight-view m = by-number (slot-used (m .objects)) (called m) (clean (slots m)
 
 -- RULES T41: of slots in use that have one number the first counts, and any other is free
 abbrev pub once : Monitor → Monitor
-once m = record { subjects = m .subjects; objects = single (m .objects) (m .numbers); handles = m .handles; freeze = m .freeze; needs = m .needs; sure = m .sure; numbers = m .numbers }
+once m = record { subjects = m .subjects; objects = single (m .objects) (m .numbers); handles = m .handles; freeze = m .freeze; needs = m .needs; groups = m .groups; sure = m .sure; numbers = m .numbers }
 
 -- RULES T13, T41: the tables of a monitor
 abbrev pub view : Monitor → Tables
@@ -95,13 +96,13 @@ Kept-at m o r = ((i : ℕ) × Here (single (m .objects) (m .numbers)) (m .number
 
 -- RULES F15: n is m with its kept needs put right
 pub record Righted (m n : Monitor) : Type 0 where
-  pub same : n ≡ record { subjects = m .subjects; objects = m .objects; handles = m .handles; freeze = m .freeze; needs = n .needs; sure = m .sure; numbers = m .numbers }
+  pub same : n ≡ record { subjects = m .subjects; objects = m .objects; handles = m .handles; freeze = m .freeze; needs = n .needs; groups = m .groups; sure = m .sure; numbers = m .numbers }
   pub right : Right n
 
 -- RULES F21: n is m with each place emptied that counts as empty and its kept needs put right. It says that it is sure exactly where it has earned that: where no
 -- level is below its need. What stands beside an empty place, and which of the bytes that mean the same a handle has, is free (RULES T23)
 pub record Assured (m n : Monitor) : Type 0 where
-  pub same : n ≡ record { subjects = m .subjects; objects = single (m .objects) (m .numbers); handles = n .handles; freeze = m .freeze; needs = n .needs; sure = n .sure; numbers = m .numbers }
+  pub same : n ≡ record { subjects = m .subjects; objects = single (m .objects) (m .numbers); handles = n .handles; freeze = m .freeze; needs = n .needs; groups = m .groups; sure = n .sure; numbers = m .numbers }
   pub tables : view n ≡ clean (view m)
   pub emptied : Wf (slots n)
   pub right : Right n

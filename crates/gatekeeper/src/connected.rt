@@ -44,7 +44,8 @@ impl Monitor {
         let both = looks::with_object(one, b, pipe_b);
         let joined = handles::with_ends(held, s, p, q, b, a);
         let next = handles::with_ends(joined, u, p, q, a, b);
-        let needs = flows::figures(both, next);
+        let groups = self.groups;
+        let needs = flows::figures(subjects, groups, both, next);
         let short = flows::is_short(subjects, both, needs);
         let late = refusals::last(short, false, false);
         if late != 0 {

@@ -62,6 +62,7 @@ impl Monitor {
             15 => self.mark(a, b),
             16 => self.freeze(a),
             17 => self.connect(a, b, c, d, e, f),
+            18 => self.thread(a, b),
             _ => self.refuse(1),
         }
     }

@@ -40,7 +40,8 @@ impl Monitor {
         let left = handles::outlived(handles, y, h.object);
         let rest = looks::with_object(objects, number, left);
         let had = self.needs;
-        let needs = keeping::closed(had, objects, handles, s, h);
+        let groups = self.groups;
+        let needs = keeping::closed(had, subjects, groups, objects, handles, s, h);
         self.objects = rest;
         self.handles = handles;
         self.needs = needs;
@@ -50,7 +51,7 @@ impl Monitor {
         }
     }
 
-    // Call 12: all handles closed, number free; pipes end with their last handles.
+    // Call 12: all handles closed, number free; pipes end with their last handles. Its mates stay.
     pub(crate) fn exit(mut self, s: u64) -> Reply
         ensures { λ r. ⌜ (Wf (slots self) → Acts self (exit s) (told (r .answer)) (r .monitor)) ⌝ }
     {
@@ -64,10 +65,11 @@ impl Monitor {
         let before = self.handles;
         let after = handles::vacated(before, s);
         let left = handles::reaped(objects, before, after);
-        let had = self.needs;
-        let needs = keeping::vacated(had, objects, after, s);
         let gone = Subject { live: 0, level: 0 };
         let rest = looks::with_subject(subjects, s, gone);
+        let had = self.needs;
+        let groups = self.groups;
+        let needs = keeping::vacated(had, rest, groups, objects, after, s);
         self.subjects = rest;
         self.objects = left;
         self.handles = after;

@@ -61,7 +61,8 @@ impl Monitor {
         let numbers = self.numbers;
         let single = slots::single(objects, numbers);
         let counted = handles::cleaned(subjects, single, handles);
-        let needs = flows::figures(single, counted);
+        let groups = self.groups;
+        let needs = flows::figures(subjects, groups, single, counted);
         self.needs = needs;
         self
     }
@@ -77,7 +78,8 @@ impl Monitor {
         let numbers = self.numbers;
         let single = slots::single(objects, numbers);
         let emptied = handles::cleaned(subjects, single, handles);
-        let needs = flows::figures(single, emptied);
+        let groups = self.groups;
+        let needs = flows::figures(subjects, groups, single, emptied);
         let short = flows::is_short(subjects, single, needs);
         self.objects = single;
         self.handles = emptied;

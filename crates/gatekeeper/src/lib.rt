@@ -31,7 +31,7 @@ mod moved;
 mod seats;
 
 // The tables, and beside them the kept needs, of the subjects and then of the slots. The object in slot i has number i of `numbers`, a handle names a slot, and place p
-// of subject s is handle 16 s + p. A freeze of NO_FREEZE and above says that no file is frozen. `sure` is SURE where this value says of itself that its slots in use
+// of subject s is handle 16 s + p. A freeze of NO_FREEZE and above says that no file is frozen. Two live subjects are in one group where their bytes of `groups` are equal. `sure` is SURE where this value says of itself that its slots in use
 // have numbers that differ, that nothing dangles in it, that its kept needs are right and that no level is below its need, as it is of what calls from the empty
 // tables make, and of what `assured` does: then calls go by the kept needs, and look for no dangling handle. Any other byte says nothing, and calls work out what
 // they go by.
@@ -43,6 +43,7 @@ pub struct Monitor {
     pub handles: [Handle; HANDLES],
     pub freeze: u8,
     pub needs: [u8; THINGS],
+    pub groups: [u8; SUBJECTS],
     pub sure: u8,
 }
 
@@ -90,6 +91,7 @@ impl Monitor {
             handles: handles,
             freeze: NO_FREEZE,
             needs: [0; THINGS],
+            groups: [0; SUBJECTS],
             sure: SURE,
         }
     }

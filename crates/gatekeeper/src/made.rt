@@ -1,5 +1,5 @@
 // Calls that make things, and that place and mark handles, on tables in which nothing dangles.
-ghost use Rattle.model.specs.Calls.{admit, register, create, make-pipe, opens, fork, mark};
+ghost use Rattle.model.specs.Calls.{admit, register, create, make-pipe, opens, fork, thread, mark};
 ghost use Rattle.answers.specs.Telling.{told};
 ghost use Rattle.model.specs.Invariant.{Wf};
 ghost use Rattle.gatekeeper.specs.View.{slots};
@@ -18,7 +18,7 @@ use tables::Subject;
 use tables::looks;
 
 impl Monitor {
-    // Call 1: a new subject from outside, with no handles, and so with no need.
+    // Call 1: a new subject from outside, in a group of its own, with no handles, and so with no need.
     pub(crate) fn admit(mut self, s: u64, level: u64) -> Reply
         ensures { λ r. ⌜ (Wf (slots self) → Acts self (admit s level) (told (r .answer)) (r .monitor)) ⌝ }
     {
@@ -31,9 +31,13 @@ impl Monitor {
         let l = (level % 256) as u8;
         let new = Subject { live: 1, level: l };
         let after = looks::with_subject(before, s, new);
+        let groups = self.groups;
+        let own = groups::fresh(before, groups);
+        let alone = groups::with(groups, s, own);
         let had = self.needs;
         let needs = keeping::with_subject(had, s, 0);
         self.subjects = after;
+        self.groups = alone;
         self.needs = needs;
         Reply {
             monitor: self,
@@ -146,7 +150,8 @@ impl Monitor {
         let next = looks::with_handle(held, s, p, put);
         let had = self.needs;
         let sure = self.sure == SURE;
-        let w = keeping::opened(sure, had, subjects, objects, next, s, put);
+        let groups = self.groups;
+        let w = keeping::opened(sure, had, subjects, groups, objects, next, s, put);
         let frozen = refusals::is_frozen(self.freeze, reads, y);
         let late = refusals::last(w.short, false, frozen);
         if late != 0 {
@@ -161,7 +166,7 @@ impl Monitor {
         }
     }
 
-    // Call 9: new subject c, with s's level and the same handles at the same places. It needs what s needs.
+    // Call 9: new subject c, in a group of its own, with s's level and the same handles at the same places. It needs what s needs by these handles.
     pub(crate) fn fork(mut self, s: u64, c: u64) -> Reply
         ensures { λ r. ⌜ (Wf (slots self) → Acts self (fork s c) (told (r .answer)) (r .monitor)) ⌝ }
     {
@@ -179,10 +184,43 @@ impl Monitor {
         let after = looks::with_subject(before, c, new);
         let held = self.handles;
         let all = handles::forked(held, s, c);
+        let groups = self.groups;
+        let own = groups::fresh(before, groups);
+        let alone = groups::with(groups, c, own);
+        let had = self.needs;
+        let needs = keeping::with_subject(had, c, keeping::own(had, held, s));
+        self.subjects = after;
+        self.handles = all;
+        self.groups = alone;
+        self.needs = needs;
+        Reply {
+            monitor: self,
+            answer: Answer::Allowed(x.level),
+        }
+    }
+
+    // Call 18: new subject c, with no handles, in the group of s. It has the group's level, and needs what s needs.
+    pub(crate) fn thread(mut self, s: u64, c: u64) -> Reply
+        ensures { λ r. ⌜ (Wf (slots self) → Acts self (thread s c) (told (r .answer)) (r .monitor)) ⌝ }
+    {
+        let before = self.subjects;
+        let x = looks::subject_of(before, s);
+        let z = looks::subject_of(before, c);
+        let n = refusals::of_fork(c, x, z);
+        if n != 0 {
+            return self.refuse(n);
+        }
+        let new = Subject {
+            live: 1,
+            level: x.level,
+        };
+        let after = looks::with_subject(before, c, new);
+        let groups = self.groups;
+        let joined = groups::with(groups, c, groups::of(groups, s));
         let had = self.needs;
         let needs = keeping::with_subject(had, c, keeping::of_subject(had, s));
         self.subjects = after;
-        self.handles = all;
+        self.groups = joined;
         self.needs = needs;
         Reply {
             monitor: self,

@@ -13,7 +13,7 @@ use tables::READS;
 use tables::looks;
 
 impl Monitor {
-    // Call 7: s falls to the object's level if that is lower.
+    // Call 7: s and its mates fall to the object's level if that is lower.
     pub(crate) fn read(mut self, s: u64, p: u64) -> Reply
         ensures { λ r. ⌜ (Wf (slots self) → Acts self (access reading s p) (told (r .answer)) (r .monitor)) ⌝ }
     {
@@ -29,16 +29,17 @@ impl Monitor {
         let objects = self.objects;
         let y = looks::object_of(objects, number);
         let put = looks::fallen(x, y.level);
-        let after = looks::with_subject(before, s, put);
+        let groups = self.groups;
+        let t = mappings::taken(before, groups, s, y.level);
+        let after = t.subjects;
         self.subjects = after;
-        let sank = put.level < x.level;
         Reply {
             monitor: self,
-            answer: answers::not_refused(sank, put.level),
+            answer: answers::not_refused(t.lower, put.level),
         }
     }
 
-    // Call 8: a pipe falls to s's level if that is lower; a file keeps its own, and each subject that has it mapped reads it.
+    // Call 8: a pipe falls to s's level if that is lower; a file keeps its own, and each subject that has it mapped reads it, and with it its mates.
     pub(crate) fn write(mut self, s: u64, p: u64) -> Reply
         ensures { λ r. ⌜ (Wf (slots self) → Acts self (access writing s p) (told (r .answer)) (r .monitor)) ⌝ }
     {
@@ -54,7 +55,8 @@ impl Monitor {
         let objects = self.objects;
         let y = looks::object_of(objects, number);
         let put = looks::sunken(y, x.level);
-        let readers = mappings::reread(before, held, y, h.object);
+        let groups = self.groups;
+        let readers = mappings::reread(before, groups, held, y, h.object);
         let sank = put.level < y.level;
         let lower = mappings::is_lower(before, readers);
         let either = looks::either(sank, lower);
@@ -67,7 +69,7 @@ impl Monitor {
         }
     }
 
-    // Call 10: file o is run; s falls to o's level if lower; its marked handles and its mappings are closed, and pipes end with their last
+    // Call 10: file o is run; s falls to o's level if lower; its mates are ended, its marked handles and its mappings are closed, and pipes end with their last
     // handles.
     pub(crate) fn exec(mut self, s: u64, o: u64) -> Reply
         ensures { λ r. ⌜ (Wf (slots self) → Acts self (exec s o) (told (r .answer)) (r .monitor)) ⌝ }
@@ -81,15 +83,18 @@ impl Monitor {
             return self.refuse(n);
         }
         let before = self.handles;
-        let after = handles::shed(before, s);
-        let needs = flows::figures(objects, after);
+        let groups = self.groups;
+        let a = groups::alone(subjects, groups, before, s);
+        let own = a.subjects;
+        let after = a.handles;
+        let needs = flows::figures(own, groups, objects, after);
         let short = y.level < keeping::of_subject(needs, s);
         let late = refusals::last(short, false, false);
         if late != 0 {
             return self.refuse(late);
         }
         let put = looks::fallen(x, y.level);
-        let ran = looks::with_subject(subjects, s, put);
+        let ran = looks::with_subject(own, s, put);
         let left = handles::reaped(objects, before, after);
         self.subjects = ran;
         self.objects = left;
@@ -102,7 +107,7 @@ impl Monitor {
         }
     }
 
-    // Call 14: a mapping, which is tested as an open for reading is, and a read: s falls to o's level if lower.
+    // Call 14: a mapping, which is tested as an open for reading is, and a read: s and its mates fall to o's level if lower.
     pub(crate) fn map(mut self, s: u64, o: u64, p: u64) -> Reply
         ensures acts { λ r. ⌜ (Firm self → Acts self (maps s o p) (told (r .answer)) (r .monitor)) ⌝ }
         ensures keeps { λ r. ⌜ (Wf (slots self) → Keeps self (maps s o p) (r .monitor)) ⌝ }
@@ -121,23 +126,24 @@ impl Monitor {
         let next = looks::with_handle(held, s, p, opened);
         let had = self.needs;
         let sure = self.sure == SURE;
-        let w = keeping::opened(sure, had, subjects, objects, next, s, opened);
+        let groups = self.groups;
+        let w = keeping::opened(sure, had, subjects, groups, objects, next, s, opened);
         let late = refusals::last(w.short, false, false);
         if late != 0 {
             return self.refuse(late);
         }
         let needs = w.needs;
         let put = looks::fallen(x, y.level);
-        let after = looks::with_subject(subjects, s, put);
+        let t = mappings::taken(subjects, groups, s, y.level);
+        let after = t.subjects;
         let mapping = looks::joining(MAPS, o);
         let all = looks::with_handle(held, s, p, mapping);
         self.subjects = after;
         self.handles = all;
         self.needs = needs;
-        let sank = put.level < x.level;
         Reply {
             monitor: self,
-            answer: answers::not_refused(sank, put.level),
+            answer: answers::not_refused(t.lower, put.level),
         }
     }
 }

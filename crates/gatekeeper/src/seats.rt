@@ -206,6 +206,7 @@ pub(crate) fn located(
         15 => names_none(numbers, a, b, c, d),
         16 => names_none(numbers, a, b, c, d),
         17 => makes_both(objects, numbers, a, b, c, d),
+        18 => names_none(numbers, a, b, c, d),
         _ => names_none(numbers, a, b, c, d),
     }
 }

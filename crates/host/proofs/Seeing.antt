@@ -8,23 +8,28 @@ use Prim.Native.Nat.{ℕ, zero, suc, _+_, _*_, _%_, _≤_, _<_}
 use native.Mathlib.Omega.{arith}
 use native.Mathlib.Nat.{mul-suc, mul-le-mul-left}
 use borrow.Author.Tests.{eq-eqb, ne-eqb}
-use lib.Dec.{eqb, ltb}
+use lib.Dec.{T, eqb, ltb, ltb→lt}
 use lib.ListN.{length, take, drop, getD, length-take}
 use lib.Seq.{take-at, drop-at, drop-drop, getD-take, ext-getD}
 use Rattle.model.specs.Label.{label, level}
 use Rattle.model.specs.Label.Laws.{level-label}
+use Rattle.model.specs.Lists.{each, keep, from-on}
+use Rattle.model.specs.Lists.Rising.{each-of, each-has, each-rising, from-on-is}
 use Rattle.model.specs.Flow.{Thing, subject, object}
-use Rattle.model.specs.Tables.{running, file, pipe, reading, writing, Entry, entry, Tables, places, live, counted, clean}
+use Rattle.model.specs.Tables.{running, file, pipe, reading, writing, Entry, entry, Tables, places, in-range, is-some, live, counted, clean}
+use Rattle.model.specs.Tables.Laws.{used-is}
+use Rattle.model.specs.Tables.Laws.{live-of as in-use}
 use Rattle.model.specs.Tables.{Handle as Held}
 use Rattle.model.specs.Invariant.{Wf}
 use Rattle.tables.specs.declared.Subject.{Subject}
 use Rattle.tables.specs.declared.Object.{Object}
 use Rattle.tables.specs.declared.Handle.{Handle}
 use Rattle.model.specs.Tables.Numbers.{holding}
-use Rattle.tables.specs.Records.{subject-entry, object-entry, joins, held, no-subject, no-object, no-handle}
+use Rattle.tables.specs.Records.{subject-entry, object-entry, joins, held, no-subject, no-object, no-handle, tables-of}
 use Rattle.tables.specs.Records.Laws.{subject-there, object-there, handle-there, slot-low}
 use Rattle.tables.specs.Slots.{slot-used, Found, single}
 use Rattle.tables.specs.Working.{subject-at, object-at, handle-at}
+use Rattle.groups.specs.Groups.{kin-of, Leads}
 use Rattle.handles.specs.Working.{kept-of}
 use Rattle.handles.proofs.Cleaning.{counted-held, kept-held}
 use Rattle.gatekeeper.specs.declared.Monitor.{Monitor}
@@ -33,11 +38,11 @@ use Rattle.gatekeeper.proofs.Owned.{Long}
 use Rattle.gatekeeper.proofs.Keeping.{read-wf, dead, alive}
 use Rattle.gatekeeper.proofs.Numbered.{single-long, once-long}
 use Rattle.gatekeeper.proofs.Telling.{view-read, told-subject, told-place, told-entry}
-use Rattle.stored.specs.State.{state-bytes, Sized, subject-width, object-width, handle-width, need-width, number-width, objects-at, handles-at, made-at, gone-at, freeze-at, needs-at, numbers-at}
-use Rattle.stored.specs.State.{records, flat, live-of, sort-of, ways, live-byte, subject-of, object-of, handle-of, need-of, need-record, whole}
-use Rattle.stored.specs.State.{subjects-of, objects-of, handles-of, made-of, gone-of, freeze-of, needs-of, numbers-of, monitor-of, tally-of, need-bytes, state-view, Put-right}
-use Rattle.stored.specs.State.Laws.{length-records, getD-records, length-flat, records-flat, as-they-are}
-use Rattle.host.specs.Numbers.{sized, seen-entry, seen-handle, seen-object}
+use Rattle.stored.specs.State.{state-bytes, Sized, subject-width, object-width, handle-width, byte-width, number-width, objects-at, handles-at, made-at, gone-at, freeze-at, needs-at, numbers-at, groups-at}
+use Rattle.stored.specs.State.{records, live-of, sort-of, ways, live-byte, subject-of, object-of, handle-of, byte-of, whole}
+use Rattle.stored.specs.State.{subjects-of, objects-of, handles-of, made-of, gone-of, freeze-of, needs-of, numbers-of, groups-of, monitor-of, tally-of, need-bytes, state-view, Put-right}
+use Rattle.stored.specs.State.Laws.{length-records, getD-records, bytes-count, bytes-back}
+use Rattle.host.specs.Numbers.{sized, seen-entry, members, seen-group, seen-handle, seen-object}
 use Rattle.host.specs.Working.{way-number}
 use Rattle.stored.specs.Over.{over}
 use Rattle.stored.specs.Over.Laws.{over-length}
@@ -76,8 +81,8 @@ module _ (st : List ℕ) (size : Sized st) where
 
   pub need-read : (i : ℕ) → i < 96 → getD st (1745 + i) 0 ≡ getD (needs-of st) i 0
   unfolding needs-of
-  need-read i h = let e : 1745 + i ≡ needs-at + need-width * i = omega arith in
-      ap (λ (k : ℕ). getD st k 0) e ∙ sym (record-in need-of 0 need-width needs-at 96 i st h (omega arith))
+  need-read i h = let e : 1745 + i ≡ needs-at + byte-width * i = omega arith in
+      ap (λ (k : ℕ). getD st k 0) e ∙ sym (record-in byte-of 0 byte-width needs-at 96 i st h (omega arith))
 
   pub number-read : (i : ℕ) → i < 64 → whole (take 8 (drop (1841 + 8 * i) st)) ≡ getD (numbers-of st) i 0
   unfolding numbers-of
@@ -98,7 +103,11 @@ module _ (st : List ℕ) (size : Sized st) where
 
   long-needs : length (needs-of st) ≡ 96
   unfolding needs-of
-  long-needs = length-records need-of need-width 96 (drop needs-at st)
+  long-needs = length-records byte-of byte-width 96 (drop needs-at st)
+
+  long-groups : length (groups-of st) ≡ 32
+  unfolding groups-of
+  long-groups = length-records byte-of byte-width 32 (drop groups-at st)
 
   abbrev its : Monitor
   its = monitor-of st
@@ -108,7 +117,7 @@ module _ (st : List ℕ) (size : Sized st) where
   counting = single (objects-of st) (numbers-of st)
 
   long-once : Long (once its)
-  long-once = once-long its (record { subjects = long-subjects; objects = long-objects; handles = long-handles; needs = long-needs })
+  long-once = once-long its (record { subjects = long-subjects; objects = long-objects; handles = long-handles; needs = long-needs; groups = long-groups })
 
   pub objects-long : length (objects-of st) ≡ 64
   objects-long = long-objects
@@ -139,6 +148,42 @@ module _ (st : List ℕ) (size : Sized st) where
   lives : (x : Thing) (free : Bool) (e : Entry) → slots (once its) .at x ≡ cond free none (some e) → live (slots (once its)) x ≡ not free
   lives x true e q = dead (once its) state-wf x q
   lives x false e q = alive (once its) state-wf x e q
+
+  -- the lowest number in the group of a live subject
+  kin-told : state-view st .kin ≡ kin-of (subjects-of st) (groups-of st)
+  unfolding straight-view clean tables-of
+  kin-told = refl
+
+  module _ (s : ℕ) (x : Subject) (q : x ≡ subject-at s (getD (subjects-of st) (s % 32) no-subject)) where
+    live-told : live (state-view st) (subject s) ≡ not (eqb (x .live) 0)
+    live-told = ap (λ (b : Bool). in-range (subject s) && b)
+        (used-is (state-view st) (subject s) ∙ ap is-some (told-subject its s) ∙ sym (used-is (slots (once its)) (subject s)))
+        ∙ lives (subject s) (eqb (x .live) 0) (entry running (label (x .level))) (slot-subject s x q)
+
+    pub group-none : x .live ≡ 0 → seen-group (state-view st) s ≡ 0
+    group-none e = ap (λ (b : Bool). cond b (256 + from-on 0 (members (state-view st) s)) 0) (live-told ∙ ap not (eq-eqb (x .live) 0 e))
+
+    pub group-lowest : (ld : List ℕ) → (x .live ≡ 0 → ⊥) → Leads (kin-of (subjects-of st) (groups-of st)) ld → seen-group (state-view st) s ≡ 256 + getD ld (s % 32) 0
+    unfolding members
+    group-lowest ld n l = ap (λ (b : Bool). cond b (256 + from-on 0 (members (state-view st) s)) 0) here
+        ∙ ap (λ (k : ℕ → ℕ → Bool). 256 + from-on 0 (each 32 (λ a. keep (k s a) a []))) kin-told
+        ∙ ap (λ (k : ℕ). 256 + k) (least ∙ ap (λ (i : ℕ). getD ld i 0) same)
+      where
+        here : live (state-view st) (subject s) ≡ true
+        here = live-told ∙ ap not (ne-eqb (x .live) 0 n)
+
+        low : s < 32
+        low = ltb→lt s 32 (in-use (state-view st) (subject s) (subst T (sym here) tt) .0)
+
+        same : s ≡ s % 32
+        same = omega (arith, low)
+
+        of : ℕ → Bool
+        of = kin-of (subjects-of st) (groups-of st) s
+
+        least : from-on 0 (each 32 (λ a. keep (kin-of (subjects-of st) (groups-of st) s a) a [])) ≡ getD ld s 0
+        least = from-on-is 0 (getD ld s 0) (each 32 (λ a. keep (of a) a [])) (each-rising 32 of) (each-has 32 of (getD ld s 0) (l .low s low) (l .member s low)) (omega arith)
+            (λ a h _. let w = each-of 32 of a h in l .lowest s a low (w .0) (w .1))
 
   -- the handle at a place, of a live subject and on a live object
   pub handle-counted : (s p : ℕ) (x : Subject) (h : Handle) (y : Object) → x ≡ subject-at s (getD (subjects-of st) (s % 32) no-subject)
@@ -282,7 +327,7 @@ module _ (k : ℕ) (s : List ℕ) (inside : k ≤ length s) where
 
 -- a monitor with other kept needs
 abbrev with-needs : Monitor → List ℕ → Monitor
-with-needs x ns = record { numbers = x .numbers; subjects = x .subjects; objects = x .objects; handles = x .handles; freeze = x .freeze; needs = ns; sure = x .sure }
+with-needs x ns = record { numbers = x .numbers; subjects = x .subjects; objects = x .objects; handles = x .handles; freeze = x .freeze; needs = ns; groups = x .groups; sure = x .sure }
 
 view-needs : (x : Monitor) (ns : List ℕ) → view (with-needs x ns) ≡ view x
 unfolding straight-view
@@ -314,9 +359,17 @@ module _ (s s′ : List ℕ) (h : Sized s) (h′ : Sized s′) (e : take needs-a
   unfolding numbers-of
   same-numbers = ap (records whole number-width 64) f
 
+  -- what stands behind the numbers is behind the needs too
+  same-groups : groups-of s′ ≡ groups-of s
+  unfolding groups-of
+  same-groups = ap (records byte-of byte-width 32) (further s′ ∙ ap (drop 512) f ∙ sym (further s))
+    where
+      further : (t : List ℕ) → drop groups-at t ≡ drop 512 (drop numbers-at t)
+      further t = sym (drop-drop 512 numbers-at t)
+
   -- but for the needs
   same-monitor : (ns : List ℕ) → with-needs (monitor-of s′) ns ≡ with-needs (monitor-of s) ns
-  same-monitor ns = λ i. record { numbers = same-numbers i; subjects = same-subjects i; objects = same-objects i; handles = same-handles i; freeze = same-freeze i; needs = ns; sure = 0 }
+  same-monitor ns = λ i. record { numbers = same-numbers i; subjects = same-subjects i; objects = same-objects i; handles = same-handles i; freeze = same-freeze i; needs = ns; groups = same-groups i; sure = 0 }
 
   same-view : state-view s′ ≡ state-view s
   same-view = sym (view-needs (monitor-of s′) []) ∙ ap view (same-monitor []) ∙ view-needs (monitor-of s) []
@@ -331,7 +384,7 @@ module _ (s s′ : List ℕ) (h : Sized s) (h′ : Sized s′) (e : take needs-a
 module _ (s ns : List ℕ) (h : Sized s) (long : length ns ≡ 96) where
   count : length (need-bytes ns) ≡ 96
   unfolding need-bytes
-  count = omega (arith, length-flat need-record need-width (λ x. refl) ns)
+  count = bytes-count ns 96 long
 
   kept-size : Sized (over needs-at (need-bytes ns) s)
   kept-size = over-length needs-at (need-bytes ns) s (omega (arith, count)) ∙ h
@@ -349,10 +402,7 @@ module _ (s ns : List ℕ) (h : Sized s) (long : length ns ≡ 96) where
 
   kept-needs : needs-of (over needs-at (need-bytes ns) s) ≡ ns
   unfolding needs-of over need-bytes
-  kept-needs = ap (records need-of need-width 96) (drop-at (take needs-at s) (flat need-record ns ++ drop (needs-at + length (flat need-record ns)) s) needs-at
-      (omega (arith, length-take needs-at s)))
-      ∙ ap (λ (n : ℕ). records need-of need-width n (flat need-record ns ++ drop (needs-at + length (flat need-record ns)) s)) (sym long)
-      ∙ records-flat need-record need-width (λ x. refl) need-of ns _ ∙ as-they-are ns
+  kept-needs = ap (records byte-of byte-width 96) (drop-at (take needs-at s) _ needs-at (omega (arith, length-take needs-at s))) ∙ bytes-back ns 96 _ long
 
 -- the monitor m was loaded from the bytes s, n is m put right, and its kept needs are stored
 pub put-right : (s s′ : List ℕ) (m n : Monitor) → Sized s → m ≡ monitor-of s → Righted m n → length (n .needs) ≡ 96
@@ -360,7 +410,7 @@ pub put-right : (s s′ : List ℕ) (m n : Monitor) → Sized s → m ≡ monito
 put-right s s′ m n h q r l e = subst (Put-right s) (sym e) (record {
   size = size;
   others = front;
-  numbers = behind;
+  behind = behind;
   tables = same-view s t h size front behind;
   tally = same-tally s t h size front behind;
   right = subst Right (r .same ∙ ap (λ (x : Monitor). with-needs x (n .needs)) q ∙ sym (same-monitor s t h size front behind (n .needs))

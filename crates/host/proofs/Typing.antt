@@ -8,14 +8,14 @@ use native.Mathlib.Omega.{arith}
 use lib.Dec.{T}
 use lib.ListN.{drop}
 use Rattle.model.specs.Flow.{Thing, subject, object}
-use Rattle.model.specs.Tables.{Tables, Entry, subjects, objects, places, in-range, clean}
-use Rattle.model.specs.Invariant.{Wf}
-use Rattle.model.specs.Invariant.Laws.{clean-wf}
+use Rattle.model.specs.Tables.{Tables, Entry, subjects, objects, places, in-range, used, clean}
+use Rattle.model.specs.Invariant.{Teams, Wf}
+use Rattle.model.specs.Invariant.Laws.{teams-same, clean-wf}
 use Rattle.model.specs.Calls.{Raw, answers, after}
 use Rattle.model.specs.Tally.{tally}
 use Rattle.model.specs.Promise.Laws.{runs-right}
 use Rattle.gatekeeper.specs.declared.Monitor.{Monitor}
-use Rattle.gatekeeper.specs.View.{slots, once, view, Honest, Tidy, monitors}
+use Rattle.gatekeeper.specs.View.{slots, straight-view, once, view, Honest, Tidy, monitors}
 use Rattle.gatekeeper.specs.View.Laws.{honest-tidy}
 use Rattle.gatekeeper.proofs.Owned.{Long}
 use Rattle.gatekeeper.proofs.Keeping.{read-wf}
@@ -23,7 +23,7 @@ use Rattle.gatekeeper.proofs.Numbered.{once-long}
 use Rattle.gatekeeper.proofs.Telling.{told-subject}
 use Rattle.tally.specs.declared.Tally.{Tally}
 use Rattle.tally.specs.Counting.{counts-of}
-use Rattle.stored.specs.State.{Sized, subject-of, subject-width, object-of, object-width, objects-at, handle-of, handle-width, handles-at, need-of, need-width, needs-at, subjects-of, objects-of, handles-of, needs-of, monitor-of, tally-of, Stands, state-view}
+use Rattle.stored.specs.State.{Sized, subject-of, subject-width, object-of, object-width, objects-at, handle-of, handle-width, handles-at, byte-of, byte-width, needs-at, groups-at, subjects-of, objects-of, handles-of, needs-of, groups-of, monitor-of, tally-of, Stands, state-view}
 use Rattle.stored.specs.State.Laws.{length-records}
 use Rattle.lines.specs.Calls.{calls-of}
 use Rattle.typed.specs.declared.Outcome.{Outcome}
@@ -35,18 +35,24 @@ use Rattle.host.specs.Typing.{read-tables, Leaves, Types}
 -- ── bytes as a monitor ──
 module _ (s : List ℕ) where
   state-long : Long (monitor-of s)
-  unfolding subjects-of objects-of handles-of needs-of
+  unfolding subjects-of objects-of handles-of needs-of groups-of
   state-long = record {
     subjects = length-records subject-of subject-width subjects s;
     objects = length-records object-of object-width objects (drop objects-at s);
     handles = length-records handle-of handle-width (subjects * places) (drop handles-at s);
-    needs = length-records need-of need-width (subjects + objects) (drop needs-at s);
+    needs = length-records byte-of byte-width (subjects + objects) (drop needs-at s);
+    groups = length-records byte-of byte-width subjects (drop groups-at s);
   }
+
+  -- the groups by number are those by slot
+  same-teams : Teams (clean (slots (once (monitor-of s)))) → Teams (state-view s)
+  unfolding straight-view clean used
+  same-teams g = teams-same {t = clean (slots (once (monitor-of s)))} {u = state-view s} refl (λ a h. h) g
 
   -- nothing dangles in the tables as they are read
   state-wf : Wf (read-tables s)
   unfolding clean
-  state-wf = clean-wf (state-view s) ranged
+  state-wf = clean-wf (state-view s) ranged (same-teams (slots-wf .teams))
     where
       slots-wf : Wf (clean (slots (once (monitor-of s))))
       slots-wf = read-wf (once (monitor-of s)) (once-long (monitor-of s) state-long)

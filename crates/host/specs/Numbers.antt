@@ -1,16 +1,18 @@
 -- Answers as one number, since an exported function cannot hand back an enum: of a call, of the record writer and of the number reader.
--- States RULES H11 to H14, H17 to H20, H22 and H27, by RULES G9.
+-- States RULES H11 to H14, H17 to H20, H22, H27 and H31, by RULES G9.
 --
 -- For a wrong length of the lent bytes the rules have no answer: it is 0, which is no answer's number. The laws are in Numbers/Laws. Assumes nothing.
 use mathlib.Core.Path.{_≡_}
 use mathlib.Core.Bool.{cond}
 use mathlib.Core.Option.{Option, none, some}
-use mathlib.Core.List.{List}
+use mathlib.Core.List.{List, []}
 use Prim.Native.Nat.{ℕ, _+_, _*_, _/_, _%_}
 use lib.Dec.{eqb, ltb}
 use lib.ListN.{length}
 use Rattle.model.specs.Label.{level}
-use Rattle.model.specs.Tables.{Kind, running, file, pipe, Dir, reading, writing, Entry, Handle, no-freeze, clean}
+use Rattle.model.specs.Lists.{each, keep, from-on}
+use Rattle.model.specs.Flow.{subject}
+use Rattle.model.specs.Tables.{Kind, running, file, pipe, Dir, reading, writing, Entry, Handle, Tables, no-freeze, subjects, live, clean}
 use Rattle.model.specs.Calls.{Call, Answer, allowed, lowered, answer}
 use Rattle.model.specs.Calls.{refused as no}
 use Rattle.number.specs.Leb.{Reading, good, malformed}
@@ -25,7 +27,7 @@ pub mod Laws
 
 -- RULES H22: the version of the archive, first part, second and third
 abbrev pub version : ℕ
-version = 65536 * 6 + 256 * 1 + 0
+version = 65536 * 7 + 256 * 0 + 0
 
 -- RULES H10, H11: x where the bytes have the length of a state; else y
 abbrev pub sized : {A : Type 0} → List ℕ → A → A → A
@@ -81,6 +83,14 @@ kind-number pipe = 2
 abbrev pub seen-entry : Option Entry → ℕ
 seen-entry none = 0
 seen-entry (some e) = 256 * kind-number (e .kind) + level (e .label)
+
+-- RULES H31: the numbers in the group of subject s, rising
+unfoldable pub members : Tables → ℕ → List ℕ
+members t s = each subjects (λ a. keep (t .kin s a) a [])
+
+-- 0 where s is not live; else 256 and the lowest of them
+abbrev pub seen-group : Tables → ℕ → ℕ
+seen-group t s = cond (live t (subject s)) (256 + from-on 0 (members t s)) 0
 
 -- RULES H18: 0 for an empty place; else 65,536 where it is marked, and 256 times the way, 1 for reading, 2 for writing and 3 for a mapping
 abbrev pub dir-number : Dir → ℕ

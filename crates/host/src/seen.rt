@@ -1,6 +1,6 @@
-// What a host sees of the lent bytes (RULES H17 to H21, H27, H28), without a call: who is live and at which level, the handle at a place and its object, the
-// live objects from a number on, the freeze, and the kept needs, which can be put right. What is told of an object or a handle loads the 64 slots and their
-// numbers; all else reads the few bytes that it tells of.
+// What a host sees of the lent bytes (RULES H17 to H21, H27, H28, H31), without a call: who is live and at which level, and in which group, the handle at a place and
+// its object, the live objects from a number on, the freeze, and the kept needs, which can be put right. What is told of an object or a handle loads the 64 slots and
+// their numbers, what is told of a group the subjects and the groups; all else reads the few bytes that it tells of.
 ghost use mathlib.Core.Path.{_≡_};
 ghost use Prim.Native.Nat.{_+_, _*_, _%_};
 ghost use lib.Dec.{eqb};
@@ -15,7 +15,7 @@ ghost use Rattle.tables.specs.Working.{subject-at, object-at, handle-at};
 ghost use Rattle.gatekeeper.specs.View.{slots, once, kept-need};
 ghost use Rattle.stored.specs.State.{Sized, subjects-of, objects-of, handles-of, numbers-of, freeze-of, monitor-of, state-view, state-right, state-bytes, Put-right};
 ghost use Rattle.host.specs.Working.{way-number};
-ghost use Rattle.host.specs.Numbers.{sized, seen-entry, seen-handle, seen-object, Seen-need, seen-freeze};
+ghost use Rattle.host.specs.Numbers.{sized, seen-entry, seen-group, seen-handle, seen-object, Seen-need, seen-freeze};
 use stored::FREEZE_AT;
 use stored::HANDLES_AT;
 use stored::NEEDS_AT;
@@ -118,6 +118,25 @@ pub extern "C" fn gatekeeper_subject(state: &[u8], s: u64) -> u32
         return 0;
     }
     256 + x.level as u32
+}
+
+// 256 and the lowest number in the group of subject s; 0 where it is not live, and for bytes of another length.
+#[no_mangle]
+pub extern "C" fn gatekeeper_group(state: &[u8], s: u64) -> u32
+    ensures { λ r. ⌜ r ≡ sized (now (state .entry)) (seen-group (state-view (now (state .entry))) s) 0 ⌝ }
+{
+    if state.len() != STATE_BYTES {
+        return 0;
+    }
+    let x = subject_in(state, s);
+    if x.live == 0 {
+        return 0;
+    }
+    let subjects = stored::load_subjects(state);
+    let groups = stored::load_groups(state);
+    let leads = groups::leads(subjects, groups);
+    let i = s as usize % SUBJECTS;
+    256 + leads[i] as u32
 }
 
 // 256 times the kind of object o, and its level; 0 where it is not live, and for bytes of another length.

@@ -1,4 +1,4 @@
--- The calls that a journal has, by their codes (RULES C1 to C17, C106 to C108, R1). In order: the table of arities; which codes are known;
+-- The calls that a journal has, by their codes (RULES C1 to C18, C106 to C108, R1). In order: the table of arities; which codes are known;
 -- a call's numbers, filled up. The laws are in Calls/Laws. Assumes nothing.
 use Prim.Native.Nat.{ℕ, zero, suc}
 use mathlib.Core.Bool.{Bool}
@@ -7,7 +7,7 @@ use lib.Dec.{ltb}
 use lib.ListN.{take, getD}
 pub mod Laws
 
--- RULES C1 to C17, J9: how many numbers the call of each code takes, from code 1 on; every call takes one, and 0 says that there is no such call
+-- RULES C1 to C18, J9: how many numbers the call of each code takes, from code 1 on; every call takes one, and 0 says that there is no such call
 abbrev pub arities : List ℕ
 arities =
     2  -- admit s, level
@@ -27,6 +27,7 @@ arities =
     ∷ 2  -- mark s, p
     ∷ 1  -- freeze level
     ∷ 6  -- connect s, t, a, b, p, q
+    ∷ 2  -- thread s, c
     ∷ []
 
 -- RULES C106: as many as a direct call has

@@ -17,7 +17,7 @@ use number::Written;
 pub const LONGEST_RECORD: usize = 62;
 
 // One more than the largest code.
-const CODES: usize = 18;
+const CODES: usize = 19;
 
 // How many numbers the call of each code takes, from code 0 on; every call takes one, and 0 says that there is no such call.
 const ARITIES: [usize; CODES] = [
@@ -39,6 +39,7 @@ const ARITIES: [usize; CODES] = [
     2, // mark s, p
     1, // freeze level
     6, // connect s, t, a, b, p, q
+    2, // thread s, c
 ];
 
 // How many numbers the call of a code takes; 0 where there is no such call.

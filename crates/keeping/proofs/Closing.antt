@@ -8,19 +8,20 @@ use Prim.Native.Nat.{ℕ, _+_, _*_, _%_, _≤_, _<_}
 use native.Mathlib.Omega.{arith}
 use lib.ListN.{length, getD}
 use borrow.Author.Tests.{lt-ltb}
-use lib.Dec.{T, eqb, eqb→eq, leb, leb→le, ltb→lt, lt→ltb}
+use lib.Dec.{T, eqb, eqb→eq, leb, leb→le, ltb→lt}
 use Rattle.model.specs.Bools.{both-of, is-true}
 use Rattle.model.specs.Label.{Label, label, level, _⊑_, bot}
 use Rattle.model.specs.Label.Laws.{⊑-refl, ⊑-trans, level-label, le→⊑, label-zero}
-use Rattle.model.specs.Flow.{Thing, subject, object, Reaches, here, step}
+use Rattle.model.specs.Flow.{Thing, subject, object, same, Reaches, here, step}
 use Rattle.model.specs.Flow.Laws.{need-self, need-upper}
 use Rattle.model.specs.Flow.Changes.{Adds, levels-total, remove-quiet, remove-bot, remove-below}
-use Rattle.model.specs.Tables.{Dir, reading, writing, Tables, in-range, live, arc, flow, edges, demand, needs}
+use Rattle.model.specs.Tables.{Dir, reading, writing, Tables, live, arc, flow, edges, demand, needs}
 use Rattle.model.specs.Tables.Laws.{live-of}
-use Rattle.model.specs.Steps.{hold, holds, apply}
+use Rattle.model.specs.Steps.{hold, quits, apply}
 use Rattle.model.specs.Invariant.{Ends, Wf}
-use Rattle.model.specs.Invariant.Laws.{less-wf, less-close, less-row}
-use Rattle.model.specs.Calls.Needs.{close-adds, vacate-quiet, edge-in, wf-ranged}
+use Rattle.model.specs.Invariant.Laws.{less-wf, less-close, less-quits}
+use Rattle.model.specs.Calls.{exit}
+use Rattle.model.specs.Calls.Needs.{close-adds, effect-needs, exit-needs, vacate-quiet, edge-in, wf-ranged}
 use Rattle.model.specs.Figures.{Ready}
 use Rattle.model.specs.Figures.Laws.{step-lived, ready-same, ready-anew}
 use Rattle.tables.specs.declared.Subject.{Subject}
@@ -28,12 +29,13 @@ use Rattle.tables.specs.declared.Object.{Object}
 use Rattle.tables.specs.declared.Handle.{Handle}
 use Rattle.tables.specs.Records.{object-entry, joins, held, reads-by, no-object, no-handle, tables-of}
 use Rattle.tables.specs.Records.Laws.{object-there, slot-low}
-use Rattle.tables.specs.Needs.{node, figure-of, Needed}
+use Rattle.tables.specs.Needs.{figure-of, Needed}
 use Rattle.tables.specs.Working.{object-at, some-below, writes-by}
 use Rattle.tables.proofs.Below.{some-of-below}
+use Rattle.groups.specs.Groups.{Leads}
 use Rattle.passes.specs.Least.{figure, Before, Settled, Between}
-use Rattle.passes.specs.Working.{source, target, Marked, demands, backs, source-of}
-use Rattle.passes.proofs.Nodes.{at-least, needed}
+use Rattle.passes.specs.Working.{lead-of, source, target, Marked, Spread, demands, backs, source-of}
+use Rattle.flows.proofs.Nodes.{at-least, at-least-led, needed}
 
 label-same : (a b : ℕ) → label a ≡ label b → a ≡ b
 label-same a b q = sym (level-label a) ∙ ap level q ∙ level-label b
@@ -192,17 +194,21 @@ module _ (n : List ℕ) (t : Tables) (s p : ℕ) (h : Handle) (w : Wf t) (q : t 
   pub close-wf : Wf (apply (hold s p none) t)
   close-wf = less-wf (less-close t s p) w
 
--- ── all handles of one subject ──
+-- ── a subject goes ──
 module _ (n : List ℕ) (t : Tables) (s : ℕ) (w : Wf t) (l : T (live t (subject s))) (k : Ready t (figure-of n)) where
-  pub vacate-ready : getD n (s % 32) 0 ≡ 0 → Ready (apply (holds s (λ p. none)) t) (figure-of n)
-  vacate-ready z = ready-same (λ x m. elim (step-lived (holds s (λ p. none)) t x m) [ inl y ↦ (y, vacate-quiet t s w nothing x) | inr y ↦ absurd y ]) k
+  pub vacate-ready : getD n (s % 32) 0 ≡ 0 → Ready (apply (quits (same (subject s))) t) (figure-of n)
+  vacate-ready z = ready-same (λ x m. elim (step-lived (quits (same (subject s))) t x m) [ inl y ↦ (y, unmoved x) | inr y ↦ absurd y ]) k
     where
       nothing : needs t (subject s) ≡ bot
       nothing = let e : s ≡ s % 32 = omega (arith, ltb→lt s 32 (live-of t (subject s) l .0)) in
           sym (k .need-is (subject s) l) ∙ ap (λ (i : ℕ). label (getD n i 0)) e ∙ ap label z ∙ label-zero
 
-pub vacate-wf : (t : Tables) (s : ℕ) → Wf t → Wf (apply (holds s (λ p. none)) t)
-vacate-wf t s w = less-wf (less-row t s) w
+      -- as after an exit
+      unmoved : (x : Thing) → needs (apply (quits (same (subject s))) t) x ≡ needs t x
+      unmoved x = sym (effect-needs t (exit s) x) ∙ exit-needs t s w x ∙ vacate-quiet t s w nothing x
+
+pub vacate-wf : (t : Tables) (s : ℕ) → Wf t → Wf (apply (quits (same (subject s))) t)
+vacate-wf t s w = less-wf (less-quits t (same (subject s)) (λ o. tt)) w
 
 -- the object's record, by the tables after
 pub object-then : (rest : Tables) (ss : List Subject) (os : List Object) (hs : List Handle) (t : Tables) (s p o : ℕ) (y : Object) → length os ≡ 64
@@ -256,30 +262,35 @@ module _ (rest : Tables) (ss : List Subject) (os : List Object) (hs : List Handl
   unfolding beside on
   beside-kept away b = let r = some-of-below 16 (backs os hs (s % 32) (getD n (s % 32) 0)) (subst T (sym b) tt) in at-place (r .0) (r .1) away (r .2)
 
-  -- the source of the flow is found to need as much
-  pub stopped-kept : (base r : List ℕ) (at : ℕ) → length base ≡ 96 → Marked os base → Between 512 (source hs) (target hs) base r → at ≡ source-of h s
-      → getD n (s % 32) 0 ≤ figure r at → Ready (tables-of rest ss os hs) (figure-of n)
-  stopped-kept base r at lb m b i l = go (reads-by (h .way)) refl
-    where
-      found : (x : Thing) → T (in-range x) → at ≡ node x → label (getD n (s % 32) 0) ⊑ needs (apply (hold s p none) t) x
-      found x g j = ⊑-trans (le→⊑ _ _ (rw (level-label (getD n (s % 32) 0), level-label (figure r (node x))) (subst (λ (v : ℕ). getD n (s % 32) 0 ≤ figure r v) j l)))
-          (subst (λ (u : Tables). label (figure r (node x)) ⊑ needs u x) z (at-least rest ss os hs after-wf lo base r lb m b x g))
+  -- the figures of leads, worked out of the handles that are left
+  module _ (ld : List ℕ) (led : Leads (rest .kin) ld) (base r : List ℕ) (lb : length base ≡ 96) (m : Marked os base)
+      (b : Between 512 (source ld hs) (target ld hs) base r) where
+    -- the source of the flow is found to need as much
+    pub stopped-kept : (lead at : ℕ) → lead ≡ getD ld (s % 32) 0 → at ≡ source-of h lead → getD n (s % 32) 0 ≤ figure r at
+        → Ready (tables-of rest ss os hs) (figure-of n)
+    stopped-kept lead at a i l = go (reads-by (h .way)) refl
+      where
+        found : (x : Thing) (j : ℕ) → at ≡ j → label (figure r j) ⊑ needs (tables-of rest ss os hs) x → label (getD n (s % 32) 0) ⊑ needs (apply (hold s p none) t) x
+        found x j c g = ⊑-trans (le→⊑ _ _ (rw (level-label (getD n (s % 32) 0), level-label (figure r j)) (subst (λ (v : ℕ). getD n (s % 32) 0 ≤ figure r v) c l)))
+            (subst (λ (u : Tables). label (figure r j) ⊑ needs u x) z g)
 
-      go : (c : Bool) → reads-by (h .way) ≡ c → Ready (tables-of rest ss os hs) (figure-of n)
-      go true c = back (source-ready n t s p h w q k low-o e (object (h .object))
-          (ap (λ (v : Bool). arc (cond v reading writing) (subject s) (object (h .object)) .src) c)
-          (found (object (h .object)) tt (i ∙ ap (λ (v : Bool). cond v (32 + h .object % 64) (s % 32)) c ∙ same-o)))
-        where
-          same-o : 32 + h .object % 64 ≡ 32 + h .object
-          same-o = omega (arith, low-o)
-      go false c = back (source-ready n t s p h w q k low-o e (subject s)
-          (ap (λ (v : Bool). arc (cond v reading writing) (subject s) (object (h .object)) .src) c)
-          (found (subject s) (lt→ltb s 32 low-s) (i ∙ ap (λ (v : Bool). cond v (32 + h .object % 64) (s % 32)) c ∙ same-s)))
-        where
-          same-s : s % 32 ≡ s
-          same-s = omega (arith, low-s)
+        starts : (c : Bool) → reads-by (h .way) ≡ c → at ≡ cond c (32 + h .object % 64) (lead % 32)
+        starts c e = i ∙ ap (λ (v : Bool). cond v (32 + h .object % 64) (lead % 32)) e
 
-  -- they fall along every flow
-  pub worked-out : (base r : List ℕ) → length base ≡ 96 → Marked os base → Between 512 (source hs) (target hs) base r
-      → Settled (source hs) (target hs) (figure r) (Before 512) → Ready (tables-of rest ss os hs) (figure-of r)
-  worked-out base r lb m b st = anew rest ss os hs r (needed rest ss os hs after-wf lo base r lb m b st)
+        go : (c : Bool) → reads-by (h .way) ≡ c → Ready (tables-of rest ss os hs) (figure-of n)
+        go true c = back (source-ready n t s p h w q k low-o e (object (h .object))
+            (ap (λ (v : Bool). arc (cond v reading writing) (subject s) (object (h .object)) .src) c)
+            (found (object (h .object)) (32 + h .object) (starts true c ∙ same-o) (at-least rest ss os hs after-wf lo ld led base r lb m b (object (h .object)) tt)))
+          where
+            same-o : 32 + h .object % 64 ≡ 32 + h .object
+            same-o = omega (arith, low-o)
+        go false c = back (source-ready n t s p h w q k low-o e (subject s)
+            (ap (λ (v : Bool). arc (cond v reading writing) (subject s) (object (h .object)) .src) c)
+            (found (subject s) (lead-of ld s) (starts false c ∙ same-s) (at-least-led rest ss os hs after-wf lo ld led base r lb m b s low-s)))
+          where
+            same-s : lead % 32 ≡ lead-of ld s
+            same-s = let v : s % 32 ≡ s = omega (arith, low-s) in ap (λ (x : ℕ). x % 32) (a ∙ ap (λ (x : ℕ). getD ld x 0) v)
+
+    -- they fall along every flow
+    pub worked-out : Settled (source ld hs) (target ld hs) (figure r) (Before 512) → (v : List ℕ) → Spread ld r v → Ready (tables-of rest ss os hs) (figure-of v)
+    worked-out st v sp = anew rest ss os hs v (needed rest ss os hs after-wf lo ld led base r lb m b st v sp)

@@ -1,3 +1,4 @@
--- Figures when handles go (Closing), and when one comes (Opens). Assumes nothing.
+-- Figures when handles go (Closing), and when one comes (Opens); what a subject needs by its own handles (Highest). Assumes nothing.
 pub mod Closing
+pub mod Highest
 pub mod Opens

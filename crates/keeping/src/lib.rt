@@ -2,21 +2,25 @@
 // after a handle came and after handles have gone. Where a quick test tells that no need changes, the figures are those that were; else they are worked
 // out anew.
 ghost use mathlib.Core.Path.{_≡_};
-ghost use mathlib.Core.Bool.{true, not, _&&_};
+ghost use mathlib.Core.Bool.{true, not, _&&_, cond};
 ghost use mathlib.Core.Option.{none, some};
 ghost use mathlib.Core.List.{List};
 ghost use Prim.Native.Nat.{ℕ, _+_, _%_, _<_};
-ghost use lib.ListN.{getD, set};
-ghost use lib.Dec.{T};
-ghost use Rattle.model.specs.Flow.{subject};
+ghost use lib.ListN.{length, getD, set};
+ghost use lib.Dec.{T, ltb};
+ghost use Rattle.model.specs.Flow.{subject, same};
 ghost use Rattle.model.specs.Tables.{Tables, live, safe};
-ghost use Rattle.model.specs.Steps.{hold, holds, apply};
+ghost use Rattle.model.specs.Steps.{hold, quits, apply};
 ghost use Rattle.model.specs.Invariant.{Ends, Wf, Safe};
 ghost use Rattle.model.specs.Figures.{Ready};
+ghost use Rattle.model.specs.Calls.Needs.{own-need};
+ghost use Rattle.model.specs.Label.{label};
+ghost use Rattle.tables.specs.declared.Object.{Object};
 ghost use Rattle.tables.specs.declared.Subject.{Subject};
 ghost use Rattle.tables.specs.Records.{reads-by, joins, tables-of};
 ghost use Rattle.tables.specs.Needs.{figure-of};
 ghost use Rattle.tables.specs.Working.{some-below, writes-by};
+ghost use Rattle.groups.specs.Groups.{kin-of};
 ghost use Rattle.passes.specs.Working.{demands, backs, falls-by, source-of};
 use tables::FILE;
 use tables::HANDLES;
@@ -99,12 +103,13 @@ pub fn opened(
     sure: bool,
     n: [u8; THINGS],
     subjects: [Subject; SUBJECTS],
+    groups: [u8; SUBJECTS],
     objects: [Object; OBJECTS],
     handles: [Handle; HANDLES],
     s: u64,
     h: Handle,
 ) -> Opening
-    ensures { λ r. ⌜ ((rest : Tables) (t : Tables) (p : ℕ) → Wf t → Ends t s p (joins h) → t .hand s p ≡ none →
+    ensures { λ r. ⌜ ((rest : Tables) (t : Tables) (p : ℕ) → rest .kin ≡ kin-of subjects groups → Wf t → Ends t s p (joins h) → t .hand s p ≡ none →
         tables-of rest subjects objects handles ≡ apply (hold s p (some (joins h))) t → (sure ≡ true → Ready t (figure-of n)) →
         Ready (tables-of rest subjects objects handles) (figure-of (r .needs))
         × ((sure ≡ true → Safe t) → r .short ≡ not (safe (tables-of rest subjects objects handles)))) ⌝ }
@@ -115,7 +120,7 @@ pub fn opened(
             short: false,
         };
     }
-    let needs = flows::figures(objects, handles);
+    let needs = flows::figures(subjects, groups, objects, handles);
     let short = flows::is_short(subjects, objects, needs);
     Opening {
         needs: needs,
@@ -186,20 +191,24 @@ fn source(h: Handle, s: u64) -> usize
 // source still needs as much. Then no need changes. The first pass goes from the last handle to the first, since in a pipeline that was made from left to right needs travel that way.
 fn sunk(
     n: [u8; THINGS],
+    subjects: [Subject; SUBJECTS],
+    groups: [u8; SUBJECTS],
     objects: [Object; OBJECTS],
     handles: [Handle; HANDLES],
     s: u64,
     h: Handle,
     need: u8,
 ) -> [u8; THINGS]
-    ensures { λ r. ⌜ ((rest : Tables) (ss : List Subject) (t : Tables) (p : ℕ) → Wf t → t .hand s p ≡ some (joins h) →
-        tables-of rest ss objects handles ≡ apply (hold s p none) t → Ready t (figure-of n) → need ≡ getD n (s % 32) 0 → need ≡ getD n (32 + h .object % 64) 0 →
-        Ready (tables-of rest ss objects handles) (figure-of r)) ⌝ }
+    ensures { λ r. ⌜ ((rest : Tables) (t : Tables) (p : ℕ) → rest .kin ≡ kin-of subjects groups → Wf t → t .hand s p ≡ some (joins h) →
+        tables-of rest subjects objects handles ≡ apply (hold s p none) t → Ready t (figure-of n) → need ≡ getD n (s % 32) 0 → need ≡ getD n (32 + h .object % 64) 0 →
+        Ready (tables-of rest subjects objects handles) (figure-of r)) ⌝ }
 {
     let start = flows::marks(objects);
-    let at = source(h, s);
+    let leads = groups::leads(subjects, groups);
+    let lead = groups::of(leads, s);
+    let at = source(h, lead as u64);
     let all = [0u8; THINGS];
-    let e = passes::listed(handles, all, 0);
+    let e = passes::listed(handles, leads, all, 0);
     let b = passes::pass_back(e, start);
     let v = b.figures;
     if need <= v[at] {
@@ -207,7 +216,8 @@ fn sunk(
     }
     let w = passes::worked(e, v, true, at, need);
     if w.still {
-        return w.figures;
+        let led = w.figures;
+        return flows::spread(led, leads);
     }
     n
 }
@@ -217,13 +227,15 @@ fn sunk(
 // of pipes each would hold up the other.)
 pub fn closed(
     n: [u8; THINGS],
+    subjects: [Subject; SUBJECTS],
+    groups: [u8; SUBJECTS],
     objects: [Object; OBJECTS],
     handles: [Handle; HANDLES],
     s: u64,
     h: Handle,
 ) -> [u8; THINGS]
-    ensures { λ r. ⌜ ((rest : Tables) (ss : List Subject) (t : Tables) (p : ℕ) → Wf t → t .hand s p ≡ some (joins h) →
-        tables-of rest ss objects handles ≡ apply (hold s p none) t → Ready t (figure-of n) → Ready (tables-of rest ss objects handles) (figure-of r)) ⌝ }
+    ensures { λ r. ⌜ ((rest : Tables) (t : Tables) (p : ℕ) → rest .kin ≡ kin-of subjects groups → Wf t → t .hand s p ≡ some (joins h) →
+        tables-of rest subjects objects handles ≡ apply (hold s p none) t → Ready t (figure-of n) → Ready (tables-of rest subjects objects handles) (figure-of r)) ⌝ }
 {
     let number = h.object as u64;
     let mine = of_subject(n, s);
@@ -243,22 +255,65 @@ pub fn closed(
             return n;
         }
     }
-    sunk(n, objects, handles, s, h, mine)
+    sunk(n, subjects, groups, objects, handles, s, h, mine)
 }
 
-// The figures once subject s holds nothing any more, of the handles that are left: n where it needed nothing.
+// The figures once subject s is gone, of the subjects and the handles that are left: n where it needed nothing.
 pub fn vacated(
     n: [u8; THINGS],
+    subjects: [Subject; SUBJECTS],
+    groups: [u8; SUBJECTS],
     objects: [Object; OBJECTS],
     handles: [Handle; HANDLES],
     s: u64,
 ) -> [u8; THINGS]
-    ensures { λ r. ⌜ ((rest : Tables) (ss : List Subject) (t : Tables) → Wf t → T (live t (subject s)) →
-        tables-of rest ss objects handles ≡ apply (holds s (λ p. none)) t → Ready t (figure-of n) → Ready (tables-of rest ss objects handles) (figure-of r)) ⌝ }
+    ensures { λ r. ⌜ ((rest : Tables) (t : Tables) → rest .kin ≡ kin-of subjects groups → Wf t → T (live t (subject s)) →
+        tables-of rest subjects objects handles ≡ apply (quits (same (subject s))) t → Ready t (figure-of n) →
+        Ready (tables-of rest subjects objects handles) (figure-of r)) ⌝ }
 {
     let mine = of_subject(n, s);
     if mine == 0 {
         return n;
     }
-    flows::figures(objects, handles)
+    flows::figures(subjects, groups, objects, handles)
+}
+
+// ---- a child's own
+
+// What a handle of a subject makes it need by itself: what the object that it writes needs, 0 where it does not write.
+fn written(n: [u8; THINGS], h: Handle) -> u8
+    ensures { λ r. ⌜ r ≡ cond (writes-by (h .way)) (getD n (32 + h .object % 64) 0) 0 ⌝ }
+{
+    if looks::is_writing(h.way) {
+        let number = h.object as u64;
+        return of_object(n, number);
+    }
+    0
+}
+
+fn higher(a: u8, b: u8) -> u8
+    ensures { λ r. ⌜ r ≡ cond (ltb a b) b a ⌝ }
+{
+    if a < b {
+        return b;
+    }
+    a
+}
+
+// The highest need among the objects that subject s, modulo SUBJECTS, writes: what it needs by its own handles, without those of its mates.
+pub fn own(n: [u8; THINGS], handles: [Handle; HANDLES], s: u64) -> u8
+    ensures { λ r. ⌜ ((rest : Tables) (ss : List Subject) (os : List Object) → length os ≡ 64 → s < 32 → Wf (tables-of rest ss os handles) →
+        Ready (tables-of rest ss os handles) (figure-of n) → label r ≡ own-need (tables-of rest ss os handles) s) ⌝ }
+{
+    let base = s as usize % SUBJECTS * PLACES;
+    let mut v: u8 = 0;
+    let mut p: usize = 0;
+    while p < PLACES {
+        let at = base + p;
+        let h = handles[at];
+        let w = written(n, h);
+        v = higher(v, w);
+        p += 1;
+    }
+    v
 }

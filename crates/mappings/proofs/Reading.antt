@@ -1,35 +1,37 @@
--- Who has a file mapped, worked out handle by handle, is what the rules ask; the subjects once these have read it are the tables after the rules'
--- reads; and a level that fell is found by comparing the subjects. Assumes nothing.
+-- Who has a file mapped, worked out handle by handle and by leads, is what the rules ask; the subjects once these and their mates have taken it in are
+-- the tables after the rules' reads; and a level that fell is found by comparing the subjects. Assumes nothing.
 use mathlib.Core.Path.{_≡_, refl, sym, _∙_, ap, subst, subst₂, fun-ext}
-use mathlib.Core.Bool.{Bool, true, false, not, _&&_, cond}
+use mathlib.Core.Bool.{Bool, true, false, not, _||_, _&&_, cond}
 use mathlib.Core.Logic.{inl}
 use mathlib.Core.Option.{Option, none, some, Option·none-ne-some, Option·some-injective}
 use mathlib.Core.List.{List}
-use Prim.Native.Nat.{ℕ, _+_, _*_, _/_, _%_, _<_}
+use Prim.Native.Nat.{ℕ, zero, suc, _+_, _*_, _/_, _%_, _<_}
 use native.Mathlib.Omega.{arith}
 use native.Mathlib.Decide.{decLt}
-use borrow.Author.Tests.{lt-ltb, le-ltb, eq-eqb, ne-eqb, ltb-true, ltb-false}
+use borrow.Author.Tests.{lt-ltb, eq-eqb, ne-eqb, ltb-true, ltb-false}
 use lib.ListN.{length, getD, List·getD-eq-default}
 use lib.Dec.{T, eqb, eqb→eq, eqb-refl, ltb, lt→ltb}
-use Rattle.model.specs.Bools.{both, is-true}
+use Rattle.model.specs.Bools.{both, both-of, is-true}
 use Rattle.model.specs.Lists.{In}
 use Rattle.model.specs.Lists.Laws.{in-each, any-of}
 use Rattle.model.specs.Label.{Label, _⊑_, meet, label}
 use Rattle.model.specs.Label.Laws.{⊑-refl, level-label, le→⊑, not-least-is-below, meet-stays, meet-falls}
 use Rattle.model.specs.Flow.{Thing, subject, object, same}
-use Rattle.model.specs.Tables.{running, file, pipe, Entry, entry, Tables, with-at, places, a-file, one, handles-of}
+use Rattle.model.specs.Tables.{running, file, pipe, Entry, entry, Tables, with-at, places, a-file, cell, whole, one, handles-of}
 use Rattle.model.specs.Tables.{Handle as Held}
-use Rattle.model.specs.Steps.{Step, fall, applies}
+use Rattle.model.specs.Steps.{Step, fall, sink, applies}
 use Rattle.model.specs.Calls.{has-mapped, rereads, lowers}
-use Rattle.model.specs.Calls.Moving.{has-mapped-at, reread-by, rereads-none, rereads-file, lowers-none, lowers-some}
+use Rattle.model.specs.Calls.Moving.{has-mapped-at, took, reread-by, rereads-none, rereads-file, lowers-none, lowers-some}
 use Rattle.tables.specs.declared.Subject.{Subject}
 use Rattle.tables.specs.declared.Object.{Object}
 use Rattle.tables.specs.declared.Handle.{Handle}
 use Rattle.tables.specs.Records.{subject-entry, object-entry, joins, held, no-subject, no-object, no-handle, entries, tables-of}
 use Rattle.tables.specs.Working.{some-below, fallen-by}
-use Rattle.tables.proofs.Below.{some-of-below, below-some, same-test}
+use Rattle.tables.proofs.Below.{some-of-below, below-some, none-below, same-test}
 use Rattle.handles.specs.Working.{Hits}
-use Rattle.mappings.specs.Working.{reader-slot, taken-by, sank-by}
+use Rattle.groups.specs.Groups.{stands, kin-of, Leads, taken-by}
+use Rattle.groups.specs.Groups.Laws.{kin-back, kin-on, one-lead, lead-kin}
+use Rattle.mappings.specs.Working.{reader-slot, sank-by}
 
 -- ── who has it mapped ──
 pub slot-below : (h : Handle) (o s : ℕ) → s < 32 → reader-slot h o s < 33
@@ -72,37 +74,68 @@ module _ (rest : Tables) (ss : List Subject) (os : List Object) (hs : List Handl
           (let e : h .way ≡ 3 = eqb→eq (h .way) 3 (subst T (sym w) tt) in ne-eqb (h .way) 0 (λ z. omega arith))
 
   -- and back
-  mapped-slot : (s p : ℕ) (k : Held) → s < 32 → p < 16 → t .hand s p ≡ some k → T (k .mapped) → k .to ≡ o
-      → T (eqb (reader-slot (getD hs (s * 16 + p) no-handle) o ((s * 16 + p) / 16)) s)
-  mapped-slot s p k ls lp q m e = let d : (s * 16 + p) / 16 ≡ s = omega arith in rw d (go (eqb (h .way) 0) (sym (at-place s p lp) ∙ q))
+  mapped-slot : (s p n : ℕ) (k : Held) → p < 16 → t .hand s p ≡ some k → T (k .mapped) → k .to ≡ o → T (eqb (reader-slot (getD hs (s * 16 + p) no-handle) o n) n)
+  mapped-slot s p n k lp q m e = go (eqb (h .way) 0) (sym (at-place s p lp) ∙ q)
     where
       h : Handle
       h = getD hs (s * 16 + p) no-handle
 
-      go : (b : Bool) → cond b none (some (joins h)) ≡ some k → T (eqb (reader-slot h o s) s)
+      go : (b : Bool) → cond b none (some (joins h)) ≡ some k → T (eqb (reader-slot h o n) n)
       go true z = absurd (Option·none-ne-some k z)
       go false z = let j = Option·some-injective (joins h) k z in
           rw (
             is-true (eqb (h .way) 3) (subst (λ (i : Held). T (i .mapped)) (sym j) m),
             eq-eqb (h .object) o (ap (λ (i : Held). i .to) j ∙ e),
-          ) (eqb-refl s)
+          ) (eqb-refl n)
 
-  pub readers-are : (r : List Bool) → Hits (λ j. reader-slot (getD hs j no-handle) o (j / 16)) 33 r 512 → (s : ℕ) → s < 32
-      → getD r s false ≡ has-mapped t (object o) s
-  readers-are r m s l = m .at s (omega arith) ∙ same-test _ _ (λ h. there (some-of-below 512 (λ j. eqb (reader-slot (getD hs j no-handle) o (j / 16)) s) h)) back
+  -- who took it in is found below a bound, and no object did
+  took-below : (n : ℕ) (y : Thing) → took t o n y ≡ some-below n (λ s. has-mapped t (object o) s && whole t (cell t s) y)
+  took-below zero y = refl
+  took-below (suc n) y = ap (λ (b : Bool). b || (has-mapped t (object o) n && whole t (cell t n) y)) (took-below n y)
+
+  pub no-object-took : (n m : ℕ) → took t o n (object m) ≡ false
+  unfolding whole cell
+  no-object-took n m = took-below n (object m) ∙ none-below n _ (λ s l. and-false (has-mapped t (object o) s))
     where
-      there : (j : ℕ) × (j < 512) × T (eqb (reader-slot (getD hs j no-handle) o (j / 16)) s) → T (has-mapped t (object o) s)
-      there (j, lj, h) = let (d, w, q) = slot-maps (getD hs j no-handle) o (j / 16) s l h in
-          let e : s * 16 + j % 16 ≡ j = omega arith in
-          maps-here s (j % 16) (omega arith) (rw e w) (rw e q)
+      and-false : (b : Bool) → (b && false) ≡ false
+      and-false true = refl
+      and-false false = refl
 
-      back : T (has-mapped t (object o) s) → T (some-below 512 (λ j. eqb (reader-slot (getD hs j no-handle) o (j / 16)) s))
-      back h = let v = has-mapped-at t (object o) s h in
-          below-some 512 (λ j. eqb (reader-slot (getD hs j no-handle) o (j / 16)) s) (s * 16 + v .place) (omega (arith, v .low))
-          (mapped-slot s (v .place) (v .handle) l (v .low) (v .held) (v .maps) (number (v .on)))
-        where
-          number : {a b : ℕ} → object a ≡ object b → a ≡ b
-          number q = cc
+  -- those led by the lead of one who has it mapped are those who took it in
+  module _ (gs ld : List ℕ) (kin : rest .kin ≡ kin-of ss gs) (leads : Leads (kin-of ss gs) ld) where
+    whole-kin : (a b : ℕ) → whole t (cell t a) (subject b) ≡ kin-of ss gs a b
+    unfolding tables-of whole cell
+    whole-kin a b = ap (λ (f : ℕ → ℕ → Bool). f a b) kin
+
+    abbrev slot : ℕ → ℕ
+    slot j = reader-slot (getD hs j no-handle) o (getD ld (j / 16) 0 % 32)
+
+    pub readers-lead : (r : List Bool) → Hits slot 33 r 512 → (a : ℕ) → a < 32 → getD r (getD ld a 0 % 32) false ≡ took t o 32 (subject a)
+    readers-lead r m a l = m .at (getD ld a 0 % 32) (omega arith)
+        ∙ same-test _ _ (λ h. there (some-of-below 512 (λ j. eqb (slot j) (getD ld a 0 % 32)) h)) (λ h. back (some-of-below 32 takes (subst T (took-below 32 (subject a)) h)))
+      where
+        takes : ℕ → Bool
+        takes s = has-mapped t (object o) s && whole t (cell t s) (subject a)
+
+        there : (j : ℕ) × (j < 512) × T (eqb (slot j) (getD ld a 0 % 32)) → T (took t o 32 (subject a))
+        there (j, lj, h) = let (d, w, q) = slot-maps (getD hs j no-handle) o (getD ld (j / 16) 0 % 32) (getD ld a 0 % 32) (omega arith) h in
+            let n : j / 16 < 32 = omega arith in
+            let e : (j / 16) * 16 + j % 16 ≡ j = omega arith in
+            subst T (sym (took-below 32 (subject a))) (below-some 32 takes (j / 16) n
+            (both (has-mapped t (object o) (j / 16)) (whole t (cell t (j / 16)) (subject a)) (maps-here (j / 16) (j % 16) (omega arith) (rw e w) (rw e q))
+            (subst T (sym (whole-kin (j / 16) a)) (lead-kin (kin-of ss gs) (kin-back ss gs) (kin-on ss gs) ld leads (j / 16) a n l
+            (omega (arith, d, leads .low (j / 16) n, leads .low a l))))))
+
+        back : (s : ℕ) × (s < 32) × T (takes s) → T (some-below 512 (λ j. eqb (slot j) (getD ld a 0 % 32)))
+        back (s, ls, h) = let (i, k) = both-of (has-mapped t (object o) s) (whole t (cell t s) (subject a)) h in
+            let v = has-mapped-at t (object o) s i in
+            let d : (s * 16 + v .place) / 16 ≡ s = omega (arith, v .low) in
+            let e = one-lead (kin-of ss gs) (kin-back ss gs) (kin-on ss gs) ld leads s a ls l (subst T (whole-kin s a) k) in
+            below-some 512 (λ j. eqb (slot j) (getD ld a 0 % 32)) (s * 16 + v .place) (omega (arith, v .low))
+            (rw (d, sym e) (mapped-slot s (v .place) (getD ld s 0 % 32) (v .handle) (v .low) (v .held) (v .maps) (number (v .on))))
+          where
+            number : {a b : ℕ} → object a ≡ object b → a ≡ b
+            number q = cc
 
 -- ── what they become ──
 -- a subject that reads something of level l
@@ -121,6 +154,60 @@ taken-entry s x l = by (ltb l (x .level)) refl
     by false q = at (x .level) (meet-stays (label (x .level)) (label l) (le→⊑ _ _ (rw (level-label (x .level), level-label l) (ltb-false l (x .level) q))))
         (eqb (x .live) 0)
 
+-- who is live stays so
+pub taken-live : (ss r : List Subject) (takes : List Bool) (l : ℕ) → length ss ≡ 32 → length r ≡ 32
+    → ((a : ℕ) → a < 32 → getD r a no-subject ≡ taken-by (getD ss a no-subject) (getD takes a false) l) → (a : ℕ) → stands r a ≡ stands ss a
+taken-live ss r takes l ls lr g a = elim (decLt a 32) [
+  | yes h ↦ ap (λ (x : Subject). not (eqb (x .live) 0)) (g a h) ∙ still (getD ss a no-subject) (getD takes a false)
+  | no n ↦ ap (λ (x : Subject). not (eqb (x .live) 0)) (List·getD-eq-default r no-subject {n = a} (omega arith) ∙ sym (List·getD-eq-default ss no-subject {n = a} (omega arith)))
+]
+  where
+    fallen : (x : Subject) (b : Bool) → not (eqb (cond b (record { live = x .live; level = l }) x .live) 0) ≡ not (eqb (x .live) 0)
+    fallen x true = refl
+    fallen x false = refl
+
+    still : (x : Subject) (b : Bool) → not (eqb (taken-by x b l .live) 0) ≡ not (eqb (x .live) 0)
+    still x true = fallen x (ltb l (x .level))
+    still x false = refl
+
+-- a subject and its mates take in something
+pub group-read : (rest : Tables) (ss : List Subject) (os : List Object) (hs : List Handle) (gs : List ℕ) (s l : ℕ) (d : Entry) (r : List Subject) (takes : List Bool)
+    → s < 32 → rest .kin ≡ kin-of ss gs → d .label ≡ label l → length ss ≡ 32 → length r ≡ 32
+    → ((a : ℕ) → a < 32 → getD takes a false ≡ kin-of ss gs (s % 32) a)
+    → ((a : ℕ) → a < 32 → getD r a no-subject ≡ taken-by (getD ss a no-subject) (getD takes a false) l)
+    → tables-of rest r os hs ≡ with-at (tables-of rest ss os hs) (sink (tables-of rest ss os hs) (subject s) (some d))
+unfolding tables-of whole
+group-read rest ss os hs gs s l d r takes low k e ls lr f g = ap (with-at (tables-of rest ss os hs)) (fun-ext at)
+  where
+    same-s : s % 32 ≡ s
+    same-s = omega arith
+
+    by : (a : ℕ) (b : Bool) → subject-entry (taken-by (getD ss a no-subject) b l)
+        ≡ cond b (fall (subject a) (subject-entry (getD ss a no-subject)) (some d)) (subject-entry (getD ss a no-subject))
+    by a true = taken-entry a (getD ss a no-subject) l ∙ level-alone (subject-entry (getD ss a no-subject))
+      where
+        level-alone : (v : Option Entry) → fall (subject a) v (some (entry file (label l))) ≡ fall (subject a) v (some d)
+        level-alone none = refl
+        level-alone (some c) = ap (λ (b : Label). some (entry (c .kind) (meet (c .label) b))) (sym e)
+    by a false = refl
+
+    beyond : (x : Thing) (v c : Option Entry) (b : Bool) → v ≡ none → none ≡ cond b (fall x v c) v
+    beyond x v c true z = rw z
+    beyond x v c false z = sym z
+
+    at : (x : Thing) → entries r os x ≡ sink (tables-of rest ss os hs) (subject s) (some d) x
+    at (object n) = refl
+    at (subject n) = go (decLt n 32)
+      where
+        go : Dec (n < 32) → subject-entry (getD r n no-subject)
+            ≡ cond (rest .kin s n) (fall (subject n) (subject-entry (getD ss n no-subject)) (some d)) (subject-entry (getD ss n no-subject))
+        go (yes h) = ap subject-entry (g n h) ∙ by n (getD takes n false)
+            ∙ ap (λ (b : Bool). cond b (fall (subject n) (subject-entry (getD ss n no-subject)) (some d)) (subject-entry (getD ss n no-subject)))
+            (f n h ∙ ap (λ (i : ℕ). kin-of ss gs i n) same-s ∙ ap (λ (z : ℕ → ℕ → Bool). z s n) (sym k))
+        go (no h) = ap subject-entry (List·getD-eq-default r no-subject {n = n} (omega arith))
+            ∙ beyond (subject n) (subject-entry (getD ss n no-subject)) (some d) (rest .kin s n)
+            (ap subject-entry (List·getD-eq-default ss no-subject {n = n} (omega arith)))
+
 module _ (rest : Tables) (ss : List Subject) (os : List Object) (hs : List Handle) (o : ℕ) (y : Object) (q : getD os o no-object ≡ y) where
   -- a pipe is not read
   pub pipe-unread : (y .kind ≡ 1 → ⊥) → tables-of rest ss os hs ≡ applies (rereads (tables-of rest ss os hs) (object o)) (tables-of rest ss os hs)
@@ -134,32 +221,38 @@ module _ (rest : Tables) (ss : List Subject) (os : List Object) (hs : List Handl
           go true = tt
           go false = tt
 
-  -- a file is read by those who have it mapped
-  pub file-read : (r : List Subject) (readers : List Bool) → y .kind ≡ 1 → length ss ≡ 32 → length r ≡ 32
-      → ((s : ℕ) → s < 32 → getD readers s false ≡ has-mapped (tables-of rest ss os hs) (object o) s)
-      → ((s : ℕ) → s < 32 → getD r s no-subject ≡ taken-by (getD ss s no-subject) (getD readers s false) (y .level))
+  -- a file is taken in by those who have it mapped and by their mates
+  pub file-read : (r : List Subject) (takes : List Bool) → y .kind ≡ 1 → length ss ≡ 32 → length r ≡ 32
+      → ((a : ℕ) → a < 32 → getD takes a false ≡ took (tables-of rest ss os hs) o 32 (subject a))
+      → ((a : ℕ) → a < 32 → getD r a no-subject ≡ taken-by (getD ss a no-subject) (getD takes a false) (y .level))
       → tables-of rest r os hs ≡ applies (rereads (tables-of rest ss os hs) (object o)) (tables-of rest ss os hs)
   unfolding tables-of
-  file-read r readers k ls lr f g = ap (with-at (tables-of rest ss os hs)) (fun-ext at)
+  file-read r takes k ls lr f g = ap (with-at (tables-of rest ss os hs)) (fun-ext at)
       ∙ sym (rereads-file (tables-of rest ss os hs) o (subst (λ (v : Option Entry). T (a-file (object o) v)) (sym there) tt))
     where
       there : object-entry (getD os o no-object) ≡ some (entry file (label (y .level)))
       there = rw (q, k)
 
-      by : (s : ℕ) (b : Bool) → subject-entry (taken-by (getD ss s no-subject) b (y .level))
-          ≡ cond b (fall (subject s) (subject-entry (getD ss s no-subject)) (object-entry (getD os o no-object))) (subject-entry (getD ss s no-subject))
-      by s true = taken-entry s (getD ss s no-subject) (y .level) ∙ ap (fall (subject s) (subject-entry (getD ss s no-subject))) (sym there)
-      by s false = refl
+      by : (a : ℕ) (b : Bool) → subject-entry (taken-by (getD ss a no-subject) b (y .level))
+          ≡ cond b (fall (subject a) (subject-entry (getD ss a no-subject)) (object-entry (getD os o no-object))) (subject-entry (getD ss a no-subject))
+      by a true = taken-entry a (getD ss a no-subject) (y .level) ∙ ap (fall (subject a) (subject-entry (getD ss a no-subject))) (sym there)
+      by a false = refl
+
+      -- beyond the array nothing stands, nor falls
+      beyond : (x : Thing) (v d : Option Entry) (b : Bool) → v ≡ none → none ≡ cond b (fall x v d) v
+      beyond x v d true e = rw e
+      beyond x v d false e = sym e
 
       at : (x : Thing) → entries r os x ≡ reread-by (tables-of rest ss os hs) o 32 x
-      at (object n) = refl
+      at (object n) = rw (no-object-took rest ss os hs o 32 n)
       at (subject n) = go (decLt n 32)
         where
           go : Dec (n < 32) → subject-entry (getD r n no-subject) ≡ reread-by (tables-of rest ss os hs) o 32 (subject n)
-          go (yes l) = rw (lt-ltb n 32 l) (ap subject-entry (g n l) ∙ by n (getD readers n false)
-              ∙ ap (λ (b : Bool). cond b (fall (subject n) (subject-entry (getD ss n no-subject)) (object-entry (getD os o no-object))) (subject-entry (getD ss n no-subject))) (f n l))
-          go (no h) = rw (le-ltb n 32 (omega arith)) (ap subject-entry (List·getD-eq-default r no-subject {n = n} (omega arith)
-              ∙ sym (List·getD-eq-default ss no-subject {n = n} (omega arith))))
+          go (yes l) = ap subject-entry (g n l) ∙ by n (getD takes n false)
+              ∙ ap (λ (b : Bool). cond b (fall (subject n) (subject-entry (getD ss n no-subject)) (object-entry (getD os o no-object))) (subject-entry (getD ss n no-subject))) (f n l)
+          go (no h) = ap subject-entry (List·getD-eq-default r no-subject {n = n} (omega arith))
+              ∙ beyond (subject n) (subject-entry (getD ss n no-subject)) (object-entry (getD os o no-object)) (took (tables-of rest ss os hs) o 32 (subject n))
+              (ap subject-entry (List·getD-eq-default ss no-subject {n = n} (omega arith)))
 
 -- ── a level that fell ──
 module _ (rest : Tables) (before after : List Subject) (os : List Object) (hs : List Handle) where

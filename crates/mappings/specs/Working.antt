@@ -4,15 +4,10 @@ use Prim.Native.Nat.{ℕ}
 use lib.Dec.{ltb, eqb}
 use Rattle.tables.specs.declared.Subject.{Subject}
 use Rattle.tables.specs.declared.Handle.{Handle}
-use Rattle.tables.specs.Working.{fallen-by}
 
 -- s where h is a mapping on object o, 32 where it is not
 abbrev pub reader-slot : Handle → ℕ → ℕ → ℕ
 reader-slot h o s = cond (eqb (h .way) 3) (cond (eqb (h .object) o) s 32) 32
-
--- x, or x once it has read something of level l
-abbrev pub taken-by : Subject → Bool → ℕ → Subject
-taken-by x reads l = cond reads (fallen-by x l) x
 
 -- x and y are live, and y has the smaller level
 abbrev pub sank-by : Subject → Subject → Bool

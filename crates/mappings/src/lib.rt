@@ -1,18 +1,21 @@
 // Mappings on one file: who has it mapped, what these subjects become when it is written to, and whether a level fell by that.
 ghost use mathlib.Core.Path.{_≡_};
 ghost use mathlib.Core.Bool.{false};
+ghost use mathlib.Core.Option.{some};
 ghost use mathlib.Core.List.{List};
-ghost use Prim.Native.Nat.{ℕ, _/_, _<_};
+ghost use Prim.Native.Nat.{ℕ, _/_, _%_, _<_};
 ghost use lib.ListN.{getD};
-ghost use Rattle.model.specs.Flow.{object};
-ghost use Rattle.model.specs.Tables.{Tables};
-ghost use Rattle.model.specs.Steps.{applies};
+ghost use Rattle.model.specs.Label.{label};
+ghost use Rattle.model.specs.Flow.{subject, object};
+ghost use Rattle.model.specs.Tables.{Entry, Tables, with-at};
+ghost use Rattle.model.specs.Steps.{sink, applies};
 ghost use Rattle.model.specs.Calls.{rereads, lowers};
 ghost use Rattle.tables.specs.declared.Object.{Object};
 ghost use Rattle.tables.specs.declared.Handle.{Handle};
-ghost use Rattle.tables.specs.Records.{no-subject, no-object, no-handle, tables-of};
+ghost use Rattle.tables.specs.Records.{no-object, no-handle, tables-of};
 ghost use Rattle.handles.specs.Working.{Hits};
-ghost use Rattle.mappings.specs.Working.{reader-slot, taken-by, sank-by};
+ghost use Rattle.groups.specs.Groups.{stands, kin-of};
+ghost use Rattle.mappings.specs.Working.{reader-slot, sank-by};
 use tables::FILE;
 use tables::HANDLES;
 use tables::Handle;
@@ -21,7 +24,6 @@ use tables::Object;
 use tables::PLACES;
 use tables::SUBJECTS;
 use tables::Subject;
-use tables::looks;
 
 // s where h is a mapping on object o; SUBJECTS for any other record.
 fn reader(h: Handle, o: u8, s: usize) -> usize
@@ -36,66 +38,56 @@ fn reader(h: Handle, o: u8, s: usize) -> usize
     s
 }
 
-// Of each subject, whether it has object o mapped. The last element stands for none.
-fn readers(handles: [Handle; HANDLES], o: u8) -> [bool; SUBJECTS + 1]
-    ensures { λ r. ⌜ Hits (λ j. reader-slot (getD handles j no-handle) o (j / 16)) 33 r 512 ⌝ }
+// Of each subject, whether it is the lead, modulo SUBJECTS, of one that has object o mapped. The last element stands for none.
+fn readers(handles: [Handle; HANDLES], leads: [u8; SUBJECTS], o: u8) -> [bool; SUBJECTS + 1]
+    ensures { λ r. ⌜ Hits (λ j. reader-slot (getD handles j no-handle) o (getD leads (j / 16) 0 % 32)) 33 r 512 ⌝ }
 {
     let mut r = [false; SUBJECTS + 1];
     let mut i: usize = 0;
     while i < HANDLES {
         let h = handles[i];
         let s = i / PLACES;
-        let at = reader(h, o, s);
+        let lead = leads[s] as usize % SUBJECTS;
+        let at = reader(h, o, lead);
         r[at] = true;
         i += 1;
     }
     r
 }
 
-// A subject record once it has read something of this level, or as it is where it does not read.
-fn taken_in(x: Subject, reads: bool, level: u8) -> Subject
-    ensures { λ r. ⌜ r ≡ taken-by x reads level ⌝ }
+// Of each subject, whether its lead, modulo SUBJECTS, is one of these.
+fn led(reads: [bool; SUBJECTS + 1], leads: [u8; SUBJECTS]) -> [bool; SUBJECTS]
+    ensures { λ r. ⌜ ((a : ℕ) → a < 32 → getD r a false ≡ getD reads (getD leads a 0 % 32) false) ⌝ }
 {
-    if reads {
-        return looks::fallen(x, level);
-    }
-    x
-}
-
-// The subjects once each of these readers has read something of this level.
-fn read_by(
-    subjects: [Subject; SUBJECTS],
-    reads: [bool; SUBJECTS + 1],
-    level: u8,
-) -> [Subject; SUBJECTS]
-    ensures { λ r. ⌜ ((s : ℕ) → s < 32 → getD r s no-subject ≡ taken-by (getD subjects s no-subject) (getD reads s false) level) ⌝ }
-{
-    let mut r = subjects;
-    let mut s: usize = 0;
-    while s < SUBJECTS {
-        let x = r[s];
-        let put = taken_in(x, reads[s], level);
-        r[s] = put;
-        s += 1;
+    let mut r = [false; SUBJECTS];
+    let mut a: usize = 0;
+    while a < SUBJECTS {
+        let lead = leads[a] as usize % SUBJECTS;
+        r[a] = reads[lead];
+        a += 1;
     }
     r
 }
 
-// The subjects after a write to object o, whose record is y: where it is a file, each that has it mapped has read it.
+// The subjects after a write to object o, whose record is y: where it is a file, each that has it mapped has read it, and with it its group.
 pub fn reread(
     subjects: [Subject; SUBJECTS],
+    groups: [u8; SUBJECTS],
     handles: [Handle; HANDLES],
     y: Object,
     o: u8,
 ) -> [Subject; SUBJECTS]
-    ensures { λ r. ⌜ ((rest : Tables) (os : List Object) → getD os o no-object ≡ y →
+    ensures tables { λ r. ⌜ ((rest : Tables) (os : List Object) → rest .kin ≡ kin-of subjects groups → getD os o no-object ≡ y →
         tables-of rest r os handles ≡ applies (rereads (tables-of rest subjects os handles) (object o)) (tables-of rest subjects os handles)) ⌝ }
+    ensures live { λ r. ⌜ ((a : ℕ) → stands r a ≡ stands subjects a) ⌝ }
 {
     if y.kind != FILE {
         return subjects;
     }
-    let reads = readers(handles, o);
-    read_by(subjects, reads, y.level)
+    let leads = groups::leads(subjects, groups);
+    let reads = readers(handles, leads, o);
+    let all = led(reads, leads);
+    groups::lowered(subjects, all, y.level)
 }
 
 // A subject that is live before and after, and has a smaller level after.
@@ -126,4 +118,29 @@ pub fn is_lower(before: [Subject; SUBJECTS], after: [Subject; SUBJECTS]) -> bool
         s += 1;
     }
     false
+}
+
+// ---- what one takes in, its mates do
+
+// The subjects once one of them has taken something in, and whether some level is smaller by that.
+pub struct Taking {
+    pub subjects: [Subject; SUBJECTS],
+    pub lower: bool,
+}
+
+// Subject s, modulo SUBJECTS, takes in something of this level, and its mates with it.
+pub fn taken(subjects: [Subject; SUBJECTS], groups: [u8; SUBJECTS], s: u64, level: u8) -> Taking
+    ensures tables { λ r. ⌜ ((rest : Tables) (os : List Object) (hs : List Handle) (d : Entry) → s < 32 → rest .kin ≡ kin-of subjects groups → d .label ≡ label level →
+        tables-of rest (r .subjects) os hs ≡ with-at (tables-of rest subjects os hs) (sink (tables-of rest subjects os hs) (subject s) (some d))) ⌝ }
+    ensures lower { λ r. ⌜ ((rest : Tables) (os : List Object) (hs : List Handle) →
+        lowers (tables-of rest subjects os hs) (tables-of rest (r .subjects) os hs) ≡ r .lower) ⌝ }
+    ensures live { λ r. ⌜ ((a : ℕ) → stands (r .subjects) a ≡ stands subjects a) ⌝ }
+{
+    let members = groups::members(subjects, groups, s);
+    let after = groups::lowered(subjects, members, level);
+    let lower = is_lower(subjects, after);
+    Taking {
+        subjects: after,
+        lower: lower,
+    }
 }

@@ -1,4 +1,4 @@
--- The book: the rules' term for what demand 3 is measured by. (A reference model of the tables with contents.) States RULES B1 to B21 and B29, and
+-- The book: the rules' term for what demand 3 is measured by. (A reference model of the tables with contents.) States RULES B1 to B21, B29 and B30, and
 -- of B28 which outside contents differ only below a level.
 --
 -- What is kept; the handling of data; what each step does to contents; the book run over a list of calls; where contents are
@@ -11,9 +11,10 @@ use Prim.Native.Nat.{ℕ, suc}
 use Rattle.model.specs.Label.{Label, _⊑_}
 use Rattle.model.specs.Flow.{Thing, same}
 use Rattle.model.specs.Tables.{Tables, empty, whole}
-use Rattle.model.specs.Steps.{Origin, outside, blank, copied, Access, Step, enter, leave, hold, holds, mix, quits, freezes, apply}
+use Rattle.model.specs.Steps.{Origin, outside, blank, copied, Access, Step, enter, leave, hold, holds, mix, quits, binds, freezes, apply}
 use Rattle.model.specs.Calls.{Call, Raw, decode, steps, refusal, effect, next, Answer, answer}
 pub mod Laws
+pub mod Groups
 
 -- RULES B4: a whole number for each live thing; what stands at other things is never looked at
 abbrev pub Contents : Type 0
@@ -40,7 +41,7 @@ Outside = ℕ → ℕ
 abbrev pub store : Contents → Thing → ℕ → Contents
 store c x v y = cond (same x y) v (c y)
 
--- what x takes in, and who takes in what x does
+-- RULES B30: what x takes in, and who takes in what x does, each from its own content
 abbrev pub pour : Tables → Contents → Thing → (ℕ → ℕ) → Contents
 pour t c x f y = cond (whole t x y) (f (c y)) (c y)
 
@@ -59,6 +60,7 @@ carry h i o t (hold s p v) c = c
 carry h i o t (holds s r) c = c
 carry h i o t (mix m a b y x) c = pour t c y (λ v. h i m a b v (c x))
 carry h i o t (quits g) c = c
+carry h i o t (binds a s) c = c
 carry h i o t (freezes n) c = c
 
 abbrev pub carries : Handling → ℕ → ℕ → Tables → List Step → Contents → Contents
@@ -100,6 +102,7 @@ brought-by (hold s p v ∷ ks) = brought-by ks
 brought-by (holds s r ∷ ks) = brought-by ks
 brought-by (mix m a b y x ∷ ks) = brought-by ks
 brought-by (quits g ∷ ks) = brought-by ks
+brought-by (binds c s ∷ ks) = brought-by ks
 brought-by (freezes n ∷ ks) = brought-by ks
 
 -- RULES B21: a refused call brings nothing in

@@ -1,4 +1,4 @@
--- The seventeen calls: what each asks, what it tests, what it does, what it answers. States RULES C1 to C17 and C101 to C112, R1 to R10 and R15 to R17,
+-- The eighteen calls: what each asks, what it tests, what it does, what it answers. States RULES C1 to C18, C101 to C113, C116 and C117, R1 to R10 and R15 to R17,
 -- of the sentences about all refusals RULES R101, R102, R105, R108, R110 and R117 to R123, and RULES T44.
 --
 -- In order: the calls by code; the effect of each row as a list of steps; the conditions of the refusals and which of them each call
@@ -13,9 +13,8 @@ use lib.Dec.{T, eqb, ltb, leb}
 use Rattle.model.specs.Label.{Label, leq, label, level, highest}
 use Rattle.model.specs.Lists.{In, each, keep, any, inserts, only}
 use Rattle.model.specs.Flow.{Thing, subject, object, same}
-use Rattle.model.specs.Tables.{running, file, pipe, Dir, reading, writing, Entry, entry, Handle, handle, mapping, with-mark, Tables, with-numbers, no-freeze, subjects, objects}
-use Rattle.model.specs.Tables.{places, in-range, is-some, used, live, label-of, is-file, a-file, is-pipe, cell, things, handles-of, handles, open-on, needs, safe}
-use Rattle.model.specs.Steps.{outside, blank, copied, reads, writes, runs, Step, enter, leave, hold, holds, mix, quits, freezes, applies, reap}
+use Rattle.model.specs.Tables.{running, file, pipe, Dir, reading, writing, Entry, entry, Handle, handle, mapping, with-mark, Tables, with-numbers, no-freeze, subjects, objects, places, in-range, is-some, used, live, label-of, is-file, a-file, is-pipe, cell, things, handles-of, handles, open-on, needs, safe, mates}
+use Rattle.model.specs.Steps.{outside, blank, copied, reads, writes, runs, Step, enter, leave, hold, holds, mix, quits, freezes, applies, reap, binds}
 pub mod Refusals
 pub mod Passed
 pub mod Dangling
@@ -23,6 +22,7 @@ pub mod Scale
 pub mod Moving
 pub mod Mapped
 pub mod Sound
+pub mod Groups
 pub mod Kept
 pub mod Needs
 pub mod Sayable
@@ -40,7 +40,7 @@ pub data Call : Type 0 where
   maps : ℕ → ℕ → ℕ → Call
   access : Dir → ℕ → ℕ → Call
   connect : ℕ → ℕ → ℕ → ℕ → ℕ → ℕ → Call
-  fork exec close mark : ℕ → ℕ → Call
+  fork thread exec close mark : ℕ → ℕ → Call
   exit retire freeze : ℕ → Call
   unknown : Call
 
@@ -60,7 +60,7 @@ pub record Row : Type 0 where
 abbrev pub coded : ℕ → Call → Row
 coded n c = record { code = n; call = c }
 
--- RULES C1 to C17: the code, the call and its numbers
+-- RULES C1 to C18: the code, the call and its numbers
 abbrev pub rows : Raw → List Row
 rows r = let a : ℕ = arg 0 r in let b : ℕ = arg 1 r in let c : ℕ = arg 2 r in let d : ℕ = arg 3 r in let e : ℕ = arg 4 r in let f : ℕ = arg 5 r in
     coded 1 (admit a b)
@@ -80,13 +80,14 @@ rows r = let a : ℕ = arg 0 r in let b : ℕ = arg 1 r in let c : ℕ = arg 2 r
     ∷ coded 15 (mark a b)
     ∷ coded 16 (freeze a)
     ∷ coded 17 (connect a b c d e f)
+    ∷ coded 18 (thread a b)
     ∷ []
 
 abbrev pub lookup : ℕ → List Row → Call
 lookup n [] = unknown
 lookup n (k ∷ ks) = elim (eqb (k .code) n) [ true ↦ k .call | false ↦ lookup n ks ]
 
--- RULES C1 to C17, R1: the call that a code asks for, `unknown` where no row has the code
+-- RULES C1 to C18, R1: the call that a code asks for, `unknown` where no row has the code
 unfoldable pub decode : Raw → Call
 decode r = lookup (r .code) (rows r)
 
@@ -104,7 +105,7 @@ moves writing s c o = mix writes o s o c
 abbrev pub has-mapped : Tables → Thing → ℕ → Bool
 has-mapped t x s = any (λ k. k .mapped && same (object (k .to)) x) (handles-of t s)
 
--- RULES C8, C111, B29: the reads that follow a write to x, where it is a file: one by each subject that has it mapped, the lowest number first
+-- RULES C8, C111, C117, B29: the reads that follow a write to x, where it is a file: one by each subject that has it mapped, the lowest number first
 unfoldable pub rereads : Tables → Thing → List Step
 rereads t x = elim (a-file x (t .at x)) [
   | true ↦ each subjects (λ s. keep (has-mapped t x s) (mix reads (subject s) x (cell t s) x) [])
@@ -128,9 +129,9 @@ abbrev pub lasting : Option Handle → Option Handle
 lasting none = none
 lasting (some k) = cond (ends-at-exec k) none (some k)
 
--- RULES C10, R110: what an exec drops before it runs: the marked handles and the mappings of s
+-- RULES C10, C116, R110: what an exec drops before it runs: the other members of the group of s, then the marked handles and the mappings of s
 unfoldable pub sheds : Tables → ℕ → List Step
-sheds t s = holds s (λ p. lasting (t .hand s p)) ∷ []
+sheds t s = quits (mates t s) ∷ holds s (λ p. lasting (t .hand s p)) ∷ []
 
 -- RULES C17, C112, whose t is u here: the two pipes of a channel between s and u, then the ends of s and those of u: each reads the other's pipe at p and writes its own at q
 abbrev pub channel : Tables → ℕ → ℕ → ℕ → ℕ → ℕ → ℕ → List Step
@@ -143,7 +144,7 @@ channel t s u a b p q =
     ∷ hold u q (some (handle writing b))
     ∷ []
 
--- RULES C1 to C17: the effect, row by row
+-- RULES C1 to C18, C113: the effect, row by row; who is new is in a group of its own, but for a thread
 abbrev pub steps : Tables → Call → List Step
 steps t (admit s n) = enter (subject s) (entry running (label n)) outside ∷ []
 steps t (register o n) = enter (object o) (entry file (label n)) outside ∷ []
@@ -152,6 +153,7 @@ steps t (make-pipe s o r w) = enter (object o) (entry pipe (label-of (t .at (cel
 steps t (opens d s o p) = hold s p (some (handle d o)) ∷ []
 steps t (access d s p) = moves d (subject s) (cell t s) (target (t .hand s p)) ∷ followed t d (target (t .hand s p))
 steps t (fork s c) = enter (subject c) (entry running (label-of (t .at (cell t s)))) (copied (cell t s)) ∷ holds c (t .hand s) ∷ []
+steps t (thread s c) = enter (subject c) (entry running (label-of (t .at (cell t s)))) (copied (cell t s)) ∷ binds c s ∷ []
 steps t (exec s o) = sheds t s ++ (mix runs (subject s) (object o) (cell t s) (object o) ∷ [])
 steps t (close s p) = hold s p none ∷ []
 steps t (exit s) = quits (same (subject s)) ∷ []
@@ -175,6 +177,7 @@ made (hold s p v ∷ ks) = made ks
 made (holds s r ∷ ks) = made ks
 made (mix m a b y x ∷ ks) = made ks
 made (quits q ∷ ks) = made ks
+made (binds c s ∷ ks) = made ks
 made (freezes n ∷ ks) = made ks
 
 -- RULES C102: the steps of the row, and the end of the pipes that they leave without a handle
@@ -275,6 +278,7 @@ tests (make-pipe s o r w) = alive s ∷ new (object o) ∷ vacant s r ∷ vacant
 tests (opens d s o p) = alive s ∷ present o ∷ vacant s p ∷ enough (opens d s o p) ∷ thawed d o ∷ []
 tests (access d s p) = alive s ∷ taken s p ∷ facing d s p ∷ []
 tests (fork s c) = alive s ∷ new (subject c) ∷ []
+tests (thread s c) = alive s ∷ new (subject c) ∷ []
 tests (exec s o) = alive s ∷ present o ∷ no-pipe o ∷ suits s o ∷ []
 tests (close s p) = alive s ∷ taken s p ∷ []
 tests (exit s) = alive s ∷ []
@@ -323,7 +327,7 @@ pub data Shown : Type 0 where
   level-at : Thing → Shown
   given : ℕ → Shown
 
--- RULES C1 to C17: of which thing the answer gives the level, or which number it gives
+-- RULES C1 to C18: of which thing the answer gives the level, or which number it gives
 abbrev pub shown : Tables → Call → Shown
 shown t (admit s n) = level-at (subject s)
 shown t (register o n) = level-at (object o)
@@ -333,6 +337,7 @@ shown t (opens d s o p) = level-at (object o)
 shown t (access reading s p) = level-at (cell t s)
 shown t (access writing s p) = level-at (target (t .hand s p))
 shown t (fork s c) = level-at (subject c)
+shown t (thread s c) = level-at (subject c)
 shown t (exec s o) = level-at (cell t s)
 shown t (close s p) = level-at (cell t s)
 shown t (exit s) = level-at (cell t s)

@@ -1,15 +1,16 @@
--- What all tables have to which a list of calls leads from empty ones, and what every answer has. States RULES F8, T25, T26, T27, T34 and T38.
+-- What all tables have to which a list of calls leads from empty ones, and what every answer has. States RULES F8, T25, T26, T27, T34, T38, T45 and T48.
 -- Proved of every list of calls in `Calls.Kept` and `Calls.Sayable`. Assumes nothing.
 use mathlib.Core.Path.{_≡_}
+use mathlib.Core.Bool.{not}
 use mathlib.Core.Option.{some}
 use mathlib.Core.List.{List, [], _∷_}
 use Prim.Native.Nat.{ℕ, _<_, _≤_}
-use lib.Dec.{T}
+use lib.Dec.{T, eqb}
 use Rattle.model.specs.Label.{highest, in-scale, _⊑_}
 use Rattle.model.specs.Lists.{In}
 use Rattle.model.specs.Flow.{Thing, subject, object}
 use Rattle.model.specs.Tables.{reading, Entry, Handle, Tables, no-freeze, places, in-range, live, label-of, a-file, is-pipe, cell, handles, open-on, needs}
-use Rattle.model.specs.Calls.{Call, admit, register, create, make-pipe, opens, access, fork, exec, close, exit, retire, maps, mark, freeze, connect, unknown, Raw, decode}
+use Rattle.model.specs.Calls.{Call, admit, register, create, make-pipe, opens, access, fork, thread, exec, close, exit, retire, maps, mark, freeze, connect, unknown, Raw, decode}
 use Rattle.model.specs.Calls.{Answer, allowed, lowered, refused, order}
 pub mod Laws
 
@@ -19,14 +20,26 @@ pub record Ends (t : Tables) (s p : ℕ) (k : Handle) : Type 0 where
   pub to : T (live t (object (k .to)))
   pub place : p < places
 
+-- RULES T45: who is in a group with another is live, and each subject is in one group
+pub record Teams (t : Tables) : Type 0 where
+  pub itself : (a : ℕ) → T (t .kin a a)
+  pub both-ways : (a b : ℕ) → T (t .kin a b) → T (t .kin b a)
+  pub shared : (a b c : ℕ) → T (t .kin a b) → T (t .kin b c) → T (t .kin a c)
+  pub only : (a b : ℕ) → T (t .kin a b) → T (not (eqb a b)) → T (live t (subject a))
+
 -- RULES T25: no handle dangles, and what is live has a number in range
 pub record Wf (t : Tables) : Type 0 where
   pub ends : (s p : ℕ) (k : Handle) → t .hand s p ≡ some k → Ends t s p k
   pub ranged : (x : Thing) (e : Entry) → t .at x ≡ some e → T (in-range x)
+  pub teams : Teams t
 
 -- RULES F8: each live thing's level is at least its need
 pub record Safe (t : Tables) : Type 0 where
   pub above : (x : Thing) (e : Entry) → t .at x ≡ some e → needs t x ⊑ e .label
+
+-- RULES T48: the members of a group have one level
+pub record Even (t : Tables) : Type 0 where
+  pub one-level : (a b : ℕ) → T (t .kin a b) → label-of (t .at (subject a)) ≡ label-of (t .at (subject b))
 
 -- RULES T26: a live pipe has a handle
 pub record Piped (t : Tables) : Type 0 where
@@ -56,6 +69,7 @@ pub record Kept (t : Tables) : Type 0 where
   pub scaled : Scaled t
   pub frozen : Frozen t
   pub mapped : Mapped t
+  pub even : Even t
 
 -- RULES T27: the highest number that a call's answer gives where it is not refused
 abbrev pub topmost : Call → ℕ
@@ -66,6 +80,7 @@ topmost (make-pipe s o r w) = highest
 topmost (opens d s o p) = highest
 topmost (access d s p) = highest
 topmost (fork s c) = highest
+topmost (thread s c) = highest
 topmost (exec s o) = highest
 topmost (close s p) = highest
 topmost (exit s) = highest

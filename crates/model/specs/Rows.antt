@@ -1,4 +1,4 @@
--- Every row of RULES C1 to C17, and of R1 to R10 and R15 to R17, tried once: lists of calls from empty tables with the answer to each, and
+-- Every row of RULES C1 to C18, and of R1 to R10 and R15 to R17, tried once: lists of calls from empty tables with the answer to each, and
 -- the contents and the tally after a few short lists. Not cases of the rules' own: they pin the definitions down where no law does, so that
 -- a slip in a row does not go unseen. Assumes nothing.
 use mathlib.Core.Path.{_≡_, refl}
@@ -6,7 +6,7 @@ use mathlib.Core.Bool.{Bool, true, _&&_, cond}
 use mathlib.Core.List.{List, [], _∷_, _++_}
 use mathlib.Core.Option.{Option, none, some}
 use Prim.Native.Nat.{ℕ, zero, suc, _+_, _*_}
-use lib.Dec.{ltb}
+use lib.Dec.{ltb, eqb}
 use Rattle.model.specs.Lists.{each}
 use Rattle.model.specs.Label.{Label, label, level, leq, meet, join, bot}
 use Rattle.model.specs.Flow.{Thing, subject, object, need}
@@ -30,7 +30,7 @@ line c ns a = record { given = call c ns; answered = a }
 -- the thirteen calls of the base
 unfoldable pub base-lines : List Line
 base-lines =
-    line 0 [] (R 1) ∷ line 18 [] (R 1)
+    line 0 [] (R 1) ∷ line 19 [] (R 1)
     ∷ line 1 (31 ∷ 15 ∷ []) (A 15) ∷ line 1 (32 ∷ 0 ∷ []) (R 3) ∷ line 1 (31 ∷ 16 ∷ []) (R 3) ∷ line 1 (30 ∷ 16 ∷ []) (R 6) ∷ line 1 (4 ∷ []) (A 0)
     ∷ line 2 (63 ∷ 15 ∷ []) (A 15) ∷ line 2 (63 ∷ 1 ∷ []) (R 3) ∷ line 2 (0 ∷ 16 ∷ []) (R 6) ∷ line 2 (0 ∷ 2 ∷ []) (A 2)
     ∷ line 1 (1 ∷ 7 ∷ []) (A 7) ∷ line 3 (1 ∷ 6 ∷ []) (A 7) ∷ line 3 (32 ∷ 64 ∷ []) (R 2) ∷ line 3 (1 ∷ 6 ∷ []) (R 3)
@@ -120,6 +120,7 @@ crowd = record {
   hand = λ s p. none;
   freeze = no-freeze;
   numbers = each 62 (λ o. o ∷ []);
+  kin = eqb;
 }
 
 -- numbers of 64 bits, and 64 live: a connect is one too many with 63, everything is with 64; an ended pipe and a retired file make space
@@ -133,6 +134,19 @@ crowded-lines =
     ∷ line 17 (0 ∷ 1 ∷ 18446744073709551615 ∷ 5 ∷ 0 ∷ 1 ∷ []) (A 9) ∷ line 5 (1 ∷ 18446744073709551615 ∷ 2 ∷ []) (A 9) ∷ line 2 (63 ∷ 4 ∷ []) (R 17)
     ∷ []
 
+-- threads: 0, 1 and 2 share a level; what 3 reads 4 may not write on, and an exec of either ends the other; a fork's child is by itself; who exits leaves the others
+unfoldable pub thread-lines : List Line
+thread-lines =
+    line 18 (0 ∷ 1 ∷ []) (R 2) ∷ line 1 (0 ∷ 9 ∷ []) (A 9) ∷ line 18 (32 ∷ 32 ∷ []) (R 2) ∷ line 18 (0 ∷ 32 ∷ []) (R 3) ∷ line 18 (0 ∷ 0 ∷ []) (R 3) ∷ line 18 (0 ∷ 1 ∷ []) (A 9)
+    ∷ line 18 (0 ∷ 1 ∷ []) (R 3) ∷ line 18 (1 ∷ 2 ∷ []) (A 9) ∷ line 2 (10 ∷ 4 ∷ []) (A 4) ∷ line 2 (11 ∷ 9 ∷ []) (A 9) ∷ line 5 (1 ∷ 10 ∷ 0 ∷ []) (A 4)
+    ∷ line 7 (2 ∷ 0 ∷ []) (R 7) ∷ line 7 (1 ∷ 0 ∷ []) (L 4) ∷ line 3 (0 ∷ 13 ∷ []) (A 4) ∷ line 18 (2 ∷ 31 ∷ []) (A 4) ∷ line 6 (31 ∷ 11 ∷ 0 ∷ []) (R 9)
+    ∷ line 1 (3 ∷ 9 ∷ []) (A 9) ∷ line 18 (3 ∷ 4 ∷ []) (A 9) ∷ line 5 (3 ∷ 10 ∷ 0 ∷ []) (A 4) ∷ line 6 (4 ∷ 11 ∷ 0 ∷ []) (R 9) ∷ line 11 (3 ∷ 0 ∷ []) (A 9) ∷ line 6 (4 ∷ 11 ∷ 0 ∷ []) (A 9)
+    ∷ line 5 (3 ∷ 10 ∷ 0 ∷ []) (R 9) ∷ line 10 (4 ∷ 10 ∷ []) (R 9) ∷ line 15 (3 ∷ 0 ∷ []) (R 7) ∷ line 10 (3 ∷ 10 ∷ []) (L 4) ∷ line 11 (4 ∷ 0 ∷ []) (R 2) ∷ line 13 (11 ∷ []) (A 9)
+    ∷ line 1 (5 ∷ 9 ∷ []) (A 9) ∷ line 18 (5 ∷ 6 ∷ []) (A 9) ∷ line 9 (5 ∷ 7 ∷ []) (A 9) ∷ line 5 (7 ∷ 10 ∷ 0 ∷ []) (A 4) ∷ line 7 (7 ∷ 0 ∷ []) (L 4) ∷ line 3 (5 ∷ 20 ∷ []) (A 9)
+    ∷ line 12 (5 ∷ []) (A 9) ∷ line 3 (6 ∷ 21 ∷ []) (A 9) ∷ line 18 (6 ∷ 5 ∷ []) (A 9) ∷ line 12 (6 ∷ []) (A 9) ∷ line 14 (5 ∷ 10 ∷ 0 ∷ []) (L 4) ∷ line 18 (5 ∷ 6 ∷ []) (A 4)
+    ∷ line 17 (5 ∷ 6 ∷ 30 ∷ 31 ∷ 2 ∷ 3 ∷ []) (A 4) ∷ line 8 (5 ∷ 3 ∷ []) (A 4) ∷ line 10 (6 ∷ 21 ∷ []) (A 4) ∷ line 7 (5 ∷ 2 ∷ []) (R 2) ∷ line 7 (6 ∷ 2 ∷ []) (A 4) ∷ line 5 (6 ∷ 31 ∷ 4 ∷ []) (A 4)
+    ∷ []
+
 abbrev pub answered-so : Tables → List Line → Bool
 answered-so t [] = true
 answered-so t (l ∷ ls) = equal (answer t (decode (l .given))) (l .answered) && answered-so (next t (decode (l .given))) ls
@@ -140,6 +154,10 @@ answered-so t (l ∷ ls) = equal (answer t (decode (l .given))) (l .answered) &&
 pub rows-right : (answered-so empty base-lines && answered-so empty closed-lines && answered-so empty mapped-lines && answered-so empty channel-lines && answered-so crowd crowded-lines) ≡ true
 unfolding base-lines closed-lines mapped-lines channel-lines crowded-lines Label label level leq meet join bot need used cell whole speaks things handles edges safe decode rereads sheds ended effect refusal lowers answer
 rows-right = refl
+
+pub thread-rows-right : answered-so empty thread-lines ≡ true
+unfolding thread-lines Label label level leq meet join bot need used cell whole speaks things handles edges safe decode rereads sheds ended effect refusal lowers answer
+thread-rows-right = refl
 
 -- ── contents ──
 abbrev way : Access → ℕ
@@ -182,6 +200,19 @@ mapped-list = mapping-list ++ call 8 (3 ∷ 2 ∷ []) ∷ []
 abbrev blank-list : List Raw
 blank-list = call 1 (0 ∷ 9 ∷ []) ∷ call 1 (1 ∷ 9 ∷ []) ∷ call 3 (1 ∷ 3 ∷ []) ∷ call 4 (1 ∷ 4 ∷ 0 ∷ 1 ∷ []) ∷ call 17 (0 ∷ 1 ∷ 5 ∷ 6 ∷ 2 ∷ 3 ∷ []) ∷ []
 
+-- register 1, admit 2, thread 3, which opens it and reads: both have what 3 read
+abbrev thread-list : List Raw
+thread-list = call 2 (1 ∷ 2 ∷ []) ∷ call 1 (2 ∷ 9 ∷ []) ∷ call 18 (2 ∷ 3 ∷ []) ∷ call 5 (3 ∷ 1 ∷ 0 ∷ []) ∷ call 7 (3 ∷ 0 ∷ []) ∷ []
+
+-- admit 2, register 1, thread 3; both map it; 4 writes it: both read, 2 first
+abbrev thread-mapped-list : List Raw
+thread-mapped-list = call 1 (2 ∷ 2 ∷ []) ∷ call 2 (1 ∷ 2 ∷ []) ∷ call 18 (2 ∷ 3 ∷ []) ∷ call 14 (3 ∷ 1 ∷ 0 ∷ []) ∷ call 14 (2 ∷ 1 ∷ 0 ∷ []) ∷ call 1 (4 ∷ 2 ∷ []) ∷ call 6 (4 ∷ 1 ∷ 0 ∷ []) ∷ call 8 (4 ∷ 0 ∷ []) ∷ []
+
+pub thread-contents-right : (book telling from-10 thread-list .content (subject 2) ≡ 41034101110) × (book telling from-10 thread-list .content (subject 3) ≡ 41034101110)
+    × (book telling from-10 thread-mapped-list .content (subject 2) ≡ 31458828905722615) × (book telling from-10 thread-mapped-list .content (subject 3) ≡ 31458828905722615)
+unfolding Label label level leq meet join bot need used cell whole speaks things handles edges safe decode rereads sheds ended effect refusal lowers answer
+thread-contents-right = (refl, refl, refl, refl)
+
 pub contents-right : (book telling from-10 reading-list .content (subject 2) ≡ 41024101110) × (book telling from-10 reading-list .content (object 1) ≡ 10)
     × (book telling from-10 writing-list .content (object 1) ≡ 32410201011) × (book telling from-10 writing-list .content (subject 2) ≡ 11)
     × (book telling from-10 running-list .content (subject 3) ≡ 23024101110)
@@ -209,6 +240,7 @@ above k = record {
   hand = λ s p. elim s as (λ _. Option Handle) [ zero ↦ elim p as (λ _. Option Handle) [ zero ↦ some (handle writing 0) | suc p ↦ none ] | suc s ↦ some (mapping 0) ];
   freeze = no-freeze;
   numbers = [];
+  kin = eqb;
 }
 
 abbrev level-after : Tables → ℕ
@@ -237,8 +269,12 @@ mapped-away-list = call 2 (1 ∷ 9 ∷ []) ∷ call 1 (0 ∷ 9 ∷ []) ∷ call 
 abbrev channel-list : List Raw
 channel-list = call 1 (0 ∷ 9 ∷ []) ∷ call 1 (1 ∷ 9 ∷ []) ∷ call 17 (0 ∷ 1 ∷ 5 ∷ 6 ∷ 2 ∷ 3 ∷ []) ∷ call 17 (0 ∷ 1 ∷ 7 ∷ 8 ∷ 2 ∷ 4 ∷ []) ∷ call 12 (1 ∷ []) ∷ []
 
+-- register 1, admit 0, thread 1 opens twice, 0 once, exec of 0
+abbrev ousting-list : List Raw
+ousting-list = call 2 (1 ∷ 9 ∷ []) ∷ call 1 (0 ∷ 9 ∷ []) ∷ call 18 (0 ∷ 1 ∷ []) ∷ call 5 (1 ∷ 1 ∷ 0 ∷ []) ∷ call 6 (1 ∷ 1 ∷ 1 ∷ []) ∷ call 5 (0 ∷ 1 ∷ 0 ∷ []) ∷ call 10 (0 ∷ 1 ∷ []) ∷ []
+
 pub tally-right : (tally empty zeroed reading-list ≡ record { made = 1; gone = 0 }) × (tally empty zeroed counting-list ≡ record { made = 4; gone = 3 })
     × (tally empty zeroed marking-list ≡ record { made = 2; gone = 1 }) × (tally empty zeroed mapped-away-list ≡ record { made = 3; gone = 2 })
-    × (tally empty zeroed channel-list ≡ record { made = 4; gone = 2 })
+    × (tally empty zeroed channel-list ≡ record { made = 4; gone = 2 }) × (tally empty zeroed ousting-list ≡ record { made = 3; gone = 2 })
 unfolding tallied Label label level leq meet join bot need used cell whole speaks things handles edges safe decode rereads sheds ended effect refusal lowers answer
-tally-right = (refl, refl, refl, refl, refl)
+tally-right = (refl, refl, refl, refl, refl, refl)

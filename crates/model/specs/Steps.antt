@@ -1,13 +1,13 @@
--- The primitive steps that calls are made of, and what each does to the tables. States RULES C102, and how a level falls in
+-- The primitive steps that calls are made of, and what each does to the tables. States RULES C102 and C114 to C116, and how a level falls in
 -- RULES C7, C8, C10 and C14. What a step does to contents is in `Book`. Assumes nothing.
-use mathlib.Core.Bool.{Bool, true, false, not, _&&_, cond}
+use mathlib.Core.Bool.{Bool, true, false, not, _||_, _&&_, cond}
 use mathlib.Core.Option.{Option, none, some}
 use mathlib.Core.List.{List, [], _∷_}
 use Prim.Native.Nat.{ℕ}
 use lib.Dec.{eqb}
 use Rattle.model.specs.Label.{Label, meet}
 use Rattle.model.specs.Flow.{Thing, subject, object, same}
-use Rattle.model.specs.Tables.{Kind, running, file, pipe, Entry, entry, Handle, Tables, with-at, with-hand, with-freeze, is-pipe, whole, handles, open-on}
+use Rattle.model.specs.Tables.{Kind, running, file, pipe, Entry, entry, Handle, Tables, with-at, with-hand, with-freeze, with-kin, is-pipe, whole, handles, open-on}
 pub mod Laws
 
 -- RULES B11, B12, B16: where a new thing's content comes from
@@ -32,6 +32,8 @@ pub data Step : Type 0 where
   mix : Access → Thing → Thing → Thing → Thing → Step
   -- these subjects end: their places are emptied, and they are gone
   quits : (Thing → Bool) → Step
+  -- the first becomes a member of the second's group
+  binds : ℕ → ℕ → Step
   -- the freeze is this number
   freezes : ℕ → Step
 
@@ -52,6 +54,16 @@ without gone t = with-at t (λ x. cond (gone x) none (t .at x))
 abbrev pub vacated : (Thing → Bool) → (ℕ → ℕ → Option Handle) → ℕ → ℕ → Option Handle
 vacated gone h s p = cond (gone (subject s)) none (h s p)
 
+-- RULES C18, C115, C116: who is gone is in no group, and who joins is what the other is
+abbrev pub parted : (Thing → Bool) → (ℕ → ℕ → Bool) → ℕ → ℕ → Bool
+parted gone k a b = eqb a b || (not (gone (subject a)) && (not (gone (subject b)) && k a b))
+
+abbrev pub stand-in : ℕ → ℕ → ℕ → ℕ
+stand-in c s a = cond (eqb c a) s a
+
+abbrev pub bound : ℕ → ℕ → (ℕ → ℕ → Bool) → ℕ → ℕ → Bool
+bound c s k a b = k (stand-in c s a) (stand-in c s b)
+
 -- ── falling ──
 -- RULES T7, T8, T9: whose level may fall; a file's stays
 abbrev pub falls : Thing → Kind → Bool
@@ -69,7 +81,7 @@ fall x none d = none
 fall x (some e) none = some e
 fall x (some e) (some d) = some (entry (e .kind) (sunk x (e .kind) (e .label) (d .label)))
 
--- the entries once x, and who takes in what x does, took in what has entry d
+-- RULES C114: the entries once x, and who takes in what x does, took in what has entry d
 abbrev pub sink : Tables → Thing → Option Entry → Thing → Option Entry
 sink t x d y = cond (whole t x y) (fall y (t .at y) d) (t .at y)
 
@@ -80,7 +92,8 @@ apply (leave x) t = with-at t (put (t .at) x none)
 apply (hold s p v) t = with-hand t (place (t .hand) s p v)
 apply (holds s r) t = with-hand t (row (t .hand) s r)
 apply (mix m a b y x) t = with-at t (sink t y (t .at x))
-apply (quits g) t = without g (with-hand t (vacated g (t .hand)))
+apply (quits g) t = with-kin (without g (with-hand t (vacated g (t .hand)))) (parted g (t .kin))
+apply (binds c s) t = with-kin t (bound c s (t .kin))
 apply (freezes n) t = with-freeze t n
 
 abbrev pub applies : List Step → Tables → Tables

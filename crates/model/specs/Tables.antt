@@ -1,7 +1,7 @@
--- The tables, and what the rules read off them. States RULES T1 to T3, T6 to T12, T17, T18, T20, T24, T32, T35, T37 and T44, and RULES F1 to F3
--- and F5 to F8.
+-- The tables, and what the rules read off them. States RULES T1 to T3, T6 to T12, T17, T18, T20, T24, T32, T35, T37 and T44 to T46, RULES F1 to F3,
+-- F5 to F8 and F22, and RULES C114.
 --
--- What is kept (live things with kind and label, handles by place, the freeze, the live objects by number); what is in use and live; the lists of live things, of
+-- What is kept (live things with kind and label, handles by place, the freeze, the live objects by number, the groups); what is in use and live; the lists of live things, of
 -- handles and of flows; the need of a thing and the test that every live thing has enough; and `clean`, which reads tables that
 -- no calls made. Tables are functions, so that equality of tables is an equation. Assumes nothing.
 use mathlib.Core.Bool.{Bool, true, false, not, _&&_, cond}
@@ -37,13 +37,14 @@ pub record Handle : Type 0 where
   pub marked : Bool
   pub mapped : Bool
 
--- RULES T6, T11, T32, T44: the entries under the numbers in use; at each place one handle or none; the freeze; the numbers of the objects in use, rising, which
--- say nothing beside the entries (Calls/Listed)
+-- RULES T6, T11, T32, T44, T45, T46: the entries under the numbers in use; at each place of each subject one handle or none; the freeze; the numbers of the objects in
+-- use, rising, which say nothing beside the entries (Calls/Listed); and of each two subjects whether they are of one group
 pub record Tables : Type 0 where
   pub at : Thing → Option Entry
   pub hand : ℕ → ℕ → Option Handle
   pub freeze : ℕ
   pub numbers : List ℕ
+  pub kin : ℕ → ℕ → Bool
 
 -- RULES T32: the freeze where no file is frozen
 abbrev pub no-freeze : ℕ
@@ -51,7 +52,7 @@ no-freeze = 16
 
 -- RULES T12
 abbrev pub empty : Tables
-empty = record { at = λ x. none; hand = λ s p. none; freeze = no-freeze; numbers = [] }
+empty = record { at = λ x. none; hand = λ s p. none; freeze = no-freeze; numbers = []; kin = eqb }
 
 -- an entry, a handle, and tables with one part changed are built here alone
 abbrev pub entry : Kind → Label → Entry
@@ -68,16 +69,19 @@ abbrev pub with-mark : Handle → Handle
 with-mark k = record { dir = k .dir; to = k .to; marked = true; mapped = k .mapped }
 
 abbrev pub with-at : Tables → (Thing → Option Entry) → Tables
-with-at t a = record { at = a; hand = t .hand; freeze = t .freeze; numbers = t .numbers }
+with-at t a = record { at = a; hand = t .hand; freeze = t .freeze; numbers = t .numbers; kin = t .kin }
 
 abbrev pub with-hand : Tables → (ℕ → ℕ → Option Handle) → Tables
-with-hand t h = record { at = t .at; hand = h; freeze = t .freeze; numbers = t .numbers }
+with-hand t h = record { at = t .at; hand = h; freeze = t .freeze; numbers = t .numbers; kin = t .kin }
 
 abbrev pub with-freeze : Tables → ℕ → Tables
-with-freeze t f = record { at = t .at; hand = t .hand; freeze = f; numbers = t .numbers }
+with-freeze t f = record { at = t .at; hand = t .hand; freeze = f; numbers = t .numbers; kin = t .kin }
 
 abbrev pub with-numbers : Tables → List ℕ → Tables
-with-numbers t l = record { at = t .at; hand = t .hand; freeze = t .freeze; numbers = l }
+with-numbers t l = record { at = t .at; hand = t .hand; freeze = t .freeze; numbers = l; kin = t .kin }
+
+abbrev pub with-kin : Tables → (ℕ → ℕ → Bool) → Tables
+with-kin t k = record { at = t .at; hand = t .hand; freeze = t .freeze; numbers = t .numbers; kin = k }
 
 -- ── ranges, in use, live ──
 -- RULES T1, T2, T3: how many there are of each. The numbers of subjects and places are those below; an object has any number, and so many may be live at a time
@@ -131,9 +135,16 @@ is-pipe (object n) (some e) = elim (e .kind) [ running ↦ false | file ↦ fals
 unfoldable pub cell : Tables → ℕ → Thing
 cell t s = subject s
 
--- who takes in what x takes in: in this version x alone
+-- RULES C114: who takes in what x takes in: of a subject its group, of an object itself
 unfoldable pub whole : Tables → Thing → Thing → Bool
-whole t x y = same x y
+whole t (subject a) (subject b) = t .kin a b
+whole t (subject a) (object b) = false
+whole t (object a) y = same (object a) y
+
+-- RULES T45: the other members of the group of s
+abbrev pub mates : Tables → ℕ → Thing → Bool
+mates t s (subject m) = not (eqb s m) && t .kin s m
+mates t s (object o) = false
 
 -- ── the lists of live things and of handles ──
 -- RULES F8: of the live objects those on which a handle is: no other has a need above its own label, or a label that falls (Calls/Sound, `idle-need`)
@@ -184,9 +195,16 @@ flows-of none v = []
 flows-of (some x) none = []
 flows-of (some x) (some k) = flow x k ∷ []
 
--- RULES F3: the flows are those of the handles, and no others
+-- RULES F22: among the members of a group data flows freely
+abbrev pub share : ℕ → ℕ → Edge
+share a b = record { src = subject a; dst = subject b }
+
+abbrev pub shares-of : Tables → ℕ → List Edge
+shares-of t a = each subjects (λ b. keep (mates t a (subject b)) (share a b) [])
+
+-- RULES F3, F22: the flows are those of the handles and those among the members of a group, and no others
 unfoldable pub edges : Tables → List Edge
-edges t = each subjects (λ s. each places (λ p. flows-of (speaks t s) (t .hand s p)))
+edges t = each subjects (λ s. each places (λ p. flows-of (speaks t s) (t .hand s p))) ++ each subjects (shares-of t)
 
 -- RULES F5, F6, F7: what a thing demands of all that reach it, a file its label, any other thing nothing; and the need of a thing, by the
 -- handles that there are now

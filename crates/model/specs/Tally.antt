@@ -5,8 +5,9 @@ use mathlib.Core.List.{List, [], _∷_}
 use Prim.Native.Nat.{ℕ, _+_, _-_, _%_, _^_}
 use lib.ListN.{length}
 use Rattle.model.specs.Lists.{each}
-use Rattle.model.specs.Tables.{Handle, Tables, places, one, handles-of}
-use Rattle.model.specs.Calls.{Call, admit, register, create, make-pipe, opens, access, fork, exec, close, exit, retire, maps, mark, freeze, connect, unknown, ends-at-exec, Raw, decode, refusal, next}
+use Rattle.model.specs.Flow.{subject}
+use Rattle.model.specs.Tables.{Handle, Tables, subjects, places, mates, one, handles-of}
+use Rattle.model.specs.Calls.{Call, admit, register, create, make-pipe, opens, access, fork, thread, exec, close, exit, retire, maps, mark, freeze, connect, unknown, ends-at-exec, Raw, decode, refusal, next}
 pub mod Laws
 
 -- RULES Y4, Y6, Y11: how many handles s holds
@@ -22,6 +23,10 @@ dropped (some k) = cond (ends-at-exec k) (some k) none
 abbrev pub drops : Tables → ℕ → ℕ
 drops t s = length (each places (λ p. one (dropped (t .hand s p))))
 
+-- how many handles the other members of the group of s hold
+abbrev pub ousted : Tables → ℕ → ℕ
+ousted t s = length (each subjects (λ m. cond (mates t s (subject m)) (handles-of t m) []))
+
 -- RULES Y2, Y3, Y4, Y7, Y14: what a call adds to made
 abbrev pub makes : Tables → Call → ℕ
 makes t (admit s n) = 0
@@ -31,6 +36,7 @@ makes t (make-pipe s o r w) = 2
 makes t (opens d s o p) = 1
 makes t (access d s p) = 0
 makes t (fork s c) = held t s
+makes t (thread s c) = 0
 makes t (exec s o) = 0
 makes t (close s p) = 0
 makes t (exit s) = 0
@@ -50,7 +56,8 @@ removes t (make-pipe s o r w) = 0
 removes t (opens d s o p) = 0
 removes t (access d s p) = 0
 removes t (fork s c) = 0
-removes t (exec s o) = drops t s
+removes t (thread s c) = 0
+removes t (exec s o) = drops t s + ousted t s
 removes t (close s p) = 1
 removes t (exit s) = held t s
 removes t (retire o) = 0

@@ -14,43 +14,45 @@ use lib.Dec.{T, eqb, eqb→eq}
 use Rattle.tables.specs.declared.Handle.{Handle}
 use Rattle.tables.specs.Records.{reads-by, no-handle}
 use Rattle.passes.specs.Least.{figure, Before, Settled, Between}
-use Rattle.passes.specs.Working.{alike, end-by, source, target}
+use Rattle.passes.specs.Working.{alike, end-by, lead-of, source, target}
 use Rattle.passes.specs.Listing.{Bounded, Flow, Listed}
 use Rattle.passes.proofs.Raising.{true-false}
-use Rattle.passes.proofs.Nodes.{end-low}
 
 -- ── one handle ──
-module _ (hs : List Handle) (s p : ℕ) (ls : s < 32) (lp : p < 16) (h : Handle) (e : h ≡ getD hs (s * 16 + p) no-handle) where
-  its-end : (start : Bool) → end-by (getD hs (s * 16 + p) no-handle) ((s * 16 + p) / 16) start ≡ end-by h s start
-  its-end start = let d : (s * 16 + p) / 16 ≡ s = omega arith in
-      ap (λ (z : ℕ). end-by (getD hs (s * 16 + p) no-handle) z start) d ∙ ap (λ (g : Handle). end-by g s start) (sym e)
+module _ (ld : List ℕ) (hs : List Handle) (s p : ℕ) (ls : s < 32) (lp : p < 16) (h : Handle) (e : h ≡ getD hs (s * 16 + p) no-handle) where
+  abbrev v : ℕ
+  v = lead-of ld s
 
-  pub nowhere : h .way ≡ 0 → source hs (s * 16 + p) ≡ target hs (s * 16 + p)
+  its-end : (start : Bool) → end-by (getD hs (s * 16 + p) no-handle) (lead-of ld ((s * 16 + p) / 16)) start ≡ end-by h v start
+  its-end start = let d : (s * 16 + p) / 16 ≡ s = omega arith in
+      ap (λ (z : ℕ). end-by (getD hs (s * 16 + p) no-handle) (lead-of ld z) start) d ∙ ap (λ (g : Handle). end-by g v start) (sym e)
+
+  pub nowhere : h .way ≡ 0 → source ld hs (s * 16 + p) ≡ target ld hs (s * 16 + p)
   nowhere z = its-end true ∙ at true ∙ sym (at false) ∙ sym (its-end false)
     where
-      at : (start : Bool) → end-by h s start ≡ 0
-      at start = ap (λ (b : Bool). cond b 0 (cond (alike (reads-by (h .way)) start) (32 + h .object % 64) s)) (eq-eqb (h .way) 0 z)
+      at : (start : Bool) → end-by h v start ≡ 0
+      at start = ap (λ (b : Bool). cond b 0 (cond (alike (reads-by (h .way)) start) (32 + h .object % 64) v)) (eq-eqb (h .way) 0 z)
 
   module _ (ne : h .way ≡ 0 → ⊥) where
-    at-end : (r start : Bool) → reads-by (h .way) ≡ r → end-by h s start ≡ cond (alike r start) (32 + h .object % 64) s
-    at-end r start q = ap (λ (b : Bool). cond b 0 (cond (alike (reads-by (h .way)) start) (32 + h .object % 64) s)) (ne-eqb (h .way) 0 ne)
-        ∙ ap (λ (b : Bool). cond (alike b start) (32 + h .object % 64) s) q
+    at-end : (r start : Bool) → reads-by (h .way) ≡ r → end-by h v start ≡ cond (alike r start) (32 + h .object % 64) v
+    at-end r start q = ap (λ (b : Bool). cond b 0 (cond (alike (reads-by (h .way)) start) (32 + h .object % 64) v)) (ne-eqb (h .way) 0 ne)
+        ∙ ap (λ (b : Bool). cond (alike b start) (32 + h .object % 64) v) q
 
-    pub reads-from : reads-by (h .way) ≡ true → 32 + h .object % 64 ≡ source hs (s * 16 + p)
+    pub reads-from : reads-by (h .way) ≡ true → 32 + h .object % 64 ≡ source ld hs (s * 16 + p)
     reads-from q = sym (its-end true ∙ at-end true true q)
 
-    pub reads-to : reads-by (h .way) ≡ true → s ≡ target hs (s * 16 + p)
+    pub reads-to : reads-by (h .way) ≡ true → lead-of ld s ≡ target ld hs (s * 16 + p)
     reads-to q = sym (its-end false ∙ at-end true false q)
 
-    pub writes-from : reads-by (h .way) ≡ false → s ≡ source hs (s * 16 + p)
+    pub writes-from : reads-by (h .way) ≡ false → lead-of ld s ≡ source ld hs (s * 16 + p)
     writes-from q = sym (its-end true ∙ at-end false true q)
 
-    pub writes-to : reads-by (h .way) ≡ false → 32 + h .object % 64 ≡ target hs (s * 16 + p)
+    pub writes-to : reads-by (h .way) ≡ false → 32 + h .object % 64 ≡ target ld hs (s * 16 + p)
     writes-to q = sym (its-end false ∙ at-end false false q)
 
 -- ── the list, handle by handle ──
-pub none-listed : (hs : List Handle) (n : List ℕ) (need : ℕ) (from to : List ℕ) → length from ≡ 512 → length to ≡ 512 → Listed hs n need from to 0 0
-none-listed hs n need from to a b = record {
+pub none-listed : (ld : List ℕ) (hs : List Handle) (n : List ℕ) (need : ℕ) (from to : List ℕ) → length from ≡ 512 → length to ≡ 512 → Listed ld hs n need from to 0 0
+none-listed ld hs n need from to a b = record {
   starts-long = a;
   ends-long = b;
   few = le-refl _;
@@ -58,9 +60,9 @@ none-listed hs n need from to a b = record {
   only = λ k l. absurd (omega arith);
 }
 
-module _ (hs : List Handle) (n : List ℕ) (need : ℕ) (from to : List ℕ) (count i : ℕ) (p : Listed hs n need from to count i) where
+module _ (ld : List ℕ) (hs : List Handle) (n : List ℕ) (need : ℕ) (from to : List ℕ) (count i : ℕ) (p : Listed ld hs n need from to count i) where
   -- one that does not count
-  pub leave : (figure n (source hs i) ≡ need → source hs i ≡ target hs i) → Listed hs n need from to count (i + 1)
+  pub leave : (figure n (source ld hs i) ≡ need → source ld hs i ≡ target ld hs i) → Listed ld hs n need from to count (i + 1)
   leave f = record {
     starts-long = p .starts-long;
     ends-long = p .ends-long;
@@ -69,25 +71,25 @@ module _ (hs : List Handle) (n : List ℕ) (need : ℕ) (from to : List ℕ) (co
     only = λ k l. let r = p .only k l in (r .0, omega (arith, r .1), r .2, r .3);
   }
     where
-      at : (j : ℕ) → j < i + 1 → figure n (source hs j) ≡ need → Dec (j ≡ i) → (source hs j ≡ target hs j) ⊎ ((k : ℕ) × (k < count) × Flow hs from to j k)
-      at j l q (yes e) = inl (subst (λ (z : ℕ). figure n (source hs z) ≡ need → source hs z ≡ target hs z) (sym e) f q)
+      at : (j : ℕ) → j < i + 1 → figure n (source ld hs j) ≡ need → Dec (j ≡ i) → (source ld hs j ≡ target ld hs j) ⊎ ((k : ℕ) × (k < count) × Flow ld hs from to j k)
+      at j l q (yes e) = inl (subst (λ (z : ℕ). figure n (source ld hs z) ≡ need → source ld hs z ≡ target ld hs z) (sym e) f q)
       at j l q (no d) = p .has j (omega arith) q
 
   -- one that does
-  module _ (l : i < 512) (a b : ℕ) (ea : a ≡ source hs i) (eb : b ≡ target hs i) (q : figure n a ≡ need) where
-    stays : (j k : ℕ) → k < count → Flow hs from to j k → Flow hs (set from count a) (set to count b) j k
+  module _ (l : i < 512) (a b : ℕ) (ea : a ≡ source ld hs i) (eb : b ≡ target ld hs i) (q : figure n a ≡ need) where
+    stays : (j k : ℕ) → k < count → Flow ld hs from to j k → Flow ld hs (set from count a) (set to count b) j k
     stays j k h f = record {
       start = getD-set-other from count k a 0 (λ z. omega arith) ∙ f .start;
       end = getD-set-other to count k b 0 (λ z. omega arith) ∙ f .end;
     }
 
-    here : Flow hs (set from count a) (set to count b) i count
+    here : Flow ld hs (set from count a) (set to count b) i count
     here = record {
       start = getD-set-same from count a 0 (omega (arith, p .few, p .starts-long)) ∙ ea;
       end = getD-set-same to count b 0 (omega (arith, p .few, p .ends-long)) ∙ eb;
     }
 
-    pub put : Listed hs n need (set from count a) (set to count b) (count + 1) (i + 1)
+    pub put : Listed ld hs n need (set from count a) (set to count b) (count + 1) (i + 1)
     put = record {
       starts-long = simp length-set (p .starts-long);
       ends-long = simp length-set (p .ends-long);
@@ -96,17 +98,17 @@ module _ (hs : List Handle) (n : List ℕ) (need : ℕ) (from to : List ℕ) (co
       only = λ k h. of k h (ℕ-discrete k count);
     }
       where
-        at : (j : ℕ) → j < i + 1 → figure n (source hs j) ≡ need → Dec (j ≡ i)
-            → (source hs j ≡ target hs j) ⊎ ((k : ℕ) × (k < count + 1) × Flow hs (set from count a) (set to count b) j k)
-        at j h z (yes e) = inr (count, omega arith, subst (λ (y : ℕ). Flow hs (set from count a) (set to count b) y count) (sym e) here)
+        at : (j : ℕ) → j < i + 1 → figure n (source ld hs j) ≡ need → Dec (j ≡ i)
+            → (source ld hs j ≡ target ld hs j) ⊎ ((k : ℕ) × (k < count + 1) × Flow ld hs (set from count a) (set to count b) j k)
+        at j h z (yes e) = inr (count, omega arith, subst (λ (y : ℕ). Flow ld hs (set from count a) (set to count b) y count) (sym e) here)
         at j h z (no d) = elim (p .has j (omega arith) z) [
           | inl c ↦ inl c
           | inr c ↦ inr (c .0, omega (arith, c .1), stays j (c .0) (c .1) (c .2))
         ]
 
         of : (k : ℕ) → k < count + 1 → Dec (k ≡ count)
-            → (j : ℕ) × (j < i + 1) × (figure n (source hs j) ≡ need) × Flow hs (set from count a) (set to count b) j k
-        of k h (yes e) = (i, omega arith, ap (figure n) (sym ea) ∙ q, subst (λ (y : ℕ). Flow hs (set from count a) (set to count b) i y) (sym e) here)
+            → (j : ℕ) × (j < i + 1) × (figure n (source ld hs j) ≡ need) × Flow ld hs (set from count a) (set to count b) j k
+        of k h (yes e) = (i, omega arith, ap (figure n) (sym ea) ∙ q, subst (λ (y : ℕ). Flow ld hs (set from count a) (set to count b) i y) (sym e) here)
         of k h (no d) = let r = p .only k (omega arith) in (r .0, omega (arith, r .1), r .2, stays (r .0) k (omega arith) (r .3))
 
 -- what a test of two numbers says
@@ -117,25 +119,34 @@ pub other-of : (a b : ℕ) → eqb a b ≡ false → a ≡ b → ⊥
 other-of a b e q = true-false (sym (eq-eqb a b q) ∙ e)
 
 -- the code's variables are these
-pub listed-as : {hs : List Handle} {n : List ℕ} {need : ℕ} {from from′ to to′ : List ℕ} {count count′ i i′ : ℕ} → from′ ≡ from → to′ ≡ to → count′ ≡ count → i′ ≡ i
-    → Listed hs n need from to count i → Listed hs n need from′ to′ count′ i′
+pub listed-as : {ld : List ℕ} {hs : List Handle} {n : List ℕ} {need : ℕ} {from from′ to to′ : List ℕ} {count count′ i i′ : ℕ} → from′ ≡ from → to′ ≡ to → count′ ≡ count → i′ ≡ i
+    → Listed ld hs n need from to count i → Listed ld hs n need from′ to′ count′ i′
 listed-as a b c d p = rw (a, b, c, d) p
 
 -- ── the list has been made ──
-module _ {hs : List Handle} {n : List ℕ} {need : ℕ} {from to : List ℕ} {count : ℕ} (p : Listed hs n need from to count 512) where
+-- each end is one of the 96
+end-low : (start : Bool) (h : Handle) (s : ℕ) → s < 32 → end-by h s start < 96
+end-low start h s l = go (eqb (h .way) 0) (alike (reads-by (h .way)) start)
+  where
+    go : (b w : Bool) → cond b 0 (cond w (32 + h .object % 64) s) < 96
+    go true w = omega arith
+    go false true = omega arith
+    go false false = omega arith
+
+module _ {ld : List ℕ} {hs : List Handle} {n : List ℕ} {need : ℕ} {from to : List ℕ} {count : ℕ} (p : Listed ld hs n need from to count 512) where
   pub bounded : Bounded from to count
   bounded = record {
     few = p .few;
-    starts = λ k l. let r = p .only k l in subst (λ (z : ℕ). z < 96) (sym (r .3 .start)) (end-low true (getD hs (r .0) no-handle) (r .0 / 16) (omega (arith, r .1)));
-    ends = λ k l. let r = p .only k l in subst (λ (z : ℕ). z < 96) (sym (r .3 .end)) (end-low false (getD hs (r .0) no-handle) (r .0 / 16) (omega (arith, r .1)));
+    starts = λ k l. let r = p .only k l in subst (λ (z : ℕ). z < 96) (sym (r .3 .start)) (end-low true (getD hs (r .0) no-handle) (lead-of ld (r .0 / 16)) (omega arith));
+    ends = λ k l. let r = p .only k l in subst (λ (z : ℕ). z < 96) (sym (r .3 .end)) (end-low false (getD hs (r .0) no-handle) (lead-of ld (r .0 / 16)) (omega arith));
   }
 
   -- what falls along every flow of the handles does along the list
-  pub along-list : (ψ : ℕ → ℕ) → Settled (source hs) (target hs) ψ (Before 512) → Settled (figure from) (figure to) ψ (Before count)
+  pub along-list : (ψ : ℕ → ℕ) → Settled (source ld hs) (target ld hs) ψ (Before 512) → Settled (figure from) (figure to) ψ (Before count)
   along-list ψ f k l = let r = p .only k l in subst₂ (λ x y. ψ x ≤ ψ y) (sym (r .3 .end)) (sym (r .3 .start)) (f (r .0) (r .1))
 
   -- so that what is between on the list is between on the handles
-  pub between-handles : (base r : List ℕ) → Between count (figure from) (figure to) base r → Between 512 (source hs) (target hs) base r
+  pub between-handles : (base r : List ℕ) → Between count (figure from) (figure to) base r → Between 512 (source ld hs) (target ld hs) base r
   between-handles base r b = record {
     long = b .long;
     above = b .above;
@@ -143,10 +154,10 @@ module _ {hs : List Handle} {n : List ℕ} {need : ℕ} {from to : List ℕ} {co
   }
 
   -- and the other way round, of each handle whose source has the figure
-  pub along-handles : (ψ : ℕ → ℕ) → Settled (figure from) (figure to) ψ (Before count) → (i : ℕ) → i < 512 → figure n (source hs i) ≡ need
-      → ψ (target hs i) ≤ ψ (source hs i)
+  pub along-handles : (ψ : ℕ → ℕ) → Settled (figure from) (figure to) ψ (Before count) → (i : ℕ) → i < 512 → figure n (source ld hs i) ≡ need
+      → ψ (target ld hs i) ≤ ψ (source ld hs i)
   along-handles ψ f i l q = elim (p .has i l q) [
-    | inl c ↦ subst (λ (z : ℕ). ψ z ≤ ψ (source hs i)) c (le-refl _)
+    | inl c ↦ subst (λ (z : ℕ). ψ z ≤ ψ (source ld hs i)) c (le-refl _)
     | inr c ↦ subst₂ (λ x y. ψ x ≤ ψ y) (c .2 .end) (c .2 .start) (f (c .0) (c .1))
   ]
 
@@ -157,6 +168,6 @@ zeros (suc k) zero = refl
 zeros (suc k) (suc x) = zeros k x
 
 -- all flows are listed
-pub all-handles : {hs : List Handle} {from to : List ℕ} {count : ℕ} → Listed hs (replicate 96 0) 0 from to count 512 → (ψ : ℕ → ℕ)
-    → Settled (figure from) (figure to) ψ (Before count) → Settled (source hs) (target hs) ψ (Before 512)
-all-handles {hs} p ψ f i l = along-handles p ψ f i l (zeros 96 (source hs i))
+pub all-handles : {ld : List ℕ} {hs : List Handle} {from to : List ℕ} {count : ℕ} → Listed ld hs (replicate 96 0) 0 from to count 512 → (ψ : ℕ → ℕ)
+    → Settled (figure from) (figure to) ψ (Before count) → Settled (source ld hs) (target ld hs) ψ (Before 512)
+all-handles {ld} {hs} p ψ f i l = along-handles p ψ f i l (zeros 96 (source ld hs i))

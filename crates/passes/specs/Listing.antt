@@ -15,14 +15,14 @@ pub record Bounded (from to : List ℕ) (count : ℕ) : Type 0 where
   pub ends : (k : ℕ) → k < count → figure to k < 96
 
 -- the k-th edge of the list is the flow of the i-th handle
-pub record Flow (hs : List Handle) (from to : List ℕ) (i k : ℕ) : Type 0 where
-  pub start : figure from k ≡ source hs i
-  pub end : figure to k ≡ target hs i
+pub record Flow (ld : List ℕ) (hs : List Handle) (from to : List ℕ) (i k : ℕ) : Type 0 where
+  pub start : figure from k ≡ source ld hs i
+  pub end : figure to k ≡ target ld hs i
 
 -- of the first `done` handles, the list has each flow from a thing of the figure `need`, but for those that lead nowhere, and no other
-pub record Listed (hs : List Handle) (n : List ℕ) (need : ℕ) (from to : List ℕ) (count done : ℕ) : Type 0 where
+pub record Listed (ld : List ℕ) (hs : List Handle) (n : List ℕ) (need : ℕ) (from to : List ℕ) (count done : ℕ) : Type 0 where
   pub starts-long : length from ≡ 512
   pub ends-long : length to ≡ 512
   pub few : count ≤ done
-  pub has : (i : ℕ) → i < done → figure n (source hs i) ≡ need → (source hs i ≡ target hs i) ⊎ ((k : ℕ) × (k < count) × Flow hs from to i k)
-  pub only : (k : ℕ) → k < count → (i : ℕ) × (i < done) × (figure n (source hs i) ≡ need) × Flow hs from to i k
+  pub has : (i : ℕ) → i < done → figure n (source ld hs i) ≡ need → (source ld hs i ≡ target ld hs i) ⊎ ((k : ℕ) × (k < count) × Flow ld hs from to i k)
+  pub only : (k : ℕ) → k < count → (i : ℕ) × (i < done) × (figure n (source ld hs i) ≡ need) × Flow ld hs from to i k

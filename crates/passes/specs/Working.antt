@@ -18,12 +18,16 @@ alike a b = cond a b (not b)
 abbrev pub end-by : Handle → ℕ → Bool → ℕ
 end-by h s start = cond (eqb (h .way) 0) 0 (cond (alike (reads-by (h .way)) start) (32 + h .object % 64) s)
 
--- where the flow of the i-th handle starts, and where it ends
-abbrev pub source : List Handle → ℕ → ℕ
-source hs i = end-by (getD hs i no-handle) (i / 16) true
+-- the lead of subject s, which stands for its group
+abbrev pub lead-of : List ℕ → ℕ → ℕ
+lead-of ld s = getD ld s 0 % 32
 
-abbrev pub target : List Handle → ℕ → ℕ
-target hs i = end-by (getD hs i no-handle) (i / 16) false
+-- where the flow of the i-th handle starts, and where it ends, with each subject taken for its lead
+abbrev pub source : List ℕ → List Handle → ℕ → ℕ
+source ld hs i = end-by (getD hs i no-handle) (lead-of ld (i / 16)) true
+
+abbrev pub target : List ℕ → List Handle → ℕ → ℕ
+target ld hs i = end-by (getD hs i no-handle) (lead-of ld (i / 16)) false
 
 abbrev pub demanded-by : Object → ℕ
 demanded-by x = cond (eqb (x .kind) 1) (x .level) 0
@@ -53,6 +57,11 @@ backs os hs s need p = let h = getD hs (s * 16 + p) no-handle in writes-by (h .w
 -- a flow falls by the figures of its subject and its object
 abbrev pub falls-by : Bool → ℕ → ℕ → Bool
 falls-by reads mine its = cond reads (leb mine its) (leb its mine)
+
+-- the figures of things once each subject has that of its lead
+pub record Spread (ld n r : List ℕ) : Type 0 where
+  pub subjects : (s : ℕ) → s < 32 → getD r s 0 ≡ getD n (lead-of ld s) 0
+  pub objects : (i : ℕ) → getD r (32 + i) 0 ≡ getD n (32 + i) 0
 
 -- the thing at which the flow of handle h of subject s starts
 abbrev pub source-of : Handle → ℕ → ℕ

@@ -33,9 +33,10 @@ pub struct Raised {
     pub still: bool,
 }
 
-// The flows of the handles, in the order of their places: of those whose source has the figure `need`. (Both ends are worked out once here, and not in each pass.)
-pub fn listed(handles: [Handle; HANDLES], n: [u8; THINGS], need: u8) -> Edges
-    ensures { λ r. ⌜ Listed handles n need (r .from) (r .to) (r .count) 512 ⌝ }
+// The flows of the handles, in the order of their places: of those whose source has the figure `need`. A subject counts as its lead, modulo SUBJECTS, so that a group
+// is one thing. (Both ends are worked out once here, and not in each pass.)
+pub fn listed(handles: [Handle; HANDLES], leads: [u8; SUBJECTS], n: [u8; THINGS], need: u8) -> Edges
+    ensures { λ r. ⌜ Listed leads handles n need (r .from) (r .to) (r .count) 512 ⌝ }
 {
     let mut from = [0u8; HANDLES];
     let mut to = [0u8; HANDLES];
@@ -43,7 +44,8 @@ pub fn listed(handles: [Handle; HANDLES], n: [u8; THINGS], need: u8) -> Edges
     let mut s: usize = 0;
     while s < SUBJECTS {
         let base = s * PLACES;
-        let writes = n[s] == need;
+        let lead = leads[s] as usize % SUBJECTS;
+        let writes = n[lead] == need;
         let mut p: usize = 0;
         while p < PLACES {
             let at = base + p;
@@ -53,12 +55,12 @@ pub fn listed(handles: [Handle; HANDLES], n: [u8; THINGS], need: u8) -> Edges
                 if looks::is_reading(h.way) {
                     if n[o] == need {
                         from[count] = o as u8;
-                        to[count] = s as u8;
+                        to[count] = lead as u8;
                         count += 1;
                     }
                 } else {
                     if writes {
-                        from[count] = s as u8;
+                        from[count] = lead as u8;
                         to[count] = o as u8;
                         count += 1;
                     }

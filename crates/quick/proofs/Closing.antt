@@ -63,11 +63,11 @@ same-set l i d x h e = ext-getD d l (set l i x) (sym (length-set l i x)) (λ j k
     go j (yes q) = ap (λ (n : ℕ). getD l n d) q ∙ sym e ∙ sym (ap (λ (n : ℕ). getD (set l i x) n d) q ∙ getD-set-same l i x d h)
     go j (no n) = sym (getD-set-other l i j x d n)
 
-module _ (ns sb ob hb nb cs : List ℕ) (fz su s p : ℕ) (w : Whole ns sb ob hb nb cs) (one : su ≡ 1) (x : Subject) (h : Handle) (n : ℕ)
+module _ (gs : List ℕ) (lg : length gs ≡ 32) (ns sb ob hb nb cs : List ℕ) (fz su s p : ℕ) (w : Whole ns sb ob hb nb cs) (one : su ≡ 1) (x : Subject) (h : Handle) (n : ℕ)
     (ex : x ≡ subject-at s (getD (subjects-in sb) (s % 32) no-subject)) (eh : h ≡ handle-at s p (getD (handles-in hb) (s % 32 * 16 + p % 16) no-handle))
     (f : (t : Tables) (s p : ℕ) → Wf t → t .at (subject s) ≡ subject-entry x → t .hand s p ≡ held h → Refuses t (close s p) n × Refuses t (mark s p) n) where
   abbrev m : Monitor
-  m = monitor-in ns sb ob hb nb fz su
+  m = monitor-in gs ns sb ob hb nb fz su
 
   abbrev c : Call
   c = close s p
@@ -77,17 +77,17 @@ module _ (ns sb ob hb nb cs : List ℕ) (fz su s p : ℕ) (w : Whole ns sb ob hb
   lift d = lift-none (objects-in ob) ns (length-objects ob) (w .numbers) d c (λ ρ σ v l. refl) (λ t i h. h) (λ t. tt)
 
   g : Long m
-  g = whole-long ns sb ob hb nb cs fz su w
+  g = whole-long gs lg ns sb ob hb nb cs fz su w
 
   asked : Wf (slots m) → Refuses (slots m) c n
   asked v = f (slots m) s p v (subject-got m g s x ex) (handle-got m g s p h eh) .0
 
   pub close-refused : (n ≡ 0 → ⊥) → (r : ℕ) → r ≡ 20992 + n → n < 256
-      → Done (monitor-in ns sb ob hb nb fz su) (tally-in cs) (direct 11 s p 0 0 0 0) r (monitor-in ns sb ob hb nb fz su) (tally-in cs)
-  close-refused z = refusing ns sb ob hb nb cs fz su w one (direct 11 s p 0 0 0 0) c c (close-is s p) lift n (λ firm. stops m c n (back m n) (asked (firm .wf)) z refl)
+      → Done (monitor-in gs ns sb ob hb nb fz su) (tally-in cs) (direct 11 s p 0 0 0 0) r (monitor-in gs ns sb ob hb nb fz su) (tally-in cs)
+  close-refused z = refusing gs lg ns sb ob hb nb cs fz su w one (direct 11 s p 0 0 0 0) c c (close-is s p) lift n (λ firm. stops m c n (back m n) (asked (firm .wf)) z refl)
 
   -- ── it is left ──
-  module _ (z : n ≡ 0) (y : Object) (ey : y ≡ object-at (h .object) (getD (objects-in ob) (h .object % 64) no-object)) (i : Honest (monitor-in ns sb ob hb nb fz su)) where
+  module _ (z : n ≡ 0) (y : Object) (ey : y ≡ object-at (h .object) (getD (objects-in ob) (h .object % 64) no-object)) (i : Honest (monitor-in gs ns sb ob hb nb fz su)) where
     at-place : slots m .hand s p ≡ held h
     at-place = handle-got m g s p h eh
 
@@ -96,7 +96,7 @@ module _ (ns sb ob hb nb cs : List ℕ) (fz su s p : ℕ) (w : Whole ns sb ob hb
 
     left : ((k : Held) → slots m .hand s p ≡ some k → Loose (slots m) s k → effect (slots m) c .at (object (k .to)) ≡ slots m .at (object (k .to)) → ⊥)
         → Settles (view m) (decode (direct 11 s p 0 0 0 0)) 0
-    left f = settles-by ns sb ob hb nb cs fz su w one (direct 11 s p 0 0 0 0) c c (close-is s p) lift i 0 (λ ρ σ v l long. close-ren ρ σ v l (slots m) long s p 0 (record {
+    left f = settles-by gs lg ns sb ob hb nb cs fz su w one (direct 11 s p 0 0 0 0) c c (close-is s p) lift i 0 (λ ρ σ v l long. close-ren ρ σ v l (slots m) long s p 0 (record {
       refusing = λ k q l. absurd (Option·none-ne-some k (sym none-refuses ∙ q));
       opening = λ d s′ o p′ e. let q : _≡_ {A = ℕ} 0 1 = cc in absurd (omega arith);
       closing = λ s′ p′ k e q there loose stays. (let a : s′ ≡ s = cc in let b : p′ ≡ p = cc in
@@ -190,7 +190,7 @@ module _ (ns sb ob hb nb cs : List ℕ) (fz su s p : ℕ) (w : Whole ns sb ob hb
       by-loose (inr (inr f)) = by-file f
 
     pub close-loud : (not (eqb (getD nb (s % 32) 0) (getD nb (32 + h .object % 64) 0)) || (eqb (getD nb (s % 32) 0) 0 || (reads-by (h .way) && demands y (getD nb (s % 32) 0)))) ≡ false
-        → Settles (view (monitor-in ns sb ob hb nb fz su)) (decode (direct 11 s p 0 0 0 0)) 0
+        → Settles (view (monitor-in gs ns sb ob hb nb fz su)) (decode (direct 11 s p 0 0 0 0)) 0
     close-loud q = left (λ k there loose stays. true-false (sym (by-loose (its-ends k there) (subst (Loose (slots m) s) (same-handle k there) loose)) ∙ q))
 
     -- no other handle is on a pipe: it ends
@@ -241,7 +241,7 @@ module _ (ns sb ob hb nb cs : List ℕ) (fz su s p : ℕ) (w : Whole ns sb ob hb
           let v = live-entry (slots m) (h .object) (its-ends k there .to) in Option·none-ne-some (v .0) (sym ends-it ∙ q ∙ v .1)
 
     pub close-ended : (at : ℕ) → at ≡ s % 32 * 16 + p % 16 → ((y .kind < 2) ⊎ Beside (handles-in hb) (h .object) at → ⊥)
-        → Settles (view (monitor-in ns sb ob hb nb fz su)) (decode (direct 11 s p 0 0 0 0)) 0
+        → Settles (view (monitor-in gs ns sb ob hb nb fz su)) (decode (direct 11 s p 0 0 0 0)) 0
     close-ended at ea alone = left (λ k there loose. ended-not at ea alone k there)
 
   -- the object outlives the handle, and no need changes
@@ -277,13 +277,13 @@ module _ (ns sb ob hb nb cs : List ℕ) (fz su s p : ℕ) (w : Whole ns sb ob hb
         go (yes e) (no o) = backed-ready nb t s p h v j k low y (object-then rest ss (objects-in ob) hs t s p (h .object) y (length-objects ob) q ey)
             (sym (ap₂ (λ (a b : Bool). not a || (b || (reads-by (h .way) && demands y (getD nb (s % 32) 0)))) (eq-eqb _ _ e) (ne-eqb _ 0 o)) ∙ quiet)
 
-    acted : (hb′ : List ℕ) → handles-in hb′ ≡ set (handles-in hb) (s % 32 * 16 + p % 16) no-handle → Wf (slots m) → Acts m c (allowed (x .level)) (monitor-in ns sb ob hb′ nb fz su)
+    acted : (hb′ : List ℕ) → handles-in hb′ ≡ set (handles-in hb) (s % 32 * 16 + p % 16) no-handle → Wf (slots m) → Acts m c (allowed (x .level)) (monitor-in gs ns sb ob hb′ nb fz su)
     unfolding hs
-    acted hb′ put v = subst (λ (l : List Handle). Acts m c (allowed (x .level)) (record { numbers = ns; subjects = subjects-in sb; objects = objects-in ob; handles = l; freeze = fz; needs = nb; sure = su }))
+    acted hb′ put v = subst (λ (l : List Handle). Acts m c (allowed (x .level)) (record { numbers = ns; subjects = subjects-in sb; objects = objects-in ob; handles = l; freeze = fz; needs = nb; groups = gs; sure = su }))
         (sym put)
         (closes m g s p x h y y (objects-in ob) hs nb v free (subject-got m g s x ex) there ey refl outlives
         (same-set (objects-in ob) (h .object % 64) no-object y (omega (arith, length-objects ob)) (ey ∙ ap (λ (b : Bool). cond b (getD (objects-in ob) (h .object % 64) no-object) no-object) (lt-ltb (h .object) 64 low)))
-        kept)
+        (λ rest t p k. kept rest (m .subjects) t p))
       where
         there : slots m .hand s p ≡ held h
         there = handle-got m g s p h eh
@@ -296,6 +296,6 @@ module _ (ns sb ob hb nb cs : List ℕ) (fz su s p : ℕ) (w : Whole ns sb ob hb
 
     pub close-done : (hb′ cs′ : List ℕ) → handles-in hb′ ≡ set (handles-in hb) (s % 32 * 16 + p % 16) no-handle
         → cs′ ≡ set (set cs 0 (wrapped (getD cs 0 0 + 0))) 1 (wrapped (getD cs 1 0 + 1)) → (r : ℕ) → r ≡ 16640 + x .level → x .level < 256
-        → Done (monitor-in ns sb ob hb nb fz su) (tally-in cs) (direct 11 s p 0 0 0 0) r (monitor-in ns sb ob hb′ nb fz su) (tally-in cs′)
-    close-done hb′ cs′ put count = allowing ns sb ob hb nb cs fz su w one (direct 11 s p 0 0 0 0) c c (close-is s p) lift (x .level) hb′ cs′ (λ firm. acted hb′ put (firm .wf)) (λ v. acts-keeps v (acted hb′ put v))
+        → Done (monitor-in gs ns sb ob hb nb fz su) (tally-in cs) (direct 11 s p 0 0 0 0) r (monitor-in gs ns sb ob hb′ nb fz su) (tally-in cs′)
+    close-done hb′ cs′ put count = allowing gs lg ns sb ob hb nb cs fz su w one (direct 11 s p 0 0 0 0) c c (close-is s p) lift (x .level) hb′ cs′ (λ firm. acted hb′ put (firm .wf)) (λ v. acts-keeps v (acted hb′ put v))
         (λ t. ap (λ (l : List ℕ). getD l 0 0) count ∙ counted-made cs (w .counts) _ _) (λ t. ap (λ (l : List ℕ). getD l 1 0) count ∙ counted-gone cs (w .counts) _ _)

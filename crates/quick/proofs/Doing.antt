@@ -38,24 +38,24 @@ never : {X : Type 0} {l k : ℕ} → _≡_ {A = Told} (allowed l) (refused k) �
 never e = let z : _≡_ {A = ℕ} 0 1 = cc in absurd (omega arith)
 
 -- the parts' arrays have their lengths
-pub whole-long : (ns sb ob hb nb cs : List ℕ) (fz su : ℕ) → Whole ns sb ob hb nb cs → Long (monitor-in ns sb ob hb nb fz su)
-whole-long ns sb ob hb nb cs fz su w = record { subjects = length-subjects sb; objects = length-objects ob; handles = length-handles hb; needs = w .needs }
+pub whole-long : (gs : List ℕ) → length gs ≡ 32 → (ns sb ob hb nb cs : List ℕ) (fz su : ℕ) → Whole ns sb ob hb nb cs → Long (monitor-in gs ns sb ob hb nb fz su)
+whole-long gs lg ns sb ob hb nb cs fz su w = record { subjects = length-subjects sb; objects = length-objects ob; handles = length-handles hb; needs = w .needs; groups = lg }
 
 -- call c by number is call k by slot
-module _ (ns sb ob hb nb cs : List ℕ) (fz su : ℕ) (w : Whole ns sb ob hb nb cs) (one : su ≡ 1) (r : Raw) (c k : Call) (is : decode r ≡ c)
-    (L : Apart (monitor-in ns sb ob hb nb fz su) → Lift (objects-in ob) ns c k ns) where
+module _ (gs : List ℕ) (lg : length gs ≡ 32) (ns sb ob hb nb cs : List ℕ) (fz su : ℕ) (w : Whole ns sb ob hb nb cs) (one : su ≡ 1) (r : Raw) (c k : Call) (is : decode r ≡ c)
+    (L : Apart (monitor-in gs ns sb ob hb nb fz su) → Lift (objects-in ob) ns c k ns) where
   abbrev m : Monitor
-  m = monitor-in ns sb ob hb nb fz su
+  m = monitor-in gs ns sb ob hb nb fz su
 
   long : length (m .objects) ≡ 64
   long = length-objects ob
 
   read : Wf (clean (slots (once m)))
-  read = read-wf (once m) (once-long m (whole-long ns sb ob hb nb cs fz su w))
+  read = read-wf (once m) (once-long m (whole-long gs lg ns sb ob hb nb cs fz su w))
 
   -- what holds by slot holds by number: a sure monitor is readied as it stands
-  module _ (a : Answer) (n : Monitor) (ln : length (n .objects) ≡ 64) (acts : Firm (monitor-in ns sb ob hb nb fz su) → Acts (monitor-in ns sb ob hb nb fz su) k (told a) n)
-      (keeps : Wf (slots (monitor-in ns sb ob hb nb fz su)) → Keeps (monitor-in ns sb ob hb nb fz su) k n) where
+  module _ (a : Answer) (n : Monitor) (ln : length (n .objects) ≡ 64) (acts : Firm (monitor-in gs ns sb ob hb nb fz su) → Acts (monitor-in gs ns sb ob hb nb fz su) k (told a) n)
+      (keeps : Wf (slots (monitor-in gs ns sb ob hb nb fz su)) → Keeps (monitor-in gs ns sb ob hb nb fz su) k n) where
     made : Tidy m → Made (once m) m c k (record { monitor = n; answer = a })
     made h = let x = h one in let o = single-same m long (x .0) in record {
       tables = λ v. sym (ap (λ (y : Monitor). clean (slots y)) (once-same m long (x .0)) ∙ clean-same (slots m) (x .1));
@@ -72,11 +72,11 @@ module _ (ns sb ob hb nb cs : List ℕ) (fz su : ℕ) (w : Whole ns sb ob hb nb 
         (meets m m c k (record { monitor = n; answer = a }) long ln read made (settled m (record { monitor = n; answer = a })) refl)
 
   -- a refusal leaves all as it was
-  module _ (j : ℕ) (z : Firm (monitor-in ns sb ob hb nb fz su) → Acts (monitor-in ns sb ob hb nb fz su) k (refused j) (monitor-in ns sb ob hb nb fz su)) where
+  module _ (j : ℕ) (z : Firm (monitor-in gs ns sb ob hb nb fz su) → Acts (monitor-in gs ns sb ob hb nb fz su) k (refused j) (monitor-in gs ns sb ob hb nb fz su)) where
     refused-meets : Meets monitors m (decode r) (refused j) m
     refused-meets = by-slot (Refused j) m long z (λ v. record { whole = v; kept = λ h. h; says = refl; numbered = refl; came = λ i u. inl u }) refl
 
-    pub refusing : (n : ℕ) → n ≡ 20992 + j → j < 256 → Done (monitor-in ns sb ob hb nb fz su) (tally-in cs) r n (monitor-in ns sb ob hb nb fz su) (tally-in cs)
+    pub refusing : (n : ℕ) → n ≡ 20992 + j → j < 256 → Done (monitor-in gs ns sb ob hb nb fz su) (tally-in cs) r n (monitor-in gs ns sb ob hb nb fz su) (tally-in cs)
     refusing n e b = record {
       answer = refused j;
       number = e;
@@ -89,13 +89,13 @@ module _ (ns sb ob hb nb cs : List ℕ) (fz su : ℕ) (w : Whole ns sb ob hb nb 
     }
 
   -- a call that is allowed; hb′ are the handles after it, and cs′ the counts
-  module _ (l : ℕ) (hb′ cs′ : List ℕ) (z : Firm (monitor-in ns sb ob hb nb fz su) → Acts (monitor-in ns sb ob hb nb fz su) k (allowed l) (monitor-in ns sb ob hb′ nb fz su))
-      (y : Wf (slots (monitor-in ns sb ob hb nb fz su)) → Keeps (monitor-in ns sb ob hb nb fz su) k (monitor-in ns sb ob hb′ nb fz su))
+  module _ (l : ℕ) (hb′ cs′ : List ℕ) (z : Firm (monitor-in gs ns sb ob hb nb fz su) → Acts (monitor-in gs ns sb ob hb nb fz su) k (allowed l) (monitor-in gs ns sb ob hb′ nb fz su))
+      (y : Wf (slots (monitor-in gs ns sb ob hb nb fz su)) → Keeps (monitor-in gs ns sb ob hb nb fz su) k (monitor-in gs ns sb ob hb′ nb fz su))
       (made : (t : Tables) → getD cs′ 0 0 ≡ wrapped (getD cs 0 0 + makes t c)) (gone : (t : Tables) → getD cs′ 1 0 ≡ wrapped (getD cs 1 0 + removes t c)) where
-    allowed-meets : Meets monitors m (decode r) (allowed l) (monitor-in ns sb ob hb′ nb fz su)
-    allowed-meets = by-slot (Allowed l) (monitor-in ns sb ob hb′ nb fz su) (length-objects ob) z y refl
+    allowed-meets : Meets monitors m (decode r) (allowed l) (monitor-in gs ns sb ob hb′ nb fz su)
+    allowed-meets = by-slot (Allowed l) (monitor-in gs ns sb ob hb′ nb fz su) (length-objects ob) z y refl
 
-    pub allowing : (n : ℕ) → n ≡ 16640 + l → l < 256 → Done (monitor-in ns sb ob hb nb fz su) (tally-in cs) r n (monitor-in ns sb ob hb′ nb fz su) (tally-in cs′)
+    pub allowing : (n : ℕ) → n ≡ 16640 + l → l < 256 → Done (monitor-in gs ns sb ob hb nb fz su) (tally-in cs) r n (monitor-in gs ns sb ob hb′ nb fz su) (tally-in cs′)
     allowing n e b = record {
       answer = allowed l;
       number = e;
@@ -110,7 +110,7 @@ module _ (ns sb ob hb nb cs : List ℕ) (fz su : ℕ) (w : Whole ns sb ob hb nb 
     }
 
   -- the tables of a sure and honest monitor are those by slot, renumbered
-  module _ (h : Honest (monitor-in ns sb ob hb nb fz su)) where
+  module _ (h : Honest (monitor-in gs ns sb ob hb nb fz su)) where
     lift : Lift (objects-in ob) ns c k ns
     lift = L (h one .0)
 
@@ -118,9 +118,9 @@ module _ (ns sb ob hb nb cs : List ℕ) (fz su : ℕ) (w : Whole ns sb ob hb nb 
     seen = view-slots m long (h one .0) (h one .1 .wf) (lift .ρ) (lift .σ) (lift .one-to-one) (lift .names)
 
     -- what is settled by slot is settled by number
-    pub settles-by : (n : ℕ) → ((ρ σ : ℕ → ℕ) (v : Renumbers ρ σ) (l : List ℕ) → length l ≡ length (slots (monitor-in ns sb ob hb nb fz su) .numbers)
-        → Settles (ren ρ σ v l (slots (monitor-in ns sb ob hb nb fz su))) (call ρ σ v l k) n)
-        → Settles (view (monitor-in ns sb ob hb nb fz su)) (decode r) n
+    pub settles-by : (n : ℕ) → ((ρ σ : ℕ → ℕ) (v : Renumbers ρ σ) (l : List ℕ) → length l ≡ length (slots (monitor-in gs ns sb ob hb nb fz su) .numbers)
+        → Settles (ren ρ σ v l (slots (monitor-in gs ns sb ob hb nb fz su))) (call ρ σ v l k) n)
+        → Settles (view (monitor-in gs ns sb ob hb nb fz su)) (decode r) n
     settles-by n f = subst₂ (λ (t : Tables) (d : Call). Settles t d n) (sym (seen .0)) (lift .call-is (numbers-of m) ∙ sym is)
         (f (lift .ρ) (lift .σ) (lift .one-to-one) (numbers-of m) (seen .1))
 

@@ -9,7 +9,7 @@ use Prim.Native.Nat.{ℕ, _+_, _*_, _%_, _<_}
 use native.Mathlib.Omega.{arith}
 use native.Mathlib.Decide.{ℕ-discrete}
 use borrow.Author.Tests.{eq-eqb, ne-eqb, le-leb}
-use lib.ListN.{getD, set}
+use lib.ListN.{length, getD, set}
 use lib.Dec.{T, eqb, leb, ltb→lt}
 use Rattle.model.specs.Label.{Label, label, _⊑_}
 use Rattle.model.specs.Label.Laws.{level-label, ⊑→le}
@@ -138,12 +138,12 @@ code-opens code (inl q) = subst (λ (k : ℕ). (eqb k 5 || eqb k 6) ≡ true) q 
 code-opens code (inr (inl q)) = subst (λ (k : ℕ). (eqb k 5 || eqb k 6) ≡ true) q refl
 code-opens code (inr (inr q)) = absurd q
 
-module _ (ns sb ob hb nb cs : List ℕ) (fz su code s n₀ o p : ℕ) (w : Whole ns sb ob hb nb cs) (one : su ≡ 1) (at : Found (objects-in ob) ns n₀ o) (e : (eqb code 5 || eqb code 6) ≡ true)
+module _ (gs : List ℕ) (lg : length gs ≡ 32) (ns sb ob hb nb cs : List ℕ) (fz su code s n₀ o p : ℕ) (w : Whole ns sb ob hb nb cs) (one : su ≡ 1) (at : Found (objects-in ob) ns n₀ o) (e : (eqb code 5 || eqb code 6) ≡ true)
     (x : Subject) (y : Object) (h : Handle) (n : ℕ) (ex : x ≡ subject-at s (getD (subjects-in sb) (s % 32) no-subject))
     (ey : y ≡ object-at o (getD (objects-in ob) (o % 64) no-object)) (eh : h ≡ handle-at s p (getD (handles-in hb) (s % 32 * 16 + p % 16) no-handle))
     (f : (t : Tables) (d : Dir) (s o : ℕ) → Wf t → t .at (subject s) ≡ subject-entry x → t .at (object o) ≡ object-entry y → t .hand s p ≡ held h → Refuses t (opens d s o p) n) where
   abbrev m : Monitor
-  m = monitor-in ns sb ob hb nb fz su
+  m = monitor-in gs ns sb ob hb nb fz su
 
   abbrev b : Bool
   b = eqb code 5
@@ -156,7 +156,7 @@ module _ (ns sb ob hb nb cs : List ℕ) (fz su code s n₀ o p : ℕ) (w : Whole
   lift d = lift-named (objects-in ob) ns (length-objects ob) (w .numbers) d (λ (j : ℕ). opens (direction b) s j p) n₀ o at (λ ρ σ v l j. refl) (λ t j h. h) (λ t. tt)
 
   g : Long m
-  g = whole-long ns sb ob hb nb cs fz su w
+  g = whole-long gs lg ns sb ob hb nb cs fz su w
 
   there : slots m .at (object o) ≡ object-entry y
   there = object-got m g o y ey
@@ -170,8 +170,8 @@ module _ (ns sb ob hb nb cs : List ℕ) (fz su code s n₀ o p : ℕ) (w : Whole
 
   -- a row over records refuses it
   pub open-refused : (n ≡ 0 → ⊥) → (r : ℕ) → r ≡ 20992 + n → n < 256
-      → Done (monitor-in ns sb ob hb nb fz su) (tally-in cs) (direct code s n₀ p 0 0 0) r (monitor-in ns sb ob hb nb fz su) (tally-in cs)
-  open-refused z = refusing ns sb ob hb nb cs fz su w one (direct code s n₀ p 0 0 0) (opens (direction b) s n₀ p) c (opens-is code s n₀ p e) lift n (λ firm. stops m c n (back m n) (asked (firm .wf)) z refl)
+      → Done (monitor-in gs ns sb ob hb nb fz su) (tally-in cs) (direct code s n₀ p 0 0 0) r (monitor-in gs ns sb ob hb nb fz su) (tally-in cs)
+  open-refused z = refusing gs lg ns sb ob hb nb cs fz su w one (direct code s n₀ p 0 0 0) (opens (direction b) s n₀ p) c (opens-is code s n₀ p e) lift n (λ firm. stops m c n (back m n) (asked (firm .wf)) z refl)
 
   -- no row over records refuses it
   module _ (z : n ≡ 0) (frozen : Bool) (ef : (t : Tables) (o : ℕ) → t .freeze ≡ fz → t .at (object o) ≡ object-entry y → broken t (thawed (direction (eqb code 5)) o) ≡ frozen) where
@@ -181,17 +181,17 @@ module _ (ns sb ob hb nb cs : List ℕ) (fz su code s n₀ o p : ℕ) (w : Whole
 
     -- it is frozen, whatever the flow
     pub open-frozen : frozen ≡ true → (r : ℕ) → r ≡ 20992 + 15
-        → Done (monitor-in ns sb ob hb nb fz su) (tally-in cs) (direct code s n₀ p 0 0 0) r (monitor-in ns sb ob hb nb fz su) (tally-in cs)
-    open-frozen q r f = refusing ns sb ob hb nb cs fz su w one (direct code s n₀ p 0 0 0) (opens (direction b) s n₀ p) c (opens-is code s n₀ p e) lift 15
+        → Done (monitor-in gs ns sb ob hb nb fz su) (tally-in cs) (direct code s n₀ p 0 0 0) r (monitor-in gs ns sb ob hb nb fz su) (tally-in cs)
+    open-frozen q r f = refusing gs lg ns sb ob hb nb cs fz su w one (direct code s n₀ p 0 0 0) (opens (direction b) s n₀ p) c (opens-is code s n₀ p e) lift 15
         (λ firm. ends m c 15 (back m 15) (found-late {n = 15} {b9 = breaks (slots m) 9 (tests c)} {b10 = breaks (slots m) 10 (tests c)} {b15 = true} refl (slots m) c
         (waits (asked (firm .wf)) z) (record { nine = refl; ten = refl; fifteen = alone (is-frozen ∙ q) })) (λ h. omega arith) refl)
         r f (omega arith)
 
     module _ (warm : frozen ≡ false) where
       -- it is left: the flow does not fall
-      pub open-left : falls-by (eqb code 5) (getD nb (s % 32) 0) (getD nb (32 + o % 64) 0) ≡ false → Honest (monitor-in ns sb ob hb nb fz su)
-          → Settles (view (monitor-in ns sb ob hb nb fz su)) (decode (direct code s n₀ p 0 0 0)) 0
-      open-left up i = settles-by ns sb ob hb nb cs fz su w one (direct code s n₀ p 0 0 0) (opens (direction b) s n₀ p) c (opens-is code s n₀ p e) lift i 0
+      pub open-left : falls-by (eqb code 5) (getD nb (s % 32) 0) (getD nb (32 + o % 64) 0) ≡ false → Honest (monitor-in gs ns sb ob hb nb fz su)
+          → Settles (view (monitor-in gs ns sb ob hb nb fz su)) (decode (direct code s n₀ p 0 0 0)) 0
+      open-left up i = settles-by gs lg ns sb ob hb nb cs fz su w one (direct code s n₀ p 0 0 0) (opens (direction b) s n₀ p) c (opens-is code s n₀ p e) lift i 0
           (λ ρ σ v l long. open-ren ρ σ v l (slots m) long (direction b) s o p 0 (record {
             refusing = λ k q l. absurd (l (nine-left (slots m) (direction b) s o p k (is-frozen ∙ warm) (sym (goes (asked (i one .1 .wf)) z) ∙ q)));
             opening = λ d′ s′ o′ p′ is q stay. true-false (sym (stay-falls nb (slots m) b s o p (low-slot q) (i one .1 .wf) (i one .2) q stay) ∙ up);
@@ -212,7 +212,7 @@ module _ (ns sb ob hb nb cs : List ℕ) (fz su code s n₀ o p : ℕ) (w : Whole
         low-new = rw en (omega arith)
 
         quiet : (next : List Handle) → Opening m (eqb (m .sure) 1) next s new nb false
-        quiet next rest t p w e v q k = let f = k (eq-eqb (m .sure) 1 one) in (
+        quiet next rest t p kin w e v q k = let f = k (eq-eqb (m .sure) 1 one) in (
           subst (λ (u : Tables). Ready u (figure-of nb)) (sym q) (quiet-ready nb t s p new w e v f low-new down-new),
           λ j. quiet-safe nb t s p new w e v f low-new down-new (j (eq-eqb (m .sure) 1 one)) ∙ ap (λ (u : Tables). not (safe u)) (sym q),
         )
@@ -227,9 +227,9 @@ module _ (ns sb ob hb nb cs : List ℕ) (fz su code s n₀ o p : ℕ) (w : Whole
 
         pub open-done : (hb′ cs′ : List ℕ) → handles-in hb′ ≡ set (handles-in hb) (s % 32 * 16 + p % 16) new
             → cs′ ≡ set (set cs 0 (wrapped (getD cs 0 0 + 1))) 1 (wrapped (getD cs 1 0 + 0)) → (r : ℕ) → r ≡ 16640 + y .level → y .level < 256
-            → Done (monitor-in ns sb ob hb nb fz su) (tally-in cs) (direct code s n₀ p 0 0 0) r (monitor-in ns sb ob hb′ nb fz su) (tally-in cs′)
+            → Done (monitor-in gs ns sb ob hb nb fz su) (tally-in cs) (direct code s n₀ p 0 0 0) r (monitor-in gs ns sb ob hb′ nb fz su) (tally-in cs′)
         unfolding next
-        open-done hb′ cs′ put count = allowing ns sb ob hb nb cs fz su w one (direct code s n₀ p 0 0 0) (opens (direction b) s n₀ p) c (opens-is code s n₀ p e) lift (y .level) hb′ cs′
+        open-done hb′ cs′ put count = allowing gs lg ns sb ob hb nb cs fz su w one (direct code s n₀ p 0 0 0) (opens (direction b) s n₀ p) c (opens-is code s n₀ p e) lift (y .level) hb′ cs′
             (λ firm. opens-acts m g b s o p y new (handles-in hb′) nb false (firm .wf) (waits (asked (firm .wf)) z) there en put (quiet (handles-in hb′)) (frees (said firm) refl))
             (λ v. opens-keeps m g b s o p y new (handles-in hb′) nb false v (waits (asked v) z) there en put (quiet (handles-in hb′)))
             (λ t. ap (λ (l : List ℕ). getD l 0 0) count ∙ counted-made cs (w .counts) _ _)

@@ -30,14 +30,16 @@ pub record Whole (ns sb ob hb nb cs : List ℕ) : Type 0 where
   pub needs : length nb ≡ 96
   pub counts : length cs ≡ 2
 
-abbrev pub monitor-in : (numbers subjects objects handles needs : List ℕ) (freeze sure : ℕ) → Monitor
-monitor-in numbers subjects objects handles needs freeze sure = record {
+-- the groups are not lent: no open and no close looks at them
+abbrev pub monitor-in : (groups numbers subjects objects handles needs : List ℕ) (freeze sure : ℕ) → Monitor
+monitor-in groups numbers subjects objects handles needs freeze sure = record {
   numbers = numbers;
   subjects = subjects-in subjects;
   objects = objects-in objects;
   handles = handles-in handles;
   freeze = freeze;
   needs = needs;
+  groups = groups;
   sure = sure;
 }
 
@@ -81,10 +83,10 @@ pub record Settles (t : Tables) (c : Call) (n : ℕ) : Type 0 where
 
 -- RULES H24: the call r was tried on these parts, n was returned, and hb′ and cs′ are the handles and counts left: any number but 0 is the answer to
 -- a call that was done, on parts that are whole; 0 says that all is as it was; and a call of one of these codes, on whole parts of a monitor that is
--- sure and honest, is settled as above
+-- sure and honest, is settled as above. Whatever the groups are, which are not lent
 abbrev pub Tried : (codes ns sb ob hb nb cs : List ℕ) (fz su : ℕ) (r : Raw) (n : ℕ) (hb′ cs′ : List ℕ) → Type 0
-Tried codes ns sb ob hb nb cs fz su r n hb′ cs′ =
-    (0 < n → Whole ns sb ob hb nb cs × Done (monitor-in ns sb ob hb nb fz su) (tally-in cs) r n (monitor-in ns sb ob hb′ nb fz su) (tally-in cs′))
+Tried codes ns sb ob hb nb cs fz su r n hb′ cs′ = (gs : List ℕ) → length gs ≡ 32 →
+    (0 < n → Whole ns sb ob hb nb cs × Done (monitor-in gs ns sb ob hb nb fz su) (tally-in cs) r n (monitor-in gs ns sb ob hb′ nb fz su) (tally-in cs′))
     × (n ≡ 0 → (hb′ ≡ hb) × (cs′ ≡ cs))
-    × (In (r .code) codes → Whole ns sb ob hb nb cs → su ≡ 1 → Honest (monitor-in ns sb ob hb nb fz su)
-    → Settles (view (monitor-in ns sb ob hb nb fz su)) (decode r) n)
+    × (In (r .code) codes → Whole ns sb ob hb nb cs → su ≡ 1 → Honest (monitor-in gs ns sb ob hb nb fz su)
+    → Settles (view (monitor-in gs ns sb ob hb nb fz su)) (decode r) n)

@@ -7,7 +7,7 @@ use Prim.Native.Nat.{ℕ}
 use lib.Dec.{eqb, leb}
 use Rattle.model.specs.Tables.{Tables, Dir, reading, writing}
 use Rattle.model.specs.Flow.{object}
-use Rattle.model.specs.Calls.{Call, admit, register, create, make-pipe, opens, maps, access, connect, fork, exec, close, mark, exit, retire, freeze, unknown, roomy, broken, tests, breaks, first, refusal}
+use Rattle.model.specs.Calls.{Call, admit, register, create, make-pipe, opens, maps, access, connect, fork, thread, exec, close, mark, exit, retire, freeze, unknown, roomy, broken, tests, breaks, first, refusal}
 
 -- the first condition of RULES R2 to R8, R16 and R17 that holds, in the order of the rules, 0 where none does
 abbrev pub found : Bool → Bool → Bool → Bool → Bool → Bool → Bool → Bool → Bool → ℕ
@@ -47,6 +47,7 @@ Room t (opens d s o p) = Unit {0}
 Room t (maps s o p) = Unit {0}
 Room t (access d s p) = Unit {0}
 Room t (fork s c) = Unit {0}
+Room t (thread s c) = Unit {0}
 Room t (exec s o) = Unit {0}
 Room t (close s p) = Unit {0}
 Room t (mark s p) = Unit {0}

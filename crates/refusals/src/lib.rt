@@ -10,7 +10,7 @@ ghost use Prim.Native.Nat.{ℕ};
 ghost use Rattle.model.specs.Flow.{subject, object};
 ghost use Rattle.model.specs.Tables.{Tables, Dir, reading, writing};
 ghost use Rattle.model.specs.Invariant.{Wf};
-ghost use Rattle.model.specs.Calls.{Call, admit, register, create, make-pipe, opens, access, fork, exec, close, exit, retire, maps, mark, freeze, connect, thawed, broken};
+ghost use Rattle.model.specs.Calls.{Call, admit, register, create, make-pipe, opens, access, fork, thread, exec, close, exit, retire, maps, mark, freeze, connect, thawed, broken};
 ghost use Rattle.tables.specs.Records.{subject-entry, object-entry, held};
 ghost use Rattle.refusals.specs.Refusing.{found, Room, Refuses, Late, Refused, direction};
 ghost use Rattle.tables.specs.Working.{used-subject, used-object, used-place};
@@ -286,10 +286,10 @@ pub fn of_write(x: Subject, h: Handle) -> u8
     )
 }
 
-// Call 9; x stands at s, z at c.
+// Calls 9 and 18; x stands at s, z at c.
 pub fn of_fork(c: u64, x: Subject, z: Subject) -> u8
     ensures { λ r. ⌜ ((t : Tables) (s : ℕ) → Wf t → t .at (subject s) ≡ subject-entry x → t .at (subject c) ≡ subject-entry z →
-        Refuses t (fork s c) r) ⌝ }
+        Refuses t (fork s c) r × Refuses t (thread s c) r) ⌝ }
 {
     let absent = x.live == 0;
     let used = subject_used(c, z);

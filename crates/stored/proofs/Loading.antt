@@ -9,7 +9,7 @@ use native.Mathlib.Numerals.{add-one}
 use native.Mathlib.Decide.{ℕ-discrete}
 use lib.ListN.{length, take, drop, getD, set, length-set}
 use lib.Seq.{getD-set-same, getD-set-other, drop-cons, drop-drop, ext-getD}
-use Rattle.stored.specs.State.{records, whole}
+use Rattle.stored.specs.State.{byte-width, records, byte-of, whole}
 use Rattle.stored.specs.State.Laws.{length-records, getD-records}
 
 -- ── records of bytes ──
@@ -56,6 +56,11 @@ module _ {A : Type 0} {f : List ℕ → A} {d : A} {w b n : ℕ} {s : List ℕ} 
       at : (j : ℕ) → j < n → getD r j d ≡ getD (records f w n (drop b s)) j d
       at j h = p .done j (omega arith)
           ∙ sym (getD-records f w n (drop b s) j d h ∙ ap (λ (t : List ℕ). f (take w t)) (drop-drop (w * j) b s))
+
+-- one byte more, which is loaded as it is
+pub loaded-byte : {b n : ℕ} {s r : List ℕ} {i : ℕ} (p : Loaded byte-of 0 byte-width b n s r i) (at : ℕ) → i < n → at ≡ b + i
+    → Loaded byte-of 0 byte-width b n s (set r i (getD s at 0)) (i + 1)
+loaded-byte {b} {n} {s} {r} {i} p at l e = let same : at ≡ b + byte-width * i = omega (arith, e) in loaded-more p (getD s at 0) l (ap (λ (k : ℕ). getD s k 0) same)
 
 -- ── a number ──
 -- n is the number in all but the first `left` of the eight bytes of s from index `at` on

@@ -19,7 +19,7 @@ pub unmapped : (X Y : Type 0) (f : X → Y) (l : List X) (n : ℕ) → length (m
 unmapped X Y f l n p = sym (length-map l f) ∙ p
 
 pub monitor-long : (m : Monitor) → Is (row K.the-type) m (S.vals K.the-type K′.the-laws m) → Long m
-monitor-long m g = record { subjects = search (needs, unmapped); objects = search (needs, unmapped); handles = search (needs, unmapped); needs = search needs; numbers = search needs }
+monitor-long m g = record { subjects = search (needs, unmapped); objects = search (needs, unmapped); handles = search (needs, unmapped); needs = search needs; numbers = search needs; groups = search needs }
 
 pub tally-fits : (y : Tally) → Is (row Y.the-type) y (S.vals Y.the-type Y′.the-laws y) → Fits y
 tally-fits y g = record { made = search needs; gone = search needs }

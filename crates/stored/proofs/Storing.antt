@@ -10,9 +10,9 @@ use lib.ListN.{length, take, drop, getD, set, replicate, length-append, length-r
 use lib.Seq.{length-take-le, take-suc, take-all, drop-cons, sets, sets-eq}
 use Rattle.gatekeeper.specs.declared.Monitor.{Monitor}
 use Rattle.tally.specs.declared.Tally.{Tally}
-use Rattle.stored.specs.State.{state-bytes, objects-at, handles-at, made-at, gone-at, freeze-at, needs-at, numbers-at}
-use Rattle.stored.specs.State.{flat, digits, subject-bytes, object-bytes, handle-bytes, need-bytes, number-bytes, bytes-of}
-use Rattle.stored.specs.State.Laws.{length-flat, flat-append, length-digits, Long, subjects-count, objects-count, handles-count, needs-count, bytes-length}
+use Rattle.stored.specs.State.{state-bytes, objects-at, handles-at, made-at, gone-at, freeze-at, needs-at, numbers-at, groups-at}
+use Rattle.stored.specs.State.{flat, byte-record, digits, subject-bytes, object-bytes, handle-bytes, need-bytes, number-bytes, group-bytes, bytes-of}
+use Rattle.stored.specs.State.Laws.{length-flat, flat-append, length-digits, Long, subjects-count, objects-count, handles-count, needs-count, numbers-count, bytes-length}
 use Rattle.stored.specs.Over.{over}
 use Rattle.stored.specs.Over.Laws.{over-none, over-length, over-next, over-all}
 
@@ -90,12 +90,13 @@ module _ {A : Type 0} {g : A → List ℕ} {w b n : ℕ} {l : List A} {o s : Lis
 
 -- ── all of a state ──
 module _ (m : Monitor) (y : Tally) (long : Long m) (o : List ℕ) (size : length o ≡ state-bytes) where
-  pub laid-whole : (s₁ s₂ s₃ s₄ s₅ s₆ s₇ s₈ : List ℕ) → s₁ ≡ over 0 (subject-bytes (m .subjects)) o → s₂ ≡ over objects-at (object-bytes (m .objects)) s₁
+  pub laid-whole : (s₁ s₂ s₃ s₄ s₅ s₆ s₇ s₈ s₉ : List ℕ) → s₁ ≡ over 0 (subject-bytes (m .subjects)) o → s₂ ≡ over objects-at (object-bytes (m .objects)) s₁
       → s₃ ≡ over handles-at (handle-bytes (m .handles)) s₂
       → s₄ ≡ over made-at (digits 8 (y .made)) s₃ → s₅ ≡ over gone-at (digits 8 (y .gone)) s₄
-      → s₆ ≡ set s₅ freeze-at (m .freeze) → s₇ ≡ over needs-at (need-bytes (m .needs)) s₆ → s₈ ≡ over numbers-at (number-bytes (m .numbers)) s₇ → s₈ ≡ bytes-of m y
+      → s₆ ≡ set s₅ freeze-at (m .freeze) → s₇ ≡ over needs-at (need-bytes (m .needs)) s₆ → s₈ ≡ over numbers-at (number-bytes (m .numbers)) s₇
+      → s₉ ≡ over groups-at (group-bytes (m .groups)) s₈ → s₉ ≡ bytes-of m y
   unfolding bytes-of
-  laid-whole s₁ s₂ s₃ s₄ s₅ s₆ s₇ s₈ e₁ e₂ e₃ e₄ e₅ e₆ e₇ e₈ =
+  laid-whole s₁ s₂ s₃ s₄ s₅ s₆ s₇ s₈ s₉ e₁ e₂ e₃ e₄ e₅ e₆ e₇ e₈ e₉ =
       let a = subject-bytes (m .subjects) in
       let b = object-bytes (m .objects) in
       let c = handle-bytes (m .handles) in
@@ -118,26 +119,26 @@ module _ (m : Monitor) (y : Tally) (long : Long m) (o : List ℕ) (size : length
       let g = need-bytes (m .needs) in
       let q₇ : s₇ ≡ over 0 (a ++ b ++ c ++ d ++ e ++ f ++ g) o = e₇ ∙ over-next 0 needs-at (a ++ b ++ c ++ d ++ e ++ f) g o s₆ (omega arith) (omega arith) q₆ in
       let lg : length (a ++ b ++ c ++ d ++ e ++ f ++ g) ≡ numbers-at = omega (arith, length-append (a ++ b ++ c ++ d ++ e ++ f) g, needs-count m y long) in
-      e₈
-      ∙ over-next 0 numbers-at (a ++ b ++ c ++ d ++ e ++ f ++ g) (number-bytes (m .numbers)) o s₇ (omega arith) (omega arith) q₇
-      ∙ over-all (a ++ b ++ c ++ d ++ e ++ f ++ g ++ number-bytes (m .numbers)) o (bytes-length m y long ∙ sym size)
+      let h = number-bytes (m .numbers) in
+      let q₈ : s₈ ≡ over 0 (a ++ b ++ c ++ d ++ e ++ f ++ g ++ h) o = e₈ ∙ over-next 0 numbers-at (a ++ b ++ c ++ d ++ e ++ f ++ g) h o s₇ (omega arith) (omega arith) q₇ in
+      let lh : length (a ++ b ++ c ++ d ++ e ++ f ++ g ++ h) ≡ groups-at = omega (arith, length-append (a ++ b ++ c ++ d ++ e ++ f ++ g) h, numbers-count m y long) in
+      e₉
+      ∙ over-next 0 groups-at (a ++ b ++ c ++ d ++ e ++ f ++ g ++ h) (group-bytes (m .groups)) o s₈ (omega arith) (omega arith) q₈
+      ∙ over-all (a ++ b ++ c ++ d ++ e ++ f ++ g ++ h ++ group-bytes (m .groups)) o (bytes-length m y long ∙ sym size)
 
 -- ── bytes one by one ──
-abbrev pub byte : ℕ → List ℕ
-byte b = b ∷ []
-
-flat-byte : (l : List ℕ) → flat byte l ≡ l
+flat-byte : (l : List ℕ) → flat byte-record l ≡ l
 unfolding flat
 flat-byte [] = refl
 flat-byte (b ∷ l) = ap (λ (t : List ℕ). b ∷ t) (flat-byte l)
 
 -- the first k of the eight bytes of n were stored over o, from index `at` on, which is now s; `rest` is what is left of n
 pub record Spelt (n at : ℕ) (o s : List ℕ) (rest k : ℕ) : Type 0 where
-  pub laid : Laid byte 1 at 8 (digits 8 n) o s k
+  pub laid : Laid byte-record 1 at 8 (digits 8 n) o s k
   pub left : drop k (digits 8 n) ≡ digits (8 - k) rest
 
 pub spelt-none : (n at : ℕ) (o : List ℕ) → at + 8 ≤ length o → Spelt n at o o n 0
-spelt-none n at o h = record { laid = laid-none byte 1 at 8 (digits 8 n) o (λ x. refl) (length-digits 8 n) h; left = refl }
+spelt-none n at o h = record { laid = laid-none byte-record 1 at 8 (digits 8 n) o (λ x. refl) (length-digits 8 n) h; left = refl }
 
 module _ {n at : ℕ} {o s : List ℕ} {rest k : ℕ} (p : Spelt n at o s rest k) where
   pub spelt-long : length s ≡ length o
@@ -151,7 +152,7 @@ module _ {n at : ℕ} {o s : List ℕ} {rest k : ℕ} (p : Spelt n at o s rest k
       let next : getD l k 0 ∷ drop (suc k) l ≡ rest % 256 ∷ digits (8 - (k + 1)) (rest / 256) =
       sym (drop-cons l k 0 (omega (arith, length-digits 8 n))) ∙ p .left ∙ ap (λ (j : ℕ). digits j rest) one in
       record {
-        laid = laid-more (p .laid) place (b ∷ []) 0 h (omega arith) (ap byte (hb ∙ sym (ap (λ (t : List ℕ). getD t 0 0) next)));
+        laid = laid-more (p .laid) place (b ∷ []) 0 h (omega arith) (ap byte-record (hb ∙ sym (ap (λ (t : List ℕ). getD t 0 0) next)));
         left = ap (λ (j : ℕ). drop j l) (add-one k) ∙ ap (drop 1) next;
       }
 
@@ -160,15 +161,15 @@ module _ {n at : ℕ} {o s : List ℕ} {rest k : ℕ} (p : Spelt n at o s rest k
 
 -- the first i of the bytes of o are now 0, in s
 abbrev pub Zeroed : List ℕ → List ℕ → ℕ → Type 0
-Zeroed o s i = Laid byte 1 0 (length o) (replicate (length o) 0) o s i
+Zeroed o s i = Laid byte-record 1 0 (length o) (replicate (length o) 0) o s i
 
 pub zeroed-none : (o : List ℕ) → Zeroed o o 0
-zeroed-none o = laid-none byte 1 0 (length o) (replicate (length o) 0) o (λ x. refl) (length-replicate {A = ℕ} (length o) 0) (omega arith)
+zeroed-none o = laid-none byte-record 1 0 (length o) (replicate (length o) 0) o (λ x. refl) (length-replicate {A = ℕ} (length o) 0) (omega arith)
 
 module _ {o s : List ℕ} {i : ℕ} (p : Zeroed o s i) where
   pub zeroed-more : i < length s → Zeroed o (set s i 0) (i + 1)
   zeroed-more h = let l : i < length o = omega (arith, laid-long p) in
-      laid-more p i (0 ∷ []) 0 l (omega arith) (ap byte (sym (getD-replicate (length o) i 0 0 l)))
+      laid-more p i (0 ∷ []) 0 l (omega arith) (ap byte-record (sym (getD-replicate (length o) i 0 0 l)))
 
   pub zeroed-all : length s ≤ i → s ≡ replicate (length o) 0
   zeroed-all h = let zeros : List ℕ = replicate (length o) 0 in

@@ -1,9 +1,9 @@
--- A monitor and its tally as the bytes that a host lends. States RULES H4 to H10, H15, H16, H21 and H26, and F11, F12 and F15 of the bytes. Every value
+-- A monitor and its tally as the bytes that a host lends. States RULES H4 to H10, H15, H16, H21, H26 and H30, and F11, F12 and F15 of the bytes. Every value
 -- of the monitor goes by the rules (RULES T16), so that every byte string of the length is one.
 --
 -- The layout: the subjects and the objects, two bytes each, then the handles, three bytes each, in the order of the struct; then made and gone, eight bytes
 -- each, lowest first; then the freeze, one byte; then the kept needs, one byte each, of the subjects and of the slots; then the objects' numbers, eight bytes
--- each, lowest first. In order: where the parts stand; records of bytes; one record of each kind; numbers; from bytes, and to bytes; the empty state, and what a
+-- each, lowest first; then the groups, one byte each. In order: where the parts stand; records of bytes; one record of each kind; numbers; from bytes, and to bytes; the empty state, and what a
 -- call leaves. The laws are in State/Laws. Assumes nothing.
 use mathlib.Core.Path.{_≡_}
 use mathlib.Core.Bool.{cond}
@@ -27,7 +27,7 @@ pub mod Laws
 
 -- RULES H4
 abbrev pub state-bytes : ℕ
-state-bytes = 2 * subjects + 2 * objects + 3 * (subjects * places) + 2 * 8 + 1 + (subjects + objects) + 8 * objects
+state-bytes = 2 * subjects + 2 * objects + 3 * (subjects * places) + 2 * 8 + 1 + (subjects + objects) + 8 * objects + subjects
 
 -- RULES H10: bytes that are a state
 abbrev pub Sized : List ℕ → Type 0
@@ -44,8 +44,8 @@ object-width = 2
 abbrev pub handle-width : ℕ
 handle-width = 3
 
-abbrev pub need-width : ℕ
-need-width = 1
+abbrev pub byte-width : ℕ
+byte-width = 1
 
 abbrev pub number-width : ℕ
 number-width = 8
@@ -70,7 +70,10 @@ abbrev pub needs-at : ℕ
 needs-at = freeze-at + 1
 
 abbrev pub numbers-at : ℕ
-numbers-at = needs-at + need-width * (subjects + objects)
+numbers-at = needs-at + byte-width * (subjects + objects)
+
+abbrev pub groups-at : ℕ
+groups-at = numbers-at + number-width * objects
 
 -- ── records of bytes ──
 -- n records of w bytes each, from the front of s; f reads one from its bytes
@@ -125,12 +128,12 @@ handle-of b = record { way = sort-of ways (getD b 0 0); object = getD b 1 0; mar
 abbrev pub handle-record : Handle → List ℕ
 handle-record x = sort-byte ways (x .way) ∷ x .object ∷ live-byte (x .mark) ∷ []
 
--- RULES H16: one byte
-abbrev pub need-of : List ℕ → ℕ
-need-of b = getD b 0 0
+-- RULES H16, H30: a kept need is one byte, as it is, and so is a group
+abbrev pub byte-of : List ℕ → ℕ
+byte-of b = getD b 0 0
 
-abbrev pub need-record : ℕ → List ℕ
-need-record n = n ∷ []
+abbrev pub byte-record : ℕ → List ℕ
+byte-record n = n ∷ []
 
 -- ── numbers, lowest byte first ──
 unfoldable pub whole : List ℕ → ℕ
@@ -162,13 +165,17 @@ unfoldable pub freeze-of : List ℕ → ℕ
 freeze-of s = getD s freeze-at 0
 
 unfoldable pub needs-of : List ℕ → List ℕ
-needs-of s = records need-of need-width (subjects + objects) (drop needs-at s)
+needs-of s = records byte-of byte-width (subjects + objects) (drop needs-at s)
 
 -- RULES H26: eight bytes each
 unfoldable pub numbers-of : List ℕ → List ℕ
 numbers-of s = records whole number-width objects (drop numbers-at s)
 
--- RULES H5, H9, H16, H26
+-- RULES H30: in the order of the subjects
+unfoldable pub groups-of : List ℕ → List ℕ
+groups-of s = records byte-of byte-width subjects (drop groups-at s)
+
+-- RULES H5, H9, H16, H26, H30
 abbrev pub monitor-of : List ℕ → Monitor
 monitor-of s = record {
   numbers = numbers-of s;
@@ -177,6 +184,7 @@ monitor-of s = record {
   handles = handles-of s;
   freeze = freeze-of s;
   needs = needs-of s;
+  groups = groups-of s;
   sure = 0;
 }
 
@@ -194,20 +202,23 @@ unfoldable pub handle-bytes : List Handle → List ℕ
 handle-bytes l = flat handle-record l
 
 unfoldable pub need-bytes : List ℕ → List ℕ
-need-bytes l = flat need-record l
+need-bytes l = flat byte-record l
 
 unfoldable pub number-bytes : List ℕ → List ℕ
 number-bytes l = flat (digits 8) l
+
+unfoldable pub group-bytes : List ℕ → List ℕ
+group-bytes l = flat byte-record l
 
 -- each number is 64 bits wide
 abbrev pub Narrow : List ℕ → Type 0
 Narrow [] = Unit {0}
 Narrow (n ∷ l) = (n < 2 ^ 64) × Narrow l
 
--- RULES H5, H9, H16, H26
+-- RULES H5, H9, H16, H26, H30
 unfoldable pub bytes-of : Monitor → Tally → List ℕ
 bytes-of m y = subject-bytes (m .subjects) ++ object-bytes (m .objects) ++ handle-bytes (m .handles) ++ digits 8 (y .made) ++ digits 8 (y .gone) ++
-    (m .freeze ∷ []) ++ need-bytes (m .needs) ++ number-bytes (m .numbers)
+    (m .freeze ∷ []) ++ need-bytes (m .needs) ++ number-bytes (m .numbers) ++ group-bytes (m .groups)
 
 -- the bytes s are those of a monitor and a tally, and stand for them: for the monitor's tables, for kept needs that are right where its are, and for the tally
 pub record Stands (s : List ℕ) (m : Monitor) (y : Tally) : Type 0 where
@@ -238,7 +249,7 @@ stored-kind = record { view = state-view; honest = state-honest; whole = λ s. W
 
 -- as what it is stored: the freeze says that there is none, and all else is 0
 unfoldable pub blank-bytes : List ℕ
-blank-bytes = replicate freeze-at 0 ++ (no-freeze ∷ replicate (subjects + objects + number-width * objects) 0)
+blank-bytes = replicate freeze-at 0 ++ (no-freeze ∷ replicate (subjects + objects + number-width * objects + subjects) 0)
 
 -- RULES T12, F12, Y8: empty tables, kept needs that are right, and counts of 0
 pub record Blank (s : List ℕ) : Type 0 where
@@ -249,8 +260,8 @@ pub record Blank (s : List ℕ) : Type 0 where
 
 -- RULES T16, T23, F12, R102, R103: call c on the bytes s leaves the bytes s′. They meet the rules as a monitor does, so that a refused call
 -- leaves every byte; the tally in them is the history's; and what an allowed or lowered call leaves is the bytes of a monitor and a tally.
--- Which level and kept need a subject has that is not live, which level, kept need and number a free slot has, which slot an object stands in, and which slot and
--- mark stand at an empty place, is the free part of `Promise`.
+-- Which level, kept need and group byte a subject has that is not live, which byte a group has, which level, kept need and number a free slot has, which slot an object
+-- stands in, and which slot and mark stand at an empty place, is the free part of `Promise`.
 pub record Stored (s : List ℕ) (c : Call) (s′ : List ℕ) : Type 0 where
   pub size : Sized s′
   pub meets : Meets stored-kind s c (answer (clean (state-view s)) c) s′
@@ -261,7 +272,7 @@ pub record Stored (s : List ℕ) (c : Call) (s′ : List ℕ) : Type 0 where
 pub record Put-right (s s′ : List ℕ) : Type 0 where
   pub size : Sized s′
   pub others : take needs-at s′ ≡ take needs-at s
-  pub numbers : drop numbers-at s′ ≡ drop numbers-at s
+  pub behind : drop numbers-at s′ ≡ drop numbers-at s
   pub tables : state-view s′ ≡ state-view s
   pub tally : tally-of s′ ≡ tally-of s
   pub right : state-right s′

@@ -1,11 +1,11 @@
-// A monitor and its tally as bytes that a host keeps (RULES H4 to H10, H15, H16, H26): loaded from them and stored into them. They are laid out as in specs/State.antt. Every byte
+// A monitor and its tally as bytes that a host keeps (RULES H4 to H10, H15, H16, H26, H30): loaded from them and stored into them. They are laid out as in specs/State.antt. Every byte
 // string of the length is a monitor. That the bytes have that length is what a caller owes: whoever is handed bytes tests it once (crate `host`).
 ghost use mathlib.Core.Path.{_≡_};
 ghost use Prim.Native.Nat.{_+_, _^_, _≤_, _<_};
 ghost use lib.ListN.{length, take, drop};
-ghost use Rattle.stored.specs.State.{objects-at, handles-at, needs-at, numbers-at, Sized, live-of, sort-of, live-byte, sort-byte, whole, digits};
-ghost use Rattle.stored.specs.State.{subjects-of, objects-of, handles-of, needs-of, numbers-of, monitor-of, tally-of};
-ghost use Rattle.stored.specs.State.{subject-bytes, object-bytes, handle-bytes, need-bytes, number-bytes, Narrow, Stands};
+ghost use Rattle.stored.specs.State.{objects-at, handles-at, needs-at, numbers-at, groups-at, Sized, live-of, sort-of, live-byte, sort-byte, whole, digits};
+ghost use Rattle.stored.specs.State.{subjects-of, objects-of, handles-of, needs-of, numbers-of, groups-of, monitor-of, tally-of};
+ghost use Rattle.stored.specs.State.{subject-bytes, object-bytes, handle-bytes, need-bytes, number-bytes, group-bytes, Narrow, Stands};
 ghost use Rattle.stored.specs.Over.{over};
 use gatekeeper::Monitor;
 use tables::HANDLES;
@@ -18,7 +18,7 @@ use tables::THINGS;
 use tally::Tally;
 
 // Where the parts of a state stand: the subjects at 0, two bytes each; the objects likewise; the handles, three bytes each; the two counts, eight bytes each; the freeze,
-// one byte; the kept needs, one byte each; the objects' numbers, eight bytes each.
+// one byte; the kept needs, one byte each; the objects' numbers, eight bytes each; the groups, one byte each.
 pub const SUBJECTS_AT: usize = 0;
 
 pub const OBJECTS_AT: usize = 2 * SUBJECTS;
@@ -35,8 +35,10 @@ pub const NEEDS_AT: usize = FREEZE_AT + 1;
 
 pub const NUMBERS_AT: usize = NEEDS_AT + THINGS;
 
+pub const GROUPS_AT: usize = NUMBERS_AT + 8 * OBJECTS;
+
 // How many bytes a monitor and its tally take.
-pub const STATE_BYTES: usize = NUMBERS_AT + 8 * OBJECTS;
+pub const STATE_BYTES: usize = GROUPS_AT + SUBJECTS;
 
 // ---- one record, from bytes and to bytes
 
@@ -177,6 +179,20 @@ pub fn load_numbers(state: &[u8]) -> [u64; OBJECTS]
     r
 }
 
+pub fn load_groups(state: &[u8]) -> [u8; SUBJECTS]
+    requires { ⌜ Sized (now state) ⌝ }
+    ensures { λ r. ⌜ r ≡ groups-of (now (state .entry)) ⌝ }
+{
+    let mut r = [0u8; SUBJECTS];
+    let mut i: usize = 0;
+    while i < SUBJECTS {
+        let at = GROUPS_AT + i;
+        r[i] = state[at];
+        i += 1;
+    }
+    r
+}
+
 pub fn load_monitor(state: &[u8]) -> Monitor
     requires { ⌜ Sized (now state) ⌝ }
     ensures { λ r. ⌜ r ≡ monitor-of (now (state .entry)) ⌝ }
@@ -187,6 +203,7 @@ pub fn load_monitor(state: &[u8]) -> Monitor
     let freeze = state[FREEZE_AT];
     let needs = load_needs(state);
     let numbers = load_numbers(state);
+    let groups = load_groups(state);
     Monitor {
         numbers: numbers,
         subjects: subjects,
@@ -194,6 +211,7 @@ pub fn load_monitor(state: &[u8]) -> Monitor
         handles: handles,
         freeze: freeze,
         needs: needs,
+        groups: groups,
         sure: 0,
     }
 }
@@ -319,6 +337,18 @@ pub fn store_numbers(state: &mut [u8], numbers: [u64; OBJECTS])
     }
 }
 
+pub fn store_groups(state: &mut [u8], groups: [u8; SUBJECTS])
+    requires { ⌜ Sized (now state) ⌝ }
+    ensures { λ _. ⌜ now (state .exit) ≡ over groups-at (group-bytes groups) (now (state .entry)) ⌝ }
+{
+    let mut i: usize = 0;
+    while i < SUBJECTS {
+        let place = GROUPS_AT + i;
+        state[place] = groups[i];
+        i += 1;
+    }
+}
+
 pub fn store(state: &mut [u8], monitor: Monitor, tally: Tally)
     requires { ⌜ Sized (now state) ⌝ }
     ensures { λ _. ⌜ Stands (now (state .exit)) monitor tally ⌝ }
@@ -328,6 +358,7 @@ pub fn store(state: &mut [u8], monitor: Monitor, tally: Tally)
     let handles = monitor.handles;
     let needs = monitor.needs;
     let numbers = monitor.numbers;
+    let groups = monitor.groups;
     store_subjects(state, subjects);
     store_objects(state, objects);
     store_handles(state, handles);
@@ -336,4 +367,5 @@ pub fn store(state: &mut [u8], monitor: Monitor, tally: Tally)
     state[FREEZE_AT] = monitor.freeze;
     store_needs(state, needs);
     store_numbers(state, numbers);
+    store_groups(state, groups);
 }

@@ -35,4 +35,4 @@ abbrev pub made-by : ℕ → ℕ → ℕ
 made-by code held = cond (eqb code 4) 2 (cond (eqb code 5) 1 (cond (eqb code 6) 1 (cond (eqb code 9) held (cond (eqb code 14) 1 (cond (eqb code 17) 4 0)))))
 
 abbrev pub gone-by : ℕ → ℕ → ℕ → ℕ
-gone-by code held dropped = cond (eqb code 10) dropped (cond (eqb code 11) 1 (cond (eqb code 12) held 0))
+gone-by code held shed = cond (eqb code 10) shed (cond (eqb code 11) 1 (cond (eqb code 12) held 0))

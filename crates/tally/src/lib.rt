@@ -1,18 +1,22 @@
 // The counted call: handles made and handles gone, over the history of calls (RULES Y1 to Y14).
 ghost use mathlib.Core.Path.{_≡_};
-ghost use Prim.Native.Nat.{ℕ};
-ghost use lib.ListN.{length};
+ghost use mathlib.Core.Bool.{false, cond};
+ghost use mathlib.Core.Option.{none};
+ghost use mathlib.Core.List.{[]};
+ghost use Prim.Native.Nat.{ℕ, _+_, _≤_};
+ghost use lib.ListN.{length, getD};
 ghost use Rattle.model.specs.Lists.{each};
 ghost use Rattle.model.specs.Tables.{one, clean};
 ghost use Rattle.model.specs.Tally.{held as held-count};
-ghost use Rattle.model.specs.Tally.{drops};
-ghost use Rattle.tables.specs.Records.{held, along};
+ghost use Rattle.model.specs.Tally.{drops, ousted};
+ghost use Rattle.tables.specs.Records.{held, hands, along};
 ghost use Rattle.gatekeeper.specs.View.{slots, once, view, Honest};
 ghost use Rattle.tally.specs.Counting.{Counting, made-by, gone-by};
 use gatekeeper::Monitor;
 use gatekeeper::Reply;
 use gatekeeper::SURE;
 use tables::EMPTY;
+use tables::HANDLES;
 use tables::Handle;
 use tables::PLACES;
 use tables::SUBJECTS;
@@ -56,7 +60,49 @@ fn count(row: [Handle; PLACES]) -> u64
     n
 }
 
-// The places of subject s, in the tables by slot as they are read.
+// One where the place holds a handle of a subject that goes.
+fn one_of(h: Handle, goes: bool) -> u64
+    ensures { λ r. ⌜ r ≡ length (one (cond goes (held h) none)) ⌝ }
+{
+    if goes {
+        return one(h);
+    }
+    0
+}
+
+// How many handles these subjects hold.
+fn count_of(handles: [Handle; HANDLES], gone: [bool; SUBJECTS]) -> u64
+    ensures few { λ r. ⌜ r ≤ 512 ⌝ }
+    ensures count { λ r. ⌜ r ≡ length (each 32 (λ s. cond (getD gone s false) (each 16 (λ p. one (hands handles s p))) [])) ⌝ }
+{
+    let mut all: u64 = 0;
+    let mut i: usize = 0;
+    while i < HANDLES {
+        let h = handles[i];
+        let s = i / PLACES;
+        let k = one_of(h, gone[s]);
+        all += k;
+        i += 1;
+    }
+    all
+}
+
+// The handles of the tables by slot, as they are read.
+fn handles_by(monitor: Monitor) -> [Handle; HANDLES]
+    ensures { λ r. ⌜ (Honest monitor → (s p : ℕ) → hands r s p ≡ clean (slots (once monitor)) .hand s p) ⌝ }
+{
+    let handles = monitor.handles;
+    if monitor.sure == SURE {
+        return handles;
+    }
+    let subjects = monitor.subjects;
+    let objects = monitor.objects;
+    let numbers = monitor.numbers;
+    let single = slots::single(objects, numbers);
+    handles::cleaned(subjects, single, handles)
+}
+
+// The places of subject s among them.
 fn row_by(monitor: Monitor, s: u64) -> [Handle; PLACES]
     ensures { λ r. ⌜ (Honest monitor → (p : ℕ) → along r p ≡ clean (slots (once monitor)) .hand s p) ⌝ }
 {
@@ -67,20 +113,11 @@ fn row_by(monitor: Monitor, s: u64) -> [Handle; PLACES]
             mark: 0,
         }; PLACES];
     }
-    let handles = monitor.handles;
-    let i = s as usize;
-    if monitor.sure == SURE {
-        return handles::row_of(handles, i);
-    }
-    let subjects = monitor.subjects;
-    let objects = monitor.objects;
-    let numbers = monitor.numbers;
-    let single = slots::single(objects, numbers);
-    let kept = handles::cleaned(subjects, single, handles);
-    handles::row_of(kept, i)
+    let kept = handles_by(monitor);
+    handles::row_of(kept, s as usize)
 }
 
-// How many handles subject s holds, and how many of them an exec drops.
+// How many handles subject s holds, how many of them an exec drops, and how many its mates hold.
 fn held_by(monitor: Monitor, s: u64) -> u64
     ensures { λ r. ⌜ (Honest monitor → r ≡ held-count (clean (view monitor)) s) ⌝ }
 {
@@ -89,13 +126,37 @@ fn held_by(monitor: Monitor, s: u64) -> u64
 }
 
 fn dropped_by(monitor: Monitor, s: u64) -> u64
-    ensures { λ r. ⌜ (Honest monitor → r ≡ drops (clean (view monitor)) s) ⌝ }
+    ensures few { λ r. ⌜ r ≤ 16 ⌝ }
+    ensures drops { λ r. ⌜ (Honest monitor → r ≡ drops (clean (view monitor)) s) ⌝ }
 {
     let row = row_by(monitor, s);
     let left = handles::lasting(row);
     let all = count(row);
     let rest = count(left);
     all - rest
+}
+
+fn ousted_by(monitor: Monitor, s: u64) -> u64
+    ensures few { λ r. ⌜ r ≤ 512 ⌝ }
+    ensures ousted { λ r. ⌜ (Honest monitor → r ≡ ousted (clean (view monitor)) s) ⌝ }
+{
+    if SUBJECTS as u64 <= s {
+        return 0;
+    }
+    let subjects = monitor.subjects;
+    let groups = monitor.groups;
+    let mates = groups::mates(subjects, groups, s);
+    let kept = handles_by(monitor);
+    count_of(kept, mates)
+}
+
+// How many handles an exec by subject s removes: those that it drops, and all of its mates.
+fn shed_by(monitor: Monitor, s: u64) -> u64
+    ensures { λ r. ⌜ (Honest monitor → r ≡ drops (clean (view monitor)) s + ousted (clean (view monitor)) s) ⌝ }
+{
+    let own = dropped_by(monitor, s);
+    let others = ousted_by(monitor, s);
+    own + others
 }
 
 // How many handles an allowed call of this code by subject s makes, and removes.
@@ -124,10 +185,10 @@ fn made_by(monitor: Monitor, code: u64, s: u64) -> u64
 }
 
 fn gone_by(monitor: Monitor, code: u64, s: u64) -> u64
-    ensures { λ r. ⌜ (Honest monitor → r ≡ gone-by code (held-count (clean (view monitor)) s) (drops (clean (view monitor)) s)) ⌝ }
+    ensures { λ r. ⌜ (Honest monitor → r ≡ gone-by code (held-count (clean (view monitor)) s) (drops (clean (view monitor)) s + ousted (clean (view monitor)) s)) ⌝ }
 {
     if code == 10 {
-        return dropped_by(monitor, s);
+        return shed_by(monitor, s);
     }
     if code == 11 {
         return 1;

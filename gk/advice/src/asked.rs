@@ -80,6 +80,9 @@ pub fn asked(call: Call, scene: Scene, happens: bool) -> String {
             shown(reading),
             shown(writing)
         ),
+        Call::Thread { subject, member } => {
+            by(subject, "starts", "start", &format!(" {} as a thread", new(Kind::Step, member)))
+        }
         _ => format!("A call of code {}", call.code()),
     }
 }
@@ -121,6 +124,7 @@ pub fn not_done(call: Call) -> &'static str {
         Call::Mark { .. } => "Nothing is marked.",
         Call::Freeze { .. } => "The freeze stays as it was.",
         Call::Connect { .. } => "Neither pipe is made.",
+        Call::Thread { .. } => "No thread is started.",
         _ => "Nothing is done.",
     }
 }

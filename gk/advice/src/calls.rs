@@ -1,4 +1,4 @@
-//! The seventeen calls: their words in assembly, what each of their numbers is, and how a record becomes a call.
+//! The eighteen calls: their words in assembly, what each of their numbers is, and how a record becomes a call.
 
 use gatekeeper::Call;
 
@@ -44,8 +44,8 @@ const fn shape(code: u64, word: &'static str, numbers: &'static [&'static str]) 
     Shape { code, word, numbers }
 }
 
-/// RULES C1 to C17, in the order of their codes.
-pub const SHAPES: [Shape; 17] = [
+/// RULES C1 to C18, in the order of their codes.
+pub const SHAPES: [Shape; 18] = [
     shape(1, "admit", &["s", "level"]),
     shape(2, "register", &["o", "level"]),
     shape(3, "create", &["s", "o"]),
@@ -63,6 +63,7 @@ pub const SHAPES: [Shape; 17] = [
     shape(15, "mark", &["s", "p"]),
     shape(16, "freeze", &["level"]),
     shape(17, "connect", &["s", "t", "a", "b", "p", "q"]),
+    shape(18, "thread", &["s", "c"]),
 ];
 
 /// The shape of the call with this code; none for a code that no call has (RULES R1).
@@ -96,6 +97,7 @@ pub fn call_of(code: u64, numbers: [u64; 6]) -> Option<Call> {
         15 => Call::Mark { subject: a, place: b },
         16 => Call::Freeze { level: a },
         17 => Call::Connect { subject: a, peer: b, to: c, from: d, reading: e, writing: f },
+        18 => Call::Thread { subject: a, member: b },
         _ => return None,
     })
 }
@@ -144,7 +146,7 @@ mod tests {
             assert_eq!(assembly_of(call), format!("{} {}", shape.word, line.join(" ")));
         }
         assert_eq!(call_of(0, [0; 6]), None);
-        assert_eq!(call_of(18, [0; 6]), None);
+        assert_eq!(call_of(19, [0; 6]), None);
     }
 
     #[test]

@@ -11,6 +11,7 @@
 //! | [`run`] | a journal answered record by record, whole or still growing |
 //! | [`things`], [`scene`] | what a monitor holds; a moment of a run, and what things are called at it |
 //! | [`asked`], [`refused`] | who asks what; why it is refused |
+//! | [`threads`] | the threads of a step: which they are, and which of them holds what |
 //! | [`ways`] | ways out of a refusal, which were tried |
 
 pub mod asked;
@@ -20,4 +21,5 @@ pub mod refused;
 pub mod run;
 pub mod scene;
 pub mod things;
+pub mod threads;
 pub mod ways;

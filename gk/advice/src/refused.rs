@@ -8,7 +8,8 @@ use crate::calls::{number_of, SHAPES};
 use crate::records::{body_words, length_words, Body};
 use crate::run::{Content, Step};
 use crate::scene::{listed, sentence, way_word, Closing, Scene};
-use crate::things::{handles_on, level, objects, Thing, HIGHEST, OBJECTS, PLACES, STEPS};
+use crate::things::{handles_on, level, mates, objects, Thing, HIGHEST, OBJECTS, PLACES, STEPS};
+use crate::threads;
 use crate::ways::{counsel, nine_once_open, or_above, Counsel};
 use gk_names::number::shown;
 use gk_names::Kind;
@@ -45,6 +46,11 @@ pub fn refused(call: Call, refusal: Refusal, scene: Scene, closing: Option<Closi
     let title = if why.is_empty() { format!("{asked}.") } else { format!("{asked}: {why}.") };
     let answer = answer_words(refusal);
     let mut facts = vec![not_done(call).to_string()];
+    if let (Call::Exec { subject, .. }, Some(first)) = (call, facts.first_mut()) {
+        if mates(scene.monitor, subject).next().is_some() {
+            first.push_str(" No thread of the step ends.");
+        }
+    }
     if let (Some((low, low_name)), Some((high, high_name))) = (chain.first(), chain.last()) {
         if refusal == Refusal::Frozen {
             facts.push(format!("{}.", sentence(&nine_once_open("it would be refused with"))));
@@ -55,6 +61,7 @@ pub fn refused(call: Call, refusal: Refusal, scene: Scene, closing: Option<Closi
             low.level,
             high.level
         ));
+        facts.extend(threads::in_chain(&chain, scene));
         facts.extend(floor(call, scene));
     }
     Refused { title, answer, facts, chain, counsel: counsel(call, refusal, scene, closing) }
@@ -162,7 +169,7 @@ fn why(
             Call::Read { .. } => "that handle is for writing".to_string(),
             _ => "that handle is for reading".to_string(),
         },
-        Refusal::Flow => flow_reason(call, chain),
+        Refusal::Flow => flow_reason(call, chain, scene),
         Refusal::StillOpen => {
             let o = number_of(call, "o").unwrap_or(0);
             let mut holders: Vec<u64> = handles_on(monitor, o).map(|held| held.step).collect();
@@ -187,11 +194,13 @@ fn why(
 }
 
 /// A chain in a few words, from where the caller stands: "it writes file 0".
-fn flow_reason(call: Call, chain: &[(Link, String)]) -> String {
+fn flow_reason(call: Call, chain: &[(Link, String)], scene: Scene) -> String {
     let (Some((low, low_name)), Some((high, high_name))) = (chain.first(), chain.last()) else {
         return String::new();
     };
     let step = Thing::Step(call.numbers()[0]);
+    let is_mate =
+        |thing: Thing| mates(scene.monitor, call.numbers()[0]).any(|mate| thing == Thing::Step(mate));
     match (call, &chain[..chain.len() - 1]) {
         (Call::OpenWrite { .. }, _) if low.thing == step => {
             format!("its level is {}, and {high_name} takes nothing from below {}", low.level, high.level)
@@ -199,6 +208,9 @@ fn flow_reason(call: Call, chain: &[(Link, String)]) -> String {
         (Call::OpenWrite { .. }, _) => format!("what {low_name} has could get there through it"),
         (Call::Connect { .. }, _) => format!("what {low_name} has could then reach {high_name}"),
         (_, [.., (last, _)]) if last.thing == step => format!("it writes {high_name}"),
+        (_, [.., (last, name)]) if is_mate(last.thing) => {
+            format!("{name}, a thread of the same step, writes {high_name}")
+        }
         _ => format!("what it passes on could reach {high_name}"),
     }
 }
@@ -208,6 +220,7 @@ fn unfit_number(call: Call, scene: Scene) -> String {
     let new: Vec<Thing> = match call {
         Call::Admit { subject, .. } => vec![Thing::Step(subject)],
         Call::Fork { child, .. } => vec![Thing::Step(child)],
+        Call::Thread { member, .. } => vec![Thing::Step(member)],
         Call::Connect { to, from, .. } => vec![Thing::Object(to), Thing::Object(from)],
         _ => number_of(call, "o").into_iter().map(Thing::Object).collect(),
     };

@@ -4,7 +4,7 @@ use gatekeeper::{Handle, Kind, State as Monitor, Way};
 
 /// How many steps and places of a step there can be, and how many files and pipes at a time.
 pub use gatekeeper::{OBJECTS, PLACES, SUBJECTS as STEPS};
-pub use gk_chain::Thing;
+pub use gk_chain::{mates, Thing};
 
 /// The highest level.
 pub const HIGHEST: u64 = 15;
@@ -39,6 +39,12 @@ impl Held {
 /// The steps that are there.
 pub fn steps(monitor: &Monitor) -> impl Iterator<Item = u64> + '_ {
     (0..STEPS).filter(|&s| monitor.subject(s).is_some())
+}
+
+/// RULES T45: a step and its mates, by number; none where it is not there.
+pub fn members(monitor: &Monitor, step: u64) -> Vec<u64> {
+    let group = monitor.group(step);
+    steps(monitor).filter(|&other| group.is_some() && monitor.group(other) == group).collect()
 }
 
 /// The files and pipes that are there, by number.

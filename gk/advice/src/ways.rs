@@ -12,6 +12,8 @@ mod room;
 use gatekeeper::{Answer, Call, Refusal, State as Monitor, NO_FREEZE};
 use gk_chain::is_nine_once_open;
 
+pub use closing::places_words;
+
 use crate::scene::{listed, Closing, Scene};
 use crate::things::{is_frozen, Held, HIGHEST};
 

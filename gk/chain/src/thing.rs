@@ -1,4 +1,5 @@
-//! Steps, files and pipes by number, those of a moment in a list, and the flow that a handle lets through.
+//! Steps, files and pipes by number, those of a moment in a list, and the flows that handles let through and that threads
+//! share.
 
 use gatekeeper::{Handle, State, Way, SUBJECTS};
 
@@ -57,6 +58,24 @@ pub fn flow(step: u64, handle: Handle) -> (Thing, Thing) {
     }
 }
 
+/// RULES T45: the mates of a step, which are the other threads of one step with it, by number.
+pub fn mates(monitor: &State, step: u64) -> impl Iterator<Item = u64> + '_ {
+    let group = monitor.group(step);
+    let is_mate = move |&other: &u64| other != step && group.is_some() && monitor.group(other) == group;
+    (0..SUBJECTS).filter(is_mate)
+}
+
+/// RULES F22: the flows between the threads of a step, each to each other; and so of every step that has some.
+pub fn shared(monitor: &State) -> Vec<(Thing, Thing)> {
+    let groups: Vec<(u64, u64)> = (0..SUBJECTS).filter_map(|s| Some((s, monitor.group(s)?))).collect();
+    let mut flows = Vec::new();
+    for &(one, group) in &groups {
+        let mates = groups.iter().filter(|&&(other, theirs)| other != one && theirs == group);
+        flows.extend(mates.map(|&(other, _)| (Thing::Step(one), Thing::Step(other))));
+    }
+    flows
+}
+
 #[cfg(test)]
 mod tests {
     use super::*;
@@ -80,6 +99,22 @@ mod tests {
         for none in [Thing::Step(32), Thing::Step(u64::MAX), Thing::Object(0), Thing::Object(65)] {
             assert_eq!(things.place(none), None, "{none:?}");
         }
+        Ok(())
+    }
+
+    #[test]
+    fn threads_of_one_step_are_mates() -> Result<(), Refusal> {
+        let mut monitor = Monitor::new();
+        monitor.admit(4, 9).granted()?;
+        monitor.thread(4, 1).granted()?;
+        monitor.thread(1, 7).granted()?;
+        monitor.fork(4, 2).granted()?;
+        let state = State::from(&monitor);
+        let of = |step: u64| mates(&state, step).collect::<Vec<u64>>();
+        assert_eq!((of(4), of(1), of(7)), (vec![1, 7], vec![4, 7], vec![1, 4]));
+        assert_eq!([2, 3, 32, u64::MAX].map(of), [const { Vec::new() }; 4]);
+        let flows = [(1, 4), (1, 7), (4, 1), (4, 7), (7, 1), (7, 4)];
+        assert_eq!(shared(&state), flows.map(|(from, to)| (Thing::Step(from), Thing::Step(to))));
         Ok(())
     }
 }

@@ -42,7 +42,7 @@ impl Size {
 
 /// A call; most make handles, a few end them. What is to be new is so where that is possible.
 fn drawn(draw: &mut Draw, size: &Size, monitor: &Monitor) -> (u64, [u64; 6]) {
-    let codes = [1, 1, 2, 2, 4, 4, 5, 5, 6, 6, 9, 10, 14, 15, 17, 17, 17, 11, 3, 7, 8];
+    let codes = [1, 1, 2, 2, 4, 4, 5, 5, 6, 6, 9, 10, 14, 15, 17, 17, 17, 11, 3, 7, 8, 18];
     let code = match draw.below(80) {
         0 => [12, 13][draw.below(2) as usize],
         1 | 2 => 16,
@@ -61,6 +61,7 @@ fn drawn(draw: &mut Draw, size: &Size, monitor: &Monitor) -> (u64, [u64; 6]) {
         2 => [o, level, 0, 0, 0, 0],
         4 => [s, to, one, other, 0, 0],
         9 => [s, t, 0, 0, 0, 0],
+        18 => [s, (0..size.steps).rev().find(|&t| monitor.subject(t).is_none()).unwrap_or(t), 0, 0, 0, 0],
         7 | 8 | 11 | 15 => [s, p, 0, 0, 0, 0],
         12 => [s, 0, 0, 0, 0, 0],
         13 => [o, 0, 0, 0, 0, 0],
@@ -101,11 +102,21 @@ impl Met {
             _ => Vec::new(),
         };
         let mut flows = sought(code, numbers);
+        // An exec ends the other members of the step's group before its test: they and what they hold are left out.
+        let is_mate = |one: u64, other: u64| {
+            one != other && monitor.group(one).is_some() && monitor.group(one) == monitor.group(other)
+        };
+        let is_left = |holder: u64| code != 10 || !is_mate(s, holder);
+        for (one, other) in (0..SUBJECTS).flat_map(|one| (0..SUBJECTS).map(move |other| (one, other))) {
+            if is_mate(one, other) && is_left(one) && is_left(other) {
+                flows.push((Thing::Step(one), Thing::Step(other)));
+            }
+        }
         for (holder, place) in (0..SUBJECTS).flat_map(|s| (0..PLACES).map(move |place| (s, place))) {
             if let Some(handle) = monitor.handle(holder, place) {
                 let ends_with_the_exec =
                     code == 10 && holder == s && (handle.marked || handle.way == Way::Maps);
-                if !ends_with_the_exec {
+                if !ends_with_the_exec && is_left(holder) {
                     flows.push(flow(holder, handle));
                 }
             }
@@ -172,8 +183,9 @@ impl Met {
     }
 }
 
-/// Sees that a call's chain is a chain, and the one that is to be chosen; says how long it is.
-fn holds(monitor: &Monitor, code: u64, numbers: [u64; 6]) -> usize {
+/// Sees that a call's chain is a chain, and the one that is to be chosen; says how long it is, and how many of its links
+/// are from a thread of a step to another.
+fn holds(monitor: &Monitor, code: u64, numbers: [u64; 6]) -> (usize, usize) {
     let chain = behind(monitor, code, numbers);
     let met = Met::of(monitor, code, numbers);
     let (low, high) = (chain.first().expect("a chain"), chain.last().expect("a chain"));
@@ -187,12 +199,13 @@ fn holds(monitor: &Monitor, code: u64, numbers: [u64; 6]) -> usize {
     let starts: Vec<Link> =
         met.there.iter().copied().filter(|link| code != 10 || link.thing == low.thing).collect();
     assert_eq!(chain, met.chain(&starts), "code {code}, {numbers:?}");
-    chain.len()
+    let is_shared = |join: &&(Thing, Thing)| matches!(join, (Thing::Step(_), Thing::Step(_)));
+    (chain.len(), joins.iter().filter(is_shared).count())
 }
 
 #[test]
 fn each_nine_has_its_chain_and_nothing_else_has_one() {
-    let (mut nines, mut lengths) = ([0; 18], [0; 97]);
+    let (mut nines, mut lengths, mut shared) = ([0; 18], [0; 97], [0; 18]);
     // Of the calls refused with 15: those that are then refused with 9, and those that are then let through.
     let mut fifteens = [0; 2];
     for run in 0..RUNS {
@@ -206,7 +219,9 @@ fn each_nine_has_its_chain_and_nothing_else_has_one() {
             match monitor.direct(code, numbers) {
                 Answer::Refused(Refusal::Flow) => {
                     nines[code as usize] += 1;
-                    lengths[holds(&before, code, numbers)] += 1;
+                    let (length, between) = holds(&before, code, numbers);
+                    lengths[length] += 1;
+                    shared[code as usize] += usize::from(between > 0);
                 }
                 Answer::Refused(Refusal::Frozen) => {
                     let mut open = before.clone();
@@ -228,5 +243,8 @@ fn each_nine_has_its_chain_and_nothing_else_has_one() {
     }
     assert!([5, 6, 10, 14, 17].iter().all(|&code| nines[code] > 100), "{nines:?}");
     assert!(lengths[2..8].iter().all(|&count| count > 10), "{lengths:?}");
+    assert!([5, 6, 14, 17].iter().all(|&code| shared[code] > 20), "through threads: {shared:?}");
+    // An exec leaves out the threads of its own step, so that these are another's.
+    assert!(shared[10] > 2, "through threads: {shared:?}");
     assert!(fifteens.iter().all(|&count| count > 100), "{fifteens:?}");
 }

@@ -263,7 +263,8 @@ function drawThings(layout, placed, ghosts, state, said, chain, position) {
     const own = nameOf(plain, position);
     const isGhost = classes.includes("ghost");
     const hasNeed = isStep && !isGhost;
-    const floor = hasNeed ? `, may fall to ${state.need[thing]}` : "";
+    const mates = hasNeed ? withMates(thing, state, position) : "";
+    const floor = hasNeed ? `, may fall to ${state.need[thing]}${mates}` : "";
     title.textContent = `${own ? `${own} (${plain})` : plain}, level ${level}${floor}`;
     need.textContent = hasNeed ? `≥${state.need[thing]}` : "";
     const isEnd = thing === said.chain[0]?.[0] || thing === said.chain.at(-1)?.[0];
@@ -328,7 +329,10 @@ function drawEdges(layout, state, before, said, chain) {
     const shape = (thing) => shapeOf(thing, state.kind[thing] || 2);
     const { path, flag } = bent(one, other, shape(from), shape(to), from < STEPS ? 0.5 : 0.16);
     const near = said.about.includes(from) || said.about.includes(to) ? "near" : "";
-    const edge = drawn("path", { d: path, class: `edge ${classes} ${near}`, "marker-end": `url(#${tip})` });
+    const edge = drawn("path", { d: path, class: `edge ${classes} ${near}` });
+    if (tip) {
+      edge.setAttribute("marker-end", `url(#${tip})`);
+    }
     [edge.dataset.from, edge.dataset.to] = [from, to];
     layers.edges.append(edge);
     return flag;
@@ -343,6 +347,19 @@ function drawEdges(layout, state, before, said, chain) {
   });
   graph.classList.toggle("many", flows.size > MOST_FLOWS);
   const last = [];
+  // Threads of one step share memory: a line joins each to the next one, and has no tip, as data goes both ways.
+  const steps = state.steps();
+  steps.slice(1).forEach((step, at) => {
+    if (state.group[step] === state.group[steps[at]]) {
+      arrow(steps[at], step, "shares", "");
+    }
+  });
+  for (const key of links) {
+    const [from, to] = [Math.floor(key / THINGS), key % THINGS];
+    if (from < STEPS && to < STEPS) {
+      last.push([from, to, "chain", "tip-refused"]);
+    }
+  }
   for (const [key, flow] of flows) {
     const [from, to] = [Math.floor(key / THINGS), key % THINGS];
     const classes = `${flow.maps ? "maps" : ""} ${flow.marked && !flow.maps ? "marked" : ""}`;

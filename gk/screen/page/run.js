@@ -14,6 +14,8 @@ const READS = 1;
 const WRITES = 2;
 const MAPS = 3;
 const FILE = 1;
+/** From where on a number that goes with a step is the lowest one of a thread of the same step. */
+const GROUP = 512;
 /** A state is kept at every so many records. */
 const EVERY = 256;
 
@@ -31,6 +33,7 @@ class State {
     this.kind = new Uint8Array(THINGS); // 0 not there; 1 a step or file; 2 a pipe
     this.level = new Uint8Array(THINGS);
     this.need = new Uint8Array(THINGS);
+    this.group = Uint8Array.from({ length: STEPS }, (_, step) => step);
     this.way = new Uint8Array(STEPS * PLACES);
     this.object = new Uint16Array(STEPS * PLACES);
     this.marked = new Uint8Array(STEPS * PLACES);
@@ -39,7 +42,7 @@ class State {
 
   copy() {
     const copy = new State();
-    for (const field of ["kind", "level", "need", "way", "object", "marked"]) {
+    for (const field of ["kind", "level", "need", "group", "way", "object", "marked"]) {
       copy[field].set(this[field]);
     }
     copy.freeze = this.freeze;
@@ -54,7 +57,12 @@ class State {
       const [thing, stands] = [Math.floor(number / 768), number % 768];
       if (thing === FREEZE) {
         this.freeze = stands;
+      } else if (thing < STEPS && stands >= GROUP) {
+        this.group[thing] = stands - GROUP;
       } else {
+        if (thing < STEPS) {
+          this.group[thing] = thing;
+        }
         this.kind[thing] = stands >> 8;
         this.level[thing] = (stands >> 4) & 15;
         this.need[thing] = stands & 15;
@@ -67,6 +75,22 @@ class State {
       this.way[place] = (number >> 10) & 3;
       this.object[place] = number >> 12;
     }
+  }
+
+  /** The running steps, threads of one step together: by the lowest number of each step, and in it by number. */
+  steps() {
+    const there = [];
+    for (let step = 0; step < STEPS; step += 1) {
+      if (this.kind[step] !== 0) {
+        there.push(step);
+      }
+    }
+    return there.sort((one, other) => this.group[one] - this.group[other] || one - other);
+  }
+
+  /** The other threads of the same step. */
+  mates(step) {
+    return this.steps().filter((other) => other !== step && this.group[other] === this.group[step]);
   }
 
   /** Calls with each handle: step, place, way, thing, marked. */

@@ -155,7 +155,14 @@ function fellFrom(thing, state, before) {
 }
 
 function hasChanged(thing, state, before) {
-  return ["kind", "level", "need"].some((field) => state[field][thing] !== before[field][thing]);
+  const fields = thing < STEPS ? ["kind", "level", "need", "group"] : ["kind", "level", "need"];
+  return fields.some((field) => state[field][thing] !== before[field][thing]);
+}
+
+/** Who is a thread of the same step, to stand behind a step's name; "" where it is by itself. */
+function withMates(step, state, to) {
+  const mates = state.mates(step).map((mate) => called(mate, state, to));
+  return mates.length > 0 ? ` · thread of one step with ${mates.join(", ")}` : "";
 }
 
 function showSteps(to, state, before) {
@@ -168,13 +175,11 @@ function showSteps(to, state, before) {
     list.push(`${place}: ${word} ${called(thing, state, to)}${marked ? ", marked" : ""}`);
     held.set(step, list);
   });
-  for (let thing = 0; thing < STEPS; thing += 1) {
-    if (state.kind[thing] !== 0) {
-      const name = capital(called(thing, state, to));
-      const holds = (held.get(thing) ?? ["nothing"]).join("; ");
-      const cells = [fellFrom(thing, state, before), String(state.need[thing]), holds];
-      row(body, name, cells, hasChanged(thing, state, before));
-    }
+  for (const step of state.steps()) {
+    const name = capital(called(step, state, to)) + withMates(step, state, to);
+    const holds = (held.get(step) ?? ["nothing"]).join("; ");
+    const cells = [fellFrom(step, state, before), String(state.need[step]), holds];
+    row(body, name, cells, hasChanged(step, state, before));
   }
   if (body.rows.length === 0) {
     row(body, "No step runs", ["", "", ""], false);

@@ -75,6 +75,7 @@ impl Advised {
             ("admit a step", 20),
             ("looked over", 100),
             ("mark", 20),
+            ("another thread", 5),
             ("one way", 5),
             ("admit first", 50),
             ("register first", 50),
@@ -281,6 +282,11 @@ fn other_numbers(call: Call, text: &str, monitor: &Monitor) -> Option<(&'static 
     let each = |list: &str, name: &str| -> Lists {
         numbers(list).into_iter().map(|number| vec![with_number(call, name, number)]).collect()
     };
+    if let Some((_, named)) = parts(text, "Let another thread of the same step run it: ", "") {
+        let named = named.split(" may. ").next().unwrap_or("");
+        let mates = named.split("step ").skip(1).map(|part| vec![with_number(call, "s", numbers(part)[0])]);
+        return Some(("another thread", mates.collect()));
+    }
     if let Some((_, named)) = parts(text, "Let another step ", ": ") {
         // The number in "step 1, step 2, step 3 and 4 others" is none of a step.
         let steps = named.split("step ").skip(1).map(|part| numbers(part)[0]);
@@ -394,7 +400,7 @@ fn other_calls(call: Call, text: &str, monitor: &Monitor) -> Option<(&'static st
 fn new_name(call: Call) -> &'static str {
     match call {
         Call::Admit { .. } => "s",
-        Call::Fork { .. } => "c",
+        Call::Fork { .. } | Call::Thread { .. } => "c",
         _ => "o",
     }
 }

@@ -220,11 +220,15 @@ impl Numbers {
 /// What stands where a thing's place would, for the freeze: between the steps and the others.
 const FREEZE: u64 = STEPS;
 
+/// From where on a number that goes with a step is its group: no step is of kind 2.
+const GROUP: u64 = 2 * 256;
+
 /// Letters of a piece that is a thing, and of one that is a handle. A journal asks for fewer than 16,000 numbers.
 const OF_THING: u32 = 4;
 const OF_HANDLE: u32 = 5;
 
-/// What is different after a record, in pieces: first things and the freeze, then a dot, then handles.
+/// What is different after a record, in pieces: first things and the freeze, then a dot, then handles. Behind a step that
+/// is a thread of one with a lower number stands a second piece, which has that number in the place of kind, level and need.
 fn changes(before: &State, after: &State, numbers: &Numbers) -> String {
     let mut text = String::new();
     if before == after {
@@ -234,6 +238,9 @@ fn changes(before: &State, after: &State, numbers: &Numbers) -> String {
         if before.step(s) != after.step(s) {
             let stands = after.step(s).map_or(0, |step| standing(1, step.level, step.need));
             packed(768 * s + stands, OF_THING, &mut text);
+            if let Some(step) = after.step(s).filter(|step| step.group != s) {
+                packed(768 * s + GROUP + step.group, OF_THING, &mut text);
+            }
         }
     }
     for o in State::objects_of(before, after) {
@@ -378,6 +385,27 @@ mod tests {
         assert_eq!(handle, "AAin_");
         assert_eq!(changes(&full, &full, &numbers), "");
         Ok(())
+    }
+
+    /// A thread of a step with a lower number has that behind it; the lowest one has not, nor has a step by itself.
+    #[test]
+    fn groups_are_packed() {
+        let mut monitor = gatekeeper::State::new();
+        let numbers = Numbers::of(&[]);
+        let mut step = |call: Call| {
+            let before = State::of(&monitor);
+            assert!(monitor.call(call).granted().is_ok(), "{call:?}");
+            changes(&before, &State::of(&monitor), &numbers)
+        };
+        let stands = 256 + 16 * 9;
+        assert_eq!(step(Call::Admit { subject: 5, level: 9 }), format!("{}.", thing(5, stands)));
+        let joined = format!("{}{}.", thing(31, stands), thing(31, 512 + 5));
+        assert_eq!(step(Call::Thread { subject: 5, member: 31 }), joined);
+        // With a lower number they are another's, all of them.
+        let lower = [thing(2, stands), thing(5, stands), thing(5, 514), thing(31, stands), thing(31, 514)];
+        assert_eq!(step(Call::Thread { subject: 31, member: 2 }), format!("{}.", lower.concat()));
+        let left = [thing(2, 0), thing(5, stands), thing(31, stands), thing(31, 512 + 5)];
+        assert_eq!(step(Call::Exit { subject: 2 }), format!("{}.", left.concat()));
     }
 
     fn thing(place: u64, stands: u64) -> String {

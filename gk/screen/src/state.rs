@@ -14,6 +14,8 @@ pub struct Step {
     pub level: u8,
     /// The lowest level that it may fall to while no handle goes.
     pub need: u8,
+    /// The lowest number of a thread of the same step: its own where it is by itself.
+    pub group: u64,
 }
 
 /// What is known of a file or pipe.
@@ -57,8 +59,8 @@ impl State {
             gone: monitor.gone(),
         };
         for s in 0..STEPS {
-            let known = monitor.subject(s).zip(monitor.need_of_subject(s));
-            state.steps[s as usize] = known.map(|(level, need)| Step { level, need });
+            let known = monitor.subject(s).zip(monitor.need_of_subject(s)).zip(monitor.group(s));
+            state.steps[s as usize] = known.map(|((level, need), group)| Step { level, need, group });
             for p in 0..PLACES {
                 state.handles[(PLACES * s + p) as usize] = monitor.handle(s, p);
             }
@@ -82,6 +84,22 @@ impl State {
     /// The running steps, by number.
     pub fn steps(&self) -> impl Iterator<Item = (u64, Step)> + '_ {
         (0..STEPS).filter_map(|s| Some((s, self.step(s)?)))
+    }
+
+    /// The running steps, threads of one step together: by the lowest number of each step, and in it by number.
+    pub fn groups(&self) -> Vec<Vec<u64>> {
+        let mut groups: BTreeMap<u64, Vec<u64>> = BTreeMap::new();
+        for (s, step) in self.steps() {
+            groups.entry(step.group).or_default().push(s);
+        }
+        groups.into_values().collect()
+    }
+
+    /// The other threads of the same step, by number.
+    pub fn mates(&self, s: u64) -> Vec<u64> {
+        let group = self.step(s).map(|step| step.group);
+        let is_mate = |&(other, step): &(u64, Step)| other != s && Some(step.group) == group;
+        self.steps().filter(is_mate).map(|(other, _)| other).collect()
     }
 
     /// The files and pipes that are there, by number.

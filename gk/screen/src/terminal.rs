@@ -255,11 +255,14 @@ impl Screen {
 
     fn steps(&self) -> Vec<Line> {
         let state = &self.state;
-        let rows: Vec<(u64, String)> = state.steps().map(|(s, _)| (s, self.name("step", s))).collect();
+        let groups = state.groups();
+        let rows: Vec<(u64, String)> =
+            groups.iter().flatten().map(|&s| (s, self.name("step", s))).collect();
         let names = name_columns(&rows);
         let head = format!("{} level  may fall to  holds", fitted("Steps", 3 + names.max(2)));
         let mut lines = vec![Line(Look::Plain, String::new()), Line(Look::Strong, head)];
-        for ((s, step), (_, name)) in state.steps().zip(&rows) {
+        let known = rows.iter().filter_map(|(s, name)| Some((*s, state.step(*s)?, name)));
+        for (s, step, name) in known {
             let held: Vec<String> = state
                 .held(s)
                 .map(|(p, handle)| {
@@ -282,6 +285,11 @@ impl Screen {
                 format!("{s:>2} {} {:>5}  {:>11}  ", fitted(name, names.max(2)), step.level, step.need);
             let indent = width(&start);
             lines.extend(wrapped(&start, &held, indent).into_iter().map(|line| Line(Look::Plain, line)));
+            // Below the last one of them: threads of one step stand together.
+            if let Some(group) = groups.iter().find(|group| group.len() > 1 && group.last() == Some(&s)) {
+                let words = format!("threads of one step: {}", ranges(group));
+                lines.extend(wrapped("   ", &words, 5).into_iter().map(|line| Line(Look::Plain, line)));
+            }
         }
         if rows.is_empty() {
             lines.push(Line(Look::Plain, "no step runs".to_string()));

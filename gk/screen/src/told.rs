@@ -183,7 +183,7 @@ fn about(content: Content, state: &State) -> Vec<Thing> {
         2 | 13 => vec![object(a)],
         3 | 4 | 5 | 6 | 10 | 14 => vec![step(a), object(b)],
         7 | 8 | 11 | 15 => std::iter::once(step(a)).chain(at_place()).collect(),
-        9 => vec![step(a), step(b)],
+        9 | 18 => vec![step(a), step(b)],
         17 => vec![step(a), step(b), object(c), object(d)],
         _ => Vec::new(),
     }

@@ -36,9 +36,13 @@ fn journals() -> Vec<Vec<u8>> {
 fn agrees(state: &State, tables: &Tables) {
     let needs = Needs::of_tables(tables);
     for s in 0..STEPS {
-        let known = state.step(s).map(|step| (u64::from(step.level), u64::from(step.need)));
-        let other = tables.subject(s).map(|subject| (subject.level, needs.of(Other::Subject(s))));
+        let known =
+            state.step(s).map(|step| (u64::from(step.level), u64::from(step.need), Some(step.group)));
+        let other = tables
+            .subject(s)
+            .map(|subject| (subject.level, needs.of(Other::Subject(s)), tables.members(s).next()));
         assert_eq!(known, other, "step {s}");
+        assert!(state.mates(s).into_iter().eq(tables.mates(s)), "the threads of step {s}");
         for p in 0..PLACES {
             let known = state.handle(s, p).map(|handle| {
                 (handle.object, handle.way == Way::Writes, handle.way == Way::Maps, handle.marked)
@@ -122,12 +126,17 @@ fn is_nine_once_open(monitor: &OtherMonitor, content: Content) -> bool {
     open.call(call.code(), call.numbers()) == OtherAnswer::Refused(9)
 }
 
-/// Each link of a chain is a handle that is open or a flow that the call asks for, and one of these is among them.
+/// Each link of a chain is a handle that is open, a flow between two threads of one step or a flow that the call asks for,
+/// and one of these is among them.
 fn is_a_way(code: u64, numbers: [u64; 6], before: &State, things: &[Thing]) {
     let sought = sought(code, numbers);
     let open: Vec<(Thing, Thing)> = before.handles().map(|(s, _, handle)| flow(s, handle)).collect();
     let links: Vec<(Thing, Thing)> = things.windows(2).map(|pair| (pair[0], pair[1])).collect();
-    assert!(links.iter().all(|link| open.contains(link) || sought.contains(link)));
+    let is_shared = |link: &(Thing, Thing)| match *link {
+        (Thing::Step(one), Thing::Step(other)) => before.mates(one).contains(&other),
+        _ => false,
+    };
+    assert!(links.iter().all(|link| open.contains(link) || is_shared(link) || sought.contains(link)));
     assert!(links.iter().any(|link| sought.contains(link)));
 }
 

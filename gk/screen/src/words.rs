@@ -5,8 +5,9 @@ use gatekeeper::{Handle, Kind, Way};
 use crate::phrase::{object, phrase, Phrase, Piece};
 use crate::state::{State, PLACES, STEPS};
 
-/// Handles of one step that are named one by one.
+/// Handles of one step that are named one by one, and threads of one.
 const MOST_HANDLES: usize = 4;
+const MOST_THREADS: usize = 4;
 
 /// What a handle does.
 fn does(handle: Handle, state: &State) -> Phrase {
@@ -35,28 +36,70 @@ pub fn changed(before: &State, after: &State) -> Vec<Phrase> {
     said
 }
 
+/// Threads by name, or where there are many by number: "step 3, step 4 and step 5", or "steps 3 to 9"; the word for many
+/// stands at the front of a sentence or not.
+fn threads(steps: &[u64], word: &'static str) -> Phrase {
+    match steps {
+        [] => Phrase::default(),
+        [one] => phrase![Piece::Step(*one)],
+        _ if steps.len() > MOST_THREADS => phrase![word, " ", Piece::List(steps.to_vec())],
+        [first @ .., last] => {
+            let mut words = Phrase::default();
+            for (at, &step) in first.iter().enumerate() {
+                words = words.then(phrase![if at == 0 { "" } else { ", " }, Piece::Step(step)]);
+            }
+            // A phrase that starts with a thing has a capital there.
+            words.0.remove(0);
+            words.then(phrase![" and ", Piece::Step(*last)])
+        }
+    }
+}
+
+/// What has fallen, as it is told: a thing, or threads of one step, which fall together.
+fn falls(before: &State, after: &State) -> Vec<(Phrase, bool, u8, u8)> {
+    let mut falls: Vec<(Phrase, bool, u8, u8)> = Vec::new();
+    for group in after.groups() {
+        let fell = |s: &u64| Some((before.step(*s)?.level, after.step(*s)?.level));
+        let mut levels: Vec<(u8, u8)> = group.iter().filter_map(fell).collect();
+        levels.dedup();
+        for (from, to) in levels {
+            let steps: Vec<u64> = group.iter().copied().filter(|s| fell(s) == Some((from, to))).collect();
+            falls.push((threads(&steps, "Steps"), steps.len() > 1, from, to));
+        }
+    }
+    for o in State::objects_of(before, after) {
+        if let (Some(old), Some(new)) = (before.object(o), after.object(o)) {
+            falls.push((phrase![object(o, after)], false, old.level, new.level));
+        }
+    }
+    falls.retain(|(_, _, from, to)| from != to);
+    falls
+}
+
 /// Who came, who went, and who fell.
 fn levels(before: &State, after: &State, said: &mut Vec<Phrase>) {
-    let mut falls: Vec<(Piece, u8, u8)> = Vec::new();
-    for s in 0..STEPS {
-        if let (Some(old), Some(new)) = (before.step(s), after.step(s)) {
-            falls.push((Piece::Step(s), old.level, new.level));
-        }
-    }
+    let falls = falls(before, after);
     let objects = State::objects_of(before, after);
-    for &o in &objects {
-        if let (Some(old), Some(new)) = (before.object(o), after.object(o)) {
-            falls.push((object(o, after), old.level, new.level));
-        }
-    }
-    falls.retain(|(_, from, to)| from != to);
     let alone = if falls.len() == 1 { ". Nothing else falls." } else { "." };
-    for (who, from, to) in falls {
-        said.push(phrase![who, " falls from level ", from, " to level ", to, alone]);
+    for (who, are_threads, from, to) in falls {
+        let (fall, why) = match are_threads {
+            true => (" fall from level ", ": they are threads of one step"),
+            false => (" falls from level ", ""),
+        };
+        said.push(who.then(phrase![fall, from, " to level ", to, why, alone]));
     }
     for s in 0..STEPS {
         match (before.step(s), after.step(s)) {
-            (None, Some(new)) => said.push(phrase![Piece::Step(s), " is new, at level ", new.level, "."]),
+            (None, Some(new)) => {
+                let mates = after.mates(s);
+                let with = match mates.is_empty() {
+                    true => phrase!["."],
+                    false => phrase![", a thread of one step with "]
+                        .then(threads(&mates, "steps"))
+                        .then(phrase!["."]),
+                };
+                said.push(phrase![Piece::Step(s), " is new, at level ", new.level].then(with));
+            }
             (Some(_), None) => said.push(match before.held(s).count() {
                 0 => phrase![Piece::Step(s), " is gone, and its number is free."],
                 1 => phrase![Piece::Step(s), " is gone with its handle, and its number is free."],
@@ -191,6 +234,52 @@ mod tests {
             [
                 "Step 0 is gone with its 3 handles, and its number is free.",
                 "Pipe 2 has lost its last handle and ends."
+            ]
+        );
+        assert_eq!(step(|m| m.admit(3, 9))?, ["Step 3 is new, at level 9."]);
+        assert_eq!(
+            step(|m| m.thread(3, 1))?,
+            ["Step 1 is new, at level 9, a thread of one step with step 3."]
+        );
+        assert_eq!(
+            step(|m| m.thread(3, 5))?,
+            ["Step 5 is new, at level 9, a thread of one step with step 1 and step 3."]
+        );
+        assert_eq!(
+            step(|m| m.map(5, 1, 0))?,
+            [
+                "Step 1, step 3 and step 5 fall from level 9 to level 2: they are threads of one step. Nothing else falls.",
+                "Step 5 has file 1 mapped, at place 0."
+            ]
+        );
+        for s in [6, 7, 8] {
+            monitor.thread(1, s).granted()?;
+        }
+        let mut step = |call: fn(&mut Monitor) -> gatekeeper::Answer| {
+            let before = monitor.clone();
+            call(&mut monitor).granted().map(|_| told(&before, &monitor))
+        };
+        assert_eq!(
+            step(|m| m.thread(1, 9))?,
+            ["Step 9 is new, at level 2, a thread of one step with steps 1, 3, 5 to 8."]
+        );
+        assert_eq!(step(|m| m.register(4, 0))?, ["File 4 is new, at level 0 for good."]);
+        assert_eq!(
+            step(|m| m.map(9, 4, 0))?,
+            [
+                "Steps 1, 3, 5 to 9 fall from level 2 to level 0: they are threads of one step. Nothing else falls.",
+                "Step 9 has file 4 mapped, at place 0."
+            ]
+        );
+        assert_eq!(
+            step(|m| m.exec(3, 1))?,
+            [
+                "Step 1 is gone, and its number is free.",
+                "Step 5 is gone with its handle, and its number is free.",
+                "Step 6 is gone, and its number is free.",
+                "Step 7 is gone, and its number is free.",
+                "Step 8 is gone, and its number is free.",
+                "Step 9 is gone with its handle, and its number is free."
             ]
         );
         assert_eq!(step(|m| m.freeze(9))?, ["No file at or above level 9 can be opened for writing now."]);

@@ -40,6 +40,7 @@ const SAID: &str = "(() => {
     things: document.querySelectorAll('#graph .thing:not(.ghost)').length,
     objectCount: document.getElementById('live-objects').textContent,
     chained: document.querySelectorAll('#graph .edge.chain, #graph .edge.sought').length,
+    shared: document.querySelectorAll('#graph .edge.shares').length,
   };
 })()";
 
@@ -122,24 +123,39 @@ fn number(cell: &str) -> u64 {
         .unwrap_or_else(|| panic!("no number: {cell}"))
 }
 
-/// The page's tables beside those of the independent program.
+/// A step's first cell without names, and the threads of the same step that are named behind it.
+fn with_mates(head: &str) -> (String, Vec<String>) {
+    match head.split_once(" · thread of one step with ") {
+        Some((step, mates)) => (plain(step), mates.split(", ").map(plain).collect()),
+        None => (plain(head), Vec::new()),
+    }
+}
+
+/// The page's tables beside those of the independent program. Threads of one step stand together, and a line joins each to
+/// the next one.
 fn tables_agree(said: &Json, tables: &Tables) {
     let needs = Needs::of_tables(tables);
-    let shown: Vec<(String, u64, u64, usize)> = rows(said, "steps")
+    let shown: Vec<((String, Vec<String>), u64, u64, usize)> = rows(said, "steps")
         .iter()
         .map(|row| {
             let held = if row[3] == "nothing" { 0 } else { row[3].split("; ").count() };
-            (plain(row[0]), number(row[1]), number(row[2]), held)
+            (with_mates(row[0]), number(row[1]), number(row[2]), held)
         })
         .collect();
-    let there: Vec<(String, u64, u64, usize)> = tables
-        .live_subjects()
-        .map(|s| {
+    let mut steps: Vec<u64> = tables.live_subjects().collect();
+    steps.sort_by_key(|&s| (tables.members(s).next(), s));
+    let there: Vec<((String, Vec<String>), u64, u64, usize)> = steps
+        .iter()
+        .map(|&s| {
             let level = tables.subject(s).map_or(0, |subject| subject.level);
-            (format!("step {s}"), level, needs.of(Thing::Subject(s)), tables.handles_of(s).count())
+            let mates = tables.mates(s).map(|mate| format!("step {mate}")).collect();
+            let name = (format!("step {s}"), mates);
+            (name, level, needs.of(Thing::Subject(s)), tables.handles_of(s).count())
         })
         .collect();
     assert_eq!(shown, there);
+    let joined = steps.iter().filter(|&&s| tables.members(s).next() != Some(s)).count();
+    assert_eq!(said.get("shared").number(), Some(joined as f64), "lines between threads");
 
     let shown: Vec<(String, u64, usize, usize)> = rows(said, "objects")
         .iter()

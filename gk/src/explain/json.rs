@@ -1,13 +1,13 @@
 //! A journal as JSON, an object a line: one for each record, and a last one for the end. docs/JSON.md has the schema.
 
-use gatekeeper::{Answer, Call, Kind as ObjectKind};
+use gatekeeper::{Answer, Call, Kind as ObjectKind, State as Monitor, Way};
 use gk_chain::Link;
 
-use super::{tell, Differs, Told, Which};
+use super::{tell, Differs, Thread, Told, Which};
 use crate::names::{Kind, Names};
 use gk_advice::calls::{assembly_of, shape_of_code};
-use gk_advice::run::Content;
-use gk_advice::things::Thing;
+use gk_advice::run::{Content, Step};
+use gk_advice::things::{is_file, Held, Thing};
 use gk_advice::ways::Advice;
 
 /// The whole journal.
@@ -65,6 +65,10 @@ fn record(told: &Told) -> Object {
         chain.raw("links", list(&links));
         object.raw("chain", chain.text());
     }
+    if !told.threads.is_empty() {
+        let threads: Vec<String> = told.threads.iter().map(|thread| thread_text(thread, step)).collect();
+        object.raw("threads", list(&threads));
+    }
     if step.refusal().is_some() {
         let ways: Vec<String> = told.counsel.ways.iter().map(way).collect();
         object.raw("advice", list(&ways));
@@ -109,6 +113,40 @@ fn link_text(link: Link, name: &str) -> String {
     object.digits(&[("number", number)]);
     object.number("level", link.level.into());
     object.string("called", name);
+    object.text()
+}
+
+/// A thread of the step that asks, and what it holds.
+fn thread_text(thread: &Thread, step: &Step) -> String {
+    let monitor = if thread.is_ended { &step.before } else { &step.after };
+    let holds: Vec<String> = thread.holds.iter().map(|held| held_text(held, monitor)).collect();
+    let mut object = Object::default();
+    object.number("number", thread.number);
+    object.number("level", thread.level.into());
+    object.string("called", &thread.called);
+    if thread.is_ended {
+        object.raw("ended", "true".to_string());
+    }
+    object.raw("holds", list(&holds));
+    object.text()
+}
+
+fn held_text(held: &Held, monitor: &Monitor) -> String {
+    let way = match held.handle.way {
+        Way::Reads => "reads",
+        Way::Writes => "writes",
+        Way::Maps => "maps",
+    };
+    let kind = if is_file(monitor, held.object()) { Kind::File } else { Kind::Pipe };
+    let mut object = Object::default();
+    object.number("place", held.place);
+    object.string("way", way);
+    object.string("kind", kind.word());
+    object.number("number", held.object());
+    object.digits(&[("number", held.object())]);
+    if held.handle.marked {
+        object.raw("marked", "true".to_string());
+    }
     object.text()
 }
 

@@ -3,7 +3,8 @@
 use gatekeeper::{Call, State as Monitor, NO_FREEZE};
 
 use gk_advice::scene::{capital, listed, way_word, Closing, Scene};
-use gk_advice::things::{handles_of, has_mapped, level, objects, steps, Held, Thing};
+use gk_advice::things::{handles_of, has_mapped, level, mates, members, objects, steps, Held, Thing};
+use gk_advice::threads::{holdings, named, together};
 
 /// The sentences; `before` and `now` are the moments before the call and after it, `closing` the freeze before it.
 pub fn outcome(call: Call, before: Scene, now: Scene, closing: Option<Closing>) -> Vec<String> {
@@ -44,13 +45,15 @@ pub fn outcome(call: Call, before: Scene, now: Scene, closing: Option<Closing>) 
             before.step(subject),
             old(step(subject))
         )],
-        Call::Read { subject, .. } => vec![fall(step(subject), before, after)],
+        Call::Read { subject, .. } => {
+            [vec![fall(step(subject), before, after)], fell_with(subject, before, now)].concat()
+        }
         Call::Exec { subject, .. } => exec(subject, before, after),
         Call::Write { subject, place } => match before.monitor.handle(subject, place) {
             Some(handle) => write(handle.object, before, after),
             None => Vec::new(),
         },
-        Call::Fork { subject, child } => vec![fork(subject, child, now)],
+        Call::Fork { subject, child } => fork(subject, child, now),
         Call::Close { place, .. } => vec![format!("Place {place} is empty.{}", ended(before, after))],
         Call::Exit { subject } => {
             let closed = match handles_of(before.monitor, subject).count() {
@@ -58,16 +61,22 @@ pub fn outcome(call: Call, before: Scene, now: Scene, closing: Option<Closing>) 
                 1 => "1 handle is closed".to_string(),
                 count => format!("{count} handles are closed"),
             };
-            vec![format!(
+            let mut facts = vec![format!(
                 "Its last level was {}; {closed}. Its number is free.{}",
                 old(step(subject)),
                 ended(before, after)
-            )]
+            )];
+            let left: Vec<u64> = mates(before.monitor, subject).collect();
+            facts.extend(threads_of_it(&left, before).map(|who| match left.len() {
+                1 => format!("{who}, stays."),
+                _ => format!("{who}, stay."),
+            }));
+            facts
         }
         Call::Retire { object: o } => {
             vec![format!("Its last level was {}; its number is free.", old(object(o)))]
         }
-        Call::Map { subject, object, place } => map(subject, object, place, before, after),
+        Call::Map { subject, object, place } => map(subject, object, place, before, now),
         Call::Mark { subject, place } => mark(subject, place, before),
         Call::Freeze { level } => freeze(level, closing),
         Call::Connect { subject, peer, to, from, reading, writing } => {
@@ -82,6 +91,14 @@ pub fn outcome(call: Call, before: Scene, now: Scene, closing: Option<Closing>) 
                 format!("Back: {}.", way(peer, subject, from)),
             ]
         }
+        Call::Thread { member, .. } => vec![
+            format!(
+                "{} starts at level {}, with no handles.",
+                capital(&now.step(member)),
+                new(step(member))
+            ),
+            together(&members(after, member), now),
+        ],
         _ => Vec::new(),
     }
 }
@@ -93,6 +110,29 @@ fn fall(thing: Thing, before: Scene, after: &Monitor) -> String {
         format!("{who} falls from level {from} to level {to}.")
     } else {
         format!("{who} stays at level {to}.")
+    }
+}
+
+/// RULES C114: the mates that have fallen with a step that has read, and which of them all holds what.
+fn fell_with(subject: u64, before: Scene, now: Scene) -> Vec<String> {
+    let falls = |&mate: &u64| now.monitor.subject(mate) < before.monitor.subject(mate);
+    let fell: Vec<u64> = mates(before.monitor, subject).filter(falls).collect();
+    let why = match fell.len() {
+        0 => return Vec::new(),
+        1 => "falls with it: the two are threads of one step, and what one of them reads, both have read",
+        _ => "fall with it: all of them are threads of one step, and what one of them reads, all have read",
+    };
+    let who = capital(&named(&fell, now));
+    vec![format!("{who} {why}."), holdings(&members(now.monitor, subject), now)]
+}
+
+/// Some mates of a step at the front of a sentence, with what they are; none where there are none.
+fn threads_of_it(mates: &[u64], scene: Scene) -> Option<String> {
+    let who = capital(&named(mates, scene));
+    match mates.len() {
+        0 => None,
+        1 => Some(format!("{who}, a thread of the same step")),
+        _ => Some(format!("{who}, threads of the same step")),
     }
 }
 
@@ -122,7 +162,7 @@ fn write(object: u64, before: Scene, after: &Monitor) -> Vec<String> {
     facts
 }
 
-fn fork(parent: u64, child: u64, now: Scene) -> String {
+fn fork(parent: u64, child: u64, now: Scene) -> Vec<String> {
     let handles: Vec<Held> = handles_of(now.monitor, child).collect();
     let of = now.step(parent);
     let copies = match handles.len() {
@@ -139,10 +179,16 @@ fn fork(parent: u64, child: u64, now: Scene) -> String {
     let marked = part(handles.iter().filter(|held| held.handle.marked).count(), "marked", "marked");
     let mapped = part(handles.iter().filter(|held| held.is_mapping()).count(), "a mapping", "mappings");
     let level = now.monitor.subject(child).unwrap_or(0);
-    format!("{} starts at level {level} with {copies}{marked}{mapped}.", capital(&now.step(child)))
+    let who = capital(&now.step(child));
+    let mut facts = vec![format!("{who} starts at level {level} with {copies}{marked}{mapped}.")];
+    if mates(now.monitor, parent).next().is_some() {
+        facts.push("It has a memory of its own: it is no thread of that step.".to_string());
+    }
+    facts
 }
 
-/// RULES C10: the marked handles and the mappings that an exec has closed, and the pipes that have ended so.
+/// RULES C10, C116: the mates that an exec has ended, the marked handles and the mappings that it has closed, and the pipes
+/// that have ended so.
 fn exec(subject: u64, before: Scene, after: &Monitor) -> Vec<String> {
     let mut facts = vec![fall(Thing::Step(subject), before, after)];
     let closed: Vec<Held> = handles_of(before.monitor, subject)
@@ -162,10 +208,13 @@ fn exec(subject: u64, before: Scene, after: &Monitor) -> Vec<String> {
             .collect();
         words.join(", ")
     };
-    let gone: String = objects(before.monitor)
+    let mut gone: String = objects(before.monitor)
         .filter(|&o| after.object(o).is_none())
         .map(|o| format!(" {} has no handle left and ends.", capital(&before.object(o))))
         .collect();
+    if let Some(mates) = ended_mates(subject, before) {
+        facts.push(mates + &std::mem::take(&mut gone));
+    }
     match marked.len() {
         0 => {}
         1 => facts.push(format!("Its marked handle is closed: {}.{gone}", places(&marked))),
@@ -179,10 +228,28 @@ fn exec(subject: u64, before: Scene, after: &Monitor) -> Vec<String> {
     facts
 }
 
+/// RULES C116, Y13: the mates that an exec of a step has ended, and how many handles went with them; none where it had none.
+fn ended_mates(subject: u64, before: Scene) -> Option<String> {
+    let mates: Vec<u64> = mates(before.monitor, subject).collect();
+    let who = threads_of_it(&mates, before)?;
+    let handles = mates.iter().map(|&mate| handles_of(before.monitor, mate).count()).sum::<usize>();
+    let (end, number) = match mates.len() {
+        1 => ("ends", "Its number is free"),
+        _ => ("end", "Their numbers are free"),
+    };
+    let closed = match handles {
+        0 => "no handle goes with that".to_string(),
+        1 => "1 handle is closed with that".to_string(),
+        count => format!("{count} handles are closed with that"),
+    };
+    Some(format!("{who}, {end} before it is run; {closed}. {number}."))
+}
+
 /// RULES C14, C111: a map is a read at that moment, and one after each write to come.
-fn map(subject: u64, object: u64, place: u64, before: Scene, after: &Monitor) -> Vec<String> {
+fn map(subject: u64, object: u64, place: u64, before: Scene, now: Scene) -> Vec<String> {
     let who = before.step(subject);
-    let (from, to) = (before.monitor.subject(subject).unwrap_or(0), after.subject(subject).unwrap_or(0));
+    let level = |monitor: &Monitor| monitor.subject(subject).unwrap_or(0);
+    let (from, to) = (level(before.monitor), level(now.monitor));
     let change = match to < from {
         true => format!("falls from level {from} to level {to}"),
         false => format!("stays at level {to}"),
@@ -199,7 +266,8 @@ fn map(subject: u64, object: u64, place: u64, before: Scene, after: &Monitor) ->
              is allowed closes it, too."
         )
     };
-    vec![format!("{file} is read at that moment: {who} {change}."), later]
+    let read = format!("{file} is read at that moment: {who} {change}.");
+    [vec![read], fell_with(subject, before, now), vec![later]].concat()
 }
 
 /// RULES C15, T35.

@@ -1,4 +1,5 @@
-//! A run step by step: for each step when it was there, its levels over time, what it held, and what it was refused.
+//! A run step by step: for each step when it was there, its levels over time, the threads that were one step with it, what
+//! it held, and what it was refused.
 
 use gatekeeper::{Call, Way};
 
@@ -9,7 +10,8 @@ use gk_advice::asked::asked;
 use gk_advice::calls::{shape_of_code, Role};
 use gk_advice::run::{agrees, Content, Run, Step};
 use gk_advice::scene::{capital, way_word, Lives, Scene};
-use gk_advice::things::{Thing, PLACES, STEPS};
+use gk_advice::things::{mates, Thing, PLACES, STEPS};
+use gk_advice::threads::named;
 
 /// The time of one step under its number.
 struct Stay {
@@ -18,6 +20,8 @@ struct Stay {
     from: u64,
     until: Option<u64>,
     levels: Vec<(u64, u8)>,
+    /// Its mates from a record on, and what they are called; from the first record at which it has some.
+    mates: Vec<(u64, Vec<u64>, String)>,
     handles: Vec<Hold>,
     refused: Vec<String>,
 }
@@ -116,12 +120,17 @@ fn follow(step: &Step, after: Scene, stays: &mut Vec<Stay>) {
         return;
     }
     let parts = shape_of_code(call.code()).into_iter().flat_map(|shape| shape.parts());
-    let named = parts.zip(call.numbers()).filter(|((_, role), _)| *role == Role::Step);
-    // A write to a mapped file can lower who has it mapped; else only the steps that the call names are concerned.
-    let concerned: Vec<u64> = match call {
+    let steps = parts.zip(call.numbers()).filter(|((_, role), _)| *role == Role::Step);
+    // A write to a mapped file can lower who has it mapped; else only the steps that the call names are concerned, and
+    // their mates.
+    let mut concerned: Vec<u64> = match call {
         Call::Write { .. } => (0..STEPS).collect(),
-        _ => named.map(|(_, number)| number).collect(),
+        _ => steps.map(|(_, number)| number).collect(),
     };
+    for number in concerned.clone() {
+        let more = mates(&step.before, number).chain(mates(&step.after, number));
+        concerned.extend(more.filter(|mate| !concerned.contains(mate)).collect::<Vec<u64>>());
+    }
     for number in concerned {
         follow_step(number, step, after, stays);
     }
@@ -138,6 +147,7 @@ fn follow_step(number: u64, step: &Step, after: Scene, stays: &mut Vec<Stay>) {
                 from: position,
                 until: None,
                 levels: vec![(position, level)],
+                mates: Vec::new(),
                 handles: Vec::new(),
                 refused: Vec::new(),
             });
@@ -152,6 +162,12 @@ fn follow_step(number: u64, step: &Step, after: Scene, stays: &mut Vec<Stay>) {
     }
     if let Some(level) = level.filter(|&level| stay.levels.last().is_none_or(|&(_, last)| last != level)) {
         stay.levels.push((position, level));
+    }
+    let mates: Vec<u64> = mates(&step.after, number).collect();
+    let known = stay.mates.last().map_or(&[][..], |(_, known, _)| known);
+    if level.is_some() && known != mates {
+        let called = named(&mates, after);
+        stay.mates.push((position, mates, called));
     }
     for place in 0..PLACES {
         let handle = step.after.handle(number, place);
@@ -193,6 +209,17 @@ fn paragraphs(stay: &Stay) -> String {
     let levels: Vec<String> =
         stay.levels.iter().map(|(record, level)| format!("{level} from record {record} on")).collect();
     text.push_str(&paragraph("  ", &format!("Level: {}.", levels.join(", "))));
+    let mates: Vec<String> = stay
+        .mates
+        .iter()
+        .map(|(record, mates, called)| match mates.is_empty() {
+            true => format!("by itself from record {record} on"),
+            false => format!("with {called} from record {record} on"),
+        })
+        .collect();
+    if !mates.is_empty() {
+        text.push_str(&paragraph("  ", &format!("A thread of one step: {}.", mates.join(", "))));
+    }
     if stay.handles.is_empty() {
         text.push_str("  Held nothing.\n");
     }

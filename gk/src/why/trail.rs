@@ -30,6 +30,8 @@ pub struct Mark {
     pub level: u8,
     /// The thing that it took the level from, by its place in the list; none where it came from outside.
     source: Option<usize>,
+    /// The mate that has read, by its place in the list, where the step itself has not.
+    pub mate: Option<usize>,
 }
 
 /// A link of a chain: a thing, by its place in the list, and the record that gave it the level.
@@ -89,11 +91,14 @@ impl Trail {
         for (thing, source) in changed.into_iter().zip(sources) {
             match (levels(thing), self.last.get(&thing).copied()) {
                 ((None, Some(level)), _) => {
-                    let mark = Mark { record: step.position, level, source };
+                    let mark = Mark { record: step.position, level, source, mate: None };
                     self.arrive(thing, mark, &step.after);
                 }
                 ((_, Some(level)), Some(stay)) => {
-                    self.stays[stay].marks.push(Mark { record: step.position, level, source });
+                    let mate =
+                        reader(call).filter(|&reader| matches!(thing, Thing::Step(_)) && reader != thing);
+                    let mate = mate.and_then(|mate| self.last.get(&mate).copied());
+                    self.stays[stay].marks.push(Mark { record: step.position, level, source, mate });
                 }
                 (_, Some(stay)) => self.stays[stay].until = Some(step.position),
                 (_, None) => {}
@@ -134,13 +139,22 @@ impl Trail {
     }
 }
 
+/// RULES C114: the step that reads by a call, with which its mates fall.
+fn reader(call: Call) -> Option<Thing> {
+    match call {
+        Call::Read { subject, .. } | Call::Map { subject, .. } => Some(Thing::Step(subject)),
+        _ => None,
+    }
+}
+
 /// From where a thing takes the level that a call gives it; none where the level comes from outside.
 fn source(thing: Thing, call: Call, before: &Monitor) -> Option<Thing> {
     let (step, object) = (Thing::Step, Thing::Object);
     match call {
-        Call::Create { subject, .. } | Call::Pipe { subject, .. } | Call::Fork { subject, .. } => {
-            Some(step(subject))
-        }
+        Call::Create { subject, .. }
+        | Call::Pipe { subject, .. }
+        | Call::Fork { subject, .. }
+        | Call::Thread { subject, .. } => Some(step(subject)),
         Call::Connect { subject, to, .. } if thing == object(to) => Some(step(subject)),
         Call::Connect { peer, .. } => Some(step(peer)),
         Call::Read { subject, place } => before.handle(subject, place).map(|handle| object(handle.object)),

@@ -25,8 +25,9 @@ Then:
   gk explain pay.journal --refused
 
 TRACE is what strace -f -o TRACE has written, with or without -y; - or nothing is standard input. Each process
-becomes a step, each file and pipe has one number for the whole run, and the calls are written in their order. -y
-has strace write real paths, and -s 2 no more of what is read and written than two characters; less is not enough.
+becomes a step, and its threads become threads of that step; each file and pipe has one number for the whole run, and
+the calls are written in their order. -y has strace write real paths, and -s 2 no more of what is read and written
+than two characters; less is not enough.
 
 A report goes to standard error: which calls were written, which of them the gatekeeper refuses, what was NOT SEEN
 and what was left out, with the first line of each kind.
@@ -39,6 +40,7 @@ and what was left out, with the first line of each kind.
   --until LINE    read the trace up to this line
   --all-files     keep files of level 15 that are only read (harmless: docs/TRACE.md says why)
   --repeats       keep reads and writes that come again and lower nobody
+  --one-step      take threads for their process, without numbers of their own; all other answers are the same
   --report-only   status 0 wherever the journal is written, whatever was refused or not seen
   --quiet         no report
 
@@ -177,6 +179,7 @@ fn sorted(arguments: &[String]) -> Result<Arguments, Failure> {
             "--until" => sorted.until = Some(number(argument, &value()?, u64::MAX)?),
             "--all-files" => sorted.options.all_files = true,
             "--repeats" => sorted.options.repeats = true,
+            "--one-step" => sorted.options.one_step = true,
             "--quiet" => sorted.is_quiet = true,
             "--report-only" => sorted.is_report_only = true,
             "--" => files.extend(rest.by_ref().cloned()),

@@ -18,10 +18,12 @@ impl World<'_> {
     /// The child of a fork shows up before the fork's second line.
     pub fn meet_child(&mut self, process: u32, maker: u32) -> Done {
         let pending = self.tasks.get_mut(&maker).and_then(|task| task.pending.as_mut());
-        let Some(child) = pending.and_then(|pending| pending.child.as_mut()) else { return Ok(()) };
+        let Some(pending) = pending else { return Ok(()) };
+        let Some(child) = pending.child.as_mut() else { return Ok(()) };
         child.is_bound = true;
         let child = *child;
-        self.bind(process, maker, child)
+        let touched = pending.touched.clone();
+        self.bind(process, maker, child, &touched)
     }
 
     /// A call that had begun does not come to its end: what it may have done counts as done.
@@ -55,12 +57,11 @@ impl World<'_> {
         let moves = self.moves_of(step, name, &args);
         let birth = if name == "close" { self.birth_of(step, &args) } else { None };
         let child = if FORKS.contains(&name) { Some(self.forks(process, step, name, text)?) } else { None };
-        let pending = Pending { name: name.to_string(), text: text.to_string(), moves, child, birth };
-        if let Some(leader) = goes_on_as.filter(|&leader| leader != process) {
-            // The thread that runs a program takes its process's number.
-            if let Some(task) = self.tasks.remove(&process) {
-                self.tasks.insert(leader, task);
-            }
+        let births = self.births_of(step, name, &args);
+        let (name, text) = (name.to_string(), text.to_string());
+        let pending = Pending { name, text, moves, child, birth, births, touched: Vec::new() };
+        if let Some(leader) = goes_on_as {
+            self.takes_number(leader, process)?;
         }
         if let Some(task) = self.tasks.get_mut(&goes_on_as.unwrap_or(process)) {
             task.pending = Some(pending);
@@ -86,31 +87,44 @@ impl World<'_> {
                 }
             }
             (name, Outcome::Done(value, _)) if FORKS.contains(&name) => {
-                self.forked(process, step, call, value, child)
+                let touched = pending.map_or(&[][..], |pending| &pending.touched);
+                self.forked(process, step, call, value, child, touched)
             }
             (_, Outcome::Unsaid) => {
                 self.settle()?;
+                pending.into_iter().for_each(|pending| self.look_for_race(step, pending));
                 if !self.moves_data(step, call)? {
-                    self.left(Left::Unresumed);
+                    // One that carries no data where it ends carries none where it does not.
+                    let kind = kind_of(call.name).filter(|kind| !kind.is_unseen());
+                    self.left(kind.unwrap_or(Left::Unresumed));
                 }
                 Ok(())
             }
             (_, Outcome::Done(value, _)) => {
                 self.settle()?;
+                pending.into_iter().for_each(|pending| self.look_for_race(step, pending));
                 self.done(process, step, call, value, pending)
             }
         }
     }
 
     /// A fork that has come out well.
-    fn forked(&mut self, process: u32, step: u64, call: &Sys, value: i64, child: Option<Child>) -> Done {
+    fn forked(
+        &mut self,
+        process: u32,
+        step: u64,
+        call: &Sys,
+        value: i64,
+        child: Option<Child>,
+        touched: &[i32],
+    ) -> Done {
         let Some(number) = u32::try_from(value).ok().filter(|&number| number > 0) else { return Ok(()) };
         let child = match child {
             Some(child) if child.is_bound => return Ok(()),
             Some(child) => child,
             None => self.forks(process, step, call.name, &format!("{})", call.args.join(", ")))?,
         };
-        self.bind(number, process, child)
+        self.bind(number, process, child, touched)
     }
 
     /// A call that has come out well, with this number.
@@ -131,7 +145,7 @@ impl World<'_> {
             ("close", _) => self.closes(step, call.arg(0), pending.and_then(|pending| pending.birth)),
             ("close_range", _) => self.closes_range(step, call),
             ("ioctl", _) => self.controls(step, call),
-            ("execve" | "execveat", _) => self.execs(process, call),
+            ("execve" | "execveat", _) => self.execs(process, call, pending),
             ("mmap" | "mmap2", _) => self.maps(step, call, value as u64),
             ("munmap", _) => self.unmaps(step, call),
             ("mremap", _) => self.remaps(step, call),

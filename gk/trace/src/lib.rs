@@ -1,7 +1,8 @@
 //! The trace of a real pay run, written as a journal for the gatekeeper.
 //!
 //! `strace -f -o TRACE` writes every call that the processes of a run make. [`journal_of`] reads that and writes a
-//! journal: each process is a step, each file and pipe has a number, and a levels file says which level a file has.
+//! journal: each process is a step, its threads are threads of that step, each file and pipe has a number, and a levels
+//! file says which level a file has.
 //! The calls are made on the proved gatekeeper as they are written, so that the journal goes on as the gatekeeper
 //! would have let it: on what it refuses nothing more is done. `docs/TRACE.md` is the page for the clerk.
 //!
@@ -13,7 +14,7 @@
 //! | `levels`, `glob` | the levels file and its patterns |
 //! | `run`, `dispatch` | a trace from its first line to its last, and each call of it |
 //! | `world`, `files`, `journal` | steps, files and pipes with their numbers; the journal |
-//! | `open`, `data`, `table`, `maps`, `moves`, `steps`, `paths` | what each call comes to |
+//! | `open`, `data`, `table`, `maps`, `moves`, `steps`, `threads`, `races`, `paths` | what each call comes to |
 //! | `kinds`, `report` | what is left out, and the report |
 //! | [`names`] | the names file |
 //! | [`cli`], `output` | the command `gk trace` |
@@ -34,11 +35,13 @@ pub mod names;
 mod open;
 mod output;
 mod paths;
+mod races;
 mod report;
 mod run;
 mod steps;
 mod table;
 mod text;
+mod threads;
 mod world;
 
 pub use cli::main;

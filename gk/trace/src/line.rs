@@ -26,7 +26,7 @@ pub enum Event<'a> {
     /// The process, or thread, has exited or was killed.
     Ended,
     /// Its number is taken over by another thread of its process, which runs a program.
-    Superseded,
+    Superseded { by: Option<u32> },
     /// A signal, a stop, or a word of strace itself.
     Nothing,
 }
@@ -72,7 +72,11 @@ fn event(text: &str) -> Result<Event<'_>, Fault> {
     if let Some(rest) = text.strip_prefix("+++ ") {
         return match rest.split(' ').next() {
             Some("exited" | "killed") if rest.ends_with("+++") => Ok(Event::Ended),
-            Some("superseded") if rest.ends_with("+++") => Ok(Event::Superseded),
+            Some("superseded") if rest.ends_with("+++") => {
+                let by =
+                    rest.strip_prefix("superseded by execve in pid ").and_then(|by| by.split(' ').next());
+                Ok(Event::Superseded { by: by.and_then(|digits| digits.parse().ok()) })
+            }
             _ => Err(fault(rest, "exited, killed or superseded, and +++ at the end")),
         };
     }
@@ -130,7 +134,8 @@ mod tests {
         assert_eq!(event_of("17 execve(\"/bin/a\" <pid changed to 16 ...>"), moved);
         assert_eq!(event_of("17 +++ exited with 0 +++"), Event::Ended);
         assert_eq!(event_of("17 +++ killed by SIGSEGV (core dumped) +++"), Event::Ended);
-        assert_eq!(event_of("17 +++ superseded by execve in pid 18 +++"), Event::Superseded);
+        let taken = Event::Superseded { by: Some(18) };
+        assert_eq!(event_of("17 +++ superseded by execve in pid 18 +++"), taken);
         assert_eq!(event_of("17 --- SIGCHLD {si_signo=SIGCHLD, ...} ---"), Event::Nothing);
     }
 

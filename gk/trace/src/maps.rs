@@ -3,6 +3,7 @@
 use gatekeeper::{Call, Way};
 
 use crate::call::{fd, has_flag, whole_number, Outcome, Sys};
+use crate::races::UNMAPPED;
 use crate::report::{Left, Note};
 use crate::world::{Done, Mapping, World};
 
@@ -45,7 +46,7 @@ impl World<'_> {
     }
 
     /// The mapping of a file can be written through.
-    fn map_writes(&mut self, step: u64, object: u64) -> Done {
+    pub fn map_writes(&mut self, step: u64, object: u64) -> Done {
         self.note(Note::SharedMap);
         let writes = self.open(step, object, Way::Writes)?;
         if let Some(end) = writes {
@@ -79,6 +80,9 @@ impl World<'_> {
         });
         if gone.is_empty() {
             self.left(Left::NoData);
+        }
+        if !gone.is_empty() {
+            self.touch(step, UNMAPPED);
         }
         for end in gone {
             self.close(step, end)?;

@@ -8,7 +8,7 @@ use crate::open::path_args;
 use crate::paths::{joined, Key};
 use crate::report::{Left, Note};
 use crate::text::shown;
-use crate::world::{Descriptor, Done, Mapping, World, STEPS};
+use crate::world::{Descriptor, Done, Mapping, World};
 
 impl World<'_> {
     /// unlink and unlinkat: the file is retired, at once or when its last handle goes.
@@ -147,8 +147,8 @@ impl World<'_> {
     fn follow(&mut self, old: usize, new: usize) -> Done {
         let (old, new) = (self.object_of(old)?, self.object_of(new)?);
         for way in [Way::Writes, Way::Reads] {
-            for step in 0..STEPS {
-                let Ok(own) = self.step(step) else { continue };
+            for step in self.by_age() {
+                let own = self.step(step)?;
                 let is_on_old = |own: &Descriptor| own.end(way).is_some_and(|end| end.object == old);
                 let fds: Vec<i32> =
                     own.table.iter().filter(|(_, own)| is_on_old(own)).map(|(&fd, _)| fd).collect();

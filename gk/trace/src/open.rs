@@ -84,9 +84,7 @@ impl World<'_> {
                      Give it with --folder"
                 ));
             }
-            let steps: Vec<u64> =
-                (0..).zip(&self.steps).filter(|(_, step)| step.is_some()).map(|(n, _)| n).collect();
-            for step in steps {
+            for step in self.by_age() {
                 let folder = self.paths.key(&self.step(step)?.folder);
                 self.step_mut(step)?.folder = folder;
             }

@@ -35,6 +35,8 @@ pub enum Left {
     Filter,
     Cut,
     Roots,
+    Parted,
+    Raced,
     Strange,
     // What carries nothing that decides.
     Top,
@@ -77,6 +79,8 @@ impl Left {
             Left::Filter => "kinds of calls that every run makes are missing: trace without a filter (-e)",
             Left::Cut => "the trace goes on, or was cut off: what comes later",
             Left::Roots => "calls that change which files paths mean (mount, chroot): not followed",
+            Left::Parted => "threads that take a copy of their process's descriptors: one table in the journal",
+            Left::Raced => "calls of a thread while another one changed the descriptor: which file it was is not known",
             Left::ByLevels => "other calls on files that the levels file leaves out",
             Left::Refused => "calls on what was refused before",
             Left::Standard => "calls on standard input, output and error that move no data",
@@ -103,6 +107,7 @@ impl Left {
         match self {
             Left::Sockets => Left::SocketCalls,
             Left::Events => Left::EventCalls,
+            Left::Raced => Left::Unknown,
             other => other,
         }
     }
@@ -221,6 +226,12 @@ impl Report {
             Answer::Refused(_) => 2,
         };
         self.answers[index] += 1;
+    }
+
+    /// How many threads were written.
+    pub fn threads(&self) -> u64 {
+        let code = Call::Thread { subject: 0, member: 0 }.code();
+        self.made.get(&code).copied().unwrap_or(0)
     }
 
     /// A call on this file or pipe, by a step that runs this program, is refused.

@@ -184,7 +184,7 @@ impl<T: BufRead> Reader<'_, T> {
             }
             return Ok(());
         }
-        let is_quiet = matches!(line.event, Event::Nothing | Event::Superseded);
+        let is_quiet = matches!(line.event, Event::Nothing | Event::Superseded { .. });
         let name = match line.event {
             Event::Call { name, .. } | Event::Begun { name, .. } => name,
             _ => "",
@@ -198,8 +198,8 @@ impl<T: BufRead> Reader<'_, T> {
         }
         match line.event {
             Event::Nothing => {}
-            // The thread that runs the program has its number from now on.
-            Event::Superseded => {}
+            Event::Superseded { by: Some(thread) } => self.world.takes_number(process, thread)?,
+            Event::Superseded { by: None } => {}
             Event::Ended => self.world.ends(process)?,
             Event::Call { name, text: rest } => {
                 self.world.abandon(process)?;
@@ -244,7 +244,7 @@ impl<T: BufRead> Reader<'_, T> {
             ([], 0) => Ok(self.world.admit(process, is_start)?),
             ([], 1) => {
                 let child = self.world.orphans.remove(0);
-                Ok(self.world.bind(process, 0, child)?)
+                Ok(self.world.bind(process, 0, child, &[])?)
             }
             ([maker], 0) => Ok(self.world.meet_child(process, *maker)?),
             _ => match self.maker_of(process)? {

@@ -8,7 +8,7 @@ use crate::names::Kind;
 use crate::paths::{last_name, Key, START};
 use crate::report::{Left, Note};
 use crate::text::shown;
-use crate::world::{Child, Descriptor, Done, Step, Task, World, PLACES};
+use crate::world::{Child, Descriptor, Done, Pending, Step, Task, World, PLACES};
 
 /// The names that strace has for calls which make a process or thread.
 pub const FORKS: [&str; 4] = ["fork", "vfork", "clone", "clone3"];
@@ -29,11 +29,13 @@ impl World<'_> {
             maps: Vec::new(),
             folder: START.to_vec(),
             memory,
+            birth: memory,
             program: "start of the run".to_string(),
             unnamed_from: Some(admitted),
             used: [false; PLACES as usize],
         });
-        self.tasks.insert(process, Task { step, group: process, pending: None, is_shown: true });
+        let task = Task { step, thread: None, group: process, pending: None, is_shown: true };
+        self.tasks.insert(process, task);
         for (number, which) in ["stdin", "stdout", "stderr"].into_iter().enumerate() {
             let descriptor = match self.levels.standard(number) {
                 None => Descriptor::left(Left::Standard, None),
@@ -58,46 +60,40 @@ impl World<'_> {
         }
     }
 
-    fn free_step(&self, wanted: &str) -> Done<u64> {
-        match self.steps.iter().position(Option::is_none) {
-            Some(free) => Ok(free as u64),
-            None => self.stop(format!(
-                "{wanted} would be the 33rd step at once, and the gatekeeper has numbers for 32. Trace a part of the \
-                 run, or give --until {}: it ends before this line",
-                self.line - 1
-            )),
-        }
-    }
-
-    /// A fork has begun: the new step is there, or the thread is one with its process.
+    /// A fork has begun: the new step is there, or the new thread.
     pub fn forks(&mut self, process: u32, step: u64, name: &str, text: &str) -> Done<Child> {
         let (args, _) = arguments(text);
         let first = args.first().copied().unwrap_or("");
         let named = args.iter().find_map(|arg| arg.strip_prefix("flags="));
         let flags = named.or_else(|| field(first, "flags")).unwrap_or("");
         let has = |flag| has_flag(flags, flag);
-        if has("CLONE_THREAD") || has("CLONE_FILES") {
-            self.note(Note::Threads);
-            return Ok(Child { step, is_thread: has("CLONE_THREAD"), is_bound: false });
-        }
-        self.settle()?;
-        let shares_memory = name == "vfork" || has("CLONE_VM");
-        let child = self.copy_step(process, step, shares_memory)?;
-        Ok(Child { step: child, is_thread: false, is_bound: false })
+        let (is_thread, shares_table) = (has("CLONE_THREAD"), has("CLONE_FILES"));
+        let mut shares_memory = name == "vfork" || has("CLONE_VM") || is_thread;
+        let (step, thread) = match (shares_table, shares_memory) {
+            (true, true) => (step, self.start_thread(process, step)?),
+            // It has a memory of its own. That it has its maker's shows more flow.
+            (true, false) => {
+                self.note(Note::Threads);
+                shares_memory = true;
+                (step, None)
+            }
+            (false, _) => {
+                self.settle()?;
+                (self.copy_step(process, step)?, None)
+            }
+        };
+        Ok(Child { step, thread, is_thread, shares_memory, is_bound: false })
     }
 
-    /// A step with the same handles.
-    fn copy_step(&mut self, process: u32, step: u64, shares_memory: bool) -> Done<u64> {
+    /// A step with the same handles, and for now with the same memory.
+    fn copy_step(&mut self, process: u32, step: u64) -> Done<u64> {
         let program = shown(self.step(step)?.program.as_bytes());
         let child = self.free_step(&format!("the process that process {process} ({program}) starts"))?;
         self.make(Call::Fork { subject: step, child })?;
-        let memory = self.tick();
-        let mut copy = self.step(step)?.clone();
+        let birth = self.tick();
+        let mut copy = Step { birth, ..self.step(step)?.clone() };
         copy.used = [false; PLACES as usize];
         copy.unnamed_from = None;
-        if !shares_memory {
-            copy.memory = memory;
-        }
         let from = self.journal.next() - 1;
         self.journal.names.give_new(Kind::Step, child, from, &copy.program);
         self.steps[child as usize] = Some(copy);
@@ -105,7 +101,7 @@ impl World<'_> {
     }
 
     /// A process shows up, by its own first line or in the answer to the fork, and is bound to its step.
-    pub fn bind(&mut self, process: u32, parent: u32, child: Child) -> Done {
+    pub fn bind(&mut self, process: u32, parent: u32, child: Child, touched: &[i32]) -> Done {
         let group = self.tasks.get(&parent).filter(|_| child.is_thread).map_or(process, |task| task.group);
         if process == parent {
             return self.stop(format!("process {process} cannot have made itself"));
@@ -114,37 +110,26 @@ impl World<'_> {
             // Its end was not seen, and the number is used again.
             self.ends(process)?;
         }
-        self.tasks.insert(process, Task { step: child.step, group, pending: None, is_shown: false });
-        let Some(maker) = self.tasks.get(&parent).map(|task| task.step).filter(|&step| step != child.step)
+        self.gone.remove(&process);
+        let Child { step, thread, .. } = child;
+        self.tasks.insert(process, Task { step, thread, group, pending: None, is_shown: false });
+        if !child.shares_memory {
+            self.step_mut(step)?.memory = self.tick();
+        }
+        let Some(maker) = self.tasks.get(&parent).map(|task| task.step).filter(|&maker| maker != step)
         else {
             return Ok(());
         };
-        // Another thread may have opened something between the fork's two lines: the new step may have it, too.
-        if self.tasks.values().filter(|task| task.step == maker).count() > 1 {
-            let own = &self.step(child.step)?.table;
-            let more: Vec<(i32, Descriptor)> = self
-                .step(maker)?
-                .table
-                .iter()
-                .filter(|(fd, _)| !own.contains_key(fd))
-                .map(|(&fd, descriptor)| (fd, descriptor.clone()))
-                .collect();
-            for (fd, mut descriptor) in more {
-                let (reads, writes) =
-                    (descriptor.reads.map(|end| end.object), descriptor.writes.map(|end| end.object));
-                match self.open_both(child.step, reads, writes)? {
-                    Some(ends) => (descriptor.reads, descriptor.writes) = ends,
-                    None => descriptor = Descriptor::left(Left::Refused, descriptor.path),
-                }
-                self.put(child.step, fd, descriptor)?;
-            }
-        }
-        Ok(())
+        self.catch_up(maker, step, touched)
     }
 
     /// A fork that had begun has failed: nobody was made.
     pub fn unforks(&mut self, child: Child, maker: u64) -> Done {
-        if child.step == maker || child.is_bound {
+        if child.is_bound {
+            return Ok(());
+        }
+        self.end_thread(child.thread)?;
+        if child.step == maker {
             return Ok(());
         }
         self.leave(child.step)
@@ -154,19 +139,28 @@ impl World<'_> {
     pub fn ends(&mut self, process: u32) -> Done {
         // Who is killed in the middle of a write may have written.
         self.settle()?;
+        self.breaks_off(process)?;
         let Some(task) = self.tasks.remove(&process) else { return Ok(()) };
-        let child = task.pending.and_then(|pending| pending.child);
-        if let Some(child) = child.filter(|child| !child.is_bound && child.step != task.step) {
-            // Its child is still to show up.
-            self.orphans.push(child);
+        self.end_thread(task.thread)?;
+        let is_last = self.tasks.values().all(|other| other.step != task.step);
+        if let Some(pending) = task.pending {
+            let child = pending.child.filter(|child| !child.is_bound);
+            if let Some(child) = child.filter(|child| !is_last || child.step != task.step) {
+                // Its child is still to show up.
+                self.orphans.push(child);
+                if !pending.touched.is_empty() {
+                    self.left(Left::Raced);
+                }
+            }
         }
-        if self.tasks.values().all(|other| other.step != task.step) {
-            self.leave(task.step)?;
+        match is_last {
+            true => self.leave(task.step),
+            false => Ok(()),
         }
-        Ok(())
     }
 
     fn leave(&mut self, step: u64) -> Done {
+        self.end_threads(step)?;
         self.make(Call::Exit { subject: step })?;
         self.steps[step as usize] = None;
         self.orphans.retain(|child| child.step != step);
@@ -179,19 +173,56 @@ impl World<'_> {
         self.ends(process)
     }
 
-    /// execve and execveat that have come out well.
-    pub fn execs(&mut self, process: u32, call: &Sys) -> Done {
-        let Some(task) = self.tasks.get(&process) else { return Ok(()) };
-        let (group, mut step) = (task.group, task.step);
-        self.tasks.retain(|&number, other| number == process || other.group != group);
-        if self.tasks.iter().any(|(&number, other)| number != process && other.step == step) {
-            // Another process shares the descriptors, and keeps them: from now on these are two steps.
-            let child = self.copy_step(process, step, false)?;
-            step = child;
-            if let Some(task) = self.tasks.get_mut(&process) {
-                task.step = child;
-            }
+    /// A thread that runs a program has the number of its process from now on, whose own thread has ended.
+    pub fn takes_number(&mut self, leader: u32, thread: u32) -> Done {
+        if leader == thread || !self.tasks.contains_key(&thread) {
+            return Ok(());
         }
+        self.ends(leader)?;
+        if let Some(task) = self.tasks.remove(&thread) {
+            self.gone.remove(&leader);
+            self.tasks.insert(leader, task);
+        }
+        Ok(())
+    }
+
+    /// The kernel ends the other threads of a process that runs a program.
+    fn end_others(&mut self, process: u32, group: u32, step: u64) -> Done {
+        let is_other = |(number, other): &(&u32, &Task)| **number != process && other.group == group;
+        let others: Vec<u32> = self.tasks.iter().filter(is_other).map(|(&number, _)| number).collect();
+        for other in others {
+            self.exits(other)?;
+        }
+        // Nor is a thread there that one of them was about to make.
+        let is_lost = |child: &Child| child.is_thread && child.step == step;
+        let lost: Vec<Child> = self.orphans.iter().copied().filter(is_lost).collect();
+        self.orphans.retain(|child| !is_lost(child));
+        lost.into_iter().try_for_each(|child| self.end_thread(child.thread))
+    }
+
+    /// Another process may share the descriptors, and keeps them: then one that runs a program has a step of its own.
+    fn part(&mut self, process: u32, step: u64, touched: &[i32]) -> Done<u64> {
+        let is_shared = self.tasks.iter().any(|(&number, other)| number != process && other.step == step)
+            || self.orphans.iter().any(|child| child.step == step);
+        if !is_shared {
+            return Ok(step);
+        }
+        let own = self.tasks.get_mut(&process).and_then(|task| task.thread.take());
+        self.end_thread(own)?;
+        let child = self.copy_step(process, step)?;
+        if let Some(task) = self.tasks.get_mut(&process) {
+            task.step = child;
+        }
+        self.catch_up(step, child, touched)?;
+        Ok(child)
+    }
+
+    /// execve and execveat that have come out well.
+    pub fn execs(&mut self, process: u32, call: &Sys, pending: Option<&Pending>) -> Done {
+        let Some(task) = self.tasks.get(&process) else { return Ok(()) };
+        let (group, step) = (task.group, task.step);
+        self.end_others(process, group, step)?;
+        let step = self.part(process, step, pending.map_or(&[], |pending| &pending.touched))?;
         let (key, object) = self.program_of(step, call)?;
         let is_granted = match (object, self.level_of(&key)?.level) {
             (Some(object), _) => self.make(Call::Exec { subject: step, object })?,
@@ -205,6 +236,11 @@ impl World<'_> {
                 self.make(Call::Exec { subject: step, object })?
             }
         };
+        match is_granted {
+            // The gatekeeper has ended the other threads of the step.
+            true => self.threads.retain(|_, thread| thread.holder != step),
+            false => self.end_threads(step)?,
+        }
         self.shed(step, is_granted)?;
         let memory = self.tick();
         let program = String::from_utf8_lossy(last_name(&key)).into_owned();

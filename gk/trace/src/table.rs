@@ -80,9 +80,13 @@ impl World<'_> {
         let (Some(first), last) = (bound(call.arg(0)), bound(call.arg(1)).unwrap_or(i32::MAX)) else {
             return Ok(());
         };
+        if last < first {
+            return Ok(());
+        }
         // With CLOSE_RANGE_UNSHARE other threads keep theirs: then all stay, which shows more flow.
         let is_shared = self.tasks.values().filter(|task| task.step == step).count() > 1;
-        if last < first || is_shared && has_flag(call.arg(2), "CLOSE_RANGE_UNSHARE") {
+        if is_shared && has_flag(call.arg(2), "CLOSE_RANGE_UNSHARE") {
+            self.left(Left::Parted);
             return Ok(());
         }
         let fds: Vec<i32> = self.step(step)?.table.range(first..=last).map(|(&fd, _)| fd).collect();

@@ -1,11 +1,12 @@
 //! The run as far as the trace has told it: steps with their descriptors, files and pipes with their numbers.
 //!
-//! A step's number is its place in `steps`. What is written goes through [`World::make`], and the tables here follow
+//! A process's number is its place in `steps`; a thread's own is in `threads`. What is written goes through [`World::make`], and the tables here follow
 //! the gatekeeper's: what it refuses is not there.
 
 use std::collections::{BTreeMap, BTreeSet};
 
 use gatekeeper::{Call, Way};
+use gk_names::number::grouped as counted;
 
 use crate::files::Files;
 use crate::journal::{Journal, Trouble};
@@ -14,6 +15,7 @@ use crate::levels::Levels;
 use crate::paths::{Key, Paths};
 use crate::report::{Left, Note, Report};
 use crate::text::shown;
+use crate::threads::Thread;
 
 /// How many steps, files and pipes may be live at a time, and how many places a step has.
 pub use gatekeeper::{OBJECTS, PLACES, SUBJECTS as STEPS};
@@ -32,6 +34,8 @@ pub type Done<T = ()> = Result<T, Stop>;
 pub struct Options {
     pub all_files: bool,
     pub repeats: bool,
+    /// Threads have no numbers of their own.
+    pub one_step: bool,
     /// The level of the first step.
     pub start: u64,
     /// The folder that the run was started in, absolute.
@@ -40,7 +44,13 @@ pub struct Options {
 
 impl Default for Options {
     fn default() -> Options {
-        Options { all_files: false, repeats: false, start: crate::levels::TOP, folder: None }
+        Options {
+            all_files: false,
+            repeats: false,
+            one_step: false,
+            start: crate::levels::TOP,
+            folder: None,
+        }
     }
 }
 
@@ -78,6 +88,8 @@ pub struct Step {
     pub folder: Key,
     /// Steps with the same number here share their memory.
     pub memory: u64,
+    /// A younger step has a higher one.
+    pub birth: u64,
     pub program: String,
     /// The record that admitted it, as long as it has run no program to be named by.
     pub unnamed_from: Option<u64>,
@@ -87,7 +99,10 @@ pub struct Step {
 
 /// A process or thread that strace numbers.
 pub struct Task {
+    /// The step that has its descriptors.
     pub step: u64,
+    /// The key of a thread's own number, which may have gone to another since.
+    pub thread: Option<u64>,
     /// The process that a thread belongs to.
     pub group: u32,
     pub pending: Option<Pending>,
@@ -105,12 +120,20 @@ pub struct Pending {
     pub child: Option<Child>,
     /// The descriptor that a close is about.
     pub birth: Option<u64>,
+    /// The descriptors that another call is about, with their births.
+    pub births: Vec<(i32, u64)>,
+    /// The numbers of descriptors that other threads have put there since.
+    pub touched: Vec<i32>,
 }
 
 #[derive(Clone, Copy)]
 pub struct Child {
     pub step: u64,
+    pub thread: Option<u64>,
+    /// Whether it belongs to its maker's process.
     pub is_thread: bool,
+    /// Whether it has its maker's memory. Until it shows up, it may have what other threads read meanwhile.
+    pub shares_memory: bool,
     pub is_bound: bool,
 }
 
@@ -127,6 +150,8 @@ pub struct World<'a> {
     pub report: Report,
     pub steps: Vec<Option<Step>>,
     pub tasks: BTreeMap<u32, Task>,
+    /// Threads that have numbers of their own, each by a key that no other has had.
+    pub threads: BTreeMap<u64, Thread>,
     /// Processes that have exited, up to the line that says so.
     pub gone: BTreeSet<u32>,
     /// Steps of processes that have not shown up, and whose makers have ended.
@@ -152,6 +177,7 @@ impl<'a> World<'a> {
             report: Report::default(),
             steps: (0..STEPS).map(|_| None).collect(),
             tasks: BTreeMap::new(),
+            threads: BTreeMap::new(),
             gone: BTreeSet::new(),
             orphans: Vec::new(),
             files: Files::default(),
@@ -194,9 +220,15 @@ impl<'a> World<'a> {
             }
             Err(Trouble::Full) => {
                 let records = self.journal.next() - 1;
+                let threads = match self.report.threads() {
+                    0 => String::new(),
+                    count => {
+                        format!(". Or give --one-step: the {} threads take no calls then", counted(count))
+                    }
+                };
                 self.stop(format!(
                     "the journal would be longer than 65,536 bytes here, after {records} calls. \
-                     Trace a shorter run, or give --until {}: it ends before this line",
+                     Trace a shorter run, or give --until {}: it ends before this line{threads}",
                     self.line - 1
                 ))
             }
@@ -217,6 +249,13 @@ impl<'a> World<'a> {
         let line = self.line;
         let message = format!("gk trace is at fault here: there is no step {step}");
         self.steps.get_mut(step as usize).and_then(Option::as_mut).ok_or(Stop { line, message })
+    }
+
+    /// The steps that are there, the oldest first: which numbers they have depends on how many threads there are.
+    pub fn by_age(&self) -> Vec<u64> {
+        let births =
+            (0..).zip(&self.steps).filter_map(|(number, step)| Some((step.as_ref()?.birth, number)));
+        births.collect::<BTreeMap<u64, u64>>().into_values().collect()
     }
 
     /// A step as a message names it.
@@ -295,6 +334,7 @@ impl<'a> World<'a> {
     /// A new descriptor at a number; one that is there goes.
     pub fn put(&mut self, step: u64, fd: i32, mut descriptor: Descriptor) -> Done {
         self.drop_fd(step, fd)?;
+        self.touch(step, fd);
         descriptor.birth = self.tick();
         self.step_mut(step)?.table.insert(fd, descriptor);
         Ok(())

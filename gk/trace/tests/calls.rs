@@ -203,7 +203,7 @@ fn what_two_lines_leave_open_is_taken_early() {
                  1 write(7, \"\", 1) = 1\n2 read(6, \"\", 1) = 1\n2 close(6) = 0\n\
                  2 openat(AT_FDCWD, \"mid\", O_WRONLY) = 3\n\
                  5 <... read resumed>\"\", 1) = 1";
-    assert_eq!(refusals(lines), ["open-write 1 3 0"]);
+    assert_eq!(refusals(lines), ["open-write 2 3 0"]);
 }
 
 #[test]
@@ -232,20 +232,23 @@ fn who_shares_memory_has_read_it_too() {
 }
 
 #[test]
-fn threads_are_one_step() {
+fn threads_are_threads_of_one_step() {
     let clone = "1 clone(child_stack=0x1, flags=CLONE_VM|CLONE_FS|CLONE_FILES|CLONE_THREAD) = 5";
     let lines = format!(
         "{clone}\n5 openat(AT_FDCWD, \"low\", O_RDONLY) = 3\n1 read(3, \"\", 1) = 1\n5 exit(0) = ?\n\
                          5 +++ exited with 0 +++\n1 exit_group(0) = ?\n1 +++ exited with 0 +++"
     );
-    assert_eq!(calls(&lines), ["register 1 2", "open-read 0 1 0", "read 0 0", "exit 0"]);
+    assert_eq!(
+        calls(&lines),
+        ["thread 0 1", "register 1 2", "open-read 0 1 0", "read 0 0", "exit 1", "exit 0"]
+    );
     // A thread that runs a program goes on as its process.
     let lines = format!(
         "{clone}\n5 execve(\"/bin/sh\", [], 0x1 <pid changed to 1 ...>\n\
                  1 +++ superseded by execve in pid 5 +++\n\
                          1 <... execve resumed>) = 0\n1 pipe([3, 4]) = 0"
     );
-    assert_eq!(calls(&lines), ["exec 0 0", "pipe 0 1 0 1"]);
+    assert_eq!(calls(&lines), ["thread 0 1", "exec 0 0", "pipe 0 1 0 1"]);
     // A process that shares the descriptors has its own after an exec.
     let lines = "1 pipe([3, 4]) = 0\n1 clone(child_stack=0x1, flags=CLONE_FILES|SIGCHLD) = 6\n\
                  6 execve(\"/bin/sh\", [], 0x1) = 0\n\

@@ -60,7 +60,7 @@ fn recorded(run: &str) -> Vec<u8> {
 fn mutated_traces_are_taken_or_refused() {
     let mut random = Random(1);
     let (mut written, mut stopped) = (0, 0);
-    for run in ["pay", "plain", "apart", "files", "steps"] {
+    for run in ["pay", "plain", "apart", "files", "steps", "threads"] {
         let whole = recorded(run);
         for round in 0..60 {
             let mut lines: Vec<Vec<u8>> = whole.split(|&byte| byte == b'\n').map(<[u8]>::to_vec).collect();
@@ -100,6 +100,7 @@ fn mutated_traces_are_taken_or_refused() {
             let all = Options {
                 all_files: random.below(3) == 0,
                 repeats: random.below(3) == 0,
+                one_step: random.below(3) == 0,
                 ..Options::default()
             };
             match tried(&trace, all, &format!("{run}, round {round}")) {
@@ -149,11 +150,19 @@ fn line(random: &mut Random) -> String {
         "O_RDWR|O_CREAT|O_EXCL|O_CLOEXEC",
         "O_RDONLY|O_DIRECTORY",
     ];
-    let clones =
-        ["SIGCHLD", "CLONE_VM|CLONE_VFORK", "CLONE_VM|CLONE_FILES|CLONE_THREAD", "CLONE_FILES", "CLONE_VM"];
+    let clones = [
+        "SIGCHLD",
+        "CLONE_VM|CLONE_VFORK",
+        "CLONE_VM|CLONE_FILES|CLONE_THREAD",
+        "CLONE_VM|CLONE_FILES|CLONE_THREAD",
+        "CLONE_VM|CLONE_FILES",
+        "CLONE_VM|CLONE_THREAD",
+        "CLONE_FILES",
+        "CLONE_VM",
+    ];
     let child = 101 + random.below(5);
     let (one, other, number) = (fd(random), fd(random), random.below(9));
-    let call = match random.below(26) {
+    let call = match random.below(29) {
         0 | 1 => format!("openat(AT_FDCWD, {}, {}) = {number}", path(random), random.pick(&flags)),
         2 => format!("pipe2([{number}, {}], O_CLOEXEC) = 0", number + 1),
         3 => format!("pipe([{number}, {}]) = 0", number + 1),
@@ -177,7 +186,22 @@ fn line(random: &mut Random) -> String {
         21 => format!("rename({}, {}) = 0", path(random), path(random)),
         22 => format!("unlink({}) = 0", path(random)),
         23 => format!("link({}, {}) = 0", path(random), path(random)),
-        24 => format!("close_range({number}, 8, {}) = 0", random.pick(&["0", "CLOSE_RANGE_CLOEXEC"])),
+        24 => {
+            let flags = ["0", "CLOSE_RANGE_CLOEXEC", "CLOSE_RANGE_UNSHARE"];
+            format!("close_range({number}, 8, {}) = 0", random.pick(&flags))
+        }
+        25 => {
+            return format!(
+                "{process} execve(\"f3\", [], 0x1 <pid changed to {child} ...>\n{child} <... execve resumed>) = 0"
+            )
+        }
+        26 => {
+            return format!(
+                "{child} execve(\"f3\", [], 0x1 <unfinished ...>\n{process} +++ superseded by execve in pid {child} +++\n\
+                 {process} <... execve resumed>) = 0"
+            )
+        }
+        27 => "exit(0) = ?".to_string(),
         _ => format!("getcwd(\"/run\", 9) = 5\n{process} chdir({}) = 0", path(random)),
     };
     match random.below(9) {
@@ -208,7 +232,12 @@ fn random_calls_are_taken_or_refused() {
         let count = 1 + random.below(80);
         let lines: Vec<String> = (0..count).map(|_| line(&mut random)).collect();
         let trace = lines.join("\n") + "\n";
-        let options = Options { all_files: round % 3 == 0, repeats: round % 5 == 0, ..Options::default() };
+        let options = Options {
+            all_files: round % 3 == 0,
+            repeats: round % 5 == 0,
+            one_step: round % 7 == 0,
+            ..Options::default()
+        };
         match tried(trace.as_bytes(), options, &format!("round {round}\n{trace}")) {
             true => {
                 written += 1;

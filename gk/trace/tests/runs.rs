@@ -2,12 +2,25 @@
 //!
 //! `gk/trace/record` records them anew and has these tests write what they come to (GK_TRACE_WRITE=1).
 
+mod common;
+
 use std::fs;
 use std::io::Write;
 use std::path::{Path, PathBuf};
 use std::process::{Command, Stdio};
 
+use common::{plain, words};
 use gk_trace::{journal_of, Levels, Options, Written};
+
+/// The recorded runs, each with the levels file that goes with it.
+const RUNS: [(&str, &str); 6] = [
+    ("pay", "pay"),
+    ("plain", "pay"),
+    ("apart", "apart"),
+    ("files", "files"),
+    ("steps", "steps"),
+    ("threads", "threads"),
+];
 
 fn folder() -> PathBuf {
     Path::new(env!("CARGO_MANIFEST_DIR")).join("tests/runs")
@@ -22,9 +35,10 @@ fn written(trace: &[u8], levels: &[u8], options: Options) -> Written {
     journal_of(trace, &levels, options, None).unwrap_or_else(|failure| panic!("{failure:?}"))
 }
 
-/// A recorded run with the levels of that file.
+/// A recorded run with the levels of that file. What is stored of `steps` takes threads for their process.
 fn recorded(run: &str, levels: &str) -> Written {
-    written(&read(&format!("{run}.trace")), &read(&format!("{levels}.levels")), Options::default())
+    let options = Options { one_step: run == "steps", ..Options::default() };
+    written(&read(&format!("{run}.trace")), &read(&format!("{levels}.levels")), options)
 }
 
 /// The refusals in a reply: which call, and which number.
@@ -102,9 +116,40 @@ fn threads_pairs_and_mappings_are_seen() {
 }
 
 #[test]
+fn threads_of_one_step_are_seen() {
+    let replies = agrees("threads", "threads");
+    // The sheet, while another thread writes the pay book; later it may be read.
+    assert_eq!(refusals(&replies), [(5, 9)]);
+    let Written { journal, names, .. } = recorded("threads", "threads");
+    let words = words(&journal);
+    let threads: Vec<&String> = words.iter().filter(|call| call.starts_with("thread ")).collect();
+    assert_eq!(threads, ["thread 0 1", "thread 0 2", "thread 0 1"]);
+    // The last of them runs a program, which ends it: it has no exit of its own.
+    let exits: Vec<&String> = words.iter().filter(|call| call.starts_with("exit ")).collect();
+    assert_eq!(exits, ["exit 2", "exit 1", "exit 0"]);
+    for name in ["python3 thread", "python3 thread-2", "python3 thread-3"] {
+        assert!(names.lines().any(|line| line.ends_with(&format!(" {name}"))), "{names}");
+    }
+}
+
+#[test]
+fn with_one_step_every_other_answer_is_the_same() {
+    for (run, levels) in RUNS {
+        let one_step = Options { one_step: true, ..Options::default() };
+        let (trace, levels) = (read(&format!("{run}.trace")), read(&format!("{levels}.levels")));
+        let with = written(&trace, &levels, Options::default());
+        let without = written(&trace, &levels, one_step);
+        assert_eq!(plain(&with.journal), plain(&without.journal), "{run}");
+        assert_eq!(with.report.verdict(), without.report.verdict(), "{run}");
+        let has_threads = ["steps", "threads"].contains(&run);
+        assert_eq!((with.report.threads() > 0, without.report.threads()), (has_threads, 0), "{run}");
+    }
+}
+
+#[test]
 fn with_all_files_the_refusals_are_the_same() {
     // Law top-read-harmless: files of the highest level that are only read change no answer.
-    for (run, levels) in [("pay", "pay"), ("plain", "pay"), ("apart", "apart"), ("files", "files")] {
+    for (run, levels) in RUNS.into_iter().filter(|(run, _)| *run != "steps") {
         let all = Options { all_files: true, ..Options::default() };
         let (trace, levels) = (read(&format!("{run}.trace")), read(&format!("{levels}.levels")));
         let few = gatekeeper::replay(&written(&trace, &levels, Options::default()).journal);
@@ -116,7 +161,7 @@ fn with_all_files_the_refusals_are_the_same() {
 
 #[test]
 fn with_repeats_the_refusals_are_the_same() {
-    for (run, levels) in [("pay", "pay"), ("apart", "apart"), ("files", "files"), ("steps", "steps")] {
+    for (run, levels) in RUNS.into_iter().filter(|(run, _)| *run != "plain") {
         let repeats = Options { repeats: true, ..Options::default() };
         let (trace, levels) = (read(&format!("{run}.trace")), read(&format!("{levels}.levels")));
         let few = gatekeeper::replay(&written(&trace, &levels, Options::default()).journal);
@@ -128,7 +173,7 @@ fn with_repeats_the_refusals_are_the_same() {
 
 #[test]
 fn nothing_of_the_machine_is_in_a_recorded_trace() {
-    for run in ["pay", "plain", "apart", "files", "steps"] {
+    for (run, _) in RUNS {
         let trace = String::from_utf8(read(&format!("{run}.trace"))).unwrap();
         assert!(!trace.contains("uname("), "{run}");
         let quoted = trace.split("\"/").skip(1).map(|rest| rest.split('"').next());
@@ -157,35 +202,54 @@ fn the_page_shows_the_recorded_run() {
     assert!(page.contains(option) && gk_trace::cli::HELP.contains(option));
 }
 
-/// A trace that is recorded here and now, where strace is installed.
-#[test]
-fn a_run_that_is_traced_anew_is_refused_its_sheets() {
-    let room = std::env::temp_dir().join(format!("gk-trace-{}", std::process::id()));
+/// What strace writes of a run in a fresh folder; why it writes nothing, where it does not.
+fn traced(file: &str, with: &[&str]) -> Result<Vec<u8>, &'static str> {
+    let room = std::env::temp_dir().join(format!("gk-trace-{file}-{}", std::process::id()));
     fs::create_dir_all(room.join("sheets")).unwrap();
+    fs::create_dir_all(room.join("hours")).unwrap();
     for number in 1..=30 {
         fs::write(room.join(format!("sheets/{number}.csv")), format!("{number};160\n")).unwrap();
     }
-    fs::copy(folder().join("pay.sh"), room.join("pay.sh")).unwrap();
+    fs::write(room.join("hours/checked.csv"), "1;160\n").unwrap();
+    fs::copy(folder().join(file), room.join(file)).unwrap();
     let quiet = Stdio::null;
     let traced = Command::new("strace")
-        .args(["-f", "-y", "-s", "2", "-o", "pay.trace", "sh", "pay.sh"])
+        .args(["-f", "-y", "-s", "2", "-o", "run.trace"])
+        .args(with)
+        .arg(file)
         .current_dir(&room)
         .stdin(quiet())
         .stdout(quiet())
         .stderr(quiet())
         .status();
-    let trace = fs::read(room.join("pay.trace"));
+    let trace = fs::read(room.join("run.trace"));
     let _ = fs::remove_dir_all(&room);
-    // Straight to standard error, so that it is seen where tests pass.
-    let says = |why: &str| drop(writeln!(std::io::stderr(), "gk trace: {why}; no trace was recorded anew"));
     match (traced, trace) {
-        (Ok(status), Ok(trace)) if status.success() => {
-            let journal = written(&trace, &read("pay.levels"), Options::default()).journal;
-            assert_eq!(refusals(&gatekeeper::replay(&journal)), [(5, 9); 30]);
-        }
-        (Err(error), _) if error.kind() == std::io::ErrorKind::NotFound => says("strace is not installed"),
+        (Ok(status), Ok(trace)) if status.success() => Ok(trace),
+        (Err(error), _) if error.kind() == std::io::ErrorKind::NotFound => Err("strace is not installed"),
         // Where it may not trace, it ends before it has written a line.
-        (Ok(_), trace) if trace.as_ref().map_or(true, Vec::is_empty) => says("strace may not trace here"),
+        (Ok(_), trace) if trace.as_ref().map_or(true, Vec::is_empty) => Err("strace may not trace here"),
         (outcome, _) => panic!("strace: {outcome:?}"),
+    }
+}
+
+/// Traces that are recorded here and now, where strace is installed.
+#[test]
+fn runs_that_are_traced_anew_are_refused_their_sheets() {
+    let python = "/usr/bin/python3";
+    let threads = |_: ()| match Path::new(python).exists() {
+        true => traced("threads.py", &[python, "-I", "-S"]),
+        false => Err("python3 is not installed"),
+    };
+    let of = |trace: &[u8], levels: &str| {
+        refusals(&gatekeeper::replay(&written(trace, &read(levels), Options::default()).journal))
+    };
+    let outcome = traced("pay.sh", &["sh"])
+        .map(|trace| assert_eq!(of(&trace, "pay.levels"), [(5, 9); 30]))
+        .and_then(threads)
+        .map(|trace| assert_eq!(of(&trace, "threads.levels"), [(5, 9)]));
+    if let Err(why) = outcome {
+        // Straight to standard error, so that it is seen where tests pass.
+        drop(writeln!(std::io::stderr(), "gk trace: {why}; no trace was recorded anew"));
     }
 }

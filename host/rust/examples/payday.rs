@@ -3,7 +3,7 @@
 //!
 //! In `host/rust`: `cargo run --offline --example payday`
 
-use gatekeeper::{Answer, Call, Handle, Kind, Monitor, Way, NO_FREEZE, PLACES};
+use gatekeeper::{Answer, Call, Handle, Kind, Monitor, Way, NO_FREEZE, PLACES, SUBJECTS};
 
 // What comes from outside, and the numbers that this host gives to it and to what it makes.
 const SHELL: u64 = 0;
@@ -14,6 +14,8 @@ const IMPORTER: u64 = 4;
 const TERMINAL: u64 = 5;
 const STATION: u64 = 6;
 const PAYSLIPS: u64 = 7;
+const TAX: u64 = 8;
+const TAX_THREAD: u64 = 9;
 const PAY_BOOK: u64 = 0;
 const SHEET: u64 = 1;
 const HOURS: u64 = 2;
@@ -58,8 +60,8 @@ impl Host {
         }
     }
 
-    /// What the duty screen shows of a step: its level, the lowest one that it may fall to while no handle goes, and
-    /// its handles.
+    /// What the duty screen shows of a step: its level, the lowest one that it may fall to while no handle goes, its
+    /// handles, and its mates, which share its memory.
     fn show(&self, step: u64) {
         let monitor = &self.monitor;
         let Some((level, need)) = monitor.subject(step).zip(monitor.need_of_subject(step)) else {
@@ -80,6 +82,10 @@ impl Host {
                 "  Its place {place} {way} {kind} {object}{}.",
                 if marked { ", until exec" } else { "" }
             );
+        }
+        let is_mate = |&mate: &u64| mate != step && monitor.group(mate) == monitor.group(step);
+        for mate in (0..SUBJECTS).filter(is_mate) {
+            println!("  Step {mate} is a thread of the same step.");
         }
     }
 }
@@ -231,6 +237,29 @@ fn main() {
     host.must("The payslip step reads that.", Call::Read { subject: PAYSLIPS, place: 3 });
     host.must("The payslip step exits.", Call::Exit { subject: PAYSLIPS });
     host.must("The station exits.", Call::Exit { subject: STATION });
+
+    println!(
+        "\nThe tax step runs as two threads, which share memory: what one of them reads, both have read"
+    );
+    host.must("The tax step is step 8.", Call::Admit { subject: TAX, level: 12 });
+    host.must("It starts a thread, step 9.", Call::Thread { subject: TAX, member: TAX_THREAD });
+    host.must(
+        "The tax step opens the pay book for writing.",
+        Call::OpenWrite { subject: TAX, object: PAY_BOOK, place: 0 },
+    );
+    let open = Call::OpenRead { subject: TAX_THREAD, object: SHEET, place: 0 };
+    if !host.ask("Its thread opens the sheet of shop 3 for reading.", open) {
+        host.show(TAX_THREAD);
+        host.must("The tax step closes the pay book.", Call::Close { subject: TAX, place: 0 });
+        host.must("Its thread opens the sheet of shop 3 for reading.", open);
+    }
+    host.must("Its thread reads it: both fall.", Call::Read { subject: TAX_THREAD, place: 0 });
+    host.show(TAX);
+    host.must(
+        "The tax step runs the viewer: its thread ends.",
+        Call::Exec { subject: TAX, object: VIEWER },
+    );
+    host.must("The viewer exits.", Call::Exit { subject: TAX });
 
     println!("\nThe books are closed until the bank file is sent; who has the pay book open goes on");
     host.must("Files of level 9 and above are frozen.", Call::Freeze { level: 9 });

@@ -32,6 +32,7 @@ mod c {
         pub fn gatekeeper_made(state: *const u8, len: usize) -> u64;
         pub fn gatekeeper_gone(state: *const u8, len: usize) -> u64;
         pub fn gatekeeper_subject(state: *const u8, len: usize, s: u64) -> u32;
+        pub fn gatekeeper_group(state: *const u8, len: usize, s: u64) -> u32;
         pub fn gatekeeper_object(state: *const u8, len: usize, o: u64) -> u32;
         pub fn gatekeeper_object_from(state: *const u8, len: usize, o: u64) -> u64;
         pub fn gatekeeper_handle(state: *const u8, len: usize, s: u64, p: u64) -> u32;
@@ -169,6 +170,10 @@ pub fn subject(state: &[u8], s: u64) -> u32 {
     unsafe { c::gatekeeper_subject(state.as_ptr(), state.len(), s) }
 }
 
+pub fn group(state: &[u8], s: u64) -> u32 {
+    unsafe { c::gatekeeper_group(state.as_ptr(), state.len(), s) }
+}
+
 pub fn object(state: &[u8], o: u64) -> u32 {
     unsafe { c::gatekeeper_object(state.as_ptr(), state.len(), o) }
 }
@@ -248,7 +253,7 @@ pub fn quick_close(monitor: &mut State, s: u64, p: u64) -> u32 {
 /// No part is shorter than its length.
 #[inline]
 unsafe fn quick_open_of(monitor: &mut State, lengths: Lengths, code: u64, s: u64, o: u64, p: u64) -> u32 {
-    let State { numbers, subjects, objects, handles, freeze, needs, sure, counts } = monitor;
+    let State { numbers, subjects, objects, handles, freeze, needs, sure, counts, .. } = monitor;
     let [numbers_len, subjects_len, objects_len, handles_len, needs_len, counts_len] = lengths;
     unsafe {
         c::gatekeeper_quick_open(
@@ -330,7 +335,7 @@ pub fn number(bytes: &[u8]) -> (u64, u32) {
 #[cfg(test)]
 mod tests {
     use super::*;
-    use crate::monitor::NUMBERS_AT;
+    use crate::monitor::{GROUPS_AT, NUMBERS_AT};
     use crate::{Call, STATE_BYTES};
 
     /// What a handle's number has more where it is marked.
@@ -338,9 +343,10 @@ mod tests {
 
     #[test]
     fn bytes_of_another_length_are_not_touched() {
-        // 1,232 bytes are those of a version before 2.0.0, 1,745 those of 2.0.0 to 3.0.0, and 1,841 those of 4.0.0 to
-        // 5.0.0. In bytes that are all 1 every subject and a file is live, in bytes that are all 2 a pipe.
-        for len in [0, 1, 1232, 1745, 1841, STATE_BYTES - 1, STATE_BYTES + 1, 2 * STATE_BYTES] {
+        // 1,232 bytes are those of a version before 2.0.0, 1,745 those of 2.0.0 to 3.0.0, 1,841 those of 4.0.0 to 5.0.0,
+        // and 2,353 those of 6.0.0 and 6.1.0. In bytes that are all 1 every subject and a file is live, in bytes that are
+        // all 2 a pipe.
+        for len in [0, 1, 1232, 1745, 1841, 2353, STATE_BYTES - 1, STATE_BYTES + 1, 2 * STATE_BYTES] {
             for byte in [1, 2, 7] {
                 let mut state = vec![byte; len];
                 assert!(!empty(&mut state));
@@ -349,7 +355,10 @@ mod tests {
                 assert_eq!((made(&state), gone(&state), frozen_from(&state)), (0, 0, 0));
                 let number = u64::from_le_bytes([byte; 8]);
                 assert_eq!((subject(&state, 0), object(&state, number), handle(&state, 0, 0)), (0, 0, 0));
-                assert_eq!((object_from(&state, 0), handle_object(&state, 0, 0)), (0, 0));
+                assert_eq!(
+                    (group(&state, 0), object_from(&state, 0), handle_object(&state, 0, 0)),
+                    (0, 0, 0)
+                );
                 assert_eq!((subject_need(&state, 0), object_need(&state, number)), (0, 0));
                 // Whatever the line is.
                 for text in ["1", "1 < 2 | 3 > 4", "", "01", "1|1|1|1|1|1|1|1|1"] {
@@ -422,7 +431,7 @@ mod tests {
         // Every subject and every file is live, and every handle reads the file in slot 1 and is marked; every kept need
         // is 1. File i is in slot i, but the last one has the highest number.
         let mut state = with_numbers([1; STATE_BYTES]);
-        state[STATE_BYTES - 8..].fill(0xff);
+        state[GROUPS_AT - 8..GROUPS_AT].fill(0xff);
         assert_eq!((subject(&state, 31), object(&state, 62), object(&state, u64::MAX)), (257, 257, 257));
         assert_eq!((handle(&state, 31, 15), handle_object(&state, 31, 15)), (MARKED + 256, 1));
         assert_eq!((subject_need(&state, 31), object_need(&state, u64::MAX)), (1, 1));
@@ -505,9 +514,33 @@ mod tests {
         assert_eq!((object(&state, 1 << 40), object_from(&state, 0)), (0, 0));
     }
 
+    #[test]
+    fn a_group_is_the_lowest_number_of_a_member() {
+        // Every subject is live, and those whose numbers have the same lowest two bits are in one group.
+        let mut state = [1; STATE_BYTES];
+        for (byte, s) in state[GROUPS_AT..].iter_mut().zip(0u8..) {
+            *byte = 0xff - s % 4;
+        }
+        assert_eq!([0, 3, 4, 30, 31].map(|s| group(&state, s)), [256, 256 + 3, 256, 256 + 2, 256 + 3]);
+        // The lowest that is live; and one that is not live is in no group, whatever its byte is.
+        state[2 * 3] = 0;
+        state[2 * 7] = 7;
+        assert_eq!([3, 7, 11, 31].map(|s| group(&state, s)), [0, 0, 256 + 11, 256 + 11]);
+        // With a byte that no other live subject has, a subject is by itself.
+        for byte in 0..=255u8 {
+            state[GROUPS_AT + 31] = byte;
+            let with = (0xfd..=0xff).rev().position(|other| other == byte).unwrap_or(31) as u32;
+            let expected = if byte == 0xfc { 256 + 11 } else { 256 + with };
+            assert_eq!(group(&state, 31), expected, "{byte}");
+        }
+        for far in [32, 33, 64, 256, 1 << 32, 1 << 63, u64::MAX] {
+            assert_eq!(group(&state, far), 0, "{far}");
+        }
+    }
+
     /// These bytes with the number i at slot i.
     fn with_numbers(mut state: [u8; STATE_BYTES]) -> [u8; STATE_BYTES] {
-        for (bytes, number) in state[NUMBERS_AT..].chunks_exact_mut(8).zip(0u64..) {
+        for (bytes, number) in state[NUMBERS_AT..GROUPS_AT].chunks_exact_mut(8).zip(0u64..) {
             bytes.copy_from_slice(&number.to_le_bytes());
         }
         state

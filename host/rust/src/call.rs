@@ -1,4 +1,4 @@
-//! The seventeen calls.
+//! The eighteen calls.
 
 use crate::journal;
 
@@ -32,7 +32,9 @@ pub enum Call {
     /// A new subject with the level of the first, and its handles, marks and mappings at the same places.
     Fork { subject: u64, child: u64 },
     /// A file is run; the subject falls to its level if that is lower. The flow rule is asked as if it did not have its
-    /// marked handles and its mappings, and if the call is not refused they are closed; it keeps the others.
+    /// marked handles and its mappings, and if the call is not refused they are closed; it keeps the others. Its mates
+    /// ([`Call::Thread`]) end as by an exit before that: neither they nor their handles count for the flow rule. A refused
+    /// exec closes nothing, and ends nobody.
     Exec { subject: u64, object: u64 },
     /// The place is empty.
     Close { subject: u64, place: u64 },
@@ -62,10 +64,17 @@ pub enum Call {
     /// itself, and each pipe ends with its last handle. Where a step closes a socket that is its end of a channel, the
     /// host closes both places.
     Connect { subject: u64, peer: u64, to: u64, from: u64, reading: u64, writing: u64 },
+    /// A new subject that shares the memory of the first, as a *thread* of one step with it: a member of its *group*, at
+    /// its level and without handles. The members of a group have one level and one need, and data flows among them
+    /// freely: what one of them reads, maps or runs lowers all of them. A handle is one member's own: where threads share
+    /// their descriptors, the host says of each which member holds it, and reads and writes as that one. A fork's child is
+    /// in a group by itself. An exit ends one member, and its mates stay; an exec that is not refused ends the mates of
+    /// the one that makes it, so that what the program is to keep, that one holds.
+    Thread { subject: u64, member: u64 },
 }
 
 impl Call {
-    /// The call's code, one of 1 to 17.
+    /// The call's code, one of 1 to 18.
     pub fn code(self) -> u64 {
         match self {
             Call::Admit { .. } => 1,
@@ -85,6 +94,7 @@ impl Call {
             Call::Mark { .. } => 15,
             Call::Freeze { .. } => 16,
             Call::Connect { .. } => 17,
+            Call::Thread { .. } => 18,
         }
     }
 
@@ -110,6 +120,7 @@ impl Call {
             Call::Connect { subject, peer, to, from, reading, writing } => {
                 [subject, peer, to, from, reading, writing]
             }
+            Call::Thread { subject, member } => [subject, member, 0, 0, 0, 0],
         }
     }
 

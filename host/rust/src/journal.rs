@@ -154,6 +154,24 @@ mod tests {
     }
 
     #[test]
+    fn a_journal_has_threads() {
+        let mut journal = Vec::new();
+        let thread = Call::Thread { subject: 0, member: 1 };
+        thread.write_record(&mut journal);
+        Call::Admit { subject: 0, level: 9 }.write_record(&mut journal);
+        thread.write_record(&mut journal);
+        thread.write_record(&mut journal);
+        Call::Register { object: 1, level: 2 }.write_record(&mut journal);
+        Call::Map { subject: 1, object: 1, place: 3 }.write_record(&mut journal);
+        Call::Exec { subject: 0, object: 1 }.write_record(&mut journal);
+        Call::Read { subject: 1, place: 3 }.write_record(&mut journal);
+        assert_eq!(journal[..4], [3, 18, 0, 1]);
+        let reply =
+            "1 18 R 2\n2 1 A 9\n3 18 A 9\n4 18 R 3\n5 2 A 2\n6 14 L 2\n7 10 A 2\n8 7 R 2\nend 1 1 0\n";
+        assert_eq!(replay(&journal), reply);
+    }
+
+    #[test]
     fn empty_broken_and_long_journals_have_a_reply() {
         assert_eq!(replay(&[]), "end 0 0 0\n");
         assert_eq!(replay(&[0x80, 0x00]), "1 0 R 11\nend 0 0 0\n");
@@ -172,7 +190,7 @@ mod tests {
     #[test]
     fn a_refused_record_leaves_the_buffer() {
         let mut out = [7; RECORD_ROOM];
-        assert_eq!(write_record(&mut out, 18, [0; 6]), Err(Refusal::UnknownCode));
+        assert_eq!(write_record(&mut out, 19, [0; 6]), Err(Refusal::UnknownCode));
         assert_eq!(write_record(&mut out, u64::from(u32::MAX) + 2, [0; 6]), Err(Refusal::UnknownCode));
         assert_eq!(write_record(&mut out[1..], 17, [u64::MAX; 6]), Err(Refusal::RecordTooLong));
         assert_eq!(out, [7; RECORD_ROOM]);

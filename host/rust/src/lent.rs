@@ -8,7 +8,7 @@ use crate::answer::Answer;
 use crate::archive;
 use crate::call::{Call, NO_FREEZE};
 use crate::look::{Handle, Kind, Object, Way, OBJECTS, PLACES, SUBJECTS};
-use crate::monitor::{Monitor, HANDLES_AT, NUMBERS_AT, OBJECTS_AT};
+use crate::monitor::{Monitor, GROUPS_AT, HANDLES_AT, NUMBERS_AT, OBJECTS_AT};
 
 /// The codes of the calls that are tried in place first.
 const OPEN_READ: u64 = 5;
@@ -20,8 +20,8 @@ const CLOSE: u64 = 11;
 /// bytes, which can be stored and sent.
 ///
 /// It starts empty and only calls change it. So every answer is the rules', and its kept needs are right. It is a plain
-/// value: a clone is a state of its own. Two are equal if their tables, their counts, their freeze and their kept needs
-/// are, what stands at numbers and slots that are not in use too.
+/// value: a clone is a state of its own. Two are equal if their tables, their counts, their freeze, their kept needs and
+/// the bytes of their groups are, what stands at numbers and slots that are not in use too.
 ///
 /// ```
 /// use gatekeeper::{Answer, Call, Refusal, State};
@@ -48,6 +48,8 @@ pub struct State {
     pub(crate) handles: [HandleRecord; (SUBJECTS * PLACES) as usize],
     pub(crate) freeze: u8,
     pub(crate) needs: [u8; (SUBJECTS + OBJECTS) as usize],
+    /// Live subjects with the same byte are in one group.
+    pub(crate) groups: [u8; SUBJECTS as usize],
     pub(crate) sure: u8,
     /// Handles made, and handles gone.
     pub(crate) counts: [u64; 2],
@@ -81,15 +83,16 @@ pub(crate) struct HandleRecord {
 
 // `struct gatekeeper_monitor` of host/gatekeeper.h: what the archive is lent.
 const _: () = {
-    assert!(size_of::<State>() == 2360 && align_of::<State>() == 8);
+    assert!(size_of::<State>() == 2392 && align_of::<State>() == 8);
     assert!(offset_of!(State, numbers) == 0);
     assert!(offset_of!(State, subjects) == 512);
     assert!(offset_of!(State, objects) == 576);
     assert!(offset_of!(State, handles) == 704);
     assert!(offset_of!(State, freeze) == 2240);
     assert!(offset_of!(State, needs) == 2241);
-    assert!(offset_of!(State, sure) == 2337);
-    assert!(offset_of!(State, counts) == 2344);
+    assert!(offset_of!(State, groups) == 2337);
+    assert!(offset_of!(State, sure) == 2369);
+    assert!(offset_of!(State, counts) == 2376);
 };
 
 impl State {
@@ -107,6 +110,7 @@ impl State {
             handles: [HandleRecord { way: 0, slot: 0, mark: 0 }; (SUBJECTS * PLACES) as usize],
             freeze: 0,
             needs: [0; (SUBJECTS + OBJECTS) as usize],
+            groups: [0; SUBJECTS as usize],
             sure: 0,
             counts: [0; 2],
         };
@@ -213,6 +217,15 @@ impl State {
         (record.live > 0).then_some(record.level)
     }
 
+    /// The group of a subject, by the lowest number that a member of it has; none where the subject is not live. Two
+    /// subjects are threads of one step where it is the same for both.
+    pub fn group(&self, subject: u64) -> Option<u64> {
+        self.subject(subject)?;
+        let byte = self.groups.get(usize::try_from(subject).ok()?)?;
+        let is_member = |&s: &u64| self.groups[s as usize] == *byte && self.subject(s).is_some();
+        (0..SUBJECTS).find(is_member)
+    }
+
     /// An object; none where it is not live.
     pub fn object(&self, object: u64) -> Option<Object> {
         self.object_in(self.slot_of(object)?)
@@ -303,6 +316,7 @@ impl From<&Monitor> for State {
             let [kind, level] = from_fn(|byte| bytes[OBJECTS_AT + 2 * slot + byte]);
             state.objects[slot] = ObjectRecord { kind: if kind < 3 { kind } else { 0 }, level };
         }
+        state.groups.copy_from_slice(&bytes[GROUPS_AT..]);
         for s in 0..SUBJECTS {
             if let Some(level) = monitor.subject(s) {
                 state.subjects[s as usize] = SubjectRecord { live: 1, level };
@@ -369,8 +383,12 @@ mod tests {
             Call::Mark { subject: 31, place: 15 },
             Call::Close { subject: 31, place: 13 },
             Call::Freeze { level: 5 },
+            Call::Admit { subject: 0, level: 3 },
+            Call::Thread { subject: 31, member: 30 },
         ]);
         assert!(state.subjects[31] == SubjectRecord { live: 1, level: 9 });
+        assert!(state.groups[31] == state.groups[30] && state.groups[31] != state.groups[0]);
+        assert_eq!([0, 30, 31, 29, 32].map(|s| state.group(s)), [Some(0), Some(30), Some(30), None, None]);
         assert!(state.objects[62] == ObjectRecord { kind: 2, level: 9 });
         assert!(state.objects[63] == ObjectRecord { kind: 1, level: 7 });
         assert_eq!((state.numbers[62], state.numbers[63]), (62, 63));
@@ -385,6 +403,7 @@ mod tests {
         assert_eq!((state.freeze, state.frozen_from()), (16, None));
         assert_eq!(state.call(Call::Exit { subject: 31 }), Answer::Allowed(9));
         assert_eq!((state.subject(31), state.object(62), state.gone()), (None, None, 3));
+        assert_eq!([30, 31].map(|s| state.group(s)), [Some(30), None]);
         assert!(state.is_sure());
     }
 
@@ -395,6 +414,7 @@ mod tests {
         assert_eq!((state.sure, state.is_sure(), state.unsure().is_sure()), (1, true, false));
         assert!(state != state.unsure() && state == State::new());
         assert!((0..=SUBJECTS).all(|s| state.subject(s).is_none() && state.need_of_subject(s).is_none()));
+        assert!((0..=SUBJECTS).all(|s| state.group(s).is_none()) && state.group(u64::MAX).is_none());
         assert!((0..=OBJECTS).all(|o| state.object(o).is_none() && state.need_of_object(o).is_none()));
         assert!((0..=SUBJECTS).all(|s| (0..=PLACES).all(|p| state.handle(s, p).is_none())));
     }
@@ -539,7 +559,7 @@ mod tests {
         let before = state.clone();
         let open = Call::OpenRead { subject: 0, object: 1, place: 1 };
         assert_eq!(state.call(open), Answer::Refused(Refusal::Flow));
-        assert_eq!(state.direct(18, [0; 6]), Answer::Refused(Refusal::UnknownCode));
+        assert_eq!(state.direct(19, [0; 6]), Answer::Refused(Refusal::UnknownCode));
         assert_eq!(state, before);
     }
 

@@ -78,6 +78,24 @@ impl Monitor {
         (live > 0).then_some(level)
     }
 
+    /// The group of a subject, by the lowest number that a member of it has; none where the subject is not live. Two
+    /// subjects are threads of one step where it is the same for both.
+    ///
+    /// ```
+    /// use gatekeeper::{Monitor, Refusal};
+    ///
+    /// let mut monitor = Monitor::new();
+    /// monitor.admit(4, 9).granted()?; // the tax step
+    /// monitor.thread(4, 7).granted()?; // and a thread of it
+    /// monitor.fork(7, 2).granted()?; // a step that the thread has forked
+    /// assert_eq!([4, 7, 2, 5].map(|step| monitor.group(step)), [Some(4), Some(4), Some(2), None]);
+    /// # Ok::<(), Refusal>(())
+    /// ```
+    pub fn group(&self, subject: u64) -> Option<u64> {
+        let [first, live, ..] = archive::group(self.as_bytes(), subject).to_le_bytes();
+        (live > 0).then_some(first.into())
+    }
+
     /// An object; none where it is not live.
     pub fn object(&self, object: u64) -> Option<Object> {
         let [level, kind, ..] = archive::object(self.as_bytes(), object).to_le_bytes();
@@ -138,7 +156,7 @@ impl Monitor {
 #[cfg(test)]
 mod tests {
     use super::*;
-    use crate::monitor::{NEEDS_AT, NUMBERS_AT};
+    use crate::monitor::{GROUPS_AT, NEEDS_AT, NUMBERS_AT};
     use crate::{Answer, Call, Refusal, STATE_BYTES};
 
     /// Where the kept needs of the objects stand in a monitor's bytes, behind those of the subjects.
@@ -256,7 +274,7 @@ mod tests {
         let state = monitor.as_bytes();
         assert_eq!((state[NEEDS_AT], state[NEEDS_AT + 31]), (3, 7));
         assert_eq!((state[OBJECT_NEEDS_AT], state[OBJECT_NEEDS_AT + 63]), (3, 7));
-        assert_eq!((OBJECT_NEEDS_AT + 64, NUMBERS_AT + 8 * 64), (NUMBERS_AT, STATE_BYTES));
+        assert_eq!((OBJECT_NEEDS_AT + 64, NUMBERS_AT + 8 * 64), (NUMBERS_AT, GROUPS_AT));
 
         // What is shown is what is kept, at each number its own.
         let mut state = *state;

@@ -6,12 +6,15 @@ use crate::answer::Answer;
 use crate::archive;
 use crate::call::{Call, NO_FREEZE};
 
-/// How many bytes a monitor, its tally and its kept needs take.
-pub const STATE_BYTES: usize = 2353;
+/// How many bytes a monitor, its tally, its kept needs and its groups take.
+pub const STATE_BYTES: usize = 2385;
 
 /// Where the slots of the objects stand, two bytes each, and the handles, three bytes each.
 pub(crate) const OBJECTS_AT: usize = 64;
 pub(crate) const HANDLES_AT: usize = 192;
+
+/// Where the groups of the subjects stand, one byte each; so many bytes a monitor took in versions 6.0.0 and 6.1.0.
+pub(crate) const GROUPS_AT: usize = 2353;
 
 /// Where the numbers of the objects stand, eight bytes each; so many bytes a monitor took in versions 4.0.0 to 5.0.0.
 pub(crate) const NUMBERS_AT: usize = 1841;
@@ -21,7 +24,8 @@ pub(crate) const NEEDS_AT: usize = 1745;
 
 /// A monitor with its tally of handles and its kept needs. It is a plain value: a clone is a monitor of its own.
 ///
-/// Two are equal if their bytes are, what stands at numbers and slots that are not in use among them.
+/// Two are equal if their bytes are, which byte a group has and what stands at numbers and slots that are not in use among
+/// them.
 #[derive(Clone, PartialEq, Eq)]
 pub struct Monitor {
     pub(crate) state: [u8; STATE_BYTES],
@@ -42,9 +46,9 @@ impl Monitor {
         Monitor { state }
     }
 
-    /// The monitor that a host kept as bytes: those of this version as they are, the 1,841 of versions 4.0.0 to 5.0.0
-    /// with the numbers 0 to 63 of its objects, or the 1,745 of version 2.0.0, 2.1.0 or 3.0.0 with these, put right.
-    /// None for bytes of any other length.
+    /// The monitor that a host kept as bytes: those of this version as they are; the 2,353 of version 6.0.0 or 6.1.0 with
+    /// a group of its own for each subject; the 1,841 of versions 4.0.0 to 5.0.0 with the numbers 0 to 63 of its objects as
+    /// well; or the 1,745 of version 2.0.0, 2.1.0 or 3.0.0 with both, put right. None for bytes of any other length.
     ///
     /// Those of a version before these lack the third byte of each handle, which is 0, and the last, which is
     /// [`NO_FREEZE`]; with them they are bytes of version 2.0.0.
@@ -60,8 +64,8 @@ impl Monitor {
     /// let kept = monitor.as_bytes().to_vec();
     /// assert_eq!(Monitor::from_kept(&kept), Some(monitor));
     ///
-    /// for before in [1841, 1745] {
-    ///     let before = &kept[..before]; // as version 5.0.0 kept it, and as 3.0.0 did
+    /// for before in [2353, 1841, 1745] {
+    ///     let before = &kept[..before]; // as version 6.1.0 kept it, as 5.0.0 did, and as 3.0.0 did
     ///     assert_eq!(Monitor::from_kept(before).and_then(|monitor| monitor.need_of_subject(0)), Some(7));
     /// }
     /// # Ok::<(), Refusal>(())
@@ -70,15 +74,18 @@ impl Monitor {
         if let Ok(state) = kept.try_into() {
             return Some(Monitor::from_bytes(state));
         }
-        if ![NUMBERS_AT, NEEDS_AT].contains(&kept.len()) {
+        if ![GROUPS_AT, NUMBERS_AT, NEEDS_AT].contains(&kept.len()) {
             return None;
         }
         let mut state = [0; STATE_BYTES];
-        state[..kept.len()].copy_from_slice(kept);
-        // The object of number i stood at i.
-        for (bytes, number) in state[NUMBERS_AT..].chunks_exact_mut(8).zip(0u64..) {
+        // The object of number i stood at i, and each subject was in a group by itself.
+        for (bytes, number) in state[NUMBERS_AT..GROUPS_AT].chunks_exact_mut(8).zip(0u64..) {
             bytes.copy_from_slice(&number.to_le_bytes());
         }
+        for (byte, group) in state[GROUPS_AT..].iter_mut().zip(0..) {
+            *byte = group;
+        }
+        state[..kept.len()].copy_from_slice(kept);
         let mut monitor = Monitor::from_bytes(state);
         if kept.len() == NEEDS_AT {
             monitor.put_right();
@@ -255,6 +262,27 @@ impl Monitor {
     ) -> Answer {
         self.call(Call::Connect { subject, peer, to, from, reading, writing })
     }
+
+    /// ```
+    /// use gatekeeper::{Answer, Monitor, Refusal};
+    ///
+    /// let mut monitor = Monitor::new();
+    /// monitor.admit(0, 9).granted()?; // the tax step, of level 9
+    /// assert_eq!(monitor.thread(0, 1), Answer::Allowed(9)); // and a thread of it
+    /// monitor.register(0, 9).granted()?; // the pay book
+    /// monitor.register(1, 2).granted()?; // an hours sheet that nobody has checked
+    /// monitor.open_write(0, 0, 0).granted()?; // the one writes the pay book,
+    /// assert_eq!(monitor.open_read(1, 1, 0), Answer::Refused(Refusal::Flow)); // so the other may not have the sheet
+    ///
+    /// monitor.close(0, 0).granted()?;
+    /// monitor.open_read(1, 1, 0).granted()?;
+    /// assert_eq!(monitor.read(1, 0), Answer::Lowered(2));
+    /// assert_eq!(monitor.subject(0), Some(2)); // what one has read, both have read
+    /// # Ok::<(), Refusal>(())
+    /// ```
+    pub fn thread(&mut self, subject: u64, member: u64) -> Answer {
+        self.call(Call::Thread { subject, member })
+    }
 }
 
 impl Default for Monitor {
@@ -338,6 +366,9 @@ mod tests {
         assert_eq!((monitor.made(), monitor.gone(), monitor.open()), (7, 6, 1));
         assert_eq!(monitor.connect(0, 1, 4, 5, 2, 3), Answer::Allowed(2));
         assert_eq!((monitor.made(), monitor.gone(), monitor.open()), (11, 6, 5));
+        assert_eq!(monitor.thread(1, 2), Answer::Allowed(2));
+        assert_eq!((monitor.made(), monitor.gone(), monitor.open()), (11, 6, 5));
+        assert_eq!([0, 1, 2, 3].map(|s| monitor.group(s)), [Some(0), Some(1), Some(1), None]);
     }
 
     /// Subject 0 at level 9; file 0 at level 9, which it has open for writing at place 0; file 1 at level 2.
@@ -789,19 +820,24 @@ mod tests {
         assert_eq!(Monitor::from_kept(kept).as_ref(), Some(&monitor));
 
         // Those of before are the same monitor, and right; and so they are with 96 bytes of any value, put right.
-        let [again, last] = [NEEDS_AT, NUMBERS_AT].map(|len| Monitor::from_kept(&kept[..len]));
+        let [again, last, whole] =
+            [NEEDS_AT, NUMBERS_AT, GROUPS_AT].map(|len| Monitor::from_kept(&kept[..len]));
         let (again, last) = (again.expect("bytes of 3.0.0"), last.expect("bytes of 5.0.0"));
+        let whole = whole.expect("bytes of 6.1.0");
         assert_eq!(tables(&again), tables(&last));
+        assert_eq!(whole.as_bytes()[..GROUPS_AT], kept[..GROUPS_AT]);
+        assert!(whole.as_bytes()[GROUPS_AT..].iter().copied().eq(0..32));
         for filled in [0, 7, 255] {
             let mut bytes = *last.as_bytes();
             bytes[NEEDS_AT..NUMBERS_AT].fill(filled);
             let mut by_hand = Monitor::from_bytes(bytes);
             by_hand.put_right();
-            for other in [&again, &last, &by_hand] {
+            for other in [&again, &last, &whole, &by_hand] {
                 assert_eq!((other.need_of_subject(0), other.need_of_subject(1)), (Some(9), Some(0)));
                 assert_eq!((other.need_of_object(0), other.need_of_object(63)), (Some(9), Some(9)));
                 assert_eq!(other.as_bytes()[..NEEDS_AT], kept[..NEEDS_AT]);
                 assert!(other.objects().eq(monitor.objects()));
+                assert_eq!([0, 1, 2].map(|s| other.group(s)), [Some(0), Some(1), None]);
             }
         }
 
@@ -810,7 +846,17 @@ mod tests {
         assert_eq!(Monitor::from_kept(&wrong), Some(Monitor::from_bytes(wrong)));
 
         let long = [1; STATE_BYTES + 1];
-        for len in [0, 1, 1232, NEEDS_AT - 1, NEEDS_AT + 1, NUMBERS_AT - 1, NUMBERS_AT + 1] {
+        for len in [
+            0,
+            1,
+            1232,
+            NEEDS_AT - 1,
+            NEEDS_AT + 1,
+            NUMBERS_AT - 1,
+            NUMBERS_AT + 1,
+            GROUPS_AT - 1,
+            GROUPS_AT + 1,
+        ] {
             assert_eq!(Monitor::from_kept(&long[..len]), None, "{len} bytes");
         }
         for len in [STATE_BYTES - 1, STATE_BYTES + 1] {
@@ -828,7 +874,8 @@ mod tests {
         assert_eq!(monitor.mark(0, 0), Answer::Refused(Refusal::PlaceUnfit));
         assert_eq!(monitor.map(0, 0, 0), Answer::Refused(Refusal::NoObject));
         assert_eq!(monitor.connect(0, 1, 0, 1, 0, 1), Answer::Refused(Refusal::NoSubject));
-        for code in [0, 18] {
+        assert_eq!(monitor.thread(0, 0), Answer::Refused(Refusal::NumberTaken));
+        for code in [0, 19] {
             assert_eq!(monitor.direct(code, [0; 6]), Answer::Refused(Refusal::UnknownCode));
         }
         assert_eq!(monitor, before);

@@ -1,6 +1,6 @@
 //! The archive beside the independent program: every call is made in both, and answers, tally, tables and kept needs, as
 //! they stand in the bytes, are compared after each, the needs beside needs that are worked out from nothing. After many
-//! so is all that the archive shows: subjects, objects, handles, the freeze and the kept needs. The calls come from
+//! so is all that the archive shows: subjects, groups, objects, handles, the freeze and the kept needs. The calls come from
 //! generated journals, which start with empty tables, and are drawn for states that no calls made. The same comparison
 //! has to tell every wrong variant of the independent program apart.
 
@@ -9,6 +9,7 @@ use std::cmp::Ordering;
 use std::fmt;
 
 use gatekeeper::{Answer, Monitor, Refusal, Way, STATE_BYTES};
+use gatekeeper_independent::bite;
 use gatekeeper_independent::calls::{filled, shape_of_code, Numbers, SHAPES};
 use gatekeeper_independent::generate::{self, Wish};
 use gatekeeper_independent::monitor::{Answer as PlainAnswer, Monitor as PlainMonitor};
@@ -24,13 +25,15 @@ use gatekeeper_independent::{numbers, refusals};
 
 const SEED: u64 = 1;
 
-/// Where the slots, the handles, the tally, the freeze, the kept needs and the numbers stand in a monitor's bytes.
+/// Where the slots, the handles, the tally, the freeze, the kept needs, the numbers and the groups stand in a monitor's
+/// bytes.
 const OBJECTS_AT: usize = 64;
 const HANDLES_AT: usize = 192;
 const MADE_AT: usize = 1728;
 const FREEZE_AT: usize = 1744;
 const NEEDS_AT: usize = 1745;
 const NUMBERS_AT: usize = 1841;
+const GROUPS_AT: usize = 2353;
 
 const REGISTER: u64 = 2;
 const OPEN_READ: u64 = 5;
@@ -42,6 +45,7 @@ const CLOSE: u64 = 11;
 const EXIT: u64 = 12;
 const MAP: u64 = 14;
 const CONNECT: u64 = 17;
+const THREAD: u64 = 18;
 
 /// The refusals that answer a connect, in the order in which they are tested: RULES R105, R120.
 const REFUSING_CONNECTS: [usize; 6] = [2, 16, 3, 17, 7, 9];
@@ -80,7 +84,10 @@ impl Pair {
 
     /// Whatever the kept needs are, the monitor does not count as right.
     fn of_bytes(state: [u8; STATE_BYTES]) -> Pair {
-        let rules = Rules::default();
+        Pair::of_bytes_by(state, Rules::default())
+    }
+
+    fn of_bytes_by(state: [u8; STATE_BYTES], rules: Rules) -> Pair {
         let proved = Monitor::from_bytes(state);
         let (made, gone) = (proved.made(), proved.gone());
         let plain = PlainMonitor::of_tables(tables_of(&state), rules);
@@ -146,6 +153,8 @@ impl Pair {
         alike("the freeze", proved.frozen_from().map(u64::from), tables.frozen_from())?;
         for s in (0..=LIMITS.subjects).chain(far) {
             alike(("subject", s), proved.subject(s).map(subject_of), tables.subject(s))?;
+            let group = tables.subject(s).and_then(|_| tables.members(s).next());
+            alike(("the group of", s), proved.group(s), group)?;
             if tables.subject(s).is_some() || s % 8 == 0 {
                 for p in (0..=LIMITS.places).chain(far) {
                     alike(("the handle", s, p), proved.handle(s, p).map(handle_of), tables.handle(s, p))?;
@@ -218,10 +227,13 @@ fn number_at(state: &[u8; STATE_BYTES], slot: usize) -> u64 {
     u64::from_le_bytes(std::array::from_fn(|byte| state[NUMBERS_AT + 8 * slot + byte]))
 }
 
-/// These bytes with the number i at slot i, as objects of low numbers have them.
+/// These bytes with the number i at slot i, as objects of low numbers have them, and each subject in a group by itself.
 fn numbered(mut state: [u8; STATE_BYTES]) -> [u8; STATE_BYTES] {
-    for (bytes, number) in state[NUMBERS_AT..].chunks_exact_mut(8).zip(0u64..) {
+    for (bytes, number) in state[NUMBERS_AT..GROUPS_AT].chunks_exact_mut(8).zip(0u64..) {
         bytes.copy_from_slice(&number.to_le_bytes());
+    }
+    for (byte, group) in state[GROUPS_AT..].iter_mut().zip(0..) {
+        *byte = group;
     }
     state
 }
@@ -264,6 +276,7 @@ fn tables_of(state: &[u8; STATE_BYTES]) -> Tables {
     for (s, record) in records(0, OBJECTS_AT, 2) {
         let subject = Subject { level: record[1].into() };
         tables.set_subject(s, (record[0] == 1).then_some(subject));
+        tables.set_group(s, state[GROUPS_AT + s as usize]);
     }
     for (slot, record) in records(OBJECTS_AT, HANDLES_AT, 2) {
         let (number, level) = (number_at(state, slot as usize), record[1].into());
@@ -311,7 +324,8 @@ fn calls_of(journal: &[u8]) -> Vec<(u64, Numbers)> {
 /// marked, and how far levels lie apart, differs from state to state. As many handles are mappings as read and as
 /// write. The freeze is any byte, and often one of the levels; so is the third byte of a handle, and often a mark or
 /// none. The kept needs are any levels. The numbers of the objects are small or far apart, in some states many slots have
-/// the same, and in some nearly every slot is in use.
+/// the same, and in some nearly every slot is in use. In some there are few groups, in some nearly every subject is by
+/// itself; the levels of a group's members differ.
 fn drawn_state(random: &mut Random) -> [u8; STATE_BYTES] {
     let mut state = [0; STATE_BYTES];
     for byte in &mut state {
@@ -341,9 +355,14 @@ fn drawn_state(random: &mut Random) -> [u8; STATE_BYTES] {
         *need = random.below(levels) as u8;
     }
     let repeats = !is_full && random.once_in(3);
-    for (slot, bytes) in (0..).zip(rest[NUMBERS_AT - HANDLES_AT..].chunks_exact_mut(8)) {
+    let numbers = &mut rest[NUMBERS_AT - HANDLES_AT..GROUPS_AT - HANDLES_AT];
+    for (slot, bytes) in (0..).zip(numbers.chunks_exact_mut(8)) {
         let number = if repeats { random.below(40) } else { slot };
         bytes.copy_from_slice(&drawn_number(random, number).to_le_bytes());
+    }
+    let groups = random.pick(&[3, 12, 256]).unwrap_or(12);
+    for byte in &mut state[GROUPS_AT..] {
+        *byte = random.below(groups) as u8;
     }
     if random.once_in(2) {
         state[FREEZE_AT] = random.below(levels.min(16)) as u8;
@@ -360,13 +379,13 @@ fn drawn_number(random: &mut Random, small: u64) -> u64 {
     }
 }
 
-/// A call whose numbers are mostly in range, and often those of live things. Many are execs, maps and connects: few of
-/// those are allowed, and only these close handles, place mappings and make channels. Many are writes to what is
-/// mapped, where something is.
+/// A call whose numbers are mostly in range, and often those of live things. Many are execs, maps, connects and threads:
+/// few of those are allowed, and only these close handles, place mappings, make channels and join groups. Many are writes
+/// to what is mapped, where something is.
 fn drawn_call(random: &mut Random, tables: &Tables) -> (u64, Numbers) {
     // Numbers that the code does not use are ignored, whatever they are.
     let mut numbers = filled(&[]).map(|_| random.below(u64::MAX));
-    let code = random.pick(&[EXEC, EXEC, MAP, WRITE, CONNECT, 0, 0, 0, 0]).unwrap_or(0);
+    let code = random.pick(&[EXEC, EXEC, MAP, WRITE, CONNECT, THREAD, 0, 0, 0, 0]).unwrap_or(0);
     if code == WRITE {
         if let Some((s, p)) = random.pick(&writers_of_mapped(tables)) {
             numbers[..2].copy_from_slice(&[s, p]);
@@ -375,6 +394,13 @@ fn drawn_call(random: &mut Random, tables: &Tables) -> (u64, Numbers) {
     }
     if code == CONNECT {
         return (CONNECT, drawn_connect(random, tables));
+    }
+    if code == THREAD {
+        let live: Vec<u64> = tables.live_subjects().collect();
+        let free: Vec<u64> = (0..33).filter(|s| !live.contains(s)).collect();
+        let [s, c] = [live, free].map(|fitting| drawn_pair(random, fitting, 33)[0]);
+        numbers[..2].copy_from_slice(&[s, c]);
+        return (THREAD, numbers);
     }
     let any = SHAPES.get(random.below(SHAPES.len() as u64 + 1) as usize);
     let Some(shape) = shape_of_code(code).or(any) else {
@@ -438,14 +464,20 @@ fn is_mapped_file(o: u64, tables: &Tables) -> bool {
     is_file && tables.mappers(o).next().is_some()
 }
 
-/// Which outcomes and refusals were seen, of all calls, of maps, of writes to files that are mapped and of connects,
-/// how many handles execs closed, and how often needs moved; a comparison that saw few says little.
+/// Which outcomes and refusals were seen, of all calls, of maps, of writes to files that are mapped, of connects and of
+/// threads, how many handles execs closed and how many subjects they ended, how often several subjects fell at once, and
+/// how often needs moved; a comparison that saw few says little.
 #[derive(Default)]
 struct Seen {
     all: Outcomes,
     maps: Outcomes,
     mapped_writes: Outcomes,
     connects: Outcomes,
+    threads: Outcomes,
+    /// Subjects that the exec of a mate ended.
+    mates_at_exec: usize,
+    /// Calls at which more than one subject fell.
+    falls_together: usize,
     ended_at_exec: u64,
     /// How many of these were mappings.
     unmapped_at_exec: u64,
@@ -459,7 +491,7 @@ struct Seen {
 
 /// How many calls of each code moved a need.
 #[derive(Default)]
-struct Moves([usize; 18]);
+struct Moves([usize; 19]);
 
 impl Moves {
     /// Whether there are calls of each of these codes, `least` or more, and none of any other code.
@@ -522,6 +554,9 @@ impl Seen {
         let written = before.handle(s, p).filter(|handle| handle.direction == Direction::Writing);
         let to_mapped_file = written.is_some_and(|handle| is_mapped_file(handle.object, before));
         let gone = pair.proved.gone();
+        let mates = before.mates(s).count();
+        let levels: Vec<(u64, u64)> =
+            before.live_subjects().filter_map(|s| Some((s, before.subject(s)?.level))).collect();
         let mut things: Vec<Thing> = needs::live_things(before).collect();
         let needs_before = pair.needs.clone();
 
@@ -544,7 +579,14 @@ impl Seen {
         if code == CONNECT {
             self.connects.count(answer);
         }
+        if code == THREAD {
+            self.threads.count(answer);
+        }
+        let tables = pair.plain.tables();
+        let fell = |&&(s, level): &&(u64, u64)| tables.subject(s).is_some_and(|now| now.level < level);
+        self.falls_together += usize::from(levels.iter().filter(fell).count() > 1);
         if code == EXEC && answer.granted().is_ok() {
+            self.mates_at_exec += mates;
             self.ended_at_exec += pair.proved.gone().wrapping_sub(gone);
             self.unmapped_at_exec += mappings;
         }
@@ -571,6 +613,9 @@ impl Seen {
             maps,
             mapped_writes,
             connects,
+            threads,
+            mates_at_exec,
+            falls_together,
             ended_at_exec,
             unmapped_at_exec,
             rising,
@@ -582,8 +627,10 @@ impl Seen {
         println!("beside: {what}: maps: {maps}; writes to mapped files: {mapped_writes}");
         let by_number = connects.by_number(&REFUSING_CONNECTS);
         println!("beside: {what}: connects: {connects}: {by_number}");
+        println!("beside: {what}: threads: {threads}: {}", threads.by_number(&[2, 3]));
         println!(
-            "beside: {what}: {ended_at_exec} handles ended at exec, {unmapped_at_exec} of them mappings"
+            "beside: {what}: {ended_at_exec} handles and {mates_at_exec} mates ended at exec, {unmapped_at_exec} of the \
+             handles mappings; at {falls_together} calls several subjects fell"
         );
         println!("beside: {what}: needs rose at calls to {rising}, and sank at calls to {sinking}");
         assert!(all.allowed > calls / 10 && all.lowered > 100, "few calls were not refused");
@@ -596,6 +643,15 @@ impl Seen {
         );
         assert!(*unmapped_at_exec > 100, "few mappings ended at exec");
         assert!(ended_at_exec - unmapped_at_exec > 100, "few handles ended at exec for their mark");
+        assert!(threads.allowed > 100 && threads.lowered == 0, "few threads were made, or one lowered");
+        assert!(threads.refused[2] > 20 && threads.refused[3] > 20, "few threads were refused");
+        assert_eq!(
+            threads.refused(),
+            threads.refused[2] + threads.refused[3],
+            "a thread was refused otherwise"
+        );
+        assert!(*mates_at_exec > 50, "few mates ended at exec");
+        assert!(*falls_together > 50, "few calls lowered several subjects");
         // Those that answer a direct call.
         for number in (1..=10).chain([15, 16, 17]) {
             let words = refusals::meaning(number as u32);
@@ -889,9 +945,9 @@ fn records_are_written_alike() {
     }
 }
 
-/// The first journal on which a variant answers otherwise: its calls, or the reply to it.
-fn told_apart(rules: Rules) -> Option<u64> {
-    (0..4000).find(|&index| {
+/// Whether a variant answers a journal otherwise: its calls, or the reply to it.
+fn told_apart_by_a_journal(rules: Rules) -> bool {
+    (0..1000).any(|index| {
         let journal = generate::journal(SEED, index, Wish::default());
         let mut pair = Pair::empty(rules);
         let same_calls =
@@ -900,10 +956,29 @@ fn told_apart(rules: Rules) -> Option<u64> {
     })
 }
 
+/// Whether a variant answers a call otherwise, or leaves other tables, on a state that no calls made: in some, members of
+/// a group have different levels, or a mapper is above the file.
+fn told_apart_on_a_state(rules: Rules) -> bool {
+    let mut random = Random::new(SEED, 3);
+    (0..2000).any(|_| {
+        let mut pair = Pair::of_bytes_by(drawn_state(&mut random), rules);
+        (0..CALLS_ON_EACH_STATE).any(|_| {
+            let (code, numbers) = drawn_call(&mut random, pair.plain.tables());
+            pair.call(code, numbers).is_err() || &tables_of(pair.proved.as_bytes()) != pair.plain.tables()
+        })
+    })
+}
+
 #[test]
 fn every_wrong_variant_is_told_apart() {
     for &(variant, name, what) in variants::ALL {
-        assert!(told_apart(variant.into()).is_some(), "{name} was not told apart: {what}");
+        let rules: Rules = variant.into();
+        let is_told = if bite::tables::bite(rules).is_some() {
+            told_apart_on_a_state(rules) || told_apart_by_a_journal(rules)
+        } else {
+            told_apart_by_a_journal(rules)
+        };
+        assert!(is_told, "{name} was not told apart: {what}");
     }
     println!("beside: {} wrong programs were told apart", variants::ALL.len());
 }

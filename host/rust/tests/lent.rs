@@ -91,6 +91,7 @@ impl Pair {
             assert_eq!(subjects[0], subjects[1], "subject {s}");
             let needs = [state.need_of_subject(s), monitor.need_of_subject(s)];
             assert_eq!(needs[0], needs[1], "the need of subject {s}");
+            assert_eq!(state.group(s), monitor.group(s), "the group of subject {s}");
             for p in 0..=PLACES {
                 assert_eq!(state.handle(s, p), monitor.handle(s, p), "place {p} of subject {s}");
             }
@@ -130,12 +131,13 @@ struct Quick {
     closed: usize,
     /// Those that were refused in place, by number.
     refused: [usize; 18],
-    /// Those that were allowed in place while there was a freeze, a marked handle, a mapping, and ten pipes or more; and of
-    /// the closes, those of a marked handle, of a mapping, and of a handle on a pipe.
+    /// Those that were allowed in place while there was a freeze, a marked handle, a mapping, and ten pipes or more, and for
+    /// a subject with mates; and of the closes, those of a marked handle, of a mapping, and of a handle on a pipe.
     under_freeze: usize,
     beside_marked: usize,
     beside_mapping: usize,
     beside_pipes: usize,
+    with_mates: usize,
     of_marked: usize,
     of_mapping: usize,
     of_pipe: usize,
@@ -164,6 +166,8 @@ impl Quick {
         self.beside_mapping += usize::from(handles().any(|handle| handle.way == Way::Maps));
         let pipes = state.objects().filter(|(_, object)| object.kind == Kind::Pipe);
         self.beside_pipes += usize::from(pipes.count() >= 10);
+        let is_mate = |&s: &u64| s != numbers[0] && state.group(s) == state.group(numbers[0]);
+        self.with_mates += usize::from((0..SUBJECTS).any(|s| is_mate(&s)));
         if let Some(handle) = state.handle(numbers[0], numbers[1]).filter(|_| closes) {
             self.of_marked += usize::from(handle.marked);
             self.of_mapping += usize::from(handle.way == Way::Maps);
@@ -177,19 +181,26 @@ impl Quick {
         let refused: usize = self.refused.iter().sum();
         println!(
             "beside: in place {opened} of {opens} opens and {closed} of {closes} closes, and {refused} that were refused; \
-             {} under a freeze, {} beside a marked handle, {} beside a mapping, {} beside ten pipes or more; \
+             {} under a freeze, {} beside a marked handle, {} beside a mapping, {} beside ten pipes or more, {} with mates; \
              closed {} marked ones, {} mappings, {} on pipes",
             self.under_freeze,
             self.beside_marked,
             self.beside_mapping,
             self.beside_pipes,
+            self.with_mates,
             self.of_marked,
             self.of_mapping,
             self.of_pipe
         );
         assert!(opened > 100 && closed > 100, "few were done in place");
         assert!(opened + closed + refused < opens + closes, "none was not done in place");
-        let kinds = [self.under_freeze, self.beside_marked, self.beside_mapping, self.beside_pipes];
+        let kinds = [
+            self.under_freeze,
+            self.beside_marked,
+            self.beside_mapping,
+            self.beside_pipes,
+            self.with_mates,
+        ];
         assert!(kinds.iter().all(|&count| count > 20), "few were done in place in states of some kind");
         let closes = [self.of_marked, self.of_mapping, self.of_pipe];
         assert!(closes.iter().all(|&count| count > 0), "no close of some kind was done in place");
@@ -275,7 +286,7 @@ fn drawn_call(random: &mut Random, state: &State) -> (u64, Numbers) {
         code = random.pick(&[4, 5, 6, 7, 8, 14, 15, 17]).unwrap_or(5);
     }
     if random.once_in(300) {
-        return (random.pick(&[0, 18, 19, 256, (1 << 32) + 5, u64::MAX]).unwrap_or(0), numbers);
+        return (random.pick(&[0, 19, 20, 256, (1 << 32) + 5, u64::MAX]).unwrap_or(0), numbers);
     }
     let Some(shape) = SHAPES.iter().find(|shape| shape.code == code) else { return (code, numbers) };
     let subject = drawn(random, SUBJECTS, |s| state.subject(s).is_some());

@@ -54,7 +54,9 @@ macro_rules! proved {
                     gone: self.gone(),
                     frozen_from: self.frozen_from(),
                     subjects: (0..SUBJECTS)
-                        .filter_map(|s| Some((s, self.subject(s)?, self.need_of_subject(s)?)))
+                        .filter_map(|s| {
+                            Some((s, self.subject(s)?, self.need_of_subject(s)?, self.group(s)?))
+                        })
                         .collect(),
                     objects: self
                         .objects()
@@ -70,13 +72,14 @@ macro_rules! proved {
 proved!(Monitor);
 proved!(State);
 
-/// All that is shown: the tally, the freeze, each live thing with its level and need, and each handle with its place.
+/// All that is shown: the tally, the freeze, each live thing with its level and need, a subject's with its group, and each
+/// handle with its place.
 #[derive(Debug, PartialEq)]
 struct Shown {
     made: u64,
     gone: u64,
     frozen_from: Option<u8>,
-    subjects: Vec<(u64, u8, u8)>,
+    subjects: Vec<(u64, u8, u8, u64)>,
     objects: Vec<(u64, Object, u8)>,
     handles: Vec<(u64, u64, Handle)>,
 }
@@ -85,7 +88,10 @@ impl Shown {
     fn of_plain(plain: &PlainMonitor) -> Shown {
         let (tables, tally) = (plain.tables(), plain.tally());
         let needs = Needs::of_tables(tables);
-        let subject = |s| Some((s, tables.subject(s)?.level as u8, needs.of(Thing::Subject(s)) as u8));
+        let subject = |s| {
+            let (level, need) = (tables.subject(s)?.level as u8, needs.of(Thing::Subject(s)) as u8);
+            Some((s, level, need, tables.members(s).next()?))
+        };
         let object = |o| Some((o, object_of(tables.object(o)?), needs.of(Thing::Object(o)) as u8));
         Shown {
             made: tally.made,

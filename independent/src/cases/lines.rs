@@ -169,6 +169,30 @@ pub const LINE_CASES: &[LineCase] = &[
                   fork 0 0: R 2; exec 0 2: R 2; exit 0: R 2; counts 2 0 4",
     },
     LineCase {
+        name: "line-mates",
+        what: "a mate of the shell has file 0 open for writing: the children have groups of their own, and read and run \
+               file 1 all the same",
+        before: "register 0 9; register 1 2; admit 0 9; register 2 9; thread 0 1; open-write 1 0 0",
+        line: "1<1;2|2<1",
+        start: start(0, 2, 5),
+        answers: "fork 0 2: A 9; open-read 2 1 14: A 2; exec 2 1: L 2; exit 2: A 2; \
+                  pipe 0 5 0 1: A 9; \
+                  fork 0 2: A 9; close 2 0: A 9; exec 2 2: A 9; \
+                  fork 0 3: A 9; close 3 1: A 9; open-read 3 1 14: A 2; exec 3 2: A 9; \
+                  close 0 0: A 9; close 0 1: A 9; exit 2: A 9; exit 3: A 9; counts 15 1 0",
+    },
+    LineCase {
+        name: "line-mate-as-child",
+        what: "a mate's number for a child: its exec ends the shell, whose pipe ends with it, and the rest has no shell",
+        before: "register 0 9; register 1 2; admit 0 9; register 2 9; thread 0 1",
+        line: "2|2",
+        start: start(0, 1, 5),
+        answers: "pipe 0 5 0 1: A 9; \
+                  fork 0 1: R 3; close 1 0: R 7; exec 1 2: A 9; \
+                  fork 0 2: R 2; close 2 1: R 2; exec 2 2: R 2; \
+                  close 0 0: R 2; close 0 1: R 2; exit 1: A 9; exit 2: R 2; counts 3 0 8",
+    },
+    LineCase {
         name: "line-wraps",
         what: "after 18446744073709551615 comes 0, for pipes, of which 0 is a file's number, and for children, of which 0 \
                is free",

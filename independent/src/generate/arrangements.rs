@@ -168,14 +168,21 @@ impl Draft {
                     self.record(3, &made);
                     (6, vec![made[0], made[1], self.free_place(made[0])])
                 }
-                8 | 9 => (6, self.open_against_flow(6, Kind::File)),
+                8 | 9 => {
+                    let mut numbers = self.open_against_flow(6, Kind::File);
+                    // Now and then the place does not fit either.
+                    if self.random.once_in(8) {
+                        numbers[2] = LIMITS.places;
+                    }
+                    (6, numbers)
+                }
                 10 | 14 => (6, self.open_against_flow(6, Kind::Pipe)),
                 11 | 12 => {
                     let code = self.random.pick(&[5, 14, 14]).unwrap_or(5);
                     (code, self.open_against_flow(code, Kind::File))
                 }
                 13 => {
-                    let code = self.random.pick(&[10, 17]).unwrap_or(10);
+                    let code = self.random.pick(&[10, 10, 17, 17, 18]).unwrap_or(10);
                     (code, self.numbers_for(code))
                 }
                 _ => {
@@ -211,15 +218,14 @@ impl Draft {
             let level = if self.random.once_in(3) { self.level() } else { top };
             self.record(2, &[o, level]);
         }
-        for p in 0..LIMITS.places {
-            if self.picture.tables().handle(first, p).is_none() {
-                let code = self.random.between(5, 6);
-                let o = self.live_object(None);
-                self.record(code, &[first, o, p]);
-            }
-        }
-        for c in 0..LIMITS.subjects {
-            if c != first {
+        self.fill_places(first);
+        // Now and then every second subject is a thread, which opens for itself.
+        let threads = self.random.once_in(4);
+        for c in (0..LIMITS.subjects).filter(|&c| c != first) {
+            if threads && self.random.once_in(2) {
+                self.record(18, &[first, c]);
+                self.fill_places(c);
+            } else {
                 self.record(9, &[first, c]);
             }
         }
@@ -230,5 +236,16 @@ impl Draft {
         self.record(2, &[more, top]);
         self.record(4, &[first, in_use, 0, 1]);
         self.odd_numbers = odd;
+    }
+
+    /// An open at each empty place of a subject.
+    fn fill_places(&mut self, s: u64) {
+        for p in 0..LIMITS.places {
+            if self.picture.tables().handle(s, p).is_none() {
+                let code = self.random.between(5, 6);
+                let o = self.live_object(None);
+                self.record(code, &[s, o, p]);
+            }
+        }
     }
 }

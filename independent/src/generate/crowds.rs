@@ -66,7 +66,8 @@ impl Draft {
         }
     }
 
-    fn pipe_of(&mut self, s: u64) -> Vec<u64> {
+    /// The numbers of a pipe that fits, as far as there are such.
+    pub(super) fn pipe_of(&mut self, s: u64) -> Vec<u64> {
         let o = self.free_object();
         let tables = self.picture.tables();
         let mut free: Vec<u64> = (0..LIMITS.places).filter(|&p| tables.handle(s, p).is_none()).collect();
@@ -224,12 +225,17 @@ impl Draft {
         handles.filter(|(_, _, handle)| handle.object == o).map(|(s, p, _)| (s, p)).collect()
     }
 
-    /// What asks for no space goes on in full tables: opens, forks, maps.
+    /// What asks for no space goes on in full tables: opens, forks, threads, maps.
     fn use_the_crowd(&mut self, Crowd { s, .. }: Crowd) {
-        match self.random.below(3) {
+        match self.random.below(4) {
             0 => {
                 let c = self.free_subject();
                 self.record(9, &[s, c]);
+                self.record(12, &[c]);
+            }
+            3 => {
+                let c = self.free_subject();
+                self.record(18, &[s, c]);
                 self.record(12, &[c]);
             }
             1 => {

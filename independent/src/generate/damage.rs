@@ -125,10 +125,10 @@ impl Draft {
 
     pub(super) fn unknown_code(&mut self) -> u64 {
         let codes =
-            [0, 18, 21, 77, 127, 128, 129, 256 + 1, 12_857, 65_536 + 2, (1 << 32) - 1, 1 << 32, u64::MAX];
+            [0, 19, 21, 77, 127, 128, 129, 256 + 1, 12_857, 65_536 + 2, (1 << 32) - 1, 1 << 32, u64::MAX];
         match self.random.below(8) {
             0 => (1 << 32) + self.random.below(20),
-            1 => wide_number(&mut self.random).max(18),
+            1 => wide_number(&mut self.random).max(19),
             _ => self.random.pick(&codes).unwrap_or(0),
         }
     }

@@ -141,6 +141,7 @@ impl Draft {
             some(self.launches * handles, 5),
             some(self.closings, if frozen { 6 } else { 1 }),
             some(self.channels * subjects, 4),
+            some(self.threads * subjects, if subjects < 12 { 4 } else { 1 }),
         ];
         let code = SHAPES[self.random.weighted(&weights)].code;
         let numbers = self.numbers_for(code);
@@ -169,7 +170,7 @@ impl Draft {
                 let (s, p) = self.held_place(direction);
                 vec![s, p]
             }
-            9 => {
+            9 | 18 => {
                 let s = self.live_subject();
                 let c = self.free_subject();
                 vec![s, if self.random.once_in(20) { s } else { c }]

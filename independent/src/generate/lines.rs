@@ -1,8 +1,9 @@
 //! Typed lines by seed, each with calls that come before it and with the three numbers of RULES L7.
 //!
-//! The calls make something for the line to do: files of several levels, a shell that holds handles already, other steps,
-//! a freeze, or tables that are nearly full; or they are tidy, so that most of the line is allowed. The numbers for children and pipes are free as a rule; else some of them are
-//! in use, too high, or go on from 18446744073709551615 to 0.
+//! The calls make something for the line to do: files of several levels, a shell that holds handles already or has mates,
+//! other steps, a freeze, or tables that are nearly full; or they are tidy, so that most of the line is allowed. The
+//! numbers for children and pipes are free as a rule; else some of them are in use, too high, or go on from
+//! 18446744073709551615 to 0.
 
 mod clerk;
 
@@ -168,6 +169,9 @@ impl Draft {
             self.held_by_shell(shell);
         }
         if self.random.once_in(5) {
+            self.mates_of_shell(shell);
+        }
+        if self.random.once_in(5) {
             let room = self.random.pick(&[0, 1, 1, 2, 2, 3, 5]).unwrap_or(0);
             while self.space() > room {
                 let numbers = [self.free_object(), self.level()];
@@ -213,6 +217,17 @@ impl Draft {
         }
     }
 
+    /// Threads beside the shell, which hold handles of their own.
+    fn mates_of_shell(&mut self, shell: u64) {
+        for _ in 0..self.random.between(1, 3) {
+            let mate = self.free_subject();
+            self.record(18, &[shell, mate]);
+            if !self.random.once_in(3) {
+                self.open_something(mate);
+            }
+        }
+    }
+
     fn free_subjects(&self) -> Vec<u64> {
         let tables = self.picture.tables();
         (0..LIMITS.subjects).filter(|&s| tables.subject(s).is_none()).collect()
@@ -243,6 +258,10 @@ impl Draft {
             4 => self.random.pick(&[(1 << 32) - 2, 1 << 32, (1 << 32) + first]).unwrap_or(0),
             5 | 6 => self.random.pick(&free).unwrap_or(0),
             7 | 8 => self.random.pick(&fit).unwrap_or(first),
+            9 => {
+                let mates: Vec<u64> = self.picture.tables().mates(shell).collect();
+                self.random.pick(&mates).unwrap_or(first)
+            }
             _ => first,
         }
     }
@@ -286,7 +305,7 @@ mod tests {
         for trial in trials(1).take(200) {
             for (code, numbers) in &trial.setup {
                 let words = call_in_words(*code, numbers);
-                assert!((1..=17).contains(code), "{words}");
+                assert!((1..=18).contains(code), "{words}");
             }
             assert!(trial.to_string().lines().count() == trial.setup.len() + 1);
         }

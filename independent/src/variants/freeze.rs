@@ -26,6 +26,7 @@ pub fn bend_frozen(variant: Variant, tables: &Tables, call: Call, offends_flow: 
             tables.handle(s, p).map(|handle| tables.is_frozen(handle.object))
         }
         (Variant::FreezeForks, Call::Fork { s, .. }) => Some(writes_to_frozen(tables, s)),
+        (Variant::FreezeThreads, Call::Thread { s, .. }) => subject_level(s).map(|level| level >= freeze),
         (Variant::FreezeCreates, Call::Create { s, .. }) => subject_level(s).map(|level| level >= freeze),
         (Variant::FreezeRegisters, Call::Register { level, .. }) => Some(level >= freeze),
         (Variant::FreezeExecs, Call::Exec { o, .. }) => Some(tables.is_frozen(o)),

@@ -53,6 +53,7 @@ variants! {
     ShellIs0 "shell-is-0" "takes subject 0 for the shell";
     ChildrenFrom1 "children-from-1" "counts children from 1";
     PipesFrom1 "pipes-from-1" "counts pipes from 1";
+    ChildrenAsThreads "children-as-threads" "makes each child by a thread, and not by a fork";
     ChildrenGoOn "children-go-on" "children's numbers go on at `;`";
     PipesGoOn "pipes-go-on" "pipes' numbers go on at `;`";
     ChildrenStay "children-stay" "children's numbers do not go beyond 18446744073709551615";
@@ -327,7 +328,7 @@ fn bend_numbers(variant: LineVariant, parts: &mut Parts, Start { child, pipe, ..
     }
 }
 
-/// Which ends there are, and who closes which.
+/// Which children and which ends there are, and who closes which.
 fn bend_ends(variant: LineVariant, parts: &mut Parts) {
     let ends = parts.closes.len() as u64;
     for (i, child) in (0..).zip(&mut parts.children) {
@@ -337,6 +338,7 @@ fn bend_ends(variant: LineVariant, parts: &mut Parts) {
         match variant {
             LineVariant::KeepsReadingEnd => child.closes.retain(|call| place(call) != 2 * i),
             LineVariant::KeepsWritingEnd => child.closes.retain(|call| place(call) + 1 != 2 * i),
+            LineVariant::ChildrenAsThreads => child.fork.0 = 18,
             LineVariant::KeepsAllEnds => child.closes.clear(),
             LineVariant::ClosesOwnPipesOnly => {
                 child.closes.retain(|call| place(call) == 2 * i || place(call) + 1 == 2 * i);

@@ -1,6 +1,7 @@
 //! Variants of what a call does and answers: each is a change to the outcome of the right rules.
 
 use super::channels::{bend_channels, bend_connect_answer, bend_refused_connect};
+use super::groups::{bend_groups, bend_mates_of_refused};
 use super::maps::{bend_map_counts, bend_mapped_answer, bend_maps, bend_refused_map};
 use super::marks::{bend_counts, bend_marked_answer, bend_marks, bend_refused_exec};
 use super::Variant;
@@ -13,6 +14,7 @@ pub fn bend_refused(variant: Variant, after: &mut Monitor, call: Call, number: u
     bend_refused_exec(variant, after, call, number);
     bend_refused_map(variant, after, call, number);
     bend_refused_connect(variant, after, call, number);
+    bend_mates_of_refused(variant, after, call, number);
     match (variant, call) {
         (Variant::RefusedOpenStays, Call::OpenRead { .. } | Call::OpenWrite { .. }) if number == 9 => {
             place_sought(&mut after.tables, call);
@@ -52,6 +54,7 @@ pub fn bend_effect(variant: Variant, before: &Monitor, after: &mut Monitor, call
     bend_maps(variant, before, after, call);
     bend_map_counts(variant, before, after, call);
     bend_channels(variant, before, after, call);
+    bend_groups(variant, before, after, call);
     let made = after.tally.made.wrapping_sub(before.tally.made);
     let gone = after.tally.gone.wrapping_sub(before.tally.gone);
     let old = &before.tables;

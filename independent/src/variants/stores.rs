@@ -92,6 +92,7 @@ pub fn bend_stored(variant: Variant, tables: &Tables, call: Call) -> Option<Cond
         (Variant::SeventeenAs3, _) => is_full.then_some((3, true)),
         (Variant::FullOpens, Call::OpenRead { .. } | Call::OpenWrite { .. }) => Some((17, live >= limit)),
         (Variant::FullForks, Call::Fork { .. }) => Some((17, live >= limit)),
+        (Variant::FullThreads, Call::Thread { .. }) => Some((17, live >= limit)),
         _ => None,
     }
 }

@@ -32,7 +32,7 @@ returns c =
     let c2 = c1 .before in
     let a = c2 .before .before .args in
     let l : length (a .objects) ≡ 64 = search (needs, unmapped) in
-    λ rest ss t p w g q k. let o = slot-low rest ss (a .objects) (a .handles) l t (a .h .object) (ap (λ (u : Tables). u .at (object (a .h .object))) q) (w .ends (a .s) p (joins (a .h)) g .to) in subst (λ (u : Tables). Ready u (figure-of (a .n))) (sym q)
+    λ rest t p m w g q k. let o = slot-low rest (a .subjects) (a .objects) (a .handles) l t (a .h .object) (ap (λ (u : Tables). u .at (object (a .h .object))) q) (w .ends (a .s) p (joins (a .h)) g .to) in subst (λ (u : Tables). Ready u (figure-of (a .n))) (sym q)
     (apart-ready (a .n) t (a .s) p (a .h) w g k o (λ e. c .if1 .taken (c2 .of-subject .ensures ∙ e ∙ sym (c1 .of-object .ensures))))
 
 returns-2 : tie.Need-returns-2
@@ -41,7 +41,7 @@ returns-2 c =
     let c3 = c2 .before in
     let a = c3 .before .before .args in
     let l : length (a .objects) ≡ 64 = search (needs, unmapped) in
-    λ rest ss t p w g q k. let o = slot-low rest ss (a .objects) (a .handles) l t (a .h .object) (ap (λ (u : Tables). u .at (object (a .h .object))) q) (w .ends (a .s) p (joins (a .h)) g .to) in subst (λ (u : Tables). Ready u (figure-of (a .n))) (sym q)
+    λ rest t p m w g q k. let o = slot-low rest (a .subjects) (a .objects) (a .handles) l t (a .h .object) (ap (λ (u : Tables). u .at (object (a .h .object))) q) (w .ends (a .s) p (joins (a .h)) g .to) in subst (λ (u : Tables). Ready u (figure-of (a .n))) (sym q)
     (zero-ready (a .n) t (a .s) p (a .h) w g k o (sym (c3 .of-subject .ensures) ∙ c .before .if1 .left ∙ c2 .of-object .ensures)
     (sym (c3 .of-subject .ensures) ∙ c .if2 .taken))
 
@@ -57,9 +57,9 @@ returns-3 c =
     let c6 = c2 .before .before .before .before in
     let a = c6 .before .before .args in
     let l : length (a .objects) ≡ 64 = search (needs, unmapped) in
-    λ rest ss t p w g q k. let o = slot-low rest ss (a .objects) (a .handles) l t (a .h .object) (ap (λ (u : Tables). u .at (object (a .h .object))) q) (w .ends (a .s) p (joins (a .h)) g .to) in subst (λ (u : Tables). Ready u (figure-of (a .n))) (sym q)
+    λ rest t p m w g q k. let o = slot-low rest (a .subjects) (a .objects) (a .handles) l t (a .h .object) (ap (λ (u : Tables). u .at (object (a .h .object))) q) (w .ends (a .s) p (joins (a .h)) g .to) in subst (λ (u : Tables). Ready u (figure-of (a .n))) (sym q)
     (backed-ready (a .n) t (a .s) p (a .h) w g k o (c2 .object-of .result)
-    (object-then rest ss (a .objects) (a .handles) t (a .s) p (a .h .object) (c2 .object-of .result) l q (c2 .object-of .ensures))
+    (object-then rest (a .subjects) (a .objects) (a .handles) t (a .s) p (a .h .object) (c2 .object-of .result) l q (c2 .object-of .ensures))
     (ap (λ (v : ℕ). reads-by (a .h .way) && demands (c2 .object-of .result) v) (sym (c6 .of-subject .ensures))
     ∙ sym (c .before .is-backed .ensures) ∙ c .if3 .taken))
 
@@ -75,8 +75,8 @@ returns-4 c =
     let c8 = c3 .before .before .before .before .before in
     let c10 = c8 .before .before in
     let a = c10 .before .before .args in
-    let l : length (a .objects) ≡ 64 = search (needs, unmapped) in
-    λ rest ss t p w g q k. beside-kept rest ss (a .objects) (a .handles) l (a .n) t (a .s) p (a .h) w g k q
+    let l : length (a .objects) ≡ 64 = search (c10 .before .before .good .1 .1 .1 .0, needs, unmapped) in
+    λ rest t p m w g q k. beside-kept rest (a .subjects) (a .objects) (a .handles) l (a .n) t (a .s) p (a .h) w g k q
     (sym (c10 .of-subject .ensures) ∙ c8 .if1 .left ∙ c8 .before .of-object .ensures) (sym (c3 .is-reading .ensures) ∙ not-true _ (c .before .before .if4 .taken))
     (rw (sym (c10 .of-subject .ensures)) (sym (c .before .is-beside .ensures) ∙ c .if5 .taken))
 
@@ -87,8 +87,8 @@ returns-5 : tie.Need-returns-5
 returns-5 c =
     let c7 = c .before .before .before .before .before .before .before in
     let c8 = c7 .before in
-    let m = c8 .before .of-subject .ensures in
-    λ rest ss t p w g q k. c .sunk .ensures rest ss t p w g q k m (c7 .if1 .left ∙ c8 .of-object .ensures)
+    let e = c8 .before .of-subject .ensures in
+    λ rest t p m w g q k. c .sunk .ensures rest t p m w g q k e (c7 .if1 .left ∙ c8 .of-object .ensures)
 
 pub closed-spec : {M : Type 1} → statement M
 closed-spec =

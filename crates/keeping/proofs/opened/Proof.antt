@@ -23,7 +23,7 @@ returns c =
     let a = c .before .before .args in
     let z = quiet-parts _ _ (sym (c .before .is-quiet .ensures) ∙ c .if1 .taken) in
     let l : length (a .objects) ≡ 64 = search (needs, unmapped) in
-    λ rest t p w e v q k. let f = k (z .0) in let o = slot-low rest (a .subjects) (a .objects) (a .handles) l t (a .h .object) (ap (λ (u : Tables). u .at (object (a .h .object))) q) (e .to) in (
+    λ rest t p m w e v q k. let f = k (z .0) in let o = slot-low rest (a .subjects) (a .objects) (a .handles) l t (a .h .object) (ap (λ (u : Tables). u .at (object (a .h .object))) q) (e .to) in (
       subst (λ (u : Tables). Ready u (figure-of (a .n))) (sym q) (quiet-ready (a .n) t (a .s) p (a .h) w e v f o (z .1)),
       λ g. quiet-safe (a .n) t (a .s) p (a .h) w e v f o (z .1) (g (z .0)) ∙ ap (λ (u : Tables). not (safe u)) (sym q),
     )
@@ -37,8 +37,8 @@ is-short-requires c κs = search needs
 returns-2 : tie.Need-returns-2
 returns-2 c =
     let a = c .before .before .before .before .args in
-    λ rest t p w e v q k. let u = subst Wf (sym q) (opened-wf t (a .s) p (a .h) w e) in
-    let r = anew rest (a .subjects) (a .objects) (a .handles) _ (c .before .figures .ensures rest (a .subjects) u) in
+    λ rest t p m w e v q k. let u = subst Wf (sym q) (opened-wf t (a .s) p (a .h) w e) in
+    let r = anew rest (a .subjects) (a .objects) (a .handles) _ (c .before .figures .ensures rest m u) in
     (r, λ g. c .is-short .ensures rest (a .handles) u r)
 
 pub opened-spec : {M : Type 1} → statement M

@@ -15,7 +15,7 @@ of-subject-requires c κs = search needs
 returns : tie.Need-returns
 returns c =
     let a = c .before .before .args in
-    λ rest ss t w l q k. subst (λ (u : Tables). Ready u (figure-of (a .n))) (sym q)
+    λ rest t m w l q k. subst (λ (u : Tables). Ready u (figure-of (a .n))) (sym q)
     (vacate-ready (a .n) t (a .s) w l k (sym (c .before .of-subject .ensures) ∙ c .if1 .taken))
 
 figures-requires : tie.Need-figures-requires
@@ -24,7 +24,7 @@ figures-requires c κs = search needs
 returns-2 : tie.Need-returns-2
 returns-2 c =
     let a = c .before .before .before .args in
-    λ rest ss t w l q k. anew rest ss _ _ _ (c .figures .ensures rest ss (subst Wf (sym q) (vacate-wf t (a .s) w)))
+    λ rest t m w l q k. anew rest _ _ _ _ (c .figures .ensures rest m (subst Wf (sym q) (vacate-wf t (a .s) w)))
 
 pub vacated-spec : {M : Type 1} → statement M
 vacated-spec = tie.close (tie.spec of-subject-requires returns figures-requires returns-2)

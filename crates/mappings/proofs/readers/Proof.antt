@@ -1,6 +1,6 @@
 -- `mappings::readers` meets its contract. Assumes nothing.
 use mathlib.Core.Path.{_≡_}
-use Prim.Native.Nat.{_-_, _/_, _≤_}
+use Prim.Native.Nat.{_-_, _/_, _%_, _≤_}
 use native.Mathlib.Omega.{arith}
 use borrow.Author.Needs.{needs}
 use lib.ListN.{getD}
@@ -13,10 +13,10 @@ use Rattle.mappings.proofs.readers.Statement.{statement}
 use Rattle.mappings.proofs.readers.Tie as tie
 
 abbrev Inv-loop : tie.InvT-loop
-Inv-loop o handles r₀ i₀ r i = (i ≤ 512) × Hits (λ j. reader-slot (getD handles j no-handle) o (j / 16)) 33 r i
+Inv-loop o handles leads r₀ i₀ r i = (i ≤ 512) × Hits (λ j. reader-slot (getD handles j no-handle) o (getD leads (j / 16) 0 % 32)) 33 r i
 
 abbrev μ-loop : tie.MeasureT-loop
-μ-loop o handles r₀ i₀ r i = 512 - i
+μ-loop o handles leads r₀ i₀ r i = 512 - i
 
 loop-holds : tie.Need-loop-holds Inv-loop μ-loop
 loop-holds c = (omega arith, hits-none _ 33)
@@ -27,6 +27,12 @@ mul-h c = search needs
 array-copy-out-h : tie.Need-array-copy-out-h Inv-loop μ-loop
 array-copy-out-h c = search needs
 
+array-read-lead : tie.Need-array-read-lead Inv-loop μ-loop
+array-read-lead c = search needs
+
+cast-lead : tie.Need-cast-lead Inv-loop μ-loop
+cast-lead c = search needs
+
 reader-requires : tie.Need-reader-requires Inv-loop μ-loop
 reader-requires c κs = search needs
 
@@ -34,7 +40,7 @@ array-write-r : tie.Need-array-write-r Inv-loop μ-loop
 array-write-r c =
     let i = c .before .before .before .loop .i in
     let a = c .before .before .before .before .args in
-    omega (arith, slot-below (getD (a .t1) i no-handle) (a .o) (i / 16) (omega arith), c .reader .ensures)
+    omega (arith, slot-below (getD (a .t1) i no-handle) (a .o) (getD (a .t2) (i / 16) 0 % 32) (omega arith), c .reader .ensures)
 
 add-i : tie.Need-add-i Inv-loop μ-loop
 add-i c = search needs
@@ -47,7 +53,7 @@ loop-again c =
     let i = c .before .before .before .loop .i in
     let a = c .before .before .before .before .args in (
       omega arith,
-      let p = hits-more (λ j. reader-slot (getD (a .t1) j no-handle) (a .o) (j / 16)) 33 _ i (slot-below (getD (a .t1) i no-handle) (a .o) (i / 16) (omega arith))
+      let p = hits-more (λ j. reader-slot (getD (a .t1) j no-handle) (a .o) (getD (a .t2) (j / 16) 0 % 32)) 33 _ i (slot-below (getD (a .t1) i no-handle) (a .o) (getD (a .t2) (i / 16) 0 % 32) (omega arith))
           (c .before .before .before .loop .inv .1) in
           rw (c .reader .ensures) p,
     )
@@ -64,6 +70,8 @@ readers-spec =
     loop-holds
     mul-h
     array-copy-out-h
+    array-read-lead
+    cast-lead
     reader-requires
     array-write-r
     add-i

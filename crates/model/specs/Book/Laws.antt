@@ -12,12 +12,12 @@ use Rattle.model.specs.Label.{Label, _⊑_}
 use Rattle.model.specs.Label.Laws.{⊑-refl, ⊑-trans}
 use Rattle.model.specs.Flow.{Thing, subject, same}
 use Rattle.model.specs.Tables.{Dir, reading, writing, Entry, Handle, Tables, empty, label-of, cell, whole, handles, arc, needs, with-numbers}
-use Rattle.model.specs.Tables.Laws.{cell-entry, whole-alone}
-use Rattle.model.specs.Steps.{outside, blank, copied, writes, Step, enter, leave, hold, holds, mix, quits, freezes, put, fall, apply, applies, ended, reap}
+use Rattle.model.specs.Tables.Laws.{cell-entry}
+use Rattle.model.specs.Steps.{outside, blank, copied, writes, Step, enter, leave, hold, holds, mix, quits, freezes, put, fall, apply, applies, ended, reap, binds}
 use Rattle.model.specs.Steps.Laws.{put-cases, fell}
 use Rattle.model.specs.Invariant.{Safe, Kept}
-use Rattle.model.specs.Invariant.Laws.{Pot, pot-safe, needs-pot, Less, less-wf, less-pot, Feeds}
-use Rattle.model.specs.Calls.{Call, admit, register, create, make-pipe, opens, access, fork, exec, close, exit, retire, maps, mark, freeze, connect, unknown, Raw, decode, target, rereads, sheds, steps, effect, Test, alive, present, taken, facing, suits, broken, tests, refusal, next, Answer, answer, answers, after}
+use Rattle.model.specs.Invariant.Laws.{Pot, pot-whole, pot-safe, needs-pot, Less, less-wf, less-pot, Feeds}
+use Rattle.model.specs.Calls.{Call, admit, register, create, make-pipe, opens, access, fork, thread, exec, close, exit, retire, maps, mark, freeze, connect, unknown, Raw, decode, target, rereads, sheds, steps, effect, Test, alive, present, taken, facing, suits, broken, tests, refusal, next, Answer, answer, answers, after}
 use Rattle.model.specs.Calls.Refusals.{allowed-iff}
 use Rattle.model.specs.Calls.Passed.{is-alive, is-facing, sheds-less}
 use Rattle.model.specs.Calls.Moving.{reread-of}
@@ -70,6 +70,7 @@ Guard ℓ o₁ o₂ t (hold s p v) = Unit {0}
 Guard ℓ o₁ o₂ t (holds s r) = Unit {0}
 Guard ℓ o₁ o₂ t (mix m a b y x) = (φ : Thing → Label) × Pot t φ × Feeds t φ y x
 Guard ℓ o₁ o₂ t (quits g) = Unit {0}
+Guard ℓ o₁ o₂ t (binds a s) = Unit {0}
 Guard ℓ o₁ o₂ t (freezes n) = Unit {0}
 
 abbrev Guards : Label → ℕ → ℕ → Tables → List Step → Type 0
@@ -112,25 +113,26 @@ module _ (ℓ : Label) (h : Handling) (i o₁ o₂ : ℕ) where
   }
   step-agree t c d (hold s p v) g a = record { same-at = a .same-at }
   step-agree t c d (holds s r) g a = record { same-at = a .same-at }
+  step-agree t c d (binds n s) g a = record { same-at = a .same-at }
   step-agree t c d (freezes n) g a = record { same-at = a .same-at }
   step-agree t c d (quits g) r a = record { same-at = λ y e q l. left (g y) y e q l }
     where
       left : (b : Bool) (y : Thing) (e : Entry) → cond b none (t .at y) ≡ some e → ℓ ⊑ e .label → c y ≡ d y
       left true y e q l = absurd (Option·none-ne-some e q)
       left false y e q l = a .same-at y e q l
-  step-agree t c d (mix m n o y x) g a = record { same-at = λ z r q l. poured z r l (whole t y z) (whole-alone t y z) q }
+  step-agree t c d (mix m n o y x) g a = record { same-at = λ z r q l. poured z r l (whole t y z) (pot-whole (g .1) y z) q }
     where
       w : Feeds t (g .0) y x
       w = g .2
 
-      equal : (z : Thing) (r : Entry) → y ≡ z → fall z (t .at z) (t .at x) ≡ some r → ℓ ⊑ r .label → h i m n o (c z) (c x) ≡ h i m n o (d z) (d x)
+      equal : (z : Thing) (r : Entry) → g .0 z ⊑ g .0 y → fall z (t .at z) (t .at x) ≡ some r → ℓ ⊑ r .label → h i m n o (c z) (c x) ≡ h i m n o (d z) (d x)
       equal z r b q l = let f = fell z (t .at z) (t .at x) (w .source) r (w .source-is) q in
           let own : c z ≡ d z = a .same-at z (f .was) (f .was-is) (⊑-trans l (f .under-was)) in
           let fed : c x ≡ d x = a .same-at x (w .source) (w .source-is)
-          (⊑-trans l (f .under-source (⊑-trans (g .1 .low z) (subst (λ (v : Thing). g .0 v ⊑ w .source .label) b (w .under))))) in
+          (⊑-trans l (f .under-source (⊑-trans (g .1 .low z) (⊑-trans b (w .under))))) in
           ap₂ (λ u v. h i m n o u v) own fed
 
-      poured : (z : Thing) (r : Entry) → ℓ ⊑ r .label → (b : Bool) → (T b → y ≡ z) → cond b (fall z (t .at z) (t .at x)) (t .at z) ≡ some r
+      poured : (z : Thing) (r : Entry) → ℓ ⊑ r .label → (b : Bool) → (T b → g .0 z ⊑ g .0 y) → cond b (fall z (t .at z) (t .at x)) (t .at z) ≡ some r
           → cond b (h i m n o (c z) (c x)) (c z) ≡ cond b (h i m n o (d z) (d x)) (d z)
       poured z r l true e q = equal z r (e tt) q l
       poured z r l false e q = a .same-at z r q l
@@ -153,7 +155,7 @@ numbers-agree ℓ t n c d a = record { same-at = λ y e q l. a .same-at y e q l 
 -- ── an allowed call's steps have what they ask ──
 sheds-guards : (ℓ : Label) (o₁ o₂ : ℕ) (t : Tables) (s : ℕ) → Guards ℓ o₁ o₂ t (sheds t s)
 unfolding sheds
-sheds-guards ℓ o₁ o₂ t s = (tt, tt)
+sheds-guards ℓ o₁ o₂ t s = (tt, (tt, tt))
 
 module _ (ℓ : Label) (o₁ o₂ : ℕ) (t : Tables) (v : Kept t) where
   guarded : (k : Call) → ((l : Label) → brought-by (steps t k) ≡ some l → ℓ ⊑ l → o₁ ≡ o₂) →
@@ -183,6 +185,8 @@ module _ (ℓ : Label) (o₁ o₂ : ℕ) (t : Tables) (v : Kept t) where
             )) (apply (mix writes x (subject s) x (cell t s)) t) (going-written t (needs t) (v .wf) pot s x f),
       )
   guarded (fork s c) b m = let r = cell-entry t s (is-alive t s (m (alive s) (inl refl))) in
+      ((r .0, r .1, subst (λ (o : Option Entry). label-of o ⊑ r .0 .label) (sym (r .1)) ⊑-refl), (tt, tt))
+  guarded (thread s c) b m = let r = cell-entry t s (is-alive t s (m (alive s) (inl refl))) in
       ((r .0, r .1, subst (λ (o : Option Entry). label-of o ⊑ r .0 .label) (sym (r .1)) ⊑-refl), (tt, tt))
   guarded (exec s o) b m = guards-append ℓ o₁ o₂ (sheds t s) _ t (sheds-guards ℓ o₁ o₂ t s) (
     (

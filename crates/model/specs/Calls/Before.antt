@@ -16,7 +16,7 @@ use Rattle.model.specs.Lists.Rising.{insert-in, insert-rising, insert-le
 use Rattle.model.specs.Flow.{object}
 use Rattle.model.specs.Tables.{reading, writing, Entry, Tables, empty, is-some}
 use Rattle.model.specs.Tables.Laws.{some-of}
-use Rattle.model.specs.Calls.{Call, admit, register, create, make-pipe, opens, access, fork, exec, close, exit, retire, maps, mark, freeze, connect, unknown, Raw, decode}
+use Rattle.model.specs.Calls.{Call, admit, register, create, make-pipe, opens, access, fork, thread, exec, close, exit, retire, maps, mark, freeze, connect, unknown, Raw, decode}
 use Rattle.model.specs.Calls.{sheds, made, steps, effect, Test, new, unlike, roomy, number, broken, tests, order, breaks, first, refusal, next, after}
 use Rattle.model.specs.Calls.Listed.{Listed, empty-listed, made-or, stepped-left, writes-none, effect-listed, effect-at}
 use Rattle.model.specs.Calls.Passed.{is-new}
@@ -35,6 +35,7 @@ Small (connect s u a b p q) = (a < 64) × (b < 64)
 Small (admit s n) = Unit {0}
 Small (access d s p) = Unit {0}
 Small (fork s c) = Unit {0}
+Small (thread s c) = Unit {0}
 Small (close s p) = Unit {0}
 Small (exit s) = Unit {0}
 Small (mark s p) = Unit {0}

@@ -14,8 +14,8 @@ use Rattle.model.specs.Tables.Laws.{open-here}
 use Rattle.model.specs.Steps.{Origin, outside, blank, copied, reads, writes, runs, enter, hold, mix, row, place, apply, applies, reap}
 use Rattle.model.specs.Steps.Laws.{row-cases, live-hand, applies-append}
 use Rattle.model.specs.Invariant.{Ends, Wf}
-use Rattle.model.specs.Invariant.Laws.{row-below, less-close, less-quits, less-freeze, less-wf, wf-enter, wf-hand, wf-hold, wf-without, wf-reap, wf-mix, less-numbers}
-use Rattle.model.specs.Calls.{Call, admit, register, create, make-pipe, opens, access, fork, exec, close, exit, retire, maps, mark, freeze, connect, unknown}
+use Rattle.model.specs.Invariant.Laws.{row-below, less-close, less-quits, less-freeze, less-wf, wf-enter, wf-hand, wf-hold, wf-without, wf-reap, wf-mix, less-numbers, wf-binds}
+use Rattle.model.specs.Calls.{Call, admit, register, create, make-pipe, opens, access, fork, exec, close, exit, retire, maps, mark, freeze, connect, unknown, thread}
 use Rattle.model.specs.Calls.{target, marking, sheds, channel, steps, effect, next, alive, present, new, vacant, taken, idle, broken, In-order, refusal}
 use Rattle.model.specs.Calls.Refusals.{allowed-iff}
 use Rattle.model.specs.Calls.Moving.{rereads-keep}
@@ -49,7 +49,7 @@ module _ (t : Tables) (w : Wf t) where
   exit-wf s = less-wf (less-quits t (same (subject s)) (λ o. tt)) w
 
   retire-wf : (o : ℕ) → T (not (broken t (idle o))) → Wf (applies (steps t (retire o)) t)
-  retire-wf o h = wf-without (same (object o)) t w (λ s p k q. (tt, unheld s p k q))
+  retire-wf o h = wf-without (same (object o)) t w (λ s p k q. (tt, unheld s p k q)) (λ s. tt)
     where
       unheld : (s p : ℕ) (k : Handle) → t .hand s p ≡ some k → T (not (eqb o (k .to)))
       unheld s p k q =
@@ -86,6 +86,22 @@ module _ (t : Tables) (w : Wf t) where
         }))
         | inr z ↦ inl (z .1)
       ]
+
+  thread-wf : (s c : ℕ) → Passed t (thread s c) → Wf (applies (steps t (thread s c)) t)
+  thread-wf s c m = wf-binds u c s (entered-live t (subject c) e g r) (old-live t (subject c) e g (subject s) (is-alive t s (m (alive s) (inl refl))))
+      (wf-enter t (subject c) e g r w)
+    where
+      r : T (in-range (subject c))
+      r = is-new t (subject c) (m (new (subject c)) (inr (inl refl))) .0
+
+      e : Entry
+      e = entry running (label-of (t .at (cell t s)))
+
+      g : Origin
+      g = copied (cell t s)
+
+      u : Tables
+      u = apply (enter (subject c) e g) t
 
   -- an end that joins stays one where another handle is placed
   still-ends : (u : Tables) (s p : ℕ) (v : Option Handle) (s′ p′ : ℕ) (k : Handle) → Ends u s′ p′ k → Ends (apply (hold s p v) u) s′ p′ k
@@ -190,6 +206,7 @@ module _ (t : Tables) (w : Wf t) where
   call-wf (opens d s o p) m = open-wf d s o p m
   call-wf (access d s p) m = access-wf d s p
   call-wf (fork s c) m = fork-wf s c (m (new (subject c)) (inr (inl refl)))
+  call-wf (thread s c) m = thread-wf s c m
   call-wf (exec s o) m = exec-wf s o
   call-wf (close s p) m = less-wf (less-close t s p) w
   call-wf (exit s) m = exit-wf s

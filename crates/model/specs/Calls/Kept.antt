@@ -19,12 +19,13 @@ use Rattle.model.specs.Steps.Laws.{put-cases, sink-cases, place-same, pl
 use Rattle.model.specs.Invariant.{Wf, Piped, Kept}
 use Rattle.model.specs.Invariant.Laws.{pot-safe, row-below, less-quits, empty-wf, wf-reap, empty-pot, needs-pot, less-numbers, less-wf, less-pot}
 use Rattle.model.specs.Invariant.Laws.{empty-scaled, empty-frozen, scaled-without}
-use Rattle.model.specs.Calls.{Call, admit, register, create, make-pipe, opens, access, fork, exec, close, exit, retire, maps, mark, freeze, connect, unknown, Raw, decode}
+use Rattle.model.specs.Calls.{Call, admit, register, create, make-pipe, opens, access, fork, thread, exec, close, exit, retire, maps, mark, freeze, connect, unknown, Raw, decode}
 use Rattle.model.specs.Calls.{target, sheds, channel, steps, stepped, effect, next, after, apart, refusal}
 use Rattle.model.specs.Calls.Refusals.{allowed-iff}
 use Rattle.model.specs.Calls.Passed.{is-new, is-facing, Passed, sheds-less}
 use Rattle.model.specs.Calls.Moving.{rereads-keep}
 use Rattle.model.specs.Calls.Mapped.{empty-mapped, mapped-reap, call-mapped}
+use Rattle.model.specs.Calls.Groups.{empty-even, even-reap, call-even}
 use Rattle.model.specs.Calls.Dangling.{pipe-wf, connect-wf, call-wf}
 use Rattle.model.specs.Calls.Scale.{call-scaled, call-frozen}
 use Rattle.model.specs.Calls.Sound.{kept-sound, stepped-pot}
@@ -160,6 +161,7 @@ module _ (t : Tables) (v : Piped t) where
   call-pipes w (opens d s o p) m = same-pipes (apply (hold s p (some (handle d o))) t) (λ o. refl)
   call-pipes w (access d s p) m = access-pipes d s p
   call-pipes w (fork s c) m = old-pipes (applies (steps t (fork s c)) t) (λ o h. h)
+  call-pipes w (thread s c) m = old-pipes (applies (steps t (thread s c)) t) (λ o h. h)
   call-pipes w (exec s o) m = exec-pipes s o
   call-pipes w (close s p) m = same-pipes (apply (hold s p none) t) (λ o. refl)
   call-pipes w (exit s) m = same-pipes (apply (quits (same (subject s))) t) (less-quits t (same (subject s)) (λ o. tt) .objects-stay)
@@ -208,6 +210,7 @@ numbers-kept u n v = record {
     };
   };
   piped = record { joined = λ o h. subst (λ (hs : List Handle). T (open-on hs o)) (handles-by u (with-numbers u n) refl) (v .piped .joined o h) };
+  even = record { one-level = v .even .one-level };
 }
 
 pub effect-kept : (t : Tables) (c : Call) → Kept t → refusal t c ≡ none → Kept (effect t c)
@@ -220,6 +223,7 @@ effect-kept t c v q = let m = allowed-iff t c .0 q in let u = applies (steps t c
       scaled = scaled-without (λ x. ended (handles t) (handles u) x (u .at x)) u (call-scaled t (v .scaled) c m);
       frozen = record { bounded = call-frozen t (v .frozen) c m .bounded };
       mapped = mapped-reap (handles t) u w (call-mapped t (v .wf) (v .mapped) c m);
+      even = even-reap (handles t) u (call-even t (v .wf) (v .even) c m);
     })
 
 pub next-kept : (t : Tables) (c : Call) → Kept t → Kept (next t c)
@@ -238,13 +242,14 @@ empty-kept = record {
   scaled = empty-scaled;
   frozen = empty-frozen;
   mapped = empty-mapped;
+  even = empty-even;
 }
 
 pub after-kept : (t : Tables) (rs : List Raw) → Kept t → Kept (after t rs)
 after-kept t [] v = v
 after-kept t (r ∷ rs) v = after-kept (next t (decode r)) rs (next-kept t (decode r) v)
 
--- RULES F8, T25, T26, T27, T34, T38: after every list of calls from empty tables no level is below its need, no handle dangles, a pipe has a handle,
--- levels are 0 to 15, the freeze is 0 to 16, and who has a file mapped is not above it.
+-- RULES F8, T25, T26, T27, T34, T38, T45, T48: after every list of calls from empty tables no level is below its need, no handle dangles, a pipe has a handle,
+-- levels are 0 to 15, the freeze is 0 to 16, who has a file mapped is not above it, and each live subject is in one group, whose members have one level.
 pub always-kept : (rs : List Raw) → Kept (after empty rs)
 always-kept rs = after-kept empty rs empty-kept

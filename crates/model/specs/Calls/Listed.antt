@@ -13,7 +13,7 @@ use Rattle.model.specs.Lists.Rising.{Rising, rising-same, inserts-new, i
 use Rattle.model.specs.Flow.{Thing, subject, object, same}
 use Rattle.model.specs.Flow.Laws.{same→eq, object-same}
 use Rattle.model.specs.Tables.{writing, Entry, Tables, empty, with-numbers, is-some, used, whole, handles}
-use Rattle.model.specs.Steps.{Step, enter, leave, hold, holds, mix, quits, freezes, put, fall, apply, applies, ended, reap}
+use Rattle.model.specs.Steps.{Step, enter, leave, hold, holds, mix, quits, binds, freezes, put, fall, apply, applies, ended, reap}
 use Rattle.model.specs.Figures.Laws.{Makes}
 use Rattle.model.specs.Calls.Moving.{reread-of}
 use Rattle.model.specs.Calls.{Call, access, target, rereads, made-by, made, steps, stepped, effect, Shown, level-at, given, lowers, said, Raw, decode, refusal, next, after}
@@ -66,6 +66,7 @@ made-or (quits g ∷ ks) t n h = elim (made-or ks (apply (quits g) t) n h) [ inl
     go : (b : Bool) → T (is-some (cond b none (t .at (object n)))) → T (is-some (t .at (object n)))
     go true i = absurd i
     go false i = i
+made-or (binds c s ∷ ks) t n h = made-or ks (apply (binds c s) t) n h
 made-or (freezes k ∷ ks) t n h = made-or ks (apply (freezes k) t) n h
 
 -- what stands once pipes have ended stood before
@@ -87,6 +88,7 @@ made-makes (hold s p v ∷ ks) i h = let r = made-makes ks i h in (r .0, inr (r 
 made-makes (holds s v ∷ ks) i h = let r = made-makes ks i h in (r .0, inr (r .1), r .2)
 made-makes (mix m a b y x ∷ ks) i h = let r = made-makes ks i h in (r .0, inr (r .1), r .2)
 made-makes (quits g ∷ ks) i h = let r = made-makes ks i h in (r .0, inr (r .1), r .2)
+made-makes (binds c s ∷ ks) i h = let r = made-makes ks i h in (r .0, inr (r .1), r .2)
 made-makes (freezes f ∷ ks) i h = let r = made-makes ks i h in (r .0, inr (r .1), r .2)
 
 pub writes-none : (t : Tables) (s p i : ℕ) → In i (made (steps t (access writing s p))) → ⊥

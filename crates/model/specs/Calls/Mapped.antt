@@ -8,18 +8,17 @@ use mathlib.Core.List.{List, [], _∷_}
 use Prim.Native.Nat.{ℕ}
 use lib.Dec.{T, T-not, not-T, eqb, eqb→eq}
 use Rattle.model.specs.Bools.{cond-yes, cond-no}
-use Rattle.model.specs.Label.{label, _⊑_, meet}
+use Rattle.model.specs.Label.{Label, label, _⊑_, meet}
 use Rattle.model.specs.Label.Laws.{⊑-refl, ⊑-trans, meet-right, meet-glb, bot-least}
 use Rattle.model.specs.Flow.{Thing, subject, object, same}
 use Rattle.model.specs.Tables.{Kind, running, file, pipe, Dir, reading, writing, Entry, entry, Handle, handle, mapping, with-mark, Tables, empty, with-hand}
 use Rattle.model.specs.Tables.{label-of, is-file, a-file, is-pipe, cell, whole, handles, open-on}
-use Rattle.model.specs.Tables.Laws.{cell-self, cell-same, whole-self, whole-alone, cell-entry, object-entry, open-here}
-use Rattle.model.specs.Steps.{Origin, outside, blank, copied, Access, reads, writes, runs, enter, hold, holds, mix, place, fall, apply, applies}
-use Rattle.model.specs.Steps.{falls, sunk, sink, without, ended, reap}
+use Rattle.model.specs.Tables.Laws.{cell-self, cell-same, whole-self, cell-entry, object-entry, open-here, whole-object, whole-cases, whole-by}
+use Rattle.model.specs.Steps.{Origin, outside, blank, copied, Access, reads, writes, runs, enter, hold, holds, mix, place, fall, apply, applies, falls, sunk, sink, without, ended, reap, binds}
 use Rattle.model.specs.Steps.Laws.{put-same, put-apart, sink-by, row-cases, place-cases, applies-append, ended-open, ended-subject, fall-label, file-keeps}
-use Rattle.model.specs.Invariant.{Wf, Maps, Mapped}
+use Rattle.model.specs.Invariant.{Wf, Maps, Mapped, Even}
 use Rattle.model.specs.Invariant.Laws.{row-below, Less, less-close, less-quits, less-freeze, wf-enter}
-use Rattle.model.specs.Calls.{Call, admit, register, create, make-pipe, opens, access, fork, exec, close, exit, retire, maps, mark, freeze, connect, unknown}
+use Rattle.model.specs.Calls.{Call, admit, register, create, make-pipe, opens, access, fork, thread, exec, close, exit, retire, maps, mark, freeze, connect, unknown}
 use Rattle.model.specs.Calls.{target, moves, followed, marking, sheds, steps, effect, alive, present, new, unlike, taken, no-pipe, idle, broken, lowers}
 use Rattle.model.specs.Calls.Moving.{rereads-keep, lowers-none}
 use Rattle.model.specs.Calls.Passed.{is-alive, is-present, is-new, is-taken, Passed, sheds-less}
@@ -84,6 +83,13 @@ less-mapped {t} {u} l v = record {
     under : {o : Option Entry} (v : Option Entry) → ((e : Entry) → v ≡ some e → o ≡ some e) → label-of v ⊑ label-of o
     under none f = bot-least
     under {o} (some e) f = subst (λ (z : Option Entry). e .label ⊑ label-of z) (sym (f e refl)) ⊑-refl
+
+-- one joins another's group
+mapped-binds : (t : Tables) (c s : ℕ) → Mapped t → Mapped (apply (binds c s) t)
+mapped-binds t c s v = record { each = λ z p k q m. maps-from t u z z k k (v .each z p k q m) refl refl (stays-under t u z (cell-stays t u z refl)) refl }
+  where
+    u : Tables
+    u = apply (binds c s) t
 
 -- ── fewer things, same handles ──
 mapped-without : (gone : Thing → Bool) (t : Tables) → Mapped t →
@@ -232,7 +238,7 @@ module _ (t : Tables) (w : Wf t) (v : Mapped t) where
         for-reading = refl;
         on-file = subst (λ (e : Option Entry). T (a-file (object o) e)) (sym (sink-file u′ (cell t s) (object o) (object o) is-a-file)) is-a-file;
         under = subst₂ (λ (a b : Option Entry). label-of a ⊑ label-of b)
-            (sym (ap (u .at) (cell-same u t s) ∙ cond-yes (whole u′ (cell t s) (cell t s)) (fall (cell t s) (t .at (cell t s)) (t .at (object o))) (t .at (cell t s)) (whole-self u′ (cell t s))))
+            (sym (ap (u .at) (cell-same u t s) ∙ cond-yes (whole u′ (cell t s) (cell t s)) (fall (cell t s) (t .at (cell t s)) (t .at (object o))) (t .at (cell t s)) (whole-self u′ (cell t s) (w .teams .itself))))
             (sym (sink-file u′ (cell t s) (object o) (object o) is-a-file)) fell-to;
       }
 
@@ -251,6 +257,8 @@ module _ (t : Tables) (w : Wf t) (v : Mapped t) where
   call-mapped (opens d s o p) m = mapped-hold t s p (handle d o) tt v
   call-mapped (access d s p) m = access-mapped d (subject s) (cell t s) (target (t .hand s p))
   call-mapped (fork s c) m = fork-mapped s c (m (new (subject c)) (inr (inl refl)))
+  call-mapped (thread s c) m = mapped-binds (apply (enter (subject c) (entry running (label-of (t .at (cell t s)))) (copied (cell t s))) t) c s
+      (new-mapped (subject c) (entry running (label-of (t .at (cell t s)))) (copied (cell t s)) (m (new (subject c)) (inr (inl refl))))
   call-mapped (exec s o) m = subst Mapped (sym (applies-append (sheds t s) (mix runs (subject s) (object o) (cell t s) (object o) ∷ []) t))
       (mapped-mix (applies (sheds t s) t) runs (subject s) (object o) (cell t s) (object o) (less-mapped (sheds-less t s) v))
   call-mapped (close s p) m = less-mapped (less-close t s p) v
@@ -293,13 +301,14 @@ module _ (t : Tables) (w : Wf t) (v : Mapped t) where
 -- ── a write to a file lowers nobody ──
 -- what is live in t is live in u, at no smaller label
 record Upheld (t u : Tables) : Type 0 where
+  groups : u .kin ≡ t .kin
   at-least : (y : Thing) (e : Entry) → t .at y ≡ some e → (d : Entry) × (u .at y ≡ some d) × (e .label ⊑ d .label)
 
 -- s takes in x, and has no higher label than x in t
 upheld-mix : (t u : Tables) (s : ℕ) (x : Thing) (c : Entry) → t .at x ≡ some c
     → ((y : Thing) (e : Entry) → T (whole u (cell t s) y) → t .at y ≡ some e → e .label ⊑ c .label) → Upheld t u
     → Upheld t (apply (mix reads (subject s) x (cell t s) x) u)
-upheld-mix t u s x c q l v = record { at-least = λ y e z. go y e z (v .at-least y e z) (whole u (cell t s) y) (λ b. l y e b z) }
+upheld-mix t u s x c q l v = record { groups = v .groups; at-least = λ y e z. go y e z (v .at-least y e z) (whole u (cell t s) y) (λ b. l y e b z) }
   where
     fed : (d : Entry) × (u .at x ≡ some d) × (c .label ⊑ d .label)
     fed = v .at-least x c q
@@ -318,10 +327,10 @@ upheld-mix t u s x c q l v = record { at-least = λ y e z. go y e z (v .at-least
     )
 
 -- RULES C104, T38: where every mapping is as it is from empty tables, a write to a file makes no level smaller
-pub write-lowers-none : (t : Tables) → Wf t → Mapped t → (s p o : ℕ) → target (t .hand s p) ≡ object o → T (a-file (object o) (t .at (object o)))
+pub write-lowers-none : (t : Tables) → Wf t → Mapped t → Even t → (s p o : ℕ) → target (t .hand s p) ≡ object o → T (a-file (object o) (t .at (object o)))
     → lowers t (effect t (access writing s p)) ≡ false
 unfolding effect
-write-lowers-none t w v s p o i f = lowers-none t (effect t (access writing s p)) (λ y e d q z. let (c, r, l) = all .at-least y e q in
+write-lowers-none t w v g s p o i f = lowers-none t (effect t (access writing s p)) (λ y e d q z. let (c, r, l) = all .at-least y e q in
     subst (λ (k : Entry). e .label ⊑ k .label) (Option·some-injective c d (sym r ∙ left (ended (handles t) (handles u) y (u .at y)) y d z)) l)
   where
     x : Thing
@@ -338,16 +347,23 @@ write-lowers-none t w v s p o i f = lowers-none t (effect t (access writing s p)
     is-x = subst (λ (y : Thing). T (a-file y (t .at y))) (sym i) f
 
     written : Upheld t (apply (mix writes x (subject s) x (cell t s)) t)
-    written = record { at-least = λ y e q. (e, stays y ∙ q, ⊑-refl) }
+    written = record { groups = refl; at-least = λ y e q. (e, stays y ∙ q, ⊑-refl) }
       where
         stays : (y : Thing) → sink t x (t .at (cell t s)) y ≡ t .at y
         stays y = sink-by (λ z o. o ≡ t .at z) t x (t .at (cell t s)) y refl
-            (λ b. file-keeps y (t .at y) (t .at (cell t s)) (subst (λ (z : Thing). T (a-file z (t .at z))) (whole-alone t x y b) is-x))
+            (λ b. file-keeps y (t .at y) (t .at (cell t s)) (subst (λ (z : Thing). T (a-file z (t .at z))) (i ∙ whole-object t o y (subst (λ (z : Thing). T (whole t z y)) i b)) is-x))
+
+    -- who takes in with m has its level
+    level-whole : (m : ℕ) (y : Thing) → T (whole t (cell t m) y) → label-of (t .at (cell t m)) ≡ label-of (t .at y)
+    level-whole m y h = elim (whole-cases t (cell t m) y h) [
+      | inl q ↦ ap (λ (z : Thing). label-of (t .at z)) q
+      | inr r ↦ subst₂ (λ (v z : Thing). label-of (t .at v) ≡ label-of (t .at z)) (r .2) (r .3) (g .one-level (r .0) (r .1) (r .4))
+    ]
 
     all : Upheld t u
     all = rereads-keep (Upheld t) t x (λ m h a b. (let k = h .handle in let z = w .ends m (h .place) k (h .held) in
         let c = object-entry t (k .to) (z .to) in
         upheld-mix t a m x (c .0) (ap (t .at) (sym (h .on)) ∙ c .1)
-        (λ y e i z. subst (λ (o : Option Entry). label-of o ⊑ c .0 .label) (ap (t .at) (whole-alone a (cell t m) y i) ∙ z)
+        (λ y e j z. subst (λ (l : Label). l ⊑ c .0 .label) (level-whole m y (subst T (whole-by a t (b .groups) (cell t m) y) j) ∙ ap label-of z)
         (subst (λ (e : Option Entry). label-of (t .at (cell t m)) ⊑ label-of e) (c .1) (v .each m (h .place) k (h .held) (h .maps) .under))) b))
         (apply (mix writes x (subject s) x (cell t s)) t) written

@@ -6,10 +6,7 @@ use mathlib.Core.Logic.{_⊎_, inl, inr}
 use mathlib.Core.Option.{Option, none, some, Option·some-injective}
 use mathlib.Core.List.{List, []}
 use Prim.Native.Nat.{ℕ, zero, suc, _<_}
-use native.Mathlib.Omega.{arith}
-use native.Mathlib.Decide.{ℕ-discrete, decLt}
-use borrow.Author.Tests.{lt-ltb, le-ltb, eq-eqb, ne-eqb}
-use lib.Dec.{T, T-not, not-T, eqb, ltb}
+use lib.Dec.{T, T-not, not-T}
 use Rattle.model.specs.Bools.{test, both-of, not-not, is-true, is-false}
 use Rattle.model.specs.Lists.{In, each, keep}
 use Rattle.model.specs.Lists.Laws.{each-in, keep-cases, any-of, any-at}
@@ -81,56 +78,8 @@ took t o zero y = false
 took t o (suc n) y = took t o n y || (has-mapped t (object o) n && whole t (cell t n) y)
 
 -- the entries once the subjects below n that have object o mapped have read it
-abbrev pub reread-all : Tables → ℕ → ℕ → Thing → Option Entry
-reread-all t o n y = cond (took t o n y) (fall y (t .at y) (t .at (object o))) (t .at y)
-
--- in this version each subject for itself
 abbrev pub reread-by : Tables → ℕ → ℕ → Thing → Option Entry
-reread-by t o n (subject s) = cond (ltb s n && has-mapped t (object o) s) (fall (subject s) (t .at (subject s)) (t .at (object o))) (t .at (subject s))
-reread-by t o n (object k) = t .at (object k)
-
-and-none : (a : Bool) → (a && false) ≡ false
-and-none true = refl
-and-none false = refl
-
-or-none : (a : Bool) → (a || false) ≡ a
-or-none true = refl
-or-none false = refl
-
-below-next : (s n : ℕ) → (s ≡ n → ⊥) → ltb s n ≡ ltb s (suc n)
-below-next s n ne = go (decLt s n)
-  where
-    go : Dec (s < n) → ltb s n ≡ ltb s (suc n)
-    go (yes l) = rw (lt-ltb s n l, lt-ltb s (suc n) (omega arith))
-    go (no h) = rw (le-ltb s n (omega arith), le-ltb s (suc n) (omega (arith, ne)))
-
-whole-step : (t : Tables) (n s : ℕ) → whole t (cell t n) (subject s) ≡ eqb n s
-unfolding whole cell
-whole-step t n s = refl
-
-whole-no-object : (t : Tables) (n k : ℕ) → whole t (cell t n) (object k) ≡ false
-unfolding whole cell
-whole-no-object t n k = refl
-
-took-subject : (t : Tables) (o n s : ℕ) → took t o n (subject s) ≡ (ltb s n && has-mapped t (object o) s)
-took-subject t o zero s = rw (le-ltb s 0 (omega arith)) refl
-took-subject t o (suc n) s = ap₂ (λ (a b : Bool). a || (has-mapped t (object o) n && b)) (took-subject t o n s) (whole-step t n s) ∙ go (ℕ-discrete n s)
-  where
-    go : Dec (n ≡ s) → ((ltb s n && has-mapped t (object o) s) || (has-mapped t (object o) n && eqb n s)) ≡ (ltb s (suc n) && has-mapped t (object o) s)
-    go (yes e) = rw (← e, eq-eqb n n refl, le-ltb n n (omega arith), lt-ltb n (suc n) (omega arith)) (and-true (has-mapped t (object o) n))
-      where
-        and-true : (a : Bool) → (a && true) ≡ a
-        and-true true = refl
-        and-true false = refl
-    go (no ne) = rw (ne-eqb n s ne, and-none (has-mapped t (object o) n), or-none (ltb s n && has-mapped t (object o) s)) (ap (λ (b : Bool). b && has-mapped t (object o) s) (below-next s n (λ e. ne (sym e))))
-
-took-object : (t : Tables) (o n k : ℕ) → took t o n (object k) ≡ false
-took-object t o zero k = refl
-took-object t o (suc n) k = ap₂ (λ (a b : Bool). a || (has-mapped t (object o) n && b)) (took-object t o n k) (whole-no-object t n k) ∙ and-none (has-mapped t (object o) n)
-
-reread-is : (t : Tables) (o n : ℕ) (y : Thing) → reread-all t o n y ≡ reread-by t o n y
-reread-is t o n (subject s) = ap (λ (b : Bool). cond b (fall (subject s) (t .at (subject s)) (t .at (object o))) (t .at (subject s))) (took-subject t o n s)
-reread-is t o n (object k) = ap (λ (b : Bool). cond b (fall (object k) (t .at (object k)) (t .at (object o))) (t .at (object k))) (took-object t o n k)
+reread-by t o n y = cond (took t o n y) (fall y (t .at y) (t .at (object o))) (t .at y)
 
 pub rereads-none : (t : Tables) (x : Thing) → T (not (a-file x (t .at x))) → rereads t x ≡ []
 unfolding rereads
@@ -140,7 +89,7 @@ rereads-none t x n = ap (λ (b : Bool). elim b as (λ _. List Step) [ true ↦ e
 pub rereads-file : (t : Tables) (o : ℕ) → T (a-file (object o) (t .at (object o))) → applies (rereads t (object o)) t ≡ with-at t (reread-by t o subjects)
 unfolding rereads
 rereads-file t o f = ap (λ (b : Bool). applies (elim b as (λ _. List Step) [ true ↦ each subjects at | false ↦ [] ]) t)
-    (is-true (a-file (object o) (t .at (object o))) f) ∙ all subjects ∙ ap (with-at t) (fun-ext (reread-is t o subjects))
+    (is-true (a-file (object o) (t .at (object o))) f) ∙ all subjects
   where
     at : ℕ → List Step
     at s = keep (has-mapped t (object o) s) (mix reads (subject s) (object o) (cell t s) (object o)) []
@@ -148,18 +97,22 @@ rereads-file t o f = ap (λ (b : Bool). applies (elim b as (λ _. List Step) [ t
     d : Option Entry
     d = t .at (object o)
 
+    or-none : (a : Bool) → (a || false) ≡ a
+    or-none true = refl
+    or-none false = refl
+
     -- the file stays as it is
-    file-there : (n : ℕ) → reread-all t o n (object o) ≡ d
+    file-there : (n : ℕ) → reread-by t o n (object o) ≡ d
     file-there n = go (took t o n (object o))
       where
         go : (b : Bool) → cond b (fall (object o) (t .at (object o)) d) (t .at (object o)) ≡ d
         go true = file-keeps (object o) d d f
         go false = refl
 
-    reads-too : (n : ℕ) (y : Thing) → cond (whole (with-at t (reread-all t o n)) (cell t n) y) (fall y (reread-all t o n y) (reread-all t o n (object o))) (reread-all t o n y)
+    reads-too : (n : ℕ) (y : Thing) → cond (whole (with-at t (reread-by t o n)) (cell t n) y) (fall y (reread-by t o n y) (reread-by t o n (object o))) (reread-by t o n y)
         ≡ cond (took t o n y || whole t (cell t n) y) (fall y (t .at y) d) (t .at y)
-    reads-too n y = ap₂ (λ (b : Bool) (e : Option Entry). cond b (fall y (reread-all t o n y) e) (reread-all t o n y))
-        (whole-at t (reread-all t o n) (cell t n) y) (file-there n) ∙ go (took t o n y) (whole t (cell t n) y)
+    reads-too n y = ap₂ (λ (b : Bool) (e : Option Entry). cond b (fall y (reread-by t o n y) e) (reread-by t o n y))
+        (whole-at t (reread-by t o n) (cell t n) y) (file-there n) ∙ go (took t o n y) (whole t (cell t n) y)
       where
         go : (a b : Bool) → cond b (fall y (cond a (fall y (t .at y) d) (t .at y)) d) (cond a (fall y (t .at y) d) (t .at y)) ≡ cond (a || b) (fall y (t .at y) d) (t .at y)
         go true true = fall-twice y (t .at y) d
@@ -168,12 +121,12 @@ rereads-file t o f = ap (λ (b : Bool). applies (elim b as (λ _. List Step) [ t
         go false false = refl
 
     next : (n : ℕ) (b : Bool) → has-mapped t (object o) n ≡ b
-        → applies (keep b (mix reads (subject n) (object o) (cell t n) (object o)) []) (with-at t (reread-all t o n)) ≡ with-at t (reread-all t o (suc n))
+        → applies (keep b (mix reads (subject n) (object o) (cell t n) (object o)) []) (with-at t (reread-by t o n)) ≡ with-at t (reread-by t o (suc n))
     next n false h = ap (with-at t) (fun-ext (λ y. ap (λ (b : Bool). cond b (fall y (t .at y) d) (t .at y))
         (sym (or-none (took t o n y)) ∙ ap (λ (b : Bool). took t o n y || (b && whole t (cell t n) y)) (sym h))))
     next n true h = ap (with-at t) (fun-ext (λ y. reads-too n y ∙ ap (λ (b : Bool). cond (took t o n y || (b && whole t (cell t n) y)) (fall y (t .at y) d) (t .at y)) (sym h)))
 
-    all : (n : ℕ) → applies (each n at) t ≡ with-at t (reread-all t o n)
+    all : (n : ℕ) → applies (each n at) t ≡ with-at t (reread-by t o n)
     all zero = refl
     all (suc n) = applies-append (each n at) (at n) t ∙ ap (applies (at n)) (all n) ∙ next n (has-mapped t (object o) n) refl
 

@@ -1,18 +1,18 @@
 -- What the passed tests of an allowed call give, and what is live once a thing has entered or an exec has dropped what it drops. Assumes nothing.
-use mathlib.Core.Path.{_≡_, refl, sym, subst}
-use mathlib.Core.Bool.{Bool, true, false, not, cond}
+use mathlib.Core.Path.{_≡_, refl, sym, _∙_, subst}
+use mathlib.Core.Bool.{Bool, true, false, not, _&&_, cond}
 use mathlib.Core.Logic.{inl, inr}
 use mathlib.Core.Option.{Option, none, some, Option·none-ne-some}
 use Prim.Native.Nat.{ℕ, _<_}
-use lib.Dec.{T, ltb, ltb→lt}
-use Rattle.model.specs.Bools.{neither, both, not-not}
+use lib.Dec.{T, eqb, eqb-refl, ltb, ltb→lt}
+use Rattle.model.specs.Bools.{neither, both, not-not, cond-no}
 use Rattle.model.specs.Lists.{In}
 use Rattle.model.specs.Flow.{Thing, subject, object, same}
-use Rattle.model.specs.Tables.{Dir, reading, writing, Entry, Handle, Tables, places, in-range, is-some, used, live}
+use Rattle.model.specs.Tables.{Dir, reading, writing, Entry, Handle, Tables, places, in-range, is-some, used, live, mates}
 use Rattle.model.specs.Tables.Laws.{some-of, used-is}
-use Rattle.model.specs.Steps.{Origin, enter, put, row, apply, applies}
+use Rattle.model.specs.Steps.{Origin, enter, quits, put, row, apply, applies}
 use Rattle.model.specs.Steps.Laws.{put-same, row-cases, live-at}
-use Rattle.model.specs.Invariant.Laws.{Less, less-hand}
+use Rattle.model.specs.Invariant.Laws.{Less, less-hand, less-quits, less-trans}
 use Rattle.model.specs.Calls.{Call, ends-at-exec, lasting, sheds, Test, alive, present, new, vacant, taken, facing, faces, turned, broken, tests}
 
 -- ── what a passed test gives ──
@@ -81,10 +81,21 @@ lasting-was (some j) k q = go (ends-at-exec j) q
     go true z = absurd (Option·none-ne-some k z)
     go false z = z
 
+-- nobody is another member beside itself
+pub not-own-mate : (t : Tables) (s : ℕ) → T (not (mates t s (subject s)))
+not-own-mate t s = go (eqb s s) (eqb-refl s)
+  where
+    go : (b : Bool) → T b → T (not (not b && t .kin s s))
+    go true h = tt
+    go false h = absurd h
+
 pub sheds-less : (t : Tables) (s : ℕ) → Less t (applies (sheds t s) t)
 unfolding sheds
-sheds-less t s = less-hand t (row (t .hand) s (λ p. lasting (t .hand s p))) (λ s′ p k q. elim
-    (row-cases (t .hand) s (λ p. lasting (t .hand s p)) s′ p (some k) q) [
-      | inl c ↦ subst (λ (z : ℕ). t .hand z p ≡ some k) (c .0) (lasting-was (t .hand s p) k (c .1))
+sheds-less t s = less-trans (less-quits t (mates t s) (λ o. tt)) (less-hand u (row (u .hand) s (λ p. lasting (t .hand s p))) (λ s′ p k q. elim
+    (row-cases (u .hand) s (λ p. lasting (t .hand s p)) s′ p (some k) q) [
+      | inl c ↦ subst (λ (z : ℕ). u .hand z p ≡ some k) (c .0) (cond-no (mates t s (subject s)) none (t .hand s p) (not-own-mate t s) ∙ lasting-was (t .hand s p) k (c .1))
       | inr c ↦ c .1
-    ])
+    ]))
+  where
+    u : Tables
+    u = apply (quits (mates t s)) t

@@ -10,11 +10,11 @@ use lib.Dec.{T, eqb, eqb→eq, eqb-refl, ltb}
 use Rattle.model.specs.Lists.{each, keep, any}
 use Rattle.model.specs.Label.{Label, leq, join, bot}
 use Rattle.model.specs.Flow.{Thing, subject, object, same, Edge, has, targets, others, grow, spread, reached, joins, need}
-use Rattle.model.specs.Tables.{Kind, running, file, pipe, Dir, reading, writing, Entry, entry, Handle, Tables, with-at, with-hand, with-numbers, subjects, objects, places, is-some, used, label-of, is-file, cell, whole, named, live-objects, live-subjects, things, one, handles-of, handles, open-on, arc, speaks, flows-of, edges, demand, needs, safe}
+use Rattle.model.specs.Tables.{Kind, running, file, pipe, Dir, reading, writing, Entry, entry, Handle, Tables, with-at, with-hand, with-numbers, with-kin, subjects, objects, places, is-some, used, label-of, is-file, cell, whole, mates, share, shares-of, named, live-objects, live-subjects, things, one, handles-of, handles, open-on, arc, speaks, flows-of, edges, demand, needs, safe}
 use Rattle.model.specs.Label.{level}
 use Rattle.model.specs.Tables.{in-range, live, a-file, is-pipe, counted, clean}
-use Rattle.model.specs.Calls.{Call, admit, register, create, make-pipe, opens, maps, access, connect, fork, exec, close, mark, exit, retire, freeze, unknown, target, has-mapped, rereads, marking, ends-at-exec, lasting, sheds, steps, effect, Test, known, alive, present, no-pipe, leveled, freezable, new, vacant, taken, apart, unlike, others as differ, facing, enough, suits, idle, thawed, roomy, number, turned, frozen, shut, broken, tests, order, breaks, first, refusal, Shown, level-at, given, shown, Answer, refused, smaller, lowers, last-label, outcome, said, answer}
-use Rattle.model.specs.Steps.{Origin, outside, blank, copied, reads, writes, runs, Step, enter, leave, hold, holds, mix, quits, freezes, put, without, fall, apply, applies, ended, reap}
+use Rattle.model.specs.Calls.{Call, admit, register, create, make-pipe, opens, maps, access, connect, fork, thread, exec, close, mark, exit, retire, freeze, unknown, target, has-mapped, rereads, marking, ends-at-exec, lasting, sheds, steps, effect, Test, known, alive, present, no-pipe, leveled, freezable, new, vacant, taken, apart, unlike, others as differ, facing, enough, suits, idle, thawed, roomy, number, turned, frozen, shut, broken, tests, order, breaks, first, refusal, Shown, level-at, given, shown, Answer, refused, smaller, lowers, last-label, outcome, said, answer}
+use Rattle.model.specs.Steps.{Origin, outside, blank, copied, reads, writes, runs, Step, enter, leave, hold, holds, mix, quits, binds, parted, freezes, put, without, fall, apply, applies, ended, reap}
 
 -- ── tests that come to the same ──
 pub alike : (a b : Bool) → (T a → T b) → (T b → T a) → a ≡ b
@@ -128,7 +128,7 @@ module _ (ρ σ : ℕ → ℕ) (v : Renumbers ρ σ) (l : List ℕ) where
   held (some k) = some (joined k)
 
   abbrev pub ren : Tables → Tables
-  ren t = record { at = λ y. t .at (un y); hand = λ s p. held (t .hand s p); freeze = t .freeze; numbers = l }
+  ren t = record { at = λ y. t .at (un y); hand = λ s p. held (t .hand s p); freeze = t .freeze; numbers = l; kin = t .kin }
 
   pub at-there : (t : Tables) (x : Thing) → ren t .at (thing x) ≡ t .at x
   at-there t x = ap (t .at) (un-thing x)
@@ -147,8 +147,12 @@ module _ (ρ σ : ℕ → ℕ) (v : Renumbers ρ σ) (l : List ℕ) where
 
   edges-ren : (t : Tables) → edges (ren t) ≡ map edge (edges t)
   unfolding edges speaks cell
-  edges-ren t = map-each edge subjects (λ s. each places (λ p. flows-of (speaks t s) (t .hand s p))) (λ s. each places (λ p. flows-of (speaks (ren t) s) (held (t .hand s p))))
-      (λ s. map-each edge places (λ p. flows-of (some (subject s)) (t .hand s p)) (λ p. flows-of (some (subject s)) (held (t .hand s p))) (λ p. go s (t .hand s p)))
+  edges-ren t = ap₂ _++_
+      (map-each edge subjects (λ s. each places (λ p. flows-of (speaks t s) (t .hand s p))) (λ s. each places (λ p. flows-of (speaks (ren t) s) (held (t .hand s p))))
+      (λ s. map-each edge places (λ p. flows-of (some (subject s)) (t .hand s p)) (λ p. flows-of (some (subject s)) (held (t .hand s p))) (λ p. go s (t .hand s p))))
+      (map-each edge subjects (shares-of t) (shares-of (ren t)) (λ a. map-each edge subjects (λ b. keep (mates t a (subject b)) (share a b) [])
+      (λ b. keep (mates t a (subject b)) (share a b) []) (λ b. map-keep edge (mates t a (subject b)) (share a b) [])))
+      ∙ map-append edge (each subjects (λ s. each places (λ p. flows-of (speaks t s) (t .hand s p)))) (each subjects (shares-of t))
     where
       arcs : (s : ℕ) (k : Handle) (d : Dir) → arc d (subject s) (object (ρ (k .to))) ≡ edge (arc d (subject s) (object (k .to)))
       arcs s k reading = refl
@@ -216,6 +220,7 @@ module _ (ρ σ : ℕ → ℕ) (v : Renumbers ρ σ) (l : List ℕ) where
   step (holds s r) = holds s (λ p. held (r p))
   step (mix m a b y x) = mix m (thing a) (thing b) (thing y) (thing x)
   step (quits g) = quits (λ y. g (un y))
+  step (binds c s) = binds c s
   step (freezes n) = freezes n
 
   put-ren : (t : Tables) (x : Thing) (o : Option Entry) → _≡_ {A = Thing → Option Entry} (λ y. put (ren t .at) (thing x) o y) (λ y. put (t .at) x o (un y))
@@ -249,7 +254,9 @@ module _ (ρ σ : ℕ → ℕ) (v : Renumbers ρ σ) (l : List ℕ) where
 
   whole-ren : (t : Tables) (x y : Thing) → whole (ren t) (thing x) y ≡ whole t x (un y)
   unfolding whole
-  whole-ren t x y = same-un x y
+  whole-ren t (subject a) (subject b) = refl
+  whole-ren t (subject a) (object b) = refl
+  whole-ren t (object a) y = same-un (object a) y
 
   apply-ren : (k : Step) (t : Tables) → apply (step k) (ren t) ≡ ren (apply k t)
   apply-ren (enter x e g) t = ap (with-at (ren t)) (put-ren t x (some e))
@@ -260,8 +267,9 @@ module _ (ρ σ : ℕ → ℕ) (v : Renumbers ρ σ) (l : List ℕ) where
   apply-ren (mix m a b y x) t = ap (with-at (ren t)) (fun-ext (λ z.
       ap₂ (λ (b : Bool) (o : Option Entry). cond b o (t .at (un z))) (whole-ren t y z)
       (ap (fall z (t .at (un z))) (at-there t x) ∙ fall-un z (t .at (un z)) (t .at x))))
-  apply-ren (quits g) t = ap (λ (h : ℕ → ℕ → Option Handle). without (λ y. g (un y)) (with-hand (ren t) h))
+  apply-ren (quits g) t = ap (λ (h : ℕ → ℕ → Option Handle). with-kin (without (λ y. g (un y)) (with-hand (ren t) h)) (parted g (t .kin)))
       (fun-ext (λ s. fun-ext (λ p. cond-held (g (subject s)) none (t .hand s p))))
+  apply-ren (binds c s) t = refl
   apply-ren (freezes n) t = refl
 
   pub applies-ren : (ks : List Step) (t : Tables) → applies (map step ks) (ren t) ≡ ren (applies ks t)
@@ -298,6 +306,7 @@ module _ (ρ σ : ℕ → ℕ) (v : Renumbers ρ σ) (l : List ℕ) where
   call (maps s o p) = maps s (ρ o) p
   call (access d s p) = access d s p
   call (connect s u a b p q) = connect s u (ρ a) (ρ b) p q
+  call (thread s c) = thread s c
   call (fork s c) = fork s c
   call (exec s o) = exec s (ρ o)
   call (close s p) = close s p
@@ -351,9 +360,13 @@ module _ (ρ σ : ℕ → ℕ) (v : Renumbers ρ σ) (l : List ℕ) where
   lasting-ren none = refl
   lasting-ren (some k) = cond-held (ends-at-exec k) none (some k)
 
+  mates-ren : (t : Tables) (s : ℕ) (y : Thing) → mates (ren t) s y ≡ mates t s (un y)
+  mates-ren t s (subject m) = refl
+  mates-ren t s (object o) = refl
+
   sheds-ren : (t : Tables) (s : ℕ) → sheds (ren t) s ≡ map step (sheds t s)
   unfolding sheds
-  sheds-ren t s = ap (λ (r : ℕ → Option Handle). holds s r ∷ []) (fun-ext (λ p. lasting-ren (t .hand s p)))
+  sheds-ren t s = ap₂ (λ (g : Thing → Bool) (r : ℕ → Option Handle). quits g ∷ holds s r ∷ []) (fun-ext (mates-ren t s)) (fun-ext (λ p. lasting-ren (t .hand s p)))
 
   pub steps-ren : (t : Tables) (c : Call) → steps (ren t) (call c) ≡ map step (steps t c)
   unfolding cell
@@ -368,6 +381,7 @@ module _ (ρ σ : ℕ → ℕ) (v : Renumbers ρ σ) (l : List ℕ) where
       ∙ ap (λ (l : List Step). mix writes (thing (target (t .hand s p))) (subject s) (thing (target (t .hand s p))) (subject s) ∷ l) (rereads-ren t (target (t .hand s p)))
   steps-ren t (connect s u a b p q) = refl
   steps-ren t (fork s c) = refl
+  steps-ren t (thread s c) = refl
   steps-ren t (exec s o) = ap (λ (l : List Step). l ++ (mix runs (subject s) (object (ρ o)) (subject s) (object (ρ o)) ∷ [])) (sheds-ren t s)
       ∙ map-append step (sheds t s) (mix runs (subject s) (object o) (subject s) (object o) ∷ [])
   steps-ren t (close s p) = refl
@@ -421,6 +435,7 @@ module _ (ρ σ : ℕ → ℕ) (v : Renumbers ρ σ) (l : List ℕ) where
   tests-ren (access d s p) = refl
   tests-ren (connect s u a b p q) = refl
   tests-ren (fork s c) = refl
+  tests-ren (thread s c) = refl
   tests-ren (exec s o) = refl
   tests-ren (close s p) = refl
   tests-ren (mark s p) = refl
@@ -534,6 +549,7 @@ module _ (ρ σ : ℕ → ℕ) (v : Renumbers ρ σ) (l : List ℕ) where
   shown-ren t (access writing s p) = ap level-at (target-ren (t .hand s p))
   shown-ren t (connect s u a b p q) = refl
   shown-ren t (fork s c) = refl
+  shown-ren t (thread s c) = refl
   shown-ren t (exec s o) = refl
   shown-ren t (close s p) = refl
   shown-ren t (mark s p) = refl

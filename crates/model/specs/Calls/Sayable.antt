@@ -14,7 +14,7 @@ use Rattle.model.specs.Label.Laws.{bot-in-scale, level-in-scale}
 use Rattle.model.specs.Flow.{Thing, subject, object}
 use Rattle.model.specs.Tables.{reading, writing, Entry, Tables, empty, no-freeze, cell}
 use Rattle.model.specs.Invariant.{Kept, topmost, Sayable, All-sayable}
-use Rattle.model.specs.Calls.{Call, admit, register, create, make-pipe, opens, access, fork, exec, close, exit, retire, maps, mark, freeze, connect, unknown, Raw, decode}
+use Rattle.model.specs.Calls.{Call, admit, register, create, make-pipe, opens, access, fork, thread, exec, close, exit, retire, maps, mark, freeze, connect, unknown, Raw, decode}
 use Rattle.model.specs.Calls.{target, effect, next, freezable, refusal, level-at, shown, Answer, refused, lowers, last-label, outcome, said, answer, answers}
 use Rattle.model.specs.Calls.Refusals.{allowed-iff, refused-listed}
 use Rattle.model.specs.Calls.Kept.{effect-kept, next-kept, empty-kept}
@@ -51,6 +51,7 @@ answer-sayable t c v = go (refusal t c) refl
     shows (access reading s p) q = thing (access reading s p) (cell t s) (omega arith) q
     shows (access writing s p) q = thing (access writing s p) (target (t .hand s p)) (omega arith) q
     shows (fork s c) q = thing (fork s c) (subject c) (omega arith) q
+    shows (thread s c) q = thing (thread s c) (subject c) (omega arith) q
     shows (exec s o) q = thing (exec s o) (cell t s) (omega arith) q
     shows (close s p) q = thing (close s p) (cell t s) (omega arith) q
     shows (exit s) q = thing (exit s) (cell t s) (omega arith) q

@@ -15,7 +15,7 @@ use Rattle.model.specs.Steps.{outside, blank, copied, reads, writes, run
 use Rattle.model.specs.Steps.Laws.{applies-append}
 use Rattle.model.specs.Invariant.{Scaled, Frozen}
 use Rattle.model.specs.Invariant.Laws.{scaled-enter, scaled-same, scaled-without, scaled-mix, less-quits, less-scaled}
-use Rattle.model.specs.Calls.{Call, admit, register, create, make-pipe, opens, access, fork, exec, close, exit, retire, maps, mark, freeze, connect, unknown}
+use Rattle.model.specs.Calls.{Call, admit, register, create, make-pipe, opens, access, fork, thread, exec, close, exit, retire, maps, mark, freeze, connect, unknown}
 use Rattle.model.specs.Calls.{target, moves, followed, sheds, steps, leveled, freezable}
 use Rattle.model.specs.Calls.Moving.{rereads-keep}
 use Rattle.model.specs.Calls.Passed.{Passed, sheds-less}
@@ -42,6 +42,8 @@ module _ (t : Tables) (v : Scaled t) where
   call-scaled (opens d s o p) m = scaled-same (λ x. refl) v
   call-scaled (access d s p) m = access-scaled d (subject s) (cell t s) (target (t .hand s p))
   call-scaled (fork s c) m = scaled-same (λ x. refl)
+      (scaled-enter t (subject c) (entry running (label-of (t .at (cell t s)))) (copied (cell t s)) (own-in-scale s) v)
+  call-scaled (thread s c) m = scaled-same (λ x. refl)
       (scaled-enter t (subject c) (entry running (label-of (t .at (cell t s)))) (copied (cell t s)) (own-in-scale s) v)
   call-scaled (exec s o) m = subst Scaled (sym (applies-append (sheds t s) (mix runs (subject s) (object o) (cell t s) (object o) ∷ []) t))
       (scaled-mix (applies (sheds t s) t) runs (subject s) (object o) (cell t s) (object o) (less-scaled (sheds-less t s) v))
@@ -73,6 +75,7 @@ module _ (t : Tables) (v : Frozen t) where
   call-frozen (opens d s o p) m = record { bounded = v .bounded }
   call-frozen (access d s p) m = access-frozen d (subject s) (cell t s) (target (t .hand s p))
   call-frozen (fork s c) m = record { bounded = v .bounded }
+  call-frozen (thread s c) m = record { bounded = v .bounded }
   call-frozen (exec s o) m = exec-frozen s o
   call-frozen (close s p) m = record { bounded = v .bounded }
   call-frozen (exit s) m = record { bounded = v .bounded }

@@ -151,7 +151,7 @@ module _ (live : ℕ → Bool) (N : ℕ → ℕ) where
               ap (λ (n : ℕ). some (record { dir = h .dir; to = n; marked = h .marked; mapped = h .mapped })) (sym (z (h .to) (r .0) (r .1)))
 
       pub by-number-is : by-number live N t k l ≡ ren ρ σ v l t
-      by-number-is = λ i. record { at = fun-ext at-is i; hand = fun-ext (λ s. fun-ext (hand-is s)) i; freeze = t .freeze; numbers = l }
+      by-number-is = λ i. record { at = fun-ext at-is i; hand = fun-ext (λ s. fun-ext (hand-is s)) i; freeze = t .freeze; numbers = l; kin = t .kin }
 
 -- ── one more slot, which is to have the number x ──
 module _ (ρ σ : ℕ → ℕ) (v : Renumbers ρ σ) (i x : ℕ) where

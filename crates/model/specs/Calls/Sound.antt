@@ -24,8 +24,8 @@ use Rattle.model.specs.Steps.Laws.{row-cases, place-same, applies-append
 use Rattle.model.specs.Invariant.{Wf, Safe, Mapped, Kept}
 use Rattle.model.specs.Invariant.Laws.{Pot, pot-safe, needs-pot, Less, less-close, less-quits, less-freeze, less-numbers, less-wf, less-pot, Feeds, flow-feeds}
 use Rattle.model.specs.Invariant.Laws.{wf-mix}
-use Rattle.model.specs.Invariant.Laws.{but-other, pot-enter, pot-hand, pot-hold, pot-without, pot-reap, pot-mix}
-use Rattle.model.specs.Calls.{Call, admit, register, create, make-pipe, opens, access, fork, exec, close, exit, retire, maps, mark, freeze, connect, unknown}
+use Rattle.model.specs.Invariant.Laws.{but-other, pot-enter, pot-hand, pot-hold, pot-without, pot-reap, pot-mix, pot-binds}
+use Rattle.model.specs.Calls.{Call, admit, register, create, make-pipe, opens, access, fork, thread, exec, close, exit, retire, maps, mark, freeze, connect, unknown}
 use Rattle.model.specs.Calls.{target, marking, sheds, channel, steps, stepped, effect, Test, alive, present, new, taken, facing, enough, suits, broken, refusal}
 use Rattle.model.specs.Calls.Refusals.{allowed-iff}
 use Rattle.model.specs.Calls.Passed.{is-alive, is-present, is-new, is-taken, is-facing, Passed, sheds-less}
@@ -53,7 +53,7 @@ pub idle-need : (u : Tables) (o : ℕ) (e : Entry) → u .at (object o) ≡ some
 idle-need u o e q n = need-least (edges u) (λ y. demand y (u .at y)) (object o) (e .label) only
   where
     from : (f : Edge) → In f (edges u) → f .src ≡ object o → ⊥
-    from f i z = let r = edge-flow u f i in stuck r (r .k .dir) refl
+    from f i z = elim (edge-flow u f i) [ inl r ↦ stuck r (r .k .dir) refl | inr r ↦ subject-object (r .a) o (ap (λ (v : Edge). v .src) (r .is) ∙ z) ]
       where
         stuck : (r : Flows u f) (d : Dir) → r .k .dir ≡ d → ⊥
         stuck r reading g = T-not (open-on (handles u) o) n (subst (λ (m : ℕ). T (open-on (handles u) m))
@@ -151,6 +151,7 @@ pot-swap t φ s p j k d o i = record {
   falls = λ s′ p′ x l z q. (let r = was (eqb s s′) (eqb p p′) (t .hand s p′) (t .hand s′ p′) l q in
       subst₂ (λ (d : Dir) (n : ℕ). φ (arc d x (object n) .dst) ⊑ φ (arc d x (object n) .src)) (r .2) (r .3)
       (i .falls s′ p′ x (r .0) (speaks-hand t (place (t .hand) s p (some j)) s′ ∙ sym (speaks-hand t (place (t .hand) s p (some k)) s′) ∙ z) (r .1)));
+  shares = i .shares;
 }
   where
     was : (a b : Bool) (f g : Option Handle) (l : Handle) → cond a (cond b (some k) f) g ≡ some l
@@ -300,6 +301,26 @@ module _ (t : Tables) (v : Sound t) where
           | inr r ↦ inl (r .1)
         ]
 
+    thread-safe : (c : ℕ) → T (not (broken t (new (subject c)))) → Safe (applies (steps t (thread s c)) t)
+    unfolding own
+    thread-safe c hc = pot-safe (pot-binds u ψ c s (entered-pot (subject c) running g (n .1) bot-least) alike)
+      where
+        n : T (in-range (subject c)) × (t .at (subject c) ≡ none)
+        n = is-new t (subject c) hc
+
+        g : Origin
+        g = copied (cell t s)
+
+        u : Tables
+        u = apply (enter (subject c) (entry running (label-of (t .at (cell t s)))) g) t
+
+        ψ : Thing → Label
+        ψ = but (needs t) (subject c) (needs t (cell t s))
+
+        alike : ψ (subject c) ≡ ψ (subject s)
+        alike = but-here (needs t) (subject c) (needs t (cell t s)) ∙ sym (but-other t (needs t) (subject c) (needs t (cell t s)) (cell t s) (n .1) own)
+            ∙ ap ψ (cell-self t s)
+
     pipe-safe : (o r w : ℕ) → Passed t (make-pipe s o r w) → Safe (applies (steps t (make-pipe s o r w)) t)
     unfolding own
     pipe-safe o r w m = pot-safe (pot-hold u₁ ψ s w (handle writing o)
@@ -346,6 +367,7 @@ module _ (t : Tables) (v : Sound t) where
   call-safe (opens d s o p) m = open-safe t v d s o p m
   call-safe (access d s p) m = access-safe d s p m
   call-safe (fork s c) m = fork-safe s (m (alive s) (inl refl)) c (m (new (subject c)) (inr (inl refl)))
+  call-safe (thread s c) m = thread-safe s (m (alive s) (inl refl)) c (m (new (subject c)) (inr (inl refl)))
   call-safe (exec s o) m = exec-safe s o (m (present o) (inr (inl refl))) (m (suits s o) (inr (inr (inr (inl refl)))))
   call-safe (close s p) m = less-safe t v (apply (hold s p none) t) (less-close t s p)
   call-safe (exit s) m = exit-safe t v s

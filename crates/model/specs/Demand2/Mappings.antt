@@ -12,9 +12,9 @@ use Rattle.model.specs.Label.{Label, _⊑_}
 use Rattle.model.specs.Label.Laws.{⊑-trans, ⊑-antisym}
 use Rattle.model.specs.Flow.{Thing, subject, object, Edge, Reaches, here}
 use Rattle.model.specs.Flow.Laws.{reaches-in, reaches-snoc, need-upper, need-least}
-use Rattle.model.specs.Tables.{Dir, reading, Entry, Handle, handle, mapping, Tables, is-some, is-pipe, label-of, cell, arc, flow, speaks, edges, demand, needs, safe}
-use Rattle.model.specs.Tables.Laws.{some-of, some-is, speaks-hand, speaks-at, speaks-cell, flow-edge, edge-flow}
-use Rattle.model.specs.Steps.{reads, hold, holds, row, apply, applies}
+use Rattle.model.specs.Tables.{Dir, reading, Entry, Handle, handle, mapping, Tables, is-some, is-pipe, label-of, cell, arc, flow, speaks, edges, demand, needs, safe, mates}
+use Rattle.model.specs.Tables.Laws.{some-of, some-is, speaks-hand, speaks-at, speaks-cell, flow-edge, edge-flow, cell-same}
+use Rattle.model.specs.Steps.{reads, hold, holds, row, apply, applies, quits}
 use Rattle.model.specs.Steps.Laws.{sink-by, fall-some, fall-demand}
 use Rattle.model.specs.Invariant.{Wf}
 use Rattle.model.specs.Invariant.Laws.{Pot, pot-safe, needs-pot, wf-mix, pot-mix}
@@ -24,6 +24,7 @@ use Rattle.model.specs.Calls.Passed.{Passed}
 use Rattle.model.specs.Calls.Mapped.{sink-label}
 use Rattle.model.specs.Calls.Dangling.{placed-wf}
 use Rattle.model.specs.Calls.Sound.{safe-sound, safe-complete, pot-swap, map-feeds}
+use Rattle.model.specs.Calls.Needs.{share-in}
 use Rattle.model.specs.Demand2.{opened}
 
 -- ── a map is refused as the open for reading is ──
@@ -58,17 +59,16 @@ abbrev unmarked : Option Handle → Option Handle
 unmarked none = none
 unmarked (some k) = cond (k .marked) none (some k)
 
--- RULES R110: where the mappings of s are for reading, its need without them is its need with them
-pub mappings-no-matter : (t : Tables) (s : ℕ) → ((p : ℕ) (k : Handle) → t .hand s p ≡ some k → T (k .mapped) → k .dir ≡ reading)
-    → needs (applies (sheds t s) t) (cell t s) ≡ needs (apply (holds s (λ p. unmarked (t .hand s p))) t) (cell t s)
-unfolding sheds
-mappings-no-matter t s v = ⊑-antisym (needs-under u m (cell t s) refl fewer) (needs-under m u (cell t s) refl back)
+-- a row h₀ of s, with its mappings or without them
+shed-either : (t : Tables) (s : ℕ) (h₀ : ℕ → Option Handle) → ((p : ℕ) (k : Handle) → h₀ p ≡ some k → T (k .mapped) → k .dir ≡ reading)
+    → needs (apply (holds s (λ p. lasting (h₀ p))) t) (cell t s) ≡ needs (apply (holds s (λ p. unmarked (h₀ p))) t) (cell t s)
+shed-either t s h₀ v = ⊑-antisym (needs-under u m (cell t s) refl fewer) (needs-under m u (cell t s) refl back)
   where
     u : Tables
-    u = apply (holds s (λ p. lasting (t .hand s p))) t
+    u = apply (holds s (λ p. lasting (h₀ p))) t
 
     m : Tables
-    m = apply (holds s (λ p. unmarked (t .hand s p))) t
+    m = apply (holds s (λ p. unmarked (h₀ p))) t
 
     -- what lasts is not marked
     was : (o : Option Handle) (k : Handle) → lasting o ≡ some k → unmarked o ≡ some k
@@ -91,34 +91,50 @@ mappings-no-matter t s v = ⊑-antisym (needs-under u m (cell t s) refl fewer) (
         go false false e q = inl q
 
     hu : ℕ → ℕ → Option Handle
-    hu = row (t .hand) s (λ p. lasting (t .hand s p))
+    hu = row (t .hand) s (λ p. lasting (h₀ p))
 
     hm : ℕ → ℕ → Option Handle
-    hm = row (t .hand) s (λ p. unmarked (t .hand s p))
+    hm = row (t .hand) s (λ p. unmarked (h₀ p))
 
     fewer : (e : Edge) → In e (edges u) → In e (edges m) ⊎ (e .dst ≡ cell t s)
-    fewer e i = let r = edge-flow u e i in inl (subst (λ (z : Edge). In z (edges m)) (r .is)
-        (flow-edge m (r .s) (r .p) (r .x) (r .k) (r .low-s) (r .low-p) (speaks-hand t hm (r .s) ∙ sym (speaks-hand t hu (r .s)) ∙ r .speaker)
-        (go (eqb s (r .s)) (t .hand (r .s) (r .p)) (t .hand s (r .p)) (r .k) (r .holds))))
+    fewer e i = elim (edge-flow u e i) [
+      | inr r ↦ inl (share-in m refl r)
+      | inl r ↦ inl (subst (λ (z : Edge). In z (edges m)) (r .is)
+          (flow-edge m (r .s) (r .p) (r .x) (r .k) (r .low-s) (r .low-p) (speaks-hand t hm (r .s) ∙ sym (speaks-hand t hu (r .s)) ∙ r .speaker)
+          (go (eqb s (r .s)) (t .hand (r .s) (r .p)) (h₀ (r .p)) (r .k) (r .holds))))
+    ]
       where
         go : (b : Bool) (o h : Option Handle) (k : Handle) → cond b (lasting h) o ≡ some k → cond b (unmarked h) o ≡ some k
         go true o h k q = was h k q
         go false o h k q = q
 
     back : (e : Edge) → In e (edges m) → In e (edges u) ⊎ (e .dst ≡ cell t s)
-    back e i = let r = edge-flow m e i in let z = sym (speaks-hand t hm (r .s)) ∙ r .speaker in
-        go (eqb s (r .s)) (r .s) (eqb→eq s (r .s)) (r .p) (r .x) (r .k) z (r .is)
-        (λ h. flow-edge u (r .s) (r .p) (r .x) (r .k) (r .low-s) (r .low-p) (speaks-hand t hu (r .s) ∙ z) h) (r .holds)
+    back e i = elim (edge-flow m e i) [
+      | inr r ↦ inl (share-in u refl r)
+      | inl r ↦ (let z = sym (speaks-hand t hm (r .s)) ∙ r .speaker in
+          go (eqb s (r .s)) (r .s) (eqb→eq s (r .s)) (r .p) (r .x) (r .k) z (r .is)
+          (λ h. flow-edge u (r .s) (r .p) (r .x) (r .k) (r .low-s) (r .low-p) (speaks-hand t hu (r .s) ∙ z) h) (r .holds))
+    ]
       where
         go : (b : Bool) (s′ : ℕ) → (T b → s ≡ s′) → (p : ℕ) (x : Thing) (k : Handle) → speaks t s′ ≡ some x → flow x k ≡ e
-            → (cond b (lasting (t .hand s p)) (t .hand s′ p) ≡ some k → In (flow x k) (edges u))
-            → cond b (unmarked (t .hand s p)) (t .hand s′ p) ≡ some k → In e (edges u) ⊎ (e .dst ≡ cell t s)
+            → (cond b (lasting (h₀ p)) (t .hand s′ p) ≡ some k → In (flow x k) (edges u))
+            → cond b (unmarked (h₀ p)) (t .hand s′ p) ≡ some k → In e (edges u) ⊎ (e .dst ≡ cell t s)
         go false s′ j p x k z d f q = inl (subst (λ (y : Edge). In y (edges u)) d (f q))
-        go true s′ j p x k z d f q = elim (lasts (t .hand s p) k q) [
+        go true s′ j p x k z d f q = elim (lasts (h₀ p) k q) [
           | inl h ↦ inl (subst (λ (y : Edge). In y (edges u)) d (f h))
           | inr h ↦ inr (sym (ap (λ (y : Edge). y .dst) d) ∙ ap (λ (w : Dir). arc w x (object (k .to)) .dst) (v p k (h .0) (h .1))
               ∙ Option·some-injective x (cell t s) (sym z ∙ sym (ap (speaks t) (j tt)) ∙ speaks-cell t s))
         ]
+
+-- RULES R110: where the mappings of s are for reading, its need without them, the other members of its group gone, is its need with them
+pub mappings-no-matter : (t : Tables) (s : ℕ) → ((p : ℕ) (k : Handle) → t .hand s p ≡ some k → T (k .mapped) → k .dir ≡ reading)
+    → needs (applies (sheds t s) t) (cell t s) ≡ needs (apply (holds s (λ p. unmarked (t .hand s p))) (apply (quits (mates t s)) t)) (cell t s)
+unfolding sheds
+mappings-no-matter t s v = ap (needs (apply (holds s (λ p. lasting (t .hand s p))) u)) (cell-same t u s) ∙ shed-either u s (t .hand s) v
+    ∙ ap (needs (apply (holds s (λ p. unmarked (t .hand s p))) u)) (cell-same u t s)
+  where
+    u : Tables
+    u = apply (quits (mates t s)) t
 
 -- ── a map, before the fall or after it ──
 -- RULES R119: in the tables with the new mapping every level is enough before s falls if and only if it is after
@@ -154,6 +170,7 @@ map-either-way t w s o p f = (to, from)
       low = λ x. subst (λ (l : Label). l ⊑ needs fallen x) (demanded x) (i .low x);
       cap = λ x e q. (let r = there x e q in ⊑-trans (i .cap x (r .0) (r .1)) (r .2));
       falls = λ s′ p′ x k z q. i .falls s′ p′ x k (speaks-at u (fallen .at) s′ ∙ z) q;
+      shares = i .shares;
     }
       where
         demanded : (x : Thing) → demand x (fallen .at x) ≡ demand x (t .at x)

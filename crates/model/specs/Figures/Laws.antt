@@ -16,14 +16,14 @@ use Rattle.model.specs.Flow.Laws.{same→eq, same-refl}
 use Rattle.model.specs.Flow.Changes.{but, need-alone}
 use Rattle.model.specs.Tables.{Dir, reading, writing, Entry, handle, mapping, Tables, empty, places, with-at, in-range, is-some, used, live, label-of, cell, handles, edges, demand, needs}
 use Rattle.model.specs.Tables.Laws.{live-of, used-is}
-use Rattle.model.specs.Steps.{Origin, outside, blank, copied, Step, enter, leave, hold, holds, mix, quits, freezes, put, sink, apply, applies, ended, reap}
+use Rattle.model.specs.Steps.{Origin, outside, blank, copied, reads, Step, enter, leave, hold, holds, mix, quits, freezes, put, sink, apply, applies, ended, reap, binds}
 use Rattle.model.specs.Steps.Laws.{put-same, sink-by, applies-keep, some-fall, live-numbers}
 use Rattle.model.specs.Invariant.{Wf}
-use Rattle.model.specs.Calls.{Call, admit, register, create, make-pipe, access, fork, exec, exit, retire, maps, mark, freeze, target, sheds, steps, effect, alive, new, vacant, apart, idle, tests, refusal}
+use Rattle.model.specs.Calls.{Call, admit, register, create, make-pipe, access, fork, thread, exec, exit, retire, maps, mark, freeze, target, sheds, steps, effect, alive, new, vacant, apart, idle, tests, refusal}
 use Rattle.model.specs.Calls.Refusals.{allowed-iff}
 use Rattle.model.specs.Calls.Passed.{is-alive, is-new, is-place, is-vacant, Passed}
 use Rattle.model.specs.Calls.Moving.{reread-of}
-use Rattle.model.specs.Calls.Needs.{effect-needs, access-needs, freeze-needs, mark-needs, retire-needs, enter-needs, pipe-needs, fork-needs, subject-needs, mapping-needs, maps-open-needs, exec-needs, exit-needs, fresh-none}
+use Rattle.model.specs.Calls.Needs.{effect-needs, access-needs, freeze-needs, mark-needs, retire-needs, enter-needs, pipe-needs, fork-needs, mix-needs, mapping-needs, maps-open-needs, exec-needs, fresh-none, thread-needs, own-need}
 use Rattle.model.specs.Figures.{Ready}
 
 -- ── what is live after a step ──
@@ -35,6 +35,7 @@ Makes (hold s p v) x = ⊥
 Makes (holds s r) x = ⊥
 Makes (mix m a b y z) x = ⊥
 Makes (quits g) x = ⊥
+Makes (binds c s) x = ⊥
 Makes (freezes n) x = ⊥
 
 -- entries that are there were there
@@ -61,6 +62,7 @@ step-lived (holds s r) t x l = inl l
 step-lived (mix m a b y z) t x l = inl (lived-at t (sink t y (t .at z)) x
     (sink-by (λ w o. T (is-some o) → T (is-some (t .at w))) t y (t .at z) x (λ h. h) (λ b. some-fall x (t .at x) (t .at z))) l)
 step-lived (quits g) t x l = inl (lived-at t (λ y. cond (g y) none (t .at y)) x (gone-some (g x) (t .at x)) l)
+step-lived (binds c s) t x l = inl l
 step-lived (freezes n) t x l = inl l
 
 -- and so after steps that make nothing at x
@@ -202,12 +204,29 @@ module _ (t : Tables) (φ : Thing → Label) (w : Wf t) (r : Ready t φ) where
       unlike : p ≡ q → ⊥
       unlike z = T-not (eqb p q) (passed (apart p q) (inr (inr (inr (inr (inl refl)))))) (subst (λ (y : ℕ). T (eqb p y)) z (eqb-refl p))
 
-  pub fork-ready : (s c : ℕ) → refusal t (fork s c) ≡ none → Ready (effect t (fork s c)) (but φ (subject c) (φ (subject s)))
+  pub fork-ready : (s c : ℕ) (v : Label) → v ≡ own-need t s → refusal t (fork s c) ≡ none → Ready (effect t (fork s c)) (but φ (subject c) v)
   unfolding used
-  fork-ready s c e = ready-but (subject c) (φ (subject s)) (needs t (subject s)) (r .need-is (subject s) (low-row (fork s c) s e (inl refl)))
+  fork-ready s c v q e = ready-but (subject c) v (own-need t s) q
       (fork-needs t s c w (ltb→lt c 32 (is-new t (subject c) (allowed-iff t (fork s c) .0 e (new (subject c)) (inr (inl refl))) .0))
       (new-free (fork s c) (subject c) e (inr (inl refl))))
       (λ x l. step-lived (enter (subject c) _ (copied (cell t s))) t x (effect-lived t (fork s c) x l)) r
+
+  -- a new member needs what the group needs
+  pub thread-ready : (s c : ℕ) → refusal t (thread s c) ≡ none → Ready (effect t (thread s c)) (but φ (subject c) (φ (subject s)))
+  unfolding used
+  thread-ready s c e = ready-but (subject c) (φ (subject s)) (needs t (subject s)) (r .need-is (subject s) lives)
+      (thread-needs t s c w (ltb→lt s 32 (live-of t (subject s) lives .0))
+      (ltb→lt c 32 (is-new t (subject c) (allowed-iff t (thread s c) .0 e (new (subject c)) (inr (inl refl))) .0)) free apart′)
+      (λ x l. step-lived (enter (subject c) _ (copied (cell t s))) t x (effect-lived t (thread s c) x l)) r
+    where
+      lives : T (live t (subject s))
+      lives = low-row (thread s c) s e (inl refl)
+
+      free : t .at (subject c) ≡ none
+      free = new-free (thread s c) (subject c) e (inr (inl refl))
+
+      apart′ : s ≡ c → ⊥
+      apart′ q = subst (λ (o : Option Entry). T (is-some o)) (ap (λ (z : ℕ). t .at (subject z)) q ∙ free) (live-of t (subject s) lives .1)
 
 -- ── calls after which figures are right if they were right after the steps ──
 -- what is right after the steps is right once pipes have ended
@@ -218,21 +237,21 @@ effect-ready t c ψ = ready-same (λ x l. (effect-lived t c x l, effect-needs t 
 pub anew-ready : (t : Tables) (c : Call) (ψ : Thing → Label) → ((x : Thing) → T (in-range x) → ψ x ≡ needs (applies (steps t c) t) x) → Ready (effect t c) ψ
 anew-ready t c ψ f = ready-anew (effect t c) (applies (steps t c) t) ψ f (effect-needs t c)
 
--- a mapping's are right if they were with the handle of the open for reading, whatever entry its subject has
-pub mapping-ready : (t : Tables) (s o p : ℕ) (e : Entry) (ψ : Thing → Label) → Wf t → T (live t (subject s)) → p < places → t .hand s p ≡ none
-    → Ready (apply (hold s p (some (handle reading o))) t) ψ → Ready (apply (enter (subject s) e outside) (apply (hold s p (some (mapping o))) t)) ψ
+-- a mapping's are right if they were with the handle of the open for reading, whoever takes the file in
+pub mapping-ready : (t : Tables) (s o p : ℕ) (y : Thing) (ψ : Thing → Label) → Wf t → T (live t (subject s)) → p < places → t .hand s p ≡ none
+    → Ready (apply (hold s p (some (handle reading o))) t) ψ → Ready (apply (mix reads (subject s) (object o) y (object o)) (apply (hold s p (some (mapping o))) t)) ψ
 unfolding used
-mapping-ready t s o p e ψ w l lp n = ready-same {t = apply (hold s p (some (handle reading o))) t} (λ x h. (
-  lives x (step-lived (enter (subject s) e outside) u x h),
-  subject-needs u s (some e) x ∙ mapping-needs t s o p w (ltb→lt s 32 (live-of t (subject s) l .0)) lp n x,
+mapping-ready t s o p y ψ w l lp n = ready-same {t = apply (hold s p (some (handle reading o))) t} (λ x h. (
+  lives x (step-lived (mix reads (subject s) (object o) y (object o)) u x h),
+  mix-needs u reads (subject s) (object o) y (object o) x ∙ mapping-needs t s o p w (ltb→lt s 32 (live-of t (subject s) l .0)) lp n x,
 ))
   where
     u : Tables
     u = apply (hold s p (some (mapping o))) t
 
-    lives : (x : Thing) → T (live t x) ⊎ (subject s ≡ x) → T (live t x)
+    lives : (x : Thing) → T (live t x) ⊎ ⊥ → T (live t x)
     lives x (inl m) = m
-    lives x (inr q) = subst (λ (y : Thing). T (live t y)) q l
+    lives x (inr q) = absurd q
 
 -- a map's are right if they were with the handle of the open for reading
 pub map-ready : (t : Tables) (s o p : ℕ) (ψ : Thing → Label) → Wf t → refusal t (maps s o p) ≡ none
@@ -259,9 +278,6 @@ map-ready t s o p ψ w e = ready-same {t = apply (hold s p (some (handle reading
 pub exec-ready : (t : Tables) (s o : ℕ) (ψ : Thing → Label) → ((x : Thing) → T (in-range x) → ψ x ≡ needs (applies (sheds t s) t) x) → Ready (effect t (exec s o)) ψ
 exec-ready t s o ψ f = ready-anew (effect t (exec s o)) (applies (sheds t s) t) ψ f (exec-needs t s o)
 
--- an exit's once its places are empty
-pub exit-ready : (t : Tables) (s : ℕ) (ψ : Thing → Label) → Wf t → Ready (apply (holds s (λ p. none)) t) ψ → Ready (effect t (exit s)) ψ
-exit-ready t s ψ w = ready-same (λ x l. (lived x (effect-lived t (exit s) x l), exit-needs t s w x))
-  where
-    lived : (x : Thing) → T (live (applies (steps t (exit s)) t) x) → T (live (apply (holds s (λ p. none)) t) x)
-    lived x l = elim (step-lived (leave (subject s)) (apply (holds s (λ p. none)) t) x l) [ inl m ↦ m | inr m ↦ absurd m ]
+-- an exit's once the subject is gone
+pub exit-ready : (t : Tables) (s : ℕ) (ψ : Thing → Label) → Ready (apply (quits (same (subject s))) t) ψ → Ready (effect t (exit s)) ψ
+exit-ready t s ψ = effect-ready t (exit s) ψ

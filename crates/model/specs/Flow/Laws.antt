@@ -142,12 +142,12 @@ reached-is es x y = (
     start z (inr b) = absurd b
 
 -- ── need ──
-joins-upper : (f : Thing → Label) (l : List Thing) (x : Thing) → In x l → f x ⊑ joins f l
+pub joins-upper : (f : Thing → Label) (l : List Thing) (x : Thing) → In x l → f x ⊑ joins f l
 joins-upper f [] x h = absurd h
 joins-upper f (y ∷ l) x (inl e) = subst (λ (z : Thing). f z ⊑ joins f (y ∷ l)) e (join-left (f y) (joins f l))
 joins-upper f (y ∷ l) x (inr h) = ⊑-trans (joins-upper f l x h) (join-right (f y) (joins f l))
 
-joins-least : (f : Thing → Label) (l : List Thing) (v : Label) → ((x : Thing) → In x l → f x ⊑ v) → joins f l ⊑ v
+pub joins-least : (f : Thing → Label) (l : List Thing) (v : Label) → ((x : Thing) → In x l → f x ⊑ v) → joins f l ⊑ v
 joins-least f [] v h = bot-least
 joins-least f (y ∷ l) v h = join-lub (h y (inl refl)) (joins-least f l v (λ x i. h x (inr i)))
 

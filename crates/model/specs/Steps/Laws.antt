@@ -13,8 +13,8 @@ use Rattle.model.specs.Label.{Label, _⊑_, meet, bot}
 use Rattle.model.specs.Label.Laws.{⊑-refl, meet-left, meet-right, meet-glb, meet-stays}
 use Rattle.model.specs.Flow.{Thing, subject, object, same}
 use Rattle.model.specs.Flow.Laws.{same→eq, same-refl}
-use Rattle.model.specs.Tables.{Kind, running, file, pipe, Entry, entry, Handle, Tables, with-at, with-hand, with-freeze, in-range, is-some, used, live, label-of, is-file, a-file, is-pipe, whole, handles, open-on, demand, with-numbers}
-use Rattle.model.specs.Tables.Laws.{used-is, live-of, whole-same, whole-alone}
+use Rattle.model.specs.Tables.{Kind, running, file, pipe, Entry, entry, Handle, Tables, with-at, with-hand, with-freeze, in-range, is-some, used, live, label-of, is-file, a-file, is-pipe, whole, handles, open-on, demand, with-numbers, with-kin}
+use Rattle.model.specs.Tables.Laws.{used-is, live-of}
 use Rattle.model.specs.Steps.{Step, put, row, place, falls, sunk, fall, sink, apply, applies, ended, reap}
 
 -- ── put, row, place ──
@@ -40,14 +40,13 @@ sink-by P t x d y p f = go (whole t x y) f
     go false g = p
 
 -- where x takes in for itself alone, its entry alone is another
-pub sink-one : (t : Tables) (x : Thing) (d : Option Entry) → sink t x d ≡ put (t .at) x (fall x (t .at x) d)
-sink-one t x d = fun-ext (λ y. go y (test (same x y)))
+pub sink-one : (t : Tables) (x : Thing) (d : Option Entry) → T (whole t x x) → ((y : Thing) → T (whole t x y) → x ≡ y) → sink t x d ≡ put (t .at) x (fall x (t .at x) d)
+sink-one t x d w f = fun-ext (λ y. go y (test (same x y)))
   where
     go : (y : Thing) → T (same x y) ⊎ T (not (same x y)) → sink t x d y ≡ put (t .at) x (fall x (t .at x) d) y
-    go y (inl s) = cond-yes (whole t x y) (fall y (t .at y) d) (t .at y) (whole-same t x y s) ∙ ap (λ (z : Thing). fall z (t .at z) d) (sym (same→eq x y s))
-        ∙ sym (cond-yes (same x y) (fall x (t .at x) d) (t .at y) s)
-    go y (inr n) = cond-no (whole t x y) (fall y (t .at y) d) (t .at y)
-        (not-T (whole t x y) (λ w. T-not (same x y) n (subst (λ (z : Thing). T (same x z)) (whole-alone t x y w) (same-refl x))))
+    go y (inl s) = cond-yes (whole t x y) (fall y (t .at y) d) (t .at y) (subst (λ (z : Thing). T (whole t x z)) (same→eq x y s) w)
+        ∙ ap (λ (z : Thing). fall z (t .at z) d) (sym (same→eq x y s)) ∙ sym (cond-yes (same x y) (fall x (t .at x) d) (t .at y) s)
+    go y (inr n) = cond-no (whole t x y) (fall y (t .at y) d) (t .at y) (not-T (whole t x y) (λ v. T-not (same x y) n (subst (λ (z : Thing). T (same x z)) (f y v) (same-refl x))))
         ∙ sym (cond-no (same x y) (fall x (t .at x) d) (t .at y) n)
 
 pub row-cases : (h : ℕ → ℕ → Option Handle) (s : ℕ) (r : ℕ → Option Handle) (s′ p : ℕ) (k : Option Handle) → row h s r s′ p ≡ k
@@ -90,6 +89,10 @@ live-freeze t f x l = let r = live-of t x l in both (in-range x) (used (with-fre
 
 pub live-numbers : (t : Tables) (n : List ℕ) (x : Thing) → live (with-numbers t n) x ≡ live t x
 live-numbers t n x = ap (λ (b : Bool). in-range x && b) (used-is (with-numbers t n) x ∙ sym (used-is t x))
+
+pub live-kin : (t : Tables) (k : ℕ → ℕ → Bool) (x : Thing) → T (live t x) → T (live (with-kin t k) x)
+live-kin t k x l = let r = live-of t x l in both (in-range x) (used (with-kin t k) x) (r .0)
+    (subst T (used-is t x ∙ sym (used-is (with-kin t k) x)) (r .1))
 
 -- entries that stay where they were leave live what was live
 pub live-at : (t : Tables) (a : Thing → Option Entry) (x : Thing) → (T (is-some (t .at x)) → T (is-some (a x))) → T (live t x) → T (live (with-at t a) x)

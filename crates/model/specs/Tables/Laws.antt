@@ -12,9 +12,9 @@ use Rattle.model.specs.Lists.{In, each, keep, any}
 use Rattle.model.specs.Lists.Laws.{in-left, in-right, in-cases, in-each, each-in, keep-here, keep-cases, any-of, any-at}
 use Rattle.model.specs.Label.{leq, _⊑_, bot}
 use Rattle.model.specs.Label.Laws.{⊑-refl, bot-least}
-use Rattle.model.specs.Flow.{Thing, subject, object, same, Edge}
-use Rattle.model.specs.Flow.Laws.{same→eq, same-refl}
-use Rattle.model.specs.Tables.{Entry, Handle, Tables, with-at, with-hand, with-freeze, subjects, places, in-range, is-some, used, live, label-of, is-file, cell, whole, live-objects, live-subjects, things, one, handles-of, handles, open-on, flow, speaks, flows-of, edges, demand, needs, safe, with-numbers, named}
+use Rattle.model.specs.Flow.{Thing, subject, object, Edge}
+use Rattle.model.specs.Flow.Laws.{same→eq}
+use Rattle.model.specs.Tables.{Entry, Handle, Tables, with-at, with-hand, with-freeze, subjects, places, in-range, is-some, used, live, label-of, is-file, cell, whole, live-objects, live-subjects, things, one, handles-of, handles, open-on, flow, speaks, flows-of, edges, demand, needs, safe, with-numbers, named, with-kin, mates, share, shares-of}
 
 -- ── is-some, live ──
 pub some-of : {A : Type 0} (o : Option A) → T (is-some o) → (a : A) × (o ≡ some a)
@@ -53,6 +53,10 @@ pub edges-numbers : (t : Tables) (l : List ℕ) → edges (with-numbers t l) ≡
 unfolding cell speaks edges
 edges-numbers t l = refl
 
+pub speaks-kin : (t : Tables) (k : ℕ → ℕ → Bool) (s : ℕ) → speaks (with-kin t k) s ≡ speaks t s
+unfolding cell speaks
+speaks-kin t k s = refl
+
 -- who speaks, speaks as its cell; in this version everybody does, and the cell is the subject itself
 pub speaks-cell : (t : Tables) (s : ℕ) → speaks t s ≡ some (cell t s)
 unfolding speaks
@@ -65,27 +69,56 @@ cell-self t s = refl
 pub cell-same : (t u : Tables) (s : ℕ) → cell t s ≡ cell u s
 cell-same t u s = cell-self t s ∙ sym (cell-self u s)
 
--- ── whole: it goes by the entries and handles of no thing; in this version nobody takes in with another ──
+-- ── whole: it goes by the entries and handles of no thing; the group of a subject ──
 pub whole-at : (t : Tables) (a : Thing → Option Entry) (x y : Thing) → whole (with-at t a) x y ≡ whole t x y
 unfolding whole
-whole-at t a x y = refl
+whole-at t a (subject n) (subject m) = refl
+whole-at t a (subject n) (object m) = refl
+whole-at t a (object n) y = refl
 
-pub whole-self : (t : Tables) (x : Thing) → T (whole t x x)
+pub whole-self : (t : Tables) (x : Thing) → ((a : ℕ) → T (t .kin a a)) → T (whole t x x)
 unfolding whole
-whole-self t x = same-refl x
+whole-self t (subject n) r = r n
+whole-self t (object n) r = eqb-refl n
 
-pub whole-alone : (t : Tables) (x y : Thing) → T (whole t x y) → x ≡ y
+-- an object stands for itself
+pub whole-object : (t : Tables) (o : ℕ) (y : Thing) → T (whole t (object o) y) → object o ≡ y
 unfolding whole
-whole-alone t x y h = same→eq x y h
+whole-object t o y h = same→eq (object o) y h
 
-pub whole-same : (t : Tables) (x y : Thing) → T (same x y) → T (whole t x y)
+-- a member of the group, or the thing itself
+pub whole-cases : (t : Tables) (x y : Thing) → T (whole t x y) → (x ≡ y) ⊎ ((a : ℕ) × (b : ℕ) × (subject a ≡ x) × (subject b ≡ y) × T (t .kin a b))
 unfolding whole
-whole-same t x y h = h
+whole-cases t (subject a) (subject b) h = inr (a, b, refl, refl, h)
+whole-cases t (subject a) (object b) h = absurd h
+whole-cases t (object a) y h = inl (same→eq (object a) y h)
+
+-- it goes by the groups alone
+pub whole-by : (t u : Tables) → t .kin ≡ u .kin → (x y : Thing) → whole t x y ≡ whole u x y
+unfolding whole
+whole-by t u q (subject a) (subject b) = ap (λ (k : ℕ → ℕ → Bool). k a b) q
+whole-by t u q (subject a) (object b) = refl
+whole-by t u q (object a) y = refl
+
+pub whole-kin : (t : Tables) (a b : ℕ) → whole t (subject a) (subject b) ≡ t .kin a b
+unfolding whole
+whole-kin t a b = refl
+
+pub whole-no-object : (t : Tables) (a o : ℕ) → whole t (subject a) (object o) ≡ false
+unfolding whole
+whole-no-object t a o = refl
+
+pub whole-apart : (t : Tables) (o b : ℕ) → whole t (object o) (subject b) ≡ false
+unfolding whole
+whole-apart t o b = refl
 
 -- a live subject's cell and a live object have an entry
 pub cell-entry : (t : Tables) (s : ℕ) → T (live t (subject s)) → (e : Entry) × (t .at (cell t s) ≡ some e)
 cell-entry t s h = subst (λ (x : Thing). (e : Entry) × (t .at x ≡ some e)) (sym (cell-self t s))
     (some-of (t .at (subject s)) (subst T (used-is t (subject s)) (live-of t (subject s) h .1)))
+
+pub step-entry : (t : Tables) (s : ℕ) → T (live t (subject s)) → (e : Entry) × (t .at (subject s) ≡ some e)
+step-entry t s h = some-of (t .at (subject s)) (subst T (used-is t (subject s)) (live-of t (subject s) h .1))
 
 pub object-entry : (t : Tables) (o : ℕ) → T (live t (object o)) → (e : Entry) × (t .at (object o) ≡ some e)
 object-entry t o h = some-of (t .at (object o)) (subst T (used-is t (object o)) (live-of t (object o) h .1))
@@ -122,15 +155,25 @@ pub handles-at : (t : Tables) (a : Thing → Option Entry) → handles (with-at 
 handles-at t a = handles-by (with-at t a) t refl
 
 -- ── edges ──
+abbrev handle-edges : Tables → List Edge
+handle-edges t = each subjects (λ s. each places (λ p. flows-of (speaks t s) (t .hand s p)))
+
 pub flow-edge : (t : Tables) (s p : ℕ) (x : Thing) (k : Handle) → s < subjects → p < places → speaks t s ≡ some x → t .hand s p ≡ some k
     → In (flow x k) (edges t)
 unfolding edges
-flow-edge t s p x k ls lp z q = in-each subjects (λ s. each places (λ p. flows-of (speaks t s) (t .hand s p))) (flow x k) s ls
+flow-edge t s p x k ls lp z q = in-left (flow x k) (handle-edges t) (each subjects (shares-of t))
+    (in-each subjects (λ s. each places (λ p. flows-of (speaks t s) (t .hand s p))) (flow x k) s ls
     (in-each places (λ p. flows-of (speaks t s) (t .hand s p)) (flow x k) p lp
     (subst (λ (v : Option Thing). In (flow x k) (flows-of v (t .hand s p))) (sym z)
-    (subst (λ (v : Option Handle). In (flow x k) (flows-of (some x) v)) (sym q) (inl refl))))
+    (subst (λ (v : Option Handle). In (flow x k) (flows-of (some x) v)) (sym q) (inl refl)))))
 
--- an edge is the flow of a handle
+pub share-edge : (t : Tables) (a b : ℕ) → a < subjects → b < subjects → T (mates t a (subject b)) → In (share a b) (edges t)
+unfolding edges
+share-edge t a b la lb h = in-right (share a b) (handle-edges t) (each subjects (shares-of t))
+    (in-each subjects (shares-of t) (share a b) a la (in-each subjects (λ c. keep (mates t a (subject c)) (share a c) []) (share a b) b lb
+    (keep-here (mates t a (subject b)) (share a b) [] h)))
+
+-- an edge is the flow of a handle, or one between members of a group
 pub record Flows (t : Tables) (e : Edge) : Type 0 where
   pub s : ℕ
   pub p : ℕ
@@ -142,17 +185,34 @@ pub record Flows (t : Tables) (e : Edge) : Type 0 where
   pub holds : t .hand s p ≡ some k
   pub is : flow x k ≡ e
 
-pub edge-flow : (t : Tables) (e : Edge) → In e (edges t) → Flows t e
+pub record Shares (t : Tables) (e : Edge) : Type 0 where
+  pub a : ℕ
+  pub b : ℕ
+  pub low-a : a < subjects
+  pub low-b : b < subjects
+  pub linked : T (mates t a (subject b))
+  pub is : share a b ≡ e
+
+pub edge-flow : (t : Tables) (e : Edge) → In e (edges t) → Flows t e ⊎ Shares t e
 unfolding edges
-edge-flow t e i = let r = each-in subjects (λ s. each places (λ p. flows-of (speaks t s) (t .hand s p))) e i in
-    let q = each-in places (λ p. flows-of (speaks t (r .0)) (t .hand (r .0) p)) e (r .2) in
-    at-place (r .0) (q .0) (r .1) (q .1) (speaks t (r .0)) (t .hand (r .0) (q .0)) refl refl (q .2)
+edge-flow t e i = elim (in-cases e (handle-edges t) (each subjects (shares-of t)) i) [
+  | inl j ↦ (let r = each-in subjects (λ s. each places (λ p. flows-of (speaks t s) (t .hand s p))) e j in
+      let q = each-in places (λ p. flows-of (speaks t (r .0)) (t .hand (r .0) p)) e (r .2) in
+      inl (at-place (r .0) (q .0) (r .1) (q .1) (speaks t (r .0)) (t .hand (r .0) (q .0)) refl refl (q .2)))
+  | inr j ↦ (let r = each-in subjects (shares-of t) e j in
+      let q = each-in subjects (λ c. keep (mates t (r .0) (subject c)) (share (r .0) c) []) e (r .2) in
+      inr (between (r .0) (q .0) (r .1) (q .1) (keep-cases (mates t (r .0) (subject (q .0))) (share (r .0) (q .0)) [] e (q .2))))
+]
   where
     at-place : (s p : ℕ) → s < subjects → p < places → (v : Option Thing) (o : Option Handle) → speaks t s ≡ v → t .hand s p ≡ o → In e (flows-of v o) → Flows t e
     at-place s p a b none o z q j = absurd j
     at-place s p a b (some x) none z q j = absurd j
     at-place s p a b (some x) (some k) z q (inl f) = record { s = s; p = p; x = x; k = k; low-s = a; low-p = b; speaker = z; holds = q; is = f }
     at-place s p a b (some x) (some k) z q (inr f) = absurd f
+
+    between : (a b : ℕ) → a < subjects → b < subjects → (T (mates t a (subject b)) × (share a b ≡ e)) ⊎ In e [] → Shares t e
+    between a b la lb (inl c) = record { a = a; b = b; low-a = la; low-b = lb; linked = c .0; is = c .1 }
+    between a b la lb (inr c) = absurd c
 
 -- ── things ──
 -- a thing that the list has where it is live: a subject in range, an object on which a handle is

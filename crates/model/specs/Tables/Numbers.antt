@@ -39,4 +39,4 @@ module _ (live : ℕ → Bool) (N : ℕ → ℕ) where
 
   -- RULES T39, T40: tables by slot t, of k slots, read by number, l being the list of the numbers
   abbrev pub by-number : Tables → ℕ → List ℕ → Tables
-  by-number t k l = record { at = entries (t .at) k; hand = λ s p. holding (t .hand s p); freeze = t .freeze; numbers = l }
+  by-number t k l = record { at = entries (t .at) k; hand = λ s p. holding (t .hand s p); freeze = t .freeze; numbers = l; kin = t .kin }

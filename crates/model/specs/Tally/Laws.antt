@@ -13,21 +13,20 @@ use lib.ListN.{length, length-append}
 use lib.Dec.{T, T-not, not-T, eqb, eqb→eq, eqb-refl, ltb, ltb→lt, lit<}
 use Rattle.model.specs.Bools.{test, neither, not-not, cond-yes, cond-no, is-true, is-false}
 use Rattle.model.specs.Lists.{In, each}
-use Rattle.model.specs.Flow.{Thing, subject, object}
-use Rattle.model.specs.Tables.{running, pipe, Dir, reading, writing, Entry, entry, Handle, handle, mapping, Tables, empty, with-at, subjects, places, is-some, label-of, cell, one, handles-of, handles}
+use Rattle.model.specs.Flow.{Thing, subject, object, same}
+use Rattle.model.specs.Tables.{running, pipe, Dir, reading, writing, Entry, entry, Handle, handle, mapping, Tables, empty, with-at, subjects, places, is-some, label-of, cell, mates, one, handles-of, handles}
 use Rattle.model.specs.Tables.Laws.{some-of, live-of, used-is, handles-by, handles-at}
-use Rattle.model.specs.Steps.{blank, copied, writes, runs, enter, leave, hold, holds, mix, freezes, put, apply, applies, reap}
+use Rattle.model.specs.Steps.{blank, copied, writes, runs, enter, quits, hold, holds, mix, freezes, put, apply, applies, reap}
 use Rattle.model.specs.Steps.Laws.{place-other, place-apart, applies-append}
 use Rattle.model.specs.Invariant.{Wf}
 use Rattle.model.specs.Invariant.Laws.{empty-wf}
-use Rattle.model.specs.Calls.{Call, admit, register, create, make-pipe, opens, access, fork, exec, close, exit, retire, maps, mark, freeze, connect, unknown, Raw, decode, target, moves, followed, marking, ends-at-exec, lasting, sheds, channel, steps, effect, Test, alive, new, vacant, taken, apart, others, broken, tests, refusal, next, after}
+use Rattle.model.specs.Calls.{Call, admit, register, create, make-pipe, opens, access, fork, thread, exec, close, exit, retire, maps, mark, freeze, connect, unknown, Raw, decode, target, moves, followed, marking, ends-at-exec, lasting, sheds, channel, steps, effect, Test, alive, new, vacant, taken, apart, others, broken, tests, refusal, next, after}
 use Rattle.model.specs.Calls.Refusals.{allowed-iff}
-use Rattle.model.specs.Calls.Passed.{is-alive, is-new, is-place}
+use Rattle.model.specs.Calls.Passed.{is-alive, is-new, is-place, not-own-mate}
 use Rattle.model.specs.Calls.Moving.{rereads-keep}
 use Rattle.model.specs.Calls.Dangling.{next-wf}
-use Rattle.model.specs.Calls.Renaming.{Renumbers, joined, ren}
-use Rattle.model.specs.Calls.Renaming.{held as renamed}
-use Rattle.model.specs.Tally.{held, dropped, drops, makes, removes, wrapped, Tally, zeroed, tallied, tally, difference}
+use Rattle.model.specs.Calls.Renaming.{Renumbers, joined, ren, held as renamed}
+use Rattle.model.specs.Tally.{held, dropped, drops, makes, removes, wrapped, Tally, zeroed, tallied, tally, difference, ousted}
 
 -- ── lengths of lists made for the numbers below a bound ──
 module _ {A : Type 0} where
@@ -117,10 +116,42 @@ each-parts (suc n) h = let a = each-parts n h in let b = parts (h n) in omega (
         go true = refl
         go false = refl
 
+pub each-none : (n : ℕ) (f : ℕ → List Handle) → ((j : ℕ) → length (f j) ≡ 0) → length (each n f) ≡ 0
+each-none zero f h = refl
+each-none (suc n) f h = let a : length (each n f) ≡ 0 = each-none n f h in let b : length (f n) ≡ 0 = h n in omega (arith, length-append (each n f) (f n))
+
+-- subjects end
+count-quits : (t : Tables) (g : Thing → Bool) → count (apply (quits g) t) + length (each subjects (λ m. cond (g (subject m)) (handles-of t m) [])) ≡ count t
+unfolding handles
+count-quits t g = all subjects
+  where
+    u : Tables
+    u = apply (quits g) t
+
+    one-by : (m : ℕ) (b : Bool) → length (each places (λ p. one (cond b none (t .hand m p)))) + length (cond b (handles-of t m) []) ≡ length (handles-of t m)
+    one-by m true = let a : length (each places (λ p. one {A = Handle} none)) ≡ 0 = each-none places (λ p. one none) (λ j. refl) in omega arith
+    one-by m false = omega arith
+
+    all : (n : ℕ) → length (each n (handles-of u)) + length (each n (λ m. cond (g (subject m)) (handles-of t m) [])) ≡ length (each n (handles-of t))
+    all zero = refl
+    all (suc n) = let a = all n in let b : length (handles-of u n) + length (cond (g (subject n)) (handles-of t n) []) ≡ length (handles-of t n) = one-by n (g (subject n)) in
+        omega (
+          arith,
+          length-append (each n (handles-of u)) (handles-of u n),
+          length-append (each n (λ m. cond (g (subject m)) (handles-of t m) [])) (cond (g (subject n)) (handles-of t n) []),
+          length-append (each n (handles-of t)) (handles-of t n),
+        )
+
 -- what an exec drops
-count-sheds : (t : Tables) (s : ℕ) → s < subjects → count (applies (sheds t s) t) + drops t s ≡ count t
+count-sheds : (t : Tables) (s : ℕ) → s < subjects → count (applies (sheds t s) t) + (drops t s + ousted t s) ≡ count t
 unfolding sheds
-count-sheds t s l = omega (arith, count-row t s (λ p. lasting (t .hand s p)) l, each-parts places (t .hand s))
+count-sheds t s l = omega (arith, count-row u s (λ p. lasting (t .hand s p)) l, each-parts places (t .hand s), own, count-quits t (mates t s))
+  where
+    u : Tables
+    u = apply (quits (mates t s)) t
+
+    own : held u s ≡ held t s
+    own = ap (λ (b : Bool). length (each places (λ p. one (cond b none (t .hand s p))))) (is-false (mates t s (subject s)) (not-own-mate t s))
 
 marking-one : (o : Option Handle) → length (one (marking o)) ≡ length (one o)
 marking-one none = refl
@@ -136,10 +167,6 @@ empty-place t s p h = none-of (t .hand s p) (neither (not (ltb p places)) (is-so
 
 row-of : (t : Tables) (s : ℕ) → T (not (broken t (alive s))) → s < subjects
 row-of t s h = ltb→lt s subjects (live-of t (subject s) (is-alive t s h) .0)
-
-pub each-none : (n : ℕ) (f : ℕ → List Handle) → ((j : ℕ) → length (f j) ≡ 0) → length (each n f) ≡ 0
-each-none zero f h = refl
-each-none (suc n) f h = let a : length (each n f) ≡ 0 = each-none n f h in let b : length (f n) ≡ 0 = h n in omega (arith, length-append (each n f) (f n))
 
 -- a number not in use holds nothing
 holds-none : (t : Tables) → Wf t → (c : ℕ) → t .at (subject c) ≡ none → held t c ≡ 0
@@ -247,9 +274,9 @@ module _ (t : Tables) (v : Wf t) where
       u : Tables
       u = apply (enter (subject c) e (copied (cell t s))) t
 
-  exec-count : (s o : ℕ) → T (not (broken t (alive s))) → count (applies (steps t (exec s o)) t) + drops t s ≡ count t + 0
-  exec-count s o h = ap (λ (u : Tables). count u + drops t s) (applies-append (sheds t s) (mix runs (subject s) (object o) (cell t s) (object o) ∷ []) t)
-      ∙ ap (λ (k : ℕ). k + drops t s) (count-at (applies (sheds t s) t) _) ∙ omega (arith, count-sheds t s (row-of t s h))
+  exec-count : (s o : ℕ) → T (not (broken t (alive s))) → count (applies (steps t (exec s o)) t) + (drops t s + ousted t s) ≡ count t + 0
+  exec-count s o h = ap (λ (u : Tables). count u + (drops t s + ousted t s)) (applies-append (sheds t s) (mix runs (subject s) (object o) (cell t s) (object o) ∷ []) t)
+      ∙ ap (λ (k : ℕ). k + (drops t s + ousted t s)) (count-at (applies (sheds t s) t) _) ∙ omega (arith, count-sheds t s (row-of t s h))
 
   mark-count : (s p : ℕ) → T (not (broken t (alive s))) → T (not (broken t (taken s p))) → count (applies (steps t (mark s p)) t) + 0 ≡ count t + 0
   mark-count s p h g = omega (
@@ -268,7 +295,7 @@ module _ (t : Tables) (v : Wf t) where
   exit-count : (s : ℕ) → ((e : Test) → In e (tests (exit s)) → T (not (broken t e))) → count (applies (steps t (exit s)) t) + held t s ≡ count t + 0
   exit-count s m = let a : count u + held t s ≡ count t + length (each places (λ p. one {A = Handle} none)) = count-row t s (λ p. none)
       (row-of t s (m (alive s) (inl refl))) in
-      let b : count (apply (leave (subject s)) u) ≡ count u = count-at u (put (u .at) (subject s) none) in
+      let b : count (apply (quits (same (subject s))) t) ≡ count u = ap length (handles-by (apply (quits (same (subject s))) t) u refl) in
       let c : length (each places (λ p. one {A = Handle} none)) ≡ 0 = each-none places (λ p. one none) (λ j. refl) in
       omega arith
     where
@@ -291,6 +318,7 @@ module _ (t : Tables) (v : Wf t) where
   stepped-count (opens d s o p) m = placed-count s p (handle d o) (m (alive s) (inl refl)) (m (vacant s p) (inr (inr (inl refl))))
   stepped-count (access d s p) m = access-count d (subject s) (cell t s) (target (t .hand s p))
   stepped-count (fork s c) m = fork-count s c m
+  stepped-count (thread s c) m = ap (λ (l : List Handle). length l + 0) (handles-by (applies (steps t (thread s c)) t) t refl)
   stepped-count (exec s o) m = exec-count s o (m (alive s) (inl refl))
   stepped-count (close s p) m = close-count s p m
   stepped-count (exit s) m = exit-count s m

@@ -11,22 +11,28 @@ use Rattle.passes.proofs.listed.Statement.{statement}
 use Rattle.passes.proofs.listed.Tie as tie
 
 abbrev Inv-loop2 : tie.InvT-loop2
-Inv-loop2 need handles n from₀ to₀ count₀ s base writes p₀ from to count p = (p ≤ 16) × Listed handles n need from to count (s * 16 + p)
+Inv-loop2 need handles leads n from₀ to₀ count₀ s base lead writes p₀ from to count p = (p ≤ 16) × Listed leads handles n need from to count (s * 16 + p)
 
 abbrev μ-loop2 : tie.MeasureT-loop2
-μ-loop2 need handles n from₀ to₀ count₀ s base writes p₀ from to count p = 16 - p
+μ-loop2 need handles leads n from₀ to₀ count₀ s base lead writes p₀ from to count p = 16 - p
 
 abbrev Inv-loop : tie.InvT-loop
-Inv-loop need handles n from₀ to₀ count₀ s₀ from to count s = (s ≤ 32) × Listed handles n need from to count (s * 16)
+Inv-loop need handles leads n from₀ to₀ count₀ s₀ from to count s = (s ≤ 32) × Listed leads handles n need from to count (s * 16)
 
 abbrev μ-loop : tie.MeasureT-loop
-μ-loop need handles n from₀ to₀ count₀ s₀ from to count s = 32 - s
+μ-loop need handles leads n from₀ to₀ count₀ s₀ from to count s = 32 - s
 
 loop-holds : tie.Need-loop-holds Inv-loop2 μ-loop2 Inv-loop μ-loop
-loop-holds c = (omega arith, none-listed _ _ _ _ _ (search needs) (search needs))
+loop-holds c = (omega arith, none-listed _ _ _ _ _ _ (search needs) (search needs))
 
 mul-base : tie.Need-mul-base Inv-loop2 μ-loop2 Inv-loop μ-loop
 mul-base c = search needs
+
+array-read-lead : tie.Need-array-read-lead Inv-loop2 μ-loop2 Inv-loop μ-loop
+array-read-lead c = search needs
+
+cast-lead : tie.Need-cast-lead Inv-loop2 μ-loop2 Inv-loop μ-loop
+cast-lead c = search needs
 
 array-read-writes : tie.Need-array-read-writes Inv-loop2 μ-loop2 Inv-loop μ-loop
 array-read-writes c = search needs
@@ -102,20 +108,20 @@ loop2-again c =
     let ls = c4 .before .loop-test .taken in (
       omega arith,
       ⊎-elim
-          (λ w. listed-as (w .5) (w .6) (w .7) (omega arith) (put _ _ _ _ _ _ _ v (omega arith) _ _
-          (reads-from (a .t1) s p ls lp _ refl (w .0 .taken) (sym (w .2 .ensures) ∙ w .3 .taken))
-          (reads-to (a .t1) s p ls lp _ refl (w .0 .taken) (sym (w .2 .ensures) ∙ w .3 .taken)) (w .4 .taken)))
+          (λ w. listed-as (w .5) (w .6) (w .7) (omega arith) (put _ _ _ _ _ _ _ _ v (omega arith) _ _
+          (reads-from (a .t2) (a .t1) s p ls lp _ refl (w .0 .taken) (sym (w .2 .ensures) ∙ w .3 .taken))
+          (reads-to (a .t2) (a .t1) s p ls lp _ refl (w .0 .taken) (sym (w .2 .ensures) ∙ w .3 .taken)) (w .4 .taken)))
           (⊎-elim
-          (λ w. listed-as (w .5) (w .6) (w .7) (omega arith) (leave _ _ _ _ _ _ _ v
-          (λ q. absurd (w .4 .left (ap (figure (a .t2)) (reads-from (a .t1) s p ls lp _ refl (w .0 .taken) (sym (w .2 .ensures) ∙ w .3 .taken)) ∙ q)))))
+          (λ w. listed-as (w .5) (w .6) (w .7) (omega arith) (leave _ _ _ _ _ _ _ _ v
+          (λ q. absurd (w .4 .left (ap (figure (a .t3)) (reads-from (a .t2) (a .t1) s p ls lp _ refl (w .0 .taken) (sym (w .2 .ensures) ∙ w .3 .taken)) ∙ q)))))
           (⊎-elim
-          (λ w. listed-as (w .5) (w .6) (w .7) (omega arith) (put _ _ _ _ _ _ _ v (omega arith) _ _
-          (writes-from (a .t1) s p ls lp _ refl (w .0 .taken) (sym (w .2 .ensures) ∙ w .3 .left))
-          (writes-to (a .t1) s p ls lp _ refl (w .0 .taken) (sym (w .2 .ensures) ∙ w .3 .left)) (same-of _ _ (w .4 .taken))))
+          (λ w. listed-as (w .5) (w .6) (w .7) (omega arith) (put _ _ _ _ _ _ _ _ v (omega arith) _ _
+          (writes-from (a .t2) (a .t1) s p ls lp _ refl (w .0 .taken) (sym (w .2 .ensures) ∙ w .3 .left))
+          (writes-to (a .t2) (a .t1) s p ls lp _ refl (w .0 .taken) (sym (w .2 .ensures) ∙ w .3 .left)) (same-of _ _ (w .4 .taken))))
           (⊎-elim
-          (λ w. listed-as (w .5) (w .6) (w .7) (omega arith) (leave _ _ _ _ _ _ _ v
-          (λ q. absurd (other-of _ _ (w .4 .left) (ap (figure (a .t2)) (writes-from (a .t1) s p ls lp _ refl (w .0 .taken) (sym (w .2 .ensures) ∙ w .3 .left)) ∙ q)))))
-          (λ w. listed-as (w .1) (w .2) (w .3) (omega arith) (leave _ _ _ _ _ _ _ v (λ q. nowhere (a .t1) s p ls lp _ refl (w .0 .left))))))) (c .if1 .came),
+          (λ w. listed-as (w .5) (w .6) (w .7) (omega arith) (leave _ _ _ _ _ _ _ _ v
+          (λ q. absurd (other-of _ _ (w .4 .left) (ap (figure (a .t3)) (writes-from (a .t2) (a .t1) s p ls lp _ refl (w .0 .taken) (sym (w .2 .ensures) ∙ w .3 .left)) ∙ q)))))
+          (λ w. listed-as (w .1) (w .2) (w .3) (omega arith) (leave _ _ _ _ _ _ _ _ v (λ q. nowhere (a .t2) (a .t1) s p ls lp _ refl (w .0 .left))))))) (c .if1 .came),
     )
 
 add-s : tie.Need-add-s Inv-loop2 μ-loop2 Inv-loop μ-loop
@@ -142,6 +148,8 @@ listed-spec =
     μ-loop
     loop-holds
     mul-base
+    array-read-lead
+    cast-lead
     array-read-writes
     loop2-holds
     add-at

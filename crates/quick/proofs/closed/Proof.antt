@@ -20,10 +20,10 @@ are-whole-requires : tie.Need-are-whole-requires
 are-whole-requires c κs = search needs
 
 returns : tie.Need-returns
-returns c = λ ns ln. (λ l. absurd (omega arith), λ e. (refl, refl), λ i w one h. true-false (sym (c .before .are-whole .ensures .1 (w .subjects, w .objects, w .handles, w .needs, w .counts)) ∙ not-true _ (c .if1 .taken)))
+returns c = λ ns ln gs lg. (λ l. absurd (omega arith), λ e. (refl, refl), λ i w one h. true-false (sym (c .before .are-whole .ensures .1 (w .subjects, w .objects, w .handles, w .needs, w .counts)) ∙ not-true _ (c .if1 .taken)))
 
 returns-2 : tie.Need-returns-2
-returns-2 c = λ ns ln. (λ l. absurd (omega arith), λ e. (refl, refl), λ i w one h. absurd (c .if2 .taken one))
+returns-2 c = λ ns ln gs lg. (λ l. absurd (omega arith), λ e. (refl, refl), λ i w one h. absurd (c .if2 .taken one))
 
 subject-in-requires : tie.Need-subject-in-requires
 subject-in-requires c κs = c .before .before .are-whole .ensures .0 (not-false _ (c .before .if1 .left)) .0
@@ -53,9 +53,9 @@ returns-3 c =
     let o7 = o6 .before in
     let a = o7 .before .before .before .before .before .before .args in
     let v = o7 .are-whole .ensures .0 (not-false _ (o6 .if1 .left)) in
-    λ ns ln. let w : Whole ns (now (a .subjects)) (now (a .objects)) (now (a .handles)) (now (a .needs)) (now (a .counts)) = record { numbers = ln; subjects = v .0; objects = v .1; handles = v .2; needs = v .3; counts = v .4 } in
-    let done = close-refused ns (now (a .subjects)) (now (a .objects)) (now (a .handles)) (now (a .needs)) (now (a .counts)) (a .freeze) (a .sure) (a .s) (a .p) w (o5 .if2 .left) (o4 .subject-in .result) (o2 .handle-in .result) (o1 .of-held .result) (o4 .subject-in .ensures .0) (o2 .handle-in .ensures) (o1 .of-held .ensures) (c .if3 .taken) _ refl (omega arith) in
-    (λ l. (w, done), λ e. absurd (omega arith), λ i w′ one h. done-settles (monitor-in ns (now (a .subjects)) (now (a .objects)) (now (a .handles)) (now (a .needs)) (a .freeze) (a .sure)) (whole-long ns (now (a .subjects)) (now (a .objects)) (now (a .handles)) (now (a .needs)) (now (a .counts)) (a .freeze) (a .sure) w) h (omega arith) done)
+    λ ns ln gs lg. let w : Whole ns (now (a .subjects)) (now (a .objects)) (now (a .handles)) (now (a .needs)) (now (a .counts)) = record { numbers = ln; subjects = v .0; objects = v .1; handles = v .2; needs = v .3; counts = v .4 } in
+    let done = close-refused gs lg ns (now (a .subjects)) (now (a .objects)) (now (a .handles)) (now (a .needs)) (now (a .counts)) (a .freeze) (a .sure) (a .s) (a .p) w (o5 .if2 .left) (o4 .subject-in .result) (o2 .handle-in .result) (o1 .of-held .result) (o4 .subject-in .ensures .0) (o2 .handle-in .ensures) (o1 .of-held .ensures) (c .if3 .taken) _ refl (omega arith) in
+    (λ l. (w, done), λ e. absurd (omega arith), λ i w′ one h. done-settles (monitor-in gs ns (now (a .subjects)) (now (a .objects)) (now (a .handles)) (now (a .needs)) (a .freeze) (a .sure)) (whole-long gs lg ns (now (a .subjects)) (now (a .objects)) (now (a .handles)) (now (a .needs)) (now (a .counts)) (a .freeze) (a .sure) w) h (omega arith) done)
 
 cast-number : tie.Need-cast-number
 cast-number c = search needs
@@ -86,10 +86,10 @@ returns-4 c =
     let c3 = c2 .before in
     let c4 = c3 .before in
     let loud = sym (c1 .is-quiet .ensures ∙ ap₂ (λ (i j : ℕ). not (eqb i j) || (eqb i 0 || (reads-by (o2 .handle-in .result .way) && demands (c4 .object-in .result) i)))
-    (c3 .subject-need .ensures) (c2 .object-need .ensures)) ∙ not-true _ (c .if4 .taken) in λ ns ln. (
+    (c3 .subject-need .ensures) (c2 .object-need .ensures)) ∙ not-true _ (c .if4 .taken) in λ ns ln gs lg. (
       λ l. absurd (omega arith),
       λ e. (refl, refl),
-      λ i w one h. close-loud ns (now (a .subjects)) (now (a .objects)) (now (a .handles)) (now (a .needs)) (now (a .counts)) (a .freeze) (a .sure) (a .s) (a .p) w one (o4 .subject-in .result) (o2 .handle-in .result) (o1 .of-held .result) (o4 .subject-in .ensures .0) (o2 .handle-in .ensures) (o1 .of-held .ensures) (c4 .before .before .if3 .left) (c4 .object-in .result) (c4 .object-in .ensures .0) h loud,
+      λ i w one h. close-loud gs lg ns (now (a .subjects)) (now (a .objects)) (now (a .handles)) (now (a .needs)) (now (a .counts)) (a .freeze) (a .sure) (a .s) (a .p) w one (o4 .subject-in .result) (o2 .handle-in .result) (o1 .of-held .result) (o4 .subject-in .ensures .0) (o2 .handle-in .ensures) (o1 .of-held .ensures) (c4 .before .before .if3 .left) (c4 .object-in .result) (c4 .object-in .ensures .0) h loud,
     )
 
 slot-of-requires : tie.Need-slot-of-requires
@@ -109,10 +109,10 @@ returns-5 c =
     let a = o4 .before .before .before .before .before .before .before .before .before .args in
     let c1 = c .before in
     let c3 = c1 .before .before in
-    let c8 = c3 .before .before .before .before .before in λ ns ln. (
+    let c8 = c3 .before .before .before .before .before in λ ns ln gs lg. (
       λ l. absurd (omega arith),
       λ e. (refl, refl),
-      λ i w one h. close-ended ns (now (a .subjects)) (now (a .objects)) (now (a .handles)) (now (a .needs)) (now (a .counts)) (a .freeze) (a .sure) (a .s) (a .p) w one (o4 .subject-in .result) (o2 .handle-in .result) (o1 .of-held .result) (o4 .subject-in .ensures .0) (o2 .handle-in .ensures) (o1 .of-held .ensures) (c8 .before .before .if3 .left) (c8 .object-in .result) (c8 .object-in .ensures .0) h (c3 .slot-of .result) (c3 .slot-of .ensures) (λ v. true-false (sym (c1 .is-outlived .ensures .1 v) ∙ not-true _ (c .if5 .taken))),
+      λ i w one h. close-ended gs lg ns (now (a .subjects)) (now (a .objects)) (now (a .handles)) (now (a .needs)) (now (a .counts)) (a .freeze) (a .sure) (a .s) (a .p) w one (o4 .subject-in .result) (o2 .handle-in .result) (o1 .of-held .result) (o4 .subject-in .ensures .0) (o2 .handle-in .ensures) (o1 .of-held .ensures) (c8 .before .before .if3 .left) (c8 .object-in .result) (c8 .object-in .ensures .0) h (c3 .slot-of .result) (c3 .slot-of .ensures) (λ v. true-false (sym (c1 .is-outlived .ensures .1 v) ∙ not-true _ (c .if5 .taken))),
     )
 
 put-requires : tie.Need-put-requires
@@ -143,7 +143,7 @@ returns-6 c =
     let o7 = o6 .before in
     let a = o7 .before .before .before .before .before .before .args in
     let v = o7 .are-whole .ensures .0 (not-false _ (o6 .if1 .left)) in
-    λ ns ln. let w : Whole ns (now (a .subjects)) (now (a .objects)) (now (a .handles)) (now (a .needs)) (now (a .counts)) = record { numbers = ln; subjects = v .0; objects = v .1; handles = v .2; needs = v .3; counts = v .4 } in
+    λ ns ln gs lg. let w : Whole ns (now (a .subjects)) (now (a .objects)) (now (a .handles)) (now (a .needs)) (now (a .counts)) = record { numbers = ln; subjects = v .0; objects = v .1; handles = v .2; needs = v .3; counts = v .4 } in
     let c3 = c .before .before .before in
     let c7 = c3 .before .before .before .before in
     let c9 = c7 .before .before in
@@ -156,9 +156,9 @@ returns-6 c =
     let c17 = c16 .before in
     let quiet = sym (c14 .is-quiet .ensures ∙ ap₂ (λ (i j : ℕ). not (eqb i j) || (eqb i 0 || (reads-by (o2 .handle-in .result .way) && demands (c17 .object-in .result) i)))
     (c16 .subject-need .ensures) (c15 .object-need .ensures)) ∙ not-false _ (c13 .if4 .left) in
-    let done = close-done ns (now (a .subjects)) (now (a .objects)) (now (a .handles)) (now (a .needs)) (now (a .counts)) (a .freeze) (a .sure) (a .s) (a .p) w (o5 .if2 .left) (o4 .subject-in .result) (o2 .handle-in .result) (o1 .of-held .result) (o4 .subject-in .ensures .0) (o2 .handle-in .ensures) (o1 .of-held .ensures) (c17 .before .before .if3 .left) (c17 .object-in .result) (c17 .object-in .ensures .0) quiet (c12 .slot-of .result) (c12 .slot-of .ensures)
+    let done = close-done gs lg ns (now (a .subjects)) (now (a .objects)) (now (a .handles)) (now (a .needs)) (now (a .counts)) (a .freeze) (a .sure) (a .s) (a .p) w (o5 .if2 .left) (o4 .subject-in .result) (o2 .handle-in .result) (o1 .of-held .result) (o4 .subject-in .ensures .0) (o2 .handle-in .ensures) (o1 .of-held .ensures) (c17 .before .before .if3 .left) (c17 .object-in .result) (c17 .object-in .ensures .0) quiet (c12 .slot-of .result) (c12 .slot-of .ensures)
     (c10 .is-outlived .ensures .0 (not-false _ (c9 .if5 .left))) (c7 .put .last .0) (c3 .count .last .0) (c7 .put .ensures .0) (c3 .count .ensures) _ refl (o4 .subject-in .ensures .1) in
-    (λ l. (w, done), λ e. absurd (omega arith), λ i w′ one h. done-settles (monitor-in ns (now (a .subjects)) (now (a .objects)) (now (a .handles)) (now (a .needs)) (a .freeze) (a .sure)) (whole-long ns (now (a .subjects)) (now (a .objects)) (now (a .handles)) (now (a .needs)) (now (a .counts)) (a .freeze) (a .sure) w) h (omega arith) done)
+    (λ l. (w, done), λ e. absurd (omega arith), λ i w′ one h. done-settles (monitor-in gs ns (now (a .subjects)) (now (a .objects)) (now (a .handles)) (now (a .needs)) (a .freeze) (a .sure)) (whole-long gs lg ns (now (a .subjects)) (now (a .objects)) (now (a .handles)) (now (a .needs)) (now (a .counts)) (a .freeze) (a .sure) w) h (omega arith) done)
 
 pub closed-spec : {M : Type 1} → statement M
 closed-spec =

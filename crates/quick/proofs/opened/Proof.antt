@@ -19,23 +19,23 @@ are-whole-requires : tie.Need-are-whole-requires
 are-whole-requires c κs = search needs
 
 returns : tie.Need-returns
-returns c = (
+returns c = λ gs lg. (
   λ l. absurd (omega arith),
   λ e. (refl, refl),
   λ i w one h. true-false (sym (c .before .are-whole .ensures .1 (w .subjects, w .objects, w .handles, w .needs, w .counts)) ∙ not-true _ (c .if1 .taken)),
 )
 
 returns-2 : tie.Need-returns-2
-returns-2 c = (λ l. absurd (omega arith), λ e. (refl, refl), λ i w one h. absurd (c .if2 .taken (w .numbers)))
+returns-2 c = λ gs lg. (λ l. absurd (omega arith), λ e. (refl, refl), λ i w one h. absurd (c .if2 .taken (w .numbers)))
 
 returns-3 : tie.Need-returns-3
-returns-3 c = (λ l. absurd (omega arith), λ e. (refl, refl), λ i w one h. absurd (c .if3 .taken one))
+returns-3 c = λ gs lg. (λ l. absurd (omega arith), λ e. (refl, refl), λ i w one h. absurd (c .if3 .taken one))
 
 either-requires : tie.Need-either-requires
 either-requires c κs = search needs
 
 returns-4 : tie.Need-returns-4
-returns-4 c = (λ l. absurd (omega arith), λ e. (refl, refl), λ i w one h. true-false (sym (code-opens _ i) ∙ sym (c .before .either .ensures) ∙ not-true _ (c .if4 .taken)))
+returns-4 c = λ gs lg. (λ l. absurd (omega arith), λ e. (refl, refl), λ i w one h. true-false (sym (code-opens _ i) ∙ sym (c .before .either .ensures) ∙ not-true _ (c .if4 .taken)))
 
 subject-in-requires : tie.Need-subject-in-requires
 subject-in-requires c κs = c .before .before .before .before .before .are-whole .ensures .0 (not-false _ (c .before .before .before .before .if1 .left)) .0
@@ -77,9 +77,9 @@ returns-5 c =
     let a = o12 .before .before .before .before .before .before .before .args in
     let d = sym (o8 .either .ensures) ∙ not-false _ (o7 .if4 .left) in
     let v = o12 .are-whole .ensures .0 (not-false _ (o11 .if1 .left)) in
-    let w : Whole (now (a .numbers)) (now (a .subjects)) (now (a .objects)) (now (a .handles)) (now (a .needs)) (now (a .counts)) = record { numbers = o10 .if2 .left; subjects = v .0; objects = v .1; handles = v .2; needs = v .3; counts = v .4 } in
-    let done = open-refused (now (a .numbers)) (now (a .subjects)) (now (a .objects)) (now (a .handles)) (now (a .needs)) (now (a .counts)) (a .freeze) (a .sure) (a .code) (a .s) (a .o) (o5 .slot-in .result) (a .p) w (o9 .if3 .left) (o5 .slot-in .ensures) d (o6 .subject-in .result) (o4 .object-in .result) (o2 .handle-in .result) (o1 .of-open .result) (o6 .subject-in .ensures .0) (o4 .object-in .ensures .0) (o2 .handle-in .ensures) (o1 .of-open .ensures) (c .if5 .taken) _ refl (omega arith) in
-    (λ l. (w, done), λ e. absurd (omega arith), λ i w′ one h. done-settles (monitor-in (now (a .numbers)) (now (a .subjects)) (now (a .objects)) (now (a .handles)) (now (a .needs)) (a .freeze) (a .sure)) (whole-long (now (a .numbers)) (now (a .subjects)) (now (a .objects)) (now (a .handles)) (now (a .needs)) (now (a .counts)) (a .freeze) (a .sure) w) h (omega arith) done)
+    λ gs lg. let w : Whole (now (a .numbers)) (now (a .subjects)) (now (a .objects)) (now (a .handles)) (now (a .needs)) (now (a .counts)) = record { numbers = o10 .if2 .left; subjects = v .0; objects = v .1; handles = v .2; needs = v .3; counts = v .4 } in
+    let done = open-refused gs lg (now (a .numbers)) (now (a .subjects)) (now (a .objects)) (now (a .handles)) (now (a .needs)) (now (a .counts)) (a .freeze) (a .sure) (a .code) (a .s) (a .o) (o5 .slot-in .result) (a .p) w (o9 .if3 .left) (o5 .slot-in .ensures) d (o6 .subject-in .result) (o4 .object-in .result) (o2 .handle-in .result) (o1 .of-open .result) (o6 .subject-in .ensures .0) (o4 .object-in .ensures .0) (o2 .handle-in .ensures) (o1 .of-open .ensures) (c .if5 .taken) _ refl (omega arith) in
+    (λ l. (w, done), λ e. absurd (omega arith), λ i w′ one h. done-settles (monitor-in gs (now (a .numbers)) (now (a .subjects)) (now (a .objects)) (now (a .handles)) (now (a .needs)) (a .freeze) (a .sure)) (whole-long gs lg (now (a .numbers)) (now (a .subjects)) (now (a .objects)) (now (a .handles)) (now (a .needs)) (now (a .counts)) (a .freeze) (a .sure) w) h (omega arith) done)
 
 is-frozen-requires : tie.Need-is-frozen-requires
 is-frozen-requires c κs = search needs
@@ -103,9 +103,9 @@ returns-6 c =
     let a = o12 .before .before .before .before .before .before .before .args in
     let d = sym (o8 .either .ensures) ∙ not-false _ (o7 .if4 .left) in
     let v = o12 .are-whole .ensures .0 (not-false _ (o11 .if1 .left)) in
-    let w : Whole (now (a .numbers)) (now (a .subjects)) (now (a .objects)) (now (a .handles)) (now (a .needs)) (now (a .counts)) = record { numbers = o10 .if2 .left; subjects = v .0; objects = v .1; handles = v .2; needs = v .3; counts = v .4 } in
-    let done = open-frozen (now (a .numbers)) (now (a .subjects)) (now (a .objects)) (now (a .handles)) (now (a .needs)) (now (a .counts)) (a .freeze) (a .sure) (a .code) (a .s) (a .o) (o5 .slot-in .result) (a .p) w (o9 .if3 .left) (o5 .slot-in .ensures) d (o6 .subject-in .result) (o4 .object-in .result) (o2 .handle-in .result) (o1 .of-open .result) (o6 .subject-in .ensures .0) (o4 .object-in .ensures .0) (o2 .handle-in .ensures) (o1 .of-open .ensures) (c .before .before .if5 .left) (c .before .is-frozen .result) (c .before .is-frozen .ensures) (c .if6 .taken) _ refl in
-    (λ l. (w, done), λ e. absurd (omega arith), λ i w′ one h. done-settles (monitor-in (now (a .numbers)) (now (a .subjects)) (now (a .objects)) (now (a .handles)) (now (a .needs)) (a .freeze) (a .sure)) (whole-long (now (a .numbers)) (now (a .subjects)) (now (a .objects)) (now (a .handles)) (now (a .needs)) (now (a .counts)) (a .freeze) (a .sure) w) h (omega arith) done)
+    λ gs lg. let w : Whole (now (a .numbers)) (now (a .subjects)) (now (a .objects)) (now (a .handles)) (now (a .needs)) (now (a .counts)) = record { numbers = o10 .if2 .left; subjects = v .0; objects = v .1; handles = v .2; needs = v .3; counts = v .4 } in
+    let done = open-frozen gs lg (now (a .numbers)) (now (a .subjects)) (now (a .objects)) (now (a .handles)) (now (a .needs)) (now (a .counts)) (a .freeze) (a .sure) (a .code) (a .s) (a .o) (o5 .slot-in .result) (a .p) w (o9 .if3 .left) (o5 .slot-in .ensures) d (o6 .subject-in .result) (o4 .object-in .result) (o2 .handle-in .result) (o1 .of-open .result) (o6 .subject-in .ensures .0) (o4 .object-in .ensures .0) (o2 .handle-in .ensures) (o1 .of-open .ensures) (c .before .before .if5 .left) (c .before .is-frozen .result) (c .before .is-frozen .ensures) (c .if6 .taken) _ refl in
+    (λ l. (w, done), λ e. absurd (omega arith), λ i w′ one h. done-settles (monitor-in gs (now (a .numbers)) (now (a .subjects)) (now (a .objects)) (now (a .handles)) (now (a .needs)) (a .freeze) (a .sure)) (whole-long gs lg (now (a .numbers)) (now (a .subjects)) (now (a .objects)) (now (a .handles)) (now (a .needs)) (now (a .counts)) (a .freeze) (a .sure) w) h (omega arith) done)
 
 subject-need-requires : tie.Need-subject-need-requires
 subject-need-requires c κs = c .before .before .before .before .before .before .before .before .before .before .before .before .before .before .are-whole .ensures .0 (not-false _ (c .before .before .before .before .before .before .before .before .before .before .before .before .before .if1 .left)) .3
@@ -138,10 +138,10 @@ returns-7 c =
     let c2 = c1 .before in
     let c3 = c2 .before in
     let c5 = c3 .before .before in
-    let up = sym (c1 .falls .ensures ∙ ap₂ (falls-by (eqb (a .code) 5)) (c3 .subject-need .ensures) (c2 .object-need .ensures)) ∙ not-true _ (c .if7 .taken) in (
+    let up = sym (c1 .falls .ensures ∙ ap₂ (falls-by (eqb (a .code) 5)) (c3 .subject-need .ensures) (c2 .object-need .ensures)) ∙ not-true _ (c .if7 .taken) in λ gs lg. (
       λ l. absurd (omega arith),
       λ e. (refl, refl),
-      λ i w one. open-left (now (a .numbers)) (now (a .subjects)) (now (a .objects)) (now (a .handles)) (now (a .needs)) (now (a .counts)) (a .freeze) (a .sure) (a .code) (a .s) (a .o) (o5 .slot-in .result) (a .p) w one (o5 .slot-in .ensures) d (o6 .subject-in .result) (o4 .object-in .result) (o2 .handle-in .result) (o1 .of-open .result) (o6 .subject-in .ensures .0) (o4 .object-in .ensures .0) (o2 .handle-in .ensures) (o1 .of-open .ensures) (c5 .before .if5 .left) (c5 .is-frozen .result) (c5 .is-frozen .ensures) (c3 .before .if6 .left) up,
+      λ i w one. open-left gs lg (now (a .numbers)) (now (a .subjects)) (now (a .objects)) (now (a .handles)) (now (a .needs)) (now (a .counts)) (a .freeze) (a .sure) (a .code) (a .s) (a .o) (o5 .slot-in .result) (a .p) w one (o5 .slot-in .ensures) d (o6 .subject-in .result) (o4 .object-in .result) (o2 .handle-in .result) (o1 .of-open .result) (o6 .subject-in .ensures .0) (o4 .object-in .ensures .0) (o2 .handle-in .ensures) (o1 .of-open .ensures) (c5 .before .if5 .left) (c5 .is-frozen .result) (c5 .is-frozen .ensures) (c3 .before .if6 .left) up,
     )
 
 way-of-requires : tie.Need-way-of-requires
@@ -184,7 +184,7 @@ returns-8 c =
     let a = o12 .before .before .before .before .before .before .before .args in
     let d = sym (o8 .either .ensures) ∙ not-false _ (o7 .if4 .left) in
     let v = o12 .are-whole .ensures .0 (not-false _ (o11 .if1 .left)) in
-    let w : Whole (now (a .numbers)) (now (a .subjects)) (now (a .objects)) (now (a .handles)) (now (a .needs)) (now (a .counts)) = record { numbers = o10 .if2 .left; subjects = v .0; objects = v .1; handles = v .2; needs = v .3; counts = v .4 } in
+    λ gs lg. let w : Whole (now (a .numbers)) (now (a .subjects)) (now (a .objects)) (now (a .handles)) (now (a .needs)) (now (a .counts)) = record { numbers = o10 .if2 .left; subjects = v .0; objects = v .1; handles = v .2; needs = v .3; counts = v .4 } in
     let c3 = c .before .before .before in
     let c7 = c3 .before .before .before .before in
     let c9 = c7 .before .before in
@@ -196,9 +196,9 @@ returns-8 c =
     let c15 = c14 .before in
     let c16 = c15 .before in
     let down = sym (c12 .falls .ensures ∙ ap₂ (falls-by (eqb (a .code) 5)) (c14 .subject-need .ensures) (c13 .object-need .ensures)) ∙ not-false _ (c11 .if7 .left) in
-    let done = open-done (now (a .numbers)) (now (a .subjects)) (now (a .objects)) (now (a .handles)) (now (a .needs)) (now (a .counts)) (a .freeze) (a .sure) (a .code) (a .s) (a .o) (o5 .slot-in .result) (a .p) w (o9 .if3 .left) (o5 .slot-in .ensures) d (o6 .subject-in .result) (o4 .object-in .result) (o2 .handle-in .result) (o1 .of-open .result) (o6 .subject-in .ensures .0) (o4 .object-in .ensures .0) (o2 .handle-in .ensures) (o1 .of-open .ensures) (c16 .before .if5 .left) (c16 .is-frozen .result) (c16 .is-frozen .ensures) (c15 .if6 .left) (c9 .joining .result)
+    let done = open-done gs lg (now (a .numbers)) (now (a .subjects)) (now (a .objects)) (now (a .handles)) (now (a .needs)) (now (a .counts)) (a .freeze) (a .sure) (a .code) (a .s) (a .o) (o5 .slot-in .result) (a .p) w (o9 .if3 .left) (o5 .slot-in .ensures) d (o6 .subject-in .result) (o4 .object-in .result) (o2 .handle-in .result) (o1 .of-open .result) (o6 .subject-in .ensures .0) (o4 .object-in .ensures .0) (o2 .handle-in .ensures) (o1 .of-open .ensures) (c16 .before .if5 .left) (c16 .is-frozen .result) (c16 .is-frozen .ensures) (c15 .if6 .left) (c9 .joining .result)
     (c9 .joining .ensures ∙ ap (λ (i : ℕ). joining i (o5 .slot-in .result)) (c10 .way-of .ensures)) down (c7 .put .last .0) (c3 .count .last .0) (c7 .put .ensures .0) (c3 .count .ensures) _ refl (o4 .object-in .ensures .1) in
-    (λ l. (w, done), λ e. absurd (omega arith), λ i w′ one h. done-settles (monitor-in (now (a .numbers)) (now (a .subjects)) (now (a .objects)) (now (a .handles)) (now (a .needs)) (a .freeze) (a .sure)) (whole-long (now (a .numbers)) (now (a .subjects)) (now (a .objects)) (now (a .handles)) (now (a .needs)) (now (a .counts)) (a .freeze) (a .sure) w) h (omega arith) done)
+    (λ l. (w, done), λ e. absurd (omega arith), λ i w′ one h. done-settles (monitor-in gs (now (a .numbers)) (now (a .subjects)) (now (a .objects)) (now (a .handles)) (now (a .needs)) (a .freeze) (a .sure)) (whole-long gs lg (now (a .numbers)) (now (a .subjects)) (now (a .objects)) (now (a .handles)) (now (a .needs)) (now (a .counts)) (a .freeze) (a .sure) w) h (omega arith) done)
 
 pub opened-spec : {M : Type 1} → statement M
 opened-spec =

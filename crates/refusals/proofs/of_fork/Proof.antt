@@ -1,8 +1,13 @@
 -- `refusals::of_fork` meets its contract. Assumes nothing.
 use mathlib.Core.Path.{refl, sym, _∙_}
+use mathlib.Core.Bool.{false}
+use mathlib.Core.List.{[], _∷_}
 use borrow.Author.Needs.{needs}
+use lib.Dec.{eqb}
+use Rattle.model.specs.Flow.{subject}
+use Rattle.model.specs.Calls.{alive, new}
 use Rattle.refusals.proofs.Testing.{alive-is, new-subject-is}
-use Rattle.refusals.proofs.Finding.{alone, finds}
+use Rattle.refusals.proofs.Finding.{alone, Breaks, finds}
 use Rattle.refusals.proofs.of_fork.Statement.{statement}
 use Rattle.refusals.proofs.of_fork.Tie as tie
 
@@ -15,21 +20,20 @@ first-requires c κs = search needs
 returns : tie.Need-returns
 returns c = λ t s w x z.
     let a = c .before .before .before .args in
-    finds (record {
+    let u = c .before .subject-used in
+    let b : Breaks t (alive s ∷ new (subject (a .c)) ∷ []) (eqb (a .x .live) 0) false (u .result) false false false false false false = record {
       one = refl;
       two = alone (alive-is t w s (a .x) x);
       sixteen = refl;
-      three = alone
-          (new-subject-is t (a .c) (a .z) z ∙ sym
-          (c .before .subject-used .ensures));
+      three = alone (new-subject-is t (a .c) (a .z) z ∙ sym (u .ensures));
       seventeen = λ _. refl;
       four = refl;
       five = refl;
       six = refl;
       seven = refl;
       eight = refl;
-    })
-    (c .first .ensures)
+    } in
+    (finds b (c .first .ensures), finds b (c .first .ensures))
 
 pub of-fork-spec : {M : Type 1} → statement M
 of-fork-spec = tie.close (tie.spec subject-used-requires first-requires returns)

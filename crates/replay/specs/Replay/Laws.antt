@@ -65,7 +65,7 @@ Plains (s ∷ l) = Plain s × Plains l
 decode-none : (code : ℕ) → known code ≡ false → decode (raw code []) ≡ unknown
 unfolding known arity-of
 decode-none code h = decode-unknown (raw code [])
-    (o 1 tt, (o 2 tt, (o 3 tt, (o 4 tt, (o 5 tt, (o 6 tt, (o 7 tt, (o 8 tt, (o 9 tt, (o 10 tt, (o 11 tt, (o 12 tt, (o 13 tt, (o 14 tt, (o 15 tt, (o 16 tt, (o 17 tt, tt)))))))))))))))))
+    (o 1 tt, (o 2 tt, (o 3 tt, (o 4 tt, (o 5 tt, (o 6 tt, (o 7 tt, (o 8 tt, (o 9 tt, (o 10 tt, (o 11 tt, (o 12 tt, (o 13 tt, (o 14 tt, (o 15 tt, (o 16 tt, (o 17 tt, (o 18 tt, tt))))))))))))))))))
   where
     o : (k : ℕ) → T (known k) → code ≡ k → ⊥
     o k t e = subst T h (subst (λ (x : ℕ). T (known x)) (sym e) t)

@@ -109,7 +109,7 @@ value-requires : tie.Need-value-requires Inv-loop μ-loop
 value-requires c κs = search needs
 
 add-out : tie.Need-add-out Inv-loop μ-loop
-add-out c = search needs
+add-out c = let g = c .before .before .before .before .before .before .before .before .before .before .before .before .before .before .before .before .good in search (g, needs)
 
 slice-write-out-2 : tie.Need-slice-write-out-2 Inv-loop μ-loop
 slice-write-out-2 c = let l = c .before .before .before .before .before .before .before .before .before .before .before .loop in omega (arith, length-set (l .out) (l .i * 2) (c .before .letter .result), l .inv .2, l .inv .3)

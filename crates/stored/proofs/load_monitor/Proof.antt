@@ -22,24 +22,29 @@ load-needs-requires c κs = search needs
 load-numbers-requires : tie.Need-load-numbers-requires
 load-numbers-requires c κs = search needs
 
+load-groups-requires : tie.Need-load-groups-requires
+load-groups-requires c κs = search needs
+
 returns : tie.Need-returns
 unfolding freeze-of
 returns c =
-    let needs = c .before in
+    let numbers = c .before in
+    let needs = numbers .before in
     let handles = needs .before .before in
     let objects = handles .before in
     let subjects = objects .before in
     λ i. record {
-      numbers = c .load-numbers .ensures i;
+      numbers = numbers .load-numbers .ensures i;
       subjects = subjects .load-subjects .ensures i;
       objects = objects .load-objects .ensures i;
       handles = handles .load-handles .ensures i;
       freeze = freeze-of (subjects .before .before .args .state .now);
       needs = needs .load-needs .ensures i;
+      groups = c .load-groups .ensures i;
       sure = 0;
     }
 
 pub load-monitor-spec : {M : Type 1} → statement M
 load-monitor-spec =
     tie.close
-    (tie.spec load-subjects-requires load-objects-requires load-handles-requires shared-slice-read-freeze load-needs-requires load-numbers-requires returns)
+    (tie.spec load-subjects-requires load-objects-requires load-handles-requires shared-slice-read-freeze load-needs-requires load-numbers-requires load-groups-requires returns)

@@ -32,36 +32,27 @@ slice-write-state c = search needs
 
 store-needs-requires : tie.Need-store-needs-requires
 store-needs-requires c κs =
-    let c2 = c .before .before in
-    let c6 = c2 .before .before .before .before in
-    let c10 = c6 .before .before .before .before in
-    let c14 = c10 .before .before .before .before in
-    let c18 = c14 .before .before .before .before in
-    simp length-set (c2 .state5 .given ∙ c6 .state4 .given ∙ c10 .state3 .given ∙ c14 .state2 .given ∙ c18 .state .given ∙ c .before .before .before .before .before .before .before .before .before .before .before .before .before .before .before .before .before .before .before .before .before .before .before .before .before .before .before .pre)
+    let gone = c .before .before in
+    let made = gone .before .before .before .before in
+    let handles = made .before .before .before .before in
+    let objects = handles .before .before .before .before in
+    let subjects = objects .before .before .before .before in
+    let start = subjects .before .before .before .before .before .before .before .before .before .before in
+    simp length-set (gone .state5 .given ∙ made .state4 .given ∙ handles .state3 .given ∙ objects .state2 .given ∙ subjects .state .given ∙ start .pre)
 
 store-numbers-requires : tie.Need-store-numbers-requires
 store-numbers-requires c κs =
-    let c2 = c .before .before in
-    let c6 = c2 .before .before .before .before in
-    let c10 = c6 .before .before .before .before in
-    let c14 = c10 .before .before .before .before in
-    let c18 = c14 .before .before .before .before in
-    let c22 = c18 .before .before .before .before in
-    c2 .state6 .given ∙ simp length-set (c6 .state5 .given ∙ c10 .state4 .given ∙ c14 .state3 .given ∙ c18 .state2 .given ∙ c22 .state .given ∙ c .before .before .before .before .before .before .before .before .before .before .before .before .before .before .before .before .before .before .before .before .before .before .before .before .before .before .before .before .before .before .before .pre)
+    let kept = c .before .before in
+    let gone = kept .before .before .before .before in
+    let made = gone .before .before .before .before in
+    let handles = made .before .before .before .before in
+    let objects = handles .before .before .before .before in
+    let subjects = objects .before .before .before .before in
+    let start = subjects .before .before .before .before .before .before .before .before .before .before in
+    kept .state6 .given ∙ simp length-set (gone .state5 .given ∙ made .state4 .given ∙ handles .state3 .given ∙ objects .state2 .given ∙ subjects .state .given ∙ start .pre)
 
-same-length : tie.Need-same-length
-same-length c =
-    let c1 = c .before in
-    let c5 = c1 .before .before .before .before in
-    let c9 = c5 .before .before .before .before in
-    let c13 = c9 .before .before .before .before in
-    let c17 = c13 .before .before .before .before in
-    let c21 = c17 .before .before .before .before in
-    let c25 = c21 .before .before .before .before in
-    c1 .state7 .given ∙ c5 .state6 .given ∙ simp length-set (c9 .state5 .given ∙ c13 .state4 .given ∙ c17 .state3 .given ∙ c21 .state2 .given ∙ c25 .state .given)
-
-returns : tie.Need-returns
-returns c =
+store-groups-requires : tie.Need-store-groups-requires
+store-groups-requires c κs =
     let numbers = c .before .before in
     let kept = numbers .before .before .before .before in
     let gone = kept .before .before .before .before in
@@ -69,14 +60,41 @@ returns c =
     let handles = made .before .before .before .before in
     let objects = handles .before .before .before .before in
     let subjects = objects .before .before .before .before in
-    let start = subjects .before .before .before .before .before .before .before .before in
+    let start = subjects .before .before .before .before .before .before .before .before .before .before in
+    numbers .state7 .given ∙ kept .state6 .given
+    ∙ simp length-set (gone .state5 .given ∙ made .state4 .given ∙ handles .state3 .given ∙ objects .state2 .given ∙ subjects .state .given ∙ start .pre)
+
+same-length : tie.Need-same-length
+same-length c =
+    let groups = c .before in
+    let numbers = groups .before .before .before .before in
+    let kept = numbers .before .before .before .before in
+    let gone = kept .before .before .before .before in
+    let made = gone .before .before .before .before in
+    let handles = made .before .before .before .before in
+    let objects = handles .before .before .before .before in
+    let subjects = objects .before .before .before .before in
+    groups .state8 .given ∙ numbers .state7 .given ∙ kept .state6 .given
+    ∙ simp length-set (gone .state5 .given ∙ made .state4 .given ∙ handles .state3 .given ∙ objects .state2 .given ∙ subjects .state .given)
+
+returns : tie.Need-returns
+returns c =
+    let groups = c .before .before in
+    let numbers = groups .before .before .before .before in
+    let kept = numbers .before .before .before .before in
+    let gone = kept .before .before .before .before in
+    let made = gone .before .before .before .before in
+    let handles = made .before .before .before .before in
+    let objects = handles .before .before .before .before in
+    let subjects = objects .before .before .before .before in
+    let start = subjects .before .before .before .before .before .before .before .before .before in
     let m = start .args .monitor in
     let y = start .args .tally in
     let long = monitor-long m (start .good .1 .0) in
     let fits = tally-fits y (start .good .1 .1 .0) in
     let narrow = numbers .store-numbers .ensures .1 in
     let is =
-    laid-whole m y long (start .args .state .now) (start .pre) _ _ _ _ _ _ _ _
+    laid-whole m y long (start .args .state .now) (start .pre) _ _ _ _ _ _ _ _ _
     (subjects .store-subjects .ensures)
     (objects .store-objects .ensures)
     (handles .store-handles .ensures)
@@ -84,7 +102,8 @@ returns c =
     (gone .store-number2 .ensures .0)
     refl
     (kept .store-needs .ensures .0)
-    (numbers .store-numbers .ensures .0) in
+    (numbers .store-numbers .ensures .0)
+    (groups .store-groups .ensures) in
     record {
       size = ap length is ∙ bytes-length m y long;
       bytes = is;
@@ -107,5 +126,6 @@ store-spec =
     slice-write-state
     store-needs-requires
     store-numbers-requires
+    store-groups-requires
     same-length
     returns)

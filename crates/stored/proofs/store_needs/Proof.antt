@@ -5,13 +5,13 @@ use Prim.Native.Nat.{_-_}
 use native.Mathlib.Omega.{arith}
 use lib.ListN.{length}
 use borrow.Author.Needs.{needs}
-use Rattle.stored.specs.State.{need-width, need-record, needs-at, need-bytes}
+use Rattle.stored.specs.State.{byte-width, byte-record, needs-at, need-bytes}
 use Rattle.stored.proofs.Storing.{Laid, laid-none, laid-long, laid-more, laid-all}
 use Rattle.stored.proofs.store_needs.Statement.{statement}
 use Rattle.stored.proofs.store_needs.Tie as tie
 
 abbrev Inv-loop : tie.InvT-loop
-Inv-loop state₀ needs i₀ state i = Laid need-record need-width needs-at 96 needs state₀ state i
+Inv-loop state₀ needs i₀ state i = Laid byte-record byte-width needs-at 96 needs state₀ state i
 
 abbrev μ-loop : tie.MeasureT-loop
 μ-loop state₀ needs i₀ state i = 96 - i
@@ -19,7 +19,7 @@ abbrev μ-loop : tie.MeasureT-loop
 loop-holds : tie.Need-loop-holds Inv-loop μ-loop
 loop-holds c =
     let long : length (c .args .t2) ≡ 96 = search needs in
-    laid-none need-record need-width needs-at 96 _ _ (λ x. refl) long (omega (arith, c .pre))
+    laid-none byte-record byte-width needs-at 96 _ _ (λ x. refl) long (omega (arith, c .pre))
 
 add-place : tie.Need-add-place Inv-loop μ-loop
 add-place c = search needs

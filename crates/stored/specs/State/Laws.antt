@@ -1,18 +1,19 @@
 -- Laws of the state's bytes. In order: records of bytes; numbers; the bytes of a monitor and a tally are read back; the empty state. Assumes
 -- nothing.
 use mathlib.Core.Path.{_≡_, refl, sym, ap, ap₂, _∙_, subst, fun-ext}
-use mathlib.Core.Bool.{Bool, true, false, not, _&&_, cond}
+use mathlib.Core.Bool.{Bool, true, false, not, _&&_, _||_, cond, or-false}
 use mathlib.Core.Option.{Option, none}
 use mathlib.Core.List.{List, [], _∷_, _++_, map, append-assoc, append-nil}
 use Prim.Native.Nat.{ℕ, zero, suc, _+_, _*_, _/_, _^_, _<_}
 use native.Mathlib.Omega.{arith}
+use native.Mathlib.Decide.{decLt}
 use native.Mathlib.Nat.{mul-zero, mul-suc}
 use borrow.Author.Tests.{lt-ltb, ne-eqb, ltb-false}
 use lib.Dec.{T, ltb, eqb}
-use lib.ListN.{length, take, drop, getD, set, replicate, length-append, length-replicate, length-map, List·getD-map}
+use lib.ListN.{length, take, drop, getD, set, replicate, length-append, length-replicate, getD-replicate, length-map, List·getD-map, List·getD-eq-default}
 use lib.Seq.{take-at, drop-at, drop-drop, getD-drop, set-at}
 use Rattle.model.specs.Flow.{Thing, subject, object}
-use Rattle.model.specs.Tables.{Tables, no-freeze, empty, clean, with-at, with-hand, with-freeze, with-numbers, subjects, objects, places}
+use Rattle.model.specs.Tables.{Tables, no-freeze, empty, clean, with-at, with-hand, with-freeze, with-numbers, with-kin, subjects, objects, places}
 use Rattle.model.specs.Invariant.{Wf}
 use Rattle.model.specs.Invariant.Laws.{clean-same, empty-wf}
 use Rattle.model.specs.Figures.{Ready}
@@ -32,13 +33,15 @@ use Rattle.model.specs.Tables.Numbers.{by-number}
 use Rattle.tables.specs.Working.{some-below}
 use Rattle.tables.specs.Slots.{slot-used, repeated, singled, single}
 use Rattle.gatekeeper.specs.View.{used-slots, slots, called, straight-view, once, view, Right, Whole}
+use Rattle.groups.specs.Groups.{stands, kin-of}
+use Rattle.groups.specs.Groups.Laws.{kin-live}
 use Rattle.gatekeeper.proofs.Numbered.{empty-view}
 use Rattle.tally.specs.Counting.{counts-of}
-use Rattle.stored.specs.State.{state-bytes, subject-width, object-width, handle-width, objects-at, handles-at, made-at, gone-at, freeze-at, needs-at, numbers-at, need-width, number-width}
+use Rattle.stored.specs.State.{state-bytes, subject-width, object-width, handle-width, objects-at, handles-at, made-at, gone-at, freeze-at, needs-at, numbers-at, groups-at, byte-width, number-width}
 use Rattle.stored.specs.State.{records, flat, live-of, sort-of, kinds, ways, live-byte, sort-byte, subject-of, subject-record, object-of, object-record}
-use Rattle.stored.specs.State.{handle-of, handle-record, need-of, need-record, whole, digits}
-use Rattle.stored.specs.State.{subjects-of, objects-of, handles-of, made-of, gone-of, freeze-of, needs-of, numbers-of, monitor-of, tally-of}
-use Rattle.stored.specs.State.{subject-bytes, object-bytes, handle-bytes, need-bytes, number-bytes, Narrow, bytes-of, blank-bytes, state-view, state-right, Blank}
+use Rattle.stored.specs.State.{handle-of, handle-record, byte-of, byte-record, whole, digits}
+use Rattle.stored.specs.State.{subjects-of, objects-of, handles-of, made-of, gone-of, freeze-of, needs-of, numbers-of, groups-of, monitor-of, tally-of}
+use Rattle.stored.specs.State.{subject-bytes, object-bytes, handle-bytes, need-bytes, number-bytes, group-bytes, Narrow, bytes-of, blank-bytes, state-view, state-right, Blank}
 
 -- ── records of bytes ──
 module _ {A : Type 0} (f : List ℕ → A) (w : ℕ) where
@@ -103,6 +106,7 @@ pub record Long (m : Monitor) : Type 0 where
   pub handles : length (m .handles) ≡ 512
   pub needs : length (m .needs) ≡ 96
   pub numbers : length (m .numbers) ≡ 64
+  pub groups : length (m .groups) ≡ 32
 
 pub narrow-of : (l : List ℕ) → ((j : ℕ) → j < length l → getD l j 0 < 2 ^ 64) → Narrow l
 narrow-of [] h = tt
@@ -173,6 +177,7 @@ plain m = record {
   handles = map plain-handle (m .handles);
   freeze = m .freeze;
   needs = m .needs;
+  groups = m .groups;
   sure = 0;
 }
 
@@ -205,13 +210,22 @@ once-plain m = ap (λ (os : List Object). record {
   handles = map plain-handle (m .handles);
   freeze = m .freeze;
   needs = m .needs;
+  groups = m .groups;
   sure = 0;
 }) (single-map (m .objects) (m .numbers))
+
+-- the same subjects are live, and so the groups are the same
+kin-plain : (ss : List Subject) (gs : List ℕ) → kin-of (map plain-subject ss) gs ≡ kin-of ss gs
+kin-plain ss gs = kin-live ss (map plain-subject ss) gs same
+  where
+    same : (a : ℕ) → stands (map plain-subject ss) a ≡ stands ss a
+    same a = ap (λ (x : Subject). not (eqb (x .live) 0)) (List·getD-map plain-subject ss a no-subject) ∙ ap not (live-tested (getD ss a no-subject .live))
 
 -- the tables by slot
 plain-slots : (m : Monitor) → slots (plain m) ≡ slots m
 unfolding tables-of
-plain-slots m = λ i. with-hand (with-at (with-numbers (with-freeze empty (m .freeze)) (used-slots-same (m .objects) i)) (fun-ext at i)) (fun-ext (λ s. fun-ext (λ p. place s p)) i)
+plain-slots m = λ i. with-hand (with-at (with-kin (with-numbers (with-freeze empty (m .freeze)) (used-slots-same (m .objects) i)) (kin-plain (m .subjects) (m .groups) i)) (fun-ext at i))
+    (fun-ext (λ s. fun-ext (λ p. place s p)) i)
   where
     place : (s p : ℕ) → cond (ltb p places) (held (getD (map plain-handle (m .handles)) (s * 16 + p) no-handle)) none ≡ cond (ltb p places) (held (getD (m .handles) (s * 16 + p) no-handle)) none
     place s p = ap (λ (v : Option Held). cond (ltb p places) v none)
@@ -241,10 +255,10 @@ plain-bytes m y = λ i. flat-map subject-record plain-subject (λ x. ap (λ (n :
     ++ flat-map object-record plain-object (λ x. ap (λ (n : ℕ). n ∷ drop 1 (object-record x)) (sort-same kinds (x .kind) (omega arith))) (m .objects) i
     ++ flat-map handle-record plain-handle (λ x. ap₂ (λ (n k : ℕ). n ∷ x .object ∷ k ∷ []) (sort-same ways (x .way) (omega arith)) (live-same (x .mark)))
     (m .handles) i
-    ++ digits 8 (y .made) ++ digits 8 (y .gone) ++ (m .freeze ∷ []) ++ need-bytes (m .needs) ++ number-bytes (m .numbers)
+    ++ digits 8 (y .made) ++ digits 8 (y .gone) ++ (m .freeze ∷ []) ++ need-bytes (m .needs) ++ number-bytes (m .numbers) ++ group-bytes (m .groups)
 
 -- a byte is stored as it is
-pub as-they-are : (l : List ℕ) → map (λ n. need-of (need-record n)) l ≡ l
+pub as-they-are : (l : List ℕ) → map (λ n. byte-of (byte-record n)) l ≡ l
 as-they-are [] = refl
 as-they-are (n ∷ l) = ap (λ (t : List ℕ). n ∷ t) (as-they-are l)
 
@@ -261,12 +275,22 @@ module _ (n m : ℕ) (s p t : List ℕ) (e : drop n s ≡ p ++ t) (h : length p 
   behind : drop (n + m) s ≡ t
   behind = sym (drop-drop m n s) ∙ ap (drop m) e ∙ drop-at p t m h
 
+-- bytes that are stored as they are: so many of them, and read back
+pub bytes-count : (l : List ℕ) (n : ℕ) → length l ≡ n → length (flat byte-record l) ≡ byte-width * n
+bytes-count l n h = length-flat byte-record byte-width (λ x. refl) l ∙ ap (λ (k : ℕ). byte-width * k) h
+
+pub bytes-back : (l : List ℕ) (n : ℕ) (t : List ℕ) → length l ≡ n → records byte-of byte-width n (flat byte-record l ++ t) ≡ l
+bytes-back l n t h = ap (λ (k : ℕ). records byte-of byte-width k (flat byte-record l ++ t)) (sym h) ∙ records-flat byte-record byte-width (λ x. refl) byte-of l t ∙ as-they-are l
+
 module _ (m : Monitor) (y : Tally) (long : Long m) where
   abbrev s : List ℕ
   s = bytes-of m y
 
+  abbrev after-needs : List ℕ
+  after-needs = number-bytes (m .numbers) ++ group-bytes (m .groups)
+
   abbrev last : List ℕ
-  last = m .freeze ∷ (need-bytes (m .needs) ++ number-bytes (m .numbers))
+  last = m .freeze ∷ (need-bytes (m .needs) ++ after-needs)
 
   abbrev after-made : List ℕ
   after-made = digits 8 (y .gone) ++ last
@@ -289,13 +313,17 @@ module _ (m : Monitor) (y : Tally) (long : Long m) where
   unfolding handle-bytes
   handles-count = omega (arith, length-flat handle-record handle-width (λ x. refl) (m .handles), long .handles)
 
-  pub needs-count : length (need-bytes (m .needs)) ≡ need-width * (subjects + objects)
+  pub needs-count : length (need-bytes (m .needs)) ≡ byte-width * (subjects + objects)
   unfolding need-bytes
-  needs-count = omega (arith, length-flat need-record need-width (λ x. refl) (m .needs), long .needs)
+  needs-count = bytes-count (m .needs) (subjects + objects) (long .needs)
 
   pub numbers-count : length (number-bytes (m .numbers)) ≡ number-width * objects
   unfolding number-bytes
   numbers-count = omega (arith, length-flat (digits 8) number-width (length-digits 8) (m .numbers), long .numbers)
+
+  pub groups-count : length (group-bytes (m .groups)) ≡ byte-width * subjects
+  unfolding group-bytes
+  groups-count = bytes-count (m .groups) subjects (long .groups)
 
   from-0 : drop 0 s ≡ subject-bytes (m .subjects) ++ (object-bytes (m .objects) ++ after-objects)
   unfolding bytes-of
@@ -316,11 +344,14 @@ module _ (m : Monitor) (y : Tally) (long : Long m) where
   from-freeze : drop freeze-at s ≡ last
   from-freeze = behind gone-at 8 s (digits 8 (y .gone)) last from-gone (length-digits 8 (y .gone))
 
-  from-needs : drop needs-at s ≡ need-bytes (m .needs) ++ number-bytes (m .numbers)
-  from-needs = behind freeze-at 1 s (m .freeze ∷ []) (need-bytes (m .needs) ++ number-bytes (m .numbers)) from-freeze refl
+  from-needs : drop needs-at s ≡ need-bytes (m .needs) ++ after-needs
+  from-needs = behind freeze-at 1 s (m .freeze ∷ []) (need-bytes (m .needs) ++ after-needs) from-freeze refl
 
-  from-numbers : drop numbers-at s ≡ number-bytes (m .numbers)
-  from-numbers = behind needs-at (need-width * (subjects + objects)) s (need-bytes (m .needs)) (number-bytes (m .numbers)) from-needs needs-count
+  from-numbers : drop numbers-at s ≡ after-needs
+  from-numbers = behind needs-at (byte-width * (subjects + objects)) s (need-bytes (m .needs)) after-needs from-needs needs-count
+
+  from-groups : drop groups-at s ≡ group-bytes (m .groups)
+  from-groups = behind numbers-at (number-width * objects) s (number-bytes (m .numbers)) (group-bytes (m .groups)) from-numbers numbers-count
 
   -- the bytes of a monitor and a tally have the length of a state
   pub bytes-length : length (bytes-of m y) ≡ state-bytes
@@ -335,9 +366,11 @@ module _ (m : Monitor) (y : Tally) (long : Long m) where
     subjects-count,
     objects-count,
     handles-count,
-    length-append (need-bytes (m .needs)) (number-bytes (m .numbers)),
+    length-append (need-bytes (m .needs)) after-needs,
+    length-append (number-bytes (m .numbers)) (group-bytes (m .groups)),
     needs-count,
     numbers-count,
+    groups-count,
     length-digits 8 (y .made),
     length-digits 8 (y .gone),
   )
@@ -364,13 +397,17 @@ module _ (m : Monitor) (y : Tally) (long : Long m) where
   -- and the kept needs, as they are
   pub needs-back : needs-of (bytes-of m y) ≡ m .needs
   unfolding needs-of need-bytes
-  needs-back = ap₂ (records need-of need-width) (sym (long .needs)) from-needs
-      ∙ records-flat need-record need-width (λ x. refl) need-of (m .needs) (number-bytes (m .numbers)) ∙ as-they-are (m .needs)
+  needs-back = ap (records byte-of byte-width (subjects + objects)) from-needs ∙ bytes-back (m .needs) (subjects + objects) after-needs (long .needs)
 
   numbers-back : Narrow (m .numbers) → numbers-of (bytes-of m y) ≡ m .numbers
   unfolding numbers-of number-bytes
-  numbers-back h = ap₂ (records whole number-width) (sym (long .numbers)) (from-numbers ∙ sym (append-nil (number-bytes (m .numbers))))
-      ∙ records-flat (digits 8) number-width (length-digits 8) whole (m .numbers) [] ∙ numbers-as-they-are (m .numbers) h
+  numbers-back h = ap₂ (records whole number-width) (sym (long .numbers)) from-numbers
+      ∙ records-flat (digits 8) number-width (length-digits 8) whole (m .numbers) (group-bytes (m .groups)) ∙ numbers-as-they-are (m .numbers) h
+
+  -- and the groups
+  groups-back : groups-of (bytes-of m y) ≡ m .groups
+  unfolding groups-of group-bytes
+  groups-back = ap (records byte-of byte-width subjects) (from-groups ∙ sym (append-nil (group-bytes (m .groups)))) ∙ bytes-back (m .groups) subjects [] (long .groups)
 
   monitor-back : Narrow (m .numbers) → monitor-of (bytes-of m y) ≡ plain m
   monitor-back h = λ i. record {
@@ -380,6 +417,7 @@ module _ (m : Monitor) (y : Tally) (long : Long m) where
     handles = handles-back i;
     freeze = freeze-back i;
     needs = needs-back i;
+    groups = groups-back i;
     sure = 0;
   }
 
@@ -416,7 +454,18 @@ module _ (m : Monitor) (y : Tally) (long : Long m) where
 pub zeros-set : (s : List ℕ) → s ≡ replicate state-bytes 0 → set s freeze-at no-freeze ≡ blank-bytes
 unfolding blank-bytes
 zeros-set s z = ap (λ (l : List ℕ). set l freeze-at no-freeze) z
-    ∙ set-at (replicate freeze-at 0) 0 (replicate (subjects + objects + number-width * objects) 0) no-freeze freeze-at (length-replicate {A = ℕ} freeze-at 0)
+    ∙ set-at (replicate freeze-at 0) 0 (replicate (subjects + objects + number-width * objects + subjects) 0) no-freeze freeze-at (length-replicate {A = ℕ} freeze-at 0)
+
+-- where no subject is live, each is by itself
+kin-none : (gs : List ℕ) → kin-of (replicate 32 no-subject) gs ≡ eqb
+kin-none gs = fun-ext (λ a. fun-ext (λ b. ap (λ (p : Bool). eqb a b || (p && (stands (replicate 32 no-subject) b && eqb (getD gs a 0) (getD gs b 0)))) (gone a) ∙ or-false (eqb a b)))
+  where
+    gone : (a : ℕ) → stands (replicate 32 no-subject) a ≡ false
+    gone a = ap (λ (x : Subject). not (eqb (x .live) 0)) (go (decLt a 32))
+      where
+        go : Dec (a < 32) → getD (replicate 32 no-subject) a no-subject ≡ no-subject
+        go (yes l) = getD-replicate 32 a no-subject no-subject l
+        go (no h) = List·getD-eq-default (replicate 32 no-subject) no-subject {n = a} (omega (arith, length-replicate 32 no-subject))
 
 module _ (s : List ℕ) (z : s ≡ blank-bytes) where
   no-subjects : subjects-of s ≡ replicate 32 no-subject
@@ -435,9 +484,10 @@ module _ (s : List ℕ) (z : s ≡ blank-bytes) where
   unfolding freeze-of blank-bytes
   unfrozen = ap freeze-of z
 
-  -- no slot is in use, and nothing is frozen
+  -- no slot is in use, nothing is frozen, and no two subjects are in one group
   blank-slots : slots (monitor-of s) ≡ empty
-  blank-slots = (λ i. tables-of (with-numbers (with-freeze empty (unfrozen i)) (used-slots (no-objects i))) (no-subjects i) (no-objects i) (no-handles i)) ∙ empty-tables
+  blank-slots = (λ i. tables-of (with-kin (with-numbers (with-freeze empty (unfrozen i)) (used-slots (no-objects i))) (kin-of (no-subjects i) (groups-of s))) (no-subjects i) (no-objects i) (no-handles i))
+      ∙ ap (λ (k : ℕ → ℕ → Bool). tables-of (with-kin empty k) (replicate 32 no-subject) (replicate 64 no-object) (replicate 512 no-handle)) (kin-none (groups-of s)) ∙ empty-tables
 
   blank-view : state-view s ≡ empty
   blank-view = empty-view (monitor-of s) no-objects blank-slots .1
@@ -454,8 +504,8 @@ module _ (s : List ℕ) (z : s ≡ blank-bytes) where
 
   blank-length : length s ≡ state-bytes
   unfolding blank-bytes
-  blank-length = ap length z ∙ length-append (replicate freeze-at 0) (no-freeze ∷ replicate (subjects + objects + number-width * objects) 0)
-      ∙ ap (λ (k : ℕ). k + (1 + (subjects + objects + number-width * objects))) (length-replicate {A = ℕ} freeze-at 0)
+  blank-length = ap length z ∙ length-append (replicate freeze-at 0) (no-freeze ∷ replicate (subjects + objects + number-width * objects + subjects) 0)
+      ∙ ap (λ (k : ℕ). k + (1 + (subjects + objects + number-width * objects + subjects))) (length-replicate {A = ℕ} freeze-at 0)
 
   pub bytes-blank : Blank s
   bytes-blank = record { size = blank-length; tables = blank-view; right = blank-right; counts = blank-tally }

@@ -18,7 +18,7 @@ use Rattle.model.specs.Tables.{Handle as Held}
 use Rattle.model.specs.Tables.Laws.{used-is, live-of, open-here, open-at, handles-by}
 use Rattle.model.specs.Steps.{put, place, ended, reap}
 use Rattle.model.specs.Steps.Laws.{ended-of, ended-subject}
-use Rattle.model.specs.Invariant.{Wf}
+use Rattle.model.specs.Invariant.{Teams, Wf}
 use Rattle.model.specs.Invariant.Laws.{clean-wf}
 use Rattle.tables.specs.declared.Subject.{Subject}
 use Rattle.tables.specs.declared.Object.{Object}
@@ -80,9 +80,9 @@ module _ (rest : Tables) (ss : List Subject) (os : List Object) (hs : List Handl
       go (no h) = absurd (subst (λ (e : Option Entry). T (is-some e)) (sym q ∙ ap object-entry (List·getD-eq-default os no-object {n = o} (omega arith)))
           (subst T (used-is t (object o)) (live-of t (object o) l .1)))
 
-  pub cleaned-wf : (t : Tables) → length ss ≡ 32 → length os ≡ 64 → t ≡ clean (tables-of rest ss os hs) → Wf t
+  pub cleaned-wf : (t : Tables) → length ss ≡ 32 → length os ≡ 64 → Teams (tables-of rest ss os hs) → t ≡ clean (tables-of rest ss os hs) → Wf t
   unfolding tables-of
-  cleaned-wf t ls lo e = subst Wf (sym e) (clean-wf (tables-of rest ss os hs) (λ x a q. housed-range x (within ls lo x a q)))
+  cleaned-wf t ls lo g e = subst Wf (sym e) (clean-wf (tables-of rest ss os hs) (λ x a q. housed-range x (within ls lo x a q)) g)
 
 -- ── the empty tables ──
 pub empty-tables : tables-of empty (replicate 32 no-subject) (replicate 64 no-object) (replicate 512 no-handle) ≡ empty

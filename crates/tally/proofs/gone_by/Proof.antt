@@ -6,11 +6,11 @@ use Rattle.tally.proofs.Pick.{here, past}
 use Rattle.tally.proofs.gone_by.Statement.{statement}
 use Rattle.tally.proofs.gone_by.Tie as tie
 
-dropped-by-requires : tie.Need-dropped-by-requires
-dropped-by-requires c κs = search needs
+shed-by-requires : tie.Need-shed-by-requires
+shed-by-requires c κs = search needs
 
 returns : tie.Need-returns
-returns c = λ h. here _ _ _ (eq-eqb _ _ (c .before .if1 .taken)) (c .dropped-by .ensures h)
+returns c = λ h. here _ _ _ (eq-eqb _ _ (c .before .if1 .taken)) (c .shed-by .ensures h)
 
 returns-2 : tie.Need-returns-2
 returns-2 c = λ h. past _ _ _ (ne-eqb _ _ (c .before .if1 .left)) (here _ _ _ (eq-eqb _ _ (c .if2 .taken)) refl)
@@ -27,4 +27,4 @@ returns-4 c = λ h. past _ _ _ (ne-eqb _ _ (c .before .before .if1 .left)) (past
     (past _ _ _ (ne-eqb _ _ (c .if3 .left)) refl))
 
 pub gone-by-spec : {M : Type 1} → statement M
-gone-by-spec = tie.close (tie.spec dropped-by-requires returns returns-2 held-by-requires returns-3 returns-4)
+gone-by-spec = tie.close (tie.spec shed-by-requires returns returns-2 held-by-requires returns-3 returns-4)

@@ -1,8 +1,10 @@
 //! Handles to close: which of them are enough for a call that was refused with 9, and how that is said.
 
+use std::cmp::Reverse;
+
 use gatekeeper::{Call, Refusal, State as Monitor};
 
-use super::cut::{self, Whose};
+use super::cut::{self, Asker, Whose};
 use super::{aim_after, close_calls, refusal_of, tried, Counsel};
 use crate::scene::{capital, listed, way_word, Scene};
 use crate::things::{handles, handles_on, is_pipe, objects, Held, Thing};
@@ -17,7 +19,7 @@ pub struct Closes {
 /// Handles whose closing lets a call that was refused with 9 through, none of them needless; none where no set of
 /// closes does. `whose` says which handles may be closed.
 pub fn enough(call: Call, monitor: &Monitor, whose: Whose) -> Option<Closes> {
-    let caller = call.numbers()[0];
+    let asker = Asker::of(call, monitor);
     let calls_for = |set: &[Held]| aim_after(monitor, &close_calls(set), call);
     let may_close = |held: &Held| match whose {
         Whose::Only(step) => held.step == step,
@@ -40,7 +42,7 @@ pub fn enough(call: Call, monitor: &Monitor, whose: Whose) -> Option<Closes> {
             let set: Vec<Held> = cut::closes(call, monitor, whose, &kept)
                 .filter(|set| calls_for(set).is_some())
                 .unwrap_or_else(all);
-            let total = |set: &[Held]| set.iter().map(|held| cut::cost(held, caller)).sum::<u64>();
+            let total = |set: &[Held]| set.iter().map(|held| asker.cost(held)).sum::<u64>();
             let is_better = found.as_ref().is_none_or(|known| total(&set) < total(known));
             if is_better && calls_for(&set).is_some() {
                 found = Some(set);
@@ -49,7 +51,7 @@ pub fn enough(call: Call, monitor: &Monitor, whose: Whose) -> Option<Closes> {
     }
     let mut set = found?;
     // What proves needless is left out, others' handles first: all that let the same flow through, or none of them.
-    set.sort_by_key(|held| (held.step == caller, held.step, held.flow(), held.place));
+    set.sort_by_key(|held| (Reverse(asker.cost(held)), held.step, held.flow(), held.place));
     let mut flows: Vec<(Thing, Thing)> = set.iter().map(|held| held.flow()).collect();
     flows.dedup();
     for flow in flows {
@@ -58,7 +60,7 @@ pub fn enough(call: Call, monitor: &Monitor, whose: Whose) -> Option<Closes> {
             set = fewer;
         }
     }
-    set.sort_by_key(|held| (held.step != caller, held.step, held.place));
+    set.sort_by_key(|held| (asker.cost(held), held.step, held.place));
     let calls = calls_for(&set)?;
     Some(Closes { handles: set, calls })
 }
@@ -69,26 +71,31 @@ pub fn handle_words(handles: &[Held], scene: Scene) -> String {
     let mut steps: Vec<u64> = handles.iter().map(|held| held.step).collect();
     steps.dedup();
     let of_step = |step: u64| {
-        let mut groups: Vec<(Held, Vec<String>)> = Vec::new();
-        for held in handles.iter().filter(|held| held.step == step) {
-            let is_like =
-                |other: &Held| other.object() == held.object() && other.handle.way == held.handle.way;
-            match groups.iter_mut().find(|(first, _)| is_like(first)) {
-                Some((_, places)) => places.push(held.place.to_string()),
-                None => groups.push((*held, vec![held.place.to_string()])),
-            }
-        }
-        let words: Vec<String> = groups
-            .into_iter()
-            .map(|(held, places)| {
-                let word = if places.len() == 1 { "place" } else { "places" };
-                let way = way_word(held.handle.way);
-                format!("{word} {} ({way} {})", places.join(", "), scene.object(held.object()))
-            })
-            .collect();
-        format!("{} of {}", listed(&words, "and"), scene.step(step))
+        let own: Vec<Held> = handles.iter().filter(|held| held.step == step).copied().collect();
+        format!("{} of {}", places_words(&own, scene), scene.step(step))
     };
     steps.into_iter().map(of_step).collect::<Vec<String>>().join(", and ")
+}
+
+/// Handles of one step by what they are for: "place 1 (writing pipe 37) and places 2, 4 (writing file 0)".
+pub fn places_words(handles: &[Held], scene: Scene) -> String {
+    let mut groups: Vec<(Held, Vec<String>)> = Vec::new();
+    for held in handles {
+        let is_like = |other: &Held| other.object() == held.object() && other.handle.way == held.handle.way;
+        match groups.iter_mut().find(|(first, _)| is_like(first)) {
+            Some((_, places)) => places.push(held.place.to_string()),
+            None => groups.push((*held, vec![held.place.to_string()])),
+        }
+    }
+    let words: Vec<String> = groups
+        .into_iter()
+        .map(|(held, places)| {
+            let word = if places.len() == 1 { "place" } else { "places" };
+            let way = way_word(held.handle.way);
+            format!("{word} {} ({way} {})", places.join(", "), scene.object(held.object()))
+        })
+        .collect();
+    listed(&words, "and")
 }
 
 /// The pipes that end where these handles are closed.

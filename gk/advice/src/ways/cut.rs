@@ -3,14 +3,15 @@
 //! A call that is refused with 9 joins two sides: data that could come to it, and files that it could go on to. It is
 //! let through once there is a level that nothing on the first side is below and no file on the second side is above.
 //! For each such level the fewest handles are sought that keep everything lower away from the one side, and that keep
-//! the other side away from every higher file. A handle of another step costs more than all of the caller's own, so
-//! that the caller's are taken where they are enough. What is found here is tried by the caller of these functions.
+//! the other side away from every higher file. A handle of a mate costs more than all of the caller's own, and one of
+//! another step more than all of these, so that the caller's are taken where they are enough. Between the threads of a step
+//! nothing can be closed. What is found here is tried by the caller of these functions.
 
 use gatekeeper::{Call, State as Monitor};
 
-use gk_chain::Things;
+use gk_chain::{shared, Things};
 
-use crate::things::{handles, is_file, level, objects, steps, Held, Thing};
+use crate::things::{handles, is_file, level, mates, objects, steps, Held, Thing};
 
 /// Whose handles may be closed.
 #[derive(Clone, Copy, Debug, PartialEq, Eq)]
@@ -19,19 +20,35 @@ pub enum Whose {
     Anyones,
 }
 
-/// What a handle of another step costs, when one of the caller costs 1: more than all that a step can hold.
-const OTHERS: u64 = 32;
-/// What the closing of a handle costs where a step asks.
-pub fn cost(held: &Held, caller: u64) -> u64 {
-    if held.step == caller {
-        1
-    } else {
-        OTHERS
+/// What a handle of a mate costs, when one of the caller costs 1: more than all that a step can hold. And what one of
+/// another step costs: more than all that the mates can hold.
+const MATES: u64 = 32;
+const OTHERS: u64 = 1 << 14;
+
+/// The step that asks, and its mates.
+pub struct Asker {
+    step: u64,
+    mates: Vec<u64>,
+}
+
+impl Asker {
+    pub fn of(call: Call, monitor: &Monitor) -> Asker {
+        let step = call.numbers()[0];
+        Asker { step, mates: mates(monitor, step).collect() }
+    }
+
+    /// What the closing of a handle costs where this step asks.
+    pub fn cost(&self, held: &Held) -> u64 {
+        match held.step {
+            step if step == self.step => 1,
+            step if self.mates.contains(&step) => MATES,
+            _ => OTHERS,
+        }
     }
 }
 
 /// What cannot be closed costs more than all handles together.
-const NEVER: u64 = 1 << 20;
+const NEVER: u64 = 1 << 24;
 
 /// The two nodes before those of the things.
 const SOURCE: usize = 0;
@@ -72,20 +89,28 @@ impl Sides {
 /// no closing does.
 pub fn closes(call: Call, monitor: &Monitor, whose: Whose, kept: &[Held]) -> Option<Vec<Held>> {
     let sides = Sides::of(call)?;
+    let asker = Asker::of(call, monitor);
+    // RULES R110: these go with the exec.
+    let is_ended = |step: u64| sides.is_exec && asker.mates.contains(&step);
     let counted: Vec<Held> = handles(monitor)
-        // RULES R110: these go with the exec.
         .filter(|held| {
-            !(sides.is_exec && held.step == sides.caller && (held.handle.marked || held.is_mapping()))
+            let ends = held.step == sides.caller && (held.handle.marked || held.is_mapping());
+            !(sides.is_exec && ends || is_ended(held.step))
         })
         .collect();
     let cost_of = |held: &Held| match whose {
         _ if kept.contains(held) => NEVER,
         Whose::Only(step) if held.step != step => NEVER,
-        _ => cost(held, sides.caller),
+        _ => asker.cost(held),
     };
+    let is_left = |thing: Thing| !matches!(thing, Thing::Step(step) if is_ended(step));
     let graph = Graph {
         things: Things::of(monitor, &[]),
         edges: counted.iter().map(|held| (*held, cost_of(held))).collect(),
+        shared: shared(monitor)
+            .into_iter()
+            .filter(|&(one, other)| is_left(one) && is_left(other))
+            .collect(),
     };
     let things: Vec<(Thing, u8)> = steps(monitor)
         .map(Thing::Step)
@@ -168,10 +193,12 @@ impl Network {
     }
 }
 
-/// The handles that are counted, each with what its closing costs, and the things that they join.
+/// The handles that are counted, each with what its closing costs, the flows between threads, and the things that these
+/// join.
 struct Graph {
     things: Things,
     edges: Vec<(Held, u64)>,
+    shared: Vec<(Thing, Thing)>,
 }
 
 impl Graph {
@@ -191,6 +218,11 @@ impl Graph {
         for &(held, cost) in &self.edges {
             if let Some((one, other)) = self.ends(held) {
                 network.join(one, other, cost);
+            }
+        }
+        for &(from, to) in &self.shared {
+            if let Some((one, other)) = self.node(from).zip(self.node(to)) {
+                network.join(one, other, NEVER);
             }
         }
         for node in from.iter().filter_map(|&thing| self.node(thing)) {

@@ -1,5 +1,5 @@
-//! Ways out of a refusal 9: close what leads up, mark it, let another step do it, have the file looked over, or go one
-//! way where two were asked for.
+//! Ways out of a refusal 9: close what leads up, mark it, let another step do it, or another thread of the same step, have
+//! the file looked over, or go one way where two were asked for.
 
 use gatekeeper::{Call, State as Monitor};
 
@@ -8,7 +8,7 @@ use super::cut::Whose;
 use super::{aim, aim_after, from_level, once_open, or_above, tried, with_others, Counsel};
 use crate::calls::with_number;
 use crate::scene::Scene;
-use crate::things::{empty_places, handles_of, handles_on, is_file, steps, Held, Thing, STEPS};
+use crate::things::{empty_places, handles_of, handles_on, is_file, mates, steps, Held, Thing, STEPS};
 
 /// The ways out, the cheapest first.
 pub fn counsel(call: Call, scene: Scene) -> Counsel {
@@ -31,7 +31,10 @@ pub fn counsel(call: Call, scene: Scene) -> Counsel {
             other_steps(call, scene, &mut counsel);
             forked_step(call, scene, &mut counsel);
         }
-        Call::Exec { .. } => forked_step(call, scene, &mut counsel),
+        Call::Exec { .. } => {
+            other_threads(call, scene, &mut counsel);
+            forked_step(call, scene, &mut counsel);
+        }
         Call::Connect { .. } => one_way(call, scene, &mut counsel),
         _ => {}
     }
@@ -135,6 +138,21 @@ fn other_steps(call: Call, scene: Scene, counsel: &mut Counsel) {
         let verb = again(call);
         let when = once_open(&calls);
         counsel.way(format!("let another step {verb}{when}: {} may.", with_others(&able)), calls);
+    }
+}
+
+/// RULES C116: an exec by a mate, which ends the others with what they hold.
+fn other_threads(call: Call, scene: Scene, counsel: &mut Counsel) {
+    let monitor = scene.monitor;
+    let runs = |mate: u64| aim(monitor, with_number(call, "s", mate)).map(|calls| (mate, calls));
+    let able: Vec<(u64, Vec<Call>)> = mates(monitor, call.numbers()[0]).filter_map(runs).collect();
+    if let Some((_, calls)) = able.first() {
+        let words: Vec<String> = able.iter().map(|&(mate, _)| scene.step(mate)).collect();
+        let text = format!(
+            "let another thread of the same step run it: {} may. The others end with that, and what they hold is closed.",
+            with_others(&words)
+        );
+        counsel.way(text, calls.clone());
     }
 }
 

@@ -79,7 +79,7 @@ pub fn missing_step(call: Call, scene: Scene) -> Counsel {
 pub fn taken(call: Call, scene: Scene) -> Counsel {
     match call {
         Call::Admit { .. } => taken_step(call, "s", scene),
-        Call::Fork { .. } => taken_step(call, "c", scene),
+        Call::Fork { .. } | Call::Thread { .. } => taken_step(call, "c", scene),
         Call::Connect { .. } => taken_objects(call, &["a", "b"], scene),
         _ => taken_objects(call, &["o"], scene),
     }

@@ -1,10 +1,12 @@
 //! What the tests share: a trace in, the journal in words out.
 
+use std::collections::BTreeMap;
+
 use gk_trace::{journal_of, Failure, Levels, Options, Written};
 
 /// The calls of a journal, a line each, as `gk disassemble` has them.
 pub fn words(journal: &[u8]) -> Vec<String> {
-    const NAMES: [&str; 18] = [
+    const NAMES: [&str; 19] = [
         "?",
         "admit",
         "register",
@@ -23,6 +25,7 @@ pub fn words(journal: &[u8]) -> Vec<String> {
         "mark",
         "freeze",
         "connect",
+        "thread",
     ];
     let mut rest = journal;
     let number = |bytes: &mut &[u8]| {
@@ -78,4 +81,47 @@ pub fn refused(journal: &[u8]) -> Vec<(String, u32)> {
     let refused = fields.filter(|fields| fields.get(2) == Some(&"R"));
     let number = |word: &str| word.parse::<u32>().expect("a number");
     refused.map(|fields| (words[number(fields[0]) as usize - 1].clone(), number(fields[3]))).collect()
+}
+
+/// A journal and its replies as they are without threads: each call but those that make a thread or end one by itself,
+/// with its answer. A step is called by its turn, as threads take numbers, too.
+#[allow(dead_code)]
+pub fn plain(journal: &[u8]) -> Vec<(String, String)> {
+    let replies = gatekeeper::replay(journal);
+    let mut turns = 0;
+    let mut steps: BTreeMap<u64, u64> = BTreeMap::new();
+    // Threads, each with the step that they are threads of.
+    let mut threads: BTreeMap<u64, u64> = BTreeMap::new();
+    let mut lines = Vec::new();
+    for (words, reply) in words(journal).iter().zip(replies.lines()) {
+        let (name, numbers) = words.split_once(' ').expect("a call has numbers");
+        let mut numbers: Vec<u64> =
+            numbers.split(' ').map(|word| word.parse().expect("a number")).collect();
+        let answer = reply.split(' ').skip(2).collect::<Vec<_>>().join(" ");
+        match name {
+            "thread" => {
+                let of = threads.get(&numbers[0]).copied().unwrap_or(numbers[0]);
+                threads.insert(numbers[1], of);
+                continue;
+            }
+            "exit" if threads.remove(&numbers[0]).is_some() => continue,
+            "exec" if !answer.starts_with('R') => threads.retain(|_, of| *of != numbers[0]),
+            "admit" | "fork" => {
+                let made = if name == "admit" { numbers[0] } else { numbers[1] };
+                steps.insert(made, turns);
+                turns += 1;
+            }
+            _ => {}
+        }
+        let of_steps = match name {
+            "register" | "retire" | "freeze" => 0,
+            "fork" => 2,
+            _ => 1,
+        };
+        for number in &mut numbers[..of_steps] {
+            *number = steps[number];
+        }
+        lines.push((format!("{name} {numbers:?}"), answer));
+    }
+    lines
 }

@@ -36,6 +36,12 @@ cast-l c = search needs
 with-subject-requires : tie.Need-with-subject-requires
 with-subject-requires c κs = search needs
 
+fresh-requires : tie.Need-fresh-requires
+fresh-requires c κs = search needs
+
+with-requires : tie.Need-with-requires
+with-requires c κs = search needs
+
 with-subject-requires-2 : tie.Need-with-subject-requires-2
 with-subject-requires-2 c κs = search needs
 
@@ -43,15 +49,18 @@ returns-2 : tie.Need-returns-2
 returns-2 c =
     let c2 = c .before .before in
     let c3 = c2 .before in
-    let c4 = c3 .before in
-    let c5 = c4 .before in
-    let c7 = c5 .before .before in
-    let a = c7 .args in
-    let g = owned-long (a .self) (c7 .good .0) in
+    let c5 = c3 .before .before in
+    let c6 = c5 .before in
+    let c7 = c6 .before in
+    let c8 = c7 .before in
+    let c10 = c8 .before .before in
+    let a = c10 .args in
+    let g = owned-long (a .self) (c10 .good .0) in
     λ w.
-    let z = goes (c4 .of-admit .ensures (slots (a .self)) w
-    (subject-got (a .self) g (a .s) (c5 .subject-of .result) (c5 .subject-of .ensures))) (c3 .if1 .left) in
-    admits (a .self) g (a .s) (a .level) (c2 .with-subject .result) (c .with-subject2 .result) w z (c2 .with-subject .ensures) (c .with-subject2 .ensures)
+    let z = goes (c7 .of-admit .ensures (slots (a .self)) w
+    (subject-got (a .self) g (a .s) (c8 .subject-of .result) (c8 .subject-of .ensures))) (c6 .if1 .left) in
+    admits (a .self) g (a .s) (a .level) (c5 .with-subject .result) (c2 .with .result) (c3 .fresh .result) (c .with-subject2 .result) w z (c5 .with-subject .ensures)
+    (c3 .fresh .ensures) (c2 .with .ensures) (c .with-subject2 .ensures)
 
 pub admit-spec : {M : Type 1} → statement M
 admit-spec =
@@ -63,5 +72,7 @@ admit-spec =
     returns
     cast-l
     with-subject-requires
+    fresh-requires
+    with-requires
     with-subject-requires-2
     returns-2)

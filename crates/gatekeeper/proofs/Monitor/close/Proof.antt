@@ -54,23 +54,23 @@ closed-requires c κs = search needs
 
 returns-2 : tie.Need-returns-2
 returns-2 c =
-    let c2 = c .before .before in
-    let c3 = c2 .before in
+    let c3 = c .before .before .before in
     let c4 = c3 .before in
-    let c6 = c4 .before .before in
-    let c7 = c6 .before in
+    let c5 = c4 .before in
+    let c7 = c5 .before .before in
     let c8 = c7 .before in
     let c9 = c8 .before in
     let c10 = c9 .before in
-    let c14 = c10 .before .before .before .before in
-    let a = c14 .args in
-    let g = owned-long (a .self) (c14 .good .0) in
+    let c11 = c10 .before in
+    let c15 = c11 .before .before .before .before in
+    let a = c15 .args in
+    let g = owned-long (a .self) (c15 .good .0) in
     λ w.
-    let x = subject-got (a .self) g (a .s) (c10 .subject-of .result) (c10 .subject-of .ensures) in
-    let h = handle-got (a .self) g (a .s) (a .p) (c9 .handle-of .result) (c9 .handle-of .ensures) in
-    let z = goes (c8 .of-held .ensures (slots (a .self)) (a .s) (a .p) w x h .0) (c7 .if1 .left) in
-    closes (a .self) g (a .s) (a .p) (c10 .subject-of .result) (c9 .handle-of .result) (c4 .object-of .result) (c3 .outlived .result) (c2 .with-object .result)
-    (c6 .with-handle .result) (c .closed .result) w z x h (c4 .object-of .ensures) (c6 .with-handle .ensures) (c3 .outlived .ensures) (c2 .with-object .ensures)
+    let x = subject-got (a .self) g (a .s) (c11 .subject-of .result) (c11 .subject-of .ensures) in
+    let h = handle-got (a .self) g (a .s) (a .p) (c10 .handle-of .result) (c10 .handle-of .ensures) in
+    let z = goes (c9 .of-held .ensures (slots (a .self)) (a .s) (a .p) w x h .0) (c8 .if1 .left) in
+    closes (a .self) g (a .s) (a .p) (c11 .subject-of .result) (c10 .handle-of .result) (c5 .object-of .result) (c4 .outlived .result) (c3 .with-object .result)
+    (c7 .with-handle .result) (c .closed .result) w z x h (c5 .object-of .ensures) (c7 .with-handle .ensures) (c4 .outlived .ensures) (c3 .with-object .ensures)
     (c .closed .ensures)
 
 pub close-spec : {M : Type 1} → statement M

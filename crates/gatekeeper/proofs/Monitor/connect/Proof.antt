@@ -94,7 +94,46 @@ returns-2 c =
     let c2 = c1 .before in
     let c3 = c2 .before in
     let c4 = c3 .before in
-    let c5 = c4 .before in
+    let c6 = c4 .before .before in
+    let c7 = c6 .before in
+    let c8 = c7 .before in
+    let c9 = c8 .before in
+    let c10 = c9 .before in
+    let c11 = c10 .before in
+    let c12 = c11 .before in
+    let c13 = c12 .before in
+    let c14 = c13 .before in
+    let c15 = c14 .before in
+    let c16 = c15 .before in
+    let c17 = c16 .before in
+    let c18 = c17 .before in
+    let c19 = c18 .before in
+    let c23 = c19 .before .before .before .before in
+    let a = c23 .args in
+    let g = owned-long (a .self) (c23 .good .0) in
+    λ w room.
+    let x = subject-got (a .self) g (a .s) (c19 .subject-of .result) (c19 .subject-of .ensures) in
+    let y = subject-got (a .self) g (a .u) (c18 .subject-of2 .result) (c18 .subject-of2 .ensures) in
+    let z = waits (c11 .of-connect .ensures (slots (a .self)) w x y
+    (object-got (a .self) g (a .a) (c17 .object-of .result) (c17 .object-of .ensures))
+    (object-got (a .self) g (a .b) (c16 .object-of2 .result) (c16 .object-of2 .ensures))
+    (handle-got (a .self) g (a .s) (a .p) (c15 .handle-of .result) (c15 .handle-of .ensures))
+    (handle-got (a .self) g (a .s) (a .q) (c14 .handle-of2 .result) (c14 .handle-of2 .ensures))
+    (handle-got (a .self) g (a .u) (a .p) (c13 .handle-of3 .result) (c13 .handle-of3 .ensures))
+    (handle-got (a .self) g (a .u) (a .q) (c12 .handle-of4 .result) (c12 .handle-of4 .ensures)) room) (c10 .if1 .left) in
+    let e = c2 .last .ensures (slots (a .self)) (connect (a .s) (a .u) (a .a) (a .b) (a .p) (a .q)) z
+    (connect-late (a .self) g (a .s) (a .u) (a .a) (a .b) (a .p) (a .q) (c19 .subject-of .result) (c18 .subject-of2 .result) (c9 .with-object .result)
+    (c8 .with-object2 .result) (c7 .with-ends .result) (c6 .with-ends2 .result) (c4 .figures .result) w z room x y (c7 .with-ends .ensures)
+    (c6 .with-ends2 .ensures) (c9 .with-object .ensures) (c8 .with-object2 .ensures) (c4 .figures .ensures) (c3 .is-short .result)
+    (c3 .is-short .ensures)) in
+    ends (a .self) (connect (a .s) (a .u) (a .a) (a .b) (a .p) (a .q)) (c2 .last .result) (c .refuse2 .result) e (c1 .if2 .taken) (c .refuse2 .ensures)
+
+returns-3 : tie.Need-returns-3
+returns-3 c =
+    let c1 = c .before in
+    let c2 = c1 .before in
+    let c3 = c2 .before in
+    let c5 = c3 .before .before in
     let c6 = c5 .before in
     let c7 = c6 .before in
     let c8 = c7 .before in
@@ -121,53 +160,14 @@ returns-2 c =
     (handle-got (a .self) g (a .s) (a .q) (c13 .handle-of2 .result) (c13 .handle-of2 .ensures))
     (handle-got (a .self) g (a .u) (a .p) (c12 .handle-of3 .result) (c12 .handle-of3 .ensures))
     (handle-got (a .self) g (a .u) (a .q) (c11 .handle-of4 .result) (c11 .handle-of4 .ensures)) room) (c9 .if1 .left) in
-    let e = c2 .last .ensures (slots (a .self)) (connect (a .s) (a .u) (a .a) (a .b) (a .p) (a .q)) z
-    (connect-late (a .self) g (a .s) (a .u) (a .a) (a .b) (a .p) (a .q) (c18 .subject-of .result) (c17 .subject-of2 .result) (c8 .with-object .result)
-    (c7 .with-object2 .result) (c6 .with-ends .result) (c5 .with-ends2 .result) (c4 .figures .result) w z room x y (c6 .with-ends .ensures)
-    (c5 .with-ends2 .ensures) (c8 .with-object .ensures) (c7 .with-object2 .ensures) (c4 .figures .ensures) (c3 .is-short .result)
-    (c3 .is-short .ensures)) in
-    ends (a .self) (connect (a .s) (a .u) (a .a) (a .b) (a .p) (a .q)) (c2 .last .result) (c .refuse2 .result) e (c1 .if2 .taken) (c .refuse2 .ensures)
-
-returns-3 : tie.Need-returns-3
-returns-3 c =
-    let c1 = c .before in
-    let c2 = c1 .before in
-    let c3 = c2 .before in
-    let c4 = c3 .before in
-    let c5 = c4 .before in
-    let c6 = c5 .before in
-    let c7 = c6 .before in
-    let c8 = c7 .before in
-    let c9 = c8 .before in
-    let c10 = c9 .before in
-    let c11 = c10 .before in
-    let c12 = c11 .before in
-    let c13 = c12 .before in
-    let c14 = c13 .before in
-    let c15 = c14 .before in
-    let c16 = c15 .before in
-    let c17 = c16 .before in
-    let c21 = c17 .before .before .before .before in
-    let a = c21 .args in
-    let g = owned-long (a .self) (c21 .good .0) in
-    λ w room.
-    let x = subject-got (a .self) g (a .s) (c17 .subject-of .result) (c17 .subject-of .ensures) in
-    let y = subject-got (a .self) g (a .u) (c16 .subject-of2 .result) (c16 .subject-of2 .ensures) in
-    let z = waits (c9 .of-connect .ensures (slots (a .self)) w x y
-    (object-got (a .self) g (a .a) (c15 .object-of .result) (c15 .object-of .ensures))
-    (object-got (a .self) g (a .b) (c14 .object-of2 .result) (c14 .object-of2 .ensures))
-    (handle-got (a .self) g (a .s) (a .p) (c13 .handle-of .result) (c13 .handle-of .ensures))
-    (handle-got (a .self) g (a .s) (a .q) (c12 .handle-of2 .result) (c12 .handle-of2 .ensures))
-    (handle-got (a .self) g (a .u) (a .p) (c11 .handle-of3 .result) (c11 .handle-of3 .ensures))
-    (handle-got (a .self) g (a .u) (a .q) (c10 .handle-of4 .result) (c10 .handle-of4 .ensures)) room) (c8 .if1 .left) in
     let e = c1 .last .ensures (slots (a .self)) (connect (a .s) (a .u) (a .a) (a .b) (a .p) (a .q)) z
-    (connect-late (a .self) g (a .s) (a .u) (a .a) (a .b) (a .p) (a .q) (c17 .subject-of .result) (c16 .subject-of2 .result) (c7 .with-object .result)
-    (c6 .with-object2 .result) (c5 .with-ends .result) (c4 .with-ends2 .result) (c3 .figures .result) w z room x y (c5 .with-ends .ensures)
-    (c4 .with-ends2 .ensures) (c7 .with-object .ensures) (c6 .with-object2 .ensures) (c3 .figures .ensures) (c2 .is-short .result)
+    (connect-late (a .self) g (a .s) (a .u) (a .a) (a .b) (a .p) (a .q) (c18 .subject-of .result) (c17 .subject-of2 .result) (c8 .with-object .result)
+    (c7 .with-object2 .result) (c6 .with-ends .result) (c5 .with-ends2 .result) (c3 .figures .result) w z room x y (c6 .with-ends .ensures)
+    (c5 .with-ends2 .ensures) (c8 .with-object .ensures) (c7 .with-object2 .ensures) (c3 .figures .ensures) (c2 .is-short .result)
     (c2 .is-short .ensures)) in
-    connects (a .self) g (a .s) (a .u) (a .a) (a .b) (a .p) (a .q) (c17 .subject-of .result) (c16 .subject-of2 .result) (c7 .with-object .result)
-    (c6 .with-object2 .result) (c5 .with-ends .result) (c4 .with-ends2 .result) (c3 .figures .result) w z room x y (c5 .with-ends .ensures) (c4 .with-ends2 .ensures)
-    (c7 .with-object .ensures) (c6 .with-object2 .ensures) (c3 .figures .ensures) (frees e (c .if2 .left))
+    connects (a .self) g (a .s) (a .u) (a .a) (a .b) (a .p) (a .q) (c18 .subject-of .result) (c17 .subject-of2 .result) (c8 .with-object .result)
+    (c7 .with-object2 .result) (c6 .with-ends .result) (c5 .with-ends2 .result) (c3 .figures .result) w z room x y (c6 .with-ends .ensures) (c5 .with-ends2 .ensures)
+    (c8 .with-object .ensures) (c7 .with-object2 .ensures) (c3 .figures .ensures) (frees e (c .if2 .left))
 
 pub connect-spec : {M : Type 1} → statement M
 connect-spec =

@@ -61,6 +61,9 @@ freeze-requires c κs = search needs
 connect-requires : tie.Need-connect-requires
 connect-requires c κs = search needs
 
+thread-requires : tie.Need-thread-requires
+thread-requires c κs = search needs
+
 refuse-requires : tie.Need-refuse-requires
 refuse-requires c κs = search needs
 
@@ -133,11 +136,15 @@ unfolding decode
 returns-17 c = rw (c .before .match .keys17) (both (c .connect .ensures))
 
 returns-18 : tie.Need-returns-18
-returns-18 c =
+unfolding decode
+returns-18 c = rw (c .before .match .keys18) (unroomed (c .thread .ensures))
+
+returns-19 : tie.Need-returns-19
+returns-19 c =
     let c2 = c .before .before in
     let a = c2 .args in
     both (λ w r. subst (λ (k : Call). Acts (a .self) k (told (c .refuse .result .answer)) (c .refuse .result .monitor))
-    (sym (decode-unknown (direct (a .code) (a .a) (a .b) (a .c) (a .d) (a .e) (a .f)) (c .before .match .rest .0 .0 .0 .0 .0 .0 .0 .0 .0 .0 .0 .0 .0 .0 .0 .0 .1, (c .before .match .rest .0 .0 .0 .0 .0 .0 .0 .0 .0 .0 .0 .0 .0 .0 .0 .1, (c .before .match .rest .0 .0 .0 .0 .0 .0 .0 .0 .0 .0 .0 .0 .0 .0 .1, (c .before .match .rest .0 .0 .0 .0 .0 .0 .0 .0 .0 .0 .0 .0 .0 .1, (c .before .match .rest .0 .0 .0 .0 .0 .0 .0 .0 .0 .0 .0 .0 .1, (c .before .match .rest .0 .0 .0 .0 .0 .0 .0 .0 .0 .0 .0 .1, (c .before .match .rest .0 .0 .0 .0 .0 .0 .0 .0 .0 .0 .1, (c .before .match .rest .0 .0 .0 .0 .0 .0 .0 .0 .0 .1, (c .before .match .rest .0 .0 .0 .0 .0 .0 .0 .0 .1, (c .before .match .rest .0 .0 .0 .0 .0 .0 .0 .1, (c .before .match .rest .0 .0 .0 .0 .0 .0 .1, (c .before .match .rest .0 .0 .0 .0 .0 .1, (c .before .match .rest .0 .0 .0 .0 .1, (c .before .match .rest .0 .0 .0 .1, (c .before .match .rest .0 .0 .1, (c .before .match .rest .0 .1, (c .before .match .rest .1, tt)))))))))))))))))))
+    (sym (decode-unknown (direct (a .code) (a .a) (a .b) (a .c) (a .d) (a .e) (a .f)) (c .before .match .rest .0 .0 .0 .0 .0 .0 .0 .0 .0 .0 .0 .0 .0 .0 .0 .0 .0 .1, (c .before .match .rest .0 .0 .0 .0 .0 .0 .0 .0 .0 .0 .0 .0 .0 .0 .0 .0 .1, (c .before .match .rest .0 .0 .0 .0 .0 .0 .0 .0 .0 .0 .0 .0 .0 .0 .0 .1, (c .before .match .rest .0 .0 .0 .0 .0 .0 .0 .0 .0 .0 .0 .0 .0 .0 .1, (c .before .match .rest .0 .0 .0 .0 .0 .0 .0 .0 .0 .0 .0 .0 .0 .1, (c .before .match .rest .0 .0 .0 .0 .0 .0 .0 .0 .0 .0 .0 .0 .1, (c .before .match .rest .0 .0 .0 .0 .0 .0 .0 .0 .0 .0 .0 .1, (c .before .match .rest .0 .0 .0 .0 .0 .0 .0 .0 .0 .0 .1, (c .before .match .rest .0 .0 .0 .0 .0 .0 .0 .0 .0 .1, (c .before .match .rest .0 .0 .0 .0 .0 .0 .0 .0 .1, (c .before .match .rest .0 .0 .0 .0 .0 .0 .0 .1, (c .before .match .rest .0 .0 .0 .0 .0 .0 .1, (c .before .match .rest .0 .0 .0 .0 .0 .1, (c .before .match .rest .0 .0 .0 .0 .1, (c .before .match .rest .0 .0 .0 .1, (c .before .match .rest .0 .0 .1, (c .before .match .rest .0 .1, (c .before .match .rest .1, tt))))))))))))))))))))
     (halts (a .self) unknown 1 (c .refuse .result) (unknown-refused (slots (a .self))) (c .refuse .ensures)))
 
 pub dispatch-spec : {M : Type 1} → statement M
@@ -161,6 +168,7 @@ dispatch-spec =
     mark-requires
     freeze-requires
     connect-requires
+    thread-requires
     refuse-requires
     returns
     returns-2
@@ -179,4 +187,5 @@ dispatch-spec =
     returns-15
     returns-16
     returns-17
-    returns-18)
+    returns-18
+    returns-19)

@@ -2,7 +2,7 @@
 use Rattle.model.specs.Calls.{exec}
 use Rattle.gatekeeper.specs.View.{slots}
 use Rattle.gatekeeper.proofs.Acting.{stops, ends, waits, frees}
-use Rattle.gatekeeper.proofs.Owned.{owned-long}
+use Rattle.gatekeeper.proofs.Owned.{owned-long, remains-long}
 use Rattle.gatekeeper.proofs.Storing.{subject-got, object-got, exec-late, execs}
 use borrow.Author.Needs.{needs}
 use Rattle.gatekeeper.proofs.Monitor.exec.Statement.{statement}
@@ -34,8 +34,8 @@ returns c =
     (c2 .of-exec .ensures (slots (a .self)) (a .s) (a .o) w (subject-got (a .self) g (a .s) (c4 .subject-of .result) (c4 .subject-of .ensures))
     (object-got (a .self) g (a .o) (c3 .object-of .result) (c3 .object-of .ensures))) (c1 .if1 .taken) (c .refuse .ensures)
 
-shed-requires : tie.Need-shed-requires
-shed-requires c κs = search needs
+alone-requires : tie.Need-alone-requires
+alone-requires c κs = search needs
 
 figures-requires : tie.Need-figures-requires
 figures-requires c κs = search needs
@@ -55,20 +55,20 @@ returns-2 c =
     let c2 = c1 .before in
     let c4 = c2 .before .before in
     let c5 = c4 .before in
-    let c6 = c5 .before in
-    let c8 = c6 .before .before in
-    let c9 = c8 .before in
-    let c10 = c9 .before in
-    let c11 = c10 .before in
-    let c14 = c11 .before .before .before in
-    let a = c14 .args in
-    let g = owned-long (a .self) (c14 .good .0) in
+    let c8 = c5 .before .before .before in
+    let c11 = c8 .before .before .before in
+    let c12 = c11 .before in
+    let c13 = c12 .before in
+    let c14 = c13 .before in
+    let c17 = c14 .before .before .before in
+    let a = c17 .args in
+    let g = owned-long (a .self) (c17 .good .0) in
     λ w.
-    let x = subject-got (a .self) g (a .s) (c11 .subject-of .result) (c11 .subject-of .ensures) in
-    let y = object-got (a .self) g (a .o) (c10 .object-of .result) (c10 .object-of .ensures) in
-    let z = waits (c9 .of-exec .ensures (slots (a .self)) (a .s) (a .o) w x y) (c8 .if1 .left) in
+    let x = subject-got (a .self) g (a .s) (c14 .subject-of .result) (c14 .subject-of .ensures) in
+    let y = object-got (a .self) g (a .o) (c13 .object-of .result) (c13 .object-of .ensures) in
+    let z = waits (c12 .of-exec .ensures (slots (a .self)) (a .s) (a .o) w x y) (c11 .if1 .left) in
     let e = c2 .last .ensures (slots (a .self)) (exec (a .s) (a .o)) z
-    (exec-late (a .self) g (a .s) (a .o) (c10 .object-of .result) (c6 .shed .result) (c5 .figures .result) w z y (c6 .shed .ensures)
+    (exec-late (a .self) g (a .s) (a .o) (c13 .object-of .result) (c8 .alone .result .subjects) (c8 .alone .result .handles) (c5 .figures .result) w z y (c8 .alone .ensures .0)
     (c5 .figures .ensures) (c4 .of-subject .result) (c4 .of-subject .ensures)) in
     ends (a .self) (exec (a .s) (a .o)) (c2 .last .result) (c .refuse2 .result) e (c1 .if2 .taken) (c .refuse2 .ensures)
 
@@ -93,24 +93,24 @@ returns-3 c =
     let c7 = c6 .before in
     let c9 = c7 .before .before in
     let c10 = c9 .before in
-    let c11 = c10 .before in
-    let c13 = c11 .before .before in
-    let c14 = c13 .before in
-    let c15 = c14 .before in
-    let c16 = c15 .before in
-    let c19 = c16 .before .before .before in
-    let a = c19 .args in
-    let g = owned-long (a .self) (c19 .good .0) in
+    let c13 = c10 .before .before .before in
+    let c16 = c13 .before .before .before in
+    let c17 = c16 .before in
+    let c18 = c17 .before in
+    let c19 = c18 .before in
+    let c22 = c19 .before .before .before in
+    let a = c22 .args in
+    let g = owned-long (a .self) (c22 .good .0) in
     λ w.
-    let x = subject-got (a .self) g (a .s) (c16 .subject-of .result) (c16 .subject-of .ensures) in
-    let y = object-got (a .self) g (a .o) (c15 .object-of .result) (c15 .object-of .ensures) in
-    let z = waits (c14 .of-exec .ensures (slots (a .self)) (a .s) (a .o) w x y) (c13 .if1 .left) in
+    let x = subject-got (a .self) g (a .s) (c19 .subject-of .result) (c19 .subject-of .ensures) in
+    let y = object-got (a .self) g (a .o) (c18 .object-of .result) (c18 .object-of .ensures) in
+    let z = waits (c17 .of-exec .ensures (slots (a .self)) (a .s) (a .o) w x y) (c16 .if1 .left) in
     let e = c7 .last .ensures (slots (a .self)) (exec (a .s) (a .o)) z
-    (exec-late (a .self) g (a .s) (a .o) (c15 .object-of .result) (c11 .shed .result) (c10 .figures .result) w z y (c11 .shed .ensures)
+    (exec-late (a .self) g (a .s) (a .o) (c18 .object-of .result) (c13 .alone .result .subjects) (c13 .alone .result .handles) (c10 .figures .result) w z y (c13 .alone .ensures .0)
     (c10 .figures .ensures) (c9 .of-subject .result) (c9 .of-subject .ensures)) in
-    execs (a .self) g (a .s) (a .o) (c15 .object-of .result) (c11 .shed .result) (c10 .figures .result) w z y (c11 .shed .ensures) (c10 .figures .ensures)
-    (c16 .subject-of .result) (c5 .fallen .result) (c4 .with-subject .result) (c3 .reaped .result) _ x (frees e (c6 .if2 .left)) (c5 .fallen .ensures)
-    (c4 .with-subject .ensures) (c .not-refused .ensures) (c3 .reaped .ensures)
+    execs (a .self) g (a .s) (a .o) (c18 .object-of .result) (c13 .alone .result .subjects) (c13 .alone .result .handles) (c10 .figures .result) w z y (c13 .alone .ensures .0)
+    (c10 .figures .ensures) (c19 .subject-of .result) (c5 .fallen .result) (c4 .with-subject .result) (c3 .reaped .result) _ (remains-long (c13 .alone .result) (c13 .alone .ok)) (c13 .alone .ensures .1) x
+    (frees e (c6 .if2 .left)) (c5 .fallen .ensures) (c4 .with-subject .ensures) (c .not-refused .ensures) (c3 .reaped .ensures)
 
 pub exec-spec : {M : Type 1} → statement M
 exec-spec =
@@ -121,7 +121,7 @@ exec-spec =
     of-exec-requires
     refuse-requires
     returns
-    shed-requires
+    alone-requires
     figures-requires
     of-subject-requires
     last-requires

@@ -44,20 +44,20 @@ with-subject-requires c κs = search needs
 
 returns-2 : tie.Need-returns-2
 returns-2 c =
-    let c1 = c .before in
-    let c3 = c1 .before .before in
+    let c3 = c .before .before .before in
     let c4 = c3 .before in
-    let c7 = c4 .before .before .before in
-    let c8 = c7 .before in
+    let c5 = c4 .before in
+    let c8 = c5 .before .before .before in
     let c9 = c8 .before in
-    let c11 = c9 .before .before in
-    let a = c11 .args in
-    let g = owned-long (a .self) (c11 .good .0) in
+    let c10 = c9 .before in
+    let c12 = c10 .before .before in
+    let a = c12 .args in
+    let g = owned-long (a .self) (c12 .good .0) in
     λ w.
-    let x = subject-got (a .self) g (a .s) (c9 .subject-of .result) (c9 .subject-of .ensures) in
-    let z = goes (c8 .of-exit .ensures (slots (a .self)) (a .s) w x) (c7 .if1 .left) in
-    exits (a .self) g (a .s) (c9 .subject-of .result) (c .with-subject .result) (c4 .vacated .result) (c3 .reaped .result) (c1 .vacated2 .result) w z x
-    (c .with-subject .ensures) (c4 .vacated .ensures) (c3 .reaped .ensures) (c1 .vacated2 .ensures)
+    let x = subject-got (a .self) g (a .s) (c10 .subject-of .result) (c10 .subject-of .ensures) in
+    let z = goes (c9 .of-exit .ensures (slots (a .self)) (a .s) w x) (c8 .if1 .left) in
+    exits (a .self) g (a .s) (c10 .subject-of .result) (c3 .with-subject .result) (c5 .vacated .result) (c4 .reaped .result) (c .vacated2 .result) w z x
+    (c3 .with-subject .ensures) (c5 .vacated .ensures) (c4 .reaped .ensures) (c .vacated2 .ensures)
 
 pub exit-spec : {M : Type 1} → statement M
 exit-spec =
@@ -69,6 +69,6 @@ exit-spec =
     returns
     vacated-requires
     reaped-requires
-    vacated-requires-2
     with-subject-requires
+    vacated-requires-2
     returns-2)

@@ -32,7 +32,7 @@ returns c =
     λ w.
     stops (a .self) (fork (a .s) (a .c)) (c2 .of-fork .result) (c .refuse .result)
     (c2 .of-fork .ensures (slots (a .self)) (a .s) w (subject-got (a .self) g (a .s) (c4 .subject-of .result) (c4 .subject-of .ensures))
-    (subject-got (a .self) g (a .c) (c3 .subject-of2 .result) (c3 .subject-of2 .ensures))) (c1 .if1 .taken) (c .refuse .ensures)
+    (subject-got (a .self) g (a .c) (c3 .subject-of2 .result) (c3 .subject-of2 .ensures)) .0) (c1 .if1 .taken) (c .refuse .ensures)
 
 with-subject-requires : tie.Need-with-subject-requires
 with-subject-requires c κs = search needs
@@ -40,8 +40,14 @@ with-subject-requires c κs = search needs
 forked-requires : tie.Need-forked-requires
 forked-requires c κs = search needs
 
-of-subject-requires : tie.Need-of-subject-requires
-of-subject-requires c κs = search needs
+fresh-requires : tie.Need-fresh-requires
+fresh-requires c κs = search needs
+
+with-requires : tie.Need-with-requires
+with-requires c κs = search needs
+
+own-requires : tie.Need-own-requires
+own-requires c κs = search needs
 
 with-subject-requires-2 : tie.Need-with-subject-requires-2
 with-subject-requires-2 c κs = search needs
@@ -50,20 +56,22 @@ returns-2 : tie.Need-returns-2
 returns-2 c =
     let c1 = c .before in
     let c3 = c1 .before .before in
-    let c5 = c3 .before .before in
-    let c6 = c5 .before in
-    let c7 = c6 .before in
-    let c8 = c7 .before in
+    let c4 = c3 .before in
+    let c6 = c4 .before .before in
+    let c8 = c6 .before .before in
     let c9 = c8 .before in
-    let c11 = c9 .before .before in
-    let a = c11 .args in
-    let g = owned-long (a .self) (c11 .good .0) in
+    let c10 = c9 .before in
+    let c11 = c10 .before in
+    let c12 = c11 .before in
+    let c14 = c12 .before .before in
+    let a = c14 .args in
+    let g = owned-long (a .self) (c14 .good .0) in
     λ w.
-    let x = subject-got (a .self) g (a .s) (c9 .subject-of .result) (c9 .subject-of .ensures) in
-    let z = goes (c7 .of-fork .ensures (slots (a .self)) (a .s) w x
-    (subject-got (a .self) g (a .c) (c8 .subject-of2 .result) (c8 .subject-of2 .ensures))) (c6 .if1 .left) in
-    forks (a .self) g (a .s) (a .c) (c9 .subject-of .result) (c5 .with-subject .result) (c3 .forked .result) (c1 .of-subject .result) (c .with-subject2 .result) w z x
-    (c5 .with-subject .ensures) (c3 .forked .ensures) (c1 .of-subject .ensures) (c .with-subject2 .ensures)
+    let x = subject-got (a .self) g (a .s) (c12 .subject-of .result) (c12 .subject-of .ensures) in
+    let z = goes (c10 .of-fork .ensures (slots (a .self)) (a .s) w x
+    (subject-got (a .self) g (a .c) (c11 .subject-of2 .result) (c11 .subject-of2 .ensures)) .0) (c9 .if1 .left) in
+    forks (a .self) g (a .s) (a .c) (c12 .subject-of .result) (c8 .with-subject .result) (c3 .with .result) (c4 .fresh .result) (c6 .forked .result) (c1 .own .result) (c .with-subject2 .result) w z x
+    (c8 .with-subject .ensures) (c4 .fresh .ensures) (c3 .with .ensures) (c6 .forked .ensures) (c1 .own .ensures) (c .with-subject2 .ensures)
 
 pub fork-spec : {M : Type 1} → statement M
 fork-spec =
@@ -76,6 +84,8 @@ fork-spec =
     returns
     with-subject-requires
     forked-requires
-    of-subject-requires
+    fresh-requires
+    with-requires
+    own-requires
     with-subject-requires-2
     returns-2)

@@ -66,26 +66,24 @@ returns-2 c =
     let c1 = c .before in
     let c2 = c1 .before in
     let c3 = c2 .before in
-    let c4 = c3 .before in
-    let c5 = c4 .before in
-    let c6 = c5 .before in
-    let c7 = c6 .before in
+    let c7 = c3 .before .before .before .before in
     let c8 = c7 .before in
     let c9 = c8 .before in
     let c10 = c9 .before in
     let c11 = c10 .before in
     let c12 = c11 .before in
-    let c16 = c12 .before .before .before .before in
-    let a = c16 .args in
-    let g = owned-long (a .self) (c16 .good .0) in (
+    let c13 = c12 .before in
+    let c17 = c13 .before .before .before .before in
+    let a = c17 .args in
+    let g = owned-long (a .self) (c17 .good .0) in (
       λ firm. let w = firm .wf in
-          let x = subject-got (a .self) g (a .s) (c12 .subject-of .result) (c12 .subject-of .ensures) in
-          let y = object-got (a .self) g (a .o) (c11 .object-of .result) (c11 .object-of .ensures) in
-          let z = waits (c9 .of-map .ensures (slots (a .self)) (a .s) (a .o) w x y
-          (handle-got (a .self) g (a .s) (a .p) (c10 .handle-of .result) (c10 .handle-of .ensures))) (c8 .if1 .left) in
+          let x = subject-got (a .self) g (a .s) (c13 .subject-of .result) (c13 .subject-of .ensures) in
+          let y = object-got (a .self) g (a .o) (c12 .object-of .result) (c12 .object-of .ensures) in
+          let z = waits (c10 .of-map .ensures (slots (a .self)) (a .s) (a .o) w x y
+          (handle-got (a .self) g (a .s) (a .p) (c11 .handle-of .result) (c11 .handle-of .ensures))) (c9 .if1 .left) in
           let e = c2 .last .ensures (slots (a .self)) (maps (a .s) (a .o) (a .p)) z
-          (map-late (a .self) g (a .s) (a .o) (a .p) (c11 .object-of .result) (c7 .joining .result) (c6 .with-handle .result) (c3 .opened .result .needs) (c3 .opened .result .short)
-          w z y (c7 .joining .ensures) (c6 .with-handle .ensures) (c3 .opened .ensures) (firm .safe)) in
+          (map-late (a .self) g (a .s) (a .o) (a .p) (c12 .object-of .result) (c8 .joining .result) (c7 .with-handle .result) (c3 .opened .result .needs) (c3 .opened .result .short)
+          w z y (c8 .joining .ensures) (c7 .with-handle .ensures) (c3 .opened .ensures) (firm .safe)) in
           ends (a .self) (maps (a .s) (a .o) (a .p)) (c2 .last .result) (c .refuse2 .result) e (c1 .if2 .taken) (c .refuse2 .ensures),
       back-keeps (a .self) (maps (a .s) (a .o) (a .p)) (c2 .last .result) (c .refuse2 .result) (c .refuse2 .ensures),
     )
@@ -93,8 +91,8 @@ returns-2 c =
 fallen-requires : tie.Need-fallen-requires
 fallen-requires c κs = search needs
 
-with-subject-requires : tie.Need-with-subject-requires
-with-subject-requires c κs = search needs
+taken-requires : tie.Need-taken-requires
+taken-requires c κs = search needs
 
 joining-requires-2 : tie.Need-joining-requires-2
 joining-requires-2 c κs = search needs
@@ -107,17 +105,14 @@ not-refused-requires c κs = search needs
 
 returns-3 : tie.Need-returns-3
 returns-3 c =
-    let c3 = c .before .before .before in
-    let c4 = c3 .before in
+    let c1 = c .before in
+    let c2 = c1 .before in
+    let c4 = c2 .before .before in
     let c5 = c4 .before in
-    let c6 = c5 .before in
-    let c7 = c6 .before in
+    let c7 = c5 .before .before in
     let c8 = c7 .before in
     let c9 = c8 .before in
-    let c10 = c9 .before in
-    let c11 = c10 .before in
-    let c12 = c11 .before in
-    let c13 = c12 .before in
+    let c13 = c9 .before .before .before .before in
     let c14 = c13 .before in
     let c15 = c14 .before in
     let c16 = c15 .before in
@@ -132,19 +127,19 @@ returns-3 c =
     let waited : Wf (slots (a .self)) → Refuses (slots (a .self)) (maps (a .s) (a .o) (a .p)) 0 = λ w.
     waits (c16 .of-map .ensures (slots (a .self)) (a .s) (a .o) w x y
     (handle-got (a .self) g (a .s) (a .p) (c17 .handle-of .result) (c17 .handle-of .ensures))) (c15 .if1 .left) in
-    let all = c3 .with-handle2 .ensures ∙ ap (set (a .self .handles) (a .s % 32 * 16 + a .p % 16)) (c4 .joining2 .ensures) in (
+    let all = c1 .with-handle2 .ensures ∙ ap (set (a .self .handles) (a .s % 32 * 16 + a .p % 16)) (c2 .joining2 .ensures) in (
       λ firm. let w = firm .wf in
           let z = waited w in
-          let e = c9 .last .ensures (slots (a .self)) (maps (a .s) (a .o) (a .p)) z
-          (map-late (a .self) g (a .s) (a .o) (a .p) (c18 .object-of .result) (c14 .joining .result) (c13 .with-handle .result) (c10 .opened .result .needs)
-          (c10 .opened .result .short) w z y (c14 .joining .ensures) (c13 .with-handle .ensures) (c10 .opened .ensures) (firm .safe)) in
-          maps-acts (a .self) g (a .s) (a .o) (a .p) (c18 .object-of .result) (c14 .joining .result) (c13 .with-handle .result) (c10 .opened .result .needs)
-          (c10 .opened .result .short) w z y (c14 .joining .ensures) (c13 .with-handle .ensures) (c10 .opened .ensures)
-          (c19 .subject-of .result) (c6 .fallen .result) (c5 .with-subject .result) (c3 .with-handle2 .result) _ x (frees e (c8 .if2 .left)) (c6 .fallen .ensures)
-          (c5 .with-subject .ensures) all (c .not-refused .ensures),
-      λ w. maps-keeps (a .self) g (a .s) (a .o) (a .p) (c18 .object-of .result) (c14 .joining .result) (c13 .with-handle .result) (c10 .opened .result .needs)
-          (c10 .opened .result .short) w (waited w) y (c14 .joining .ensures) (c13 .with-handle .ensures) (c10 .opened .ensures)
-          (c19 .subject-of .result) (c6 .fallen .result) (c5 .with-subject .result) (c3 .with-handle2 .result) x (c6 .fallen .ensures) (c5 .with-subject .ensures) all,
+          let e = c8 .last .ensures (slots (a .self)) (maps (a .s) (a .o) (a .p)) z
+          (map-late (a .self) g (a .s) (a .o) (a .p) (c18 .object-of .result) (c14 .joining .result) (c13 .with-handle .result) (c9 .opened .result .needs)
+          (c9 .opened .result .short) w z y (c14 .joining .ensures) (c13 .with-handle .ensures) (c9 .opened .ensures) (firm .safe)) in
+          maps-acts (a .self) g (a .s) (a .o) (a .p) (c18 .object-of .result) (c14 .joining .result) (c13 .with-handle .result) (c9 .opened .result .needs)
+          (c9 .opened .result .short) w z y (c14 .joining .ensures) (c13 .with-handle .ensures) (c9 .opened .ensures)
+          (c19 .subject-of .result) (c5 .fallen .result) (c4 .taken .result .subjects) (c1 .with-handle2 .result) (c4 .taken .result .lower) _ x (frees e (c7 .if2 .left)) (c5 .fallen .ensures)
+          (c4 .taken .ensures) all (c .not-refused .ensures),
+      λ w. maps-keeps (a .self) g (a .s) (a .o) (a .p) (c18 .object-of .result) (c14 .joining .result) (c13 .with-handle .result) (c9 .opened .result .needs)
+          (c9 .opened .result .short) w (waited w) y (c14 .joining .ensures) (c13 .with-handle .ensures) (c9 .opened .ensures)
+          (c4 .taken .result .subjects) (c1 .with-handle2 .result) (c4 .taken .result .lower) (c4 .taken .ensures) all,
     )
 
 pub map-spec : {M : Type 1} → statement M
@@ -164,7 +159,7 @@ map-spec =
     refuse-requires-2
     returns-2
     fallen-requires
-    with-subject-requires
+    taken-requires
     joining-requires-2
     with-handle-requires-2
     not-refused-requires

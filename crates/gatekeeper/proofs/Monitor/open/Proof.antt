@@ -76,28 +76,26 @@ returns-2 c =
     let c2 = c1 .before in
     let c3 = c2 .before in
     let c4 = c3 .before in
-    let c5 = c4 .before in
-    let c6 = c5 .before in
-    let c7 = c6 .before in
-    let c8 = c7 .before in
+    let c8 = c4 .before .before .before .before in
     let c9 = c8 .before in
     let c10 = c9 .before in
     let c11 = c10 .before in
     let c12 = c11 .before in
     let c13 = c12 .before in
     let c14 = c13 .before in
-    let c18 = c14 .before .before .before .before in
-    let a = c18 .args in
-    let g = owned-long (a .self) (c18 .good .0) in (
+    let c15 = c14 .before in
+    let c19 = c15 .before .before .before .before in
+    let a = c19 .args in
+    let g = owned-long (a .self) (c19 .good .0) in (
       λ firm. let w = firm .wf in
-          let i = c8 .joining .ensures ∙ ap (λ (i : ℕ). joining i (a .o)) (c9 .way-of .ensures) in
-          let y = object-got (a .self) g (a .o) (c13 .object-of .result) (c13 .object-of .ensures) in
-          let z = waits (c11 .of-open .ensures (slots (a .self)) (direction (a .reads)) (a .s) (a .o) w
-          (subject-got (a .self) g (a .s) (c14 .subject-of .result) (c14 .subject-of .ensures)) y
-          (handle-got (a .self) g (a .s) (a .p) (c12 .handle-of .result) (c12 .handle-of .ensures))) (c10 .if1 .left) in
+          let i = c9 .joining .ensures ∙ ap (λ (i : ℕ). joining i (a .o)) (c10 .way-of .ensures) in
+          let y = object-got (a .self) g (a .o) (c14 .object-of .result) (c14 .object-of .ensures) in
+          let z = waits (c12 .of-open .ensures (slots (a .self)) (direction (a .reads)) (a .s) (a .o) w
+          (subject-got (a .self) g (a .s) (c15 .subject-of .result) (c15 .subject-of .ensures)) y
+          (handle-got (a .self) g (a .s) (a .p) (c13 .handle-of .result) (c13 .handle-of .ensures))) (c11 .if1 .left) in
           let e = c2 .last .ensures (slots (a .self)) (opens (direction (a .reads)) (a .s) (a .o) (a .p)) z
-          (open-late (a .self) g (a .reads) (a .s) (a .o) (a .p) (c13 .object-of .result) (c8 .joining .result) (c7 .with-handle .result) (c4 .opened .result .needs)
-          (c4 .opened .result .short) w z y i (c7 .with-handle .ensures) (c4 .opened .ensures) (firm .safe) (c3 .is-frozen .result)
+          (open-late (a .self) g (a .reads) (a .s) (a .o) (a .p) (c14 .object-of .result) (c9 .joining .result) (c8 .with-handle .result) (c4 .opened .result .needs)
+          (c4 .opened .result .short) w z y i (c8 .with-handle .ensures) (c4 .opened .ensures) (firm .safe) (c3 .is-frozen .result)
           (c3 .is-frozen .ensures (slots (a .self)) (a .o) refl y)) in
           ends (a .self) (opens (direction (a .reads)) (a .s) (a .o) (a .p)) (c2 .last .result) (c .refuse2 .result) e (c1 .if2 .taken) (c .refuse2 .ensures),
       back-keeps (a .self) (opens (direction (a .reads)) (a .s) (a .o) (a .p)) (c2 .last .result) (c .refuse2 .result) (c .refuse2 .ensures),
@@ -110,35 +108,33 @@ returns-3 c =
     let c2 = c1 .before in
     let c3 = c2 .before in
     let c4 = c3 .before in
-    let c5 = c4 .before in
-    let c6 = c5 .before in
-    let c7 = c6 .before in
-    let c8 = c7 .before in
+    let c8 = c4 .before .before .before .before in
     let c9 = c8 .before in
     let c10 = c9 .before in
     let c11 = c10 .before in
     let c12 = c11 .before in
     let c13 = c12 .before in
     let c14 = c13 .before in
-    let c18 = c14 .before .before .before .before in
-    let a = c18 .args in
-    let g = owned-long (a .self) (c18 .good .0) in
-    let i = c8 .joining .ensures ∙ ap (λ (i : ℕ). joining i (a .o)) (c9 .way-of .ensures) in
-    let y = object-got (a .self) g (a .o) (c13 .object-of .result) (c13 .object-of .ensures) in
+    let c15 = c14 .before in
+    let c19 = c15 .before .before .before .before in
+    let a = c19 .args in
+    let g = owned-long (a .self) (c19 .good .0) in
+    let i = c9 .joining .ensures ∙ ap (λ (i : ℕ). joining i (a .o)) (c10 .way-of .ensures) in
+    let y = object-got (a .self) g (a .o) (c14 .object-of .result) (c14 .object-of .ensures) in
     let waited : Wf (slots (a .self)) → Refuses (slots (a .self)) (opens (direction (a .reads)) (a .s) (a .o) (a .p)) 0 = λ w.
-    waits (c11 .of-open .ensures (slots (a .self)) (direction (a .reads)) (a .s) (a .o) w
-    (subject-got (a .self) g (a .s) (c14 .subject-of .result) (c14 .subject-of .ensures)) y
-    (handle-got (a .self) g (a .s) (a .p) (c12 .handle-of .result) (c12 .handle-of .ensures))) (c10 .if1 .left) in (
+    waits (c12 .of-open .ensures (slots (a .self)) (direction (a .reads)) (a .s) (a .o) w
+    (subject-got (a .self) g (a .s) (c15 .subject-of .result) (c15 .subject-of .ensures)) y
+    (handle-got (a .self) g (a .s) (a .p) (c13 .handle-of .result) (c13 .handle-of .ensures))) (c11 .if1 .left) in (
       λ firm. let w = firm .wf in
           let z = waited w in
           let e = c2 .last .ensures (slots (a .self)) (opens (direction (a .reads)) (a .s) (a .o) (a .p)) z
-          (open-late (a .self) g (a .reads) (a .s) (a .o) (a .p) (c13 .object-of .result) (c8 .joining .result) (c7 .with-handle .result) (c4 .opened .result .needs)
-          (c4 .opened .result .short) w z y i (c7 .with-handle .ensures) (c4 .opened .ensures) (firm .safe) (c3 .is-frozen .result)
+          (open-late (a .self) g (a .reads) (a .s) (a .o) (a .p) (c14 .object-of .result) (c9 .joining .result) (c8 .with-handle .result) (c4 .opened .result .needs)
+          (c4 .opened .result .short) w z y i (c8 .with-handle .ensures) (c4 .opened .ensures) (firm .safe) (c3 .is-frozen .result)
           (c3 .is-frozen .ensures (slots (a .self)) (a .o) refl y)) in
-          opens-acts (a .self) g (a .reads) (a .s) (a .o) (a .p) (c13 .object-of .result) (c8 .joining .result) (c7 .with-handle .result) (c4 .opened .result .needs)
-          (c4 .opened .result .short) w z y i (c7 .with-handle .ensures) (c4 .opened .ensures) (frees e (c1 .if2 .left)),
-      λ w. opens-keeps (a .self) g (a .reads) (a .s) (a .o) (a .p) (c13 .object-of .result) (c8 .joining .result) (c7 .with-handle .result) (c4 .opened .result .needs)
-          (c4 .opened .result .short) w (waited w) y i (c7 .with-handle .ensures) (c4 .opened .ensures),
+          opens-acts (a .self) g (a .reads) (a .s) (a .o) (a .p) (c14 .object-of .result) (c9 .joining .result) (c8 .with-handle .result) (c4 .opened .result .needs)
+          (c4 .opened .result .short) w z y i (c8 .with-handle .ensures) (c4 .opened .ensures) (frees e (c1 .if2 .left)),
+      λ w. opens-keeps (a .self) g (a .reads) (a .s) (a .o) (a .p) (c14 .object-of .result) (c9 .joining .result) (c8 .with-handle .result) (c4 .opened .result .needs)
+          (c4 .opened .result .short) w (waited w) y i (c8 .with-handle .ensures) (c4 .opened .ensures),
     )
 
 pub open-spec : {M : Type 1} → statement M

@@ -44,16 +44,16 @@ object-of-requires c κs = search needs
 fallen-requires : tie.Need-fallen-requires
 fallen-requires c κs = search needs
 
-with-subject-requires : tie.Need-with-subject-requires
-with-subject-requires c κs = search needs
+taken-requires : tie.Need-taken-requires
+taken-requires c κs = search needs
 
 not-refused-requires : tie.Need-not-refused-requires
 not-refused-requires c κs = search needs
 
 returns-2 : tie.Need-returns-2
 returns-2 c =
-    let c3 = c .before .before .before in
-    let c4 = c3 .before in
+    let c2 = c .before .before in
+    let c4 = c2 .before .before in
     let c5 = c4 .before in
     let c8 = c5 .before .before .before in
     let c9 = c8 .before in
@@ -66,9 +66,9 @@ returns-2 c =
     let x = subject-got (a .self) g (a .s) (c11 .subject-of .result) (c11 .subject-of .ensures) in
     let h = handle-got (a .self) g (a .s) (a .p) (c10 .handle-of .result) (c10 .handle-of .ensures) in
     let z = goes (c9 .of-read .ensures (slots (a .self)) (a .s) (a .p) w x h) (c8 .if1 .left) in
-    reads (a .self) g (a .s) (a .p) (c11 .subject-of .result) (c4 .fallen .result) (c10 .handle-of .result) (c5 .object-of .result) (c3 .with-subject .result) _ w z x h
-    (object-got (a .self) g (c10 .handle-of .result .object) (c5 .object-of .result) (c5 .object-of .ensures)) (c4 .fallen .ensures) (c3 .with-subject .ensures)
-    (c .not-refused .ensures)
+    reads (a .self) g (a .s) (a .p) (c11 .subject-of .result) (c4 .fallen .result) (c10 .handle-of .result) (c5 .object-of .result) (c2 .taken .result .subjects)
+    (c2 .taken .result .lower) _ w z x h (object-got (a .self) g (c10 .handle-of .result .object) (c5 .object-of .result) (c5 .object-of .ensures)) (c4 .fallen .ensures)
+    (c2 .taken .ensures) (c .not-refused .ensures)
 
 pub read-spec : {M : Type 1} → statement M
 read-spec =
@@ -82,6 +82,6 @@ read-spec =
     cast-number
     object-of-requires
     fallen-requires
-    with-subject-requires
+    taken-requires
     not-refused-requires
     returns-2)

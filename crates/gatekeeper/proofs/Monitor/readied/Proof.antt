@@ -2,11 +2,12 @@
 use mathlib.Core.Path.{refl, sym, _∙_, ap}
 use mathlib.Core.List.{List}
 use borrow.Author.Needs.{needs}
-use Rattle.model.specs.Tables.{empty, with-freeze, with-numbers, clean}
+use Rattle.model.specs.Tables.{empty, with-freeze, with-numbers, with-kin, clean}
 use Rattle.model.specs.Invariant.Laws.{clean-same}
 use Rattle.tables.specs.declared.Object.{Object}
 use Rattle.tables.specs.Records.{tables-of}
 use Rattle.gatekeeper.specs.declared.Monitor.{Monitor}
+use Rattle.groups.specs.Groups.{kin-of}
 use Rattle.gatekeeper.specs.View.{used-slots, slots}
 use Rattle.gatekeeper.proofs.Owned.{owned-long}
 use Rattle.gatekeeper.proofs.Numbered.{single-same, once-same}
@@ -32,8 +33,8 @@ returns-2 : tie.Need-returns-2
 returns-2 c =
     let m = c .before .before .before .before .before .before .before .before .args .self in
     let o = c .before .single .ensures in (
-      λ h. c .cleaned .ensures (with-numbers (with-freeze empty (m .freeze)) (used-slots (c .before .single .result)))
-          ∙ ap (λ (os : List Object). clean (tables-of (with-numbers (with-freeze empty (m .freeze)) (used-slots os)) (m .subjects) os (m .handles))) o,
+      λ h. c .cleaned .ensures (with-kin (with-numbers (with-freeze empty (m .freeze)) (used-slots (c .before .single .result))) (kin-of (m .subjects) (m .groups)))
+          ∙ ap (λ (os : List Object). clean (tables-of (with-kin (with-numbers (with-freeze empty (m .freeze)) (used-slots os)) (kin-of (m .subjects) (m .groups))) (m .subjects) os (m .handles))) o,
       (refl, (refl, (refl, λ h. o))),
     )
 

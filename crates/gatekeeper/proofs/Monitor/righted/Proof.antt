@@ -1,12 +1,12 @@
 -- `gatekeeper::Monitor::righted` meets its contract. Assumes nothing.
 use mathlib.Core.Path.{_≡_, refl, subst}
 use mathlib.Core.List.{List}
-use Rattle.model.specs.Tables.{Tables, empty, with-freeze, with-numbers, clean}
+use Rattle.model.specs.Tables.{Tables, empty, with-freeze, with-numbers, with-kin, clean}
 use Rattle.model.specs.Invariant.{Wf}
-use Rattle.tables.specs.declared.Subject.{Subject}
 use Rattle.tables.specs.declared.Object.{Object}
 use Rattle.tables.specs.Records.{tables-of}
 use Rattle.tables.specs.Needs.{Needed}
+use Rattle.groups.specs.Groups.{kin-of}
 use Rattle.gatekeeper.specs.View.{used-slots, once}
 use Rattle.gatekeeper.proofs.Owned.{owned-long}
 use Rattle.gatekeeper.proofs.Numbered.{once-long}
@@ -26,19 +26,19 @@ figures-requires c κs = search needs
 
 returns : tie.Need-returns
 returns c =
-    let c1 = c .before in
-    let c2 = c1 .before in
-    let c7 = c2 .before .before .before .before .before in
-    let m = c7 .args .self in
-    let g = owned-long m (c7 .good .0) in
-    let o = c2 .single .ensures in
+    let c2 = c .before .before in
+    let c3 = c2 .before in
+    let c8 = c3 .before .before .before .before .before in
+    let m = c8 .args .self in
+    let g = owned-long m (c8 .good .0) in
+    let o = c3 .single .ensures in
     record {
       same = refl;
       right = right-anew (once m) (read-wf (once m) (once-long m g))
-          (c1 .cleaned .result) (c .figures .result)
-          (subst (λ (os : List Object). tables-of (with-numbers (with-freeze empty (m .freeze)) (used-slots os)) (m .subjects) os (c1 .cleaned .result) ≡ clean (tables-of (with-numbers (with-freeze empty (m .freeze)) (used-slots os)) (m .subjects) os (m .handles))) o
-          (c1 .cleaned .ensures (with-numbers (with-freeze empty (m .freeze)) (used-slots (c2 .single .result)))))
-          (subst (λ (os : List Object). (rest : Tables) (ss : List Subject) → Wf (tables-of rest ss os (c1 .cleaned .result)) → Needed (tables-of rest ss os (c1 .cleaned .result)) (c .figures .result)) o (c .figures .ensures));
+          (c2 .cleaned .result) (c .figures .result)
+          (subst (λ (os : List Object). tables-of (with-kin (with-numbers (with-freeze empty (m .freeze)) (used-slots os)) (kin-of (m .subjects) (m .groups))) (m .subjects) os (c2 .cleaned .result) ≡ clean (tables-of (with-kin (with-numbers (with-freeze empty (m .freeze)) (used-slots os)) (kin-of (m .subjects) (m .groups))) (m .subjects) os (m .handles))) o
+          (c2 .cleaned .ensures (with-kin (with-numbers (with-freeze empty (m .freeze)) (used-slots (c3 .single .result))) (kin-of (m .subjects) (m .groups)))))
+          (subst (λ (os : List Object). (rest : Tables) → rest .kin ≡ kin-of (m .subjects) (m .groups) → Wf (tables-of rest (m .subjects) os (c2 .cleaned .result)) → Needed (tables-of rest (m .subjects) os (c2 .cleaned .result)) (c .figures .result)) o (c .figures .ensures));
     }
 
 pub righted-spec : {M : Type 1} → statement M

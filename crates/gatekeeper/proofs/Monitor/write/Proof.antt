@@ -68,22 +68,22 @@ returns-2 c =
     let c2 = c1 .before in
     let c3 = c2 .before in
     let c6 = c3 .before .before .before in
-    let c7 = c6 .before in
-    let c8 = c7 .before in
-    let c11 = c8 .before .before .before in
-    let c12 = c11 .before in
+    let c8 = c6 .before .before in
+    let c9 = c8 .before in
+    let c12 = c9 .before .before .before in
     let c13 = c12 .before in
     let c14 = c13 .before in
-    let c17 = c14 .before .before .before in
-    let a = c17 .args in
-    let g = owned-long (a .self) (c17 .good .0) in
+    let c15 = c14 .before in
+    let c18 = c15 .before .before .before in
+    let a = c18 .args in
+    let g = owned-long (a .self) (c18 .good .0) in
     λ w.
-    let x = subject-got (a .self) g (a .s) (c14 .subject-of .result) (c14 .subject-of .ensures) in
-    let h = handle-got (a .self) g (a .s) (a .p) (c13 .handle-of .result) (c13 .handle-of .ensures) in
-    let z = goes (c12 .of-write .ensures (slots (a .self)) (a .s) (a .p) w x h) (c11 .if1 .left) in
-    writes (a .self) g (a .s) (a .p) (c14 .subject-of .result) (c13 .handle-of .result) (c8 .object-of .result) (c7 .sunken .result) (c6 .reread .result)
-    (c1 .with-object .result) (c3 .is-lower .result) _ w z x h (c8 .object-of .ensures) (c7 .sunken .ensures) (c6 .reread .ensures) (c3 .is-lower .ensures)
-    (c1 .with-object .ensures) (c .not-refused .ensures ∙ ap (λ (b : Bool). outcome b (c7 .sunken .result .level)) (c2 .either .ensures))
+    let x = subject-got (a .self) g (a .s) (c15 .subject-of .result) (c15 .subject-of .ensures) in
+    let h = handle-got (a .self) g (a .s) (a .p) (c14 .handle-of .result) (c14 .handle-of .ensures) in
+    let z = goes (c13 .of-write .ensures (slots (a .self)) (a .s) (a .p) w x h) (c12 .if1 .left) in
+    writes (a .self) g (a .s) (a .p) (c15 .subject-of .result) (c14 .handle-of .result) (c9 .object-of .result) (c8 .sunken .result) (c6 .reread .result)
+    (c1 .with-object .result) (c3 .is-lower .result) _ w z x h (c9 .object-of .ensures) (c8 .sunken .ensures) (c6 .reread .ensures .0) (c6 .reread .ensures .1) (c3 .is-lower .ensures)
+    (c1 .with-object .ensures) (c .not-refused .ensures ∙ ap (λ (b : Bool). outcome b (c8 .sunken .result .level)) (c2 .either .ensures))
 
 pub write-spec : {M : Type 1} → statement M
 write-spec =

@@ -4,7 +4,7 @@ use mathlib.Core.Logic.{_⊎_, inl, inr}
 use Prim.Native.Nat.{ℕ}
 use lib.ListN.{length}
 use Rattle.model.specs.Tables.{reading, writing}
-use Rattle.model.specs.Calls.{Call, admit, register, create, make-pipe, opens, maps, access, connect, fork, exec, close, mark, exit, retire, freeze, unknown, decode, sheds}
+use Rattle.model.specs.Calls.{Call, admit, register, create, make-pipe, opens, maps, access, connect, fork, thread, exec, close, mark, exit, retire, freeze, unknown, decode, sheds}
 use Rattle.model.specs.Calls.Codes.{decode-unknown}
 use Rattle.tables.proofs.Maps.{unmapped}
 use Rattle.gatekeeper.specs.declared.seats.Seats.{Seats}
@@ -69,6 +69,9 @@ makes-both-requires c κs = search needs
 
 names-none-requires-9 : tie.Need-names-none-requires-9
 names-none-requires-9 c κs = search needs
+
+names-none-requires-10 : tie.Need-names-none-requires-10
+names-none-requires-10 c κs = search needs
 
 only-one : (i j : ℕ) → (i ≡ j) ⊎ ⊥ → i ≡ j
 only-one i j (inl q) = q
@@ -211,14 +214,22 @@ returns-17 c =
     rw (c .before .match .keys17) (λ e f dd. let h = c .makes-both .ensures in subst (λ (r : Seats). Lift (a .objects) (a .numbers) (connect (a .a) (a .b) (a .c) (a .d) e f) (connect (r .a) (r .b) (r .c) (r .d) e f) (r .numbers)) (sym (h .3)) (lift-both (a .objects) (a .numbers) lo ln dd (a .a) (a .b) (a .c) (a .d) (h .0) (h .1) e f (h .2)))
 
 returns-18 : tie.Need-returns-18
+unfolding decode
 returns-18 c =
     let a = c .before .before .args in
     let lo : length (a .objects) ≡ 64 = search (needs, unmapped) in
     let ln : length (a .numbers) ≡ 64 = search needs in
-    let r = c .names-none9 .result in
+    rw (c .before .match .keys18) (λ e f dd. subst (λ (r : Seats). Lift (a .objects) (a .numbers) (thread (a .a) (a .b)) (thread (r .a) (r .b)) (r .numbers)) (sym (c .names-none9 .ensures)) (lift-none (a .objects) (a .numbers) lo ln dd (thread (a .a) (a .b)) (λ ρ σ v l. refl) (λ t i h. h) (λ t. tt)))
+
+returns-19 : tie.Need-returns-19
+returns-19 c =
+    let a = c .before .before .args in
+    let lo : length (a .objects) ≡ 64 = search (needs, unmapped) in
+    let ln : length (a .numbers) ≡ 64 = search needs in
+    let r = c .names-none10 .result in
     λ e f dd. subst₂ (λ (x y : Call). Lift (a .objects) (a .numbers) x y (r .numbers))
-    (sym (decode-unknown (direct (a .code) (a .a) (a .b) (a .c) (a .d) e f) (c .before .match .rest .0 .0 .0 .0 .0 .0 .0 .0 .0 .0 .0 .0 .0 .0 .0 .0 .1, (c .before .match .rest .0 .0 .0 .0 .0 .0 .0 .0 .0 .0 .0 .0 .0 .0 .0 .1, (c .before .match .rest .0 .0 .0 .0 .0 .0 .0 .0 .0 .0 .0 .0 .0 .0 .1, (c .before .match .rest .0 .0 .0 .0 .0 .0 .0 .0 .0 .0 .0 .0 .0 .1, (c .before .match .rest .0 .0 .0 .0 .0 .0 .0 .0 .0 .0 .0 .0 .1, (c .before .match .rest .0 .0 .0 .0 .0 .0 .0 .0 .0 .0 .0 .1, (c .before .match .rest .0 .0 .0 .0 .0 .0 .0 .0 .0 .0 .1, (c .before .match .rest .0 .0 .0 .0 .0 .0 .0 .0 .0 .1, (c .before .match .rest .0 .0 .0 .0 .0 .0 .0 .0 .1, (c .before .match .rest .0 .0 .0 .0 .0 .0 .0 .1, (c .before .match .rest .0 .0 .0 .0 .0 .0 .1, (c .before .match .rest .0 .0 .0 .0 .0 .1, (c .before .match .rest .0 .0 .0 .0 .1, (c .before .match .rest .0 .0 .0 .1, (c .before .match .rest .0 .0 .1, (c .before .match .rest .0 .1, (c .before .match .rest .1, tt))))))))))))))))))) (sym (decode-unknown (direct (a .code) (r .a) (r .b) (r .c) (r .d) e f) (c .before .match .rest .0 .0 .0 .0 .0 .0 .0 .0 .0 .0 .0 .0 .0 .0 .0 .0 .1, (c .before .match .rest .0 .0 .0 .0 .0 .0 .0 .0 .0 .0 .0 .0 .0 .0 .0 .1, (c .before .match .rest .0 .0 .0 .0 .0 .0 .0 .0 .0 .0 .0 .0 .0 .0 .1, (c .before .match .rest .0 .0 .0 .0 .0 .0 .0 .0 .0 .0 .0 .0 .0 .1, (c .before .match .rest .0 .0 .0 .0 .0 .0 .0 .0 .0 .0 .0 .0 .1, (c .before .match .rest .0 .0 .0 .0 .0 .0 .0 .0 .0 .0 .0 .1, (c .before .match .rest .0 .0 .0 .0 .0 .0 .0 .0 .0 .0 .1, (c .before .match .rest .0 .0 .0 .0 .0 .0 .0 .0 .0 .1, (c .before .match .rest .0 .0 .0 .0 .0 .0 .0 .0 .1, (c .before .match .rest .0 .0 .0 .0 .0 .0 .0 .1, (c .before .match .rest .0 .0 .0 .0 .0 .0 .1, (c .before .match .rest .0 .0 .0 .0 .0 .1, (c .before .match .rest .0 .0 .0 .0 .1, (c .before .match .rest .0 .0 .0 .1, (c .before .match .rest .0 .0 .1, (c .before .match .rest .0 .1, (c .before .match .rest .1, tt)))))))))))))))))))
-    (subst (λ (r : Seats). Lift (a .objects) (a .numbers) unknown unknown (r .numbers)) (sym (c .names-none9 .ensures))
+    (sym (decode-unknown (direct (a .code) (a .a) (a .b) (a .c) (a .d) e f) (c .before .match .rest .0 .0 .0 .0 .0 .0 .0 .0 .0 .0 .0 .0 .0 .0 .0 .0 .0 .1, (c .before .match .rest .0 .0 .0 .0 .0 .0 .0 .0 .0 .0 .0 .0 .0 .0 .0 .0 .1, (c .before .match .rest .0 .0 .0 .0 .0 .0 .0 .0 .0 .0 .0 .0 .0 .0 .0 .1, (c .before .match .rest .0 .0 .0 .0 .0 .0 .0 .0 .0 .0 .0 .0 .0 .0 .1, (c .before .match .rest .0 .0 .0 .0 .0 .0 .0 .0 .0 .0 .0 .0 .0 .1, (c .before .match .rest .0 .0 .0 .0 .0 .0 .0 .0 .0 .0 .0 .0 .1, (c .before .match .rest .0 .0 .0 .0 .0 .0 .0 .0 .0 .0 .0 .1, (c .before .match .rest .0 .0 .0 .0 .0 .0 .0 .0 .0 .0 .1, (c .before .match .rest .0 .0 .0 .0 .0 .0 .0 .0 .0 .1, (c .before .match .rest .0 .0 .0 .0 .0 .0 .0 .0 .1, (c .before .match .rest .0 .0 .0 .0 .0 .0 .0 .1, (c .before .match .rest .0 .0 .0 .0 .0 .0 .1, (c .before .match .rest .0 .0 .0 .0 .0 .1, (c .before .match .rest .0 .0 .0 .0 .1, (c .before .match .rest .0 .0 .0 .1, (c .before .match .rest .0 .0 .1, (c .before .match .rest .0 .1, (c .before .match .rest .1, tt)))))))))))))))))))) (sym (decode-unknown (direct (a .code) (r .a) (r .b) (r .c) (r .d) e f) (c .before .match .rest .0 .0 .0 .0 .0 .0 .0 .0 .0 .0 .0 .0 .0 .0 .0 .0 .0 .1, (c .before .match .rest .0 .0 .0 .0 .0 .0 .0 .0 .0 .0 .0 .0 .0 .0 .0 .0 .1, (c .before .match .rest .0 .0 .0 .0 .0 .0 .0 .0 .0 .0 .0 .0 .0 .0 .0 .1, (c .before .match .rest .0 .0 .0 .0 .0 .0 .0 .0 .0 .0 .0 .0 .0 .0 .1, (c .before .match .rest .0 .0 .0 .0 .0 .0 .0 .0 .0 .0 .0 .0 .0 .1, (c .before .match .rest .0 .0 .0 .0 .0 .0 .0 .0 .0 .0 .0 .0 .1, (c .before .match .rest .0 .0 .0 .0 .0 .0 .0 .0 .0 .0 .0 .1, (c .before .match .rest .0 .0 .0 .0 .0 .0 .0 .0 .0 .0 .1, (c .before .match .rest .0 .0 .0 .0 .0 .0 .0 .0 .0 .1, (c .before .match .rest .0 .0 .0 .0 .0 .0 .0 .0 .1, (c .before .match .rest .0 .0 .0 .0 .0 .0 .0 .1, (c .before .match .rest .0 .0 .0 .0 .0 .0 .1, (c .before .match .rest .0 .0 .0 .0 .0 .1, (c .before .match .rest .0 .0 .0 .0 .1, (c .before .match .rest .0 .0 .0 .1, (c .before .match .rest .0 .0 .1, (c .before .match .rest .0 .1, (c .before .match .rest .1, tt))))))))))))))))))))
+    (subst (λ (r : Seats). Lift (a .objects) (a .numbers) unknown unknown (r .numbers)) (sym (c .names-none10 .ensures))
     (lift-none (a .objects) (a .numbers) lo ln dd unknown (λ ρ σ v l. refl) (λ t i h. h) (λ t. tt)))
 
 pub located-spec : {M : Type 1} → statement M
@@ -243,6 +254,7 @@ located-spec =
     names-none-requires-8
     makes-both-requires
     names-none-requires-9
+    names-none-requires-10
     returns
     returns-2
     returns-3
@@ -260,4 +272,5 @@ located-spec =
     returns-15
     returns-16
     returns-17
-    returns-18)
+    returns-18
+    returns-19)

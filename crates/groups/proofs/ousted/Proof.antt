@@ -1,4 +1,4 @@
--- `mappings::read_by` meets its contract. Assumes nothing.
+-- `groups::ousted` meets its contract. Assumes nothing.
 use mathlib.Core.Bool.{false}
 use Prim.Native.Nat.{_-_, _≤_}
 use native.Mathlib.Omega.{arith}
@@ -6,15 +6,15 @@ use borrow.Author.Needs.{needs}
 use lib.ListN.{getD}
 use Rattle.tables.specs.Records.{no-subject}
 use Rattle.tables.proofs.Maps.{Mapped, mapped-none, mapped-more, unmapped}
-use Rattle.mappings.specs.Working.{taken-by}
-use Rattle.mappings.proofs.read_by.Statement.{statement}
-use Rattle.mappings.proofs.read_by.Tie as tie
+use Rattle.groups.specs.Groups.{ousted-by}
+use Rattle.groups.proofs.ousted.Statement.{statement}
+use Rattle.groups.proofs.ousted.Tie as tie
 
 abbrev Inv-loop : tie.InvT-loop
-Inv-loop level reads r₀ s₀ r s = (s ≤ 32) × Mapped no-subject (λ j x. taken-by x (getD reads j false) level) r₀ r s
+Inv-loop gone r₀ a₀ r a = (a ≤ 32) × Mapped no-subject (λ j x. ousted-by x (getD gone j false)) r₀ r a
 
 abbrev μ-loop : tie.MeasureT-loop
-μ-loop level reads r₀ s₀ r s = 32 - s
+μ-loop gone r₀ a₀ r a = 32 - a
 
 loop-holds : tie.Need-loop-holds Inv-loop μ-loop
 loop-holds c = (omega arith, mapped-none no-subject _ _)
@@ -25,11 +25,11 @@ mul-x c = search needs
 array-copy-out-x : tie.Need-array-copy-out-x Inv-loop μ-loop
 array-copy-out-x c = search needs
 
-array-read-taken-in : tie.Need-array-read-taken-in Inv-loop μ-loop
-array-read-taken-in c = search needs
+array-read-unless-ousted : tie.Need-array-read-unless-ousted Inv-loop μ-loop
+array-read-unless-ousted c = search needs
 
-taken-in-requires : tie.Need-taken-in-requires Inv-loop μ-loop
-taken-in-requires c κs = search needs
+unless-ousted-requires : tie.Need-unless-ousted-requires Inv-loop μ-loop
+unless-ousted-requires c κs = search needs
 
 mul-r : tie.Need-mul-r Inv-loop μ-loop
 mul-r c = search needs
@@ -37,8 +37,8 @@ mul-r c = search needs
 array-set-from-r : tie.Need-array-set-from-r Inv-loop μ-loop
 array-set-from-r c = search needs
 
-add-s : tie.Need-add-s Inv-loop μ-loop
-add-s c = search needs
+add-a : tie.Need-add-a Inv-loop μ-loop
+add-a c = search needs
 
 loop-less : tie.Need-loop-less Inv-loop μ-loop
 loop-less c = search needs
@@ -46,14 +46,14 @@ loop-less c = search needs
 loop-again : tie.Need-loop-again Inv-loop μ-loop
 loop-again c = (
   omega arith,
-  mapped-more no-subject _ _ _ _ _ (c .before .before .before .loop .inv .1) (search (needs, unmapped)) (c .taken-in .ensures),
+  mapped-more no-subject _ _ _ _ _ (c .before .before .before .loop .inv .1) (search (needs, unmapped)) (c .unless-ousted .ensures),
 )
 
 returns : tie.Need-returns Inv-loop μ-loop
-returns c = λ s l. c .before .loop .inv .1 .done s (omega arith)
+returns c = λ a l. c .before .loop .inv .1 .done a (omega arith)
 
-pub read-by-spec : {M : Type 1} → statement M
-read-by-spec =
+pub ousted-spec : {M : Type 1} → statement M
+ousted-spec =
     tie.close
     (tie.spec
     Inv-loop
@@ -61,11 +61,11 @@ read-by-spec =
     loop-holds
     mul-x
     array-copy-out-x
-    array-read-taken-in
-    taken-in-requires
+    array-read-unless-ousted
+    unless-ousted-requires
     mul-r
     array-set-from-r
-    add-s
+    add-a
     loop-less
     loop-again
     returns)

@@ -1,7 +1,7 @@
--- `mappings::taken_in` meets its contract. Assumes nothing.
+-- `groups::taken_in` meets its contract. Assumes nothing.
 use borrow.Author.Needs.{needs}
-use Rattle.mappings.proofs.taken_in.Statement.{statement}
-use Rattle.mappings.proofs.taken_in.Tie as tie
+use Rattle.groups.proofs.taken_in.Statement.{statement}
+use Rattle.groups.proofs.taken_in.Tie as tie
 
 fallen-requires : tie.Need-fallen-requires
 fallen-requires c κs = search needs
@@ -10,7 +10,7 @@ returns : tie.Need-returns
 returns c = rw (c .before .if1 .taken) (c .fallen .ensures)
 
 returns-2 : tie.Need-returns-2
-returns-2 c = rw (c .if1 .left)
+returns-2 c = search needs
 
 pub taken-in-spec : {M : Type 1} → statement M
 taken-in-spec = tie.close (tie.spec fallen-requires returns returns-2)
