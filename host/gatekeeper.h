@@ -39,67 +39,91 @@ extern "C" {
 #endif
 
 /* The version of this header and of the archive that belongs to it, and as the number that gatekeeper_version gives. */
-#define GATEKEEPER_VERSION "7.0.0"
-#define GATEKEEPER_VERSION_NUMBER (65536 * 7 + 256 * 0 + 0)
+#define GATEKEEPER_VERSION "8.0.0"
+#define GATEKEEPER_VERSION_NUMBER (65536 * 8 + 256 * 0 + 0)
 
 /* How much stack a call of any function here takes at most, in bytes: measured (tools/hosts), not proved. */
-#define GATEKEEPER_STACK_BYTES 81920
+#define GATEKEEPER_STACK_BYTES 98304
 
 /* Sizes, in bytes. */
-#define GATEKEEPER_STATE_BYTES 2385    /* a monitor with its tally, its kept needs and its groups */
+#define GATEKEEPER_STATE_BYTES 2577    /* a monitor with its tally, its kept needs and its groups */
 #define GATEKEEPER_RECORD_ROOM 62      /* room for every record */
 #define GATEKEEPER_JOURNAL_BYTES 65536 /* the longest journal that is run */
-#define GATEKEEPER_REPLY_ROOM 2490435  /* room for the reply to every journal */
+#define GATEKEEPER_REPLY_ROOM 2752579  /* room for the reply to every journal */
 
-/* How many there are of each. The numbers of subjects, places and levels start at 0. An object has any number of 64
- * bits, so that none is left to say that there is no object; up to version 5.0.0 it was 0 to 63. */
+/* How many there are of each. The numbers of subjects, places, levels and shop groups start at 0. An object has any number
+ * of 64 bits, so that none is left to say that there is no object; up to version 5.0.0 it was 0 to 63. */
 #define GATEKEEPER_SUBJECTS 32
 #define GATEKEEPER_OBJECTS 64 /* files and pipes that may be live at a time; one number space */
 #define GATEKEEPER_PLACES 16  /* places for handles, of each subject */
 #define GATEKEEPER_LEVELS 16  /* 0 is the lowest */
+#define GATEKEEPER_SHOPS 8    /* shop groups */
+
+/* The set of the shop marks of all groups. */
+#define GATEKEEPER_ALL_SHOPS 255
 
 /* The freeze that freezes no file: it is above every level. */
 #define GATEKEEPER_NO_FREEZE 16
+
+/*
+ * Every subject, file and pipe has a label: a level, and a set of shop marks, for those of eight shop groups that are
+ * vouched for. A set is a number, 0 to 255, and its bit i, of value 2 to the i-th, is the mark of group i. (The mark that
+ * GATEKEEPER_MARK puts on a handle is another thing.)
+ *
+ *   at least    A label is at least another where its level is and its set includes the other's, and else it is below it.
+ *               So of two labels each can be below the other: level 9 with the mark of group 0, and level 9 with that of
+ *               group 1.
+ *   to fall     What falls to a label takes the smaller level and the common set, whichever of the two is below the other.
+ *   need        The need of a subject or an object has the highest level and all the marks of all files that it reaches
+ *               through the handles that there are now; a file reaches itself. Where it reaches none, that is level 0 and
+ *               no mark.
+ *
+ * Where every set is GATEKEEPER_ALL_SHOPS, everything goes by levels alone, as it did up to version 7.0.0. So a host of
+ * then adds GATEKEEPER_ALL_SHOPS after the level of each GATEKEEPER_ADMIT and GATEKEEPER_REGISTER. And a journal of
+ * then that drew no 11 and no 12 is replied to as before, but for the fifth field of its lowered lines, which is 0,
+ * once 255 is added to the records of these two calls, if it stays within GATEKEEPER_JOURNAL_BYTES.
+ */
 
 /*
  * The bytes of a monitor, for a host that keeps them: subjects, objects, handles, the tally, the freeze, the kept needs,
  * the numbers of the objects, and the groups of the subjects. What stands in them is looked at with the functions below,
  * from gatekeeper_subject on.
  *
- *   at 0, 32 times     1 where the subject is live, and its level
- *   at 64, 64 times    a slot for an object: 1 for a file, 2 for a pipe, and its level
- *   at 192, 512 times  1 for a reading handle, 2 for a writing one, 3 for a mapping, its object's slot, and 1 where it
- *                      is marked; place p of subject s is the (16 s + p)th, three bytes at 192 + 3 (16 s + p)
- *   at 1728            handles made, eight bytes, the lowest first
- *   at 1736            handles gone, likewise
- *   at 1744            the freeze, one byte: the level from which on files are frozen; 16 and above: none is
- *   at 1745, 96 times  a kept need, one byte: of the 32 subjects, then of the 64 slots
- *   at 1841, 64 times  the number of the object that stands in the slot, eight bytes, the lowest first
- *   at 2353, 32 times  the group of the subject, one byte: live subjects with the same byte are in one group
+ *   at 0, 32 times     1 where the subject is live, its level, and its set of shop marks
+ *   at 96, 64 times    a slot for an object: 1 for a file, 2 for a pipe, its level, and its set of shop marks
+ *   at 288, 512 times  1 for a reading handle, 2 for a writing one, 3 for a mapping, its object's slot, and 1 where it
+ *                      is marked; place p of subject s is the (16 s + p)th, three bytes at 288 + 3 (16 s + p)
+ *   at 1824            handles made, eight bytes, the lowest first
+ *   at 1832            handles gone, likewise
+ *   at 1840            the freeze, one byte: the level from which on files are frozen; 16 and above: none is
+ *   at 1841, 96 times  a kept need, two bytes, its set and then its level: of the 32 subjects, then of the 64 slots
+ *   at 2033, 64 times  the number of the object that stands in the slot, eight bytes, the lowest first
+ *   at 2545, 32 times  the group of the subject, one byte: live subjects with the same byte are in one group
  *
- * Any other first byte says that there is no such subject or handle, or that the slot is free; any other third byte,
- * that the handle is not marked. Where two slots in use have one number, the first counts, and any other counts as free.
- * A handle dangles where its subject is not live, or its slot is free or above 63: it counts as an empty place. An
- * allowed call frees such slots and empties such places. Which slot a new object gets is left open, and so is which byte
- * a group has, and what stands beside a subject that is not live and a slot that is free: a host goes by numbers. The empty
- * monitor has 16 as its freeze and 0 everywhere else: bytes that are all 0 have no subject, object or handle either, but
- * they freeze every file.
+ * Any other first byte says that there is no such subject or handle, or that the slot is free; any other third byte of
+ * a handle, that it is not marked. Every byte is a set. Where two slots in use have one number, the first counts, and
+ * any other counts as free. A handle dangles where its subject is not live, or its slot is free or above 63: it counts
+ * as an empty place. An allowed call frees such slots and empties such places. Which slot a new object gets is left
+ * open, and so is which byte a group has, and what stands beside a subject that is not live and a slot that is free: a
+ * host goes by numbers. The empty monitor has 16 as its freeze and 0 everywhere else: bytes that are all 0 have no
+ * subject, object or handle either, but they freeze every file.
  *
- * The need of a subject or an object is the highest level of all files that it reaches through the handles that there
- * are now, or 0 where it reaches none; a file reaches itself. On a monitor that started empty it is the lowest level
- * that a subject or a pipe may fall to while no handle goes. A monitor is right if the kept need of each live subject
- * and object is its need. The empty monitor is right, and a call on a right monitor, refused or not, leaves a right
- * one. No answer goes by a kept need: a call on a monitor that is not right is answered by the rules all the same, and
- * only what is kept may then be wrong.
+ * On a monitor that started empty the need of a subject or a pipe is the lowest label that it may fall to while no handle
+ * goes. A monitor is right if the kept need of each live subject and object is its need. The empty monitor is right, and a
+ * call on a right monitor, refused or not, leaves a right one. No answer goes by a kept need: a call on a monitor that is
+ * not right is answered by the rules all the same, and only what is kept may then be wrong.
  *
- * Bytes that version 6.0.0 or 6.1.0 kept have no groups: there are 2353 of them, which is a wrong length. With the bytes
- * 0 to 31 after them they are the same monitor, and right: each subject was in a group by itself.
+ * Bytes that version 7.0.0 kept have no sets: there are 2385 of them, which is a wrong length. They are subjects and slots
+ * of two bytes, at 0 and 64; handles, counts and the freeze, from 192 on; 96 kept needs of one byte, at 1745; and numbers
+ * and groups, at 1841 and 2353. With a third byte of 255 after the two of each subject and slot, in use or not, with two bytes of any
+ * value in the place of each kept need, and after one gatekeeper_put_right, they are the same monitor, and right: calls on
+ * it are answered as those on the one of then.
+ * Bytes that version 6.0.0 or 6.1.0 kept have no groups either: there are 2353 of them. With the bytes 0 to 31 after them
+ * they are bytes of version 7.0.0: each subject was in a group by itself.
  * Bytes that version 4.0.0, 4.1.0 or 5.0.0 kept have no numbers either: there are 1841 of them. With the numbers 0 to 63
- * after them, each in eight bytes, the lowest first, and then these groups, they are the same monitor, and right: object i
- * stood in slot i.
+ * after them, each in eight bytes, the lowest first, they are bytes of version 6.0.0: object i stood in slot i.
  * Bytes that version 2.0.0, 2.1.0 or 3.0.0 kept have no kept needs either: there are 1745 of them. With 96 bytes of any
- * value after them, these numbers and these groups, and after one gatekeeper_put_right, they are the same monitor, and
- * right.
+ * value after them they are bytes of version 4.0.0.
  * Those of a version before these have neither marks nor a freeze either. With a byte 0 after the two of each handle,
  * and a byte of GATEKEEPER_NO_FREEZE after all, they are bytes of version 2.0.0.
  */
@@ -121,15 +145,15 @@ extern "C" {
  * call takes a mark off.
  *
  * A channel joins two subjects both ways, as a local socket does. It is two new pipes with four handles, and a connect
- * makes all of them or nothing: a from s to t, at s's level, and b from t to s, at t's. s writes a and t writes b, each
+ * makes all of them or nothing: a from s to t, with s's label, and b from t to s, with t's. s writes a and t writes b, each
  * at its place q; t reads a and s reads b, each at its place p. The flow rule is asked once, of both directions
- * together, and no level falls. From then on these are pipes and handles like any other: each handle is marked, copied
+ * together, and nothing falls. From then on these are pipes and handles like any other: each handle is marked, copied
  * by a fork and closed by itself, and each pipe ends with its last handle. Where a step closes a socket that is its end
  * of a channel, the host closes both places.
  *
  * Subjects that share their memory are threads of one step: members of one group, and each other's mates. A host reports
- * one with GATEKEEPER_THREAD: c is a new member of s's group, at s's level and without handles. The members of a group have
- * one level and one need, and data flows among them freely: what one of them reads, maps or runs lowers all of them, and
+ * one with GATEKEEPER_THREAD: c is a new member of s's group, with s's label and no handles. The members of a group have
+ * one label and one need, and data flows among them freely: what one of them reads, maps or runs lowers all of them, and
  * the flow rule is asked as if what comes to one came to all. A handle is one member's own, at one of its own 16 places:
  * where threads share their descriptors, a host says of each which member holds it, and reads and writes as that one. An
  * admitted subject and a fork's child are in a group by themselves; a fork copies the handles of s, and none of its mates'.
@@ -137,33 +161,33 @@ extern "C" {
  * flow rule is asked as if they and their handles were not there, and their handles count as gone; what the program is to
  * keep, s itself holds. A refused exec ends nobody. Two members may be connected.
  *
- * A freeze is one for all subjects, in the place of the one before it; pipes, channels, opens for reading, maps and
- * handles that are held go on as without it. */
+ * A freeze looks at levels only, whatever the sets are. It is one for all subjects, in the place of the one before it;
+ * pipes, channels, opens for reading, maps and handles that are held go on as without it. */
 enum gatekeeper_code {
-    GATEKEEPER_ADMIT = 1,      /* s, level: a new subject from outside, without handles */
-    GATEKEEPER_REGISTER = 2,   /* o, level: a new file from outside */
-    GATEKEEPER_CREATE = 3,     /* s, o: a new empty file at s's level, without a handle */
-    GATEKEEPER_PIPE = 4,       /* s, o, r, w: a new pipe at s's level; place r reads it, w writes it */
+    GATEKEEPER_ADMIT = 1,      /* s, level, set: a new subject from outside, without handles */
+    GATEKEEPER_REGISTER = 2,   /* o, level, set: a new file from outside, whose label never changes */
+    GATEKEEPER_CREATE = 3,     /* s, o: a new empty file with s's label, without a handle */
+    GATEKEEPER_PIPE = 4,       /* s, o, r, w: a new pipe with s's label; place r reads it, w writes it */
     GATEKEEPER_OPEN_READ = 5,  /* s, o, p: a reading handle */
     GATEKEEPER_OPEN_WRITE = 6, /* s, o, p: a writing handle */
-    GATEKEEPER_READ = 7,       /* s, p: s falls to the object's level if that is lower */
-    GATEKEEPER_WRITE = 8,      /* s, p: a pipe falls to s's level if that is lower; who has a file mapped reads it */
-    GATEKEEPER_FORK = 9,       /* s, c: a new subject: s's level, and s's handles, marks and mappings at their places */
-    GATEKEEPER_EXEC = 10,      /* s, o: file o is run; s falls to its level if lower; marked handles, mappings, mates end */
+    GATEKEEPER_READ = 7,       /* s, p: s falls to the object's label */
+    GATEKEEPER_WRITE = 8,      /* s, p: a pipe falls to s's label; who has a file mapped reads it */
+    GATEKEEPER_FORK = 9,       /* s, c: a new subject: s's label, and s's handles, marks and mappings at their places */
+    GATEKEEPER_EXEC = 10,      /* s, o: file o is run; s falls to its label; marked handles, mappings and mates end */
     GATEKEEPER_CLOSE = 11,     /* s, p: the place is empty */
     GATEKEEPER_EXIT = 12,      /* s: all its handles are closed, its number is free */
     GATEKEEPER_RETIRE = 13,    /* o: the file is gone, its number is free */
-    GATEKEEPER_MAP = 14,       /* s, o, p: a mapping, and a read: s falls to the file's level if that is lower */
-    GATEKEEPER_MARK = 15,      /* s, p: the handle is marked: it ends when s runs a program */
+    GATEKEEPER_MAP = 14,       /* s, o, p: a mapping, and a read: s falls to the file's label */
+    GATEKEEPER_MARK = 15,      /* s, p: the handle is marked: it ends when s runs a program; this is no shop mark */
     GATEKEEPER_FREEZE = 16,    /* level: files at or above it are frozen: no open for writing; with 16, none is */
     GATEKEEPER_CONNECT = 17,   /* s, t, a, b, p, q: a channel: new pipes a to t and b to s; place p reads, q writes */
-    GATEKEEPER_THREAD = 18     /* s, c: a new subject in s's group: s's level, without handles */
+    GATEKEEPER_THREAD = 18     /* s, c: a new subject in s's group: s's label, without handles */
 };
 
 /* How a call came out. */
 enum gatekeeper_outcome {
     GATEKEEPER_ALLOWED = 'A',
-    GATEKEEPER_LOWERED = 'L', /* allowed, and a read, write, exec or map made some level smaller */
+    GATEKEEPER_LOWERED = 'L', /* allowed, and a read, write, exec or map made some level smaller, or some set, or both */
     GATEKEEPER_REFUSED = 'R'
 };
 
@@ -178,10 +202,11 @@ enum gatekeeper_refusal {
     GATEKEEPER_NUMBER_TAKEN = 3,      /* a new subject is out of range or in use, a new object in use; a = b */
     GATEKEEPER_NO_OBJECT = 4,         /* the object is not live */
     GATEKEEPER_IS_PIPE = 5,           /* a pipe cannot be run, retired or mapped */
-    GATEKEEPER_LEVEL_TOO_HIGH = 6,    /* the level is above 15, or a freeze above 16 */
+    GATEKEEPER_LEVEL_TOO_HIGH = 6,    /* the level is above 15, the set above 255, or a freeze above 16 */
     GATEKEEPER_PLACE_UNFIT = 7,       /* the place is above 15, taken, or empty where a handle is named; r = w, p = q */
     GATEKEEPER_WRONG_DIRECTION = 8,   /* a read on a writing handle, or a write on a reading one */
-    GATEKEEPER_FLOW = 9,              /* low data could reach a higher file */
+    GATEKEEPER_FLOW = 9,              /* something would have a label below its need: data could reach a file of a higher
+                                       * level, or one with a shop mark that the data lacks */
     GATEKEEPER_STILL_OPEN = 10,       /* a handle is open on the file to be retired */
     GATEKEEPER_JOURNAL_BROKEN = 11,   /* journals only: a record's length is malformed or runs past the end */
     GATEKEEPER_RECORD_BROKEN = 12,    /* journals only: a number is malformed, missing or left over */
@@ -204,10 +229,10 @@ GATEKEEPER_INLINE const char *gatekeeper_refusal_text(uint32_t refusal)
     case GATEKEEPER_NUMBER_TAKEN: return "the number for the new thing cannot be used";
     case GATEKEEPER_NO_OBJECT: return "the file or pipe is not there";
     case GATEKEEPER_IS_PIPE: return "a pipe cannot be run, retired or mapped";
-    case GATEKEEPER_LEVEL_TOO_HIGH: return "the level is above 15, or a freeze above 16";
+    case GATEKEEPER_LEVEL_TOO_HIGH: return "the level is above 15, the set above 255, or a freeze above 16";
     case GATEKEEPER_PLACE_UNFIT: return "the place does not fit";
     case GATEKEEPER_WRONG_DIRECTION: return "the handle is for the other direction";
-    case GATEKEEPER_FLOW: return "low data could reach a higher file";
+    case GATEKEEPER_FLOW: return "data could reach a file of a higher level or with a shop mark that it lacks";
     case GATEKEEPER_STILL_OPEN: return "a handle is still open on the file";
     case GATEKEEPER_JOURNAL_BROKEN: return "the journal breaks off here";
     case GATEKEEPER_RECORD_BROKEN: return "the record is not well formed";
@@ -248,19 +273,22 @@ GATEKEEPER_MUST_USE
 bool gatekeeper_empty(uint8_t *state, size_t len);
 
 /* Makes one call on the monitor that the lent bytes are, and counts the handles it makes and removes. `a` to `f` are
- * the call's numbers in their order; those that the code does not use are ignored. The answer is 256 times the
- * outcome's letter, and the level or the number of the refusal: see the three functions below. A refused call changes
- * no byte. Where `len` is not GATEKEEPER_STATE_BYTES: 0, which allows nothing, and no byte is touched.
+ * the call's numbers in their order; those that the code does not use are ignored. The answer is 256 times 256
+ * times the number of shop marks lost, 256 times the outcome's letter, and the level or the number of the refusal: see the
+ * four functions below. A refused call changes no byte. Where `len` is not GATEKEEPER_STATE_BYTES: 0, which allows nothing,
+ * and no byte is touched.
  *
- * Before version 6.0.0 the numbers had 32 bits: a host of then is built anew. Before version 3.0.0 a call had four
+ * Before version 8.0.0 there were no sets: a host of then adds one, GATEKEEPER_ALL_SHOPS, to each GATEKEEPER_ADMIT and
+ * GATEKEEPER_REGISTER, here and in gatekeeper_record, and where it divides an answer by 256 itself, calls the functions
+ * below. Before version 6.0.0 the numbers had 32 bits: a host of then is built anew. Before version 3.0.0 a call had four
  * numbers: a host of then adds two zeros here and in gatekeeper_record. */
 GATEKEEPER_MUST_USE
 uint32_t gatekeeper_call(uint8_t *state, size_t len, uint64_t code, uint64_t a, uint64_t b, uint64_t c, uint64_t d,
                          uint64_t e, uint64_t f);
 
 /* The outcome in an answer of gatekeeper_call: an `enum gatekeeper_outcome`, or 0 for a wrong length. What this
- * function and the next two read off an answer that is not 0 is the rules' answer, whatever the lent bytes were. */
-GATEKEEPER_INLINE uint32_t gatekeeper_letter(uint32_t answer) { return answer / 256; }
+ * function and the next three read off an answer that is not 0 is the rules' answer, whatever the lent bytes were. */
+GATEKEEPER_INLINE uint32_t gatekeeper_letter(uint32_t answer) { return answer / 256 % 256; }
 
 /* Whether the host may carry the call out: true for an allowed and for a lowered call, and for nothing else. A host
  * asks this, and does not go on where it is false: a test for GATEKEEPER_REFUSED alone would let a wrong length
@@ -274,8 +302,13 @@ GATEKEEPER_INLINE bool gatekeeper_allows(uint32_t answer)
 /* The level in an answer of gatekeeper_call, or where it was refused the `enum gatekeeper_refusal`. On a monitor that
  * started empty a level is below GATEKEEPER_LEVELS, but for that of a freeze that is lifted: GATEKEEPER_NO_FREEZE.
  * After a read, an exec, a map and a connect it is s's, after a fork and a thread c's; after an open and a write it is the
- * object's, also where what the write made fall is a subject that has the file mapped. */
+ * object's, also where what the write made fall is a subject that has the file mapped. After a lowered call it may be what
+ * it was before, where shop marks alone were lost. */
 GATEKEEPER_INLINE uint32_t gatekeeper_value(uint32_t answer) { return answer % 256; }
+
+/* How many shop marks the thing has lost whose level is given, 0 to 8. It is 0 where the call is not lowered, and where a
+ * level alone fell; and after a write to a file, which stays as it is where a subject fell that has it mapped. */
+GATEKEEPER_INLINE uint32_t gatekeeper_lost(uint32_t answer) { return answer / (256 * 256); }
 
 /* Handles made and handles gone over all calls on this monitor, modulo 2 to the 64th. On a monitor that started empty
  * made minus gone are open; on any other made minus gone moves as the open ones do. 0 where `len` is not
@@ -287,10 +320,11 @@ uint64_t gatekeeper_gone(const uint8_t *state, size_t len);
  * of subject s. Any number may be given. 0 where it is out of range or not live, where the place is empty or its handle
  * dangles, and where `len` is not GATEKEEPER_STATE_BYTES. Else
  *
- *   of a subject   256, and its level: see gatekeeper_level_of
+ *   of a subject   256 times 256 times its set, 256, and its level: see gatekeeper_level_of and gatekeeper_shops_of
  *   of a group     256, and the lowest number that a member of it has: see gatekeeper_first_of. Two subjects are in one
  *                  group where it is the same number, and not 0, for both
- *   of an object   256 times its kind, and its level: see gatekeeper_kind_of and gatekeeper_level_of
+ *   of an object   256 times 256 times its set, 256 times its kind, and its level: see gatekeeper_kind_of,
+ *                  gatekeeper_level_of and gatekeeper_shops_of
  *   of a handle    256 times its way, and 256 times 256 where it is marked: see gatekeeper_way_of and
  *                  gatekeeper_is_marked
  */
@@ -318,16 +352,18 @@ uint64_t gatekeeper_handle_object(const uint8_t *state, size_t len, uint64_t s, 
  */
 uint64_t gatekeeper_object_from(const uint8_t *state, size_t len, uint64_t o);
 
-/* The level in an answer of gatekeeper_subject or gatekeeper_object that is not 0. On a monitor that started empty it
- * is below GATEKEEPER_LEVELS. */
+/* The level, and the set of shop marks, in an answer of gatekeeper_subject or gatekeeper_object that is not 0, and in
+ * one of gatekeeper_subject_need or gatekeeper_object_need. On a monitor that started empty the level is below
+ * GATEKEEPER_LEVELS. */
 GATEKEEPER_INLINE uint32_t gatekeeper_level_of(uint32_t thing) { return thing % 256; }
+GATEKEEPER_INLINE uint32_t gatekeeper_shops_of(uint32_t thing) { return thing / (256 * 256); }
 
 /* The lowest number of a member, in an answer of gatekeeper_group that is not 0. It is s itself where s has no mates, or
  * only such of higher numbers. */
 GATEKEEPER_INLINE uint32_t gatekeeper_first_of(uint32_t group) { return group % 256; }
 
 /* The kind in an answer of gatekeeper_object: an `enum gatekeeper_kind`, or 0 where there is no object. */
-GATEKEEPER_INLINE uint32_t gatekeeper_kind_of(uint32_t object) { return object / 256; }
+GATEKEEPER_INLINE uint32_t gatekeeper_kind_of(uint32_t object) { return object / 256 % 256; }
 
 /* The way in an answer of gatekeeper_handle: an `enum gatekeeper_way`, or 0 where there is no handle. */
 GATEKEEPER_INLINE uint32_t gatekeeper_way_of(uint32_t handle) { return handle / 256 % 256; }
@@ -335,10 +371,11 @@ GATEKEEPER_INLINE uint32_t gatekeeper_way_of(uint32_t handle) { return handle / 
 /* Whether the handle in an answer of gatekeeper_handle is marked: it ends when its subject runs a program. */
 GATEKEEPER_INLINE bool gatekeeper_is_marked(uint32_t handle) { return handle >= 256 * 256; }
 
-/* The kept need of a subject and of an object. It is ready: nothing is worked out here. On a monitor that started empty
- * it is at most the level, and a subject or a pipe falls no lower while no handle goes; a file's is its level. 0 where
- * the number is out of range or not live, and where `len` is not GATEKEEPER_STATE_BYTES. Since 0 is a need, too, a host
- * asks gatekeeper_subject or gatekeeper_object first whether there is one. */
+/* The kept need of a subject and of an object: 256 times 256 times its set, and its level, see gatekeeper_level_of and
+ * gatekeeper_shops_of. It is ready: nothing is worked out here. On a monitor that started empty the label is at least it,
+ * and a subject or a pipe falls no lower while no handle goes; a file's is its label. 0 where the number is out of range or
+ * not live, and where `len` is not GATEKEEPER_STATE_BYTES. Since 0 is a need, too, a host asks gatekeeper_subject or
+ * gatekeeper_object first whether there is one. */
 uint32_t gatekeeper_subject_need(const uint8_t *state, size_t len, uint64_t s);
 uint32_t gatekeeper_object_need(const uint8_t *state, size_t len, uint64_t o);
 
@@ -371,7 +408,7 @@ uint32_t gatekeeper_frozen_from(const uint8_t *state, size_t len);
  * So bytes of the one that hold such values are not to be copied into the other.
  *
  * What is promised goes by `sure`. Where it is 1, the monitor says of itself that no two slots in use have one number,
- * that no handle dangles, that its kept needs are right and that no level is below its need, and calls go by that:
+ * that no handle dangles, that its kept needs are right and that no label is below its need, and calls go by that:
  *
  *   1, and it is    So of every monitor that these functions have made, by calls from the empty one on or by
  *   so              gatekeeper_monitor_assure, and of a copy of one. Every answer is the rules', and `sure` stays 1.
@@ -381,27 +418,32 @@ uint32_t gatekeeper_frozen_from(const uint8_t *state, size_t len);
  *                   for gatekeeper_call. But the call is slow, and `sure` stays what it is.
  *
  * So a host never sets `sure` to 1: it sets it to 0 where it changes another field, and lends the monitor to
- * gatekeeper_monitor_assure once it has filled the tables. It does so with a struct of version 6.0.0 or 6.1.0, too, which
- * has no groups: it copies the fields, and sets group i to i; and with one of version 5.0.0, which has no numbers either:
- * it sets number i to i as well.
+ * gatekeeper_monitor_assure once it has filled the tables. It does so with a struct of version 7.0.0, too, which has no
+ * `shops` and another kind of `needs`: it copies the other fields and sets every `shops` to 255. With one of version 6.0.0
+ * or 6.1.0, which has no groups either, it sets group i to i as well, and with one of version 5.0.0, which has no numbers
+ * either, number i to i.
  */
 struct gatekeeper_monitor {
     uint64_t numbers[GATEKEEPER_OBJECTS]; /* the number of the object that stands in each slot */
+    uint16_t needs[GATEKEEPER_SUBJECTS + GATEKEEPER_OBJECTS]; /* the kept needs, of the subjects, then of the slots: 256
+                                                               * times the level, and the set; before version 8.0.0 the
+                                                               * level alone, in bytes behind `freeze` */
     struct {
         uint8_t live; /* 0: there is no such subject */
         uint8_t level;
+        uint8_t shops; /* its set of shop marks; since version 8.0.0 */
     } subjects[GATEKEEPER_SUBJECTS];
     struct {
         uint8_t kind; /* an `enum gatekeeper_kind`; 0: the slot is free */
         uint8_t level;
+        uint8_t shops; /* its set of shop marks; since version 8.0.0 */
     } objects[GATEKEEPER_OBJECTS];
     struct {
         uint8_t way;  /* an `enum gatekeeper_way`; 0: the place is empty */
         uint8_t slot; /* of its object; up to version 5.0.0 this was `object`, the number */
-        uint8_t mark; /* 0: it is not marked */
+        uint8_t mark; /* 0: it is not marked; no shop mark */
     } handles[GATEKEEPER_SUBJECTS * GATEKEEPER_PLACES]; /* place p of subject s is the (16 s + p)th */
     uint8_t freeze; /* the level from which on files are frozen; 16 and above: none is */
-    uint8_t needs[GATEKEEPER_SUBJECTS + GATEKEEPER_OBJECTS]; /* the kept needs: of the subjects, then of the slots */
     uint8_t groups[GATEKEEPER_SUBJECTS]; /* live subjects with the same byte are in one group; since version 7.0.0 */
     uint8_t sure;       /* 1: calls go by what is kept, and look for nothing that dangles; a host sets it only to 0 */
     uint64_t counts[2]; /* handles over all calls, modulo 2 to the 64th: at GATEKEEPER_MADE, and at GATEKEEPER_GONE */
@@ -422,17 +464,17 @@ enum gatekeeper_count {
 #define GATEKEEPER_ALIGNMENT(type) _Alignof(type)
 #endif
 #ifdef GATEKEEPER_HOLDS
-GATEKEEPER_HOLDS(sizeof(struct gatekeeper_monitor) == 2392);
+GATEKEEPER_HOLDS(sizeof(struct gatekeeper_monitor) == 2584);
 GATEKEEPER_HOLDS(GATEKEEPER_ALIGNMENT(struct gatekeeper_monitor) == 8);
 GATEKEEPER_HOLDS(offsetof(struct gatekeeper_monitor, numbers) == 0);
-GATEKEEPER_HOLDS(offsetof(struct gatekeeper_monitor, subjects) == 512);
-GATEKEEPER_HOLDS(offsetof(struct gatekeeper_monitor, objects) == 576);
-GATEKEEPER_HOLDS(offsetof(struct gatekeeper_monitor, handles) == 704);
-GATEKEEPER_HOLDS(offsetof(struct gatekeeper_monitor, freeze) == 2240);
-GATEKEEPER_HOLDS(offsetof(struct gatekeeper_monitor, needs) == 2241);
-GATEKEEPER_HOLDS(offsetof(struct gatekeeper_monitor, groups) == 2337);
-GATEKEEPER_HOLDS(offsetof(struct gatekeeper_monitor, sure) == 2369);
-GATEKEEPER_HOLDS(offsetof(struct gatekeeper_monitor, counts) == 2376);
+GATEKEEPER_HOLDS(offsetof(struct gatekeeper_monitor, needs) == 512);
+GATEKEEPER_HOLDS(offsetof(struct gatekeeper_monitor, subjects) == 704);
+GATEKEEPER_HOLDS(offsetof(struct gatekeeper_monitor, objects) == 800);
+GATEKEEPER_HOLDS(offsetof(struct gatekeeper_monitor, handles) == 992);
+GATEKEEPER_HOLDS(offsetof(struct gatekeeper_monitor, freeze) == 2528);
+GATEKEEPER_HOLDS(offsetof(struct gatekeeper_monitor, groups) == 2529);
+GATEKEEPER_HOLDS(offsetof(struct gatekeeper_monitor, sure) == 2561);
+GATEKEEPER_HOLDS(offsetof(struct gatekeeper_monitor, counts) == 2568);
 #undef GATEKEEPER_HOLDS
 #undef GATEKEEPER_ALIGNMENT
 #endif
@@ -443,35 +485,38 @@ void gatekeeper_monitor_empty(struct gatekeeper_monitor *monitor);
 
 /* Makes a monitor that a host has filled itself, as from bytes that it kept, one that calls may rely on: slots in use
  * that have the number of one before them are freed, places whose handle dangles are emptied, the kept needs are worked
- * out anew, and `sure` is 1, and so is what is returned. Where some level is below its need, which calls never make, it
+ * out anew, and `sure` is 1, and so is what is returned. Where some label is below its need, which calls never make, it
  * cannot be: then `sure` is 0, and 0 is returned. The other entries, the groups, the freeze and the counts stay as they
  * are. */
 GATEKEEPER_MUST_USE
 uint32_t gatekeeper_monitor_assure(struct gatekeeper_monitor *monitor);
 
 /* Makes one call on the lent monitor, and counts the handles it makes and removes. Its numbers and its answer are those
- * of gatekeeper_call, and gatekeeper_letter, gatekeeper_allows and gatekeeper_value read the answer. There is no length
- * that could be wrong. A refused call changes no field. A host makes its calls with gatekeeper_monitor_step, below. */
+ * of gatekeeper_call, and the functions that read that one's answer read this one's. There is no length that could be
+ * wrong. A refused call changes no field. A host makes its calls with gatekeeper_monitor_step, below. */
 GATEKEEPER_MUST_USE
 uint32_t gatekeeper_monitor_call(struct gatekeeper_monitor *monitor, uint64_t code, uint64_t a, uint64_t b, uint64_t c,
                                  uint64_t d, uint64_t e, uint64_t f);
 
 /* An open (code 5 or 6) and a close that change no need, done in place on the parts of one struct, each lent with its
- * size in bytes, but `numbers` with 64 and `counts` with 2: how many they are. They return what gatekeeper_monitor_call
- * returns. Or 0, and nothing is touched: the call is not that simple, `sure` is not 1, the code is another, or a size
- * is wrong. Then gatekeeper_monitor_call is to be made. With the right code and sizes, on a struct that is as its `sure`
- * of 1 says, 0 is not returned for what is refused with a number other than 9, for an open that changes no need, nor for
- * a close that ends no pipe where the needs of the step and the object differ, the step's is 0, or it reads a file whose
- * level is at least that need. A host does not call them itself: gatekeeper_monitor_step does. */
+ * size in bytes, but `numbers` with 64, `needs` with 96 and `counts` with 2: how many they are. They return what
+ * gatekeeper_monitor_call returns. Or 0, and nothing is touched: the call is not that simple, `sure` is not 1, the code is
+ * another, or a size is wrong. Then gatekeeper_monitor_call is to be made. With the right code and sizes, on a struct that
+ * is as its `sure` of 1 says, 0 is not returned for what is refused with a number other than 9, nor for an open that
+ * changes no need, nor for this close. By a handle data flows from its source to its end: from the object to the step
+ * where it reads, and from the step to the object where it writes. What the handle's object demands by itself is the
+ * object's label where the handle reads a file, and nothing otherwise. The close ends no pipe, and of the need of the
+ * flow's end the set is within what is so demanded, and the level is at most what is so demanded, or below the level that
+ * the flow's source needs. A host does not call them itself: gatekeeper_monitor_step does. */
 GATEKEEPER_MUST_USE
 uint32_t gatekeeper_quick_open(const uint64_t *numbers, size_t numbers_len, const uint8_t *subjects,
                                size_t subjects_len, const uint8_t *objects, size_t objects_len, uint8_t *handles,
-                               size_t handles_len, const uint8_t *needs, size_t needs_len, uint64_t *counts,
+                               size_t handles_len, const uint16_t *needs, size_t needs_len, uint64_t *counts,
                                size_t counts_len, uint8_t freeze, uint8_t sure, uint64_t code, uint64_t s, uint64_t o,
                                uint64_t p);
 GATEKEEPER_MUST_USE
 uint32_t gatekeeper_quick_close(const uint8_t *subjects, size_t subjects_len, const uint8_t *objects,
-                                size_t objects_len, uint8_t *handles, size_t handles_len, const uint8_t *needs,
+                                size_t objects_len, uint8_t *handles, size_t handles_len, const uint16_t *needs,
                                 size_t needs_len, uint64_t *counts, size_t counts_len, uint8_t freeze, uint8_t sure,
                                 uint64_t s, uint64_t p);
 
@@ -494,12 +539,14 @@ GATEKEEPER_INLINE uint32_t gatekeeper_monitor_step(struct gatekeeper_monitor *mo
     if (code == GATEKEEPER_OPEN_READ || code == GATEKEEPER_OPEN_WRITE)
         answer = gatekeeper_quick_open(monitor->numbers, GATEKEEPER_OBJECTS,
                                        GATEKEEPER_PART(monitor->subjects), GATEKEEPER_PART(monitor->objects),
-                                       GATEKEEPER_PART(monitor->handles), monitor->needs, sizeof monitor->needs,
-                                       monitor->counts, 2, monitor->freeze, monitor->sure, code, a, b, c);
+                                       GATEKEEPER_PART(monitor->handles), monitor->needs,
+                                       GATEKEEPER_SUBJECTS + GATEKEEPER_OBJECTS, monitor->counts, 2, monitor->freeze,
+                                       monitor->sure, code, a, b, c);
     else if (code == GATEKEEPER_CLOSE)
         answer = gatekeeper_quick_close(GATEKEEPER_PART(monitor->subjects), GATEKEEPER_PART(monitor->objects),
-                                        GATEKEEPER_PART(monitor->handles), monitor->needs, sizeof monitor->needs,
-                                        monitor->counts, 2, monitor->freeze, monitor->sure, a, b);
+                                        GATEKEEPER_PART(monitor->handles), monitor->needs,
+                                        GATEKEEPER_SUBJECTS + GATEKEEPER_OBJECTS, monitor->counts, 2, monitor->freeze,
+                                        monitor->sure, a, b);
     return answer != 0 ? answer : gatekeeper_monitor_call(monitor, code, a, b, c, d, e, f);
     /* tools/step writes this: to here */
 }
@@ -564,9 +611,10 @@ struct gatekeeper_line_outcome gatekeeper_monitor_line(struct gatekeeper_monitor
                                                        size_t line_len, uint64_t shell, uint64_t child, uint64_t pipe);
 
 /* Runs a journal from an empty monitor and writes the reply over the front of `out`: a line for each record with its
- * position, code, A, L or R, and the level or refusal number; then `end`, handles made, gone and open. Returns how many
- * bytes the text has. Where it has more than `room`: 0, and only its front stands in `out`, what lies behind it keeps
- * its value. GATEKEEPER_REPLY_ROOM bytes are enough for every journal. */
+ * position, code, A, L or R, and the level or refusal number, and after an L also the number of shop marks lost, 0 too;
+ * then `end`, handles made, gone and open. Returns how many bytes the text has. Where it has more than `room`: 0, and
+ * only its front stands in `out`, what lies behind it keeps its value. GATEKEEPER_REPLY_ROOM bytes are enough for every
+ * journal. */
 GATEKEEPER_MUST_USE
 size_t gatekeeper_replay(const uint8_t *journal, size_t len, uint8_t *out, size_t room);
 

@@ -228,9 +228,9 @@ mod tests {
         let (proved, plain) = (Side::Proved, Side::Plain);
         vec![
             row(0, &[(proved, 40.0), (Side::Bytes, 160.0), (plain, 320.0), (Side::Sparing, 80.0)]),
-            row(10, &[(proved, 100.0), (plain, 1000.0), (Side::Sparing, 500.0)]),
-            row(14, &[(proved, 1.0), (plain, 100.0)]),
-            row(21, &[(proved, 1.0), (plain, 100.0)]),
+            row(12, &[(proved, 100.0), (plain, 1000.0), (Side::Sparing, 500.0)]),
+            row(17, &[(proved, 1.0), (plain, 100.0)]),
+            row(24, &[(proved, 1.0), (plain, 100.0)]),
         ]
     }
 

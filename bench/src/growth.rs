@@ -4,7 +4,7 @@ use gatekeeper::{Call, Monitor, State};
 use gatekeeper_plain::{Monitor as PlainMonitor, When};
 
 use crate::counting::{counted, part_ends, Part};
-use crate::inputs::{figure, plain_figure, Side};
+use crate::inputs::{figure, plain_figure, Side, REFUSED};
 use crate::layouts::{one_ring, rings_of, rings_of_4, Layout, LOW_FILE};
 
 /// How many subjects hold handles, 16 each, where the tables grow.
@@ -150,7 +150,7 @@ impl Point {
     fn count(self, monitor: &mut Machine, call: Call) {
         let mut found = 0;
         counted(&mut || found = monitor(call));
-        assert_eq!(found >= 200, self.kind == Kind::Refused, "{self:?}: {call:?} was answered {found}");
+        assert_eq!(found > REFUSED, self.kind == Kind::Refused, "{self:?}: {call:?} was answered {found}");
     }
 
     /// The instructions of one call.
@@ -159,7 +159,7 @@ impl Point {
     }
 }
 
-/// A monitor of one of the programs: it answers a call with a figure, 200 and more for a refusal.
+/// A monitor of one of the programs: it answers a call with a figure, above `REFUSED` for a refusal.
 type Machine = Box<dyn FnMut(Call) -> u64>;
 
 /// A monitor whose tables are filled.

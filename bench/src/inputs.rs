@@ -62,7 +62,7 @@ pub enum Work {
 }
 
 /// Every piece of work, in the order of the table.
-pub const WORKS: [Work; 30] = [
+pub const WORKS: [Work; 33] = [
     Work::Calls(LAYOUTS[0]),
     Work::Calls(LAYOUTS[1]),
     Work::Calls(LAYOUTS[2]),
@@ -73,9 +73,12 @@ pub const WORKS: [Work; 30] = [
     Work::Calls(LAYOUTS[7]),
     Work::Calls(LAYOUTS[8]),
     Work::Calls(LAYOUTS[9]),
+    Work::Calls(LAYOUTS[10]),
+    Work::Calls(LAYOUTS[11]),
     Work::Journal(LAYOUTS[0]),
     Work::Journal(LAYOUTS[1]),
     Work::Journal(LAYOUTS[7]),
+    Work::Journal(LAYOUTS[10]),
     Work::Generated,
     Work::Line(TYPED[0]),
     Work::Line(TYPED[1]),
@@ -246,12 +249,15 @@ fn called(layout: Layout) -> Input {
     }
 }
 
+/// The figure of a refusal is its number and this; that of no other answer is so large.
+pub const REFUSED: u64 = 300;
+
 /// An answer as one number.
 pub fn figure(answer: Answer) -> u64 {
     match answer {
         Answer::Allowed(level) => level.into(),
-        Answer::Lowered(level) => 100 + u64::from(level),
-        Answer::Refused(refusal) => 200 + u64::from(refusal.number()),
+        Answer::Lowered { level, lost } => 100 + 16 * u64::from(lost) + u64::from(level),
+        Answer::Refused(refusal) => REFUSED + u64::from(refusal.number()),
     }
 }
 
@@ -259,8 +265,8 @@ pub fn figure(answer: Answer) -> u64 {
 pub fn plain_figure(answer: PlainAnswer) -> u64 {
     match answer {
         PlainAnswer::Allowed(level) => level.into(),
-        PlainAnswer::Lowered(level) => 100 + u64::from(level),
-        PlainAnswer::Refused(number) => 200 + u64::from(number),
+        PlainAnswer::Lowered(level, lost) => 100 + 16 * u64::from(lost) + u64::from(level),
+        PlainAnswer::Refused(number) => REFUSED + u64::from(number),
     }
 }
 

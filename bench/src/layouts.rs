@@ -1,20 +1,28 @@
 //! Tables full of handles: which object each place of each subject holds, and for which direction.
 //!
 //! Subjects and pipes have level 12, and so has the highest file that anyone writes: no need is above 12. Files that
-//! are only read have level 12 to 15. So every open of a round is allowed, and no read lowers its subject.
+//! are only read have level 12 to 15. So every open of a round is allowed, and no read lowers its subject. Everything has
+//! all shop marks, but in the layouts with mixed sets.
 //!
 //! In rings, each subject reads one pipe and writes another. The end of a ring writes the file of level 12, and from
 //! there the need of 12 has to travel all the way round, from the reader of each pipe to its writer.
 //!
 //! Two layouts have the handles of others, but subjects that are threads of one step, four by four.
+//!
+//! With mixed sets, a ring needs the shop marks of four groups. They come to it one by one, each from a file that another of
+//! its subjects writes, and the level of 12 comes from a file without any: the need is put together on its way round. What
+//! the ring reads has these four and one that may be another; each subject, and the pipe that it makes, has one more.
 
 use gatekeeper::Call;
-use gatekeeper_plain::{calls, tables};
+use gatekeeper_plain::{calls, labels, tables};
 
 /// How many there are of each in full tables.
 const SUBJECTS: u64 = tables::SUBJECTS as u64;
 const OBJECTS: u64 = tables::OBJECTS as u64;
 const PLACES: u64 = tables::PLACES as u64;
+
+/// The set of all shop marks.
+pub const ALL_SHOPS: u64 = labels::ALL_SHOPS as u64;
 
 /// The level of all subjects and pipes, and of the file that the end of a ring writes.
 const LEVEL: u64 = 12;
@@ -82,6 +90,8 @@ enum Shape {
     Pipes,
     /// The same, but for one handle, of the last subject, which writes the only file.
     PipesAndOneFile,
+    /// Rings of so many subjects against the order, with mixed sets.
+    Mixed { size: u64 },
 }
 
 /// What the other places of a subject in a ring hold.
@@ -104,7 +114,7 @@ const fn full(name: &'static str, shape: Shape) -> Layout {
 }
 
 /// Full tables: 32 subjects, 64 objects, 512 handles.
-pub const LAYOUTS: [Layout; 10] = [
+pub const LAYOUTS: [Layout; 12] = [
     rings("8 rings of 4", 4, false, Files::Several),
     full("4 rings of 8 with chords", Shape::Chords),
     rings("1 ring of 32, one file, against the order", 32, false, Files::One),
@@ -118,6 +128,8 @@ pub const LAYOUTS: [Layout; 10] = [
         groups: Groups::Neighbours,
         ..rings("1 ring of 32, one file, in 8 groups", 32, false, Files::One)
     },
+    full("8 rings of 4, mixed sets", Shape::Mixed { size: 4 }),
+    full("1 ring of 32, mixed sets", Shape::Mixed { size: 32 }),
 ];
 
 /// Tables of so many subjects with 16 handles each, in rings of 4, or of fewer where there are not so many.
@@ -156,6 +168,30 @@ impl Layout {
                 Held { writes: true, .. } if subject == SUBJECTS - 1 => Held { object: LAST, writes: true },
                 held => Held { object: LAST - 1, ..held },
             },
+            Shape::Mixed { size } => with_mixed_sets(subject, place, size),
+        }
+    }
+
+    /// The set of an object that is a file.
+    fn set_of_file(self, object: u64) -> u64 {
+        match self.shape {
+            Shape::Mixed { size } => match object {
+                ONE_SHOP..NO_SHOP => 1 << (object - ONE_SHOP),
+                MIXED_READ.. => set_of_ring((object - MIXED_READ) / read_by_each(size)) | 1 << (object % 8),
+                _ => 0,
+            },
+            _ => ALL_SHOPS,
+        }
+    }
+
+    /// The set of a subject that comes from outside.
+    fn set_of_subject(self, subject: u64) -> u64 {
+        match self.shape {
+            Shape::Mixed { size } => {
+                let (ring, position) = (subject / size, subject % size);
+                set_of_ring(ring) | 1 << ((ring + 4 + position % 4) % 8)
+            }
+            _ => ALL_SHOPS,
         }
     }
 
@@ -175,6 +211,12 @@ impl Layout {
             },
             Shape::Pipes => None,
             Shape::PipesAndOneFile => (object == LAST).then_some(LEVEL),
+            Shape::Mixed { .. } => match object {
+                ..END_FILE => None,
+                END_FILE => Some(LEVEL),
+                ONE_SHOP..MIXED_READ => Some((object - ONE_SHOP) % LEVEL),
+                _ => Some(LEVEL + object % 4),
+            },
         }
     }
 
@@ -199,7 +241,7 @@ impl Layout {
     fn bringing(self, subject: u64) -> Numbered {
         let first = self.first_member(subject);
         if first == subject {
-            numbered(Call::Admit { subject, level: LEVEL })
+            numbered(Call::Admit { subject, level: LEVEL, shops: self.set_of_subject(subject) })
         } else {
             (THREAD, [first, subject, 0, 0, 0, 0])
         }
@@ -220,7 +262,10 @@ impl Layout {
     /// gets with it, at a place that is still empty, is closed again.
     pub fn filling(self) -> Vec<Numbered> {
         let files = (0..OBJECTS).filter_map(|object| Some((object, self.file(object)?)));
-        let register = |(object, level)| Call::Register { object: self.number(object), level };
+        let register = |(object, level)| {
+            let shops = self.set_of_file(object);
+            Call::Register { object: self.number(object), level, shops }
+        };
         let mut calls: Vec<Numbered> = files.map(register).map(numbered).collect();
         calls.extend((0..self.subjects).map(|subject| self.bringing(subject)));
         let mut made = Vec::new();
@@ -305,6 +350,39 @@ fn with_chords(subject: u64, place: u64) -> Held {
     }
 }
 
+/// With mixed sets: the files that have one shop mark each start here, that of group 0 first, then those that have none,
+/// then those that are read.
+const ONE_SHOP: u64 = 33;
+const NO_SHOP: u64 = 41;
+const MIXED_READ: u64 = 48;
+
+/// How many of the files that are read each ring has.
+fn read_by_each(size: u64) -> u64 {
+    (OBJECTS - MIXED_READ) * size / SUBJECTS
+}
+
+/// The shop marks of four groups, from the ring's own on.
+fn set_of_ring(ring: u64) -> u64 {
+    (0..4).map(|group| 1 << ((ring + group) % 8)).sum()
+}
+
+/// The last subject of each quarter of a ring writes a file of one shop mark, once; its end writes the file of level 12, once.
+fn with_mixed_sets(subject: u64, place: u64, size: u64) -> Held {
+    let (ring, position) = (subject / size, subject % size);
+    let (quarter, in_quarter) = (4 * position / size, position % (size / 4));
+    let turn = 7 * subject + place / 2;
+    match place {
+        0 | 15 => in_rings(subject, place, size, false, Files::One),
+        1 if position == size - 1 => Held { object: END_FILE, writes: true },
+        3 if in_quarter == size / 4 - 1 => Held { object: ONE_SHOP + (ring + quarter) % 8, writes: true },
+        _ if place % 2 == 1 => Held { object: NO_SHOP + turn % (MIXED_READ - NO_SHOP), writes: true },
+        _ => {
+            let count = read_by_each(size);
+            Held { object: MIXED_READ + ring * count + turn % count, writes: false }
+        }
+    }
+}
+
 /// The last object.
 const LAST: u64 = OBJECTS - 1;
 
@@ -319,12 +397,15 @@ fn on_pipes(subject: u64, place: u64) -> Held {
 
 #[cfg(test)]
 mod tests {
+    use std::collections::BTreeSet;
+
     use super::*;
     use gatekeeper::{Answer, Monitor, State};
+    use gatekeeper_independent::labels::Label as LabelBeside;
     use gatekeeper_independent::monitor::{Answer as AnswerBeside, Monitor as MonitorBeside};
     use gatekeeper_independent::needs::{Needs, Thing};
     use gatekeeper_plain::tables::{object_as_thing, Kind};
-    use gatekeeper_plain::{Answer as PlainAnswer, Monitor as PlainMonitor, When};
+    use gatekeeper_plain::{Answer as PlainAnswer, Label, Monitor as PlainMonitor, When};
 
     /// How many passes over its handles it takes the plain program until no need changes, the last one counted.
     fn passes(layout: Layout) -> usize {
@@ -333,17 +414,17 @@ mod tests {
             monitor.direct(code, numbers);
         }
         let tables = monitor.tables();
-        let mut needs = [0; 256];
+        let mut needs = [Label::LEAST; 256];
         for (slot, object) in tables.objects.iter().enumerate() {
             if let Some(file) = object.filter(|object| object.kind == Kind::File) {
-                needs[usize::from(object_as_thing(slot))] = file.level;
+                needs[usize::from(object_as_thing(slot))] = file.label;
             }
         }
-        let raised = |needs: &mut [u8]| {
+        let raised = |needs: &mut [Label]| {
             let before = needs.to_vec();
             for place in tables.places.as_flattened() {
                 let [from, to] = [place.from, place.to].map(usize::from);
-                needs[from] = needs[from].max(needs[to]);
+                needs[from] = needs[from].joined(needs[to]);
             }
             before != needs
         };
@@ -359,6 +440,15 @@ mod tests {
         monitor
     }
 
+    /// The need of a subject: level 12, and all shop marks or those of its ring, where a file is written.
+    fn need(layout: Layout, subject: u64) -> LabelBeside {
+        match layout.shape {
+            Shape::Pipes => LabelBeside { level: 0, shops: 0 },
+            Shape::Mixed { size } => LabelBeside { level: LEVEL, shops: set_of_ring(subject / size) },
+            _ => LabelBeside { level: LEVEL, shops: ALL_SHOPS },
+        }
+    }
+
     #[test]
     fn the_tables_are_full_and_needs_are_12_where_a_file_is_written() {
         for layout in LAYOUTS {
@@ -368,9 +458,8 @@ mod tests {
             assert_eq!(tables.live_objects().count(), 64, "{}", layout.name);
             assert_eq!(tables.handle_count(), 512, "{}", layout.name);
             let needs = Needs::of_tables(tables);
-            let need = if layout.name == "pipes alone" { 0 } else { 12 };
             for s in 0..32 {
-                assert_eq!(needs.of(Thing::Subject(s)), need, "{}, subject {s}", layout.name);
+                assert_eq!(needs.of(Thing::Subject(s)), need(layout, s), "{}, subject {s}", layout.name);
             }
         }
     }
@@ -378,7 +467,47 @@ mod tests {
     #[test]
     fn the_layouts_differ_in_how_many_passes_they_take() {
         let passes = LAYOUTS.map(passes);
-        assert_eq!(passes, [9, 12, 65, 2, 3, 1, 7, 9, 6, 17]);
+        assert_eq!(passes, [9, 12, 65, 2, 3, 1, 7, 9, 6, 17, 9, 65]);
+    }
+
+    /// The sets of the live things, without those that occur again.
+    fn sets(layout: Layout) -> [BTreeSet<u64>; 2] {
+        let monitor = filled(layout);
+        let tables = monitor.tables();
+        let subjects = tables.live_subjects().filter_map(|s| Some(tables.subject(s)?.shops));
+        let objects = tables.live_objects().filter_map(|o| Some(tables.object(o)?.shops));
+        [subjects.collect(), objects.collect()]
+    }
+
+    #[test]
+    fn two_layouts_have_mixed_sets() {
+        for layout in &LAYOUTS[..10] {
+            assert!(sets(*layout).iter().all(|sets| sets.iter().eq([&ALL_SHOPS])), "{}", layout.name);
+        }
+        for (layout, counts) in [(LAYOUTS[10], [24, 38]), (LAYOUTS[11], [4, 14])] {
+            assert_eq!(sets(layout).map(|sets| sets.len()), counts, "{}", layout.name);
+        }
+    }
+
+    /// Each shop mark of a ring's need, and its level, comes from one handle: with that gone, it is gone.
+    #[test]
+    fn with_mixed_sets_a_need_is_put_together() {
+        for layout in &LAYOUTS[10..] {
+            let mut gone = Vec::new();
+            for (s, p) in layout.places().filter(|&(s, p)| layout.held(s, p).writes && (p == 1 || p == 3)) {
+                let mut monitor = filled(*layout);
+                assert_eq!(monitor.call(11, [s, p, 0, 0, 0, 0]), AnswerBeside::Allowed(LEVEL));
+                let left = Needs::of_tables(monitor.tables()).of(Thing::Subject(s));
+                let whole = need(*layout, s);
+                if left != whole {
+                    gone.push((whole.level - left.level, whole.shops & !left.shops));
+                }
+            }
+            let Shape::Mixed { size } = layout.shape else { panic!("{} has no mixed sets", layout.name) };
+            assert_eq!(gone.len() as u64, 5 * SUBJECTS / size, "{}", layout.name);
+            assert!(gone.iter().all(|&(level, shops)| (level == 0) != (shops == 0)), "{gone:?}");
+            assert!(gone.iter().all(|&(_, shops)| shops.count_ones() < 2), "{gone:?}");
+        }
     }
 
     /// The calls that fill the tables, but for those that bring subjects in.

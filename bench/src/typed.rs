@@ -8,7 +8,7 @@ use gatekeeper_plain::refusals::Refusal as PlainRefusal;
 use gatekeeper_plain::{Monitor as PlainMonitor, When};
 
 use crate::inputs::Input;
-use crate::layouts::{numbered, rings_of_4, Numbered, LOW_FILE, REGISTER};
+use crate::layouts::{numbered, rings_of_4, Numbered, ALL_SHOPS, LOW_FILE, REGISTER};
 
 /// How often the line is typed in a round.
 const LINES: usize = 50;
@@ -64,7 +64,8 @@ impl Typed {
         if self.others == 0 {
             calls.retain(|call| call.0 == REGISTER);
         }
-        calls.push(numbered(Call::Admit { subject: self.start().shell, level: LEVEL }));
+        let shell = self.start().shell;
+        calls.push(numbered(Call::Admit { subject: shell, level: LEVEL, shops: ALL_SHOPS }));
         calls
     }
 

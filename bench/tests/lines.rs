@@ -1,14 +1,15 @@
 //! Typed lines in the plain program, beside the archive and the independent program: after the same calls, the same counts
-//! or refusal, and the same tally, freeze, levels and handles.
+//! or refusal, and the same tally, freeze, labels and handles.
 
-use gatekeeper::{Counts, Handle, Kind, Object, State, Way, PLACES, SUBJECTS};
+use gatekeeper::{Counts, Handle, Kind, Label, Object, State, Way, PLACES, SUBJECTS};
 use gatekeeper_independent::generate::lines::{trials, Trial};
+use gatekeeper_independent::labels::Label as LabelBeside;
 use gatekeeper_independent::lines;
 use gatekeeper_independent::monitor::Monitor as MonitorBeside;
 use gatekeeper_independent::tables;
 use gatekeeper_plain::lines::{Counts as PlainCounts, Start};
 use gatekeeper_plain::tables::{Direction, Kind as PlainKind};
-use gatekeeper_plain::{Monitor as PlainMonitor, When};
+use gatekeeper_plain::{Label as PlainLabel, Monitor as PlainMonitor, When};
 
 const SEED: u64 = 1;
 const LINES: usize = 600;
@@ -21,7 +22,7 @@ type Outcome = Result<Counts, u8>;
 struct Shown {
     tally: [u64; 2],
     frozen_from: Option<u8>,
-    subjects: Vec<(u64, u8)>,
+    subjects: Vec<(u64, Label)>,
     objects: Vec<(u64, Object)>,
     handles: Vec<(u64, u64, Handle)>,
 }
@@ -40,14 +41,15 @@ impl Shown {
 
     fn of_plain(monitor: &PlainMonitor) -> Shown {
         let (tables, tally) = (monitor.tables(), monitor.tally());
-        let subject = |s: u64| Some((s, tables.live(s as usize)?.level));
+        let label = |label: PlainLabel| Label { level: label.level(), shops: label.shops() };
+        let subject = |s: u64| Some((s, label(tables.live(s as usize)?.label)));
         let object = |(slot, &number): (usize, &u64)| {
             let object = tables.objects[slot]?;
             let kind = match object.kind {
                 PlainKind::File => Kind::File,
                 PlainKind::Pipe => Kind::Pipe,
             };
-            Some((number, Object { kind, level: object.level }))
+            Some((number, Object { kind, label: label(object.label) }))
         };
         let mut objects: Vec<(u64, Object)> =
             tables.numbers.iter().enumerate().filter_map(object).collect();
@@ -63,13 +65,15 @@ impl Shown {
 
     fn of_independent(monitor: &MonitorBeside) -> Shown {
         let (tables, tally) = (monitor.tables(), monitor.tally());
+        let label = |label: LabelBeside| Label { level: label.level as u8, shops: label.shops as u8 };
+        let subject = |s| Some((s, label(tables.subject(s)?.label())));
         let object = |o| {
             let object = tables.object(o)?;
             let kind = match object.kind {
                 tables::Kind::File => Kind::File,
                 tables::Kind::Pipe => Kind::Pipe,
             };
-            Some((o, Object { kind, level: object.level as u8 }))
+            Some((o, Object { kind, label: label(object.label()) }))
         };
         let handle = |handle: tables::Handle| {
             let reads = handle.direction == tables::Direction::Reading;
@@ -78,7 +82,7 @@ impl Shown {
         Shown {
             tally: [tally.made, tally.gone],
             frozen_from: tables.frozen_from().map(|level| level as u8),
-            subjects: (0..SUBJECTS).filter_map(|s| Some((s, tables.subject(s)?.level as u8))).collect(),
+            subjects: (0..SUBJECTS).filter_map(subject).collect(),
             objects: tables.live_objects().filter_map(object).collect(),
             handles: tables.handles().map(|(s, p, held)| (s, p, handle(held))).collect(),
         }

@@ -7,6 +7,9 @@
 //! `name step 17 merge` gives a step, a file or a pipe a name, and from the next line on the name may stand where its
 //! number would: `open-read merge "the hours sheet of shop 3" 1`. A name that starts with a letter and has no space
 //! needs no quotes. It holds until the number gets another name, or the name another number.
+//!
+//! `admit` and `register` end with a set of shop marks: `all`, `none`, a number, or names of shop groups joined by commas,
+//! `register 1 2 north,east`, which `name shop 0 north` has given. [`assemble_old`] takes texts from before, without sets.
 
 mod words;
 
@@ -16,6 +19,7 @@ use gatekeeper::Call;
 use gk_advice::calls::{shape_of_word, Role, Shape, SHAPES};
 use gk_advice::records::{write_any, Body, Record, Records};
 use gk_names::number::of_text;
+use gk_names::shops;
 use words::fault;
 pub use words::{words_of, Fault, Word};
 
@@ -37,6 +41,8 @@ struct Assembler {
     declared: Vec<(usize, Kind, u64, Name)>,
     /// The same, to look names up in: each from its own position on.
     known: Names,
+    /// Whether calls have no sets of shop marks, as in texts from before.
+    is_old: bool,
 }
 
 /// The lines of a text, without a byte-order mark.
@@ -46,7 +52,15 @@ pub fn lines(text: &[u8]) -> impl Iterator<Item = &[u8]> {
 
 /// The journal that a text describes.
 pub fn assemble(text: &[u8]) -> Result<Assembled, Fault> {
-    let mut assembler = Assembler::default();
+    assembled(text, Assembler::default())
+}
+
+/// The journal that a text from before describes, in which no call has a set of shop marks.
+pub fn assemble_old(text: &[u8]) -> Result<Assembled, Fault> {
+    assembled(text, Assembler { is_old: true, ..Assembler::default() })
+}
+
+fn assembled(text: &[u8], mut assembler: Assembler) -> Result<Assembled, Fault> {
     for (index, line) in lines(text).enumerate() {
         assembler.line(line).map_err(|fault| Fault { line: index + 1, ..fault })?;
     }
@@ -95,20 +109,22 @@ impl Assembler {
 
     /// `admit 0 9`.
     fn call(&mut self, shape: &Shape, words: &[Word], behind: usize) -> Result<(), Fault> {
-        let usage = format!("{} {}", shape.word, shape.numbers.join(" "));
+        let parts: Vec<(&str, Role)> =
+            shape.parts().filter(|&(_, role)| !(self.is_old && role == Role::Set)).collect();
+        let names: Vec<&str> = parts.iter().map(|&(name, _)| name).collect();
+        let usage = format!("{} {}", shape.word, names.join(" "));
         let mut numbers = Vec::new();
-        for (index, (name, role)) in shape.parts().enumerate() {
+        for (index, &(name, role)) in parts.iter().enumerate() {
             let Some(&word) = words.get(index) else {
-                return Err(fault(
-                    behind,
-                    &format!("expected the number {name}, found the end of the line"),
-                    &format!("Type: {usage}"),
-                ));
+                return Err(missing(behind, name, role, &usage));
             };
-            numbers.push(self.number(word, name, role, &usage)?);
+            numbers.push(match role {
+                Role::Set => self.set(word, &usage)?,
+                _ => self.number(word, name, role, &usage)?,
+            });
         }
-        if let Some((word, _)) = words.get(shape.numbers.len()..).and_then(<[Word]>::split_first) {
-            let more = words[shape.numbers.len()..].iter().map(|word| decimal(*word, "", "").ok());
+        if let Some((word, _)) = words.get(parts.len()..).and_then(<[Word]>::split_first) {
+            let more = words[parts.len()..].iter().map(|word| decimal(*word, "", "").ok());
             let advice = match more.collect::<Option<Vec<u64>>>() {
                 // What is advised assembles: names are numbers there.
                 Some(more) if more.len() <= MOST_LEFT_OVER => {
@@ -126,6 +142,29 @@ impl Assembler {
         Ok(())
     }
 
+    /// A set of shop marks.
+    fn set(&self, word: Word, usage: &str) -> Result<u64, Fault> {
+        let unknown = match shops::of_text(word.text, &self.known, u64::MAX) {
+            Ok(set) => return Ok(set),
+            Err(unknown) => unknown.unwrap_or(word.text),
+        };
+        let known: Vec<&str> = (0..shops::GROUPS)
+            .filter_map(|group| self.known.get(Kind::Shop, group, u64::MAX))
+            .map(Name::as_str)
+            .chain(["all", "none"])
+            .collect();
+        let advice = match meant(unknown, &known).as_slice() {
+            [] => format!(
+                "Type: {usage}, with a set as all, none, 0 to 255, or names that lines above declare, as: name shop 0 \
+                 NAME"
+            ),
+            meant => format!("Did you mean: {}", meant.join(" or ")),
+        };
+        let what = if unknown == word.text { "" } else { &format!(" in \"{}\"", shown(word.text)) };
+        let expected = format!("expected {}, found \"{}\"{what}", shops::EXPECTED, shown(unknown));
+        Err(fault(word.column, &expected, &advice))
+    }
+
     /// A number, or a name in the place of one.
     fn number(&self, word: Word, name: &str, role: Role, usage: &str) -> Result<u64, Fault> {
         let is_number = word.text.starts_with(|character: char| "0123456789+-.".contains(character));
@@ -137,14 +176,14 @@ impl Assembler {
             Role::Object => &[Kind::File, Kind::Pipe],
             Role::File => &[Kind::File],
             Role::Pipe => &[Kind::Pipe],
-            Role::Place | Role::Level => &[],
+            Role::Place | Role::Level | Role::Set => &[],
         };
         let what = match role {
             Role::Step => "a step",
             Role::Object => "a file or pipe",
             Role::File => "a file",
             Role::Pipe => "a pipe",
-            Role::Place | Role::Level => "a number: places and levels have no names",
+            Role::Place | Role::Level | Role::Set => "a number: places and levels have no names",
         };
         match self.known.find(word.text, u64::MAX) {
             Some((kind, number)) if wanted.contains(&kind) => Ok(number),
@@ -179,7 +218,8 @@ impl Assembler {
 
     /// `name step 17 merge`.
     fn name(&mut self, words: &[Word], behind: usize) -> Result<(), Fault> {
-        let usage = "name step NUMBER NAME, name file NUMBER NAME or name pipe NUMBER NAME";
+        let usage =
+            "name step NUMBER NAME, name file NUMBER NAME, name pipe NUMBER NAME or name shop NUMBER NAME";
         let word = |index: usize, what: &str| match words.get(index) {
             Some(&word) => Ok(word),
             None => {
@@ -187,9 +227,9 @@ impl Assembler {
                 Err(fault(behind, &expected, &format!("Type: {usage}")))
             }
         };
-        let kind = word(0, "step, file or pipe")?;
+        let kind = word(0, "step, file, pipe or shop")?;
         let Some(kind) = Kind::of_word(kind.text).filter(|_| !kind.is_quoted) else {
-            let expected = format!("expected step, file or pipe, found \"{}\"", shown(kind.text));
+            let expected = format!("expected step, file, pipe or shop, found \"{}\"", shown(kind.text));
             return Err(fault(kind.column, &expected, &format!("Type: {usage}")));
         };
         let at = word(1, "a number")?;
@@ -199,7 +239,8 @@ impl Assembler {
             return Err(fault(at.column, &expected, &format!("Type: {usage}")));
         }
         let given = word(2, "a name")?;
-        let name = Name::new(given.text).and_then(|name| match given.is_quoted || name.is_bare() {
+        let fit = if kind == Kind::Shop { Name::of_shop } else { Name::new };
+        let name = fit(given.text).and_then(|name| match given.is_quoted || name.is_bare() {
             true => Ok(name),
             false => Err(crate::names::Unfit::Sign),
         });
@@ -287,6 +328,22 @@ impl Assembler {
             }
         }
         Ok(())
+    }
+}
+
+/// That a number is missing.
+fn missing(behind: usize, name: &str, role: Role, usage: &str) -> Fault {
+    match role {
+        Role::Set => fault(
+            behind,
+            &format!("expected {}, found the end of the line", shops::EXPECTED),
+            &format!("Type: {usage}, for example with the set all. From a text without sets: gk convert TEXT -o NEW"),
+        ),
+        _ => fault(
+            behind,
+            &format!("expected the number {name}, found the end of the line"),
+            &format!("Type: {usage}"),
+        ),
     }
 }
 

@@ -2,6 +2,7 @@
 
 mod arguments;
 mod commands;
+mod convert;
 mod files;
 mod line;
 mod trying;
@@ -57,6 +58,11 @@ pub const COMMANDS: &[Command] = &[
     command("why", "where the level of a step or pipe comes from", Work::Here(why::why, help::WHY)),
     command("assemble", "from words to a journal", Work::Here(commands::assemble, help::ASSEMBLE)),
     command("disassemble", "from a journal to words", Work::Here(commands::disassemble, help::DISASSEMBLE)),
+    command(
+        "convert",
+        "a journal from before shop marks, with sets",
+        Work::Here(convert::convert_journal, help::CONVERT),
+    ),
     command("line", "a typed line, each call with its answer", Work::Here(line::line, help::LINE)),
     command(
         "try",

@@ -9,6 +9,7 @@ use gatekeeper::{Call, JOURNAL_BYTES};
 use crate::names::{Entry, Kind, Name, Names};
 use gk_advice::calls::{shape_of_code, Role};
 use gk_advice::records::{all_numbers, body_words, length_words, Body, Records};
+use gk_names::shops;
 
 /// A record with more numbers than this is shown as bytes.
 const MOST_NUMBERS: usize = 8;
@@ -77,10 +78,13 @@ pub fn call_words(call: Call, names: &Names, at: u64) -> String {
             Role::Object => names.object(number, at).map(|(_, name)| name),
             Role::File => names.get(Kind::File, number, at),
             Role::Pipe => names.get(Kind::Pipe, number, at),
-            Role::Place | Role::Level => None,
+            Role::Place | Role::Level | Role::Set => None,
         };
         words.push(' ');
-        words.push_str(&name.map_or_else(|| number.to_string(), quoted));
+        words.push_str(&match role {
+            Role::Set => shops::written(number, names, at),
+            _ => name.map_or_else(|| number.to_string(), quoted),
+        });
     }
     words
 }

@@ -6,7 +6,7 @@ pub mod json;
 mod outcome;
 pub mod summary;
 
-use gatekeeper::{Answer, State as Monitor};
+use gatekeeper::{Answer, Label, State as Monitor};
 use gk_advice::asked;
 use gk_advice::calls::{shape_of_code, Role};
 use gk_advice::refused::{of_record, Refused};
@@ -31,6 +31,8 @@ pub struct Told {
     pub facts: Vec<String>,
     /// The chain behind a 9, or behind a 15 that is a 9 once the books are open, with what each thing is called.
     pub chain: Vec<(Link, String)>,
+    /// The labels of the chain's things in words.
+    pub labels: Vec<String>,
     /// The threads of the step that asks, itself among them; none where it has no mates.
     pub threads: Vec<Thread>,
     pub counsel: Counsel,
@@ -41,7 +43,7 @@ pub struct Told {
 pub struct Thread {
     pub number: u64,
     pub called: String,
-    pub level: u8,
+    pub label: Label,
     pub is_ended: bool,
     pub holds: Vec<Held>,
 }
@@ -106,7 +108,7 @@ fn look(journal: &[u8], names: &Names, which: Which, mut each: impl FnMut(Moment
         lines.push('\n');
         match step.answer {
             Answer::Allowed(_) => end.allowed += 1,
-            Answer::Lowered(_) => end.lowered += 1,
+            Answer::Lowered { .. } => end.lowered += 1,
             Answer::Refused(_) => end.refused += 1,
         }
         if which == Which::All || step.refusal().is_some() {
@@ -160,7 +162,8 @@ impl<'a> Moment<'a> {
                 None if !answer.is_empty() => facts.push(answer),
                 None => {}
             }
-            return Told { title, names, facts, chain, threads, counsel, step };
+            let labels = chain.iter().map(|(link, _)| before.label(link.label)).collect();
+            return Told { title, names, facts, chain, labels, threads, counsel, step };
         }
         let Content::Call(call) = step.content else {
             let (title, facts) = (String::new(), Vec::new());
@@ -169,6 +172,7 @@ impl<'a> Moment<'a> {
                 names,
                 facts,
                 chain: Vec::new(),
+                labels: Vec::new(),
                 threads,
                 counsel: Counsel::default(),
                 step,
@@ -180,12 +184,13 @@ impl<'a> Moment<'a> {
         lives.follow(&step);
         let now = Scene { monitor: &step.after, lives: &lives, ..before };
         let mut facts = outcome::outcome(call, before, now, self.past.closing);
-        let letter = if matches!(step.answer, Answer::Lowered(_)) { "Lowered." } else { "Allowed." };
+        let letter = if matches!(step.answer, Answer::Lowered { .. }) { "Lowered." } else { "Allowed." };
         match facts.first_mut() {
             Some(first) => *first = format!("{letter} {first}"),
             None => facts.push(letter.to_string()),
         }
-        Told { title, names, facts, chain: Vec::new(), threads, counsel: Counsel::default(), step }
+        let (chain, labels, counsel) = (Vec::new(), Vec::new(), Counsel::default());
+        Told { title, names, facts, chain, labels, threads, counsel, step }
     }
 
     /// The threads of the step that asks, by number: those before the record, and those after it.
@@ -207,14 +212,14 @@ impl<'a> Moment<'a> {
         let thread = |number: u64| {
             let is_ended = new.subject(number).is_none();
             let monitor = if is_ended { old } else { new };
-            let level = monitor.subject(number).unwrap_or(0);
+            let label = monitor.subject(number).unwrap_or(Label::LEAST);
             let called = match old.subject(number) {
                 Some(_) => before.step(number),
                 None => {
                     before.new_name(Kind::Step, number).map_or_else(|| before.step(number), str::to_string)
                 }
             };
-            Thread { number, called, level, is_ended, holds: handles_of(monitor, number).collect() }
+            Thread { number, called, label, is_ended, holds: handles_of(monitor, number).collect() }
         };
         all.into_iter().map(thread).collect()
     }
@@ -238,10 +243,11 @@ impl Told {
         }
         if !self.chain.is_empty() {
             text.push_str("  The chain, found by gk and not proved:\n");
-            let links = self.chain.iter().enumerate().map(|(index, (link, name))| {
-                let arrow = if index == 0 { "" } else { "→ " };
-                format!("{arrow}{name} (level {})", link.level)
-            });
+            let links =
+                self.chain.iter().zip(&self.labels).enumerate().map(|(index, ((_, name), label))| {
+                    let arrow = if index == 0 { "" } else { "→ " };
+                    format!("{arrow}{name} ({label})")
+                });
             text.push_str(&wrapped(links, "    ", "      "));
         }
         for (index, advice) in self.counsel.ways.iter().enumerate() {

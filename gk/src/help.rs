@@ -9,10 +9,10 @@ Usage: gk COMMAND [OPTIONS] [FILE]
 COMMANDS
   help         this page, or that of one command: gk help explain
 
-Other pages: gk help names (names for steps, files and pipes)
+Other pages: gk help names (names for steps, files, pipes and shop groups)
 
 A first try:
-  printf 'admit 0 9\\nregister 1 2\\nopen-read 0 1 0\\nread 0 0\\n' | tools/gk assemble | tools/gk run
+  printf 'admit 0 9 all\\nregister 1 2 all\\nopen-read 0 1 0\\nread 0 0\\n' | tools/gk assemble | tools/gk run
   tools/gk explain --refused crates/payrun/stdin
 
 FILE is read from standard input if it is - or not given; screen, try and why need a file or -, and line takes a
@@ -33,16 +33,16 @@ gk run - the replies to a journal, by the proved gatekeeper
 Usage: gk run [-o FILE] [FILE]
 
 One line for each record: its position, its code, A (allowed), L (lowered) or R (refused), and the level
-or the refusal number. The last line has the handles made, gone and open.
+or the refusal number; at L also how many shop marks were lost. The last line has the handles made, gone and open.
 
   -o FILE  write to this file
 
-Example: a step of level 9 opens a sheet of level 2, reads it and falls
-  printf '\\003\\002\\000\\002\\003\\001\\000\\011\\004\\005\\000\\000\\000\\003\\007\\000\\000' | tools/gk run
+Example: a step of level 9 with all shop marks opens a sheet of level 2 with those of groups 0 and 1, reads it and falls
+  printf '\\004\\002\\000\\002\\003\\005\\001\\000\\011\\377\\001\\004\\005\\000\\000\\000\\003\\007\\000\\000' | tools/gk run
     1 2 A 2
     2 1 A 9
     3 5 A 2
-    4 7 L 2
+    4 7 L 2 6
     end 1 0 1
 ";
 
@@ -55,15 +55,17 @@ Usage: gk explain [--refused] [--json] [--names FILE] [-o FILE] [FILE]
 Says who asked what and what was answered; for a refusal, what did not happen, why, and what can be done.
 Every answer is the proved gatekeeper's. What to do is not proved, but tried: calls that are advised
 were made on a copy of the tables as they were before the record, and were allowed there. For refusal 9 it
-shows a chain that data could have taken from a low thing to a higher file, which is not proved either;
-for refusal 15, too, where the open would be refused with 9 once the books are open. For refusal 17 it names
-what could go to make room. Of threads of one step it says who falls with whom, which of them holds what, and whom an
-exec has ended. Numbers from 10,000 on have a comma before each three digits.
+shows a chain that data could have taken from a low thing to a higher file, which is not proved either, and says what
+is insufficient: the level, or which shop marks; for refusal 15, too, where the open would be refused with 9 once the
+books are open. For refusal 17 it names what could go to make room. Where something falls, it says which shop marks
+were lost and because of what. Shop marks are not spoken of where all eight are there. Of threads of one step it says
+who falls with whom, which of them holds what, and whom an exec has ended. Numbers from 10,000 on have a comma before
+each three digits.
 
   --refused     only the records that were refused, those that are alike in one paragraph, and the end
   --summary     for each step its levels over time, its threads, what it held, and what it was refused
   --json        an object a line: one for each record, and a last one for the end (docs/JSON.md)
-  --names FILE  the names of steps, files and pipes; else run.names beside run.journal, if it is there
+  --names FILE  the names of steps, files, pipes and shops; else run.names beside run.journal, if it is there
   -o FILE       write to this file
 
 Examples: the pay run of March; its refusals; who held what; the refusals for another program
@@ -74,7 +76,7 @@ Examples: the pay run of March; its refusals; who held what; the refusals for an
 ";
 
 pub const WHY: &str = "\
-gk why - where the level of a step or pipe comes from
+gk why - where the level of a step or pipe comes from, and why it lacks shop marks
 
 Usage: gk why JOURNAL THING [--at N] [--names FILE] [-o FILE]
 
@@ -82,7 +84,8 @@ THING is a step or pipe, by number or by name: step 17, pipe 37, merge; or a fil
 since which record, and which file the level is that of, or which step was admitted at it. Then come the records
 that brought it here, each as gk explain tells it: reads, writes, runs and maps at which a level fell, and
 forks, threads, pipes and connects that handed it on. A step that fell because another thread of it read has that
-read among them. Where there are two ways, it is the one that was taken first. A file
+read among them. Where shop marks are missing, the same is told of each, those that were lost on one way together.
+Where there are two ways, it is the one that was taken first. A file
 that a step created has its level from that step: ask for the file. The answers are the proved gatekeeper's; which
 records they are is found by gk and not proved.
 
@@ -90,7 +93,7 @@ It is told of the end of the journal, or of the last record at which the thing i
 again is another thing's: the last one's, or with --at the one's that is there then.
 
   --at N        after record N, in place of the last one; 0 is before the first
-  --names FILE  the names of steps, files and pipes; else run.names beside run.journal, if it is there
+  --names FILE  the names of steps, files, pipes and shops; else run.names beside run.journal, if it is there
   -o FILE       write to this file
 
 Examples: in March, why step 1 is low; then what it created
@@ -128,11 +131,11 @@ gk assemble - from words to a journal
 Usage: gk assemble [--names FILE] [-o FILE] [FILE]
 
 One call a line; # starts a comment. The calls and their numbers:
-  admit s level       register o level     create s o         pipe s o r w
-  open-read s o p     open-write s o p     read s p           write s p
-  fork s c            exec s o             close s p          exit s
-  retire o            map s o p            mark s p           freeze level
-  connect s t a b p q                      thread s c
+  admit s level set   register o level set   create s o       pipe s o r w
+  open-read s o p     open-write s o p       read s p         write s p
+  fork s c            exec s o               close s p        exit s
+  retire o            map s o p              mark s p         freeze level
+  connect s t a b p q                        thread s c
 s and c are steps, and so is t; o is a file or pipe, a and b are new pipes; p, q, r and w are places. A file that
 is mapped is read at that moment and after each write to it. A mapping, and a handle that is marked, is closed by
 its step's next exec. `freeze 9` closes the books from level 9 up, `freeze 16` opens them again. A connect makes
@@ -144,18 +147,53 @@ exec of one of them ends the others. For a record with any code and any numbers 
 A step is 0 to 31. A file or pipe has any number up to 18,446,744,073,709,551,615, and at most 64 are live at a
 time. A number stands as it is, or with a comma before each three digits: 18446744073709551615 is the same.
 
-Names: `name step 17 merge`, and from the next line on merge stands for step 17. See: gk help names
+A set says for which of the eight shop groups a thing is vouched for. It is all, none, a number, 0 to 255, in which bit
+i is the mark of group i, or the groups by their names, joined by commas: north,east. A set with a space in it stands
+in quotes, and a group without a name is shop 3 there: \"north,shop 3\". Data may go from a thing to a file only where
+the thing has each shop mark that the file has; who reads what lacks a mark loses it.
+
+Names: `name step 17 merge`, and from the next line on merge stands for step 17; `name shop 0 north` is the name of a
+shop group. See: gk help names. From a text or journal without sets, of before: gk help convert
 
   -o FILE       write the journal to this file, and the names beside it: run.journal, run.names
   --names FILE  write the names to this file
 
-Examples: a step of level 9 reads a sheet of level 2; the pay run of March, with names; a step of three threads
-  printf 'admit 0 9\\nregister 1 2\\nopen-read 0 1 0\\nread 0 0\\n' | tools/gk assemble -o sheet.journal
+Examples: a step of level 9 reads a sheet of level 2; the pay run of March, with names; a step of three threads; hours
+that are vouched for by some shops
+  printf 'admit 0 9 all\\nregister 1 2 all\\nopen-read 0 1 0\\nread 0 0\\n' | tools/gk assemble -o sheet.journal
   tools/gk explain sheet.journal
   tools/gk assemble gk/examples/march.txt -o march.journal
   tools/gk explain march.journal
   tools/gk assemble gk/examples/tax.txt -o tax.journal
   tools/gk explain tax.journal
+  tools/gk assemble gk/examples/shops.txt -o shops.journal
+  tools/gk explain shops.journal
+";
+
+pub const CONVERT: &str = "\
+gk convert - a journal from before shop marks, with sets
+
+Usage: gk convert [--names FILE] [-o FILE] [FILE]
+
+Before, admit and register had two numbers; now a set of shop marks stands behind the level. FILE is a journal of
+before, or a text for gk assemble, and comes out as the same with the set of all marks added to those two calls: 255
+in a journal, all in a text, whose comments stay. Every record keeps its position, so the names are those of before.
+The replies are those of before, but that a lowered call has 0, the number of shop marks lost, at its end.
+
+What drew 11 or 12 is left as it is, and standard error says which records these are. It also says where the journal
+would go beyond 65,536 bytes: it is written, and has to be split. The set is the one of no change; who vouches for which
+shops is for people to say.
+
+  -o FILE       write to this file; the names of a journal go beside it
+  --names FILE  the names of the journal; else run.names beside run.journal, if it is there
+
+Examples: a text, and a journal
+  printf 'admit 0 9\\nexit 0\\n' | tools/gk convert
+    admit 0 9 all
+    exit 0
+  printf '\\003\\001\\000\\011\\002\\014\\000' | tools/gk convert | tools/gk disassemble
+    admit 0 9 all
+    exit 0
 ";
 
 pub const DISASSEMBLE: &str = "\
@@ -167,12 +205,12 @@ Every byte is accounted for: what it writes, assembled again, gives the same byt
 is malformed stands as `bytes` or `call`, with a comment that says why. Of a journal above 65,536 bytes the
 first 65,537 are read.
 
-  --names FILE  the names of steps, files and pipes; else run.names beside run.journal, if it is there
+  --names FILE  the names of steps, files, pipes and shops; else run.names beside run.journal, if it is there
   -o FILE       write to this file
 
 Example:
-  printf '\\003\\001\\000\\011\\200\\000' | tools/gk disassemble
-    admit 0 9
+  printf '\\005\\001\\000\\011\\377\\001\\200\\000' | tools/gk disassemble
+    admit 0 9 all
     bytes 80 00              # refusal 11: the length is longer than it need be; the run stops here
 ";
 
@@ -205,7 +243,7 @@ where, no call is made, and the exit status is 1.
   --append JOURNAL  put the calls behind the records of this journal, all of them or none. Without --after and
                     --set-up the line is tried after this very journal, as is meant. The file is replaced:
                     not for a journal that a host has open, whose next records would be lost
-  --names FILE      the names of steps, files and pipes; else run.names beside run.journal, if it is there
+  --names FILE      the names of steps, files, pipes and shops; else run.names beside run.journal, if it is there
   -o FILE           write to this file
 
 Examples: a program that reads the checked hours
@@ -233,7 +271,8 @@ What was refused in March: a stage reads an hours sheet that nobody has checked,
     Stage 2: 3 > 0
     16. Step 2 may not open the pay book (file 0) for writing at place 15: what the hours sheet of shop
         3 has could get there through it.
-      Refused (9): low data could reach a higher file. Nothing is opened.
+      Refused (9): data could reach a file of a higher level or with a shop mark that it lacks. Nothing
+        is opened.
       The hours sheet of shop 3 has level 2, and the pay book takes nothing from below level 9.
       The chain, found by gk and not proved:
         the hours sheet of shop 3 (level 2) → step 1 (level 12) → pipe 7 (level 12) → step 2 (level 12)
@@ -272,14 +311,15 @@ at that point of the journal. A call that is refused does not stop the next one.
 
   --at N        after record N, in place of the last one; 0 is before the first
   --refused     only the calls that were refused, and the end
-  --names FILE  the names of steps, files and pipes; else run.names beside run.journal, if it is there
+  --names FILE  the names of steps, files, pipes and shops; else run.names beside run.journal, if it is there
   -o FILE       write to this file
 
 Examples: March, where record 196 is refused; and what is advised there
   tools/gk try crates/payrun/stdin --at 195 'open-read 17 1 5' 'close 17 1' 'close 17 4' 'open-read 17 1 5'
     Tried on a copy of the tables after 195 records.
     196. Step 17 may not open file 1 for reading at place 5: it writes file 0.
-      Refused (9): low data could reach a higher file. Nothing is opened.
+      Refused (9): data could reach a file of a higher level or with a shop mark that it lacks. Nothing
+        is opened.
       File 1 has level 2, and file 0 takes nothing from below level 9.
       With the handles that there are, step 17 has to stay at level 12 or above.
       The chain, found by gk and not proved:
@@ -306,7 +346,7 @@ The same with names
 ";
 
 pub const NAMES: &str = "\
-Names for steps, files and pipes
+Names for steps, files, pipes and shop groups
 
 A journal has numbers alone. In a text for gk assemble a line gives a thing a name,
   name step 17 merge
@@ -316,6 +356,13 @@ and from the next line on the name may stand where its number would:
   open-read merge \"the hours sheet of shop 3\" 5
 A name that starts with a letter and has no space needs no quotes. Texts without names are as they were.
 
+The eight shop groups, 0 to 7, have names of their own, which stand in sets of shop marks:
+  name shop 0 north
+  name shop 1 east
+  register \"the hours sheet of shop 3\" 2 north,east
+A group that has no name is called shop 3, by its number. No group is called all or none, or shop and a number. A file
+may have the name that a group has.
+
 A name has 1 to 60 letters, digits, spaces and - _ . / + ' & @ %, with at least one letter. It has no space
 at its start or end, not two spaces in a row, no dot before a space or at its end, and none of the words
 step, file, pipe, place, level and record before a number.
@@ -323,7 +370,7 @@ step, file, pipe, place, level and record before a number.
 Numbers may be used again, so a name holds from a record on: the first one behind its line. It holds until the
 number gets another name, or the name another number. Where a step exits, a file is retired or a pipe ends,
 and the number is used again, gk explain does not take the old name for the new thing. A step's number is 0 to
-31; that of a file or pipe is 0 to 18446744073709551615, in a names file without commas.
+31; that of a file or pipe is 0 to 18446744073709551615, in a names file without commas; that of a shop group 0 to 7.
 
 The names stand in a file beside the journal, run.names beside run.journal, which explain, why, disassemble, line, try
 and screen find there; --names FILE names another one. Its first line is `names 1`. Each other line is empty, a comment
@@ -332,6 +379,7 @@ that starts with #, or a kind, a number, the first record and the name, with one
   step 17 1 merge
   file 1 1 the hours sheet of shop 3
   step 1 204 sheet reader
+  shop 0 1 north
 
 Example:
   tools/gk assemble gk/examples/march.txt -o march.journal

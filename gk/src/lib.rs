@@ -8,15 +8,17 @@
 //! | module | has |
 //! |---|---|
 //! | [`cli`], [`help`] | the commands, in one table, and their help |
-//! | [`names`] | names for steps, files and pipes, and the file that keeps them |
+//! | [`names`] | names for steps, files, pipes and shop groups, and the file that keeps them |
 //! | [`assembly`], [`disassembly`] | journals as text |
+//! | [`conversion`] | journals from before shop marks, with sets |
 //! | [`explain`] | all of it in sentences, as a summary, or as JSON |
 //! | [`trial`] | calls tried after a journal, each with its answer |
 //! | [`line`] | a typed line, each of its calls with its answer |
-//! | [`why`] | where the level of a step or pipe comes from |
+//! | [`why`] | where the level of a step or pipe comes from, and why it lacks shop marks |
 
 pub mod assembly;
 pub mod cli;
+pub mod conversion;
 pub mod disassembly;
 pub mod explain;
 pub mod help;

@@ -84,7 +84,7 @@ impl Made {
         {
             let count = match monitor.call(call) {
                 Answer::Allowed(_) => &mut *allowed,
-                Answer::Lowered(_) => &mut *lowered,
+                Answer::Lowered { .. } => &mut *lowered,
                 Answer::Refused(_) => &mut *refused,
             };
             *count = count.wrapping_add(1);
@@ -118,7 +118,7 @@ mod tests {
     const NUMBERS: Numbers = Numbers { shell: 0, child: 1, pipe: 10 };
 
     fn start() -> Start {
-        let text = b"register 0 9\nregister 1 2\nregister 3 15\nadmit 0 12\n";
+        let text = b"register 0 9 all\nregister 1 2 all\nregister 3 15 all\nadmit 0 12 all\n";
         Start::after(&assemble(text).unwrap().journal).unwrap()
     }
 
@@ -166,8 +166,8 @@ mod tests {
     fn monitors_that_hold_the_same_are_known() {
         let one = start().monitor;
         for call in [
-            Call::Admit { subject: 5, level: 1 },
-            Call::Register { object: 9, level: 1 },
+            Call::Admit { subject: 5, level: 1, shops: 255 },
+            Call::Register { object: 9, level: 1, shops: 255 },
             Call::Freeze { level: 3 },
             Call::OpenRead { subject: 0, object: 3, place: 2 },
             Call::Pipe { subject: 0, object: 9, reads: 0, writes: 1 },
@@ -184,11 +184,12 @@ mod tests {
         assert!(!holds_same(&one, &other));
         // A step by itself and a thread differ in their group alone.
         let [thread, alone] =
-            [Call::Thread { subject: 0, member: 5 }, Call::Admit { subject: 5, level: 12 }].map(|call| {
-                let mut other = one.clone();
-                assert!(other.call(call).granted().is_ok());
-                other
-            });
+            [Call::Thread { subject: 0, member: 5 }, Call::Admit { subject: 5, level: 12, shops: 255 }]
+                .map(|call| {
+                    let mut other = one.clone();
+                    assert!(other.call(call).granted().is_ok());
+                    other
+                });
         assert!(!holds_same(&thread, &alone));
     }
 }

@@ -111,7 +111,7 @@ impl<'a> Trial<'a> {
         let answer = self.monitor.call(call);
         match answer {
             Answer::Allowed(_) => self.counts.allowed += 1,
-            Answer::Lowered(_) => self.counts.lowered += 1,
+            Answer::Lowered { .. } => self.counts.lowered += 1,
             Answer::Refused(_) => self.counts.refused += 1,
         }
         let (position, code, content) = (self.position, call.code(), Content::Call(call));
@@ -149,19 +149,20 @@ mod tests {
     #[test]
     fn a_journal_that_is_not_run_to_its_end_leaves_no_tables() {
         let unfit = |journal: &[u8]| Start::after(journal).map(|start| start.records);
-        assert_eq!(unfit(&[3, 1, 0, 9]), Ok(1));
-        assert_eq!(unfit(&[3, 1, 0, 9, 3]), Err(Unfit::Refused(Refusal::JournalBroken)));
+        assert_eq!(unfit(&[4, 1, 0, 9, 3]), Ok(1));
+        assert_eq!(unfit(&[4, 1, 0, 9, 3, 3]), Err(Unfit::Refused(Refusal::JournalBroken)));
         assert_eq!(unfit(&[0; JOURNAL_BYTES + 1]), Err(Unfit::Refused(Refusal::JournalTooLong)));
-        let start = Start::after(&[1, 77, 3, 1, 0, 9]).unwrap();
+        let start = Start::after(&[1, 77, 4, 1, 0, 9, 3]).unwrap();
         assert_eq!((start.records, start.refused), (2, Some((1, Refusal::UnknownCode))));
     }
 
     #[test]
     fn the_tables_after_some_records_are_those_of_the_journal_that_ends_there() {
         // Three records, of which the second makes no call, and a fourth that is cut off.
-        let journal = [3, 1, 0, 9, 1, 77, 2, 12, 0, 3];
+        let journal = [4, 1, 0, 9, 3, 1, 77, 2, 12, 0, 3];
         let at = |records: u64| {
-            Start::at(&journal, records).map(|start| (start.records, start.monitor.subject(0)))
+            let level = |start: &Start| start.monitor.subject(0).map(|label| label.level);
+            Start::at(&journal, records).map(|start| (start.records, level(&start)))
         };
         assert_eq!(
             [at(0), at(1), at(2), at(3)],

@@ -1,4 +1,5 @@
-//! Why a step or pipe has its level: since which record, because of which file, and through which records.
+//! Why a step or pipe has its level, and lacks shop marks: since which record, because of which file, and through which
+//! records.
 
 pub mod trail;
 
@@ -7,13 +8,14 @@ use std::collections::BTreeMap;
 use gatekeeper::Refusal;
 use gk_advice::refused::answer_words;
 use gk_advice::run::{Content, Step};
-use gk_advice::scene::{Past, Scene};
+use gk_advice::scene::{capital, Past, Scene};
 use gk_names::number::{of_text, shown as with_commas};
+use gk_names::shops;
 
 use crate::explain::{told, walk, Differs};
 use crate::names::{Entry, Kind, Names};
 use crate::text::{meant, paragraph, shown};
-use trail::{Link, Stay, Trail};
+use trail::{Link, Part, Stay, Trail};
 
 /// Which thing is asked for.
 #[derive(Clone, Debug, PartialEq, Eq)]
@@ -30,7 +32,7 @@ impl Wanted {
             [] => None,
             [one] if of_text(one).is_some() => None,
             [kind, number] => match (Kind::of_word(kind), of_text(number)) {
-                (Some(kind), Some(number)) => Some(Wanted::Number(kind, number)),
+                (Some(kind), Some(number)) if kind != Kind::Shop => Some(Wanted::Number(kind, number)),
                 _ => Some(Wanted::Name(words.join(" "))),
             },
             _ => Some(Wanted::Name(words.join(" "))),
@@ -135,48 +137,115 @@ fn stopped(step: &Step) -> Option<(u64, Refusal)> {
     }
 }
 
-/// The level, where it comes from, and the records that brought it here.
-fn tell(journal: &[u8], names: &Names, trail: &Trail, place: usize, at: u64) -> Result<String, Differs> {
-    let chain = trail.chain(place, at);
-    let mark = trail.stays[place].mark(at);
-    let (mut called, mut records) = (BTreeMap::new(), String::new());
-    let mut mate = String::new();
-    walk(journal, names, |step, past| {
-        if let Some(read) = mark.filter(|mark| mark.record == step.position).and_then(|mark| mark.mate) {
-            let who = called_after(step, past, names, &trail.stays[read]);
-            mate = format!(", when {who}, a thread of the same step, read");
+/// A part of a label, or several that came the same way: how it came, and the set of missing shop marks that it is.
+struct Way {
+    part: Part,
+    shops: u8,
+    chain: Vec<Link>,
+}
+
+/// How the level came, and how each missing shop mark did; those that came the same way together.
+fn ways(trail: &Trail, place: usize, at: u64) -> Vec<Way> {
+    let mut ways =
+        vec![Way { part: Part::Level, shops: shops::NONE, chain: trail.chain(place, at, Part::Level) }];
+    let missing = !trail.stays[place].label(at).shops;
+    for group in shops::groups(missing) {
+        let part = Part::Shop(group);
+        let (mark, chain) = (1 << group, trail.chain(place, at, part));
+        match ways[1..].iter_mut().find(|way| way.chain == chain) {
+            Some(way) => way.shops |= mark,
+            None => ways.push(Way { part, shops: mark, chain }),
         }
-        if let Some(link) = chain.iter().find(|link| link.record == step.position) {
+    }
+    ways
+}
+
+/// The label, where it comes from, and the records that brought it here.
+fn tell(journal: &[u8], names: &Names, trail: &Trail, place: usize, at: u64) -> Result<String, Differs> {
+    let ways = ways(trail, place, at);
+    let stay = &trail.stays[place];
+    // The records of all ways, and what their things are called after them.
+    let (mut called, mut records, mut mates) = (BTreeMap::new(), BTreeMap::new(), BTreeMap::new());
+    walk(journal, names, |step, past| {
+        for mark in stay.marks.iter().filter(|mark| mark.record == step.position) {
+            if let Some(read) = mark.mate {
+                mates.insert(mark.record, called_after(step, past, names, &trail.stays[read]));
+            }
+        }
+        let is_here = |link: &&Link| link.record == step.position;
+        if let Some(link) = ways.iter().find_map(|way| way.chain.iter().find(is_here)) {
             called.insert(link.stay, called_after(step, past, names, &trail.stays[link.stay]));
-            records.push_str(&told(step, names, past).text());
+            records.insert(step.position, told(step, names, past).text());
         }
         if step.position == at {
             called.insert(place, called_after(step, past, names, &trail.stays[place]));
         }
     })?;
     let called = |link: &Link| called.get(&link.stay).map_or("", String::as_str);
-    let (Some(first), Some(own)) = (chain.first(), chain.last()) else {
+    let mate = |record: u64| {
+        let who = mates.get(&record);
+        who.map_or(String::new(), |who| format!(", when {who}, a thread of the same step, read"))
+    };
+    let below = |way: &Way| {
+        way.chain.iter().filter_map(|link| records.get(&link.record).cloned()).collect::<String>()
+    };
+    let (Some(first), Some(own)) = (ways[0].chain.first(), ways[0].chain.last()) else {
         return Ok(String::new());
     };
 
-    let stay = &trail.stays[place];
+    let label = stay.label(at);
+    let (with, it) = match label.shops {
+        shops::ALL => (String::new(), "it"),
+        set => (format!(" with {}", shops::words(set, names, at)), "the level"),
+    };
     let mut text = format!(
-        "After record {at}, {} has level {}. It has had it since record {}{mate}",
+        "After record {at}, {} has level {}{with}. It has had {it} since record {}{}",
         called(own),
-        own.level,
-        own.record
+        label.level,
+        own.record,
+        mate(own.record)
     );
     text += &match stay.marks[0] {
         start if start.record == own.record => ": that is the level it started with.".to_string(),
-        start => format!("; it started with level {}, at record {}.", start.level, start.record),
+        start => format!("; it started with level {}, at record {}.", start.label.level, start.record),
     };
     text += &match trail.stays[first.stay].kind {
         _ if first == own => String::new(),
         Kind::Step => format!(" The level is that at which {} was admitted.", called(first)),
-        Kind::File | Kind::Pipe => format!(" The level is that of {}.", called(first)),
+        _ => format!(" The level is that of {}.", called(first)),
     };
     text += &stay.until.map_or(String::new(), |until| format!(" It is there until record {until}."));
-    Ok(paragraph("", &text) + HEADING + &records)
+    let mut whole = paragraph("", &text) + HEADING + &below(&ways[0]);
+
+    for way in &ways[1..] {
+        let (Some(first), Some(own)) = (way.chain.first(), way.chain.last()) else {
+            continue;
+        };
+        let them = if way.shops.count_ones() == 1 { "it" } else { "them" };
+        let mut text = format!(
+            "It lacks {} since record {}{}",
+            shops::words(way.shops, names, at),
+            own.record,
+            mate(own.record)
+        );
+        text += &match stay.marks[0] {
+            start if start.record == own.record => format!(": it started without {them}."),
+            start => format!("; it started with {them}, at record {}.", start.record),
+        };
+        text += &match trail.stays[first.stay].kind {
+            _ if first == own => String::new(),
+            Kind::Step => format!(" {} was admitted without {them}.", capital(called(first))),
+            _ => format!(" {} does not have {them}.", capital(called(first))),
+        };
+        // What stands above is not said again.
+        let is_told =
+            ways.iter().take_while(|other| other.part != way.part).any(|other| other.chain == way.chain);
+        whole += &match is_told {
+            true => paragraph("", &format!("{text} The records are those above.")),
+            false => paragraph("", &text) + HEADING + &below(way),
+        };
+    }
+    Ok(whole)
 }
 
 /// What stands over the records of a chain.

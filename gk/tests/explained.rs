@@ -5,7 +5,7 @@ mod common;
 use common::{err, explained, gk, journals, out, sees, Folder};
 
 /// The pay book, an hours sheet, a step of level 9 and one of level 8.
-const BOOKS: &str = "register 0 9\nregister 1 2\nadmit 0 9\nadmit 1 8\n";
+const BOOKS: &str = "register 0 9 all\nregister 1 2 all\nadmit 0 9 all\nadmit 1 8 all\n";
 
 #[test]
 fn a_refusal_says_what_did_not_happen() {
@@ -13,8 +13,8 @@ fn a_refusal_says_what_did_not_happen() {
     sees(
         &text,
         &[
-            "6. Step 0 may not open file 1 for reading at place 1: it writes file 0. Refused (9): low data could \
-             reach a higher file. Nothing is opened. File 1 has level 2, and file 0 takes nothing from below level 9. \
+            "6. Step 0 may not open file 1 for reading at place 1: it writes file 0. Refused (9): data could reach \
+             a file of a higher level or with a shop mark that it lacks. Nothing is opened. File 1 has level 2, and file 0 takes nothing from below level 9. \
              With the handles that there are, step 0 has to stay at level 9 or above. The chain, found by gk and not \
              proved: file 1 (level 2) → step 0 (level 9) → file 0 (level 9) What to do: close place 0 (writing file \
              0) of step 0; open it after that. Or: let another step open it: step 1 may. Or: let step 0 fork a step, \
@@ -25,16 +25,16 @@ fn a_refusal_says_what_did_not_happen() {
     );
     for (call, title, nothing) in [
         (
-            "admit 0 9",
+            "admit 0 9 all",
             "Step 0 is not admitted from outside at level 9: step 0 is there already",
             "No step is admitted",
         ),
         (
-            "admit 2 16",
+            "admit 2 16 all",
             "Step 2 is not admitted from outside at level 16: levels are 0 to 15",
             "No step is admitted",
         ),
-        ("register 0 9", "File 0 is not registered", "No file is registered"),
+        ("register 0 9 all", "File 0 is not registered", "No file is registered"),
         ("create 0 0", "Step 0 may not create file 0: file 0 is there already", "No file is created"),
         (
             "pipe 0 18446744073709551615 0 16",
@@ -121,20 +121,20 @@ fn handles_for_the_same_are_named_together() {
 fn a_pipe_that_is_to_be_opened_is_not_closed_away() {
     // Step 1 holds the only handle on pipe 5, for writing; step 0 has the pay book open and asks to read the pipe.
     let text = explained(
-        "register 0 9\nadmit 0 9\nadmit 1 2\npipe 1 5 0 1\nclose 1 0\nopen-write 0 0 0\nopen-read 0 5 1\n",
+        "register 0 9 all\nadmit 0 9 all\nadmit 1 2 all\npipe 1 5 0 1\nclose 1 0\nopen-write 0 0 0\nopen-read 0 5 1\n",
     );
     sees(&text, &["What to do: close place 0 (writing file 0) of step 0; open it after that. Or:"]);
     assert!(!text.contains("Pipe 5 ends"), "{text}");
     // Here the pipe's one handle is what leads up, so that it has to stay, and the pay book is closed.
     let text = explained(
-        "register 0 9\nadmit 0 9\nadmit 1 2\npipe 0 5 0 1\nclose 0 1\nopen-write 0 0 1\nopen-write 1 5 0\n",
+        "register 0 9 all\nadmit 0 9 all\nadmit 1 2 all\npipe 0 5 0 1\nclose 0 1\nopen-write 0 0 1\nopen-write 1 5 0\n",
     );
     sees(&text, &["What to do: close place 1 (writing file 0) of step 0; open it after that."]);
 }
 
 #[test]
 fn every_way_is_closed_at_once() {
-    let ways = "open-write 0 0 0\npipe 0 5 1 2\nopen-read 1 5 0\nregister 2 8\nopen-write 1 2 1\n";
+    let ways = "open-write 0 0 0\npipe 0 5 1 2\nopen-read 1 5 0\nregister 2 8 all\nopen-write 1 2 1\n";
     let text = explained(&format!("{BOOKS}{ways}exec 0 1\n"));
     sees(
         &text,
@@ -158,7 +158,7 @@ fn every_way_is_closed_at_once() {
 #[test]
 fn closed_books_are_explained() {
     let freezes = "freeze 9\nopen-write 0 0 0\nopen-write 0 2 0\nfreeze 5\nfreeze 16\nfreeze 16\n";
-    let text = explained(&format!("{BOOKS}register 2 4\n{freezes}"));
+    let text = explained(&format!("{BOOKS}register 2 4 all\n{freezes}"));
     sees(
         &text,
         &[
@@ -190,7 +190,7 @@ fn a_15_tells_of_the_9_behind_it() {
         &[
             "7. Step 0 may not open file 0 for writing at place 1: the books are closed from level 9 up since record 5, \
              and it has level 9. Refused (15): the file is frozen while the books are closed. Nothing is opened. Once \
-             the books are open again (freeze 16) it would be refused with 9: low data could reach a higher file. File \
+             the books are open again (freeze 16) it would be refused with 9: data could reach a file of a higher level or with a shop mark that it lacks. File \
              1 has level 2, and file 0 takes nothing from below level 9. The chain, found by gk and not proved: file 1 \
              (level 2) → step 0 (level 9) → file 0 (level 9) What to do: close place 0 (reading file 1) of step 0; \
              open it after that once the books are open again (freeze 16). Or: let step 0 fork",
@@ -201,10 +201,10 @@ fn a_15_tells_of_the_9_behind_it() {
     assert!(!text.contains("wait until"), "{text}");
     let journal = gk(&["assemble"], format!("{BOOKS}freeze 9\nopen-write 1 0 0\n").as_bytes()).stdout;
     let chain = concat!(
-        r#""chain":{"proved":false,"links":[{"kind":"step","number":1,"level":8,"called":"step 1"},"#,
-        r#"{"kind":"file","number":0,"level":9,"called":"file 0"}]}"#
+        r#""chain":{"proved":false,"links":[{"kind":"step","number":1,"level":8,"set":255,"called":"step 1"},"#,
+        r#"{"kind":"file","number":0,"level":9,"set":255,"called":"file 0"}]}"#
     );
-    let then = "Once the books are open again (freeze 16) it would be refused with 9: low data could reach";
+    let then = "Once the books are open again (freeze 16) it would be refused with 9: data could reach";
     let calls = r#""calls":["freeze 16","open-write 0 0 0"]}"#;
     let lines = out(&gk(&["explain", "--json", "--refused"], &journal));
     sees(&lines, &[r#""refusal":15,"#, then, chain, calls]);
@@ -225,7 +225,10 @@ fn a_15_tells_of_the_9_behind_it() {
     sees(&text, &["What to do: wait until the books are open again (freeze 16) and open it then."]);
     assert!(!text.contains("refused with 9") && !text.contains("The chain"), "{text}");
     let text = explained(&format!("{BOOKS}freeze 10\nopen-write 1 0 0\n"));
-    sees(&text, &["Refused (9): low data could reach a higher file."]);
+    sees(
+        &text,
+        &["Refused (9): data could reach a file of a higher level or with a shop mark that it lacks."],
+    );
     assert!(!text.contains("books are"), "{text}");
 }
 
@@ -237,7 +240,7 @@ fn what_would_be_refused_with_15_and_then_with_9_is_told_so() {
         &text,
         &[
             "At an empty place, for example 0, it would be refused with 15: the file is frozen while the books are \
-             closed, and once the books are open again (freeze 16) with 9: low data could reach a higher file. Also: \
+             closed, and once the books are open again (freeze 16) with 9: data could reach a file of a higher level or with a shop mark that it lacks. Also: \
              the books are closed from level 9 up since record 5, so that the open is refused with 15 when nothing \
              else is in the way",
         ],
@@ -326,8 +329,8 @@ fn channels_are_explained() {
     sees(
         &text,
         &[
-            "writing at place 4: what step 1 has could then reach file 0. Refused (9): low data could reach a \
-             higher file. Neither pipe is made.",
+            "writing at place 4: what step 1 has could then reach file 0. Refused (9): data could reach a \
+             file of a higher level or with a shop mark that it lacks. Neither pipe is made.",
             "step 1 (level 8) → pipe 6 (level 8) → step 0 (level 9) → file 0 (level 9) What to do: close place 0 \
              (writing file 0) of step 0; connect them after that. Or: if data need only go from step 0 to step 1, \
              let step 0 make pipe 5 and step 1 open it for reading. End",
@@ -343,15 +346,15 @@ fn channels_are_explained() {
 
 #[test]
 fn a_number_is_made_free_where_none_is() {
-    let files: String = (0..64).map(|o| format!("register {o} 15\n")).collect();
+    let files: String = (0..64).map(|o| format!("register {o} 15 all\n")).collect();
     // A number that is in use, and no room for another one.
-    let text = explained(&format!("{files}admit 0 0\ncreate 0 63\n"));
+    let text = explained(&format!("{files}admit 0 0 all\ncreate 0 63\n"));
     sees(
         &text,
         &["retire a file that nobody has open, for example file 0, file 1 or file 2; then use a free number, for example 64."],
     );
     // Every file is open somewhere.
-    let steps: String = (0..4).map(|s| format!("admit {s} 0\n")).collect();
+    let steps: String = (0..4).map(|s| format!("admit {s} 0 all\n")).collect();
     let opens: String = (0..64).map(|o| format!("open-read {} {o} {}\n", o / 16, o % 16)).collect();
     let text = explained(&format!("{files}{steps}{opens}create 0 3\n"));
     sees(
@@ -361,7 +364,7 @@ fn a_number_is_made_free_where_none_is() {
             "close place 0 (reading file 0) of step 0 and retire file 0; then use a free number, for example 64.",
         ],
     );
-    let admits: String = (0..32).map(|s| format!("admit {s} 9\n")).collect();
+    let admits: String = (0..32).map(|s| format!("admit {s} 9 all\n")).collect();
     let text = explained(&format!("{admits}fork 5 32\n"));
     sees(&text, &["all 32 numbers are in use: let a step exit and use its number, for example step 0, step 1 or step 2."]);
 }
@@ -370,8 +373,8 @@ fn a_number_is_made_free_where_none_is() {
 #[test]
 fn room_is_made_where_64_are_live() {
     let files =
-        |count: u64| -> String { (0..count).map(|o| format!("register {} 15\n", o << 40)).collect() };
-    let text = explained(&format!("{}admit 0 15\ncreate 0 5\n", files(64)));
+        |count: u64| -> String { (0..count).map(|o| format!("register {} 15 all\n", o << 40)).collect() };
+    let text = explained(&format!("{}admit 0 15 all\ncreate 0 5\n", files(64)));
     sees(
         &text,
         &[
@@ -383,9 +386,9 @@ fn room_is_made_where_64_are_live() {
     // One file that nobody has open, and pipes.
     let opens: String =
         (0..61).map(|o: u64| format!("open-read {} {} {}\n", 1 + o / 15, o << 40, o % 15)).collect();
-    let steps: String = (0..6).map(|s| format!("admit {s} 15\n")).collect();
+    let steps: String = (0..6).map(|s| format!("admit {s} 15 all\n")).collect();
     let start = format!("{}{steps}{opens}pipe 0 7 0 1\npipe 0 8 2 3\n", files(62));
-    let text = explained(&format!("{start}register 9 4\n"));
+    let text = explained(&format!("{start}register 9 4 all\n"));
     sees(
         &text,
         &["What to do: retire file 67,070,209,294,336, which nobody has open; register it after that. Or: close \
@@ -401,10 +404,10 @@ fn room_is_made_where_64_are_live() {
            2,199,023,255,552; connect them after that."],
     );
     // With room it is refused all the same.
-    let text = explained(&format!("{}register 5 16\n", files(64)));
+    let text = explained(&format!("{}register 5 16 all\n", files(64)));
     sees(&text, &["With room for it, it would be refused with 6: "]);
     // A file that is missing, and no room to register it.
-    let text = explained(&format!("{}admit 0 15\nopen-read 0 5 0\n", files(64)));
+    let text = explained(&format!("{}admit 0 15 all\nopen-read 0 5 0\n", files(64)));
     sees(
         &text,
         &["retire file 0, which nobody has open; then register file 5 first, at any level; then the call is allowed."],
@@ -439,7 +442,7 @@ fn paragraphs(text: &str) -> Vec<String> {
 fn refusals_that_are_alike_are_told_once() {
     let names = "name step 0 merge\nname file 1 \"sheet one\"\nname file 2 \"sheet two\"\n";
     let opens = "open-read 0 1 1\nopen-read 0 2 2\nopen-read 0 1 1\nmap 0 2 1\nopen-read 0 3 1\nread 7 0\nread 7 0\n";
-    let text = format!("{names}{BOOKS}register 2 2\nregister 3 3\nopen-write 0 0 0\n{opens}");
+    let text = format!("{names}{BOOKS}register 2 2 all\nregister 3 3 all\nopen-write 0 0 0\n{opens}");
     let folder = Folder::new("alike");
     let journal = folder.path("run.journal");
     assert!(gk(&["assemble", "-o", &journal], text.as_bytes()).status.success());
@@ -447,7 +450,7 @@ fn refusals_that_are_alike_are_told_once() {
     assert_eq!(told.len(), 7, "{told:#?}");
     let first = "Records 8, 9 and 10: merge (step 0) may not open the file for reading: it writes file 0. The file is \
                  at record 8 sheet one (file 1), at record 9 sheet two (file 2), at record 10 sheet one (file 1). Refused \
-                 (9): low data could reach a higher file. Nothing is opened. The file has level 2, and file 0 takes \
+                 (9): data could reach a file of a higher level or with a shop mark that it lacks. Nothing is opened. The file has level 2, and file 0 takes \
                  nothing from below level 9.";
     assert!(told[0].starts_with(first), "{}", told[0]);
     assert!(told[0].contains("the file (level 2) → merge (level 9) → file 0 (level 9)"), "{}", told[0]);
@@ -490,7 +493,7 @@ fn every_refusal_is_found_by_its_number() {
 
 #[test]
 fn a_summary_has_each_steps_levels_handles_and_refusals() {
-    let calls = "open-write 0 0 0\nopen-read 0 1 1\nclose 0 0\nmap 0 1 1\nexit 0\nadmit 0 3\n";
+    let calls = "open-write 0 0 0\nopen-read 0 1 1\nclose 0 0\nmap 0 1 1\nexit 0\nadmit 0 3 all\n";
     let text = format!("{BOOKS}{calls}read 7 0\nfreeze 17\nbytes 00\n");
     let journal = gk(&["assemble"], text.as_bytes());
     let output = gk(&["explain", "--summary"], &journal.stdout);
@@ -502,8 +505,8 @@ Step 0, from record 3 to record 9.
   Level: 9 from record 3 on, 2 from record 8 on.
   Held place 0, writing file 0, from record 5 to record 7.
   Held place 1, mapping file 1, from record 8 to record 9.
-  Refused at record 6: Step 0 may not open file 1 for reading at place 1 (9, low data could reach a
-    higher file).
+  Refused at record 6: Step 0 may not open file 1 for reading at place 1 (9, data could reach a file
+    of a higher level or with a shop mark that it lacks).
 Step 0, from record 10 to the end.
   Level: 3 from record 10 on.
   Held nothing.
@@ -515,8 +518,8 @@ Step 1, from record 4 to the end.
 Asked by no step that was there.
   Refused at record 11: Step 7 may not read at place 0 (2, the step that asks, or is to be
     connected, is not there).
-  Refused at record 12: The freeze is not set to 17 (6, the level is above 15, or a freeze above
-    16).
+  Refused at record 12: The freeze is not set to 17 (6, the level is above 15, the set above 255, or
+    a freeze above 16).
   Refused at record 13: no call (12, the record is not well formed).
 3 steps. 9 records allowed or lowered, 4 refused. Handles: 2 made, 2 gone, 0 still open.
 "
@@ -538,9 +541,8 @@ fn a_record_in_json_has_what_docs_json_says() {
     );
     assert_eq!(lines[4], expected);
     let refused =
-        r#"{"record":6,"code":5,"outcome":"refused","refusal":9,"meaning":"low data could reach a "#;
-    let chain =
-        r#""chain":{"proved":false,"links":[{"kind":"file","number":1,"level":2,"called":"file 1"},"#;
+        r#"{"record":6,"code":5,"outcome":"refused","refusal":9,"meaning":"data could reach a file "#;
+    let chain = r#""chain":{"proved":false,"links":[{"kind":"file","number":1,"level":2,"set":255,"called":"file 1"},"#;
     let advice = concat!(
         r#""advice":[{"text":"close place 0 (writing file 0) of merge 2; open it after that.","#,
         r#""calls":["close 0 0","open-read 0 1 1"]},"#
@@ -608,7 +610,111 @@ fn an_advice_without_calls_is_not_said_to_be_tried() {
 
 #[test]
 fn nothing_is_above_level_15() {
-    let text = explained("register 0 15\nregister 1 2\nadmit 0 15\nopen-write 0 0 0\nopen-read 0 1 1\n");
+    let text = explained(
+        "register 0 15 all\nregister 1 2 all\nadmit 0 15 all\nopen-write 0 0 0\nopen-read 0 1 1\n",
+    );
     sees(&text, &["step 0 has to stay at level 15.", "register it at level 15, and"]);
     assert!(!text.contains("15 or above"), "{text}");
+}
+
+/// A text with names, explained, with one space between two words.
+fn explained_with_names(text: &str) -> String {
+    let folder = common::Folder::new(&format!("shops-{}", text.len()));
+    let journal = folder.path("run.journal");
+    let output = gk(&["assemble", "-o", &journal], text.as_bytes());
+    assert_eq!((output.status.code(), common::err(&output)), (Some(0), String::new()));
+    out(&gk(&["explain", &journal], b"")).split_whitespace().collect::<Vec<&str>>().join(" ")
+}
+
+/// Three shop groups, of which two have names; a book that asks for the mark of the north.
+const SHOPS: &str =
+    "name shop 0 north\nname shop 1 east\nregister 0 9 north\nregister 1 12 \"east,shop 2\"\n\
+                     register 2 2 none\nadmit 0 12 \"north,east,shop 2\"\n";
+
+#[test]
+fn marks_that_are_lost_are_named_and_because_of_what() {
+    let calls = "open-read 0 1 0\nread 0 0\npipe 0 5 1 2\nfork 0 3\nopen-read 3 2 4\nread 3 4\nwrite 3 2\nread 0 1\n\
+                 create 0 6\nexit 0\n";
+    let text = explained_with_names(&format!("{SHOPS}{calls}"));
+    sees(
+        &text,
+        &[
+            "1. File 0 is registered from outside at level 9 with the shop mark of north. Allowed. File 0 has level 9 \
+             with the shop mark of north for good.",
+            "3. File 2 is registered from outside at level 2 with no shop marks. Allowed. File 2 has level 2 with no \
+             shop marks for good.",
+            "4. Step 0 is admitted from outside at level 12 with the shop marks of north, east and shop 2. Allowed. Step 0 \
+             runs at level 12 with the shop marks of north, east and shop 2, with no handles.",
+            "6. Step 0 reads at place 0, its reading handle on file 1 (level 12, shop marks of east and shop 2). Lowered. \
+             Step 0 stays at level 12 and loses the shop mark of north, which file 1 does not have; it keeps the shop \
+             marks of east and shop 2.",
+            "7. Step 0 makes pipe 5, reading at place 1 and writing at place 2. Allowed. Pipe 5 is empty and starts at the \
+             label of step 0, level 12 with the shop marks of east and shop 2.",
+            "8. Step 0 forks step 3. Allowed. Step 3 starts at level 12 with the shop marks of east and shop 2, and with \
+             copies of the 3 handles of step 0.",
+            "10. Step 3 reads at place 4, its reading handle on file 2 (level 2, no shop marks). Lowered. Step 3 falls from \
+             level 12 to level 2 and loses the shop marks of east and shop 2, which file 2 does not have; it keeps no \
+             shop marks.",
+            "11. Step 3 writes at place 2, its writing handle on pipe 5 (level 12, shop marks of east and shop 2). \
+             Lowered. Pipe 5 falls from level 12 to level 2 and loses the shop marks of east and shop 2, which step 3 \
+             does not have; it keeps no shop marks.",
+            "13. Step 0 creates file 6. Allowed. File 6 is empty and has the label of step 0, level 2 with no shop \
+             marks, for good.",
+            "14. Step 0 exits. Allowed. Its last level was 2 with no shop marks; ",
+        ],
+    );
+}
+
+/// A 9 says what is insufficient: the level, or which shop marks, or both.
+#[test]
+fn a_9_says_what_is_insufficient() {
+    let text =
+        explained_with_names(&format!("{SHOPS}open-write 0 0 0\nopen-read 0 1 1\nopen-read 0 2 1\n"));
+    sees(
+        &text,
+        &[
+            "Nothing is opened. File 1 lacks the shop mark of north, and file 0 takes nothing without it. With the handles \
+             that there are, step 0 has to stay at level 9 or above and to keep the shop mark of north. The chain, \
+             found by gk and not proved: file 1 (level 12, shop marks of east and shop 2) → step 0 (level 12, shop marks \
+             of north, east and shop 2) → file 0 (level 9, shop mark of north) What to do: close place 0",
+            "Or: when a clerk has looked file 1 over, retire it, register it at level 9 or above with the shop mark of \
+             north, and open it then.",
+            "File 2 has level 2 and lacks the shop mark of north, and file 0 takes nothing from below level 9 and nothing \
+             without it.",
+        ],
+    );
+    // A step that lacks a mark itself.
+    let calls = "admit 1 15 \"east,shop 2\"\nadmit 2 3 none\nopen-write 1 0 0\nopen-write 2 0 0\n";
+    let text = explained_with_names(&format!("{SHOPS}{calls}"));
+    sees(
+        &text,
+        &[
+            "7. Step 1 may not open file 0 for writing at place 0: it lacks the shop mark of north, and file 0 takes nothing \
+             without it.",
+            "No closing of handles helps: step 1 itself lacks the shop mark of north, which file 0 has.",
+            "Or: admit a step at level 9 or above with the shop mark of north, number 3 is free, and let it open it.",
+            "8. Step 2 may not open file 0 for writing at place 0: its level is 3 and it lacks the shop mark of north, and \
+             file 0 takes nothing from below 9 and nothing without it.",
+        ],
+    );
+    let text = explained("admit 0 9 256\nregister 1 16 999\n");
+    sees(
+        &text,
+        &[
+            "1. Step 0 is not admitted from outside at level 9 with the set 256: a set of shop marks is 0 to 255.",
+            "What to do: give a set of shop marks from 0 to 255.",
+            "2. File 1 is not registered from outside at level 16 with the set 999: levels are 0 to 15.",
+            "What to do: give a level from 0 to 15 and a set of shop marks from 0 to 255.",
+        ],
+    );
+    // A file that is missing, which a step without the mark is to write: it may ask for no other marks than the step has.
+    let text = explained("admit 0 9 5\nopen-write 0 7 0\nopen-read 0 8 0\n");
+    sees(
+        &text,
+        &[
+            "What to do: register file 7 first, at level 0 to 9 with no other shop marks than the marks of shop 0 and \
+             shop 2; then the call is allowed.",
+            "What to do: register file 8 first, at any level; then the call is allowed.",
+        ],
+    );
 }

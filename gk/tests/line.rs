@@ -81,7 +81,8 @@ Stage 2: 3 > 0
   Allowed. Place 1 is empty.
 16. Step 5 may not open the pay book (file 0) for writing at place 15: what the hours sheet of shop
     3 has could get there through it.
-  Refused (9): low data could reach a higher file. Nothing is opened.
+  Refused (9): data could reach a file of a higher level or with a shop mark that it lacks. Nothing
+    is opened.
   The hours sheet of shop 3 has level 2, and the pay book takes nothing from below level 9.
   The chain, found by gk and not proved:
     the hours sheet of shop 3 (level 2) → step 4 (level 12) → pipe 10,000 (level 12)
@@ -118,7 +119,10 @@ The answers are the proved gatekeeper's. What to do is advice of gk and not prov
 "
     );
     // A program below the shell lowers the child; a program that is a pipe, or not there, is refused.
-    let text = gk(&["line", "--set-up", "-", "20 ; 21 ; 22"], b"admit 0 9\nregister 20 5\npipe 0 21 2 3\n");
+    let text = gk(
+        &["line", "--set-up", "-", "20 ; 21 ; 22"],
+        b"admit 0 9 all\nregister 20 5 all\npipe 0 21 2 3\n",
+    );
     sees(
         &out(&text),
         &[
@@ -131,7 +135,7 @@ The answers are the proved gatekeeper's. What to do is advice of gk and not prov
     );
     // What came before is looked back on: the freeze, and that a name is of a step that is gone.
     let set_up =
-        b"name step 1 intake\nadmit 0 12\nregister 0 9\nregister 3 15\nadmit 1 9\nexit 1\nfreeze 9\n";
+        b"name step 1 intake\nadmit 0 12 all\nregister 0 9 all\nregister 3 15 all\nadmit 1 9 all\nexit 1\nfreeze 9\n";
     let text = out(&gk(&["line", "--set-up", "-", "3 > 0"], set_up));
     let flat = text.split_whitespace().collect::<Vec<&str>>().join(" ");
     sees(
@@ -268,7 +272,7 @@ fn the_numbers_are_taken_and_said() {
          Pipes: from number 0 on, the lowest that are free and not in the line."
     );
     // Enough in a row: steps 3 to 5, and for pipes neither files nor what the line names.
-    let text = "admit 2 9\nadmit 6 9\nregister 1 9\nregister 4 9\n";
+    let text = "admit 2 9 all\nadmit 6 9 all\nregister 1 9 all\nregister 4 9 all\n";
     let (taken, words) = numbers(text, "1 < 7 | 3 | 1", none);
     assert_eq!(taken, Numbers { shell: 2, child: 3, pipe: 5 });
     sees(
@@ -277,7 +281,7 @@ fn the_numbers_are_taken_and_said() {
     );
     assert_eq!(numbers(text, "1 ; 1|1|1|1 ; 1", none).0, Numbers { shell: 2, child: 7, pipe: 5 });
     assert_eq!(numbers(text, "1", none).0, Numbers { shell: 2, child: 0, pipe: 0 });
-    sees(&numbers("admit 2 9", "1", none).1, &["after 1 record. Shell: ", "free. No pipes."]);
+    sees(&numbers("admit 2 9 all", "1", none).1, &["after 1 record. Shell: ", "free. No pipes."]);
     // As given, whatever they are.
     let given = Given { shell: Some(9), child: Some(u64::MAX), pipe: Some(1) };
     let (taken, words) = numbers(text, "1 | 1", given);
@@ -290,11 +294,11 @@ fn the_numbers_are_taken_and_said() {
         ],
     );
     // Where there are not enough in a row, and where there are none.
-    let all: String = (0..32).filter(|s| s % 2 == 0).map(|s| format!("admit {s} 9\n")).collect();
+    let all: String = (0..32).filter(|s| s % 2 == 0).map(|s| format!("admit {s} 9 all\n")).collect();
     let (taken, words) = numbers(&all, "1 | 1", none);
     assert_eq!(taken, Numbers { shell: 0, child: 1, pipe: 0 });
     sees(&words, &["Children: from step 1 on, which are not all free: no others are."]);
-    let all: String = (0..32).map(|s| format!("admit {s} 9\n")).collect();
+    let all: String = (0..32).map(|s| format!("admit {s} 9 all\n")).collect();
     assert_eq!(numbers(&all, "1 | 1", none).0.child, 0);
 }
 
@@ -321,7 +325,7 @@ fn standard_input_is_the_line_or_the_set_up() {
     let output = gk(&["line", "3"], b"");
     assert_eq!(output.status.code(), Some(0));
     sees(&err(&output), &["tried on empty tables; --after JOURNAL or --set-up TEXT gives others"]);
-    let output = gk(&["line", "--set-up", "-", "3"], b"admit 0 9\nadmit 0 9\n");
+    let output = gk(&["line", "--set-up", "-", "3"], b"admit 0 9 all\nadmit 0 9 all\n");
     sees(
         &err(&output),
         &["the set-up's record 2: Refused (3): the number for the new thing cannot be used."],

@@ -21,7 +21,7 @@ fn help_teaches_with_an_example() {
     }
     let helps = cli::helps();
     let words: Vec<&str> = helps.iter().map(|(word, _)| *word).collect();
-    assert_eq!(words, ["run", "explain", "why", "assemble", "disassemble", "line", "try"]);
+    assert_eq!(words, ["run", "explain", "why", "assemble", "disassemble", "convert", "line", "try"]);
     for (command, text) in helps {
         assert!(cli::whole_help().contains(&format!("  {command} ")), "{command}");
         assert!(text.contains("Example"), "{command}");
@@ -85,6 +85,25 @@ fn the_examples_of_the_help_run() {
     }
     assert!(tried >= 30, "only {tried} examples were found");
     assert!(folder.files().contains(&"march.names".to_string()));
+}
+
+/// The text that the page for operators has on shop marks is assembled, and what the page shows of it is what comes.
+#[test]
+fn the_page_for_operators_shows_shop_marks() {
+    let folder = Folder::new("shops-page");
+    let page = fs::read_to_string(format!("{ROOT}/docs/OPERATOR.md")).unwrap();
+    let block = |behind: &str| {
+        let rest = page.split(behind).nth(1).unwrap_or_else(|| panic!("no \"{behind}\" on the page"));
+        rest.split("```\n").nth(1).unwrap().to_string()
+    };
+    let journal = folder.path("sheets.journal");
+    let assembled = gk(&["assemble", "-", "-o", &journal], block("`sheets.txt`:").as_bytes());
+    assert_eq!((assembled.status.code(), err(&assembled)), (Some(0), String::new()));
+    assert!(out(&gk(&["run", &journal], b"")).contains("\n6 7 L 12 6\n") && page.contains("`6 7 L 12 6`"));
+    let told = out(&gk(&["explain", &journal], b""));
+    for part in block("`tools/gk explain sheets.journal`):").split("…\n") {
+        assert!(part.lines().count() > 2 && told.contains(part), "{part} is not in:\n{told}");
+    }
 }
 
 #[test]
@@ -184,8 +203,8 @@ fn standard_input_is_read_for_a_dash_or_no_file() {
             assert_eq!(gk(&arguments, &journal).stdout, of_file.stdout);
         }
     }
-    assert_eq!(gk(&["assemble", "-"], b"admit 0 9").stdout, [3, 1, 0, 9]);
-    assert_eq!(gk(&["assemble", "-", "-o", "-"], b"admit 0 9").stdout, [3, 1, 0, 9]);
+    assert_eq!(gk(&["assemble", "-"], b"admit 0 9 all").stdout, [5, 1, 0, 9, 255, 1]);
+    assert_eq!(gk(&["assemble", "-", "-o", "-"], b"admit 0 9 all").stdout, [5, 1, 0, 9, 255, 1]);
 }
 
 #[test]
@@ -226,8 +245,14 @@ fn a_file_behind_o_is_written_whole_or_not_at_all() {
 fn an_output_replaces_no_input() {
     let folder = Folder::new("replaces");
     fs::create_dir(folder.0.join("sub")).unwrap();
-    let text = "admit 0 9\nname step 0 merge\n";
-    let files = [("run.journal", "\u{3}\u{1}\0\t"), ("run.names", "names 1\n"), ("run.txt", text)];
+    let text = "admit 0 9 all\nname step 0 merge\n";
+    let files = [
+        ("run.journal", "\u{4}\u{1}\0\t\u{3}"),
+        ("run.names", "names 1\n"),
+        ("run.txt", text),
+        ("old.journal", "\u{3}\u{1}\0\t"),
+        ("old.txt", "admit 0 9\n"),
+    ];
     for (name, bytes) in files {
         fs::write(folder.path(name), bytes).unwrap();
     }
@@ -248,6 +273,9 @@ fn an_output_replaces_no_input() {
         "assemble run.txt -o run.txt",
         "assemble -o run.txt <run.txt",
         "assemble run.txt -o other.journal --names run.txt",
+        "convert old.journal -o old.journal",
+        "convert old.journal --names run.names -o run.names",
+        "convert old.txt -o old.txt",
         "line --after run.journal -o run.journal 3",
         "line --after run.journal -o run.names 3",
         "line --after run.journal --names run.names -o run.names 3",
@@ -274,7 +302,11 @@ fn an_output_replaces_no_input() {
         for (name, bytes) in files {
             assert_eq!(fs::read_to_string(folder.path(name)).unwrap(), bytes, "{line}");
         }
-        assert_eq!(folder.files(), ["link", "run.journal", "run.names", "run.txt", "sub"], "{line}");
+        assert_eq!(
+            folder.files(),
+            ["link", "old.journal", "old.txt", "run.journal", "run.names", "run.txt", "sub"],
+            "{line}"
+        );
     }
 }
 
@@ -361,7 +393,7 @@ fn what_is_foreign_is_shown_escaped_and_cut() {
     let wrong: &[(&[&str], &[u8])] = &[
         (&["assemble"], b"\x1b]0;title\x07 0 9"),
         (&["assemble"], b"admit \x1b[2J 9"),
-        (&["assemble"], b"admit 0 9 # \x1b[2J\x9b\xff"),
+        (&["assemble"], b"admit 0 9 all # \x1b[2J\x9b\xff"),
         (&["assemble"], b"name step 0 \"\x1b[2J\""),
         (&["assemble"], b"name step 0 \x1b[2J"),
         (&["assemble"], b"name \x1b[2J 0 a"),
@@ -408,7 +440,7 @@ fn input_without_end_is_not_read_to_its_end() {
 
 #[test]
 fn a_text_in_the_place_of_a_journal_is_answered_with_a_word() {
-    let texts: [&[u8]; 2] = [b"admit 0 9\n", b"\xef\xbb\xbfadmit"];
+    let texts: [&[u8]; 2] = [b"admit 0 9 all\n", b"\xef\xbb\xbfadmit"];
     let journals: [&[u8]; 2] = [b"\x03\x01\x00\x09", b""];
     for command in ["run", "explain", "disassemble"] {
         for (bytes, is_said) in
@@ -481,10 +513,12 @@ fn every_stored_journal_is_answered_as_the_proved_run_of_it() {
                 [position, code, "R", number] => {
                     format!("{{\"record\":{position},\"code\":{code},\"outcome\":\"refused\",\"refusal\":{number},")
                 }
-                [position, code, letter, level] => {
-                    let outcome = if letter == "L" { "lowered" } else { "allowed" };
-                    format!("{{\"record\":{position},\"code\":{code},\"outcome\":\"{outcome}\",\"level\":{level},")
+                [position, code, "A", level] => {
+                    format!("{{\"record\":{position},\"code\":{code},\"outcome\":\"allowed\",\"level\":{level},")
                 }
+                [position, code, "L", level, lost] => format!(
+                    "{{\"record\":{position},\"code\":{code},\"outcome\":\"lowered\",\"level\":{level},\"lost\":{lost},"
+                ),
                 _ => unreachable!("{reply}"),
             };
             assert!(line.starts_with(&start), "{name}: {line}");

@@ -9,7 +9,7 @@ use gk_advice::things::mates;
 
 /// The pay book, an hours sheet, a program, and a step of level 9 with two threads, of which one writes the pay book.
 const TAX: &str =
-    "register 0 9\nregister 1 2\nregister 2 12\nadmit 0 9\nthread 0 1\nthread 1 2\nopen-write 1 0 4\n";
+    "register 0 9 all\nregister 1 2 all\nregister 2 12 all\nadmit 0 9 all\nthread 0 1\nthread 1 2\nopen-write 1 0 4\n";
 
 #[test]
 fn a_thread_is_told_with_its_step() {
@@ -46,7 +46,7 @@ fn a_9_through_a_thread_has_its_chain_and_ways_out() {
         &text,
         &[
             "8. Step 2 may not open file 1 for reading at place 0: step 1, a thread of the same step, writes file 0. Refused \
-             (9): low data could reach a higher file. Nothing is opened. File 1 has level 2, and file 0 takes nothing from \
+             (9): data could reach a file of a higher level or with a shop mark that it lacks. Nothing is opened. File 1 has level 2, and file 0 takes nothing from \
              below level 9. Step 0, step 1 and step 2 are threads of one step: what one of them has read, all of them have. \
              Step 1 holds place 4 (writing file 0). The others hold nothing. With the handles that there are, step 2 has to \
              stay at level 9 or above. The chain, found by gk and not proved: file 1 (level 2) → step 2 (level 9) → step 1 \
@@ -55,14 +55,14 @@ fn a_9_through_a_thread_has_its_chain_and_ways_out() {
         ],
     );
     // A thread's handle is taken before another step's, and the caller's own before both.
-    let text = explained(&format!("{TAX}open-write 2 0 1\nadmit 5 12\nopen-write 5 0 0\nmap 2 1 0\n"));
+    let text = explained(&format!("{TAX}open-write 2 0 1\nadmit 5 12 all\nopen-write 5 0 0\nmap 2 1 0\n"));
     sees(
         &text,
         &["What to do: close place 1 (writing file 0) of step 2, and place 4 (writing file 0) of step 1; map"],
     );
     // Through a pipe to another step with threads.
     let text = explained(
-        "register 0 9\nregister 1 2\nadmit 0 9\nadmit 5 9\nthread 5 6\npipe 0 7 0 1\nclose 0 0\nopen-read 5 7 0\n\
+        "register 0 9 all\nregister 1 2 all\nadmit 0 9 all\nadmit 5 9 all\nthread 5 6\npipe 0 7 0 1\nclose 0 0\nopen-read 5 7 0\n\
          open-write 6 0 3\nopen-read 0 1 2\n",
     );
     sees(
@@ -88,7 +88,7 @@ fn all_fall_because_one_has_read() {
             "11. Step 2 reads at place 0, its reading handle on file 1 (level 2). Allowed. Step 2 stays at level 2. End",
         ],
     );
-    let text = explained("register 1 2\nadmit 0 9\nthread 0 1\nmap 1 1 0\n");
+    let text = explained("register 1 2 all\nadmit 0 9 all\nthread 0 1\nmap 1 1 0\n");
     sees(
         &text,
         &[
@@ -105,7 +105,7 @@ fn an_exec_says_whom_it_ends() {
     sees(
         &text,
         &[
-            "9. Step 1 may not run file 1: it writes file 0. Refused (9): low data could reach a higher file. Nothing is run, \
+            "9. Step 1 may not run file 1: it writes file 0. Refused (9): data could reach a file of a higher level or with a shop mark that it lacks. Nothing is run, \
              and no handle is closed. No thread of the step ends. File 1 has level 2,",
             "Or: let another thread of the same step run it: step 0 and step 2 may. The others end with that, and what they \
              hold is closed. Or: let step 1 fork",
@@ -115,8 +115,9 @@ fn an_exec_says_whom_it_ends() {
         ],
     );
     // With a marked handle of its own, and one mate that holds nothing.
-    let text =
-        explained("register 2 12\nadmit 0 9\nthread 0 1\npipe 0 7 0 1\nmark 0 0\nmark 0 1\nexec 0 2\n");
+    let text = explained(
+        "register 2 12 all\nadmit 0 9 all\nthread 0 1\npipe 0 7 0 1\nmark 0 0\nmark 0 1\nexec 0 2\n",
+    );
     sees(
         &text,
         &[
@@ -130,7 +131,7 @@ fn an_exec_says_whom_it_ends() {
 #[test]
 fn a_summary_has_the_threads_of_each_step() {
     let text =
-        "register 1 2\nadmit 0 9\nthread 0 1\nopen-read 1 1 3\nthread 1 2\nread 1 3\nexit 0\nexec 2 1\n";
+        "register 1 2 all\nadmit 0 9 all\nthread 0 1\nopen-read 1 1 3\nthread 1 2\nread 1 3\nexit 0\nexec 2 1\n";
     let journal = gk(&["assemble"], text.as_bytes());
     assert_eq!(
         out(&gk(&["explain", "--summary"], &journal.stdout)),
@@ -159,7 +160,7 @@ Step 2, from record 5 to the end.
 
 #[test]
 fn a_level_is_told_that_came_by_another_thread() {
-    let text = "name step 0 tax\nname step 1 reader\nregister 1 2\nadmit 0 9\nthread 0 1\nopen-read 1 1 3\nread 1 3\nthread 0 2\n";
+    let text = "name step 0 tax\nname step 1 reader\nregister 1 2 all\nadmit 0 9 all\nthread 0 1\nopen-read 1 1 3\nread 1 3\nthread 0 2\n";
     let folder = Folder::new("threads-why");
     let journal = folder.path("run.journal");
     assert_eq!(gk(&["assemble", "-o", &journal], text.as_bytes()).status.code(), Some(0));
@@ -204,16 +205,24 @@ fn a_record_in_json_has_the_threads() {
         let (_, threads) = lines[record - 1].split_once(",\"threads\":")?;
         Some(threads.trim_end_matches('}').split(",\"advice\"").next().unwrap_or("").to_string())
     };
-    let free = r#"[{"number":0,"level":9,"called":"step 0","holds":[]},{"number":1,"level":9,"called":"tax writer","holds":[]}]"#;
+    let free = r#"[{"number":0,"level":9,"set":255,"called":"step 0","holds":[]},{"number":1,"level":9,"set":255,"called":"tax writer","holds":[]}]"#;
     assert_eq!(threads(5).as_deref(), Some(free.trim_end_matches('}')));
-    let holds = r#"{"number":1,"level":9,"called":"tax writer","holds":[{"place":4,"way":"writes","kind":"file","number":0,"marked":true}]}"#;
-    sees(&threads(8).unwrap(), &[holds, r#"{"number":2,"level":9,"called":"step 2","holds":[]}"#]);
-    let ended =
-        r#"{"number":1,"level":9,"called":"tax writer","ended":true,"holds":[{"place":4,"way":"writes","#;
-    sees(&threads(9).unwrap(), &[r#"[{"number":0,"level":9,"called":"step 0","holds":[]}"#, ended]);
+    let holds = r#"{"number":1,"level":9,"set":255,"called":"tax writer","holds":[{"place":4,"way":"writes","kind":"file","number":0,"marked":true}]}"#;
+    sees(
+        &threads(8).unwrap(),
+        &[holds, r#"{"number":2,"level":9,"set":255,"called":"step 2","holds":[]}"#],
+    );
+    let ended = r#"{"number":1,"level":9,"set":255,"called":"tax writer","ended":true,"holds":[{"place":4,"way":"writes","#;
+    sees(
+        &threads(9).unwrap(),
+        &[r#"[{"number":0,"level":9,"set":255,"called":"step 0","holds":[]}"#, ended],
+    );
     // Of a step by itself there are none, nor of a call that no step makes.
     assert_eq!([1, 4, 10, 13].map(threads), [None, None, None, None]);
-    sees(&threads(12).unwrap(), &[r#"{"number":0,"level":9,"called":"step 0","ended":true,"holds":[]}"#]);
+    sees(
+        &threads(12).unwrap(),
+        &[r#"{"number":0,"level":9,"set":255,"called":"step 0","ended":true,"holds":[]}"#],
+    );
     let page = std::fs::read_to_string(format!("{ROOT}/docs/JSON.md")).unwrap();
     for key in ["threads", "ended", "holds", "place", "way", "marked"] {
         assert!(page.contains(&format!("`{key}`")), "{key}");
@@ -242,7 +251,7 @@ fn who_falls_and_who_ends_is_said_in_every_journal() {
             let of_asks: Vec<u64> = mates(&step.before, asks).collect();
             let fell = of_asks
                 .iter()
-                .filter(|&&s| step.after.subject(s).is_some_and(|now| Some(now) < step.before.subject(s)));
+                .filter(|&&s| step.after.subject(s).is_some_and(|now| Some(now) != step.before.subject(s)));
             for mate in fell {
                 assert!(
                     said.contains(&format!("tep {mate}")) && said.contains(" with it: "),
@@ -268,7 +277,7 @@ fn who_falls_and_who_ends_is_said_in_every_journal() {
 /// What the tables hold after the calls of a line is held to the archive, threads and all.
 #[test]
 fn a_line_is_typed_where_there_are_threads() {
-    let text = format!("{TAX}thread 0 3\nregister 9 15\n");
+    let text = format!("{TAX}thread 0 3\nregister 9 15 all\n");
     let folder = Folder::new("threads-line");
     let set_up = folder.path("set-up");
     std::fs::write(&set_up, text).unwrap();

@@ -69,14 +69,14 @@ fn calls_are_tried_from_any_point() {
         &["after 306 records.\n307. Step 0 may not exit: ", "0 allowed, 0 lowered, 1 refused"],
     );
     assert_eq!(output.status.code(), Some(0));
-    let output = gk(&["try", "-", "--at", "0", "admit 0 9", "call 12 0"], &journal);
+    let output = gk(&["try", "-", "--at", "0", "admit 0 9 all", "call 12 0"], &journal);
     assert_eq!(
         out(&output),
         "Tried on empty tables.\n1. Step 0 is admitted from outside at level 9.\n  Allowed. Step 0 runs at level 9, \
          with no handles.\n2. Step 0 exits.\n  Allowed. Its last level was 9; it held no handles. Its number is \
          free.\nEnd of the calls: 2 allowed, 0 lowered, 0 refused.\nHandles: 0 made, 0 gone, 0 still open.\n"
     );
-    let output = gk(&["try", "--refused", MARCH, "admit 0 9", "exit 1", "exit 0"], b"");
+    let output = gk(&["try", "--refused", MARCH, "admit 0 9 all", "exit 1", "exit 0"], b"");
     assert_eq!(out(&output).matches("Step ").count(), 1, "{}", out(&output));
     assert_eq!(fs::read(format!("{}/{MARCH}", common::ROOT)).unwrap(), journal);
 }
@@ -103,7 +103,7 @@ fn a_name_stands_for_what_it_stood_for_then() {
     // The names file may be another one, and the output a file.
     let [names, text] = ["march.names", "text"].map(|name| folder.path(name));
     let bytes = fs::read(&journal).unwrap();
-    let output = gk(&["try", "-", "--names", &names, "-o", &text, "admit shell 3"], &bytes);
+    let output = gk(&["try", "-", "--names", &names, "-o", &text, "admit shell 3 all"], &bytes);
     assert_eq!((output.status.code(), out(&output)), (Some(0), String::new()));
     sees(&fs::read_to_string(&text).unwrap(), &["307. Step 0 is admitted from outside at level 3.\n"]);
 }

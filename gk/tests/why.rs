@@ -6,10 +6,11 @@ use std::collections::BTreeMap;
 use std::fs;
 
 use common::{err, gk, journals, out, sees, Folder};
+use gatekeeper::Label;
 use gk::names::Kind;
-use gk::why::trail::{Link, Trail};
+use gk::why::trail::{Link, Part, Trail};
 use gk_advice::run::{Content, Run, Step};
-use gk_advice::things::{level, members, objects, steps, Thing};
+use gk_advice::things::{label, members, objects, steps, Thing};
 
 /// What is said of a thing of a text's journal.
 fn why(text: &str, arguments: &[&str]) -> String {
@@ -35,7 +36,7 @@ fn has(text: &str, arguments: &[&str], chain: &[u64], words: &[&str]) {
 #[test]
 fn a_level_is_followed_through_reads_writes_and_pipes() {
     let text =
-        "register 1 2\nadmit 0 9\nadmit 1 9\npipe 0 5 0 1\nopen-read 1 5 0\nopen-read 0 1 2\nread 0 2\n\
+        "register 1 2 all\nadmit 0 9 all\nadmit 1 9 all\npipe 0 5 0 1\nopen-read 1 5 0\nopen-read 0 1 2\nread 0 2\n\
                 write 0 1\nread 1 0\nread 1 0\nwrite 0 1\n";
     has(
         text,
@@ -73,20 +74,20 @@ fn a_level_is_followed_through_reads_writes_and_pipes() {
 
 #[test]
 fn a_level_is_handed_on_by_forks_pipes_and_connects() {
-    let low = "register 1 2\nadmit 0 9\nopen-read 0 1 0\nread 0 0\n";
+    let low = "register 1 2 all\nadmit 0 9 all\nopen-read 0 1 0\nread 0 0\n";
     let is_start = "that is the level it started with. The level is that of file 1.";
     has(&format!("{low}fork 0 3\n"), &["step 3"], &[1, 4, 5], &[is_start]);
     has(&format!("{low}fork 0 3\nfork 3 4\nexit 3\n"), &["step 4"], &[1, 4, 5, 6], &[is_start]);
     has(&format!("{low}pipe 0 5 1 2\n"), &["pipe 5"], &[1, 4, 5], &[is_start]);
     // A fork before the fall hands on what there was.
     has(
-        "register 1 2\nadmit 0 9\nfork 0 3\nopen-read 0 1 0\nread 0 0\n",
+        "register 1 2 all\nadmit 0 9 all\nfork 0 3\nopen-read 0 1 0\nread 0 0\n",
         &["step 3"],
         &[2, 3],
         &["has level 9."],
     );
     // Each pipe of a connect has the level of its own writer.
-    let talk = "admit 0 9\nadmit 1 2\nconnect 0 1 5 6 0 1\nread 0 0\n";
+    let talk = "admit 0 9 all\nadmit 1 2 all\nconnect 0 1 5 6 0 1\nread 0 0\n";
     has(talk, &["pipe 5"], &[1, 3], &["The level is that at which step 0 was admitted."]);
     has(talk, &["pipe 6"], &[2, 3], &["The level is that at which step 1 was admitted."]);
     has(talk, &["step 0"], &[2, 3, 4], &["it started with level 9", "that at which step 1 was admitted."]);
@@ -95,11 +96,11 @@ fn a_level_is_handed_on_by_forks_pipes_and_connects() {
 
 #[test]
 fn what_is_run_or_mapped_lowers() {
-    let run = "admit 0 9\nregister 7 4\nregister 8 12\nexec 0 8\nexec 0 7\nexec 0 7\n";
+    let run = "admit 0 9 all\nregister 7 4 all\nregister 8 12 all\nexec 0 8\nexec 0 7\nexec 0 7\n";
     has(run, &["step 0"], &[2, 5], &["it started with level 9, at record 1. The level is that of file 7."]);
     // A write to a mapped file is read by who has it mapped, and lowers nobody: the level came with the map.
     let map =
-        "admit 0 9\nregister 1 3\nadmit 4 9\nmap 0 1 0\nopen-write 4 1 0\nwrite 4 0\nfork 0 2\nwrite 4 0\n";
+        "admit 0 9 all\nregister 1 3 all\nadmit 4 9 all\nmap 0 1 0\nopen-write 4 1 0\nwrite 4 0\nfork 0 2\nwrite 4 0\n";
     has(
         map,
         &["step 0"],
@@ -113,7 +114,7 @@ fn what_is_run_or_mapped_lowers() {
 /// Of two ways that would do, the one that was taken is told; of two falls the last one.
 #[test]
 fn the_way_that_was_taken_is_told() {
-    let text = "register 1 2\nregister 2 2\nregister 3 5\nadmit 0 9\nopen-read 0 1 0\nopen-read 0 2 1\nopen-read 0 3 2\n\
+    let text = "register 1 2 all\nregister 2 2 all\nregister 3 5 all\nadmit 0 9 all\nopen-read 0 1 0\nopen-read 0 2 1\nopen-read 0 3 2\n\
                 read 0 2\nread 0 1\nread 0 0\n";
     has(
         text,
@@ -123,18 +124,18 @@ fn the_way_that_was_taken_is_told() {
     );
     has(text, &["step 0", "--at", "8"], &[3, 8], &["has level 5.", "The level is that of file 3."]);
     // The pipe was low already when the second step wrote to it.
-    let two = "admit 0 2\nadmit 1 2\nadmit 2 9\npipe 2 5 0 1\nopen-write 0 5 0\nopen-write 1 5 0\nwrite 1 0\nwrite 0 0\nread 2 0\n";
+    let two = "admit 0 2 all\nadmit 1 2 all\nadmit 2 9 all\npipe 2 5 0 1\nopen-write 0 5 0\nopen-write 1 5 0\nwrite 1 0\nwrite 0 0\nread 2 0\n";
     has(two, &["step 2"], &[2, 7, 9], &["The level is that at which step 1 was admitted."]);
     // What was refused is no link, though it asked for the same.
-    let refused = "register 1 2\nregister 9 9\nadmit 0 9\nopen-write 0 9 0\nopen-read 0 1 1\nclose 0 0\nopen-read 0 1 1\nread 0 1\n";
+    let refused = "register 1 2 all\nregister 9 9 all\nadmit 0 9 all\nopen-write 0 9 0\nopen-read 0 1 1\nclose 0 0\nopen-read 0 1 1\nread 0 1\n";
     has(refused, &["step 0"], &[1, 8], &["has level 2."]);
 }
 
 /// A number that is used again is another thing's, whatever the first one came to.
 #[test]
 fn numbers_that_are_used_again_are_told_apart() {
-    let text = "name file 1 sheet\nname step 0 reader\nregister 1 2\nadmit 0 9\nopen-read 0 1 0\nread 0 0\npipe 0 5 1 2\n\
-                fork 0 3\nclose 0 0\nclose 3 0\nretire 1\nregister 1 12\nexit 0\nadmit 0 7\nexit 3\npipe 0 5 1 2\n";
+    let text = "name file 1 sheet\nname step 0 reader\nregister 1 2 all\nadmit 0 9 all\nopen-read 0 1 0\nread 0 0\npipe 0 5 1 2\n\
+                fork 0 3\nclose 0 0\nclose 3 0\nretire 1\nregister 1 12 all\nexit 0\nadmit 0 7 all\nexit 3\npipe 0 5 1 2\n";
     let folder = Folder::new("why-again");
     let journal = folder.path("run.journal");
     assert_eq!(gk(&["assemble", "-o", &journal], text.as_bytes()).status.code(), Some(0));
@@ -186,7 +187,7 @@ fn numbers_that_are_used_again_are_told_apart() {
 /// A chain ends at a file, also at one that a step created; from there on the file itself is asked for.
 #[test]
 fn a_created_file_is_asked_for_itself() {
-    let text = "register 1 2\nadmit 0 9\nopen-read 0 1 0\nread 0 0\ncreate 0 6\nadmit 1 9\nopen-read 1 6 0\nread 1 0\n";
+    let text = "register 1 2 all\nadmit 0 9 all\nopen-read 0 1 0\nread 0 0\ncreate 0 6\nadmit 1 9 all\nopen-read 1 6 0\nread 1 0\n";
     has(text, &["step 1"], &[5, 8], &["The level is that of file 6."]);
     has(
         text,
@@ -237,7 +238,7 @@ fn march_is_told_with_its_names() {
 
 #[test]
 fn what_is_never_there_has_status_1() {
-    let text = b"name step 0 reader\nadmit 0 9\nregister 3 9\n";
+    let text = b"name step 0 reader\nadmit 0 9 all\nregister 3 9 all\n";
     let folder = Folder::new("why-never");
     let journal = folder.path("run.journal");
     assert_eq!(gk(&["assemble", "-o", &journal], text).status.code(), Some(0));
@@ -255,7 +256,7 @@ fn what_is_never_there_has_status_1() {
         sees(&err(&output), &[words]);
     }
     // A journal that breaks off is looked at up to there; of one that is too long nothing is run.
-    let output = gk(&["why", "-", "step 0"], &[3, 1, 0, 9, 3]);
+    let output = gk(&["why", "-", "step 0"], &[5, 1, 0, 9, 0xff, 1, 3]);
     assert_eq!(output.status.code(), Some(0));
     sees(&out(&output), &["After record 2, step 0 has level 9."]);
     sees(
@@ -267,11 +268,25 @@ fn what_is_never_there_has_status_1() {
     sees(&err(&output), &["Refused (14)", "Nothing is told"]);
 }
 
-/// The level of each thing after each record, by an own run of the journal; before the first record there is none.
-fn levels(run: &[Step]) -> Vec<BTreeMap<Thing, u8>> {
+/// The parts of a label.
+const PARTS: [Part; 9] = {
+    use Part::{Level, Shop};
+    [Level, Shop(0), Shop(1), Shop(2), Shop(3), Shop(4), Shop(5), Shop(6), Shop(7)]
+};
+
+/// What a part of a label is: the level, or 1 where the shop mark is there.
+fn value(part: Part, label: Label) -> u8 {
+    match part {
+        Part::Level => label.level,
+        Part::Shop(group) => u8::from(label.groups().any(|other| u64::from(other) == group)),
+    }
+}
+
+/// The label of each thing after each record, by an own run of the journal; before the first record there is none.
+fn labels(run: &[Step]) -> Vec<BTreeMap<Thing, Label>> {
     let of = |step: &Step| {
         let things = steps(&step.after).map(Thing::Step).chain(objects(&step.after).map(Thing::Object));
-        things.filter_map(|thing| Some((thing, level(&step.after, thing)?))).collect()
+        things.filter_map(|thing| Some((thing, label(&step.after, thing)?))).collect()
     };
     std::iter::once(BTreeMap::new()).chain(run.iter().map(of)).collect()
 }
@@ -307,31 +322,33 @@ fn hands_on(step: &Step, from: Thing, to: Thing) -> bool {
     }
 }
 
-/// Of every thing of every stored journal, after each record that set its level and at its end. Every link of its chain
-/// has the level that the thing has then. The records rise, none was refused, and each made its thing or lowered it; from
-/// that record on, up to the next link's, the thing was there and kept the level, which the next record handed on. The
-/// first link came with a register, a create or an admit. A thing that has fallen has a chain of two links or more.
+/// Of every thing of every stored journal, after each record that set its label and at its end, and of each part of the
+/// label. Every link of its chain has what the thing has then. The records rise, none was refused, and each made its thing
+/// or lowered it; from that record on, up to the next link's, the thing was there and kept it, which the next record handed
+/// on. The first link came with a register, a create or an admit. A thing that has fallen has a chain of two links or more.
 #[test]
-fn every_chain_leads_from_where_the_level_came_in_to_the_thing() {
-    let (mut chains, mut longest, mut fallen, mut with_mates) = (0, 0, 0, 0);
+fn every_chain_leads_from_where_the_label_came_in_to_the_thing() {
+    let (mut chains, mut longest, mut fallen, mut with_mates) = (0, 0, [0, 0], 0);
     for (name, journal) in journals() {
         let run: Vec<Step> = Run::new(&journal).collect();
-        let levels = levels(&run);
+        let labels = labels(&run);
         let mut trail = Trail::default();
         run.iter().for_each(|step| trail.follow(step));
         // Each thing that is there after a record is in the list, once.
-        for (record, there) in levels.iter().enumerate() {
+        for (record, there) in labels.iter().enumerate() {
             let count = trail.stays.iter().filter(|stay| stay.is_at(record as u64)).count();
             assert_eq!(count, there.len(), "{name}, {record}");
         }
         for place in 0..trail.stays.len() {
             let stay = trail.stays[place].clone();
             let end = stay.until.map_or(trail.records, |until| until - 1);
-            assert!(trail.chain(place, stay.from - 1).is_empty(), "{name}: {stay:?}");
-            assert!(
-                stay.until.is_none_or(|until| trail.chain(place, until).is_empty()),
-                "{name}: {stay:?}"
-            );
+            for part in PARTS {
+                assert!(trail.chain(place, stay.from - 1, part).is_empty(), "{name}: {stay:?}");
+                assert!(
+                    stay.until.is_none_or(|until| trail.chain(place, until, part).is_empty()),
+                    "{name}: {stay:?}"
+                );
+            }
             // The mate that has read, where the step itself has not.
             for mark in &stay.marks {
                 let step = &run[mark.record as usize - 1];
@@ -345,24 +362,24 @@ fn every_chain_leads_from_where_the_level_came_in_to_the_thing() {
                 );
                 with_mates += 1;
             }
-            for at in stay.marks.iter().map(|mark| mark.record).chain([end]) {
-                let chain: Vec<Link> = trail.chain(place, at);
+            let moments = || stay.marks.iter().map(|mark| mark.record).chain([end]);
+            for (at, part) in moments().flat_map(|at| PARTS.map(|part| (at, part))) {
+                let chain: Vec<Link> = trail.chain(place, at, part);
                 let thing = stay.thing();
-                let level = levels[at as usize][&thing];
-                let here = format!("{name}: {thing:?} after {at}: {chain:?}");
+                let now = value(part, labels[at as usize][&thing]);
+                let here = format!("{name}: {part:?} of {thing:?} after {at}: {chain:?}");
                 assert_eq!(chain.last().map(|link| link.stay), Some(place), "{here}");
-                assert!(chain.iter().all(|link| link.level == level), "{here}");
                 assert!(chain.is_sorted_by(|one, next| one.record < next.record), "{here}");
                 let ends = chain.iter().skip(1).map(|link| link.record - 1).chain([at]);
                 for (link, until) in chain.iter().zip(ends) {
                     let (thing, step) = (trail.stays[link.stay].thing(), &run[link.record as usize - 1]);
-                    let before = levels[link.record as usize - 1].get(&thing).copied();
-                    assert!(
-                        step.refusal().is_none() && before.is_none_or(|before| before > level),
-                        "{here}"
-                    );
-                    let mut kept = levels[link.record as usize..=until as usize].iter();
-                    assert!(kept.all(|levels| levels.get(&thing) == Some(&level)), "{here}");
+                    let of = |labels: &BTreeMap<Thing, Label>| {
+                        labels.get(&thing).map(|&label| value(part, label))
+                    };
+                    let before = of(&labels[link.record as usize - 1]);
+                    assert!(step.refusal().is_none() && before.is_none_or(|before| before > now), "{here}");
+                    let mut kept = labels[link.record as usize..=until as usize].iter();
+                    assert!(kept.all(|labels| of(labels) == Some(now)), "{here}");
                 }
                 for pair in chain.windows(2) {
                     let [from, to] = [pair[0], pair[1]].map(|link| trail.stays[link.stay].thing());
@@ -373,17 +390,62 @@ fn every_chain_leads_from_where_the_level_came_in_to_the_thing() {
                 match trail.stays[first.stay].kind {
                     Kind::Step => assert_eq!(code, 1, "{here}"),
                     Kind::File => assert!(matches!(code, 2 | 3), "{here}"),
-                    Kind::Pipe => panic!("{here}"),
+                    Kind::Pipe | Kind::Shop => panic!("{here}"),
                 }
-                if level < stay.marks[0].level {
+                if now < value(part, stay.marks[0].label) {
                     assert!(chain.len() >= 2, "{here}");
-                    fallen += 1;
+                    fallen[usize::from(part != Part::Level)] += 1;
                 }
                 (chains, longest) = (chains + 1, longest.max(chain.len()));
             }
         }
     }
-    println!("{chains} chains, {fallen} of things that have fallen; the longest has {longest} links");
-    assert!(chains > 1_000 && fallen > 50 && longest >= 5, "{chains} {fallen} {longest}");
+    println!("{chains} chains, {fallen:?} of things that have fallen; the longest has {longest} links");
+    assert!(
+        chains > 1_000 && fallen.iter().all(|&count| count > 50) && longest >= 5,
+        "{chains} {fallen:?} {longest}"
+    );
     assert!(with_mates > 10, "only {with_mates} fell because another thread read");
+}
+
+/// A missing shop mark has its own way, and those that were lost on one way are told together.
+#[test]
+fn where_a_missing_mark_comes_from_is_told() {
+    let text = "name shop 0 north\nname shop 1 east\nregister 1 12 \"north,shop 2\"\nregister 2 2 north,east\nadmit 0 12 all\n\
+                open-read 0 1 0\nread 0 0\nopen-read 0 2 1\nread 0 1\nfork 0 3\n";
+    let told = why(text, &["step 3"]).split_whitespace().collect::<Vec<&str>>().join(" ");
+    sees(
+        &told,
+        &[
+            "After record 8, step 3 has level 2 with the shop mark of shop 0. It has had the level since record 8: that is \
+             the level it started with. The level is that of file 2.",
+            "It lacks the shop marks of shop 1, shop 3, shop 4, shop 5, shop 6 and shop 7 since record 8: it started without \
+             them. File 1 does not have them. How it came there",
+            "It lacks the shop mark of shop 2 since record 8: it started without it. File 2 does not have it. The records \
+             are those above.",
+        ],
+    );
+    let names = "name step 0 reader\n";
+    let folder = Folder::new("marks");
+    let journal = folder.path("run.journal");
+    assert_eq!(
+        gk(&["assemble", "-o", &journal], format!("{names}{text}").as_bytes()).status.code(),
+        Some(0)
+    );
+    let told = out(&gk(&["why", &journal, "reader"], b""));
+    sees(
+        &told,
+        &["with the shop mark of north.", "It lacks the shop marks of east, shop 3,", "; it started with"],
+    );
+    // What was admitted without a mark.
+    let told = why("admit 0 9 254\npipe 0 5 0 1\n", &["pipe 5"]);
+    let told = told.split_whitespace().collect::<Vec<&str>>().join(" ");
+    sees(
+        &told,
+        &["pipe 5 has level 9 with the shop marks of shop 1, shop 2,", "Step 0 was admitted without it."],
+    );
+    sees(
+        &why("admit 0 9 254\n", &["step 0"]),
+        &["It lacks the shop mark of shop 0 since record 1: it started without it."],
+    );
 }

@@ -7,6 +7,7 @@ use std::os::fd::AsFd;
 use std::os::unix::ffi::{OsStrExt, OsStringExt};
 use std::path::{Path, PathBuf};
 
+use gatekeeper::Label;
 use gk_names::files::{replaces, REPLACES};
 use gk_trace::{counted, Levels, LONGEST_FILE, TOP};
 
@@ -27,14 +28,15 @@ Usage: guard --levels FILE [OPTIONS] -- COMMAND [ARGUMENTS]
   tools/screen --follow pay.journal        # in another terminal, while it runs
 
 COMMAND and everything that it starts run unchanged. Each process is a step. An open that would let something of a
-lower level reach a file of a higher one fails with \"Permission denied\" before anything is opened, and a line on
-standard error says by which chain. Reads and writes are never refused. Calls that would pass contents on without the
-gatekeeper (sockets, shared memory and the like) fail, each in words.
+lower level reach a file of a higher one, or something without a shop mark a file that has it, fails with \"Permission
+denied\" before anything is opened, and a line on standard error says by which chain. Reads and writes are never refused.
+Calls that would pass contents on without the gatekeeper (sockets, shared memory and the like) fail, each in words.
 
-  --levels FILE   which level each file has, as for gk trace (gk trace --help says how to write it); needed
+  --levels FILE   which level each file has, and which shop marks, as for gk trace (gk trace --help says how to write
+                  it); needed
   -o JOURNAL      write each call there before it is answered; names go to the same path with the ending .names.
                   ./run JOURNAL and gk explain JOURNAL give the same answers
-  --start LEVEL   the level of the first step (15)
+  --start LEVEL   the level of the first step (15); it has all shop marks
   --dry-run       refuse nothing that the gatekeeper refuses, and say what it would have been. What cannot be followed
                   is refused all the same
   --replies FILE  write the answers there, as ./run prints them
@@ -56,7 +58,7 @@ struct Arguments {
     levels: Option<PathBuf>,
     journal: Option<PathBuf>,
     replies: Option<PathBuf>,
-    start: Option<u64>,
+    start: Option<Label>,
     is_dry: bool,
     has_report: bool,
     command: Vec<CString>,
@@ -131,11 +133,12 @@ fn parsed(arguments: Vec<OsString>) -> Result<Arguments, Failure> {
     Ok(parsed)
 }
 
-fn level(value: &OsString) -> Result<u64, Failure> {
+/// A level with all shop marks.
+fn level(value: &OsString) -> Result<Label, Failure> {
     let text = value.to_string_lossy();
     let is_number = !text.is_empty() && text.bytes().all(|byte| byte.is_ascii_digit());
-    let level = text.parse().ok().filter(|&level: &u64| is_number && level <= TOP);
-    level.ok_or_else(|| {
+    let level = text.parse().ok().filter(|&level: &u8| is_number && level <= TOP.level);
+    level.map(|level| Label { level, ..TOP }).ok_or_else(|| {
         Failure::Usage(format!("--start needs a level, 0 to 15, not \"{}\"", shown(text.as_bytes())))
     })
 }
@@ -153,6 +156,7 @@ fn run(arguments: Arguments) -> Result<i32, Failure> {
         return Err(Failure::Fault(message.to_string()));
     }
     let levels = read_levels(&arguments)?;
+    let shops = levels.names().clone();
     let folder = fs::canonicalize(".")
         .map_err(|error| Failure::Fault(format!("cannot find the folder: {error}")))?;
     let folder = folder.into_os_string().into_vec();
@@ -170,6 +174,7 @@ fn run(arguments: Arguments) -> Result<i32, Failure> {
         }),
     };
     let mut journal = journal?;
+    journal.name_shops(&shops);
     files.journal = journal.key();
     if arguments.replies.is_some() {
         journal.keep_replies();

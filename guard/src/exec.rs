@@ -4,6 +4,8 @@ use std::fs::{self, File};
 use std::io::Read;
 use std::os::unix::ffi::OsStringExt;
 
+use gatekeeper::Label;
+
 use crate::calls::{
     CLONE, CLONE_VFORK, CLONE_VM, EACCES, EAGAIN, ELOOP, EMFILE, ENFILE, ENOSPC, ENOSYS, EXECVE, EXECVEAT,
     FORK, PIPE, PIPE2, VFORK,
@@ -18,7 +20,7 @@ use crate::words::shown;
 /// A file that is run: a program, or a script and then its interpreter.
 struct Run {
     key: Key,
-    level: u64,
+    label: Label,
     path: Vec<u8>,
     /// As it was called.
     name: Vec<u8>,
@@ -175,7 +177,7 @@ impl Guard {
     /// The numbers of all files that are run, each still there when the last one has its own.
     fn numbers(&mut self, runs: &[Run]) -> Option<Vec<u64>> {
         let files: Option<Vec<u64>> =
-            runs.iter().map(|run| self.told.file(run.key, run.level, &run.path)).collect();
+            runs.iter().map(|run| self.told.file(run.key, run.label, &run.path)).collect();
         let is_there = |(run, file): (&Run, &u64)| self.told.number(run.key) == Some(*file);
         files.filter(|files| runs.iter().zip(files).all(is_there))
     }
@@ -218,8 +220,8 @@ impl Guard {
             Errno(EACCES)
         };
         let is_proc = seen.is_on(&self.proc_devices);
-        let level = match self.files.standing(&seen.path, &seen.meta, is_proc, false) {
-            Standing::At(level) => level,
+        let label = match self.files.standing(&seen.path, &seen.meta, is_proc, false) {
+            Standing::At(label) => label,
             Standing::Out => gk_trace::TOP,
             Standing::Absent | Standing::Harmless => return Err(Errno(EACCES)),
             Standing::No(why) => return Err(refused(self, why)),
@@ -230,7 +232,7 @@ impl Guard {
         let mut front = Vec::new();
         File::from(file).take(256).read_to_end(&mut front)?;
         Ok((
-            Run { key: seen.key(), level, path: seen.path.clone(), name: name.to_vec() },
+            Run { key: seen.key(), label, path: seen.path.clone(), name: name.to_vec() },
             interpreter(&front),
         ))
     }
@@ -250,9 +252,12 @@ impl Guard {
         let is_low = |held: &proc::Held| {
             let path = held.path.as_deref().unwrap_or_default();
             path != last.path
-                && matches!(self.files.at(path, held.key), Standing::At(level) if level < gk_trace::TOP)
+                && matches!(self.files.at(path, held.key), Standing::At(label) if label != gk_trace::TOP)
         };
-        mapped.iter().any(is_low).then_some("its loader has a level below the top, and nobody was asked")
+        mapped
+            .iter()
+            .any(is_low)
+            .then_some("its loader is below level 15 with all shop marks, and nobody was asked")
     }
 }
 

@@ -8,8 +8,11 @@ mod programs;
 
 use std::collections::{BTreeSet, HashMap};
 
-use gatekeeper::{Answer, Call, Kind, Refusal, State, Way, OBJECTS, PLACES, SUBJECTS};
-use gk_chain::Thing;
+use gatekeeper::{Answer, Call, Kind, Label, Refusal, State, Way, OBJECTS, PLACES, SUBJECTS};
+use gk_advice::refused;
+use gk_advice::scene::{Lives, Scene};
+use gk_chain::{Link, Thing};
+use gk_names::shops;
 use gk_trace::names;
 
 use crate::journal::Journal;
@@ -85,7 +88,7 @@ impl Told {
         match answer {
             Answer::Refused(Refusal::Flow) => self.refused += 1,
             Answer::Refused(why) => fail(&format!("its own tables are wrong: {call:?}: {why}")),
-            Answer::Allowed(_) | Answer::Lowered(_) => {}
+            Answer::Allowed(_) | Answer::Lowered { .. } => {}
         }
         answer
     }
@@ -98,37 +101,61 @@ impl Told {
     /// The chain behind a call that the gatekeeper has just refused for the flow, in words; found, and not proved.
     pub fn chain(&self, call: Call) -> String {
         let links = gk_chain::behind(&self.state, call.code(), call.numbers());
-        // Pipes between steps go without saying; levels are those of the two ends.
+        // Pipes between steps go without saying; labels are those of the two ends.
         let last = links.len().saturating_sub(1);
         let is_said = |at: usize| at == 0 || at == last || links[at].kind != Some(Kind::Pipe);
-        let name = |at: usize| {
-            let name = match links[at].thing {
-                Thing::Step(s) => self.program(s).to_string(),
-                Thing::Object(o) => self.object_name(o),
-            };
-            let is_end = at == 0 || at == last;
-            if is_end {
-                format!("{name} (level {})", links[at].level)
-            } else {
-                name
-            }
+        let name = |link: &Link| match link.thing {
+            Thing::Step(s) => self.program(s).to_string(),
+            Thing::Object(o) => self.object_name(o),
         };
-        (0..links.len()).filter(|&at| is_said(at)).map(name).collect::<Vec<_>>().join(" → ")
+        let said = |at: usize| match at == 0 || at == last {
+            true => format!("{} ({})", name(&links[at]), self.label_words(links[at].label)),
+            false => name(&links[at]),
+        };
+        let chain = (0..links.len()).filter(|&at| is_said(at)).map(said).collect::<Vec<_>>().join(" → ");
+        let [low, .., high] = links.as_slice() else { return chain };
+        let why = match low.label.shops & high.label.shops {
+            shops::ALL => String::new(), // the levels at the two ends say it
+            _ => self.insufficient((low.label, &name(low)), (high.label, &name(high))),
+        };
+        chain + &why
+    }
+
+    /// A label as `gk explain` has it: "level 9", or "level 9, shop marks of north and east".
+    pub fn label_words(&self, label: Label) -> String {
+        self.with_scene(|scene| scene.label(label))
+    }
+
+    /// What a thing lacks for a file, to follow what was refused, as `gk explain` has it: "; west.csv lacks the shop mark
+    /// of north, and paybook.csv takes nothing without it".
+    pub fn insufficient(&self, (low, name): (Label, &str), (high, file): (Label, &str)) -> String {
+        // The words go by the labels alone.
+        let link = |label| Link { thing: Thing::Object(0), kind: None, label };
+        let words = self.with_scene(|scene| {
+            refused::insufficient((&link(low), "has level"), (&link(high), file), "level ", scene)
+        });
+        format!("; {name} {words}")
+    }
+
+    /// The moment that words of gk go by: here, for the names of the shop groups.
+    fn with_scene(&self, words: impl Fn(Scene) -> String) -> String {
+        let (record, names) = (self.journal.records(), self.journal.names.given());
+        words(Scene { monitor: &self.state, record, names, lives: &Lives::default(), unnamed: None })
     }
 
     // Steps.
 
-    pub fn level(&self, step: u64) -> u8 {
-        self.state.subject(step).unwrap_or(0)
+    pub fn label(&self, step: u64) -> Label {
+        self.state.subject(step).unwrap_or(Label::LEAST)
     }
 
     pub fn free_step(&self) -> Option<u64> {
         (0..SUBJECTS).find(|&s| self.state.subject(s).is_none())
     }
 
-    pub fn admit(&mut self, step: u64, level: u64, name: &str) {
+    pub fn admit(&mut self, step: u64, label: Label, name: &str) {
         self.name_step(step, name);
-        let _ = self.make(Call::Admit { subject: step, level });
+        let _ = self.make(Call::admit(step, label));
     }
 
     pub fn fork(&mut self, step: u64, child: u64) {
@@ -223,9 +250,9 @@ impl Told {
 
     /// The number of a file that is there; where it is not live it is registered, under the number that it had. None
     /// where there is no room for it.
-    pub fn file(&mut self, key: Key, level: u64, path: &[u8]) -> Option<u64> {
+    pub fn file(&mut self, key: Key, label: Label, path: &[u8]) -> Option<u64> {
         if let Some(object) = self.number(key) {
-            if self.state.object(object).is_some_and(|found| u64::from(found.level) == level) {
+            if self.state.object(object).is_some_and(|found| found.label == label) {
                 return Some(object);
             }
             if self.is_held(object) {
@@ -236,18 +263,18 @@ impl Told {
         self.make_room()?;
         let object = self.own_number(key).unwrap_or_else(|| self.fresh_number());
         self.named(object, path);
-        let _ = self.make(Call::Register { object, level });
+        let _ = self.make(Call::register(object, label));
         self.seat(object, key);
         Some(object)
     }
 
-    /// The number of a file that is about to be made, at its level, or at the step's where none is given.
-    pub fn new_file(&mut self, step: u64, level: Option<u64>, path: &[u8]) -> Option<u64> {
+    /// The number of a file that is about to be made, with its label, or with the step's where none is given.
+    pub fn new_file(&mut self, step: u64, label: Option<Label>, path: &[u8]) -> Option<u64> {
         self.make_room()?;
         let object = self.fresh_number();
         self.named(object, path);
-        let _ = match level {
-            Some(level) => self.make(Call::Register { object, level }),
+        let _ = match label {
+            Some(label) => self.make(Call::register(object, label)),
             None => self.make(Call::Create { subject: step, object }),
         };
         self.fresh += 1;
@@ -357,12 +384,12 @@ impl Told {
 
     /// A read or a write on an object. Where nobody would fall it changes nothing, and is left out. Whether one fell.
     pub fn data(&mut self, step: u64, object: u64, writes: bool) -> bool {
-        let (Some(found), Some(level)) = (self.state.object(object), self.state.subject(step)) else {
+        let (Some(found), Some(own)) = (self.state.object(object), self.state.subject(step)) else {
             return false;
         };
         let lowers = match writes {
-            true => found.kind == Kind::Pipe && level < found.level,
-            false => found.level < level,
+            true => found.kind == Kind::Pipe && !own.at_least(found.label),
+            false => !found.label.at_least(own),
         };
         let Some(place) = self.hold(step, object, writes).filter(|_| lowers) else { return false };
         let _ = self.make(match writes {
@@ -375,13 +402,13 @@ impl Told {
     /// The objects that a read or a write of the step would lower somebody on.
     pub fn loud(&self, step: u64) -> Loud {
         let mut loud = Loud::default();
-        let Some(level) = self.state.subject(step) else { return loud };
+        let Some(own) = self.state.subject(step) else { return loud };
         for place in 0..PLACES {
             let Some(handle) = self.state.handle(step, place) else { continue };
             let Some(object) = self.state.object(handle.object) else { continue };
             let (set, lowers) = match handle.way {
-                Way::Writes => (&mut loud.writes, object.kind == Kind::Pipe && level < object.level),
-                Way::Reads | Way::Maps => (&mut loud.reads, object.level < level),
+                Way::Writes => (&mut loud.writes, object.kind == Kind::Pipe && !own.at_least(object.label)),
+                Way::Reads | Way::Maps => (&mut loud.reads, !object.label.at_least(own)),
             };
             if lowers {
                 set.insert(handle.object);
@@ -394,10 +421,18 @@ impl Told {
 #[cfg(test)]
 pub mod tests {
     use super::*;
+    use gk_trace::TOP;
+
+    /// A level with all shop marks.
+    pub fn at(level: u8) -> Label {
+        Label { level, ..TOP }
+    }
 
     pub fn told() -> Told {
-        let mut told = Told::new(Journal::none(), b"/run".to_vec());
-        told.admit(0, 15, "sh");
+        let mut journal = Journal::none();
+        journal.name_shops(&gk_names::Names::read(b"names 1\nshop 0 1 north\nshop 1 1 east\n").unwrap());
+        let mut told = Told::new(journal, b"/run".to_vec());
+        told.admit(0, TOP, "sh");
         told
     }
 
@@ -408,7 +443,7 @@ pub mod tests {
     #[test]
     fn one_handle_for_each_object_and_direction() {
         let mut told = told();
-        let file = told.file((1, 1), 5, b"/f").unwrap();
+        let file = told.file((1, 1), at(5), b"/f").unwrap();
         assert_eq!(told.adds(0, file, true, true), 2);
         assert!(told.would_open(0, file, true, false));
         assert_eq!(told.open(0, file, true, true), Ok(()));
@@ -421,7 +456,8 @@ pub mod tests {
     #[test]
     fn what_is_gone_is_closed_and_a_chain_is_said() {
         let mut told = told();
-        let (low, book) = (told.file((1, 1), 2, b"/low").unwrap(), told.file((1, 2), 9, b"/book").unwrap());
+        let (low, book) =
+            (told.file((1, 1), at(2), b"/low").unwrap(), told.file((1, 2), at(9), b"/book").unwrap());
         told.open(0, book, false, true).unwrap();
         assert!(!told.would_open(0, low, true, false));
         let call = told.open(0, low, true, false).unwrap_err();
@@ -431,34 +467,75 @@ pub mod tests {
     }
 
     #[test]
+    fn a_shop_mark_counts_as_a_level_does() {
+        let mut told = told();
+        let label = |level, shops| Label { level, shops };
+        let book = told.file((1, 1), label(9, 0b001), b"/run/book.csv").unwrap();
+        let north = told.file((1, 2), label(9, 0b101), b"/run/north.csv").unwrap();
+        let west = told.file((1, 3), label(9, 0b100), b"/run/west.csv").unwrap();
+        // A mark alone is lost, and once it is lost nothing is loud.
+        told.open(0, north, true, false).unwrap();
+        assert!(!told.loud(0).is_quiet() && told.data(0, north, false) && told.loud(0).is_quiet());
+        assert_eq!(told.label(0), label(9, 0b101));
+        told.open(0, book, false, true).unwrap();
+        let call = told.open(0, west, true, false).unwrap_err();
+        assert_eq!(
+            told.chain(call),
+            "west.csv (level 9, shop mark of shop 2) → sh → book.csv (level 9, shop mark of north); west.csv lacks the \
+             shop mark of north, and book.csv takes nothing without it"
+        );
+        told.put_right(0, &[]);
+        // Without the book it reads the sheet, and is refused the book from then on, on the level that it asks for.
+        told.open(0, west, true, false).unwrap();
+        assert!(told.data(0, west, false) && !told.data(0, west, false));
+        let call = told.open(0, book, false, true).unwrap_err();
+        assert!(told.chain(call).contains("; sh lacks the shop mark of north, and book.csv takes nothing"));
+        let call = told.file((1, 4), label(12, 0), b"/run/high.csv").unwrap();
+        let call = told.open(0, call, false, true).unwrap_err();
+        assert!(told
+            .chain(call)
+            .ends_with("; sh has level 9, and high.csv takes nothing from below level 12"));
+        // A pipe falls by a mark alone.
+        told.fork(0, 1);
+        told.admit(2, label(9, 0b101), "cat");
+        told.pipe(2, (1, 9));
+        let pipe = told.number((1, 9)).unwrap();
+        told.open(1, pipe, false, true).unwrap();
+        assert!(!told.loud(1).is_quiet() && told.data(1, pipe, true) && told.loud(1).is_quiet());
+        assert!(told.data(2, pipe, false) && told.label(2) == label(9, 0b100));
+        // The same file with another set is another one to the gatekeeper: held, there is no number for it.
+        assert_eq!(told.file((1, 3), label(9, 0b101), b"/run/west.csv"), None);
+    }
+
+    #[test]
     fn an_inode_that_is_used_again_is_another_file() {
         let mut told = told();
-        let old = told.file((1, 7), 9, b"/old").unwrap();
+        let old = told.file((1, 7), at(9), b"/old").unwrap();
         told.open(0, old, false, true).unwrap();
-        let new = told.new_file(0, Some(2), b"/new").unwrap();
+        let new = told.new_file(0, Some(at(2)), b"/new").unwrap();
         told.seat(new, (1, 7));
         assert_eq!(told.number((1, 7)), Some(new));
         told.put_right(0, &[held((1, 7), true, true, false)]);
         assert_eq!(told.state.open(), 0);
         // Held, and another level: there is no number for it.
         told.open(0, new, true, false).unwrap();
-        assert_eq!(told.file((1, 7), 9, b"/new"), None);
+        assert_eq!(told.file((1, 7), at(9), b"/new"), None);
     }
 
     #[test]
     fn a_file_has_one_number_for_the_whole_run() {
         let mut told = told();
         for n in 0..200 {
-            let file = told.file((2, n), 15, b"/f").unwrap();
+            let file = told.file((2, n), at(15), b"/f").unwrap();
             assert!(told.open(0, file, false, true).is_ok() && told.has_room());
             told.put_right(0, &[]);
         }
         // The first one was retired meanwhile, and has its number again.
         assert!(told.number((2, 0)).is_none());
-        assert_eq!(told.file((2, 0), 15, b"/f"), Some(0));
-        assert_eq!(told.file((4, 0), 15, b"/f"), Some(200));
+        assert_eq!(told.file((2, 0), at(15), b"/f"), Some(0));
+        assert_eq!(told.file((4, 0), at(15), b"/f"), Some(200));
         for n in 0..16 {
-            let file = told.file((3, n), 15, b"/f").unwrap();
+            let file = told.file((3, n), at(15), b"/f").unwrap();
             assert!(told.open(0, file, false, true).is_ok());
         }
         assert!(!told.has_places(0, 1));

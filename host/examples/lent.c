@@ -15,6 +15,7 @@
 enum { SHELL = 0, ADDER = 1, TAX = 2, TAX_THREAD = 3 };
 enum { PAY_BOOK = 0, SHEET = 1, PIPE = 8 };
 #define RECEIPT UINT64_MAX /* a number of the file store */
+#define ALL GATEKEEPER_ALL_SHOPS
 
 /* The numbers of a call, and 0 for each that it does not use. */
 #define WITH(...) ((const uint64_t[6]){__VA_ARGS__})
@@ -29,8 +30,10 @@ static bool ask(struct gatekeeper_monitor *monitor, const char *what, uint64_t c
         printf("refused (%" PRIu32 "): %s\n", value, gatekeeper_refusal_text(value));
         return false;
     }
-    bool lowered = gatekeeper_letter(answer) == GATEKEEPER_LOWERED;
-    printf(lowered ? "lowered to level %" PRIu32 "\n" : "allowed, level %" PRIu32 "\n", value);
+    if (gatekeeper_letter(answer) == GATEKEEPER_LOWERED)
+        printf("lowered to level %" PRIu32 ", shop marks lost: %" PRIu32 "\n", value, gatekeeper_lost(answer));
+    else
+        printf("allowed, level %" PRIu32 "\n", value);
     return true;
 }
 
@@ -44,7 +47,8 @@ static void must(struct gatekeeper_monitor *monitor, const char *what, uint64_t 
     }
 }
 
-/* What the duty screen shows, from the fields: each step's level, its kept need, and how many handles it has. */
+/* What the duty screen shows, from the fields: each step's level and set of shop marks, those of its kept need, and how
+ * many handles it has. */
 static void show(const struct gatekeeper_monitor *monitor)
 {
     for (unsigned step = 0; step < GATEKEEPER_SUBJECTS; step++) {
@@ -53,8 +57,9 @@ static void show(const struct gatekeeper_monitor *monitor)
             continue;
         for (unsigned place = 0; place < GATEKEEPER_PLACES; place++)
             handles += monitor->handles[GATEKEEPER_PLACES * step + place].way != 0;
-        printf("The duty screen shows: step %u is at level %u and may fall to %u; handles: %u.\n", step,
-               monitor->subjects[step].level, monitor->needs[step], handles);
+        printf("The duty screen shows: step %u is at %u, set %u, and may fall to %u, set %u; handles: %u.\n", step,
+               monitor->subjects[step].level, monitor->subjects[step].shops, monitor->needs[step] / 256,
+               monitor->needs[step] % 256, handles);
     }
 }
 
@@ -74,9 +79,9 @@ static void list(const struct gatekeeper_monitor *monitor, unsigned step)
     for (unsigned place = 0; place < GATEKEEPER_PLACES; place++) {
         unsigned at = GATEKEEPER_PLACES * step + place, slot = monitor->handles[at].slot;
         if (monitor->handles[at].way != 0)
-            printf("The duty screen lists: place %u of step %u is on %s %" PRIu64 ", level %u.\n", place, step,
+            printf("The duty screen lists: place %u of step %u is on %s %" PRIu64 ", level %u, set %u.\n", place, step,
                    monitor->objects[slot].kind == GATEKEEPER_KIND_PIPE ? "pipe" : "file", monitor->numbers[slot],
-                   monitor->objects[slot].level);
+                   monitor->objects[slot].level, monitor->objects[slot].shops);
     }
 }
 
@@ -87,10 +92,10 @@ int main(void)
         return 1;
     gatekeeper_monitor_empty(&monitor);
 
-    must(&monitor, "The pay book is file 0.", GATEKEEPER_REGISTER, WITH(PAY_BOOK, 9));
+    must(&monitor, "The pay book is file 0.", GATEKEEPER_REGISTER, WITH(PAY_BOOK, 9, ALL));
     must(&monitor, "The hours sheet of shop 3, which nobody has checked, is file 1.", GATEKEEPER_REGISTER,
-         WITH(SHEET, 2));
-    must(&monitor, "The shell is step 0.", GATEKEEPER_ADMIT, WITH(SHELL, 12));
+         WITH(SHEET, 2, 1));
+    must(&monitor, "The shell is step 0.", GATEKEEPER_ADMIT, WITH(SHELL, 12, ALL));
     must(&monitor, "The shell makes pipe 8: place 0 reads it, place 1 writes it.", GATEKEEPER_PIPE,
          WITH(SHELL, PIPE, 0, 1));
     must(&monitor, "It forks the adder, step 1.", GATEKEEPER_FORK, WITH(SHELL, ADDER));
@@ -111,12 +116,12 @@ int main(void)
     }
 
     puts("\nThe file store gives numbers of its own");
-    must(&monitor, "The bank's receipt is file 18446744073709551615.", GATEKEEPER_REGISTER, WITH(RECEIPT, 12));
+    must(&monitor, "The bank's receipt is file 18446744073709551615.", GATEKEEPER_REGISTER, WITH(RECEIPT, 12, ALL));
     must(&monitor, "The shell opens the receipt for reading.", GATEKEEPER_OPEN_READ, WITH(SHELL, RECEIPT, 3));
     list(&monitor, SHELL);
 
     puts("\nThe tax step runs as two threads, which share memory");
-    must(&monitor, "The tax step is step 2.", GATEKEEPER_ADMIT, WITH(TAX, 12));
+    must(&monitor, "The tax step is step 2.", GATEKEEPER_ADMIT, WITH(TAX, 12, ALL));
     must(&monitor, "It starts a thread, step 3.", GATEKEEPER_THREAD, WITH(TAX, TAX_THREAD));
     share(&monitor);
     must(&monitor, "The thread maps the sheet: both fall.", GATEKEEPER_MAP, WITH(TAX_THREAD, SHEET, 0));

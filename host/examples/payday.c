@@ -12,25 +12,17 @@
 
 /* What comes from outside, and the numbers that this host gives to it and to what it makes: subjects, files, pipes. */
 enum { SHELL = 0, ADDER = 1, LISTER = 2, LAUNCHER = 3, IMPORTER = 4, TERMINAL = 5, STATION = 6, PAYSLIPS = 7 };
-enum { TAX = 8, TAX_THREAD = 9 };
-enum { PAY_BOOK = 0, SHEET = 1, HOURS = 2, LIST = 3, VIEWER = 4 };
+enum { TAX = 8, TAX_THREAD = 9, BONUS = 10 };
+enum { PAY_BOOK = 0, SHEET = 1, HOURS = 2, LIST = 3, VIEWER = 4, SALES = 5, BONUS_0 = 6, BONUS_2 = 7 };
 enum { PIPE = 8, SLIPS = 9, REPORTS = 10 }; /* from the adder to the shell; to the print station, and back */
 #define RECEIPT UINT64_MAX                  /* a number of the file store */
+#define ALL GATEKEEPER_ALL_SHOPS
 
 struct host {
     uint8_t monitor[GATEKEEPER_STATE_BYTES];
-    uint8_t journal[80 * GATEKEEPER_RECORD_ROOM]; /* room for 80 calls */
+    uint8_t journal[100 * GATEKEEPER_RECORD_ROOM]; /* room for 100 calls */
     size_t written;
 };
-
-static const char *refusal_words(uint32_t refusal)
-{
-    switch (refusal) {
-    case GATEKEEPER_FLOW: return "low data could reach a higher file";
-    case GATEKEEPER_FROZEN: return "the file is frozen while the books are closed";
-    default: return "see gatekeeper.h";
-    }
-}
 
 /* The numbers of a call, and 0 for each that it does not use. */
 #define WITH(...) ((const uint64_t[6]){__VA_ARGS__})
@@ -49,11 +41,13 @@ static bool ask(struct host *host, const char *what, uint64_t code, const uint64
     uint32_t value = gatekeeper_value(answer);
     printf("%-66s ", what);
     if (!gatekeeper_allows(answer)) {
-        printf("refused (%" PRIu32 "): %s\n", value, refusal_words(value));
+        printf("refused (%" PRIu32 "): %s\n", value, gatekeeper_refusal_text(value));
         return false;
     }
-    bool lowered = gatekeeper_letter(answer) == GATEKEEPER_LOWERED;
-    printf(lowered ? "lowered to level %" PRIu32 "\n" : "allowed, level %" PRIu32 "\n", value);
+    if (gatekeeper_letter(answer) == GATEKEEPER_LOWERED)
+        printf("lowered to level %" PRIu32 ", shop marks lost: %" PRIu32 "\n", value, gatekeeper_lost(answer));
+    else
+        printf("allowed, level %" PRIu32 "\n", value);
     return true;
 }
 
@@ -81,7 +75,18 @@ static const char *kind_words(uint32_t object)
     return gatekeeper_kind_of(object) == GATEKEEPER_KIND_PIPE ? "pipe" : "file";
 }
 
-/* What the duty screen shows of a step: its level, the lowest one that it may fall to while no handle goes, its
+/* A label: its level, and the shop groups that are vouched for. */
+static void label(uint32_t thing)
+{
+    uint32_t shops = gatekeeper_shops_of(thing);
+    printf("level %" PRIu32 ", %s", gatekeeper_level_of(thing),
+           shops == 0 ? "no shops" : shops == GATEKEEPER_ALL_SHOPS ? "all shops" : "shops");
+    for (unsigned group = 0; group < GATEKEEPER_SHOPS && shops != GATEKEEPER_ALL_SHOPS; group++)
+        if (shops >> group & 1)
+            printf(" %u", group);
+}
+
+/* What the duty screen shows of a step: its label, the lowest one that it may fall to while no handle goes, its
  * handles, and its mates, which share its memory. */
 static void show(const struct host *host, uint64_t step)
 {
@@ -90,9 +95,11 @@ static void show(const struct host *host, uint64_t step)
     uint32_t seen = gatekeeper_subject(monitor, len, step);
     if (seen == 0)
         return;
-    uint32_t need = gatekeeper_subject_need(monitor, len, step);
-    printf("The duty screen shows: step %" PRIu64 " is at level %" PRIu32 " and may fall to %" PRIu32 ".\n", step,
-           gatekeeper_level_of(seen), need);
+    printf("The duty screen shows: step %" PRIu64 " has ", step);
+    label(seen);
+    printf(" and may fall to ");
+    label(gatekeeper_subject_need(monitor, len, step));
+    printf(".\n");
     for (uint64_t place = 0; place < GATEKEEPER_PLACES; place++) {
         uint32_t handle = gatekeeper_handle(monitor, len, step, place);
         if (handle == 0)
@@ -119,8 +126,9 @@ static void list(const struct host *host)
         uint32_t seen = gatekeeper_object(monitor, len, o);
         if (o < from || seen == 0)
             break;
-        printf("The duty screen lists: %s %" PRIu64 " is at level %" PRIu32 ".\n", kind_words(seen), o,
-               gatekeeper_level_of(seen));
+        printf("The duty screen lists: %s %" PRIu64 " has ", kind_words(seen), o);
+        label(seen);
+        printf(".\n");
         from = o + 1;
     } while (from != 0);
 }
@@ -133,10 +141,11 @@ int main(void)
         return 1;
 
     puts("What comes from outside");
-    must(&host, "The pay book is file 0.", GATEKEEPER_REGISTER, WITH(PAY_BOOK, 9));
-    must(&host, "The hours sheet of shop 3, which nobody has checked, is file 1.", GATEKEEPER_REGISTER, WITH(SHEET, 2));
-    must(&host, "The checked hours of all other shops are file 2.", GATEKEEPER_REGISTER, WITH(HOURS, 12));
-    must(&host, "The shell is step 0.", GATEKEEPER_ADMIT, WITH(SHELL, 12));
+    must(&host, "The pay book is file 0.", GATEKEEPER_REGISTER, WITH(PAY_BOOK, 9, ALL));
+    must(&host, "The hours sheet of shop 3, which nobody has checked, is file 1.", GATEKEEPER_REGISTER,
+         WITH(SHEET, 2, ALL));
+    must(&host, "The checked hours of all other shops are file 2.", GATEKEEPER_REGISTER, WITH(HOURS, 12, ALL));
+    must(&host, "The shell is step 0.", GATEKEEPER_ADMIT, WITH(SHELL, 12, ALL));
 
     puts("\nThe shell starts a step that adds up the hours");
     must(&host, "The shell makes pipe 8: place 0 reads it, place 1 writes it.", GATEKEEPER_PIPE,
@@ -173,7 +182,7 @@ int main(void)
     must(&host, "The shell writes the pay book.", GATEKEEPER_WRITE, WITH(SHELL, 2));
 
     puts("\nA launcher that has the pay book open runs a sheet viewer, which is not to get that handle");
-    must(&host, "The sheet viewer, a program from elsewhere, is file 4.", GATEKEEPER_REGISTER, WITH(VIEWER, 2));
+    must(&host, "The sheet viewer, a program from elsewhere, is file 4.", GATEKEEPER_REGISTER, WITH(VIEWER, 2, ALL));
     must(&host, "The shell forks the launcher, step 3.", GATEKEEPER_FORK, WITH(SHELL, LAUNCHER));
     if (!ask(&host, "The launcher runs the viewer.", GATEKEEPER_EXEC, WITH(LAUNCHER, VIEWER))) {
         must(&host, "The launcher marks the pay book: that handle ends at exec.", GATEKEEPER_MARK, WITH(LAUNCHER, 2));
@@ -187,7 +196,7 @@ int main(void)
     must(&host, "The importer closes the pay book.", GATEKEEPER_CLOSE, WITH(IMPORTER, 2));
     must(&host, "The importer maps the sheet of shop 3.", GATEKEEPER_MAP, WITH(IMPORTER, SHEET, 1));
     show(&host, IMPORTER);
-    must(&host, "The terminal of shop 3 is step 5.", GATEKEEPER_ADMIT, WITH(TERMINAL, 2));
+    must(&host, "The terminal of shop 3 is step 5.", GATEKEEPER_ADMIT, WITH(TERMINAL, 2, ALL));
     must(&host, "The terminal opens the sheet for writing.", GATEKEEPER_OPEN_WRITE, WITH(TERMINAL, SHEET, 0));
     must(&host, "The terminal writes late hours: the importer sees them, too.", GATEKEEPER_WRITE, WITH(TERMINAL, 0));
     must(&host, "The terminal exits.", GATEKEEPER_EXIT, WITH(TERMINAL));
@@ -195,7 +204,7 @@ int main(void)
     must(&host, "The viewer exits.", GATEKEEPER_EXIT, WITH(IMPORTER));
 
     puts("\nThe payslip step and the print station talk over a local socket: one pipe there and one back");
-    must(&host, "The print station is step 6.", GATEKEEPER_ADMIT, WITH(STATION, 5));
+    must(&host, "The print station is step 6.", GATEKEEPER_ADMIT, WITH(STATION, 5, ALL));
     must(&host, "The shell forks the payslip step, step 7.", GATEKEEPER_FORK, WITH(SHELL, PAYSLIPS));
     const uint64_t *channel = WITH(PAYSLIPS, STATION, SLIPS, REPORTS, 3, 4); /* each reads at 3 and writes at 4 */
     if (!ask(&host, "The payslip step is connected to the station by pipes 9 and 10.", GATEKEEPER_CONNECT, channel)) {
@@ -210,7 +219,7 @@ int main(void)
     must(&host, "The station exits.", GATEKEEPER_EXIT, WITH(STATION));
 
     puts("\nThe tax step runs as two threads, which share memory: what one of them reads, both have read");
-    must(&host, "The tax step is step 8.", GATEKEEPER_ADMIT, WITH(TAX, 12));
+    must(&host, "The tax step is step 8.", GATEKEEPER_ADMIT, WITH(TAX, 12, ALL));
     must(&host, "It starts a thread, step 9.", GATEKEEPER_THREAD, WITH(TAX, TAX_THREAD));
     must(&host, "The tax step opens the pay book for writing.", GATEKEEPER_OPEN_WRITE, WITH(TAX, PAY_BOOK, 0));
     if (!ask(&host, "Its thread opens the sheet of shop 3 for reading.", GATEKEEPER_OPEN_READ,
@@ -225,6 +234,25 @@ int main(void)
     must(&host, "The tax step runs the viewer: its thread ends.", GATEKEEPER_EXEC, WITH(TAX, VIEWER));
     must(&host, "The viewer exits.", GATEKEEPER_EXIT, WITH(TAX));
 
+    puts("\nA level does not say whose figures were looked over: for that there are the marks of eight shop groups");
+    must(&host, "The sales of shop groups 0 and 1, looked over, are file 5.", GATEKEEPER_REGISTER,
+         WITH(SALES, 12, 1 | 2));
+    must(&host, "The bonus list of shop group 0 is file 6.", GATEKEEPER_REGISTER, WITH(BONUS_0, 9, 1));
+    must(&host, "The bonus list of shop group 2 is file 7.", GATEKEEPER_REGISTER, WITH(BONUS_2, 9, 4));
+    must(&host, "The bonus step is step 10.", GATEKEEPER_ADMIT, WITH(BONUS, 12, ALL));
+    must(&host, "The bonus step opens the list of group 2 for writing.", GATEKEEPER_OPEN_WRITE,
+         WITH(BONUS, BONUS_2, 0));
+    if (!ask(&host, "The bonus step opens the sales for reading.", GATEKEEPER_OPEN_READ, WITH(BONUS, SALES, 1))) {
+        must(&host, "The bonus step closes the list of group 2.", GATEKEEPER_CLOSE, WITH(BONUS, 0));
+        must(&host, "The bonus step opens the list of group 0 for writing.", GATEKEEPER_OPEN_WRITE,
+             WITH(BONUS, BONUS_0, 0));
+        must(&host, "The bonus step opens the sales for reading.", GATEKEEPER_OPEN_READ, WITH(BONUS, SALES, 1));
+    }
+    must(&host, "The bonus step reads the sales: its level stays.", GATEKEEPER_READ, WITH(BONUS, 1));
+    show(&host, BONUS);
+    must(&host, "The bonus step writes the list of group 0.", GATEKEEPER_WRITE, WITH(BONUS, 0));
+    must(&host, "The bonus step exits.", GATEKEEPER_EXIT, WITH(BONUS));
+
     puts("\nThe books are closed until the bank file is sent; who has the pay book open goes on");
     must(&host, "Files of level 9 and above are frozen.", GATEKEEPER_FREEZE, WITH(9));
     uint32_t from = gatekeeper_frozen_from(host.monitor, sizeof host.monitor);
@@ -238,10 +266,10 @@ int main(void)
 
     puts("\nA clerk has looked over the sheet: it comes in again as checked");
     must(&host, "The sheet of shop 3 is retired.", GATEKEEPER_RETIRE, WITH(SHEET));
-    must(&host, "The checked sheet is file 1.", GATEKEEPER_REGISTER, WITH(SHEET, 12));
+    must(&host, "The checked sheet is file 1.", GATEKEEPER_REGISTER, WITH(SHEET, 12, ALL));
 
     puts("\nThe file store gives numbers of its own");
-    must(&host, "The bank's receipt is file 18446744073709551615.", GATEKEEPER_REGISTER, WITH(RECEIPT, 12));
+    must(&host, "The bank's receipt is file 18446744073709551615.", GATEKEEPER_REGISTER, WITH(RECEIPT, 12, ALL));
     list(&host);
 
     uint64_t made = gatekeeper_made(host.monitor, sizeof host.monitor);

@@ -38,19 +38,22 @@ static void call(int line, uint64_t code, uint64_t a, uint64_t b, uint64_t c)
 
 /* The shell is step 3, of level 12. Files: hours that nobody has checked, of level 2; hours that were checked, and the pay
  * book, of level 9. Programs: of level 12, and of level 9. */
-enum { SHELL = 3, LOW = 1, HOURS = 2, BOOK = 4, ADDER = 20, LISTER = 21 };
+enum { SHELL = 3, LOW = 1, HOURS = 2, BOOK = 4, ADDER = 20, LISTER = 21, ALL = GATEKEEPER_ALL_SHOPS };
 
 static void begin(void)
 {
     HOLDS(gatekeeper_empty(state, sizeof state));
     gatekeeper_monitor_empty(&monitor);
-    CALL(ADMIT, SHELL, 12, 0);
-    CALL(REGISTER, LOW, 2, 0);
-    CALL(REGISTER, HOURS, 9, 0);
-    CALL(REGISTER, BOOK, 9, 0);
-    CALL(REGISTER, ADDER, 12, 0);
-    CALL(REGISTER, LISTER, 9, 0);
+    CALL(ADMIT, SHELL, 12, ALL);
+    CALL(REGISTER, LOW, 2, ALL);
+    CALL(REGISTER, HOURS, 9, ALL);
+    CALL(REGISTER, BOOK, 9, ALL);
+    CALL(REGISTER, ADDER, 12, ALL);
+    CALL(REGISTER, LISTER, 9, ALL);
 }
+
+/* A kept need of the struct, as it is shown of bytes. */
+static uint32_t shown(uint16_t need) { return 65536u * (need % 256u) + need / 256u; }
 
 /* Whether the bytes show what stands in the struct. */
 static bool shows(const uint8_t *bytes, const struct gatekeeper_monitor *m)
@@ -59,8 +62,9 @@ static bool shows(const uint8_t *bytes, const struct gatekeeper_monitor *m)
     uint64_t from = 0, s, p;
     int i, used = 0;
     for (s = 0; s < GATEKEEPER_SUBJECTS; s++) {
-        if (gatekeeper_subject(bytes, len, s) != (m->subjects[s].live ? 256u + m->subjects[s].level : 0u) ||
-            gatekeeper_subject_need(bytes, len, s) != (m->subjects[s].live ? m->needs[s] : 0u))
+        uint32_t seen = 65536u * m->subjects[s].shops + 256u + m->subjects[s].level;
+        if (gatekeeper_subject(bytes, len, s) != (m->subjects[s].live ? seen : 0u) ||
+            gatekeeper_subject_need(bytes, len, s) != (m->subjects[s].live ? shown(m->needs[s]) : 0u))
             return false;
         for (p = 0; p < GATEKEEPER_PLACES; p++) {
             uint8_t way = m->handles[16 * s + p].way, slot = m->handles[16 * s + p].slot, mark = m->handles[16 * s + p].mark;
@@ -73,8 +77,9 @@ static bool shows(const uint8_t *bytes, const struct gatekeeper_monitor *m)
         if (m->objects[i].kind == 0)
             continue;
         used++;
-        if (gatekeeper_object(bytes, len, m->numbers[i]) != 256u * m->objects[i].kind + m->objects[i].level ||
-            gatekeeper_object_need(bytes, len, m->numbers[i]) != m->needs[GATEKEEPER_SUBJECTS + i])
+        if (gatekeeper_object(bytes, len, m->numbers[i]) !=
+                65536u * m->objects[i].shops + 256u * m->objects[i].kind + m->objects[i].level ||
+            gatekeeper_object_need(bytes, len, m->numbers[i]) != shown(m->needs[GATEKEEPER_SUBJECTS + i]))
             return false;
     }
     do {
@@ -202,9 +207,24 @@ static void simple_ones(void)
     /* two for the pipe, two for each of the two forks, and those opened: all are gone */
     HOLDS(gatekeeper_made(state, sizeof state) == 6 + 2 + 6 + 1);
     HOLDS(gatekeeper_gone(state, sizeof state) == gatekeeper_made(state, sizeof state));
-    HOLDS(gatekeeper_subject(state, sizeof state, SHELL) == 256 + 12);
+    HOLDS(gatekeeper_subject(state, sizeof state, SHELL) == 65536u * ALL + 256 + 12);
     HOLDS(gatekeeper_subject(state, sizeof state, 5) == 0 && gatekeeper_subject(state, sizeof state, 6) == 0);
     HOLDS(gatekeeper_object(state, sizeof state, 100) == 0);
+}
+
+/* Shop marks: a program with fewer of them brings the child down, and what lacks a book's does not come into it. */
+static void marked_ones(void)
+{
+    begin();
+    CALL(REGISTER, 30, 12, 3); /* a program for shop groups 0 and 1 */
+    CALL(REGISTER, 31, 9, 2);  /* hours for group 1, and a book for each of the two */
+    CALL(REGISTER, 32, 9, 1);
+    CALL(REGISTER, 33, 9, 2);
+    RUN("30", SHELL, 5, 100, 2, 1, 0);
+    RUN("30 <31 >33", SHELL, 5, 100, 4, 1, 0);
+    RUN("30 <31 >32", SHELL, 5, 100, 3, 1, 1);
+    RUN("30 <31 | 20 >32", SHELL, 5, 100, 11, 1, 1);
+    HOLDS(gatekeeper_subject(state, sizeof state, SHELL) == 65536u * ALL + 256 + 12);
 }
 
 /* What stays behind where the shell has handles and the numbers are in use: RULES L13. */
@@ -213,8 +233,8 @@ static void what_is_held(void)
     begin();
     CALL(OPEN_READ, SHELL, HOURS, 1);
     CALL(OPEN_WRITE, SHELL, BOOK, 13);
-    CALL(ADMIT, 6, 15, 0);
-    CALL(REGISTER, 101, 9, 0);
+    CALL(ADMIT, 6, 15, ALL);
+    CALL(REGISTER, 101, 9, ALL);
     /* Of two pipes 100 finds place 1 taken, and 101 its number. Child 0 is forked as 5, with both handles: its close at 0, 2
      * and 3 finds nothing. Child 1 is 6, which is there: it keeps its level, has no handle at 1 and 2, falls when it runs
      * the program, and exits. Child 2 is forked as 7, and closes at 1. */
@@ -223,8 +243,8 @@ static void what_is_held(void)
     HOLDS(gatekeeper_way_of(gatekeeper_handle(state, sizeof state, SHELL, 13)) == GATEKEEPER_WAY_WRITES);
     HOLDS(gatekeeper_handle_object(state, sizeof state, SHELL, 13) == BOOK);
     HOLDS(gatekeeper_subject(state, sizeof state, 6) == 0); /* it has left as a child */
-    HOLDS(gatekeeper_object(state, sizeof state, 101) == 256 * GATEKEEPER_KIND_FILE + 9);
-    HOLDS(gatekeeper_subject_need(state, sizeof state, SHELL) == 9);
+    HOLDS(gatekeeper_object(state, sizeof state, 101) == 65536u * ALL + 256 * GATEKEEPER_KIND_FILE + 9);
+    HOLDS(gatekeeper_subject_need(state, sizeof state, SHELL) == 65536u * ALL + 9);
 
     /* the shell as its own child runs the program itself, falls and leaves */
     RUN("21", SHELL, SHELL, 100, 1, 1, 1);
@@ -240,12 +260,12 @@ static void numbers_wrap(void)
     RUN("20 | 20", SHELL, HIGHEST, 100, 7, 0, 4);
     RUN("20 | 20 | 20", SHELL, HIGHEST - 1, 100, 12, 0, 11);
     /* where step 0 is there, it falls when it runs the program, and leaves */
-    CALL(ADMIT, 0, 15, 0);
+    CALL(ADMIT, 0, 15, ALL);
     RUN("20 | 20", SHELL, HIGHEST, 100, 4, 1, 6);
     HOLDS(gatekeeper_subject(state, sizeof state, 0) == 0);
     /* pipe 0 has the highest number, and pipe 1 is 0; then that is a file's */
     RUN("20 | 20 | 20", SHELL, 5, HIGHEST, 23, 0, 0);
-    CALL(REGISTER, 0, 9, 0);
+    CALL(REGISTER, 0, 9, ALL);
     RUN("20 | 20 | 20", SHELL, 5, HIGHEST, 16, 0, 7);
     /* both start again at each `;` */
     RUN("20 | 20 ; 20 | 20", SHELL, HIGHEST, HIGHEST, 14, 0, 8);
@@ -357,6 +377,7 @@ static void another_length(void)
 int main(void)
 {
     simple_ones();
+    marked_ones();
     what_is_held();
     numbers_wrap();
     eight_stages();

@@ -15,7 +15,7 @@
 
 #include "gatekeeper.h"
 
-enum { STACK = 8 << 20, PAINT = 0xa5, LISTS = 400, CALLS = 400, JOURNALS = 12, LINES = 8, NUMBERS_AT = 1841, GROUPS_AT = 2353 };
+enum { STACK = 8 << 20, PAINT = 0xa5, LISTS = 400, CALLS = 400, JOURNALS = 12, LINES = 8, NUMBERS_AT = 2033, GROUPS_AT = 2545 };
 
 static uint8_t *stack;       /* the thread's, painted */
 static const uint8_t *above; /* where the thread stands when it calls */
@@ -59,6 +59,8 @@ static void draw(uint32_t few)
     n[2] = n[0] <= GATEKEEPER_REGISTER || n[0] >= GATEKEEPER_MARK || drawn(2) ? drawn(few) : object(few);
     n[3] = n[0] == GATEKEEPER_CONNECT ? object(few) : drawn(few);
     n[4] = n[0] == GATEKEEPER_CONNECT ? object(few) : drawn(few);
+    if (n[0] <= GATEKEEPER_REGISTER)
+        n[3] = drawn(3) ? GATEKEEPER_ALL_SHOPS : drawn(257); /* a set of shop marks */
     n[5] = drawn(17);
     n[6] = drawn(17);
 }
@@ -91,12 +93,12 @@ static void one_quick_call(void)
     uint64_t s = drawn(few), o = drawn(2) ? monitor.numbers[drawn(64)] : object(few), p = drawn(17);
     if (code == GATEKEEPER_CLOSE)
         answer = gatekeeper_quick_close(subjects, sizeof monitor.subjects, objects, sizeof monitor.objects, handles,
-                                        sizeof monitor.handles, monitor.needs, sizeof monitor.needs, monitor.counts, 2,
+                                        sizeof monitor.handles, monitor.needs, 96, monitor.counts, 2,
                                         monitor.freeze, monitor.sure, s, p);
     else
         answer = gatekeeper_quick_open(monitor.numbers, 64, subjects, sizeof monitor.subjects, objects,
                                        sizeof monitor.objects, handles, sizeof monitor.handles, monitor.needs,
-                                       sizeof monitor.needs, monitor.counts, 2, monitor.freeze, monitor.sure, code, s, o,
+                                       96, monitor.counts, 2, monitor.freeze, monitor.sure, code, s, o,
                                        p);
     if (gatekeeper_allows(answer))
         quick[code == GATEKEEPER_CLOSE]++;
@@ -120,7 +122,7 @@ static void calls(void)
             draw_state();
         }
         for (uint64_t o = 0; list % 3 == 0 && o < 60; o++)
-            note(gatekeeper_call(state, sizeof state, GATEKEEPER_REGISTER, o << 32, o % 16, 0, 0, 0, 0));
+            note(gatekeeper_call(state, sizeof state, GATEKEEPER_REGISTER, o << 32, o % 16, drawn(256), 0, 0, 0));
         for (int call = 0; call < CALLS; call++)
             one_call();
     }
@@ -145,7 +147,7 @@ static void on_monitors(void (*one)(void))
         else
             draw_monitor(list % 4 == 1);
         for (uint64_t o = 0; list % 3 == 0 && o < 60; o++)
-            note(gatekeeper_monitor_call(&monitor, GATEKEEPER_REGISTER, o << 32, o % 16, 0, 0, 0, 0));
+            note(gatekeeper_monitor_call(&monitor, GATEKEEPER_REGISTER, o << 32, o % 16, drawn(256), 0, 0, 0));
         for (int call = 0; call < CALLS; call++)
             one();
     }

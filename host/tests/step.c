@@ -21,6 +21,12 @@ static uint32_t drawn(uint32_t limit)
     return (uint32_t)(seed >> 33) % limit;
 }
 
+/* A set of shop marks: in most lists of calls all of them, but for few; now and then any, or one that is none. */
+static uint64_t set(void)
+{
+    return drawn(10) ? 255 - (drawn(3) ? 0 : drawn(8)) : drawn(258);
+}
+
 /* An object's number for a small one, all over the range; mostly the same for the same one, with its lowest bits. */
 static uint64_t far_from(uint64_t small)
 {
@@ -52,6 +58,12 @@ static int same(const struct gatekeeper_monitor *a, const struct gatekeeper_moni
            a->counts[1] == b->counts[1];
 }
 
+/* A kept need of the struct, as it is shown of bytes. */
+static uint32_t shown(uint16_t need)
+{
+    return 65536u * (need % 256u) + need / 256u;
+}
+
 /* Whether the bytes show what stands in the struct: the objects with their numbers and needs, the handles, and the groups. */
 static int shows(const uint8_t *state, const struct gatekeeper_monitor *m)
 {
@@ -61,8 +73,8 @@ static int shows(const uint8_t *state, const struct gatekeeper_monitor *m)
     for (i = 0; i < GATEKEEPER_OBJECTS; i++) {
         if (m->objects[i].kind == 0) continue;
         used++;
-        if (gatekeeper_object(state, len, m->numbers[i]) != 256u * m->objects[i].kind + m->objects[i].level) return 0;
-        if (gatekeeper_object_need(state, len, m->numbers[i]) != m->needs[GATEKEEPER_SUBJECTS + i]) return 0;
+        if (gatekeeper_object(state, len, m->numbers[i]) != 65536u * m->objects[i].shops + 256u * m->objects[i].kind + m->objects[i].level) return 0;
+        if (gatekeeper_object_need(state, len, m->numbers[i]) != shown(m->needs[GATEKEEPER_SUBJECTS + i])) return 0;
     }
     do {
         uint64_t o = gatekeeper_object_from(state, len, from);
@@ -87,11 +99,11 @@ static uint32_t in_place(const struct gatekeeper_monitor *monitor, uint64_t code
     struct gatekeeper_monitor m = *monitor;
     if (code == GATEKEEPER_OPEN_READ || code == GATEKEEPER_OPEN_WRITE)
         return gatekeeper_quick_open(m.numbers, 64, (uint8_t *)m.subjects, sizeof m.subjects, (uint8_t *)m.objects,
-                                     sizeof m.objects, (uint8_t *)m.handles, sizeof m.handles, m.needs, sizeof m.needs,
+                                     sizeof m.objects, (uint8_t *)m.handles, sizeof m.handles, m.needs, 96,
                                      m.counts, 2, m.freeze, m.sure, code, a, b, c);
     if (code == GATEKEEPER_CLOSE)
         return gatekeeper_quick_close((uint8_t *)m.subjects, sizeof m.subjects, (uint8_t *)m.objects, sizeof m.objects,
-                                      (uint8_t *)m.handles, sizeof m.handles, m.needs, sizeof m.needs, m.counts, 2, m.freeze,
+                                      (uint8_t *)m.handles, sizeof m.handles, m.needs, 96, m.counts, 2, m.freeze,
                                       m.sure, a, b);
     return 0;
 }
@@ -100,7 +112,7 @@ int main(void)
 {
     static struct gatekeeper_monitor stepped, called;
     static uint8_t state[GATEKEEPER_STATE_BYTES];
-    unsigned long calls = 0, quick = 0, allowed = 0, full = 0, threads = 0;
+    unsigned long calls = 0, quick = 0, allowed = 0, full = 0, threads = 0, lost = 0;
     int list, i, k;
     for (list = 0; list < LISTS; list++) {
         gatekeeper_monitor_empty(&stepped);
@@ -114,9 +126,11 @@ int main(void)
             for (k = 0; k < 6; k++) n[k] = drawn(few);
             if (list % 3 == 0 && i < 64) {
                 code = GATEKEEPER_REGISTER;
-                n[0] = far_from((uint64_t)i), n[1] = (uint64_t)i % 16;
+                n[0] = far_from((uint64_t)i), n[1] = (uint64_t)i % 16, n[2] = set();
             } else if (code == GATEKEEPER_REGISTER || code == GATEKEEPER_RETIRE) {
-                n[0] = far_from(n[0]);
+                n[0] = far_from(n[0]), n[2] = set();
+            } else if (code == GATEKEEPER_ADMIT) {
+                n[2] = set();
             } else if (code == GATEKEEPER_CONNECT) {
                 n[2] = far_from(n[2]), n[3] = far_from(n[3]);
             } else if ((code >= GATEKEEPER_CREATE && code <= GATEKEEPER_OPEN_WRITE) || code == GATEKEEPER_EXEC || code == GATEKEEPER_MAP) {
@@ -138,11 +152,12 @@ int main(void)
             allowed += done != 0 && gatekeeper_allows(done);
             full += !gatekeeper_allows(x) && gatekeeper_value(x) == GATEKEEPER_TOO_MANY_OBJECTS;
             threads += code == GATEKEEPER_THREAD && gatekeeper_allows(x);
+            lost += gatekeeper_lost(x) > 0;
             for (k = 0; k < 32 && gatekeeper_allows(x); k++)
                 if (gatekeeper_group(state, sizeof state, (uint64_t)k) != group(&stepped, k)) {
                     printf("subject %d is in another group on bytes\n", k);
                     return 1;
-                } else if (gatekeeper_subject_need(state, sizeof state, (uint64_t)k) != (stepped.subjects[k].live ? stepped.needs[k] : 0u)) {
+                } else if (gatekeeper_subject_need(state, sizeof state, (uint64_t)k) != (stepped.subjects[k].live ? shown(stepped.needs[k]) : 0u)) {
                     printf("the need of subject %d is kept differently\n", k);
                     return 1;
                 }
@@ -162,7 +177,7 @@ int main(void)
         }
     }
     printf("%lu calls were answered alike by step, by call and on bytes; %lu of them in place, %lu of these allowed; %lu were refused with 17; "
-           "%lu threads were made\n",
-           calls, quick, allowed, full, threads);
-    return quick > calls / 10 && allowed > calls / 50 && full > 100 && threads > 100 ? 0 : 1;
+           "%lu threads were made; at %lu shop marks were lost\n",
+           calls, quick, allowed, full, threads, lost);
+    return quick > calls / 10 && allowed > calls / 50 && full > 100 && threads > 100 && lost > 100 ? 0 : 1;
 }

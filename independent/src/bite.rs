@@ -55,7 +55,7 @@ fn differs(journal: &[u8], rules: Rules, right: &str) -> bool {
     let mut run = Run::new(journal, rules);
     let mut rest = right;
     while let Some(step) = run.next_step() {
-        match rest.strip_prefix(&step.line()) {
+        match rest.strip_prefix(&step.line_by(rules)) {
             Some(behind) => rest = behind,
             None => return true,
         }

@@ -3,6 +3,7 @@
 //! Which numbers a call takes and what each of them names. The effects are in `monitor`, the conditions
 //! in `refusals`.
 
+use crate::labels::Label;
 use crate::tables::{Direction, Handle};
 
 /// RULES C106: how many numbers a direct call has.
@@ -35,8 +36,8 @@ const fn shape(code: u64, word: &'static str, numbers: &'static [&'static str]) 
 
 /// RULES C1 to C18, in the order of their codes.
 pub const SHAPES: [Shape; 18] = [
-    shape(1, "admit", &["s", "level"]),
-    shape(2, "register", &["o", "level"]),
+    shape(1, "admit", &["s", "level", "set"]),
+    shape(2, "register", &["o", "level", "set"]),
     shape(3, "create", &["s", "o"]),
     shape(4, "pipe", &["s", "o", "r", "w"]),
     shape(5, "open-read", &["s", "o", "p"]),
@@ -68,8 +69,8 @@ pub fn shape_of_word(word: &str) -> Option<&'static Shape> {
 /// A call with its numbers by name, as RULES C1 to C18 name them.
 #[derive(Clone, Copy, Debug, PartialEq, Eq)]
 pub enum Call {
-    Admit { s: u64, level: u64 },
-    Register { o: u64, level: u64 },
+    Admit { s: u64, level: u64, shops: u64 },
+    Register { o: u64, level: u64, shops: u64 },
     Create { s: u64, o: u64 },
     Pipe { s: u64, o: u64, r: u64, w: u64 },
     OpenRead { s: u64, o: u64, p: u64 },
@@ -93,8 +94,8 @@ impl Call {
     pub fn new(code: u64, numbers: Numbers) -> Option<Call> {
         let [a, b, c, d, e, f] = numbers;
         Some(match code {
-            1 => Call::Admit { s: a, level: b },
-            2 => Call::Register { o: a, level: b },
+            1 => Call::Admit { s: a, level: b, shops: c },
+            2 => Call::Register { o: a, level: b, shops: c },
             3 => Call::Create { s: a, o: b },
             4 => Call::Pipe { s: a, o: b, r: c, w: d },
             5 => Call::OpenRead { s: a, o: b, p: c },
@@ -174,10 +175,12 @@ impl Call {
         }
     }
 
-    /// The level that comes with a thing from outside.
-    pub fn level(self) -> Option<u64> {
+    /// The label under which a thing comes from outside, C1 and C2.
+    pub fn label(self) -> Option<Label> {
         match self {
-            Call::Admit { level, .. } | Call::Register { level, .. } => Some(level),
+            Call::Admit { level, shops, .. } | Call::Register { level, shops, .. } => {
+                Some(Label { level, shops })
+            }
             _ => None,
         }
     }

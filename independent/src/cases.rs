@@ -1,7 +1,7 @@
 //! Worked cases: RULES K0 to K17, single sentences of the freeze (RULES C16, R15), of marks (RULES C15, R110), of
-//! mappings (RULES C14, C111), of two-way channels (RULES C17, R16), of threads (RULES C18, C113 to C117, F22, R110) and
-//! of the host's own file numbers (RULES T2, R3, R4, R17, J5 to J7), DWARF's examples of numbers, and numbers at the
-//! limit.
+//! mappings (RULES C14, C111), of two-way channels (RULES C17, R16), of threads (RULES C18, C113 to C117, F22, R110), of
+//! the host's own file numbers (RULES T2, R3, R4, R17, J5 to J7) and of labels (RULES T49 to T52, C118, R6, P23), DWARF's
+//! examples of numbers, and numbers at the limit.
 //!
 //! The replies stand here as the rules settle them; they are not worked out by this program. Typed lines have cases of
 //! their own, in `lines`.
@@ -42,7 +42,7 @@ pub struct Case {
 }
 
 /// RULES K0.
-const START: &str = "register 0 9; register 1 2; admit 0 9";
+const START: &str = "register 0 9 255; register 1 2 255; admit 0 9 255";
 const START_REPLIES: &str = "1 2 A 9; 2 2 A 2; 3 1 A 9";
 
 /// K6's state before the last open: a pipe (object 5, reading at 0, writing at 1), a fork, file 0 open.
@@ -77,7 +77,7 @@ const AFTER_START: &[(&str, &str, &str, &str)] = &[
     (
         "K4",
         "a subject of level 8 opens file 0 for writing: 9",
-        "admit 1 8; open-write 1 0 0",
+        "admit 1 8 255; open-write 1 0 0",
         "4 1 A 8; 5 6 R 9; end 0 0 0",
     ),
     (
@@ -95,14 +95,14 @@ const AFTER_START: &[(&str, &str, &str, &str)] = &[
     (
         "K9-level-9",
         "with file 0 open for writing, exec of a level 9 file: allowed",
-        "register 2 9; open-write 0 0 0; exec 0 2",
+        "register 2 9 255; open-write 0 0 0; exec 0 2",
         "4 2 A 9; 5 6 A 9; 6 10 A 9; end 1 0 1",
     ),
     (
         "place-15",
         "place 15 is taken",
         "open-read 0 1 15; read 0 15; close 0 15",
-        "4 5 A 2; 5 7 L 2; 6 11 A 2; end 1 1 0",
+        "4 5 A 2; 5 7 L 2 0; 6 11 A 2; end 1 1 0",
     ),
     (
         "place-16",
@@ -121,19 +121,19 @@ const AFTER_START: &[(&str, &str, &str, &str)] = &[
     (
         "subject-32-new",
         "subject 32 as new gives 3",
-        "admit 32 9; fork 0 32",
+        "admit 32 9 255; fork 0 32",
         "4 1 R 3; 5 9 R 3; end 0 0 0",
     ),
     (
         "subject-31-new",
         "subject 31 is taken, as new",
-        "admit 31 9; exit 31; fork 0 31; exit 31",
+        "admit 31 9 255; exit 31; fork 0 31; exit 31",
         "4 1 A 9; 5 12 A 9; 6 9 A 9; 7 12 A 9; end 0 0 0",
     ),
     (
         "object-63-and-64",
         "object 63 is taken, and 64 is; 64 gives 3 as new where it is in use, and 4 as named where it is not",
-        "register 63 4; register 64 4; create 0 64; pipe 0 64 0 1; retire 63; retire 64; exec 0 64",
+        "register 63 4 255; register 64 4 255; create 0 64; pipe 0 64 0 1; retire 63; retire 64; exec 0 64",
         "4 2 A 4; 5 2 A 4; 6 3 R 3; 7 4 R 3; 8 13 A 4; 9 13 A 4; 10 10 R 4; end 0 0 0",
     ),
     (
@@ -145,7 +145,7 @@ const AFTER_START: &[(&str, &str, &str, &str)] = &[
     (
         "freeze-file",
         "a file at the freeze or above it is not opened for writing: 15; one below it is",
-        "admit 1 15; register 2 15; freeze 9; open-write 0 0 0; open-write 1 2 0; open-write 0 1 0; \
+        "admit 1 15 255; register 2 15 255; freeze 9; open-write 0 0 0; open-write 1 2 0; open-write 0 1 0; \
          freeze 10; open-write 0 0 1; open-write 1 2 0",
         "4 1 A 15; 5 2 A 15; 6 16 A 9; 7 6 R 15; 8 6 R 15; 9 6 A 2; 10 16 A 10; 11 6 A 9; 12 6 R 15; \
          end 2 0 2",
@@ -153,7 +153,7 @@ const AFTER_START: &[(&str, &str, &str, &str)] = &[
     (
         "freeze-0-and-15",
         "a freeze of 0 freezes every file, one of 15 the files of level 15 alone",
-        "admit 1 15; register 2 15; register 3 0; freeze 0; open-write 0 3 0; open-write 1 2 0; freeze 15; \
+        "admit 1 15 255; register 2 15 255; register 3 0 255; freeze 0; open-write 0 3 0; open-write 1 2 0; freeze 15; \
          open-write 0 3 0; open-write 1 2 0",
         "4 1 A 15; 5 2 A 15; 6 2 A 0; 7 16 A 0; 8 6 R 15; 9 6 R 15; 10 16 A 15; 11 6 A 0; 12 6 R 15; \
          end 1 0 1",
@@ -168,7 +168,7 @@ const AFTER_START: &[(&str, &str, &str, &str)] = &[
         "freeze-other-calls",
         "a freeze asks nothing of any other call on a file: open for reading, read, exec, create, register, \
          retire",
-        "freeze 0; open-read 0 0 0; read 0 0; exec 0 0; create 0 2; register 3 15; retire 3; close 0 0; retire 0",
+        "freeze 0; open-read 0 0 0; read 0 0; exec 0 0; create 0 2; register 3 15 255; retire 3; close 0 0; retire 0",
         "4 16 A 0; 5 5 A 9; 6 7 A 9; 7 10 A 9; 8 3 A 9; 9 2 A 15; 10 13 A 15; 11 11 A 9; 12 13 A 9; end 1 1 0",
     ),
     (
@@ -180,13 +180,13 @@ const AFTER_START: &[(&str, &str, &str, &str)] = &[
     (
         "freeze-flow",
         "an open that offends the flow and the freeze: 15",
-        "admit 1 8; freeze 9; open-write 1 0 0; open-read 0 1 0; open-write 0 0 1",
+        "admit 1 8 255; freeze 9; open-write 1 0 0; open-read 0 1 0; open-write 0 0 1",
         "4 1 A 8; 5 16 A 9; 6 6 R 15; 7 5 A 2; 8 6 R 15; end 1 0 1",
     ),
     (
         "freeze-flow-lifted",
         "where the freeze is raised or lifted, such an open offends the flow alone: 9; then the flow is put right",
-        "admit 1 8; freeze 9; open-read 0 1 0; open-write 1 0 0; open-write 0 0 1; freeze 10; open-write 1 0 0; \
+        "admit 1 8 255; freeze 9; open-read 0 1 0; open-write 1 0 0; open-write 0 0 1; freeze 10; open-write 1 0 0; \
          open-write 0 0 1; freeze 16; open-write 1 0 0; open-write 0 0 1; close 0 0; open-write 0 0 1",
         "4 1 A 8; 5 16 A 9; 6 5 A 2; 7 6 R 15; 8 6 R 15; 9 16 A 10; 10 6 R 9; 11 6 R 9; 12 16 A 16; 13 6 R 9; \
          14 6 R 9; 15 11 A 9; 16 6 A 9; end 2 1 1",
@@ -194,7 +194,7 @@ const AFTER_START: &[(&str, &str, &str, &str)] = &[
     (
         "freeze-flow-order",
         "2, 4, 7 and 12 are said before 15 where 9 holds as well, and 9 after it",
-        "admit 1 8; freeze 0; open-write 2 0 0; open-write 1 2 0; open-write 1 0 16; call 6 1 0 0 0; open-write 1 0 0; \
+        "admit 1 8 255; freeze 0; open-write 2 0 0; open-write 1 2 0; open-write 1 0 16; call 6 1 0 0 0; open-write 1 0 0; \
          freeze 16; open-write 1 0 0",
         "4 1 A 8; 5 16 A 0; 6 6 R 2; 7 6 R 4; 8 6 R 7; 9 6 R 12; 10 6 R 15; 11 16 A 16; 12 6 R 9; end 0 0 0",
     ),
@@ -202,7 +202,8 @@ const AFTER_START: &[(&str, &str, &str, &str)] = &[
         "freeze-flow-alone",
         "9 is said of what the freeze asks nothing of: opens for reading, maps and execs of a frozen file, a pipe, a \
          lower file, a connect",
-        "register 2 15; admit 1 15; open-write 1 2 0; open-write 0 0 0; admit 2 8; pipe 0 5 1 2; register 3 9; \
+        "register 2 15 255; admit 1 15 255; open-write 1 2 0; open-write 0 0 0; admit 2 8 255; pipe 0 5 1 2; \
+         register 3 9 255; \
          freeze 9; open-read 1 0 1; map 1 0 1; exec 1 0; open-write 2 5 0; connect 1 0 6 7 3 4; freeze 10; \
          open-write 2 3 0; freeze 9; open-write 2 3 0",
         "4 2 A 15; 5 1 A 15; 6 6 A 15; 7 6 A 9; 8 1 A 8; 9 4 A 9; 10 2 A 9; 11 16 A 9; 12 5 R 9; 13 14 R 9; 14 10 R 9; \
@@ -229,7 +230,7 @@ const AFTER_START: &[(&str, &str, &str, &str)] = &[
     (
         "freeze-stays",
         "exec, exit, admit and a 15 leave the freeze",
-        "freeze 9; exec 0 0; exit 0; admit 0 9; open-write 0 0 0; open-write 0 0 0",
+        "freeze 9; exec 0 0; exit 0; admit 0 9 255; open-write 0 0 0; open-write 0 0 0",
         "4 16 A 9; 5 10 A 9; 6 12 A 9; 7 1 A 9; 8 6 R 15; 9 6 R 15; end 0 0 0",
     ),
     (
@@ -242,7 +243,7 @@ const AFTER_START: &[(&str, &str, &str, &str)] = &[
         "mark-answer",
         "a mark answers with the subject's level, for reading and writing, on files and pipes, and once more",
         "open-read 0 1 0; mark 0 0; read 0 0; mark 0 0; pipe 0 5 1 2; mark 0 1; mark 0 2; mark 0 2; write 0 2",
-        "4 5 A 2; 5 15 A 9; 6 7 L 2; 7 15 A 2; 8 4 A 2; 9 15 A 2; 10 15 A 2; 11 15 A 2; 12 8 A 2; end 3 0 3",
+        "4 5 A 2; 5 15 A 9; 6 7 L 2 0; 7 15 A 2; 8 4 A 2; 9 15 A 2; 10 15 A 2; 11 15 A 2; 12 8 A 2; end 3 0 3",
     ),
     (
         "mark-refused",
@@ -255,7 +256,7 @@ const AFTER_START: &[(&str, &str, &str, &str)] = &[
         "the launcher: with the pay book open, a low program is refused; with the handle marked it is run, and \
          the handle is gone",
         "open-write 0 0 0; exec 0 1; mark 0 0; write 0 0; exec 0 1; write 0 0; close 0 0",
-        "4 6 A 9; 5 10 R 9; 6 15 A 9; 7 8 A 9; 8 10 L 2; 9 8 R 7; 10 11 R 7; end 1 1 0",
+        "4 6 A 9; 5 10 R 9; 6 15 A 9; 7 8 A 9; 8 10 L 2 0; 9 8 R 7; 10 11 R 7; end 1 1 0",
     ),
     (
         "mark-exec-same-level",
@@ -268,34 +269,34 @@ const AFTER_START: &[(&str, &str, &str, &str)] = &[
         "an exec refused with 9, 5 or 4 closes no handle, takes no mark off and counts nothing",
         "pipe 0 5 2 3; open-write 0 0 0; open-write 0 0 1; mark 0 0; exec 0 1; exec 0 5; exec 0 6; write 0 0; \
          mark 0 1; exec 0 1; write 0 0; write 0 3",
-        "4 4 A 9; 5 6 A 9; 6 6 A 9; 7 15 A 9; 8 10 R 9; 9 10 R 5; 10 10 R 4; 11 8 A 9; 12 15 A 9; 13 10 L 2; \
-         14 8 R 7; 15 8 L 2; end 4 2 2",
+        "4 4 A 9; 5 6 A 9; 6 6 A 9; 7 15 A 9; 8 10 R 9; 9 10 R 5; 10 10 R 4; 11 8 A 9; 12 15 A 9; 13 10 L 2 0; \
+         14 8 R 7; 15 8 L 2 0; end 4 2 2",
     ),
     (
         "mark-others",
         "another subject's mark does not help: its marked handle is in the test, and stays",
         "pipe 0 5 0 1; fork 0 1; close 0 0; close 1 1; open-write 1 0 2; mark 1 2; exec 0 1; mark 0 1; exec 0 1; \
          write 1 2; read 1 0",
-        "4 4 A 9; 5 9 A 9; 6 11 A 9; 7 11 A 9; 8 6 A 9; 9 15 A 9; 10 10 R 9; 11 15 A 9; 12 10 L 2; 13 8 A 9; \
+        "4 4 A 9; 5 9 A 9; 6 11 A 9; 7 11 A 9; 8 6 A 9; 9 15 A 9; 10 10 R 9; 11 15 A 9; 12 10 L 2 0; 13 8 A 9; \
          14 7 A 9; end 5 3 2",
     ),
     (
         "mark-fork",
         "fork copies the marks: the child's handle is closed by its own exec, the caller's stays",
         "open-write 0 0 0; open-write 0 1 1; mark 0 0; fork 0 1; exec 1 1; write 1 0; write 1 1; write 0 0; exec 0 1",
-        "4 6 A 9; 5 6 A 2; 6 15 A 9; 7 9 A 9; 8 10 L 2; 9 8 R 7; 10 8 A 2; 11 8 A 9; 12 10 L 2; end 4 2 2",
+        "4 6 A 9; 5 6 A 2; 6 15 A 9; 7 9 A 9; 8 10 L 2 0; 9 8 R 7; 10 8 A 2; 11 8 A 9; 12 10 L 2 0; end 4 2 2",
     ),
     (
         "mark-after-fork",
         "a mark set after a fork is the caller's alone",
         "open-write 0 0 0; fork 0 1; mark 0 0; exec 1 1; exec 0 1; write 1 0",
-        "4 6 A 9; 5 9 A 9; 6 15 A 9; 7 10 R 9; 8 10 L 2; 9 8 A 9; end 2 1 1",
+        "4 6 A 9; 5 9 A 9; 6 15 A 9; 7 10 R 9; 8 10 L 2 0; 9 8 A 9; end 2 1 1",
     ),
     (
         "mark-pipe-ends",
         "a pipe whose last handles exec closes ends, and its number is free; with one unmarked end it stays",
-        "pipe 0 5 0 1; pipe 0 6 2 3; mark 0 0; mark 0 1; mark 0 2; exec 0 0; register 6 4; register 5 4; write 0 3; \
-         close 0 3; register 6 4",
+        "pipe 0 5 0 1; pipe 0 6 2 3; mark 0 0; mark 0 1; mark 0 2; exec 0 0; register 6 4 255; register 5 4 255; write 0 3; \
+         close 0 3; register 6 4 255",
         "4 4 A 9; 5 4 A 9; 6 15 A 9; 7 15 A 9; 8 15 A 9; 9 10 A 9; 10 2 R 3; 11 2 A 4; 12 8 A 9; 13 11 A 9; \
          14 2 A 4; end 4 4 0",
     ),
@@ -316,8 +317,8 @@ const AFTER_START: &[(&str, &str, &str, &str)] = &[
     (
         "mark-exit",
         "exit and close count a marked handle once, and a new subject of that number has no mark",
-        "open-write 0 0 0; mark 0 0; exit 0; admit 0 9; open-write 0 0 0; exec 0 1; mark 0 0; close 0 0; exec 0 1",
-        "4 6 A 9; 5 15 A 9; 6 12 A 9; 7 1 A 9; 8 6 A 9; 9 10 R 9; 10 15 A 9; 11 11 A 9; 12 10 L 2; end 2 2 0",
+        "open-write 0 0 0; mark 0 0; exit 0; admit 0 9 255; open-write 0 0 0; exec 0 1; mark 0 0; close 0 0; exec 0 1",
+        "4 6 A 9; 5 15 A 9; 6 12 A 9; 7 1 A 9; 8 6 A 9; 9 10 R 9; 10 15 A 9; 11 11 A 9; 12 10 L 2 0; end 2 2 0",
     ),
     (
         "mark-freeze",
@@ -329,7 +330,7 @@ const AFTER_START: &[(&str, &str, &str, &str)] = &[
         "map-answer",
         "a map is a read at that moment and answers with the subject's level, also where the file's is higher",
         "map 0 0 0; map 0 1 1; map 0 0 2; close 0 1",
-        "4 14 A 9; 5 14 L 2; 6 14 A 2; 7 11 A 2; end 3 1 2",
+        "4 14 A 9; 5 14 L 2 0; 6 14 A 2; 7 11 A 2; end 3 1 2",
     ),
     (
         "map-refused",
@@ -337,7 +338,7 @@ const AFTER_START: &[(&str, &str, &str, &str)] = &[
         "pipe 0 5 0 1; open-write 0 0 2; map 32 64 16; map 1 64 16; map 0 64 16; map 0 6 16; map 0 5 16; map 0 5 3; \
          map 0 0 16; map 0 1 1; map 0 1 3; close 0 2; map 0 1 15",
         "4 4 A 9; 5 6 A 9; 6 14 R 2; 7 14 R 2; 8 14 R 4; 9 14 R 4; 10 14 R 5; 11 14 R 5; 12 14 R 7; 13 14 R 7; \
-         14 14 R 9; 15 11 A 9; 16 14 L 2; end 4 1 3",
+         14 14 R 9; 15 11 A 9; 16 14 L 2 0; end 4 1 3",
     ),
     (
         "map-pipe",
@@ -349,25 +350,25 @@ const AFTER_START: &[(&str, &str, &str, &str)] = &[
         "map-flow",
         "the importer: while the pay book is open a low sheet is not mapped; once it is mapped, the book is not opened",
         "open-write 0 0 0; map 0 1 1; close 0 0; map 0 1 1; open-write 0 0 0; close 0 1; open-write 0 0 0",
-        "4 6 A 9; 5 14 R 9; 6 11 A 9; 7 14 L 2; 8 6 R 9; 9 11 A 2; 10 6 R 9; end 2 2 0",
+        "4 6 A 9; 5 14 R 9; 6 11 A 9; 7 14 L 2 0; 8 6 R 9; 9 11 A 2; 10 6 R 9; end 2 2 0",
     ),
     (
         "map-flow-upstream",
         "as K6, with a map in the place of the last open: 9; as K7: lowered",
         "pipe 0 5 0 1; fork 0 1; open-write 0 0 2; map 1 1 2; close 0 0; close 1 1; map 1 1 2; close 0 2",
-        "4 4 A 9; 5 9 A 9; 6 6 A 9; 7 14 R 9; 8 11 A 9; 9 11 A 9; 10 14 L 2; 11 11 A 9; end 6 3 3",
+        "4 4 A 9; 5 9 A 9; 6 6 A 9; 7 14 R 9; 8 11 A 9; 9 11 A 9; 10 14 L 2 0; 11 11 A 9; end 6 3 3",
     ),
     (
         "map-write",
         "a write to a mapped file is allowed and lowers nobody: who has it mapped has read it, and the writer has not",
-        "admit 1 9; map 1 1 0; map 1 1 1; fork 1 2; open-write 0 1 0; write 0 0; read 1 0; read 2 1; close 0 0",
-        "4 1 A 9; 5 14 L 2; 6 14 A 2; 7 9 A 2; 8 6 A 2; 9 8 A 2; 10 7 A 2; 11 7 A 2; 12 11 A 9; end 5 1 4",
+        "admit 1 9 255; map 1 1 0; map 1 1 1; fork 1 2; open-write 0 1 0; write 0 0; read 1 0; read 2 1; close 0 0",
+        "4 1 A 9; 5 14 L 2 0; 6 14 A 2; 7 9 A 2; 8 6 A 2; 9 8 A 2; 10 7 A 2; 11 7 A 2; 12 11 A 9; end 5 1 4",
     ),
     (
         "map-handle",
         "a mapping is a reading handle: it is read and not written to, its place is taken, the file is not retired",
         "map 0 1 0; read 0 0; write 0 0; open-write 0 1 0; map 0 1 0; retire 1; mark 0 0; close 0 0; read 0 0; retire 1",
-        "4 14 L 2; 5 7 A 2; 6 8 R 8; 7 6 R 7; 8 14 R 7; 9 13 R 10; 10 15 A 2; 11 11 A 2; 12 7 R 7; 13 13 A 2; end 1 1 0",
+        "4 14 L 2 0; 5 7 A 2; 6 8 R 8; 7 6 R 7; 8 14 R 7; 9 13 R 10; 10 15 A 2; 11 11 A 2; 12 7 R 7; 13 13 A 2; end 1 1 0",
     ),
     (
         "map-exec",
@@ -379,12 +380,12 @@ const AFTER_START: &[(&str, &str, &str, &str)] = &[
         "map-exec-refused",
         "an exec refused with 9, 5 or 4 closes no mapping and counts nothing",
         "pipe 0 5 2 3; map 0 0 0; open-write 0 0 1; exec 0 1; exec 0 5; exec 0 6; read 0 0; close 0 1; exec 0 1; read 0 0",
-        "4 4 A 9; 5 14 A 9; 6 6 A 9; 7 10 R 9; 8 10 R 5; 9 10 R 4; 10 7 A 9; 11 11 A 9; 12 10 L 2; 13 7 R 7; end 4 2 2",
+        "4 4 A 9; 5 14 A 9; 6 6 A 9; 7 10 R 9; 8 10 R 5; 9 10 R 4; 10 7 A 9; 11 11 A 9; 12 10 L 2 0; 13 7 R 7; end 4 2 2",
     ),
     (
         "map-others",
         "exec closes the mappings of its caller and of nobody else",
-        "admit 1 9; map 0 0 0; map 1 0 0; exec 1 0; read 1 0; read 0 0",
+        "admit 1 9 255; map 0 0 0; map 1 0 0; exec 1 0; read 1 0; read 0 0",
         "4 1 A 9; 5 14 A 9; 6 14 A 9; 7 10 A 9; 8 7 R 7; 9 7 A 9; end 2 1 1",
     ),
     (
@@ -403,7 +404,7 @@ const AFTER_START: &[(&str, &str, &str, &str)] = &[
         "map-again",
         "a handle opened where a mapping was closed, by close, by exec or by exit, is no mapping",
         "map 0 0 0; close 0 0; open-read 0 0 0; exec 0 0; close 0 0; map 0 0 0; exec 0 0; open-read 0 0 0; exec 0 0; \
-         close 0 0; map 0 0 0; exit 0; admit 0 9; open-read 0 0 0; exec 0 0; read 0 0",
+         close 0 0; map 0 0 0; exit 0; admit 0 9 255; open-read 0 0 0; exec 0 0; read 0 0",
         "4 14 A 9; 5 11 A 9; 6 5 A 9; 7 10 A 9; 8 11 A 9; 9 14 A 9; 10 10 A 9; 11 5 A 9; 12 10 A 9; 13 11 A 9; \
          14 14 A 9; 15 12 A 9; 16 1 A 9; 17 5 A 9; 18 10 A 9; 19 7 A 9; end 6 5 1",
     ),
@@ -423,19 +424,19 @@ const AFTER_START: &[(&str, &str, &str, &str)] = &[
         "connect-answer",
         "a connect answers with the level of s; each pipe starts at its writer's level, and each end reads at p and writes \
          at q",
-        "admit 1 2; connect 0 1 5 6 0 1; write 0 1; read 1 0; write 1 1; read 0 0; close 0 1; close 1 1",
-        "4 1 A 2; 5 17 A 9; 6 8 A 9; 7 7 A 2; 8 8 A 2; 9 7 L 2; 10 11 A 2; 11 11 A 2; end 4 2 2",
+        "admit 1 2 255; connect 0 1 5 6 0 1; write 0 1; read 1 0; write 1 1; read 0 0; close 0 1; close 1 1",
+        "4 1 A 2; 5 17 A 9; 6 8 A 9; 7 7 A 2; 8 8 A 2; 9 7 L 2 0; 10 11 A 2; 11 11 A 2; end 4 2 2",
     ),
     (
         "connect-to-higher",
         "the lower step asks: its level is answered, and the pipe back starts at the other's",
-        "admit 1 2; connect 1 0 5 6 0 1; write 0 1; write 1 1; read 0 0; write 0 1",
-        "4 1 A 2; 5 17 A 2; 6 8 A 9; 7 8 A 2; 8 7 L 2; 9 8 L 2; end 4 0 4",
+        "admit 1 2 255; connect 1 0 5 6 0 1; write 0 1; write 1 1; read 0 0; write 0 1",
+        "4 1 A 2; 5 17 A 2; 6 8 A 9; 7 8 A 2; 8 7 L 2 0; 9 8 L 2 0; end 4 0 4",
     ),
     (
         "connect-refused",
         "2 is said of s and of t, then 16, 3, 7 and 9",
-        "admit 1 2; open-write 0 0 2; connect 32 32 64 64 16 16; connect 0 32 64 64 16 16; connect 2 2 64 64 16 16; \
+        "admit 1 2 255; open-write 0 0 2; connect 32 32 64 64 16 16; connect 0 32 64 64 16 16; connect 2 2 64 64 16 16; \
          connect 0 0 64 64 16 16; connect 0 1 64 6 16 16; connect 0 1 5 64 16 16; connect 0 1 0 6 16 16; \
          connect 0 1 5 1 16 16; connect 0 1 5 5 16 16; connect 0 1 5 6 16 1; connect 0 1 5 6 0 16; connect 0 1 5 6 0 0; \
          connect 0 1 5 6 2 0; connect 0 1 5 6 0 2; connect 1 0 5 6 2 0; connect 1 0 5 6 0 2; connect 0 1 5 6 0 1; \
@@ -447,60 +448,63 @@ const AFTER_START: &[(&str, &str, &str, &str)] = &[
     (
         "connect-flow",
         "a low sheet at one end and the pay book at the other: 9, whichever end asks; without one of them: allowed",
-        "admit 1 9; open-read 0 1 2; open-write 1 0 2; connect 0 1 5 6 0 1; connect 1 0 5 6 0 1; close 0 2; \
+        "admit 1 9 255; open-read 0 1 2; open-write 1 0 2; connect 0 1 5 6 0 1; connect 1 0 5 6 0 1; close 0 2; \
          connect 0 1 5 6 0 1",
         "4 1 A 9; 5 5 A 2; 6 6 A 9; 7 17 R 9; 8 17 R 9; 9 11 A 9; 10 17 A 9; end 6 1 5",
     ),
     (
         "connect-nothing-left",
         "a connect refused with 9 leaves neither pipe and no handle, and counts nothing",
-        "admit 1 2; open-write 0 0 2; connect 0 1 5 6 0 1; register 5 4; register 6 4; read 0 0; read 1 0; write 0 1; \
+        "admit 1 2 255; open-write 0 0 2; connect 0 1 5 6 0 1; register 5 4 255; register 6 4 255; read 0 0; read 1 0; \
+         write 0 1; \
          write 1 1",
         "4 1 A 2; 5 6 A 9; 6 17 R 9; 7 2 A 4; 8 2 A 4; 9 7 R 7; 10 7 R 7; 11 8 R 7; 12 8 R 7; end 1 0 1",
     ),
     (
         "connect-open",
         "opens are tested through both pipes: as K6, 9; with the low reader's writing end closed: allowed",
-        "admit 1 9; connect 0 1 5 6 0 1; open-write 0 0 2; open-read 1 1 2; close 1 1; open-read 1 1 2; open-write 1 0 3",
+        "admit 1 9 255; connect 0 1 5 6 0 1; open-write 0 0 2; open-read 1 1 2; close 1 1; open-read 1 1 2; \
+         open-write 1 0 3",
         "4 1 A 9; 5 17 A 9; 6 6 A 9; 7 5 R 9; 8 11 A 9; 9 5 A 2; 10 6 R 9; end 6 1 5",
     ),
     (
         "connect-ends",
         "each of the two pipes ends with its last handle, and its number is free",
-        "admit 1 9; connect 0 1 5 6 0 1; close 0 1; register 5 4; close 1 0; register 5 4; register 6 4; exit 0; \
-         register 6 4; exit 1; register 6 4",
+        "admit 1 9 255; connect 0 1 5 6 0 1; close 0 1; register 5 4 255; close 1 0; register 5 4 255; \
+         register 6 4 255; exit 0; \
+         register 6 4 255; exit 1; register 6 4 255",
         "4 1 A 9; 5 17 A 9; 6 11 A 9; 7 2 R 3; 8 11 A 9; 9 2 A 4; 10 2 R 3; 11 12 A 9; 12 2 R 3; 13 12 A 9; 14 2 A 4; \
          end 4 4 0",
     ),
     (
         "connect-exec",
         "exec closes the ends that are marked, and no others",
-        "admit 1 9; connect 0 1 5 6 0 1; mark 0 0; exec 0 0; read 0 0; write 0 1; exec 1 0; read 1 0; write 1 1",
+        "admit 1 9 255; connect 0 1 5 6 0 1; mark 0 0; exec 0 0; read 0 0; write 0 1; exec 1 0; read 1 0; write 1 1",
         "4 1 A 9; 5 17 A 9; 6 15 A 9; 7 10 A 9; 8 7 R 7; 9 8 A 9; 10 10 A 9; 11 7 A 9; 12 8 A 9; end 4 1 3",
     ),
     (
         "connect-fork",
         "fork copies both ends of its caller",
-        "admit 1 2; connect 0 1 5 6 0 1; fork 0 2; close 0 0; close 0 1; write 2 1; read 1 0; write 1 1; read 2 0; \
+        "admit 1 2 255; connect 0 1 5 6 0 1; fork 0 2; close 0 0; close 0 1; write 2 1; read 1 0; write 1 1; read 2 0; \
          close 0 0",
-        "4 1 A 2; 5 17 A 9; 6 9 A 9; 7 11 A 9; 8 11 A 9; 9 8 A 9; 10 7 A 2; 11 8 A 2; 12 7 L 2; 13 11 R 7; end 6 2 4",
+        "4 1 A 2; 5 17 A 9; 6 9 A 9; 7 11 A 9; 8 11 A 9; 9 8 A 9; 10 7 A 2; 11 8 A 2; 12 7 L 2 0; 13 11 R 7; end 6 2 4",
     ),
     (
         "connect-places",
         "places 15 and 0 are taken, in either order",
-        "admit 1 9; connect 0 1 5 6 15 0; write 0 0; read 1 15; write 1 0; read 0 15; read 0 0; write 1 15",
+        "admit 1 9 255; connect 0 1 5 6 15 0; write 0 0; read 1 15; write 1 0; read 0 15; read 0 0; write 1 15",
         "4 1 A 9; 5 17 A 9; 6 8 A 9; 7 7 A 9; 8 8 A 9; 9 7 A 9; 10 7 R 8; 11 8 R 8; end 4 0 4",
     ),
     (
         "connect-again",
         "two steps may be connected once more, by other pipes at other places",
-        "admit 1 9; connect 0 1 5 6 0 1; connect 0 1 7 8 0 2; connect 0 1 5 8 2 3; connect 1 0 7 8 2 3",
+        "admit 1 9 255; connect 0 1 5 6 0 1; connect 0 1 7 8 0 2; connect 0 1 5 8 2 3; connect 1 0 7 8 2 3",
         "4 1 A 9; 5 17 A 9; 6 17 R 7; 7 17 R 3; 8 17 A 9; end 8 0 8",
     ),
     (
         "connect-freeze",
         "a freeze asks nothing of a connect",
-        "admit 1 9; freeze 0; connect 0 1 5 6 0 1; write 0 1",
+        "admit 1 9 255; freeze 0; connect 0 1 5 6 0 1; write 0 1",
         "4 1 A 9; 5 16 A 0; 6 17 A 9; 7 8 A 9; end 4 0 4",
     ),
     (
@@ -513,7 +517,7 @@ const AFTER_START: &[(&str, &str, &str, &str)] = &[
     (
         "thread-refused",
         "2 for a maker that is out of range or not live, then 3 for a number that is out of range or in use, its own too",
-        "thread 32 32; thread 1 1; thread 1 0; thread 0 0; thread 0 32; thread 0 18446744073709551615; admit 1 2; \
+        "thread 32 32; thread 1 1; thread 1 0; thread 0 0; thread 0 32; thread 0 18446744073709551615; admit 1 2 255; \
          thread 0 1; thread 0 31; thread 31 0; create 1 5",
         "4 18 R 2; 5 18 R 2; 6 18 R 2; 7 18 R 3; 8 18 R 3; 9 18 R 3; 10 1 A 2; 11 18 R 3; 12 18 A 9; 13 18 R 3; \
          14 3 A 2; end 0 0 0",
@@ -539,34 +543,34 @@ const AFTER_START: &[(&str, &str, &str, &str)] = &[
         "thread-fall",
         "what lowers one lowers all: a read by the second of three",
         "thread 0 1; thread 1 2; open-read 1 1 0; read 1 0; create 0 5; create 2 6; thread 2 3; fork 0 4; read 1 0",
-        "4 18 A 9; 5 18 A 9; 6 5 A 2; 7 7 L 2; 8 3 A 2; 9 3 A 2; 10 18 A 2; 11 9 A 2; 12 7 A 2; end 1 0 1",
+        "4 18 A 9; 5 18 A 9; 6 5 A 2; 7 7 L 2 0; 8 3 A 2; 9 3 A 2; 10 18 A 2; 11 9 A 2; 12 7 A 2; end 1 0 1",
     ),
     (
         "thread-map",
         "a map by one lowers all; two members may have one file mapped, and a write to it lowers nobody any more",
         "thread 0 1; map 1 1 0; map 0 1 0; open-write 0 1 1; write 0 1; read 1 0; close 0 0; write 0 1; close 1 0; retire 1",
-        "4 18 A 9; 5 14 L 2; 6 14 A 2; 7 6 A 2; 8 8 A 2; 9 7 A 2; 10 11 A 2; 11 8 A 2; 12 11 A 2; 13 13 R 10; end 3 2 1",
+        "4 18 A 9; 5 14 L 2 0; 6 14 A 2; 7 6 A 2; 8 8 A 2; 9 7 A 2; 10 11 A 2; 11 8 A 2; 12 11 A 2; 13 13 R 10; end 3 2 1",
     ),
     (
         "thread-pipe",
         "a pipe that a member makes starts at the group's level, and falls by what another member writes",
         "thread 0 1; pipe 0 5 0 1; open-write 1 5 0; open-read 1 1 1; read 1 1; write 1 0; pipe 0 6 2 3",
-        "4 18 A 9; 5 4 A 9; 6 6 A 9; 7 5 A 2; 8 7 L 2; 9 8 L 2; 10 4 A 2; end 6 0 6",
+        "4 18 A 9; 5 4 A 9; 6 6 A 9; 7 5 A 2; 8 7 L 2 0; 9 8 L 2 0; 10 4 A 2; end 6 0 6",
     ),
     (
         "thread-exec",
         "exec ends the other members: the pay book that one of them has open is not in its way, their handles are counted, \
          their pipe ends, and their numbers are free",
         "thread 0 1; thread 0 2; open-write 1 0 0; pipe 2 5 0 1; open-read 0 0 0; exec 0 1; write 1 0; close 2 0; read 0 0; \
-         register 5 4; admit 1 9; thread 0 2",
-        "4 18 A 9; 5 18 A 9; 6 6 A 9; 7 4 A 9; 8 5 A 9; 9 10 L 2; 10 8 R 2; 11 11 R 2; 12 7 A 2; 13 2 A 4; 14 1 A 9; \
+         register 5 4 255; admit 1 9 255; thread 0 2",
+        "4 18 A 9; 5 18 A 9; 6 6 A 9; 7 4 A 9; 8 5 A 9; 9 10 L 2 0; 10 8 R 2; 11 11 R 2; 12 7 A 2; 13 2 A 4; 14 1 A 9; \
          15 18 A 2; end 4 3 1",
     ),
     (
         "thread-exec-by-thread",
         "an exec by a thread ends the one that made it",
-        "thread 0 1; open-write 0 0 0; exec 1 1; write 0 0; create 1 5; admit 0 9",
-        "4 18 A 9; 5 6 A 9; 6 10 L 2; 7 8 R 2; 8 3 A 2; 9 1 A 9; end 1 1 0",
+        "thread 0 1; open-write 0 0 0; exec 1 1; write 0 0; create 1 5; admit 0 9 255",
+        "4 18 A 9; 5 6 A 9; 6 10 L 2 0; 7 8 R 2; 8 3 A 2; 9 1 A 9; end 1 1 0",
     ),
     (
         "thread-exec-same-level",
@@ -577,17 +581,18 @@ const AFTER_START: &[(&str, &str, &str, &str)] = &[
     (
         "thread-exec-own",
         "exec is tested by the caller's own handles, and by what they lead to; its marked ones are left out as ever",
-        "thread 0 1; open-write 0 0 0; exec 0 1; exec 1 0; admit 0 9; open-write 0 0 0; thread 0 2; exec 0 1; mark 0 0; \
+        "thread 0 1; open-write 0 0 0; exec 0 1; exec 1 0; admit 0 9 255; open-write 0 0 0; thread 0 2; exec 0 1; mark 0 0; \
          exec 0 1; write 0 0; exit 2",
-        "4 18 A 9; 5 6 A 9; 6 10 R 9; 7 10 A 9; 8 1 A 9; 9 6 A 9; 10 18 A 9; 11 10 R 9; 12 15 A 9; 13 10 L 2; 14 8 R 7; \
+        "4 18 A 9; 5 6 A 9; 6 10 R 9; 7 10 A 9; 8 1 A 9; 9 6 A 9; 10 18 A 9; 11 10 R 9; 12 15 A 9; 13 10 L 2 0; 14 8 R 7; \
          15 12 R 2; end 2 2 0",
     ),
     (
         "thread-exec-chain",
         "a chain through a mate is left out of an exec's test, one through another step is not",
-        "thread 0 1; pipe 0 5 0 1; open-read 1 5 0; open-write 1 0 1; admit 2 9; open-read 2 5 0; open-write 2 0 1; exec 0 1; \
+        "thread 0 1; pipe 0 5 0 1; open-read 1 5 0; open-write 1 0 1; admit 2 9 255; open-read 2 5 0; \
+         open-write 2 0 1; exec 0 1; \
          close 2 0; exec 0 1; write 0 1",
-        "4 18 A 9; 5 4 A 9; 6 5 A 9; 7 6 A 9; 8 1 A 9; 9 5 A 9; 10 6 A 9; 11 10 R 9; 12 11 A 9; 13 10 L 2; 14 8 L 2; \
+        "4 18 A 9; 5 4 A 9; 6 5 A 9; 7 6 A 9; 8 1 A 9; 9 5 A 9; 10 6 A 9; 11 10 R 9; 12 11 A 9; 13 10 L 2 0; 14 8 L 2 0; \
          end 6 3 3",
     ),
     (
@@ -596,38 +601,40 @@ const AFTER_START: &[(&str, &str, &str, &str)] = &[
         "thread 0 1; open-write 1 0 0; open-write 0 0 0; pipe 0 5 1 2; exec 0 1; exec 0 5; exec 0 6; write 1 0; thread 1 2; \
          open-read 2 1 0; mark 0 0; exec 0 1; write 1 0; exit 2",
         "4 18 A 9; 5 6 A 9; 6 6 A 9; 7 4 A 9; 8 10 R 9; 9 10 R 5; 10 10 R 4; 11 8 A 9; 12 18 A 9; 13 5 R 9; 14 15 A 9; \
-         15 10 L 2; 16 8 R 2; 17 12 R 2; end 4 2 2",
+         15 10 L 2 0; 16 8 R 2; 17 12 R 2; end 4 2 2",
     ),
     (
         "thread-fork",
         "a fork's child has the handles of its caller alone and a group to itself: it opens a low sheet where its caller's \
          mate has the pay book open, and falls alone",
-        "thread 0 1; open-write 1 0 0; fork 0 2; open-read 2 1 0; read 2 0; create 0 5; fork 1 3; open-read 3 1 1; write 3 0; \
+        "thread 0 1; open-write 1 0 0; fork 0 2; open-read 2 1 0; read 2 0; create 0 5; fork 1 3; open-read 3 1 1; \
+         write 3 0; \
          exit 3; open-read 0 1 0",
-        "4 18 A 9; 5 6 A 9; 6 9 A 9; 7 5 A 2; 8 7 L 2; 9 3 A 9; 10 9 A 9; 11 5 R 9; 12 8 A 9; 13 12 A 9; 14 5 R 9; end 3 1 2",
+        "4 18 A 9; 5 6 A 9; 6 9 A 9; 7 5 A 2; 8 7 L 2 0; 9 3 A 9; 10 9 A 9; 11 5 R 9; 12 8 A 9; 13 12 A 9; 14 5 R 9; \
+         end 3 1 2",
     ),
     (
         "thread-exit",
         "exit ends one member, the first too: the others go on, and fall together",
         "thread 0 1; thread 0 2; open-write 0 0 0; open-read 1 0 0; exit 0; write 0 0; read 1 0; open-read 2 1 0; read 2 0; \
          create 1 5; exit 1; create 2 6; exit 2",
-        "4 18 A 9; 5 18 A 9; 6 6 A 9; 7 5 A 9; 8 12 A 9; 9 8 R 2; 10 7 A 9; 11 5 A 2; 12 7 L 2; 13 3 A 2; 14 12 A 2; \
+        "4 18 A 9; 5 18 A 9; 6 6 A 9; 7 5 A 9; 8 12 A 9; 9 8 R 2; 10 7 A 9; 11 5 A 2; 12 7 L 2 0; 13 3 A 2; 14 12 A 2; \
          15 3 A 2; 16 12 A 2; end 3 3 0",
     ),
     (
         "thread-again",
         "the number of a member that has left is used again: by an admit for a group of its own, by a thread for a member",
-        "thread 0 1; exit 0; admit 0 9; open-write 0 0 0; open-read 1 1 0; read 1 0; create 0 5; exit 0; thread 1 0; \
+        "thread 0 1; exit 0; admit 0 9 255; open-write 0 0 0; open-read 1 1 0; read 1 0; create 0 5; exit 0; thread 1 0; \
          create 0 6; open-write 0 0 0",
-        "4 18 A 9; 5 12 A 9; 6 1 A 9; 7 6 A 9; 8 5 A 2; 9 7 L 2; 10 3 A 9; 11 12 A 9; 12 18 A 2; 13 3 A 2; 14 6 R 9; \
+        "4 18 A 9; 5 12 A 9; 6 1 A 9; 7 6 A 9; 8 5 A 2; 9 7 L 2 0; 10 3 A 9; 11 12 A 9; 12 18 A 2; 13 3 A 2; 14 6 R 9; \
          end 2 1 1",
     ),
     (
         "thread-connect",
         "two members may be connected: they are not the same subject; the flow between them was there already",
         "thread 0 1; connect 0 0 5 6 0 1; open-write 0 0 2; connect 0 1 5 6 0 1; write 0 1; read 1 0; open-read 1 1 2; \
-         exec 1 1; write 0 1; register 5 4; register 6 4",
-        "4 18 A 9; 5 17 R 16; 6 6 A 9; 7 17 A 9; 8 8 A 9; 9 7 A 9; 10 5 R 9; 11 10 L 2; 12 8 R 2; 13 2 R 3; 14 2 R 3; \
+         exec 1 1; write 0 1; register 5 4 255; register 6 4 255",
+        "4 18 A 9; 5 17 R 16; 6 6 A 9; 7 17 A 9; 8 8 A 9; 9 7 A 9; 10 5 R 9; 11 10 L 2 0; 12 8 R 2; 13 2 R 3; 14 2 R 3; \
          end 5 3 2",
     ),
     (
@@ -640,9 +647,11 @@ const AFTER_START: &[(&str, &str, &str, &str)] = &[
     (
         "thread-two-groups",
         "groups have nothing to do with each other",
-        "admit 1 9; thread 0 2; thread 1 3; open-write 2 0 0; open-read 3 1 0; read 3 0; create 0 5; create 1 6; exec 3 1; \
+        "admit 1 9 255; thread 0 2; thread 1 3; open-write 2 0 0; open-read 3 1 0; read 3 0; create 0 5; create 1 6; \
+         exec 3 1; \
          create 1 7; create 2 7",
-        "4 1 A 9; 5 18 A 9; 6 18 A 9; 7 6 A 9; 8 5 A 2; 9 7 L 2; 10 3 A 9; 11 3 A 2; 12 10 A 2; 13 3 R 2; 14 3 A 9; end 2 0 2",
+        "4 1 A 9; 5 18 A 9; 6 18 A 9; 7 6 A 9; 8 5 A 2; 9 7 L 2 0; 10 3 A 9; 11 3 A 2; 12 10 A 2; 13 3 R 2; 14 3 A 9; \
+         end 2 0 2",
     ),
     (
         "thread-freeze",
@@ -669,8 +678,8 @@ const AFTER_START: &[(&str, &str, &str, &str)] = &[
     (
         "h-subject-new",
         "subject 4294967296 gives 3 as new, and so does the largest number",
-        "admit 4294967296 9; admit 4294967297 9; fork 0 4294967297; admit 18446744073709551615 9; \
-         fork 0 18446744073709551615; admit 1 9",
+        "admit 4294967296 9 255; admit 4294967297 9 255; fork 0 4294967297; admit 18446744073709551615 9 255; \
+         fork 0 18446744073709551615; admit 1 9 255",
         "4 1 R 3; 5 1 R 3; 6 9 R 3; 7 1 R 3; 8 9 R 3; 9 1 A 9; end 0 0 0",
     ),
     (
@@ -678,7 +687,7 @@ const AFTER_START: &[(&str, &str, &str, &str)] = &[
         "place 4294967296 gives 7, in every call with a place",
         "open-read 0 1 4294967296; open-write 0 1 4294967296; pipe 0 2 4294967296 1; pipe 0 2 1 4294967296; \
          map 0 1 4294967296; open-read 0 1 0; read 0 4294967296; write 0 4294967296; close 0 4294967296; \
-         mark 0 4294967296; admit 1 9; connect 0 1 5 6 4294967297 2; connect 0 1 5 6 2 4294967297; \
+         mark 0 4294967296; admit 1 9 255; connect 0 1 5 6 4294967297 2; connect 0 1 5 6 2 4294967297; \
          read 0 18446744073709551600; close 0 0",
         "4 5 R 7; 5 6 R 7; 6 4 R 7; 7 4 R 7; 8 14 R 7; 9 5 A 2; 10 7 R 7; 11 8 R 7; 12 11 R 7; 13 15 R 7; 14 1 A 9; \
          15 17 R 7; 16 17 R 7; 17 7 R 7; 18 11 A 9; end 1 1 0",
@@ -686,28 +695,29 @@ const AFTER_START: &[(&str, &str, &str, &str)] = &[
     (
         "h-largest-object",
         "the largest object number is registered, opened, read, run and retired, and can be used again",
-        "register 18446744073709551615 4; register 18446744073709551615 4; open-read 0 18446744073709551615 0; \
+        "register 18446744073709551615 4 255; register 18446744073709551615 4 255; open-read 0 18446744073709551615 0; \
          retire 18446744073709551615; read 0 0; close 0 0; exec 0 18446744073709551615; retire 18446744073709551615; \
          open-read 0 18446744073709551615 0; pipe 0 18446744073709551615 0 1; exec 0 18446744073709551615",
-        "4 2 A 4; 5 2 R 3; 6 5 A 4; 7 13 R 10; 8 7 L 4; 9 11 A 4; 10 10 A 4; 11 13 A 4; 12 5 R 4; 13 4 A 4; 14 10 R 5; \
+        "4 2 A 4; 5 2 R 3; 6 5 A 4; 7 13 R 10; 8 7 L 4 0; 9 11 A 4; 10 10 A 4; 11 13 A 4; 12 5 R 4; 13 4 A 4; 14 10 R 5; \
          end 3 1 2",
     ),
     (
         "h-other-numbers",
         "numbers that differ by 64 or in their upper bits alone are those of different objects",
-        "register 64 3; register 4294967296 4; register 9223372036854775808 5; open-read 0 0 0; open-read 0 64 1; \
+        "register 64 3 255; register 4294967296 4 255; register 9223372036854775808 5 255; open-read 0 0 0; \
+         open-read 0 64 1; \
          open-read 0 4294967296 2; open-read 0 9223372036854775808 3; retire 65; retire 4294967297; \
          retire 9223372036854775809; close 0 0; retire 0; open-read 0 0 0; retire 4294967296; close 0 2; \
-         retire 4294967296; register 0 7; open-read 0 4294967296 2",
+         retire 4294967296; register 0 7 255; open-read 0 4294967296 2",
         "4 2 A 3; 5 2 A 4; 6 2 A 5; 7 5 A 9; 8 5 A 3; 9 5 A 4; 10 5 A 5; 11 13 R 4; 12 13 R 4; 13 13 R 4; 14 11 A 9; \
          15 13 A 9; 16 5 R 4; 17 13 R 10; 18 11 A 9; 19 13 A 4; 20 2 A 7; 21 5 R 4; end 4 2 2",
     ),
     (
         "h-every-kind",
         "files that are created, pipes and both pipes of a connect may have any number",
-        "create 0 9223372036854775807; pipe 0 16384 0 1; admit 1 9; \
+        "create 0 9223372036854775807; pipe 0 16384 0 1; admit 1 9 255; \
          connect 0 1 72057594037927936 18446744073709551614 2 3; write 0 3; read 1 2; write 1 3; read 0 2; \
-         exec 0 16384; retire 72057594037927936; map 0 9223372036854775807 4; close 0 0; close 0 1; register 16384 1",
+         exec 0 16384; retire 72057594037927936; map 0 9223372036854775807 4; close 0 0; close 0 1; register 16384 1 255",
         "4 3 A 9; 5 4 A 9; 6 1 A 9; 7 17 A 9; 8 8 A 9; 9 7 A 9; 10 8 A 9; 11 7 A 9; 12 10 R 5; 13 13 R 5; 14 14 A 9; \
          15 11 A 9; 16 11 A 9; 17 2 A 1; end 7 2 5",
     ),
@@ -720,12 +730,194 @@ const FROM_EMPTY: &[(&str, &str, &str, &str)] = &[
     (
         "example",
         "the journal of RULES K17",
-        "bytes 03 02 00 02 03 01 00 09 04 05 00 00 00 03 07 00 00",
-        "1 2 A 2; 2 1 A 9; 3 5 A 2; 4 7 L 2; end 1 0 1",
+        "bytes 05 02 00 02 ff 01 05 01 00 09 ff 01 04 05 00 00 00 03 07 00 00",
+        "1 2 A 2; 2 1 A 9; 3 5 A 2; 4 7 L 2 0; end 1 0 1",
     ),
     ("empty", "empty journal: end 0 0 0 alone", "", "end 0 0 0"),
-    ("level-15", "level 15 is taken", "admit 0 15; register 0 15", "1 1 A 15; 2 2 A 15; end 0 0 0"),
-    ("level-16", "level 16 gives 6", "admit 0 16; register 0 16", "1 1 R 6; 2 2 R 6; end 0 0 0"),
+    ("level-15", "level 15 is taken", "admit 0 15 255; register 0 15 255", "1 1 A 15; 2 2 A 15; end 0 0 0"),
+    ("level-16", "level 16 gives 6", "admit 0 16 255; register 0 16 255", "1 1 R 6; 2 2 R 6; end 0 0 0"),
+    (
+        "set-255",
+        "set 255 is taken, 256 gives 6, and so does any above it; 3 is said before 6",
+        "admit 0 9 255; register 0 9 255; admit 1 9 256; register 1 9 256; admit 1 16 256; admit 1 9 4294967296; \
+         register 1 9 18446744073709551615; admit 0 9 256; admit 1 0 0",
+        "1 1 A 9; 2 2 A 9; 3 1 R 6; 4 2 R 6; 5 1 R 6; 6 1 R 6; 7 2 R 6; 8 1 R 3; 9 1 A 0; end 0 0 0",
+    ),
+    (
+        "set-record",
+        "a record of an admit or a register has three numbers, the set last: without it, it is 12",
+        "call 1 0 9; call 2 0 9; call 1 0; call 2; call 1 0 9 255 0; call 2 0 9 255 255; bytes 04 01 00 09 ff; \
+         bytes 06 02 00 09 ff 81 00; bytes 05 01 00 09 ff 01; bytes 04 02 00 09 0f; call 1 1 255 9",
+        "1 1 R 12; 2 2 R 12; 3 1 R 12; 4 2 R 12; 5 1 R 12; 6 2 R 12; 7 1 R 12; 8 2 R 12; 9 1 A 9; 10 2 A 9; 11 1 R 6; \
+         end 0 0 0",
+    ),
+    (
+        "label-read",
+        "a read takes away the marks that the file lacks, and says lowered and how many, at the same level too",
+        "register 0 5 3; admit 0 5 6; open-read 0 0 0; read 0 0; read 0 0",
+        "1 2 A 5; 2 1 A 5; 3 5 A 5; 4 7 L 5 1; 5 7 A 5; end 1 0 1",
+    ),
+    (
+        "label-apart",
+        "labels of which neither is at least the other: the smaller level and the common set",
+        "register 0 9 1; admit 0 5 254; open-read 0 0 0; read 0 0; read 0 0; register 1 5 255; admit 1 9 1; \
+         open-read 1 1 0; \
+         read 1 0; register 2 2 12; admit 2 9 10; open-read 2 2 0; read 2 0",
+        "1 2 A 9; 2 1 A 5; 3 5 A 9; 4 7 L 5 7; 5 7 A 5; 6 2 A 5; 7 1 A 9; 8 5 A 5; 9 7 L 5 0; 10 2 A 2; 11 1 A 9; 12 5 A 2; \
+         13 7 L 2 1; end 3 0 3",
+    ),
+    (
+        "label-pipe",
+        "a write takes away the marks of a pipe that the writer lacks, and gives the number that the pipe lost",
+        "admit 0 9 255; register 0 9 15; pipe 0 5 0 1; open-read 0 0 2; read 0 2; write 0 1; write 0 1; fork 0 1; read 1 0",
+        "1 1 A 9; 2 2 A 9; 3 4 A 9; 4 5 A 9; 5 7 L 9 4; 6 8 L 9 4; 7 8 A 9; 8 9 A 9; 9 7 A 9; end 6 0 6",
+    ),
+    (
+        "label-flow",
+        "an open is 9 for a mark that is needed and lacking, though the levels are the same; a close lets the mark go",
+        "register 0 5 1; register 1 5 2; admit 0 5 3; open-write 0 0 0; open-read 0 1 1; open-write 0 1 1; open-read 0 0 2; \
+         close 0 1; open-read 0 0 2; close 0 0; open-read 0 1 1; read 0 1; open-write 0 0 0; close 0 2; open-write 0 1 0",
+        "1 2 A 5; 2 2 A 5; 3 1 A 5; 4 6 A 5; 5 5 R 9; 6 6 A 5; 7 5 R 9; 8 11 A 5; 9 5 A 5; 10 11 A 5; 11 5 A 5; 12 7 L 5 1; \
+         13 6 R 9; 14 11 A 5; 15 6 A 5; end 5 3 2",
+    ),
+    (
+        "label-upstream",
+        "a mark that is needed downstream is needed of what is read upstream",
+        "register 0 9 1; register 1 9 2; register 2 9 3; admit 0 9 3; pipe 0 5 0 1; fork 0 1; close 0 1; close 1 0; \
+         open-write 0 0 2; open-read 1 1 2; open-read 1 2 2; close 0 2; open-read 1 1 3",
+        "1 2 A 9; 2 2 A 9; 3 2 A 9; 4 1 A 9; 5 4 A 9; 6 9 A 9; 7 11 A 9; 8 11 A 9; 9 6 A 9; 10 5 R 9; 11 5 A 9; 12 11 A 9; \
+         13 5 A 9; end 7 3 4",
+    ),
+    (
+        "label-exec",
+        "exec is 9 where the file lacks a mark that is needed, whatever its level, and takes marks away",
+        "register 0 5 1; register 1 5 3; register 2 9 2; admit 0 9 3; open-write 0 0 0; exec 0 2; exec 0 1; close 0 0; \
+         exec 0 2; exec 0 2",
+        "1 2 A 5; 2 2 A 5; 3 2 A 9; 4 1 A 9; 5 6 A 5; 6 10 R 9; 7 10 L 5 0; 8 11 A 5; 9 10 L 5 1; 10 10 A 5; end 1 1 0",
+    ),
+    (
+        "label-map",
+        "a map takes marks away, from a mate too, and the number is that of one member",
+        "register 0 9 240; admit 0 9 255; thread 0 1; map 1 0 0; create 0 5; admit 2 9 255; open-read 2 5 0; read 2 0",
+        "1 2 A 9; 2 1 A 9; 3 18 A 9; 4 14 L 9 4; 5 3 A 9; 6 1 A 9; 7 5 A 9; 8 7 L 9 4; end 2 0 2",
+    ),
+    (
+        "label-freeze",
+        "the freeze looks at levels only",
+        "register 0 9 0; register 1 9 255; register 2 8 255; admit 0 9 255; freeze 9; open-write 0 0 0; open-write 0 1 0; \
+         open-write 0 2 0",
+        "1 2 A 9; 2 2 A 9; 3 2 A 8; 4 1 A 9; 5 16 A 9; 6 6 R 15; 7 6 R 15; 8 6 A 8; end 1 0 1",
+    ),
+    (
+        "label-connect",
+        "each pipe of a connect has the label of its writer",
+        "admit 0 9 3; admit 1 5 6; connect 0 1 5 6 0 1; read 1 0; read 0 0; write 0 1; write 1 1",
+        "1 1 A 9; 2 1 A 5; 3 17 A 9; 4 7 L 5 1; 5 7 L 5 1; 6 8 L 5 1; 7 8 L 5 1; end 4 0 4",
+    ),
+    (
+        "label-connect-flow",
+        "a connect is 9 where each end lacks what the other needs: here a level, there a mark",
+        "register 0 9 1; register 1 5 2; admit 0 9 1; admit 1 5 2; open-write 0 0 0; open-write 1 1 0; connect 0 1 5 6 1 2; \
+         close 0 0; connect 0 1 5 6 1 2; close 1 0; connect 0 1 5 6 1 2",
+        "1 2 A 9; 2 2 A 5; 3 1 A 9; 4 1 A 5; 5 6 A 9; 6 6 A 5; 7 17 R 9; 8 11 A 9; 9 17 R 9; 10 11 A 5; 11 17 A 9; \
+         end 6 2 4",
+    ),
+    (
+        "label-fork",
+        "a fork's child, and the file that it creates, have the set of the parent",
+        "admit 0 9 5; fork 0 1; create 1 0; admit 2 9 4; open-write 2 0 0; open-write 0 0 0",
+        "1 1 A 9; 2 9 A 9; 3 3 A 9; 4 1 A 9; 5 6 R 9; 6 6 A 9; end 1 0 1",
+    ),
+    (
+        "set-0-and-255",
+        "sets 0 and 255 are taken",
+        "admit 0 9 0; admit 1 9 255; register 0 9 0; register 1 9 255",
+        "1 1 A 9; 2 1 A 9; 3 2 A 9; 4 2 A 9; end 0 0 0",
+    ),
+    (
+        "set-256",
+        "a set above 255 gives 6, however large it is; 3 is said before it, and 12 before both",
+        "admit 0 9 256; register 0 9 256; admit 0 16 255; admit 0 16 256; admit 32 9 256; register 0 9 18446744073709551615; admit 0 9 4294967551; admit 0 9 255; admit 0 9 256; call 1 1 9 256 0",
+        "1 1 R 6; 2 2 R 6; 3 1 R 6; 4 1 R 6; 5 1 R 3; 6 2 R 6; 7 1 R 6; 8 1 A 9; 9 1 R 3; 10 1 R 12; end 0 0 0",
+    ),
+    (
+        "label-record",
+        "a record of an admit or a register has three numbers, the set last: without the set it is 12",
+        "call 1 0 9; call 2 0 9; call 1 0 9 255 0; call 2 0 9 255 0; bytes 05 01 00 09 ff 00; bytes 04 01 00 09 ff; call 1 255 9 0; call 1 0 255 9; call 1 0 9 255; call 2 0 9 255",
+        "1 1 R 12; 2 2 R 12; 3 1 R 12; 4 2 R 12; 5 1 R 12; 6 1 R 12; 7 1 R 3; 8 1 R 6; 9 1 A 9; 10 2 A 9; end 0 0 0",
+    ),
+    (
+        "label-mark-alone",
+        "a mark lost alone is lowered: the level stays, and the fifth field says how many were lost; read again, nothing is",
+        "register 0 9 1; admit 0 9 3; open-read 0 0 0; read 0 0; read 0 0",
+        "1 2 A 9; 2 1 A 9; 3 5 A 9; 4 7 L 9 1; 5 7 A 9; end 1 0 1",
+    ),
+    (
+        "label-level-alone",
+        "a level that falls alone loses no mark: 0 is written; a higher level with fewer marks takes marks alone",
+        "register 0 2 255; register 1 15 15; admit 0 9 255; open-read 0 0 0; open-read 0 1 1; read 0 0; read 0 1; read 0 1",
+        "1 2 A 2; 2 2 A 15; 3 1 A 9; 4 5 A 2; 5 5 A 15; 6 7 L 2 0; 7 7 L 2 4; 8 7 A 2; end 2 0 2",
+    ),
+    (
+        "label-count",
+        "the marks lost are counted: none of those that both sets have, and none of those that neither has",
+        "register 0 9 170; register 1 4 85; register 2 9 0; admit 0 9 255; admit 1 9 15; admit 2 0 128; open-read 0 0 0; read 0 0; open-read 1 1 0; read 1 0; open-read 2 2 0; read 2 0; open-read 0 1 1; read 0 1",
+        "1 2 A 9; 2 2 A 4; 3 2 A 9; 4 1 A 9; 5 1 A 9; 6 1 A 0; 7 5 A 9; 8 7 L 9 4; 9 5 A 4; 10 7 L 4 2; 11 5 A 9; 12 7 L 0 1; 13 5 A 4; 14 7 L 4 4; end 4 0 4",
+    ),
+    (
+        "label-pipe-reader",
+        "a write gives the marks that the pipe lost, a read through it those of the reader",
+        "register 0 9 15; admit 0 9 255; pipe 0 5 0 1; fork 0 1; open-read 1 0 2; read 1 2; write 1 1; write 1 1; read 0 0; write 0 1",
+        "1 2 A 9; 2 1 A 9; 3 4 A 9; 4 9 A 9; 5 5 A 9; 6 7 L 9 4; 7 8 L 9 4; 8 8 A 9; 9 7 L 9 4; 10 8 A 9; end 5 0 5",
+    ),
+    (
+        "label-write-file",
+        "a file keeps its set: who lacks one of its marks does not open it for writing, and who has it open for writing loses none of them",
+        "register 0 9 3; register 1 9 3; register 2 9 2; admit 0 9 1; admit 1 9 7; open-write 0 0 0; open-write 1 0 0; open-read 1 2 1; open-read 1 1 1; read 1 1; write 1 0",
+        "1 2 A 9; 2 2 A 9; 3 2 A 9; 4 1 A 9; 5 1 A 9; 6 6 R 9; 7 6 A 9; 8 5 R 9; 9 5 A 9; 10 7 L 9 1; 11 8 A 9; end 2 0 2",
+    ),
+    (
+        "label-map-exec",
+        "a map and an exec give the marks that the subject lost",
+        "register 0 9 240; register 1 9 16; admit 0 9 255; map 0 0 0; exec 0 1; exec 0 1",
+        "1 2 A 9; 2 2 A 9; 3 1 A 9; 4 14 L 9 4; 5 10 L 9 3; 6 10 A 9; end 1 1 0",
+    ),
+    (
+        "label-crossed",
+        "of two labels each can be below the other: neither subject writes to the other's file, nor is one read while the other is open for writing",
+        "register 0 2 3; register 1 9 1; admit 0 9 1; admit 1 2 3; open-write 0 0 0; open-write 1 1 0; open-write 0 1 0; open-write 1 0 0; open-read 0 0 1; open-read 1 1 1; close 0 0; close 1 0; open-read 0 0 1; read 0 1; open-read 1 1 1; read 1 1; open-write 0 1 0",
+        "1 2 A 2; 2 2 A 9; 3 1 A 9; 4 1 A 2; 5 6 R 9; 6 6 R 9; 7 6 A 9; 8 6 A 2; 9 5 R 9; 10 5 R 9; 11 11 A 9; 12 11 A 2; 13 5 A 2; 14 7 L 2 0; 15 5 A 9; 16 7 L 2 1; 17 6 R 9; end 4 2 2",
+    ),
+    (
+        "label-need",
+        "a need has the highest level and all the sets: a program that lacks either is 9, and one that has both is run",
+        "register 0 9 1; register 1 2 2; register 2 9 1; register 3 9 3; register 4 8 3; admit 0 9 3; open-write 0 0 0; open-write 0 1 1; exec 0 2; exec 0 4; exec 0 3; close 0 1; exec 0 2; open-write 0 1 1",
+        "1 2 A 9; 2 2 A 2; 3 2 A 9; 4 2 A 9; 5 2 A 8; 6 1 A 9; 7 6 A 9; 8 6 A 2; 9 10 R 9; 10 10 R 9; 11 10 A 9; 12 11 A 9; 13 10 L 9 1; 14 6 R 9; end 2 1 1",
+    ),
+    (
+        "label-upstream-level",
+        "an open for writing asks the marks of everything upstream, as it asks the levels",
+        "register 0 9 7; register 1 9 3; admit 0 9 7; pipe 0 5 0 1; fork 0 1; open-write 0 0 2; open-read 1 1 2; close 0 0; close 1 1; open-read 1 1 2; read 1 2; close 0 2",
+        "1 2 A 9; 2 2 A 9; 3 1 A 9; 4 4 A 9; 5 9 A 9; 6 6 A 9; 7 5 R 9; 8 11 A 9; 9 11 A 9; 10 5 A 9; 11 7 L 9 1; 12 11 A 9; end 6 3 3",
+    ),
+    (
+        "label-freeze-sets",
+        "a freeze looks at levels only, whichever the set: 15 at its level and above, with marks or without, and none below",
+        "register 0 9 0; register 1 9 255; register 2 8 255; register 3 8 0; admit 0 9 255; admit 1 9 0; freeze 9; open-write 0 0 0; open-write 0 1 0; open-write 0 2 0; open-write 0 3 1; open-write 1 0 0; open-write 1 1 0; open-write 1 2 0; freeze 16; open-write 1 0 0; open-write 1 1 1",
+        "1 2 A 9; 2 2 A 9; 3 2 A 8; 4 2 A 8; 5 1 A 9; 6 1 A 9; 7 16 A 9; 8 6 R 15; 9 6 R 15; 10 6 A 8; 11 6 A 8; 12 6 R 15; 13 6 R 15; 14 6 R 9; 15 16 A 16; 16 6 A 9; 17 6 R 9; end 3 0 3",
+    ),
+    (
+        "label-made",
+        "a created file, a pipe and a forked subject have the caller's set, and a connect gives each pipe its writer's",
+        "admit 0 9 5; create 0 0; admit 1 9 4; open-write 1 0 0; fork 0 2; open-write 2 0 0; connect 0 1 5 6 0 1; write 0 1; write 1 1; read 1 0; read 0 0; read 0 0",
+        "1 1 A 9; 2 3 A 9; 3 1 A 9; 4 6 R 9; 5 9 A 9; 6 6 A 9; 7 17 A 9; 8 8 A 9; 9 8 A 9; 10 7 A 9; 11 7 L 9 1; 12 7 A 9; end 5 0 5",
+    ),
+    (
+        "label-thread",
+        "what takes a mark from one thread takes it from all of its group, and the answer gives the caller's",
+        "register 0 9 1; register 1 9 2; admit 0 9 3; thread 0 1; open-write 0 1 0; close 0 0; open-read 1 0 0; read 1 0; close 1 0; open-write 0 1 0; open-write 0 0 0",
+        "1 2 A 9; 2 2 A 9; 3 1 A 9; 4 18 A 9; 5 6 A 9; 6 11 A 9; 7 5 A 9; 8 7 L 9 1; 9 11 A 9; 10 6 R 9; 11 6 A 9; end 3 2 1",
+    ),
     (
         "freeze-16",
         "freeze takes 0 to 16 and answers with that number",
@@ -747,14 +939,14 @@ const FROM_EMPTY: &[(&str, &str, &str, &str)] = &[
     (
         "mark-record",
         "a record of a mark has two numbers, the subject first",
-        "admit 1 9; register 0 9; open-write 1 0 0; call 15; call 15 1; call 15 1 0 0; bytes 03 0f 01 80; \
+        "admit 1 9 255; register 0 9 255; open-write 1 0 0; call 15; call 15 1; call 15 1 0 0; bytes 03 0f 01 80; \
          bytes 03 0f 00 01; bytes 03 0f 01 00",
         "1 1 A 9; 2 2 A 9; 3 6 A 9; 4 15 R 12; 5 15 R 12; 6 15 R 12; 7 15 R 12; 8 15 R 2; 9 15 A 9; end 1 0 1",
     ),
     (
         "map-record",
         "a record of a map has three numbers: the subject, the file, the place",
-        "admit 1 9; register 2 9; call 14; call 14 1; call 14 1 2; call 14 1 2 3 4; bytes 04 0e 01 02 83; \
+        "admit 1 9 255; register 2 9 255; call 14; call 14 1; call 14 1 2; call 14 1 2 3 4; bytes 04 0e 01 02 83; \
          bytes 04 0e 02 01 03; bytes 04 0e 01 02 03; close 1 3",
         "1 1 A 9; 2 2 A 9; 3 14 R 12; 4 14 R 12; 5 14 R 12; 6 14 R 12; 7 14 R 12; 8 14 R 2; 9 14 A 9; 10 11 A 9; \
          end 1 1 0",
@@ -762,15 +954,15 @@ const FROM_EMPTY: &[(&str, &str, &str, &str)] = &[
     (
         "connect-record",
         "a record of a connect has six numbers: two subjects, two pipes, the place that reads and the one that writes",
-        "admit 1 9; admit 2 4; call 17; call 17 1 2 3 4; call 17 1 2 3 4 5; call 17 1 2 3 4 5 6 7; \
+        "admit 1 9 255; admit 2 4 255; call 17; call 17 1 2 3 4; call 17 1 2 3 4 5; call 17 1 2 3 4 5 6 7; \
          bytes 07 11 01 02 03 04 05 86; bytes 07 11 01 02 03 04 05 06; write 1 6; write 2 6; read 2 5; read 1 5",
         "1 1 A 9; 2 1 A 4; 3 17 R 12; 4 17 R 12; 5 17 R 12; 6 17 R 12; 7 17 R 12; 8 17 A 9; 9 8 A 9; 10 8 A 4; 11 7 A 4; \
-         12 7 L 4; end 4 0 4",
+         12 7 L 4 0; end 4 0 4",
     ),
     (
         "thread-record",
         "a record of a thread has two numbers, the maker first",
-        "admit 1 9; call 18; call 18 1; call 18 1 2 3; bytes 03 12 01 82; bytes 03 12 00 01; bytes 03 12 01 00; \
+        "admit 1 9 255; call 18; call 18 1; call 18 1 2 3; bytes 03 12 01 82; bytes 03 12 00 01; bytes 03 12 01 00; \
          bytes 03 12 00 02",
         "1 1 A 9; 2 18 R 12; 3 18 R 12; 4 18 R 12; 5 18 R 12; 6 18 R 2; 7 18 A 9; 8 18 A 9; end 0 0 0",
     ),
@@ -790,15 +982,15 @@ const FROM_EMPTY: &[(&str, &str, &str, &str)] = &[
     (
         "h-level",
         "a level above 15, and a freeze above 16, gives 6, however large it is",
-        "admit 0 4294967296; admit 0 4294967312; admit 0 18446744073709551615; register 0 4294967296; \
-         register 0 4294967312; freeze 4294967296; freeze 4294967312; freeze 18446744073709551615; register 0 0",
+        "admit 0 4294967296 255; admit 0 4294967312 255; admit 0 18446744073709551615 255; register 0 4294967296 255; \
+         register 0 4294967312 255; freeze 4294967296; freeze 4294967312; freeze 18446744073709551615; register 0 0 255",
         "1 1 R 6; 2 1 R 6; 3 1 R 6; 4 2 R 6; 5 2 R 6; 6 16 R 6; 7 16 R 6; 8 16 R 6; 9 2 A 0; end 0 0 0",
     ),
     (
         "h-code",
         "an unknown code is 1, and is written whole",
         "call 4294967296; call 4294967297 0 9; call 4294967313 0 1 5 6 0 1; call 9223372036854775809 0 9; \
-         call 18446744073709551615 1 2 3; admit 0 9",
+         call 18446744073709551615 1 2 3; admit 0 9 255",
         "1 4294967296 R 1; 2 4294967297 R 1; 3 4294967313 R 1; 4 9223372036854775809 R 1; 5 18446744073709551615 R 1; \
          6 1 A 9; end 0 0 0",
     ),
@@ -806,19 +998,19 @@ const FROM_EMPTY: &[(&str, &str, &str, &str)] = &[
         "h-62-bytes",
         "the longest record of all: 62 bytes",
         "bytes 3d 11 ff ff ff ff ff ff ff ff ff 01 ff ff ff ff ff ff ff ff ff 01 ff ff ff ff ff ff ff ff ff 01 \
-         ff ff ff ff ff ff ff ff ff 01 ff ff ff ff ff ff ff ff ff 01 ff ff ff ff ff ff ff ff ff 01; admit 0 9",
+         ff ff ff ff ff ff ff ff ff 01 ff ff ff ff ff ff ff ff ff 01 ff ff ff ff ff ff ff ff ff 01; admit 0 9 255",
         "1 17 R 2; 2 1 A 9; end 0 0 0",
     ),
     (
         "h-numbers",
         "numbers of nine, ten and eleven bytes in a record: good ones, and 12 for those above the largest, padded or too \
          long",
-        "bytes 0b 02 ff ff ff ff ff ff ff ff 7f 04; bytes 0c 02 80 80 80 80 80 80 80 80 80 01 04; \
-         bytes 0c 02 ff ff ff ff ff ff ff ff ff 01 04; bytes 0c 02 80 80 80 80 80 80 80 80 80 02 04; \
-         bytes 0c 02 ff ff ff ff ff ff ff ff ff 03 04; bytes 0c 02 ff ff ff ff ff ff ff ff ff 7f 04; \
-         bytes 0c 02 80 80 80 80 80 80 80 80 80 00 04; bytes 0b 02 ff ff ff ff ff ff ff ff 00 04; \
-         bytes 0d 02 80 80 80 80 80 80 80 80 80 80 01 04; bytes 0d 02 80 80 80 80 80 80 80 80 80 80 00 04; \
-         bytes 0d 02 ff ff ff ff ff ff ff ff ff 81 00 04; bytes 0c 02 ff ff ff ff ff ff ff ff ff 81 04; \
+        "bytes 0d 02 ff ff ff ff ff ff ff ff 7f 04 ff 01; bytes 0e 02 80 80 80 80 80 80 80 80 80 01 04 ff 01; \
+         bytes 0e 02 ff ff ff ff ff ff ff ff ff 01 04 ff 01; bytes 0e 02 80 80 80 80 80 80 80 80 80 02 04 ff 01; \
+         bytes 0e 02 ff ff ff ff ff ff ff ff ff 03 04 ff 01; bytes 0e 02 ff ff ff ff ff ff ff ff ff 7f 04 ff 01; \
+         bytes 0e 02 80 80 80 80 80 80 80 80 80 00 04 ff 01; bytes 0d 02 ff ff ff ff ff ff ff ff 00 04 ff 01; \
+         bytes 0f 02 80 80 80 80 80 80 80 80 80 80 01 04 ff 01; bytes 0f 02 80 80 80 80 80 80 80 80 80 80 00 04 ff 01; \
+         bytes 0f 02 ff ff ff ff ff ff ff ff ff 81 00 04 ff 01; bytes 0e 02 ff ff ff ff ff ff ff ff ff 81 04 ff 01; \
          bytes 0b 02 ff ff ff ff ff ff ff ff ff 81; bytes 0a 82 80 80 80 80 80 80 80 80 02",
         "1 2 A 4; 2 2 A 4; 3 2 A 4; 4 2 R 12; 5 2 R 12; 6 2 R 12; 7 2 R 12; 8 2 R 12; 9 2 R 12; 10 2 R 12; 11 2 R 12; \
          12 2 R 12; 13 2 R 12; 14 0 R 12; end 0 0 0",
@@ -826,55 +1018,55 @@ const FROM_EMPTY: &[(&str, &str, &str, &str)] = &[
     (
         "h-length-32-bits",
         "a length of 2 to the 32nd and 2 more runs past the end: 11",
-        "admit 0 9; bytes 82 80 80 80 10 0c 00",
+        "admit 0 9 255; bytes 82 80 80 80 10 0c 00",
         "1 1 A 9; 2 0 R 11; end 0 0 0",
     ),
     (
         "h-length-largest",
         "the largest number as a length runs past the end: 11",
-        "admit 0 9; bytes ff ff ff ff ff ff ff ff ff 01 0c 00",
+        "admit 0 9 255; bytes ff ff ff ff ff ff ff ff ff 01 0c 00",
         "1 1 A 9; 2 0 R 11; end 0 0 0",
     ),
     (
         "h-length-above",
         "a length of 2 to the 64th and 2 more is malformed: 11",
-        "admit 0 9; bytes 82 80 80 80 80 80 80 80 80 02 0c 00",
+        "admit 0 9 255; bytes 82 80 80 80 80 80 80 80 80 02 0c 00",
         "1 1 A 9; 2 0 R 11; end 0 0 0",
     ),
     (
         "h-length-padded",
         "a length of 2 in ten bytes is malformed: 11",
-        "admit 0 9; bytes 82 80 80 80 80 80 80 80 80 00 0c 00",
+        "admit 0 9 255; bytes 82 80 80 80 80 80 80 80 80 00 0c 00",
         "1 1 A 9; 2 0 R 11; end 0 0 0",
     ),
     (
         "h-length-eleven",
         "a length of eleven bytes is malformed: 11",
-        "admit 0 9; bytes 82 80 80 80 80 80 80 80 80 80 01 0c 00",
+        "admit 0 9 255; bytes 82 80 80 80 80 80 80 80 80 80 01 0c 00",
         "1 1 A 9; 2 0 R 11; end 0 0 0",
     ),
     (
         "pipe-ends",
         "a pipe ends when its last handle goes, and its number is free",
-        "admit 0 5; pipe 0 3 0 1; register 3 9; close 0 1; register 3 9; close 0 0; register 3 9",
+        "admit 0 5 255; pipe 0 3 0 1; register 3 9 255; close 0 1; register 3 9 255; close 0 0; register 3 9 255",
         "1 1 A 5; 2 4 A 5; 3 2 R 3; 4 11 A 5; 5 2 R 3; 6 11 A 5; 7 2 A 9; end 2 2 0",
     ),
     (
         "unknown-code-skipped",
         "an unknown code is 1, whatever follows it; the next record is read",
-        "bytes 03 4d 80 00; call 0; call 4294967295 1 2 3 4 5; admit 0 9",
+        "bytes 03 4d 80 00; call 0; call 4294967295 1 2 3 4 5; admit 0 9 255",
         "1 77 R 1; 2 0 R 1; 3 4294967295 R 1; 4 1 A 9; end 0 0 0",
     ),
     (
         "twelve-first",
         "12 in a record comes before 2 to 10, and the next record is read",
-        "call 12 40 1; call 7 40; bytes 03 0c 80 00; bytes 02 8c 00; admit 0 9",
+        "call 12 40 1; call 7 40; bytes 03 0c 80 00; bytes 02 8c 00; admit 0 9 255",
         "1 12 R 12; 2 7 R 12; 3 12 R 12; 4 0 R 12; 5 1 A 9; end 0 0 0",
     ),
     (
         "past-the-end",
         "a length that runs past the end: 11, and the run stops there",
-        "admit 0 9; bytes 04 01 01 09",
+        "admit 0 9 255; bytes 06 01 01 09 ff 01",
         "1 1 A 9; 2 0 R 11; end 0 0 0",
     ),
 ];
@@ -891,15 +1083,15 @@ const CROWDS: &[Crowd] = &[
         "of 65 registers the last is 17, and after a retire it is allowed, under that number and under others",
         64,
         &[
-            ("register 64 4", "R 17"),
+            ("register 64 4 255", "R 17"),
             ("retire 5", "A 2"),
-            ("register 64 4", "A 4"),
-            ("register 5 4", "R 17"),
+            ("register 64 4 255", "A 4"),
+            ("register 5 4 255", "R 17"),
             ("retire 64", "A 4"),
-            ("register 18446744073709551615 4", "A 4"),
-            ("register 64 4", "R 17"),
+            ("register 18446744073709551615 4 255", "A 4"),
+            ("register 64 4 255", "R 17"),
             ("retire 18446744073709551615", "A 4"),
-            ("register 5 4", "A 4"),
+            ("register 5 4 255", "A 4"),
         ],
         "end 0 0 0",
     ),
@@ -908,16 +1100,16 @@ const CROWDS: &[Crowd] = &[
         "with 64 objects live 17 is said of every call that makes one, before 6, 7 and 9",
         64,
         &[
-            ("register 64 4", "R 17"),
+            ("register 64 4 255", "R 17"),
             ("create 0 64", "R 17"),
             ("pipe 0 64 0 1", "R 17"),
             ("connect 0 1 64 65 0 1", "R 17"),
-            ("register 64 16", "R 17"),
+            ("register 64 16 255", "R 17"),
             ("pipe 0 64 0 0", "R 17"),
             ("connect 0 1 64 65 16 0", "R 17"),
             ("open-write 0 0 5", "A 9"),
             ("connect 0 1 64 65 0 1", "R 17"),
-            ("register 4294967296 4294967296", "R 17"),
+            ("register 4294967296 4294967296 255", "R 17"),
         ],
         "end 1 0 1",
     ),
@@ -931,16 +1123,17 @@ const CROWDS: &[Crowd] = &[
             ("connect 2 1 64 65 0 1", "R 2"),
             ("connect 0 2 64 65 0 1", "R 2"),
             ("connect 0 0 64 65 0 1", "R 16"),
-            ("register 5 4", "R 3"),
-            ("register 5 16", "R 3"),
+            ("register 5 4 255", "R 3"),
+            ("register 5 16 255", "R 3"),
             ("create 0 63", "R 3"),
             ("pipe 0 63 0 1", "R 3"),
             ("connect 0 1 64 64 0 1", "R 3"),
             ("connect 0 1 5 64 0 1", "R 3"),
             ("connect 0 1 64 5 0 1", "R 3"),
-            ("call 2 64 4 0", "R 12"),
+            ("call 2 64 4", "R 12"),
+            ("call 2 64 4 255 0", "R 12"),
             ("call 17 0 1 64 65 0", "R 12"),
-            ("register 64 4", "R 17"),
+            ("register 64 4 255", "R 17"),
         ],
         "end 0 0 0",
     ),
@@ -949,7 +1142,7 @@ const CROWDS: &[Crowd] = &[
         "with 64 objects live no other call is refused with 17",
         64,
         &[
-            ("admit 2 9", "A 9"),
+            ("admit 2 9 255", "A 9"),
             ("open-read 0 0 0", "A 9"),
             ("open-write 0 0 1", "A 9"),
             ("map 2 0 0", "A 9"),
@@ -982,22 +1175,23 @@ const CROWDS: &[Crowd] = &[
     ),
     (
         "h-connect-62",
-        "a connect with 62 objects live is allowed; each of its pipes makes space when it ends, by a close, an exit or an exec",
+        "a connect with 62 objects live is allowed; \
+         each of its pipes makes space when it ends, by a close, an exit or an exec",
         62,
         &[
             ("connect 0 1 64 65 0 1", "A 9"),
-            ("register 66 4", "R 17"),
+            ("register 66 4 255", "R 17"),
             ("close 0 1", "A 9"),
-            ("register 66 4", "R 17"),
+            ("register 66 4 255", "R 17"),
             ("close 1 0", "A 2"),
-            ("register 66 4", "A 4"),
-            ("register 67 4", "R 17"),
+            ("register 66 4 255", "A 4"),
+            ("register 67 4 255", "R 17"),
             ("exit 1", "A 2"),
-            ("register 67 4", "R 17"),
+            ("register 67 4 255", "R 17"),
             ("mark 0 0", "A 9"),
             ("exec 0 0", "A 9"),
-            ("register 67 4", "A 4"),
-            ("register 68 4", "R 17"),
+            ("register 67 4 255", "A 4"),
+            ("register 68 4 255", "R 17"),
         ],
         "end 4 4 0",
     ),
@@ -1021,10 +1215,10 @@ const CROWDS: &[Crowd] = &[
 fn crowded(live: u64, steps: &[(&str, &str)]) -> (String, String) {
     assert!(live <= LIMITS.objects);
     let file = |o: u64| match o {
-        0 => ("register 0 9".to_string(), "A 9"),
-        _ => (format!("register {o} 2"), "A 2"),
+        0 => ("register 0 9 255".to_string(), "A 9"),
+        _ => (format!("register {o} 2 255"), "A 2"),
     };
-    let subjects = [("admit 0 9".to_string(), "A 9"), ("admit 1 2".to_string(), "A 2")];
+    let subjects = [("admit 0 9 255".to_string(), "A 9"), ("admit 1 2 255".to_string(), "A 2")];
     let steps = steps.iter().map(|&(call, answer)| (call.to_string(), answer));
     let (mut calls, mut replies) = (String::new(), String::new());
     for (position, (call, answer)) in
@@ -1074,7 +1268,7 @@ pub fn all() -> Vec<Case> {
             "K8",
             "1 then reads and is lowered to 2; 0 stays at 9",
             format!("{K7}; open-read 1 1 2; read 1 2; close 0 2"),
-            format!("{K7_REPLIES}; 9 5 A 2; 10 7 L 2; 11 11 A 9; end 6 3 3"),
+            format!("{K7_REPLIES}; 9 5 A 2; 10 7 L 2 0; 11 11 A 9; end 6 3 3"),
         ),
     ];
     for (name, what, calls, replies) in &flow {

@@ -6,7 +6,9 @@
 //! wrong, records are damaged, tables fill up, pipes form chains and rings, and journals take every length up to 65,537
 //! bytes, as the style says. In every second journal the books are closed now and then, for a few calls; in most of them
 //! launchers mark what they opened and run programs below it, importers map sheets that others write to, print
-//! stations are connected, and tax steps run as threads. Typed lines, with calls that come before them, are in `lines`.
+//! stations are connected, and tax steps run as threads. Sets of shop marks come from a few, too: all marks in many
+//! journals, small sets in the others, where steps lose marks and need them. Typed lines, with calls that come before
+//! them, are in `lines`.
 
 mod arrangements;
 mod channels;
@@ -16,6 +18,7 @@ mod draws;
 mod imports;
 mod launches;
 pub mod lines;
+mod shops;
 mod stores;
 mod threads;
 
@@ -93,6 +96,8 @@ struct Draft {
     picture: Monitor,
     /// The levels that this journal keeps to, rising.
     levels: Vec<u64>,
+    /// The sets of shop marks that this journal keeps to.
+    sets: Vec<u64>,
     /// The numbers that objects have in this journal, more than may be live at a time.
     store: Vec<u64>,
     /// One number in so many is drawn wrong on purpose; 0 for none.
@@ -109,6 +114,8 @@ struct Draft {
     channels: u64,
     /// One call in so many is the first of a tax step's; 0 for none, and then hardly a step has mates.
     threads: u64,
+    /// One call in so many is the first of a step that loses shop marks; 0 for none.
+    vouchings: u64,
     journal: Vec<u8>,
     records: u32,
 }
@@ -122,11 +129,17 @@ impl Draft {
         }
         levels.sort_unstable();
         levels.dedup();
+        let sets = shops::sets(&mut random);
+        // Of one level, labels differ by their sets alone.
+        if sets.len() > 1 && random.once_in(8) {
+            levels.truncate(1);
+        }
         let store = stores::store(&mut random);
         Draft {
             random,
             picture: Monitor::new(),
             levels,
+            sets,
             store,
             odd_numbers: 0,
             damage: 0,
@@ -135,6 +148,7 @@ impl Draft {
             imports: 0,
             channels: 0,
             threads: 0,
+            vouchings: 0,
             journal: Vec::new(),
             records: 0,
         }
@@ -172,6 +186,9 @@ impl Draft {
         // A tax step has many calls.
         let turns = if style == Style::Rings { [0, 0, 0, 60] } else { [0, 30, 40, 60] };
         self.threads = self.random.pick(&turns).unwrap_or(0);
+        // Where every set is the same there is nothing to lose.
+        let turns = if self.sets.len() == 1 { [0, 0, 0, 60] } else { [0, 25, 40, 60] };
+        self.vouchings = self.random.pick(&turns).unwrap_or(0);
         match style {
             Style::Payrun => self.pipeline(calls),
             Style::Rings => self.ring(),
@@ -197,6 +214,11 @@ impl Draft {
                 self.channel();
             } else if self.random.once_in(self.threads) {
                 self.group();
+            } else if self.random.once_in(self.vouchings) {
+                self.vouching();
+            } else if self.random.once_in(200) {
+                let code = self.random.between(1, 2);
+                self.record_without_set(code);
             } else if style == Style::Rings && self.random.once_in(3) {
                 self.ring_turn();
             } else {

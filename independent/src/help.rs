@@ -44,16 +44,18 @@ second run - the replies to a journal
 Usage: second run [--variant NAME] [FILE]
 
 One line for each record: its position, its code, A (allowed), L (lowered) or R (refused), and the level
-or the refusal number. The last line has the handles made, gone and open.
+or the refusal number; behind L also how many shop marks were lost. The last line has the handles made,
+gone and open.
 
   --variant NAME  answer by a rule that is wrong on purpose; see `second variants`
 
 Example, the journal of RULES K17:
-  printf '\\003\\002\\000\\002\\003\\001\\000\\011\\004\\005\\000\\000\\000\\003\\007\\000\\000' | tools/second run
+  printf '\\005\\002\\000\\002\\377\\001\\005\\001\\000\\011\\377\\001\\004\\005\\000\\000\\000\\003\\007\\000\\000' |
+    tools/second run
     1 2 A 2
     2 1 A 9
     3 5 A 2
-    4 7 L 2
+    4 7 L 2 0
     end 1 0 1
 ";
 
@@ -65,8 +67,8 @@ Usage: second line [--journal FILE] [--shell N] [--child N] [--pipe N] [--varian
 LINE is what a clerk types (RULES L1 to L5): the numbers of programs, each with `< N` and `> N` behind it or
 not, with `|` between the stages of a pipeline and `;` between pipelines. Put it in quotes. Its calls are
 made and printed in their order, each with A (allowed), L (lowered) or R (refused), and the level or the
-refusal number. The last line is `counts`, with how many were allowed, lowered and refused, or `refusal`
-with 18 or 19, and then no call was made.
+refusal number, behind L also how many shop marks were lost. The last line is `counts`, with how many were
+allowed, lowered and refused, or `refusal` with 18 or 19, and then no call was made.
 
   --journal FILE  make them after the calls of this journal; without it, from nothing
   --shell N       the subject that is the shell (0)
@@ -74,8 +76,10 @@ with 18 or 19, and then no call was made.
   --pipe N        the first pipe's number (64)
   --variant NAME  by a rule that is wrong on purpose; see `second variants --lines`
 
-Example, RULES K7 as a line, after file 0 at 9, file 1 at 2, subject 0 at 9 and file 2 at 9:
-  printf '\\003\\002\\000\\011\\003\\002\\001\\002\\003\\001\\000\\011\\003\\002\\002\\011' | tools/second line --journal - '2>0 | 2<1'
+Example, RULES K7 as a line, after file 0 at 9, file 1 at 2, subject 0 at 9 and file 2 at 9, without shop
+marks:
+  printf '\\004\\002\\000\\011\\000\\004\\002\\001\\002\\000\\004\\001\\000\\011\\000\\004\\002\\002\\011\\000' |
+    tools/second line --journal - '2>0 | 2<1'
     pipe 0 64 0 1: A 9
     fork 0 1: A 9
     close 1 0: A 9

@@ -8,6 +8,7 @@
 //!
 //! | module | states |
 //! |---|---|
+//! | [`labels`] | T: a level and a set of shop marks |
 //! | [`tables`] | T: subjects and their groups, objects, handles with their marks and mappings, their limits, and the freeze |
 //! | [`needs`] | F: flow and need |
 //! | [`calls`] | C: the eighteen codes and what their numbers name |
@@ -33,6 +34,7 @@ pub mod cli;
 pub mod compare;
 pub mod generate;
 pub mod help;
+pub mod labels;
 pub mod lines;
 pub mod monitor;
 pub mod needs;

@@ -49,7 +49,7 @@ impl Counts {
     pub fn count(&mut self, answer: Answer) {
         let count = match answer {
             Answer::Allowed(_) => &mut self.allowed,
-            Answer::Lowered(_) => &mut self.lowered,
+            Answer::Lowered(..) => &mut self.lowered,
             Answer::Refused(_) => &mut self.refused,
         };
         *count = count.wrapping_add(1);
@@ -79,7 +79,7 @@ impl Ran {
         let mut text = String::new();
         for Made { code, numbers, answer, .. } in &self.made {
             let words = call_in_words(*code, numbers);
-            text.push_str(&format!("{words}: {} {}\n", answer.letter(), answer.number()));
+            text.push_str(&format!("{words}: {answer}\n"));
         }
         text.push_str(&match self.outcome {
             Ok(Counts { allowed, lowered, refused }) => format!("counts {allowed} {lowered} {refused}\n"),
@@ -168,7 +168,7 @@ mod tests {
         let mut counts = Counts { allowed: u64::MAX, lowered: u64::MAX, refused: u64::MAX };
         counts.count(Answer::Allowed(9));
         assert_eq!(counts, Counts { allowed: 0, ..counts });
-        counts.count(Answer::Lowered(2));
+        counts.count(Answer::Lowered(2, 0));
         counts.count(Answer::Refused(9));
         assert_eq!(counts, Counts::default());
     }

@@ -1,9 +1,12 @@
-//! The monitor: RULES C1 to C18 and C113 to C117, effects and levels in the answers; and the counting of handles, RULES
-//! Y1 to Y9 and Y13.
+//! The monitor: RULES C1 to C18 and C113 to C119, effects, levels in the answers and marks lost; and the counting of
+//! handles, RULES Y1 to Y9 and Y13.
 //!
 //! `Monitor::call` is the direct call: a code and six numbers in, an answer out.
 
+use std::fmt;
+
 use crate::calls::{Call, Numbers};
+use crate::labels::Label;
 use crate::needs::Needs;
 use crate::refusals;
 use crate::tables::{Direction, Handle, Kind, Object, Subject, Tables, Tally};
@@ -15,8 +18,9 @@ use crate::variants::Rules;
 pub enum Answer {
     /// Allowed, with a level.
     Allowed(u64),
-    /// RULES C104: C7, C8, C10 or C14 made a level smaller; with the level that the answer gives.
-    Lowered(u64),
+    /// RULES C104, C118: C7, C8, C10 or C14 made a level smaller or took a mark away; with the level that the answer
+    /// gives, and how many marks the thing has lost whose level it is.
+    Lowered(u64, u64),
     /// Refused, with the refusal number.
     Refused(u32),
 }
@@ -26,7 +30,7 @@ impl Answer {
     pub fn letter(self) -> char {
         match self {
             Answer::Allowed(_) => 'A',
-            Answer::Lowered(_) => 'L',
+            Answer::Lowered(..) => 'L',
             Answer::Refused(_) => 'R',
         }
     }
@@ -34,7 +38,7 @@ impl Answer {
     /// RULES P8.
     pub fn number(self) -> u64 {
         match self {
-            Answer::Allowed(level) | Answer::Lowered(level) => level,
+            Answer::Allowed(level) | Answer::Lowered(level, _) => level,
             Answer::Refused(number) => number.into(),
         }
     }
@@ -42,9 +46,25 @@ impl Answer {
     /// The level in the answer; a refusal's is 0 (RULES R101).
     pub fn level(self) -> u64 {
         match self {
-            Answer::Allowed(level) | Answer::Lowered(level) => level,
+            Answer::Allowed(level) | Answer::Lowered(level, _) => level,
             Answer::Refused(_) => 0,
         }
+    }
+
+    /// RULES C118: how many marks were lost, which only a lowered answer says.
+    pub fn marks_lost(self) -> Option<u64> {
+        match self {
+            Answer::Lowered(_, lost) => Some(lost),
+            Answer::Allowed(_) | Answer::Refused(_) => None,
+        }
+    }
+}
+
+/// Letter, value, and of a lowered answer the marks lost, as in a reply line.
+impl fmt::Display for Answer {
+    fn fmt(&self, formatter: &mut fmt::Formatter<'_>) -> fmt::Result {
+        write!(formatter, "{} {}", self.letter(), self.number())?;
+        self.marks_lost().map_or(Ok(()), |lost| write!(formatter, " {lost}"))
     }
 }
 
@@ -72,7 +92,7 @@ pub struct Monitor {
     pub(crate) left_mates: Vec<(u64, u64)>,
     /// Children, each with what its parent's group needed. No rule looks at them: only the variant in which they need
     /// it, too.
-    pub(crate) floors: Vec<(u64, u64)>,
+    pub(crate) floors: Vec<(u64, Label)>,
     rules: Rules,
 }
 
@@ -153,79 +173,81 @@ impl Monitor {
     fn effect(&mut self, call: Call) -> Answer {
         match call {
             // RULES C1, C113.
-            Call::Admit { s, level } => {
-                self.tables.set_subject(s, Some(Subject { level }));
+            Call::Admit { s, level, shops } => {
+                self.tables.set_subject(s, Some(Subject { level, shops }));
                 Answer::Allowed(level)
             }
 
             // RULES C2.
-            Call::Register { o, level } => {
-                self.new_object(o, Kind::File, level);
+            Call::Register { o, level, shops } => {
+                self.new_object(o, Kind::File, Label { level, shops });
                 Answer::Allowed(level)
             }
 
             // RULES C3.
             Call::Create { s, o } => {
-                let level = self.subject_level(s);
-                self.new_object(o, Kind::File, level);
-                Answer::Allowed(level)
+                let label = self.subject_label(s);
+                self.new_object(o, Kind::File, label);
+                Answer::Allowed(label.level)
             }
 
             // RULES C4.
             Call::Pipe { s, o, r, w } => {
-                let level = self.subject_level(s);
-                self.new_object(o, Kind::Pipe, level);
+                let label = self.subject_label(s);
+                self.new_object(o, Kind::Pipe, label);
                 self.place_handle(s, r, Handle::new(o, Direction::Reading));
                 self.place_handle(s, w, Handle::new(o, Direction::Writing));
-                Answer::Allowed(level)
+                Answer::Allowed(label.level)
             }
 
             // RULES C5.
             Call::OpenRead { s, o, p } => {
                 self.place_handle(s, p, Handle::new(o, Direction::Reading));
-                Answer::Allowed(self.object_level(o))
+                Answer::Allowed(self.object_label(o).level)
             }
 
             // RULES C6.
             Call::OpenWrite { s, o, p } => {
                 self.place_handle(s, p, Handle::new(o, Direction::Writing));
-                Answer::Allowed(self.object_level(o))
+                Answer::Allowed(self.object_label(o).level)
             }
 
             // RULES C7.
             Call::Read { s, p } => {
-                let level = self.held_object(s, p).map_or(0, |(_, object)| object.level);
-                self.lower_subject(s, level)
+                let to = self.held_object(s, p).map_or(Label::LEAST, |(_, object)| object.label());
+                self.lower_subject(call, s, to)
             }
 
             // RULES C8.
-            Call::Write { s, p } => {
-                let level = self.subject_level(s);
-                match self.held_object(s, p) {
-                    Some((o, object)) if object.kind == Kind::File => self.reread(o, object.level),
-                    Some((o, object)) if level < object.level => {
-                        self.new_object(o, Kind::Pipe, level);
-                        Answer::Lowered(level)
+            Call::Write { s, p } => match self.held_object(s, p) {
+                Some((o, object)) if object.kind == Kind::File => self.reread(call, o, object.label()),
+                Some((o, pipe)) => {
+                    let (before, to) = (pipe.label(), self.subject_label(s));
+                    let after = self.rules.bend_fall(call, false, before, to);
+                    self.new_object(o, Kind::Pipe, after);
+                    if after == before {
+                        Answer::Allowed(after.level)
+                    } else {
+                        Answer::Lowered(after.level, before.marks_lost_by(after))
                     }
-                    Some((_, object)) => Answer::Allowed(object.level),
-                    None => Answer::Allowed(0),
                 }
-            }
+                None => Answer::Allowed(0),
+            },
 
             // RULES C9, C113: each handle with its mark, and a mapping as a mapping; a group of its own.
             Call::Fork { s, c } => {
-                let level = self.subject_level(s);
-                self.tables.set_subject(c, Some(Subject { level }));
+                let label = self.subject_label(s);
+                self.tables.set_subject(c, Some(Subject::new(label)));
                 let handles: Vec<(u64, Handle)> = self.tables.handles_of(s).collect();
                 for (p, handle) in handles {
                     self.place_handle(c, p, handle);
                 }
-                Answer::Allowed(level)
+                Answer::Allowed(label.level)
             }
 
             // RULES C10, C116, Y13: the mates end, and the marked handles and the mappings go.
             Call::Exec { s, o } => {
-                let level = self.object_level(o);
+                let to = self.object_label(o);
                 let mates: Vec<u64> = self.tables.mates(s).collect();
                 for mate in mates {
                     self.end_subject(mate);
@@ -234,25 +256,25 @@ impl Monitor {
                 for p in ending {
                     self.remove_handle(s, p);
                 }
-                self.lower_subject(s, level)
+                self.lower_subject(call, s, to)
             }
 
             // RULES C11.
             Call::Close { s, p } => {
                 self.remove_handle(s, p);
-                Answer::Allowed(self.subject_level(s))
+                Answer::Allowed(self.subject_label(s).level)
             }
 
             // RULES C12, C115: s alone.
             Call::Exit { s } => {
-                let level = self.subject_level(s);
+                let level = self.subject_label(s).level;
                 self.end_subject(s);
                 Answer::Allowed(level)
             }
 
             // RULES C13.
             Call::Retire { o } => {
-                let level = self.object_level(o);
+                let level = self.object_label(o).level;
                 self.tables.set_object(o, None);
                 Answer::Allowed(level)
             }
@@ -260,13 +282,13 @@ impl Monitor {
             // RULES C14: the handle, and a read at that moment.
             Call::Map { s, o, p } => {
                 self.place_handle(s, p, Handle::mapping(o));
-                self.lower_subject(s, self.object_level(o))
+                self.lower_subject(call, s, self.object_label(o))
             }
 
             // RULES C15.
             Call::Mark { s, p } => {
                 self.tables.mark(s, p);
-                Answer::Allowed(self.subject_level(s))
+                Answer::Allowed(self.subject_label(s).level)
             }
 
             // RULES C16.
@@ -275,28 +297,28 @@ impl Monitor {
                 Answer::Allowed(level)
             }
 
-            // RULES C17: a from s to t at the level of s, b from t to s at that of t.
+            // RULES C17: a from s to t under the label of s, b from t to s under that of t.
             Call::Connect { s, t, a, b, .. } => {
-                self.new_object(a, Kind::Pipe, self.subject_level(s));
-                self.new_object(b, Kind::Pipe, self.subject_level(t));
+                self.new_object(a, Kind::Pipe, self.subject_label(s));
+                self.new_object(b, Kind::Pipe, self.subject_label(t));
                 for (holder, place, handle) in call.ends() {
                     self.place_handle(holder, place, handle);
                 }
-                Answer::Allowed(self.subject_level(s))
+                Answer::Allowed(self.subject_label(s).level)
             }
 
             // RULES C18: no handle comes with it.
             Call::Thread { s, c } => {
-                let level = self.subject_level(s);
-                self.tables.set_subject(c, Some(Subject { level }));
+                let label = self.subject_label(s);
+                self.tables.set_subject(c, Some(Subject::new(label)));
                 self.tables.join_groups(s, c);
-                Answer::Allowed(level)
+                Answer::Allowed(label.level)
             }
         }
     }
 
-    fn new_object(&mut self, o: u64, kind: Kind, level: u64) {
-        self.tables.set_object(o, Some(Object { kind, level }));
+    fn new_object(&mut self, o: u64, kind: Kind, label: Label) {
+        self.tables.set_object(o, Some(Object::new(kind, label)));
     }
 
     /// Places a handle, and counts it: RULES Y2, Y3, Y4.
@@ -325,33 +347,37 @@ impl Monitor {
         self.tables.set_subject(s, None);
     }
 
-    /// RULES C8, C104, C111, C117: what follows a write to a file of this level. Each subject that has it mapped
+    /// RULES C8, C104, C111, C117, C118: what follows a write to a file of this label. Each subject that has it mapped
     /// reads it once, the lowest number first; the answer has the file's level, and is lowered if one of them, or a
-    /// mate, fell.
-    fn reread(&mut self, o: u64, level: u64) -> Answer {
+    /// mate, fell. The file itself has lost no mark.
+    fn reread(&mut self, call: Call, o: u64, file: Label) -> Answer {
         let mappers: Vec<u64> = self.tables.mappers(o).collect();
-        let mut answer = Answer::Allowed(level);
+        let mut answer = Answer::Allowed(file.level);
         for s in mappers {
-            if let Answer::Lowered(_) = self.lower_subject(s, level) {
-                answer = Answer::Lowered(level);
+            if let Answer::Lowered(..) = self.lower_subject(call, s, file) {
+                answer = Answer::Lowered(file.level, 0);
             }
         }
         answer
     }
 
-    /// RULES C104, C114: a subject and each of its mates take the smaller of their own level and this one. The answer has
-    /// the subject's, and is lowered if one of them fell.
-    fn lower_subject(&mut self, s: u64, level: u64) -> Answer {
-        let higher = |&member: &u64| level < self.subject_level(member);
-        let falling: Vec<u64> = self.tables.members(s).filter(higher).collect();
-        for &member in &falling {
-            self.tables.set_subject(member, Some(Subject { level }));
+    /// RULES C104, C114, C118: a subject and each of its mates fall to this label. The answer has the subject's level and
+    /// the marks that it has lost, and is lowered if one of them fell.
+    fn lower_subject(&mut self, call: Call, s: u64, to: Label) -> Answer {
+        let before = self.subject_label(s);
+        let members: Vec<u64> = self.tables.members(s).collect();
+        let mut has_fallen = false;
+        for member in members {
+            let own = self.subject_label(member);
+            let fallen = self.rules.bend_fall(call, member != s, own, to);
+            has_fallen |= fallen != own;
+            self.tables.set_subject(member, Some(Subject::new(fallen)));
         }
-        let own = self.subject_level(s);
-        if falling.is_empty() {
-            Answer::Allowed(own)
+        let after = self.subject_label(s);
+        if has_fallen {
+            Answer::Lowered(after.level, before.marks_lost_by(after))
         } else {
-            Answer::Lowered(own)
+            Answer::Allowed(after.level)
         }
     }
 
@@ -360,13 +386,13 @@ impl Monitor {
         Some((o, self.tables.object(o)?))
     }
 
-    /// The level of a subject that no refusal found missing.
-    fn subject_level(&self, s: u64) -> u64 {
-        self.tables.subject(s).map_or(0, |subject| subject.level)
+    /// The label of a subject that no refusal found missing.
+    fn subject_label(&self, s: u64) -> Label {
+        self.tables.subject(s).map_or(Label::LEAST, |subject| subject.label())
     }
 
-    /// The level of an object that no refusal found missing.
-    fn object_level(&self, o: u64) -> u64 {
-        self.tables.object(o).map_or(0, |object| object.level)
+    /// The label of an object that no refusal found missing.
+    fn object_label(&self, o: u64) -> Label {
+        self.tables.object(o).map_or(Label::LEAST, |object| object.label())
     }
 }

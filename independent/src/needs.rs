@@ -1,8 +1,9 @@
 //! Flow and need: RULES F1 to F7 and F22.
 //!
-//! Where data can flow, and the need of every thing, worked out from nothing in passes over all handles and all mates
-//! until none changes.
+//! Where data can flow, and the need of every thing, a label, worked out from nothing in passes over all handles and all
+//! mates until none changes.
 
+use crate::labels::Label;
 use crate::tables::{Direction, Handle, Kind, Tables};
 use crate::variants::Rules;
 
@@ -36,11 +37,11 @@ impl Flow {
     }
 }
 
-/// The level of a live thing.
-pub fn level(tables: &Tables, thing: Thing) -> Option<u64> {
+/// The label of a live thing.
+pub fn label(tables: &Tables, thing: Thing) -> Option<Label> {
     match thing {
-        Thing::Subject(s) => tables.subject(s).map(|subject| subject.level),
-        Thing::Object(o) => tables.object(o).map(|object| object.level),
+        Thing::Subject(s) => tables.subject(s).map(|subject| subject.label()),
+        Thing::Object(o) => tables.object(o).map(|object| object.label()),
     }
 }
 
@@ -50,7 +51,7 @@ pub fn live_things(tables: &Tables) -> impl Iterator<Item = Thing> + '_ {
     subjects.chain(tables.live_objects().map(Thing::Object))
 }
 
-/// A need for every thing; 0 for what is not live.
+/// A need for every thing; the least label for what is not live.
 #[derive(Clone, Debug, PartialEq, Eq)]
 pub struct Needs {
     /// How many subjects there may be.
@@ -58,15 +59,15 @@ pub struct Needs {
     /// The numbers of the live objects, rising.
     objects: Vec<u64>,
     /// The needs of the subjects, and then of these objects.
-    needs: Vec<u64>,
+    needs: Vec<Label>,
 }
 
 impl Needs {
-    /// RULES F6: 0 where no file is reached.
+    /// RULES F6: the least label where no file is reached.
     pub fn none(tables: &Tables) -> Needs {
         let subjects = tables.limits().subjects as usize;
         let objects: Vec<u64> = tables.live_objects().collect();
-        let needs = vec![0; subjects + objects.len()];
+        let needs = vec![Label::LEAST; subjects + objects.len()];
         Needs { subjects, objects, needs }
     }
 
@@ -78,25 +79,35 @@ impl Needs {
         }
     }
 
-    pub fn of(&self, thing: Thing) -> u64 {
-        self.place(thing).map_or(0, |place| self.needs[place])
+    pub fn of(&self, thing: Thing) -> Label {
+        self.place(thing).map_or(Label::LEAST, |place| self.needs[place])
     }
 
-    /// Raises the need of a thing to `need` where it is lower.
-    fn raise(&mut self, thing: Thing, need: u64) {
+    /// Joins the need of a thing with `need`.
+    fn raise(&mut self, thing: Thing, need: Label) {
         if let Some(place) = self.place(thing) {
-            self.needs[place] = self.needs[place].max(need);
+            self.needs[place] = self.needs[place].joined_with(need);
         }
     }
 
-    /// For a variant: no need of a live thing starts below the one kept.
-    pub(crate) fn start_from(&mut self, tables: &Tables, kept: &Needs) {
+    /// For variants: each need of a live thing is joined with such a part of the one kept, `part` being told both.
+    pub(crate) fn join_kept(
+        &mut self,
+        tables: &Tables,
+        kept: &Needs,
+        part: impl Fn(Label, Label) -> Label,
+    ) {
         for thing in live_things(tables) {
-            self.raise(thing, kept.of(thing));
+            self.raise(thing, part(self.of(thing), kept.of(thing)));
         }
     }
 
-    /// RULES F4, F5, F6: the largest of the levels of all files that a chain of flows leads to, 0 if there
+    /// For variants: every need is another one.
+    pub(crate) fn change_all(&mut self, change: impl Fn(Label) -> Label) {
+        self.needs.iter_mut().for_each(|need| *need = change(*need));
+    }
+
+    /// RULES F4, F5, F6: the join of the labels of all files that a chain of flows leads to, the least label if there
     /// are none.
     ///
     /// `sought` are flows that are tried beside those of the handles in the table and those between mates.
@@ -105,7 +116,7 @@ impl Needs {
         let mut needs = Needs::none(tables);
         for o in tables.live_objects() {
             if let Some(object) = tables.object(o).filter(|object| object.kind == Kind::File) {
-                needs.raise(Thing::Object(o), object.level);
+                needs.raise(Thing::Object(o), object.label());
             }
         }
         rules.bend_start(tables, kept, &mut needs);
@@ -120,14 +131,15 @@ impl Needs {
         for pass in 0.. {
             let mut changed = false;
             for &(from, to) in &places {
-                let beyond = needs.needs[to];
-                changed |= needs.needs[from] < beyond;
-                needs.needs[from] = needs.needs[from].max(beyond);
+                let (own, beyond) = (needs.needs[from], needs.needs[to]);
+                needs.needs[from] = rules.bend_join(own, beyond);
+                changed |= rules.bend_changed(own, needs.needs[from]);
             }
             if !changed || rules.gives_up_after(pass) {
                 break;
             }
         }
+        rules.bend_end(tables, kept, &mut needs);
         needs
     }
 
@@ -136,9 +148,9 @@ impl Needs {
         Needs::work_out(tables, &[], Rules::default(), &Needs::none(tables))
     }
 
-    /// The live things whose level is below their need.
+    /// The live things whose label is below their need.
     pub fn unmet<'a>(&'a self, tables: &'a Tables) -> impl Iterator<Item = Thing> + 'a {
         live_things(tables)
-            .filter(|&thing| level(tables, thing).is_some_and(|level| level < self.of(thing)))
+            .filter(|&thing| label(tables, thing).is_some_and(|label| !label.is_at_least(self.of(thing))))
     }
 }

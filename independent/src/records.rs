@@ -127,8 +127,9 @@ pub fn read_body(journal: &[u8], span: Span, rules: Rules) -> Body {
     let mut numbers = [0; NUMBERS];
     for (index, number) in numbers.iter_mut().take(rules.bend_count(shape)).enumerate() {
         if taken >= length {
-            if rules.has(Variant::MissingIsZero) {
-                break;
+            if let Some(missing) = rules.bend_missing(code, index) {
+                *number = missing;
+                continue;
             }
             let fault = BodyFault::Missing(index);
             return Body::Bad { code, fault };

@@ -18,10 +18,10 @@ pub fn meaning(number: u32) -> &'static str {
         3 => "the number for the new thing cannot be used",
         4 => "the file or pipe is not there",
         5 => "a pipe cannot be run, retired or mapped",
-        6 => "the level is above 15, or a freeze above 16",
+        6 => "the level is above 15, the set above 255, or a freeze above 16",
         7 => "the place does not fit",
         8 => "the handle is for the other direction",
-        9 => "low data could reach a higher file",
+        9 => "data could reach a file of a higher level or with a shop mark that it lacks",
         10 => "a handle is still open on the file",
         11 => "the journal breaks off here",
         12 => "the record is not well formed",
@@ -49,7 +49,7 @@ pub fn conditions(tables: &Tables, call: Call, needs: &Needs) -> [Condition; 12]
         (17, objects_are_too_many(tables, call)),
         (4, object_is_missing(tables, call)),
         (5, pipe_is_named(tables, call)),
-        (6, level_is_too_high(tables, call)),
+        (6, label_is_too_high(tables, call)),
         (7, place_is_unfit(tables, call)),
         (8, direction_is_wrong(tables, call)),
         (15, file_is_frozen(tables, call)),
@@ -105,11 +105,12 @@ fn pipe_is_named(tables: &Tables, call: Call) -> bool {
     }
 }
 
-/// RULES R6: the level is too high. A freeze may be one higher, to say that there is none.
-fn level_is_too_high(tables: &Tables, call: Call) -> bool {
+/// RULES R6: the level is too high, or the set. A freeze may be one higher, to say that there is none.
+fn label_is_too_high(tables: &Tables, call: Call) -> bool {
+    let limits = tables.limits();
     match call {
         Call::Freeze { level } => level > NO_FREEZE,
-        _ => call.level().is_some_and(|level| level >= tables.limits().levels),
+        _ => call.label().is_some_and(|label| label.level >= limits.levels || label.shops >= limits.sets),
     }
 }
 
@@ -201,7 +202,7 @@ pub fn sought_flow(tables: &Tables, call: Call) -> Option<Flow> {
 pub fn sought_flows(tables: &Tables, call: Call) -> Vec<Flow> {
     match call {
         // RULES C17: nobody else has a handle on a new pipe, so that data comes by it from its writer to its
-        // reader and nowhere else. The pipe has its writer's level and its reader's need: it is below its need
+        // reader and nowhere else. The pipe has its writer's label and its reader's need: it is below its need
         // only where its writer is.
         Call::Connect { s, t, .. } if tables.subject(s).is_some() && tables.subject(t).is_some() => {
             let (s, t) = (Thing::Subject(s), Thing::Subject(t));
@@ -211,14 +212,14 @@ pub fn sought_flows(tables: &Tables, call: Call) -> Vec<Flow> {
     }
 }
 
-/// RULES R9, R109, R110, R119: a level would be below a need.
+/// RULES R9, R109, R110, R119: a label would be below a need.
 fn flow_is_unsafe(tables: &Tables, call: Call, needs: &Needs) -> bool {
     match call {
         Call::OpenRead { .. } | Call::OpenWrite { .. } | Call::Map { .. } | Call::Connect { .. } => {
             !sought_flows(tables, call).is_empty() && needs.unmet(tables).next().is_some()
         }
         Call::Exec { s, o } => {
-            tables.object(o).is_some_and(|object| object.level < needs.of(Thing::Subject(s)))
+            tables.object(o).is_some_and(|object| !object.label().is_at_least(needs.of(Thing::Subject(s))))
         }
         _ => false,
     }

@@ -1,4 +1,4 @@
-//! The program's replies: RULES P1 to P14, R14 and R113 to R115.
+//! The program's replies: RULES P1 to P14, P23, R14 and R113 to R115.
 
 use crate::monitor::{Answer, Monitor};
 use crate::records::{self, Body, BodyFault, LengthFault, Reader, Span};
@@ -31,10 +31,22 @@ pub struct Step {
 }
 
 impl Step {
-    /// RULES P4: position, code, letter, value.
+    /// RULES P4: position, code, letter, value; and of a lowered call RULES P23, how many marks were lost.
     pub fn line(&self) -> String {
+        self.line_by(Rules::default())
+    }
+
+    /// The same by other rules; see `variants`.
+    pub fn line_by(&self, rules: Rules) -> String {
         let Step { position, code, answer, .. } = self;
-        format!("{position} {code} {} {}\n", answer.letter(), answer.number())
+        let fields = [Some(answer.number()), answer.marks_lost()];
+        let fields: Vec<String> = rules
+            .bend_fields(*answer, fields)
+            .into_iter()
+            .flatten()
+            .map(|field| field.to_string())
+            .collect();
+        format!("{position} {code} {} {}\n", answer.letter(), fields.join(" "))
     }
 }
 
@@ -154,7 +166,7 @@ pub fn replies_by(journal: &[u8], rules: Rules) -> String {
     let mut run = Run::new(journal, rules);
     let mut lines = String::new();
     while let Some(step) = run.next_step() {
-        lines.push_str(&step.line());
+        lines.push_str(&step.line_by(rules));
     }
     lines.push_str(&run.end_line());
     lines

@@ -1,12 +1,14 @@
-//! The tables: RULES T1 to T20, T32, T33, T35, T37 and T45 to T47; and the tally: RULES Y1 to Y10.
+//! The tables: RULES T1 to T20, T32, T33, T35, T37 and T45 to T49; and the tally: RULES Y1 to Y10.
 //!
 //! Subjects, objects and handles by number, what counts as a handle, who is in one group, the freeze, and the tally of
-//! handles made and gone. No rule of a call is here; see `monitor` and `refusals`. Every number has 64 bits, levels too,
-//! and none is ever cut.
+//! handles made and gone. No rule of a call is here; see `monitor` and `refusals`. Every number has 64 bits, levels and
+//! sets too, and none is ever cut.
 
 use std::collections::{BTreeMap, BTreeSet};
 
-/// How many of each there may be, and how many levels: RULES T1 to T4. A subject's number is below their count;
+use crate::labels::{Label, ALL_SHOPS};
+
+/// How many of each there may be, and how many levels and sets: RULES T1 to T4, T49. A subject's number is below their count;
 /// an object's is any, and so many of them may be live at a time.
 #[derive(Clone, Copy, Debug, PartialEq, Eq)]
 pub struct Limits {
@@ -14,18 +16,31 @@ pub struct Limits {
     pub objects: u64,
     pub places: u64,
     pub levels: u64,
+    pub sets: u64,
 }
 
 /// The limits of the rules.
-pub const LIMITS: Limits = Limits { subjects: 32, objects: 64, places: 16, levels: 16 };
+pub const LIMITS: Limits =
+    Limits { subjects: 32, objects: 64, places: 16, levels: 16, sets: ALL_SHOPS + 1 };
 
 /// RULES T32: the freeze that says that no file is frozen.
 pub const NO_FREEZE: u64 = 16;
 
-/// RULES T1, T7: a running step, and its level.
+/// RULES T1, T7: a running step, and its label: the level, and the set of shop marks.
 #[derive(Clone, Copy, Debug, PartialEq, Eq)]
 pub struct Subject {
     pub level: u64,
+    pub shops: u64,
+}
+
+impl Subject {
+    pub fn new(Label { level, shops }: Label) -> Subject {
+        Subject { level, shops }
+    }
+
+    pub fn label(self) -> Label {
+        Label { level: self.level, shops: self.shops }
+    }
 }
 
 /// RULES T2: files and pipes share the numbers.
@@ -35,11 +50,22 @@ pub enum Kind {
     Pipe,
 }
 
-/// RULES T8, T9: a file's level stays, a pipe's may fall.
+/// RULES T8, T9: a file's label stays, a pipe's may fall.
 #[derive(Clone, Copy, Debug, PartialEq, Eq)]
 pub struct Object {
     pub kind: Kind,
     pub level: u64,
+    pub shops: u64,
+}
+
+impl Object {
+    pub fn new(kind: Kind, Label { level, shops }: Label) -> Object {
+        Object { kind, level, shops }
+    }
+
+    pub fn label(self) -> Label {
+        Label { level: self.level, shops: self.shops }
+    }
 }
 
 /// RULES T10: one of the two.
@@ -213,7 +239,7 @@ impl Tables {
         (self.freeze < NO_FREEZE).then_some(self.freeze)
     }
 
-    /// Whether this is a file that is frozen: its level is at or above the freeze.
+    /// Whether this is a file that is frozen: its level is at or above the freeze, whatever its set.
     pub fn is_frozen(&self, o: u64) -> bool {
         let file = self.object(o).filter(|object| object.kind == Kind::File);
         file.zip(self.frozen_from()).is_some_and(|(file, freeze)| file.level >= freeze)
@@ -303,7 +329,8 @@ impl Tables {
 }
 
 /// Tables as a host stores them: each object stands in one of 64 slots, beside its number, a handle names a slot, and
-/// beside each subject is a byte, its group. No call looks at them: [`StoredTables::tables`] says which tables they are.
+/// beside each subject is a byte, its group. A subject and an object have their level and their set in a byte each (RULES
+/// T21, T28). No call looks at them: [`StoredTables::tables`] says which tables they are.
 #[derive(Clone, Debug)]
 pub struct StoredTables {
     slots: Vec<Option<(u64, Object)>>,

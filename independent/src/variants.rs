@@ -1,13 +1,14 @@
 //! Deliberately wrong variants of the program, to show that the generated journals find mistakes.
 //!
 //! `Rules` says which variant is on; by default none is, and then every function here leaves the rules
-//! as they are. Each variant is read at exactly one place: here, in `channels`, in `freeze`, in `groups`, in `maps`,
-//! in `marks`, in `outcomes`, in `stores`, in `threads`, or at the one place in the reader that it speaks of. Typed
-//! lines have variants of their own, in `lines`.
+//! as they are. Each variant is read at exactly one place: here, in `channels`, in `freeze`, in `groups`, in `labels`,
+//! in `maps`, in `marks`, in `outcomes`, in `stores`, in `threads`, or at the one place in the reader that it speaks of.
+//! Typed lines have variants of their own, in `lines`.
 
 mod channels;
 mod freeze;
 mod groups;
+mod labels;
 mod maps;
 mod marks;
 mod outcomes;
@@ -17,8 +18,9 @@ mod threads;
 use std::cmp::Reverse;
 
 use crate::calls::{shape_of_code, Call, Numbers, Shape};
+use crate::labels::Label;
 use crate::monitor::{Answer, Monitor};
-use crate::needs::{level, Flow, Needs, Thing};
+use crate::needs::{label, Flow, Needs, Thing};
 use crate::numbers::{self, Malformed};
 use crate::records::{Body, BodyFault};
 use crate::refusals::{sought_flow, Condition};
@@ -27,6 +29,7 @@ use crate::tables::{Direction, Kind, Limits, Tables, LIMITS};
 use channels::bend_connected;
 use freeze::bend_frozen;
 use groups::bend_fall_answer;
+use labels::{bend_labelled, bend_lost};
 use maps::bend_mapped;
 use marks::bend_marked;
 use outcomes::{bend_answer, bend_effect, bend_refused};
@@ -216,6 +219,73 @@ variants! {
     ExitTakesSpace "exit-takes-space" "a pipe that an exit ends makes no space";
     ExecTakesSpace "exec-takes-space" "a pipe that an exec ends makes no space";
     SpaceByNumber "space-by-number" "what is gone makes space for its own number alone";
+    // Labels: what is at least what, in the test of an open, a map, a connect and an exec. Whether one label is said to be
+    // below another or not to be at least it is the same; that it is at most it is another thing.
+    SetsIgnored "sets-ignored" "goes by levels alone, and loses no mark";
+    LevelAlone "level-alone" "levels alone are tested against a need";
+    SetAlone "set-alone" "sets alone are tested against a need";
+    EitherEnough "either-enough" "a label is at least a need where its level is or its set is";
+    BelowIsLess "below-is-less" "a label is below a need only where the need is at least it";
+    LevelFirst "level-first" "a higher level is at least a need, whatever the sets";
+    SetFirst "set-first" "a larger set is at least a need, whatever the levels";
+    ComparedAsNumbers "compared-as-numbers" "labels are compared as 256 times the level and the set";
+    SetsAsNumbers "sets-as-numbers" "sets are compared as the numbers that they are";
+    SetsByCount "sets-by-count" "sets are compared by how many marks they have";
+    OneMarkEnough "one-mark-enough" "a set includes another where they have a mark in common";
+    SetReversed "set-reversed" "a set includes another where that one has all of its marks";
+    SetsEqual "sets-equal" "a set includes no other but itself";
+    AboveOnly "above-only" "a level that equals a need's is not enough";
+    MoreMarksOnly "more-marks-only" "a set that equals a need's is not enough";
+    Group0Untested "group-0-untested" "the mark of group 0 is not tested";
+    Group7Untested "group-7-untested" "the mark of group 7 is not tested";
+    OpenReadByLevel "open-read-by-level" "an open for reading tests levels alone";
+    OpenWriteByLevel "open-write-by-level" "an open for writing tests levels alone";
+    MapByLevel "map-by-level" "a map tests levels alone";
+    ConnectByLevel "connect-by-level" "a connect tests levels alone";
+    ExecSetsUntested "exec-sets-untested" "exec tests the level of the file alone";
+    AskerByLevel "asker-by-level" "an open tests the level of the opener alone, and the labels of all others";
+    UpstreamByLevel "upstream-by-level" "an open tests the label of the opener, and the levels alone of all others";
+    SubjectsByLevel "subjects-by-level" "an open tests the levels alone of subjects";
+    PipesByLevel "pipes-by-level" "an open tests the levels alone of pipes";
+    FilesByLevel "files-by-level" "an open tests the levels alone of files";
+    // Labels: what a need has.
+    NeedMeetsSets "need-meets-sets" "a need has the marks that all files have which are reached";
+    NeedOfHighest "need-of-highest" "a need is the label of the highest files alone";
+    NeedOfLargest "need-of-largest" "a need is the largest label, as 256 times the level and the set";
+    NeedTakenWhole "need-taken-whole" "a need takes another label whole where its level is higher, and else no mark of it";
+    NeedWithoutSets "need-without-sets" "a flow hands on the level of a need and not its set";
+    NeedLargestSet "need-largest-set" "a need has the largest of the sets, as numbers";
+    NeedSevenGroups "need-seven-groups" "a flow does not hand on the mark of group 7";
+    PassesByLevel "passes-by-level" "the passes end once no level changes";
+    RunningSets "running-sets" "the level of a need sinks, and its set never does";
+    RunningLevels "running-levels" "the set of a need sinks, and its level never does";
+    SetsSinkWithLevel "sets-sink-with-level" "the set of a need sinks only where its level does";
+    LevelSinksWithSet "level-sinks-with-set" "the level of a need sinks only where its set does";
+    // Labels: which sets are taken.
+    Set256Allowed "set-256-allowed" "takes sets 0 to 256";
+    Set255Refused "set-255-refused" "takes sets 0 to 254";
+    SetUntested "set-untested" "a set above 255 is taken";
+    AdmitSetUntested "admit-set-untested" "a set above 255 is taken by an admit";
+    RegisterSetUntested "register-set-untested" "a set above 255 is taken by a register";
+    SixNeedsBoth "6-needs-both" "6 is said only where level and set are both too high";
+    SetAbove15Refused "set-above-15-refused" "a set above 15 is refused with 6";
+    SetOf0Refused "set-of-0-refused" "a set without any mark is refused with 6";
+    SetAbove255As7 "set-above-255-as-7" "a set above 255 is refused with 7";
+    SetMod256 "set-mod-256" "takes sets modulo 256";
+    SetMod65536 "set-mod-65536" "takes sets modulo 65,536";
+    SetMod32 "set-mod-32-bits" "takes sets modulo 2 to the 32nd";
+    SetCutTo255 "set-cut-to-255" "takes a set above 255 as 255";
+    SevenGroups "seven-groups" "a set has no mark of group 7";
+    SetsAsLacks "sets-as-lacks" "a set has the marks whose bits are 0";
+    AdmitIgnoresSet "admit-ignores-set" "an admitted subject has all marks";
+    RegisterIgnoresSet "register-ignores-set" "a registered file has all marks";
+    AdmitWithoutSet "admit-without-set" "an admitted subject has no mark";
+    RegisterWithoutSet "register-without-set" "a registered file has no mark";
+    // Labels: the freeze.
+    FreezeFullSets "freeze-full-sets" "a file that lacks a mark is not frozen";
+    FreezeNotEmptySets "freeze-not-empty-sets" "a file without any mark is not frozen";
+    FreezeBySet "freeze-by-set" "the file's set is held against the freeze, not its level";
+    FreezeNotForFullSets "freeze-not-for-full-sets" "who has all marks opens a frozen file for writing";
     // Other conditions.
     SubjectMod32 "subject-mod-32-bits" "takes subjects modulo 2 to the 32nd";
     PlaceMod32 "place-mod-32-bits" "takes places modulo 2 to the 32nd";
@@ -418,7 +488,47 @@ variants! {
     AdmitRejoins "admit-rejoins" "who is admitted with the number of a member that is gone is in its group";
     ForkRejoins "fork-rejoins" "who is forked with the number of a member that is gone is in its group";
     ThreadRejoins "thread-rejoins" "a thread with the number of a member that is gone brings its old group along";
+    // Labels: what a fall leaves. That the marks lost are as many as the marks before less those after cannot be told from
+    // their being counted one by one: a fall adds none.
+    FallJoinsSets "fall-joins-sets" "a fall takes the marks of both sets";
+    FallKeepsSet "fall-keeps-set" "a fall takes the smaller level and no mark away";
+    FallTakesSet "fall-takes-set" "a fall takes the other set whole";
+    FallTakesSmallerSet "fall-takes-smaller-set" "a fall takes the smaller set, as numbers";
+    FallTakesOthers "fall-takes-others" "a fall takes the common marks away and leaves the others";
+    FallOnlyComparable "fall-only-comparable" "nothing falls to a label that it is not at least";
+    FallTakesWhole "fall-takes-whole" "a fall takes the other label whole where that is not at least the own one";
+    MarksFallWithLevel "marks-fall-with-level" "marks are lost only where the level gets smaller";
+    LevelFallsWithMarks "level-falls-with-marks" "the level gets smaller only where a mark is lost";
+    FallLosesAll "fall-loses-all" "a fall takes all marks away";
+    FallKeepsGroup0 "fall-keeps-group-0" "the mark of group 0 is never lost";
+    FallKeepsGroup7 "fall-keeps-group-7" "the mark of group 7 is never lost";
+    ReaderKeepsSet "reader-keeps-set" "a read takes no mark away";
+    PipeKeepsSet "pipe-keeps-set" "a write takes no mark from a pipe";
+    ExecKeepsSet "exec-keeps-set" "exec takes no mark away";
+    MapKeepsSet "map-keeps-set" "a map takes no mark away";
+    MatesKeepSets "mates-keep-sets" "the marks that a member loses its mates keep";
+    OpenTakesMarks "open-takes-marks" "an open for reading takes marks at once";
+    // Labels: what new things start with.
+    CreateFullSet "create-full-set" "a created file has all marks";
+    CreateNoSet "create-no-set" "a created file has no mark";
+    PipeFullSet "pipe-full-set" "a new pipe has all marks";
+    PipeNoSet "pipe-no-set" "a new pipe has no mark";
+    ForkFullSet "fork-full-set" "a fork's child has all marks";
+    ForkNoSet "fork-no-set" "a fork's child has no mark";
+    ThreadFullSet "thread-full-set" "a thread starts with all marks";
+    ThreadNoSet "thread-no-set" "a thread starts without any mark";
+    ConnectFullSets "connect-full-sets" "the pipes of a connect have all marks";
+    ConnectNoSets "connect-no-sets" "the pipes of a connect have no mark";
+    ConnectSetsSwapped "connect-sets-swapped" "each pipe of a connect has its reader's set";
+    ConnectSetOfCaller "connect-set-of-caller" "both pipes of a connect have the set of s";
+    ConnectCommonSet "connect-common-set" "both pipes of a connect have the marks common to s and t";
     // Only tables that no calls made tell these.
+    RereadKeepsSets "reread-keeps-sets" "a write to a mapped file takes no mark from its mappers";
+    RereadMarksUnsaid "reread-marks-unsaid" "a write that takes marks alone from mappers is said as allowed";
+    RereadLostOfMapper "reread-lost-of-mapper" "a write to a mapped file gives the marks that a mapper lost";
+    MateLostSaid "mate-lost-said" "a read or a map gives the most marks that a member lost";
+    FileFallsInSet "file-falls-in-set" "a write takes marks from a file, too";
+    ThreadCommonSet "thread-common-set" "a thread starts with the marks common to its group";
     RereadLowersNobody "reread-lowers-nobody" "a write to a mapped file lowers nobody";
     RereadLowersMappers "reread-lowers-mappers" "a write to a mapped file lowers its mappers and none of their mates";
     RereadLowersLowest "reread-lowers-lowest" "a write to a mapped file lowers of each group the lowest of its mappers";
@@ -455,6 +565,28 @@ variants! {
     LoweredAsAllowed "lowered-as-allowed" "lowered is said as allowed";
     PipeLoweredAsAllowed "pipe-lowered-as-allowed" "a lowered pipe is said as allowed";
     EqualAsLowered "equal-as-lowered" "a read at the same level is said as lowered";
+    // Labels: what is said of a fall, and the number of marks lost.
+    MarksAloneUnsaid "marks-alone-unsaid" "a fall of marks alone is said as allowed";
+    ReadMarksUnsaid "read-marks-unsaid" "a read that takes marks alone is said as allowed";
+    PipeMarksUnsaid "pipe-marks-unsaid" "a write that takes marks alone from a pipe is said as allowed";
+    ExecMarksUnsaid "exec-marks-unsaid" "an exec that takes marks alone is said as allowed";
+    MapMarksUnsaid "map-marks-unsaid" "a map that takes marks alone is said as allowed";
+    LevelAloneUnsaid "level-alone-unsaid" "a fall of the level alone is said as allowed";
+    LostOfOther "lost-of-other" "gives the marks that the other of the two things lost";
+    LostAtWriteOfSubject "lost-at-write-of-subject" "a write gives the marks that s has and the pipe has not";
+    LostReversed "lost-reversed" "gives the marks that the other thing has and the shown one has not";
+    LostOfBoth "lost-of-both" "gives the marks in which the two sets differ";
+    LostOfAll "lost-of-all" "gives the marks that all things lost together";
+    LostAsLevels "lost-as-levels" "gives the difference of the levels";
+    LostAsSet "lost-as-set" "gives the set of the marks lost, not their number";
+    LostAsOne "lost-as-one" "gives 1 where any mark was lost";
+    LostAsKept "lost-as-kept" "gives the number of marks kept";
+    LostAsBefore "lost-as-before" "gives the number of marks before the fall";
+    LostAsLacking "lost-as-lacking" "gives the number of marks that are lacking after the fall";
+    LostWithLevel "lost-with-level" "counts a smaller level as one mark more";
+    LostOfSevenGroups "lost-of-seven-groups" "does not count the mark of group 7";
+    LostFromGroup1 "lost-from-group-1" "does not count the mark of group 0";
+    LabelInAnswer "label-in-answer" "an admit and a register answer with 256 times the level and the set";
     // Tally.
     PipeCountedOnce "pipe-counted-once" "a new pipe counts one handle made";
     ForkNotCounted "fork-not-counted" "fork counts nothing";
@@ -531,6 +663,14 @@ variants! {
     ThreadOneNumber "thread-one-number" "a record of a thread has one number";
     ThreadThreeNumbers "thread-three-numbers" "a record of a thread has three numbers";
     ThreadSwapped "thread-swapped" "a thread has c before s";
+    BeforeRequestL "before-request-l" "has no sets and no fifth field, as before request (l)";
+    AdmitTwoNumbers "admit-two-numbers" "a record of an admit has two numbers";
+    RegisterTwoNumbers "register-two-numbers" "a record of a register has two numbers";
+    AdmitFourNumbers "admit-four-numbers" "a record of an admit has four numbers";
+    RegisterFourNumbers "register-four-numbers" "a record of a register has four numbers";
+    SetBeforeLevel "set-before-level" "an admit and a register have the set before the level";
+    MissingSetAs255 "missing-set-as-255" "a missing set is taken as 255";
+    MissingSetAs0 "missing-set-as-0" "a missing set is taken as 0";
     MissingIsZero "missing-is-zero" "a missing number is taken as 0";
     LeftOverIgnored "left-over-ignored" "what is left over in a record is ignored";
     UnknownRestRead "unknown-rest-read" "a malformed number behind an unknown code is 12";
@@ -548,10 +688,16 @@ variants! {
     UnknownCodeAsZero "unknown-code-as-0" "writes an unknown code as 0";
     CodeShownMod32 "code-shown-mod-32-bits" "writes a code modulo 2 to the 32nd";
     FourteenAtZero "14-at-0" "writes 14 with position 0";
+    NoFifthField "no-fifth-field" "writes no fifth field";
+    FifthFieldAlways "fifth-field-always" "writes a fifth field in every line";
+    FifthFieldUnlessRefused "fifth-field-unless-refused" "writes a fifth field behind A, too";
+    NoFifthFieldAt0 "no-fifth-field-at-0" "writes no fifth field where no mark was lost";
+    LostBeforeLevel "lost-before-level" "writes the marks lost before the level";
 }
 
 /// These answer every journal as the rules do: only tables that no calls made tell them apart. From empty tables the
-/// members of a group have one level, and all of them fell when one mapped a file (RULES T38, T48).
+/// members of a group have one label, all of them fell when one mapped a file, and who writes to a file has its marks
+/// (RULES T38, T48, F8).
 pub const ONLY_BY_TABLES: &[&str] = &[
     "reread-lowers-nobody",
     "reread-lowers-mappers",
@@ -562,6 +708,12 @@ pub const ONLY_BY_TABLES: &[&str] = &[
     "read-answers-lowest",
     "thread-at-lowest",
     "thread-evens",
+    "reread-keeps-sets",
+    "reread-marks-unsaid",
+    "reread-lost-of-mapper",
+    "mate-lost-said",
+    "thread-common-set",
+    "file-falls-in-set",
 ];
 
 /// Which rules hold: those of docs/RULES.md, or one variant of them.
@@ -605,6 +757,8 @@ impl Rules {
             Some(Variant::Subject31Refused) => limits.subjects -= 1,
             Some(Variant::Live65Allowed) => limits.objects += 1,
             Some(Variant::Live64Refused) => limits.objects -= 1,
+            Some(Variant::Set256Allowed) => limits.sets += 1,
+            Some(Variant::Set255Refused) => limits.sets -= 1,
             _ => {}
         }
         limits
@@ -642,7 +796,16 @@ impl Rules {
             Some(Variant::ConnectFiveNumbers) if shape.code == 17 => 5,
             Some(Variant::ThreadOneNumber) if shape.code == 18 => 1,
             Some(Variant::ThreadThreeNumbers) if shape.code == 18 => 3,
-            _ => shape.numbers.len(),
+            Some(variant) => labels::bend_count(variant, shape.code).unwrap_or(shape.numbers.len()),
+            None => shape.numbers.len(),
+        }
+    }
+
+    /// The number that stands for one that a record of this code does not have; none where it is missing.
+    pub fn bend_missing(self, code: u64, index: usize) -> Option<u64> {
+        match self.variant? {
+            Variant::MissingIsZero => Some(0),
+            variant => labels::missing_set(variant, code, index),
         }
     }
 
@@ -661,7 +824,7 @@ impl Rules {
             Some(Variant::Mod256) => numbers.map(|number| number % 256),
             Some(Variant::Mod65536) => numbers.map(|number| number % 65_536),
             Some(Variant::Mod31Bits) => numbers.map(|number| number % (1 << 31)),
-            Some(variant) => stores::cut_numbers(variant, code, numbers),
+            Some(variant) => labels::bend_set(variant, code, stores::cut_numbers(variant, code, numbers)),
             None => numbers,
         }
     }
@@ -735,8 +898,50 @@ impl Rules {
 
     /// The needs from which the passes start.
     pub fn bend_start(self, tables: &Tables, kept: &Needs, needs: &mut Needs) {
-        if self.has(Variant::RunningMaximum) {
-            needs.start_from(tables, kept);
+        match self.variant {
+            Some(Variant::RunningMaximum) => needs.join_kept(tables, kept, |_, kept| kept),
+            Some(variant) => labels::bend_start(variant, tables, kept, needs),
+            None => {}
+        }
+    }
+
+    /// The needs after the passes.
+    pub fn bend_end(self, tables: &Tables, kept: &Needs, needs: &mut Needs) {
+        if let Some(variant) = self.variant {
+            labels::bend_end(variant, tables, kept, needs);
+        }
+    }
+
+    /// RULES T52, F5: what a need becomes where a flow leads to a thing with the need `beyond`.
+    pub fn bend_join(self, own: Label, beyond: Label) -> Label {
+        match self.variant {
+            Some(variant) => labels::join(variant, own, beyond),
+            None => own.joined_with(beyond),
+        }
+    }
+
+    /// Whether a need has changed in a pass.
+    pub fn bend_changed(self, before: Label, after: Label) -> bool {
+        match self.variant {
+            Some(variant) => labels::has_changed(variant, before, after),
+            None => before != after,
+        }
+    }
+
+    /// RULES T51: what a label becomes at a fall to another, `is_mate` being whether it is that of a mate of the subject
+    /// that the call speaks of.
+    pub fn bend_fall(self, call: Call, is_mate: bool, own: Label, to: Label) -> Label {
+        match self.variant {
+            Some(variant) => labels::fall(variant, call, is_mate, own, to),
+            None => own.fallen_to(to),
+        }
+    }
+
+    /// RULES P8, P23: the value of a line, and the marks lost.
+    pub fn bend_fields(self, answer: Answer, fields: [Option<u64>; 2]) -> [Option<u64>; 2] {
+        match self.variant {
+            Some(variant) => labels::bend_fields(variant, answer, fields),
+            None => fields,
         }
     }
 
@@ -793,6 +998,9 @@ impl Rules {
         if let Some((number, holds)) = bend_threaded(variant, tables, call) {
             set(number, holds);
         }
+        if let Some((number, holds)) = bend_labelled(variant, tables, call, needs) {
+            set(number, holds);
+        }
         // A map is tested as an open is.
         let is_open = sought_flow(tables, call).is_some();
         let unmet_among = |tested: &dyn Fn(Thing) -> bool| needs.unmet(tables).any(tested);
@@ -802,8 +1010,8 @@ impl Rules {
         };
         let asker = call.asker().map(Thing::Subject);
         let named = call.named_object().map(Thing::Object);
-        let subject_level = |s| tables.subject(s).map_or(0, |subject| subject.level);
-        let object_level = |o| tables.object(o).map_or(0, |object| object.level);
+        let label_of = |thing| label(tables, thing).unwrap_or(Label::LEAST);
+        let object_label = |o| label_of(Thing::Object(o));
         match (variant, call) {
             (Variant::OpenerOnly, _) if is_open => {
                 set(9, unmet_among(&|thing| Some(thing) == asker));
@@ -827,7 +1035,7 @@ impl Rules {
             (Variant::OpensRefused, _) if is_open => set(9, true),
             (Variant::EqualRefused, Call::OpenWrite { s, o, .. }) if is_open => {
                 let own = Thing::Subject(s);
-                let equal = level(tables, own) == Some(needs.of(own)) && object_level(o) > 0;
+                let equal = label_of(own) == needs.of(own) && object_label(o) != Label::LEAST;
                 set(9, equal || unmet_among(&|_| true));
             }
             (Variant::ExecUntested, Call::Exec { .. }) => set(9, false),
@@ -837,11 +1045,11 @@ impl Rules {
                     .filter(|(_, handle)| handle.direction == Direction::Writing && !handle.marked)
                     .filter_map(|(_, handle)| tables.object(handle.object))
                     .filter(|object| object.kind == Kind::File)
-                    .any(|object| object_level(o) < object.level);
+                    .any(|object| !object_label(o).is_at_least(object.label()));
                 set(9, own);
             }
             (Variant::ExecByLevel, Call::Exec { s, o }) => {
-                set(9, object_level(o) < subject_level(s));
+                set(9, !object_label(o).is_at_least(label_of(Thing::Subject(s))));
             }
             (Variant::Freeze17Allowed, Call::Freeze { level: 17 }) => set(6, false),
             (Variant::Freeze16Refused, Call::Freeze { level: 16 }) => set(6, true),
@@ -928,6 +1136,7 @@ impl Rules {
         let answer = bend_answer(variant, before, call, answer);
         let answer = bend_fall_answer(variant, before, after, call, answer);
         let answer = bend_thread_answer(variant, before, after, call, answer);
+        let answer = bend_lost(variant, before, after, call, answer);
         bend_space(variant, before, after, call, answer)
     }
 

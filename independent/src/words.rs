@@ -96,11 +96,11 @@ mod tests {
 
     #[test]
     fn words_go_to_a_journal_and_back() {
-        let text = "admit 0 9\ncall 77 1 2\nbytes 80 00\n";
+        let text = "admit 0 9 3\ncall 77 1 2\nbytes 80 00\n";
         let journal = journal_of(text).unwrap();
-        assert_eq!(journal, [3, 1, 0, 9, 3, 77, 1, 2, 0x80, 0]);
+        assert_eq!(journal, [4, 1, 0, 9, 3, 3, 77, 1, 2, 0x80, 0]);
         assert_eq!(words_of(&journal), text);
-        for wrong in ["payroll 1", "admit 0", "admit 0 9 1", "call", "bytes 800", "admit 0 x"] {
+        for wrong in ["payroll 1", "admit 0 9", "admit 0 9 1 1", "call", "bytes 800", "admit 0 9 x"] {
             assert_eq!(journal_of(wrong), None, "{wrong}");
         }
     }

@@ -31,6 +31,19 @@ fn the_cases_are_all_there() {
         "empty",
         "level-15",
         "level-16",
+        "set-255",
+        "set-record",
+        "label-read",
+        "label-apart",
+        "label-pipe",
+        "label-flow",
+        "label-upstream",
+        "label-exec",
+        "label-map",
+        "label-freeze",
+        "label-connect",
+        "label-connect-flow",
+        "label-fork",
         "place-15",
         "place-16",
         "fork-own-number",
@@ -124,16 +137,16 @@ fn the_cases_are_all_there() {
 
 #[test]
 fn the_example_of_the_document() {
-    let journal = [3, 2, 0, 2, 3, 1, 0, 9, 4, 5, 0, 0, 0, 3, 7, 0, 0];
-    assert_eq!(replies(&journal), "1 2 A 2\n2 1 A 9\n3 5 A 2\n4 7 L 2\nend 1 0 1\n");
+    let journal = [5, 2, 0, 2, 255, 1, 5, 1, 0, 9, 255, 1, 4, 5, 0, 0, 0, 3, 7, 0, 0];
+    assert_eq!(replies(&journal), "1 2 A 2\n2 1 A 9\n3 5 A 2\n4 7 L 2 0\nend 1 0 1\n");
 }
 
 #[test]
 fn a_direct_call_ignores_the_numbers_its_code_does_not_use() {
     let mut monitor = Monitor::new();
     let any = u64::MAX;
-    assert_eq!(monitor.call(1, [0, 9, any, any, 0, 0]), Answer::Allowed(9));
-    assert_eq!(monitor.call(2, [0, 9, any, any, 0, 0]), Answer::Allowed(9));
+    assert_eq!(monitor.call(1, [0, 9, 255, any, any, any]), Answer::Allowed(9));
+    assert_eq!(monitor.call(2, [0, 9, 255, any, any, any]), Answer::Allowed(9));
     assert_eq!(monitor.call(5, [0, 0, 0, any, 0, 0]), Answer::Allowed(9));
     assert_eq!(monitor.call(14, [0, 0, 1, any, 0, 0]), Answer::Allowed(9));
     assert_eq!(monitor.call(15, [0, 0, any, any, 0, 0]), Answer::Allowed(9));
@@ -155,7 +168,7 @@ fn a_direct_call_ignores_the_numbers_its_code_does_not_use() {
 #[test]
 fn a_refusal_answers_with_level_0_and_changes_nothing() {
     let mut monitor = Monitor::new();
-    assert_eq!(monitor.call(1, [0, 9, 0, 0, 0, 0]), Answer::Allowed(9));
+    assert_eq!(monitor.call(1, [0, 9, 255, 0, 0, 0]), Answer::Allowed(9));
     assert_eq!(monitor.call(16, [9, 0, 0, 0, 0, 0]), Answer::Allowed(9));
     let (tables, tally) = (monitor.tables().clone(), monitor.tally());
     for code in 0..=19 {
@@ -173,8 +186,8 @@ const WRITING: Direction = Direction::Writing;
 
 fn made_up(fill: impl Fn(&mut Tables)) -> Monitor {
     let mut tables = Tables::new(LIMITS);
-    tables.set_subject(0, Some(Subject { level: 9 }));
-    tables.set_object(0, Some(Object { kind: Kind::File, level: 9 }));
+    tables.set_subject(0, Some(Subject { level: 9, shops: 255 }));
+    tables.set_object(0, Some(Object { kind: Kind::File, level: 9, shops: 255 }));
     fill(&mut tables);
     Monitor::of_tables(tables, Rules::default())
 }
@@ -208,13 +221,13 @@ fn every_allowed_call_empties_such_places() {
     };
     // The numbers come into use afterwards: no handle comes with them.
     let mut monitor = made_up(stale);
-    assert_eq!(monitor.call(2, [1, 9, 0, 0, 0, 0]), Answer::Allowed(9));
-    assert_eq!(monitor.call(1, [5, 9, 0, 0, 0, 0]), Answer::Allowed(9));
+    assert_eq!(monitor.call(2, [1, 9, 255, 0, 0, 0]), Answer::Allowed(9));
+    assert_eq!(monitor.call(1, [5, 9, 255, 0, 0, 0]), Answer::Allowed(9));
     assert_eq!(monitor.tables().handle_count(), 0);
     // A refused call leaves them.
     let mut monitor = made_up(stale);
     let tables = monitor.tables().clone();
-    assert_eq!(monitor.call(1, [0, 9, 0, 0, 0, 0]), Answer::Refused(3));
+    assert_eq!(monitor.call(1, [0, 9, 255, 0, 0, 0]), Answer::Refused(3));
     assert_eq!(*monitor.tables(), tables);
 }
 
@@ -232,14 +245,14 @@ fn such_places_hold_no_file_make_no_flow_and_are_not_counted() {
 #[test]
 fn where_a_thing_is_below_its_need_already_every_open_is_refused() {
     let mut monitor = made_up(|tables| {
-        tables.set_subject(1, Some(Subject { level: 2 }));
+        tables.set_subject(1, Some(Subject { level: 2, shops: 255 }));
         tables.set_handle(1, 0, handle(0, WRITING));
-        tables.set_object(1, Some(Object { kind: Kind::File, level: 2 }));
+        tables.set_object(1, Some(Object { kind: Kind::File, level: 2, shops: 255 }));
     });
     assert_eq!(monitor.call(5, [0, 0, 0, 0, 0, 0]), Answer::Refused(9));
     assert_eq!(monitor.call(6, [0, 1, 0, 0, 0, 0]), Answer::Refused(9));
     // Exec looks at the caller's need alone.
-    assert_eq!(monitor.call(10, [0, 1, 0, 0, 0, 0]), Answer::Lowered(2));
+    assert_eq!(monitor.call(10, [0, 1, 0, 0, 0, 0]), Answer::Lowered(2, 0));
     assert_eq!(monitor.call(10, [1, 1, 0, 0, 0, 0]), Answer::Refused(9));
     // RULES C8: a file stays.
     assert_eq!(monitor.call(8, [1, 0, 0, 0, 0, 0]), Answer::Allowed(9));
@@ -247,11 +260,12 @@ fn where_a_thing_is_below_its_need_already_every_open_is_refused() {
 
 #[test]
 fn a_pipe_without_handles_stays_until_a_last_handle_goes() {
-    let mut monitor = made_up(|tables| tables.set_object(7, Some(Object { kind: Kind::Pipe, level: 9 })));
-    assert_eq!(monitor.call(2, [7, 1, 0, 0, 0, 0]), Answer::Refused(3));
+    let mut monitor =
+        made_up(|tables| tables.set_object(7, Some(Object { kind: Kind::Pipe, level: 9, shops: 255 })));
+    assert_eq!(monitor.call(2, [7, 1, 255, 0, 0, 0]), Answer::Refused(3));
     assert_eq!(monitor.call(5, [0, 7, 0, 0, 0, 0]), Answer::Allowed(9));
     assert_eq!(monitor.call(11, [0, 0, 0, 0, 0, 0]), Answer::Allowed(9));
-    assert_eq!(monitor.call(2, [7, 1, 0, 0, 0, 0]), Answer::Allowed(1));
+    assert_eq!(monitor.call(2, [7, 1, 255, 0, 0, 0]), Answer::Allowed(1));
 }
 
 // Marks.
@@ -263,7 +277,7 @@ fn a_marked_handle_is_closed_by_exec_wherever_it_stands() {
         for direction in [READING, WRITING] {
             for kind in [Kind::File, Kind::Pipe] {
                 let mut monitor = made_up(|tables| {
-                    tables.set_object(1, Some(Object { kind, level: 9 }));
+                    tables.set_object(1, Some(Object { kind, level: 9, shops: 255 }));
                     tables.set_handle(0, p, handle(1, direction));
                     tables.set_handle(0, (p + 1) % 16, handle(0, direction));
                 });
@@ -290,9 +304,9 @@ fn exec_is_tested_without_the_caller_s_marked_handles() {
     for program in 0..=15 {
         for unmarked in 0..=15 {
             let mut monitor = made_up(|tables| {
-                tables.set_subject(0, Some(Subject { level: 15 }));
+                tables.set_subject(0, Some(Subject { level: 15, shops: 255 }));
                 for (o, level) in [(0, 15), (1, unmarked), (2, program)] {
-                    tables.set_object(o, Some(Object { kind: Kind::File, level }));
+                    tables.set_object(o, Some(Object { kind: Kind::File, level, shops: 255 }));
                 }
                 tables.set_handle(0, 0, marked(0, WRITING));
                 tables.set_handle(0, 1, handle(1, WRITING));
@@ -315,9 +329,9 @@ fn exec_is_tested_without_the_caller_s_marked_handles() {
 fn the_marked_handles_of_others_are_in_the_test_and_stay() {
     let ring = |marks: [bool; 2]| {
         made_up(move |tables| {
-            tables.set_subject(1, Some(Subject { level: 9 }));
-            tables.set_object(1, Some(Object { kind: Kind::File, level: 2 }));
-            tables.set_object(2, Some(Object { kind: Kind::Pipe, level: 9 }));
+            tables.set_subject(1, Some(Subject { level: 9, shops: 255 }));
+            tables.set_object(1, Some(Object { kind: Kind::File, level: 2, shops: 255 }));
+            tables.set_object(2, Some(Object { kind: Kind::Pipe, level: 9, shops: 255 }));
             let at = |own: bool, object, direction| {
                 if own {
                     marked(object, direction)
@@ -333,7 +347,7 @@ fn the_marked_handles_of_others_are_in_the_test_and_stay() {
     for others in [false, true] {
         assert_eq!(ring([false, others]).call(10, [0, 1, 0, 0, 0, 0]), Answer::Refused(9));
         let mut monitor = ring([true, others]);
-        assert_eq!(monitor.call(10, [0, 1, 0, 0, 0, 0]), Answer::Lowered(2));
+        assert_eq!(monitor.call(10, [0, 1, 0, 0, 0, 0]), Answer::Lowered(2, 0));
         assert_eq!((monitor.tables().handle_count(), monitor.tally().gone), (2, 1));
         assert_eq!(monitor.tables().marked_places(1).count(), if others { 2 } else { 0 });
     }
@@ -382,8 +396,8 @@ fn a_mark_empties_places_that_count_as_empty_and_a_refused_one_does_not() {
 #[test]
 fn a_pipe_without_handles_stays_at_an_exec() {
     let mut monitor = made_up(|tables| {
-        tables.set_object(7, Some(Object { kind: Kind::Pipe, level: 9 }));
-        tables.set_object(8, Some(Object { kind: Kind::Pipe, level: 9 }));
+        tables.set_object(7, Some(Object { kind: Kind::Pipe, level: 9, shops: 255 }));
+        tables.set_object(8, Some(Object { kind: Kind::Pipe, level: 9, shops: 255 }));
         tables.set_handle(0, 0, marked(8, READING));
         tables.set_handle(9, 0, marked(7, READING));
     });
@@ -403,11 +417,11 @@ fn a_map_places_a_reading_handle_and_is_a_read() {
     for level in 0..=15 {
         for file in 0..=15 {
             let start = made_up(|tables| {
-                tables.set_subject(0, Some(Subject { level }));
-                tables.set_object(0, Some(Object { kind: Kind::File, level: file }));
+                tables.set_subject(0, Some(Subject { level, shops: 255 }));
+                tables.set_object(0, Some(Object { kind: Kind::File, level: file, shops: 255 }));
             });
             let mut monitor = start.clone();
-            let answer = if file < level { Answer::Lowered(file) } else { Answer::Allowed(level) };
+            let answer = if file < level { Answer::Lowered(file, 0) } else { Answer::Allowed(level) };
             assert_eq!(monitor.call(14, [0, 0, 3, 0, 0, 0]), answer);
             assert_eq!(monitor.tables().handle(0, 3), mapping(0));
             assert_eq!((monitor.tally().made, monitor.tally().gone), (1, 0));
@@ -424,10 +438,10 @@ fn a_map_places_a_reading_handle_and_is_a_read() {
 fn a_write_to_a_file_is_followed_by_a_read_by_each_who_has_it_mapped() {
     let start = |levels: [u64; 5]| {
         made_up(move |tables| {
-            tables.set_object(0, Some(Object { kind: Kind::File, level: 5 }));
-            tables.set_object(1, Some(Object { kind: Kind::File, level: 5 }));
+            tables.set_object(0, Some(Object { kind: Kind::File, level: 5, shops: 255 }));
+            tables.set_object(1, Some(Object { kind: Kind::File, level: 5, shops: 255 }));
             for (s, level) in (0..).zip(levels) {
-                tables.set_subject(s, Some(Subject { level }));
+                tables.set_subject(s, Some(Subject { level, shops: 255 }));
             }
             // The writer has the file mapped, twice; 3 has it open and not mapped; 4 has another file mapped.
             tables.set_handle(0, 0, handle(0, WRITING));
@@ -440,9 +454,9 @@ fn a_write_to_a_file_is_followed_by_a_read_by_each_who_has_it_mapped() {
         })
     };
     for (levels, answer, after) in [
-        ([9, 9, 9, 9, 9], Answer::Lowered(5), [5, 5, 5, 9, 9]),
-        ([9, 5, 4, 9, 9], Answer::Lowered(5), [5, 5, 4, 9, 9]),
-        ([5, 5, 6, 9, 9], Answer::Lowered(5), [5, 5, 5, 9, 9]),
+        ([9, 9, 9, 9, 9], Answer::Lowered(5, 0), [5, 5, 5, 9, 9]),
+        ([9, 5, 4, 9, 9], Answer::Lowered(5, 0), [5, 5, 4, 9, 9]),
+        ([5, 5, 6, 9, 9], Answer::Lowered(5, 0), [5, 5, 5, 9, 9]),
         ([5, 5, 4, 9, 9], Answer::Allowed(5), [5, 5, 4, 9, 9]),
     ] {
         let mut monitor = start(levels);
@@ -451,7 +465,7 @@ fn a_write_to_a_file_is_followed_by_a_read_by_each_who_has_it_mapped() {
         assert_eq!(monitor.call(8, [0, 0, 0, 0, 0, 0]), answer);
         let level = |s: u64| monitor.tables().subject(s).map(|subject| subject.level);
         assert_eq!([0, 1, 2, 3, 4].map(level), after.map(Some));
-        assert_eq!(monitor.tables().object(0), Some(Object { kind: Kind::File, level: 5 }));
+        assert_eq!(monitor.tables().object(0), Some(Object { kind: Kind::File, level: 5, shops: 255 }));
         assert_eq!(monitor.tables().handles().collect::<Vec<_>>(), handles);
         assert_eq!((monitor.tally().made, monitor.tally().gone), (0, 0));
     }
@@ -461,16 +475,16 @@ fn a_write_to_a_file_is_followed_by_a_read_by_each_who_has_it_mapped() {
 #[test]
 fn a_write_to_a_pipe_is_followed_by_nothing() {
     let start = made_up(|tables| {
-        tables.set_subject(1, Some(Subject { level: 9 }));
-        tables.set_subject(2, Some(Subject { level: 2 }));
-        tables.set_object(7, Some(Object { kind: Kind::Pipe, level: 9 }));
+        tables.set_subject(1, Some(Subject { level: 9, shops: 255 }));
+        tables.set_subject(2, Some(Subject { level: 2, shops: 255 }));
+        tables.set_object(7, Some(Object { kind: Kind::Pipe, level: 9, shops: 255 }));
         tables.set_handle(1, 0, mapping(7));
         tables.set_handle(2, 0, handle(7, WRITING));
     });
     let mut monitor = start.clone();
-    assert_eq!(monitor.call(8, [2, 0, 0, 0, 0, 0]), Answer::Lowered(2));
-    assert_eq!(monitor.tables().subject(1), Some(Subject { level: 9 }));
-    assert_eq!(monitor.call(7, [1, 0, 0, 0, 0, 0]), Answer::Lowered(2));
+    assert_eq!(monitor.call(8, [2, 0, 0, 0, 0, 0]), Answer::Lowered(2, 0));
+    assert_eq!(monitor.tables().subject(1), Some(Subject { level: 9, shops: 255 }));
+    assert_eq!(monitor.call(7, [1, 0, 0, 0, 0, 0]), Answer::Lowered(2, 0));
     // It is copied by a fork, closed by an exec, and the pipe ends with it.
     let mut monitor = start;
     assert_eq!(monitor.call(9, [1, 3, 0, 0, 0, 0]), Answer::Allowed(9));
@@ -504,8 +518,8 @@ fn a_mapping_is_closed_by_exec_wherever_it_stands() {
 #[test]
 fn a_mapping_that_dangles_counts_as_an_empty_place() {
     let start = made_up(|tables| {
-        tables.set_subject(1, Some(Subject { level: 9 }));
-        tables.set_object(0, Some(Object { kind: Kind::File, level: 5 }));
+        tables.set_subject(1, Some(Subject { level: 9, shops: 255 }));
+        tables.set_object(0, Some(Object { kind: Kind::File, level: 5, shops: 255 }));
         tables.set_handle(0, 0, handle(0, WRITING));
         tables.set_handle(1, 3, mapping(64));
         tables.set_handle(1, 4, mapping(5));
@@ -516,16 +530,16 @@ fn a_mapping_that_dangles_counts_as_an_empty_place() {
         for code in [7, 8, 11, 15] {
             assert_eq!(start.clone().call(code, [1, p, 0, 0, 0, 0]), Answer::Refused(7));
         }
-        assert_eq!(start.clone().call(14, [1, 0, p, 0, 0, 0]), Answer::Lowered(5));
+        assert_eq!(start.clone().call(14, [1, 0, p, 0, 0, 0]), Answer::Lowered(5, 0));
     }
     let mut monitor = start.clone();
     assert_eq!(monitor.call(8, [0, 0, 0, 0, 0, 0]), Answer::Allowed(5));
     // The numbers come into use afterwards: no mapping comes with them.
-    assert_eq!(monitor.call(1, [7, 9, 0, 0, 0, 0]), Answer::Allowed(9));
-    assert_eq!(monitor.call(2, [5, 9, 0, 0, 0, 0]), Answer::Allowed(9));
+    assert_eq!(monitor.call(1, [7, 9, 255, 0, 0, 0]), Answer::Allowed(9));
+    assert_eq!(monitor.call(2, [5, 9, 255, 0, 0, 0]), Answer::Allowed(9));
     assert_eq!(monitor.tables().handle_count(), 1);
     let mut run = start;
-    assert_eq!(run.call(10, [1, 0, 0, 0, 0, 0]), Answer::Lowered(5));
+    assert_eq!(run.call(10, [1, 0, 0, 0, 0, 0]), Answer::Lowered(5, 0));
     assert_eq!((run.tally().gone, run.tables().handle_count()), (0, 1));
 }
 
@@ -545,7 +559,7 @@ fn a_map_empties_places_that_count_as_empty_and_a_refused_one_does_not() {
 #[test]
 fn where_a_thing_is_below_its_need_already_every_map_is_refused() {
     let mut monitor = made_up(|tables| {
-        tables.set_subject(1, Some(Subject { level: 2 }));
+        tables.set_subject(1, Some(Subject { level: 2, shops: 255 }));
         tables.set_handle(1, 0, handle(0, WRITING));
     });
     assert_eq!(monitor.call(14, [0, 0, 0, 0, 0, 0]), Answer::Refused(9));
@@ -563,13 +577,13 @@ fn a_connect_makes_each_pipe_at_its_writer_s_level() {
     for level in 0..=15 {
         for other in 0..=15 {
             let mut monitor = made_up(|tables| {
-                tables.set_subject(0, Some(Subject { level }));
-                tables.set_subject(1, Some(Subject { level: other }));
+                tables.set_subject(0, Some(Subject { level, shops: 255 }));
+                tables.set_subject(1, Some(Subject { level: other, shops: 255 }));
             });
             assert_eq!(monitor.call(17, CONNECT), Answer::Allowed(level));
             let tables = monitor.tables();
-            assert_eq!(tables.object(5), Some(Object { kind: Kind::Pipe, level }));
-            assert_eq!(tables.object(6), Some(Object { kind: Kind::Pipe, level: other }));
+            assert_eq!(tables.object(5), Some(Object { kind: Kind::Pipe, level, shops: 255 }));
+            assert_eq!(tables.object(6), Some(Object { kind: Kind::Pipe, level: other, shops: 255 }));
             assert_eq!(
                 (tables.handle(0, 0), tables.handle(0, 1)),
                 (handle(6, READING), handle(5, WRITING))
@@ -593,10 +607,13 @@ fn a_connect_is_tested_by_both_flows() {
             for level in 0..=15 {
                 for upstream in [false, true] {
                     let mut monitor = made_up(|tables| {
-                        tables.set_subject(high, Some(Subject { level: 15 }));
-                        tables.set_subject(low, Some(Subject { level: if upstream { 15 } else { level } }));
-                        tables.set_object(0, Some(Object { kind: Kind::File, level: book }));
-                        tables.set_object(1, Some(Object { kind: Kind::File, level }));
+                        tables.set_subject(high, Some(Subject { level: 15, shops: 255 }));
+                        tables.set_subject(
+                            low,
+                            Some(Subject { level: if upstream { 15 } else { level }, shops: 255 }),
+                        );
+                        tables.set_object(0, Some(Object { kind: Kind::File, level: book, shops: 255 }));
+                        tables.set_object(1, Some(Object { kind: Kind::File, level, shops: 255 }));
                         tables.set_handle(high, 2, handle(0, WRITING));
                         if upstream {
                             tables.set_handle(low, 2, handle(1, READING));
@@ -620,7 +637,7 @@ fn a_connect_is_tested_by_both_flows() {
 #[test]
 fn the_numbers_of_a_connect_are_tested_in_order() {
     let monitor = made_up(|tables| {
-        tables.set_subject(1, Some(Subject { level: 9 }));
+        tables.set_subject(1, Some(Subject { level: 9, shops: 255 }));
         tables.set_handle(0, 7, handle(0, READING));
         tables.set_handle(1, 8, handle(0, READING));
     });
@@ -654,8 +671,8 @@ fn the_numbers_of_a_connect_are_tested_in_order() {
 #[test]
 fn a_connect_empties_places_that_count_as_empty_and_a_refused_one_does_not() {
     let stale = |tables: &mut Tables| {
-        tables.set_subject(1, Some(Subject { level: 9 }));
-        tables.set_subject(2, Some(Subject { level: 2 }));
+        tables.set_subject(1, Some(Subject { level: 9, shops: 255 }));
+        tables.set_subject(2, Some(Subject { level: 2, shops: 255 }));
         tables.set_handle(0, 0, handle(40, WRITING));
         tables.set_handle(1, 1, handle(41, READING));
         // It would write to the first pipe from below, and read the second one.
@@ -675,8 +692,8 @@ fn a_connect_empties_places_that_count_as_empty_and_a_refused_one_does_not() {
 #[test]
 fn where_a_thing_is_below_its_need_already_every_connect_is_refused() {
     let mut monitor = made_up(|tables| {
-        tables.set_subject(1, Some(Subject { level: 9 }));
-        tables.set_subject(2, Some(Subject { level: 2 }));
+        tables.set_subject(1, Some(Subject { level: 9, shops: 255 }));
+        tables.set_subject(2, Some(Subject { level: 2, shops: 255 }));
         tables.set_handle(2, 0, handle(0, WRITING));
     });
     assert_eq!(monitor.call(17, CONNECT), Answer::Refused(9));
@@ -690,7 +707,7 @@ fn where_a_thing_is_below_its_need_already_every_connect_is_refused() {
 fn group(levels: &[u64], fill: impl Fn(&mut Tables)) -> Monitor {
     made_up(|tables| {
         for (s, &level) in (0..).zip(levels) {
-            tables.set_subject(s, Some(Subject { level }));
+            tables.set_subject(s, Some(Subject { level, shops: 255 }));
             tables.join_groups(0, s);
         }
         fill(tables);
@@ -731,7 +748,7 @@ fn a_thread_is_a_new_member_at_its_maker_s_level_without_handles() {
 /// RULES R2, R3.
 #[test]
 fn the_numbers_of_a_thread_are_tested_in_order() {
-    let monitor = group(&[9, 9], |tables| tables.set_subject(31, Some(Subject { level: 2 })));
+    let monitor = group(&[9, 9], |tables| tables.set_subject(31, Some(Subject { level: 2, shops: 255 })));
     let answer = |s: u64, c: u64| monitor.clone().call(18, [s, c, 0, 0, 0, 0]);
     for missing in [2, 30, 32, 256, 1 << 32, u64::MAX] {
         for c in [0, 2, 32, missing] {
@@ -757,9 +774,9 @@ fn all_subjects_may_be_in_one_group() {
     }
     assert_eq!(monitor.call(18, [0, 32, 0, 0, 0, 0]), Answer::Refused(3));
     assert_eq!(mates(&monitor, 17).len(), 31);
-    assert_eq!(monitor.call(2, [1, 4, 0, 0, 0, 0]), Answer::Allowed(4));
+    assert_eq!(monitor.call(2, [1, 4, 255, 0, 0, 0]), Answer::Allowed(4));
     assert_eq!(monitor.call(5, [0, 1, 0, 0, 0, 0]), Answer::Refused(9));
-    assert_eq!(monitor.call(10, [0, 1, 0, 0, 0, 0]), Answer::Lowered(4));
+    assert_eq!(monitor.call(10, [0, 1, 0, 0, 0, 0]), Answer::Lowered(4, 0));
     assert_eq!((levels(&monitor), monitor.tally().gone), (vec![4], 31));
     assert_eq!(monitor.call(13, [0, 0, 0, 0, 0, 0]), Answer::Allowed(9));
 }
@@ -772,8 +789,8 @@ fn what_lowers_one_lowers_each_of_its_mates_to_the_same_level() {
         for mate in 0..=15 {
             for file in 0..=15 {
                 let start = group(&[own, mate], |tables| {
-                    tables.set_subject(7, Some(Subject { level: 15 }));
-                    tables.set_object(0, Some(Object { kind: Kind::File, level: file }));
+                    tables.set_subject(7, Some(Subject { level: 15, shops: 255 }));
+                    tables.set_object(0, Some(Object { kind: Kind::File, level: file, shops: 255 }));
                     tables.set_handle(0, 0, handle(0, READING));
                 });
                 let after = [own.min(file), mate.min(file), 15];
@@ -795,10 +812,10 @@ fn a_write_to_a_mapped_file_lowers_the_mates_of_each_mapper() {
     for mappers in [vec![1], vec![3], vec![1, 2], vec![2, 3], vec![0], vec![4], vec![]] {
         for levels_before in [[9, 9, 9, 9], [9, 4, 5, 9], [4, 9, 5, 5], [5, 5, 5, 5], [3, 4, 5, 2]] {
             let mut monitor = group(&levels_before, |tables| {
-                tables.set_object(0, Some(Object { kind: Kind::File, level: 5 }));
+                tables.set_object(0, Some(Object { kind: Kind::File, level: 5, shops: 255 }));
                 // Who writes is 5; 4 and 5 are no mates of the others, nor of each other.
-                tables.set_subject(4, Some(Subject { level: 9 }));
-                tables.set_subject(5, Some(Subject { level: 9 }));
+                tables.set_subject(4, Some(Subject { level: 9, shops: 255 }));
+                tables.set_subject(5, Some(Subject { level: 9, shops: 255 }));
                 tables.set_handle(5, 0, handle(0, WRITING));
                 mappers.iter().for_each(|&s| tables.set_handle(s, 0, mapping(0)));
             });
@@ -807,7 +824,7 @@ fn a_write_to_a_mapped_file_lowers_the_mates_of_each_mapper() {
             let mut after: Vec<u64> = levels_before.iter().map(|&level| fall(level, is_read)).collect();
             after.extend([fall(9, mappers.contains(&4)), 9]);
             let fell = levels(&monitor) != after;
-            let answer = if fell { Answer::Lowered(5) } else { Answer::Allowed(5) };
+            let answer = if fell { Answer::Lowered(5, 0) } else { Answer::Allowed(5) };
             assert_eq!(monitor.call(8, [5, 0, 0, 0, 0, 0]), answer, "{mappers:?} {levels_before:?}");
             assert_eq!(levels(&monitor), after, "{mappers:?} {levels_before:?}");
         }
@@ -818,11 +835,11 @@ fn a_write_to_a_mapped_file_lowers_the_mates_of_each_mapper() {
 #[test]
 fn a_pipe_falls_to_its_writer_s_level() {
     let mut monitor = group(&[7, 2], |tables| {
-        tables.set_object(5, Some(Object { kind: Kind::Pipe, level: 9 }));
+        tables.set_object(5, Some(Object { kind: Kind::Pipe, level: 9, shops: 255 }));
         tables.set_handle(0, 0, handle(5, WRITING));
         tables.set_handle(1, 0, handle(5, READING));
     });
-    assert_eq!(monitor.call(8, [0, 0, 0, 0, 0, 0]), Answer::Lowered(7));
+    assert_eq!(monitor.call(8, [0, 0, 0, 0, 0, 0]), Answer::Lowered(7, 0));
     assert_eq!((levels(&monitor), monitor.call(7, [1, 0, 0, 0, 0, 0])), (vec![7, 2], Answer::Allowed(2)));
 }
 
@@ -835,9 +852,9 @@ fn exec_is_tested_without_the_mates_and_ends_them() {
             for book in 0..=15 {
                 let mut monitor = group(&[15, 15, 15], |tables| {
                     for (o, level) in [(0, program), (1, own), (2, book)] {
-                        tables.set_object(o, Some(Object { kind: Kind::File, level }));
+                        tables.set_object(o, Some(Object { kind: Kind::File, level, shops: 255 }));
                     }
-                    tables.set_object(5, Some(Object { kind: Kind::Pipe, level: 15 }));
+                    tables.set_object(5, Some(Object { kind: Kind::Pipe, level: 15, shops: 255 }));
                     tables.set_handle(1, 0, handle(1, WRITING));
                     tables.set_handle(1, 1, mapping(0));
                     // A chain to the book that passes a mate.
@@ -867,8 +884,8 @@ fn exec_is_tested_without_the_mates_and_ends_them() {
 #[test]
 fn a_refused_exec_ends_nobody() {
     let mut monitor = group(&[9, 9], |tables| {
-        tables.set_object(1, Some(Object { kind: Kind::File, level: 2 }));
-        tables.set_object(5, Some(Object { kind: Kind::Pipe, level: 9 }));
+        tables.set_object(1, Some(Object { kind: Kind::File, level: 2, shops: 255 }));
+        tables.set_object(5, Some(Object { kind: Kind::Pipe, level: 9, shops: 255 }));
         tables.set_handle(0, 0, handle(0, WRITING));
         tables.set_handle(1, 0, handle(5, READING));
         tables.set_handle(1, 1, marked(0, WRITING));
@@ -882,7 +899,7 @@ fn a_refused_exec_ends_nobody() {
     }
     assert_eq!(monitor.call(10, [2, 0, 0, 0, 0, 0]), Answer::Refused(2));
     // The mate itself may: its book is marked, and the other's goes with the other.
-    assert_eq!(monitor.call(10, [1, 1, 0, 0, 0, 0]), Answer::Lowered(2));
+    assert_eq!(monitor.call(10, [1, 1, 0, 0, 0, 0]), Answer::Lowered(2, 0));
     assert_eq!((levels(&monitor), monitor.tally().gone), (vec![2], 2));
 }
 
@@ -891,13 +908,13 @@ fn a_refused_exec_ends_nobody() {
 fn the_handles_of_ended_mates_are_counted_and_their_pipes_end() {
     let mut monitor = group(&[9, 9, 9], |tables| {
         for o in [5, 6, 7] {
-            tables.set_object(o, Some(Object { kind: Kind::Pipe, level: 9 }));
+            tables.set_object(o, Some(Object { kind: Kind::Pipe, level: 9, shops: 255 }));
         }
         // Pipe 5 is between the mates, pipe 6 has an end at a step beside them, on pipe 7 there is no handle.
         tables.set_handle(1, 0, handle(5, READING));
         tables.set_handle(2, 15, handle(5, WRITING));
         tables.set_handle(2, 3, handle(6, WRITING));
-        tables.set_subject(9, Some(Subject { level: 9 }));
+        tables.set_subject(9, Some(Subject { level: 9, shops: 255 }));
         tables.set_handle(9, 0, handle(6, READING));
         // These count as empty places.
         tables.set_handle(1, 4, handle(40, WRITING));
@@ -913,7 +930,7 @@ fn the_handles_of_ended_mates_are_counted_and_their_pipes_end() {
 #[test]
 fn a_fork_by_a_member_makes_a_group_of_its_own() {
     let mut monitor = group(&[9, 9], |tables| {
-        tables.set_object(1, Some(Object { kind: Kind::File, level: 2 }));
+        tables.set_object(1, Some(Object { kind: Kind::File, level: 2, shops: 255 }));
         tables.set_handle(0, 0, handle(0, READING));
         tables.set_handle(1, 1, handle(0, WRITING));
     });
@@ -921,7 +938,7 @@ fn a_fork_by_a_member_makes_a_group_of_its_own() {
     assert_eq!((mates(&monitor, 2), mates(&monitor, 0)), (vec![], vec![1]));
     assert_eq!((monitor.tables().handles_of(2).count(), monitor.tally().made), (1, 1));
     assert_eq!(monitor.call(5, [0, 1, 5, 0, 0, 0]), Answer::Refused(9));
-    assert_eq!(monitor.call(14, [2, 1, 5, 0, 0, 0]), Answer::Lowered(2));
+    assert_eq!(monitor.call(14, [2, 1, 5, 0, 0, 0]), Answer::Lowered(2, 0));
     assert_eq!(levels(&monitor), [9, 9, 2]);
     // The child of the other one has the book.
     assert_eq!(monitor.call(9, [1, 3, 0, 0, 0, 0]), Answer::Allowed(9));
@@ -964,12 +981,12 @@ fn exit_ends_one_member_whichever_it_is() {
 fn members_have_one_need_whoever_holds_the_handle() {
     for holder in 0..4 {
         let monitor = group(&[9, 9, 9, 9], |tables| {
-            tables.set_subject(9, Some(Subject { level: 9 }));
-            tables.set_object(1, Some(Object { kind: Kind::File, level: 2 }));
+            tables.set_subject(9, Some(Subject { level: 9, shops: 255 }));
+            tables.set_object(1, Some(Object { kind: Kind::File, level: 2, shops: 255 }));
             tables.set_handle(holder, 0, handle(0, WRITING));
         });
         let needs = Needs::of_tables(monitor.tables());
-        assert_eq!([0, 1, 2, 3, 9].map(|s| needs.of(Thing::Subject(s))), [9, 9, 9, 9, 0]);
+        assert_eq!([0, 1, 2, 3, 9].map(|s| needs.of(Thing::Subject(s)).level), [9, 9, 9, 9, 0]);
         for (s, number) in [(0, 9), (1, 9), (2, 9), (3, 9), (9, 2)] {
             let answer = if s == 9 { Answer::Allowed(number) } else { Answer::Refused(9) };
             assert_eq!(monitor.clone().call(5, [s, 1, 1, 0, 0, 0]), answer);
@@ -1000,7 +1017,7 @@ fn a_group_is_a_byte_beside_each_subject() {
     let stored = |bytes: [u8; 4]| {
         let mut stored = StoredTables::new();
         for s in [0, 1, 2] {
-            stored.set_subject(s, Some(Subject { level: 9 }));
+            stored.set_subject(s, Some(Subject { level: 9, shops: 255 }));
         }
         (0..).zip(bytes).for_each(|(s, byte)| stored.set_group(s, byte));
         stored.set_group(32, bytes[0]);
@@ -1013,14 +1030,14 @@ fn a_group_is_a_byte_beside_each_subject() {
         // Which byte it is, nothing tells.
         assert_eq!(monitor.tables(), stored([7, 8, 7, 9]).tables());
         // What stands beside a subject that is not live is not looked at.
-        assert_eq!(monitor.call(1, [3, 9, 0, 0, 0, 0]), Answer::Allowed(9));
+        assert_eq!(monitor.call(1, [3, 9, 255, 0, 0, 0]), Answer::Allowed(9));
         assert_eq!(monitor.call(9, [0, byte.into(), 0, 0, 0, 0]).level() == 9, (4..32).contains(&byte));
         assert_eq!([0, 3].map(|s| mates(&monitor, s)), [vec![2], vec![]]);
         assert_eq!(mates(&stored([byte; 4]), 1), [0, 2]);
     }
     // Without a byte, each is in a group of its own.
     let mut alone = StoredTables::new();
-    (0..32).for_each(|s| alone.set_subject(s, Some(Subject { level: 9 })));
+    (0..32).for_each(|s| alone.set_subject(s, Some(Subject { level: 9, shops: 255 })));
     assert_eq!(alone.tables().pairs_of_mates().count(), 0);
 }
 
@@ -1046,7 +1063,7 @@ const WIDE: [u64; 8] =
 #[test]
 fn no_number_of_a_direct_call_is_cut() {
     let monitor = made_up(|tables| {
-        tables.set_subject(1, Some(Subject { level: 9 }));
+        tables.set_subject(1, Some(Subject { level: 9, shops: 255 }));
         tables.set_handle(0, 0, handle(0, READING));
         tables.set_handle(0, 1, handle(0, WRITING));
     });
@@ -1090,15 +1107,15 @@ fn objects_have_any_number() {
     for one in WIDE {
         for other in WIDE.into_iter().filter(|&other| other != one) {
             let mut monitor = made_up(|_| ());
-            assert_eq!(monitor.call(2, [one, 3, 0, 0, 0, 0]), Answer::Allowed(3));
-            assert_eq!(monitor.call(2, [one, 3, 0, 0, 0, 0]), Answer::Refused(3));
+            assert_eq!(monitor.call(2, [one, 3, 255, 0, 0, 0]), Answer::Allowed(3));
+            assert_eq!(monitor.call(2, [one, 3, 255, 0, 0, 0]), Answer::Refused(3));
             assert_eq!(monitor.call(5, [0, other, 0, 0, 0, 0]), Answer::Refused(4));
             assert_eq!(monitor.call(4, [0, other, 0, 1, 0, 0]), Answer::Allowed(9));
             assert_eq!(monitor.call(5, [0, one, 2, 0, 0, 0]), Answer::Allowed(3));
             assert_eq!(monitor.call(13, [other, 0, 0, 0, 0, 0]), Answer::Refused(5));
             assert_eq!(monitor.call(13, [one, 0, 0, 0, 0, 0]), Answer::Refused(10));
             assert_eq!(monitor.call(12, [0, 0, 0, 0, 0, 0]), Answer::Allowed(9));
-            assert_eq!(monitor.call(2, [other, 7, 0, 0, 0, 0]), Answer::Allowed(7));
+            assert_eq!(monitor.call(2, [other, 7, 255, 0, 0, 0]), Answer::Allowed(7));
             assert_eq!(monitor.call(13, [one, 0, 0, 0, 0, 0]), Answer::Allowed(3));
             assert_eq!(monitor.tables().live_objects().collect::<Vec<u64>>(), [0, other]);
         }
@@ -1110,9 +1127,9 @@ fn objects_have_any_number() {
 fn no_more_than_64_objects_are_live() {
     for live in 1..=64 {
         let monitor = made_up(|tables| {
-            tables.set_subject(1, Some(Subject { level: 9 }));
+            tables.set_subject(1, Some(Subject { level: 9, shops: 255 }));
             for o in 1..live {
-                tables.set_object(o << 32, Some(Object { kind: Kind::File, level: 2 }));
+                tables.set_object(o << 32, Some(Object { kind: Kind::File, level: 2, shops: 255 }));
             }
         });
         for (code, numbers, new) in [
@@ -1132,9 +1149,9 @@ fn no_more_than_64_objects_are_live() {
 /// Tables as a host stores them: subject 0 at level 9, and these objects in these slots.
 fn stored(slots: &[(u64, u64, Kind, u64)], fill: impl Fn(&mut StoredTables)) -> Monitor {
     let mut stored = StoredTables::new();
-    stored.set_subject(0, Some(Subject { level: 9 }));
+    stored.set_subject(0, Some(Subject { level: 9, shops: 255 }));
     for &(slot, number, kind, level) in slots {
-        stored.set_slot(slot, Some((number, Object { kind, level })));
+        stored.set_slot(slot, Some((number, Object { kind, level, shops: 255 })));
     }
     fill(&mut stored);
     Monitor::of_tables(stored.tables(), Rules::default())
@@ -1167,7 +1184,7 @@ fn where_two_slots_have_one_number_the_first_counts() {
         stored.set_handle(9, 0, handle(5, WRITING));
     };
     let start = stored(&twice, handles);
-    assert_eq!(start.tables().object(7), Some(Object { kind: Kind::File, level: 4 }));
+    assert_eq!(start.tables().object(7), Some(Object { kind: Kind::File, level: 4, shops: 255 }));
     assert_eq!(start.tables().object_count(), 1);
     for p in [0, 1, 3, 4, 5] {
         for code in [7, 8, 11, 15] {
@@ -1179,10 +1196,10 @@ fn where_two_slots_have_one_number_the_first_counts() {
 
     // A refused call leaves those places, any other empties them, whatever numbers come into use.
     let mut monitor = start.clone();
-    assert_eq!(monitor.call(2, [7, 9, 0, 0, 0, 0]), Answer::Refused(3));
+    assert_eq!(monitor.call(2, [7, 9, 255, 0, 0, 0]), Answer::Refused(3));
     assert_eq!(monitor.tables(), start.tables());
     for o in 0..6 {
-        assert_eq!(monitor.call(2, [o, 9, 0, 0, 0, 0]), Answer::Allowed(9));
+        assert_eq!(monitor.call(2, [o, 9, 255, 0, 0, 0]), Answer::Allowed(9));
     }
     assert_eq!((monitor.tables().handle_count(), monitor.tally().open()), (1, 0));
     let cleaned = stored(&twice[..1], |stored| stored.set_handle(0, 2, handle(5, WRITING)));
@@ -1208,9 +1225,9 @@ fn slots_that_count_as_free_are_space() {
         let live = if twice == 0 { 64 } else { 65 - twice };
         assert_eq!(monitor.tables().object_count(), live);
         for more in 0..64 - live {
-            assert_eq!(monitor.call(2, [u64::MAX - more, 9, 0, 0, 0, 0]), Answer::Allowed(9));
+            assert_eq!(monitor.call(2, [u64::MAX - more, 9, 255, 0, 0, 0]), Answer::Allowed(9));
         }
-        assert_eq!(monitor.call(2, [1 << 50, 9, 0, 0, 0, 0]), Answer::Refused(17));
+        assert_eq!(monitor.call(2, [1 << 50, 9, 255, 0, 0, 0]), Answer::Refused(17));
     }
 }
 
@@ -1278,8 +1295,8 @@ fn no_file_is_frozen_without_a_freeze_not_even_one_above_level_15() {
         (255, Answer::Allowed(20)),
     ] {
         let mut monitor = made_up(|tables| {
-            tables.set_subject(1, Some(Subject { level: 20 }));
-            tables.set_object(1, Some(Object { kind: Kind::File, level: 20 }));
+            tables.set_subject(1, Some(Subject { level: 20, shops: 255 }));
+            tables.set_object(1, Some(Object { kind: Kind::File, level: 20, shops: 255 }));
             tables.set_freeze(freeze);
         });
         assert_eq!(monitor.call(6, [1, 1, 0, 0, 0, 0]), answer, "freeze {freeze}");
@@ -1302,7 +1319,7 @@ fn a_freeze_empties_places_that_count_as_empty_and_a_refused_one_does_not() {
 #[test]
 fn where_a_thing_is_below_its_need_already_15_is_said_of_a_frozen_file_all_the_same() {
     let mut monitor = made_up(|tables| {
-        tables.set_subject(1, Some(Subject { level: 2 }));
+        tables.set_subject(1, Some(Subject { level: 2, shops: 255 }));
         tables.set_handle(1, 0, handle(0, WRITING));
         tables.set_freeze(0);
     });

@@ -5,8 +5,9 @@ use std::collections::{BTreeMap, BTreeSet};
 
 use gatekeeper_independent::calls::Call;
 use gatekeeper_independent::generate::{journal, Wish};
+use gatekeeper_independent::labels::Label;
 use gatekeeper_independent::monitor::Answer;
-use gatekeeper_independent::needs::{level, live_things, Flow, Needs, Thing};
+use gatekeeper_independent::needs::{label, live_things, Flow, Needs, Thing};
 use gatekeeper_independent::numbers::Malformed;
 use gatekeeper_independent::records::{Body, LengthFault};
 use gatekeeper_independent::refusals::{conditions, needs_for};
@@ -40,7 +41,7 @@ fn made_minus_gone_equals_the_handles_open_after_every_call() {
 }
 
 #[test]
-fn every_level_is_at_least_the_need_after_every_call() {
+fn every_label_is_at_least_the_need_after_every_call() {
     for journal in mixed(300) {
         let mut run = Run::new(&journal, Rules::default());
         while run.next_step().is_some() {
@@ -112,8 +113,7 @@ fn the_last_freeze_that_was_allowed_is_the_one_that_counts() {
                 freeze = level;
             }
             (Call::OpenWrite { o, .. }, Answer::Allowed(_) | Answer::Refused(15)) => {
-                let frozen =
-                    matches!(before.object(o), Some(Object { kind: Kind::File, level }) if level >= freeze);
+                let frozen = matches!(before.object(o), Some(Object { kind: Kind::File, level, .. }) if level >= freeze);
                 assert_eq!(answer == Answer::Refused(15), frozen, "{call:?}");
             }
             _ => assert!(answer != Answer::Refused(15), "{call:?}"),
@@ -179,7 +179,7 @@ fn flow_met(call: Call, answer: Answer, before: &Tables, holding: &[u32]) -> Opt
         return None;
     }
     let (kind, level) = match call.named_object().and_then(|o| before.object(o)) {
-        Some(Object { kind, level }) => (Some(kind), level),
+        Some(Object { kind, level, .. }) => (Some(kind), level),
         None => (None, 0),
     };
     let is_file = kind == Some(Kind::File);
@@ -312,8 +312,7 @@ fn an_exec_closes_the_marked_handles_and_mappings_of_its_caller_ends_its_mates_a
             }
             if closes || step.answer == Answer::Refused(9) {
                 let need = need_by_search(&without, Thing::Subject(s));
-                let level = before.object(o).map_or(0, |object| object.level);
-                assert_eq!(closes, level >= need, "exec {s} {o}");
+                assert_eq!(closes, !is_below(&before, Thing::Object(o), need), "exec {s} {o}");
                 // RULES R110: the mappings make no difference to it.
                 assert_eq!(need, need_by_search(&without_marked, Thing::Subject(s)));
             }
@@ -349,12 +348,11 @@ fn marks_met(
         Call::Fork { s, .. } if allowed && before.marked_places(s).next().is_some() => met.push("forked"),
         Call::Exit { s } if before.marked_places(s).next().is_some() => met.push("exit"),
         Call::Exec { s, o } if before.marked_places(s).next().is_some() => {
-            let level = before.object(o).map_or(0, |object| object.level);
             let need = Needs::of_tables(before).of(Thing::Subject(s));
             match answer {
                 Answer::Refused(9) => met.push("exec refused with 9"),
                 Answer::Refused(_) => met.push("exec refused otherwise"),
-                _ if level < need => met.push("exec allowed by the mark alone"),
+                _ if is_below(before, Thing::Object(o), need) => met.push("exec allowed by the mark alone"),
                 _ => met.push("exec"),
             }
             let own = |o| before.handles().filter(move |(_, _, handle)| handle.object == o);
@@ -446,12 +444,12 @@ fn no_mapper_is_above_its_file_and_no_write_to_a_file_lowers() {
             for (s, _, handle) in before.handles().filter(|(_, _, handle)| handle.mapped) {
                 let (subject, object) = (before.subject(s).unwrap(), before.object(handle.object).unwrap());
                 assert_eq!((object.kind, handle.direction), (Kind::File, Direction::Reading));
-                assert!(subject.level <= object.level);
+                assert!(object.label().is_at_least(subject.label()));
             }
             if let Call::Write { s, p } = call {
                 let object = before.handle(s, p).and_then(|handle| before.object(handle.object));
                 if object.is_some_and(|object| object.kind == Kind::File) {
-                    assert!(!matches!(answer, Answer::Lowered(_)), "{call:?}");
+                    assert!(!matches!(answer, Answer::Lowered(..)), "{call:?}");
                 }
             }
         });
@@ -489,12 +487,12 @@ fn a_map_is_an_open_for_reading_and_a_read() {
                 maps += 1;
             }
             if step.answer == Answer::Refused(9) {
-                // RULES R119: with s at the file's level it is refused as well.
+                // RULES R119: with s under the file's label it is refused as well.
                 let mut tables = before.tables().clone();
-                let level = |tables: &Tables, thing| level(tables, thing).unwrap();
-                let lower = level(&tables, Thing::Subject(s)).min(level(&tables, Thing::Object(o)));
+                let own = |thing| label(before.tables(), thing).unwrap();
+                let lower = own(Thing::Subject(s)).fallen_to(own(Thing::Object(o)));
                 for member in before.tables().members(s) {
-                    tables.set_subject(member, Some(Subject { level: lower }));
+                    tables.set_subject(member, Some(Subject::new(lower)));
                 }
                 tables.set_handle(s, p, Some(Handle::mapping(o)));
                 assert!(Needs::of_tables(&tables).unmet(&tables).next().is_some());
@@ -523,9 +521,9 @@ fn maps_met(call: Call, answer: Answer, before: &Tables) -> Vec<&'static str> {
         (Call::Map { .. }, Answer::Refused(_)) => met.push("9"),
         (Call::Map { s, o, .. }, _) => {
             let mappers: Vec<u64> = before.mappers(o).collect();
-            let level = level(before, Thing::Object(o));
+            let level = label(before, Thing::Object(o)).map(|label| label.level);
             met.push(match answer {
-                Answer::Lowered(_) => "lowered",
+                Answer::Lowered(..) => "lowered",
                 Answer::Allowed(own) if Some(own) < level => "allowed, from below",
                 _ => "allowed, from the same level",
             });
@@ -555,7 +553,7 @@ fn maps_met(call: Call, answer: Answer, before: &Tables) -> Vec<&'static str> {
             if mappers.contains(&s) {
                 met.push("written to by a mapper");
             }
-            let levels = |thing| level(before, thing);
+            let levels = |thing| label(before, thing).map(|label| label.level);
             if !mappers.is_empty()
                 && file.is_some_and(|o| levels(Thing::Subject(s)) > levels(Thing::Object(o)))
             {
@@ -595,7 +593,7 @@ fn maps_met(call: Call, answer: Answer, before: &Tables) -> Vec<&'static str> {
 #[test]
 fn mappings_are_met_often() {
     let mut met = BTreeMap::new();
-    for journal in mixed(200) {
+    for journal in mixed(300) {
         each_call(&journal, |call, answer, before| {
             for what in maps_met(call, answer, before) {
                 *met.entry(what).or_insert(0) += 1;
@@ -610,9 +608,9 @@ fn mappings_are_met_often() {
 fn with_channel(before: &Tables, [s, t, a, b, p, q]: [u64; 6]) -> Tables {
     let mut after = before.clone();
     for (holder, writes, reads) in [(s, a, b), (t, b, a)] {
-        let level = before.subject(holder).unwrap().level;
+        let label = before.subject(holder).unwrap().label();
         assert!(before.object(writes).is_none());
-        after.set_object(writes, Some(Object { kind: Kind::Pipe, level }));
+        after.set_object(writes, Some(Object::new(Kind::Pipe, label)));
         for (place, object, direction) in [(p, reads, Direction::Reading), (q, writes, Direction::Writing)]
         {
             assert!(before.handle(holder, place).is_none());
@@ -627,7 +625,7 @@ fn with_channel(before: &Tables, [s, t, a, b, p, q]: [u64; 6]) -> Tables {
 /// to the same.
 #[test]
 fn a_connect_goes_by_both_flows() {
-    let mut connects = [0, 0];
+    let (mut connects, mut both) = ([0, 0], 0);
     for journal in mixed(200) {
         each_call(&journal, |call, answer, before| {
             let Call::Connect { s, t, a, b, p, q } = call else {
@@ -639,20 +637,21 @@ fn a_connect_goes_by_both_flows() {
                 _ => return,
             };
             let after = with_channel(before, [s, t, a, b, p, q]);
-            let is_below = |thing| level(&after, thing).unwrap() < need_by_search(&after, thing);
-            assert_eq!(refused, live_things(&after).any(is_below), "{call:?}");
+            let is_short = |thing| is_below(&after, thing, need_by_search(&after, thing));
+            assert_eq!(refused, live_things(&after).any(is_short), "{call:?}");
             let offends = |from: u64, to: u64| {
                 let need = need_by_search(before, Thing::Subject(to));
                 live_things(before)
                     .filter(|&thing| reached_from(before, thing).contains(&Thing::Subject(from)))
-                    .any(|thing| level(before, thing).unwrap() < need)
+                    .any(|thing| is_below(before, thing, need))
             };
-            // And never of both.
-            assert_eq!(refused, offends(s, t) != offends(t, s), "{call:?}");
+            assert_eq!(refused, offends(s, t) || offends(t, s), "{call:?}");
+            // Of both only where each end lacks what the other needs: a level here, a mark there.
+            both += usize::from(offends(s, t) && offends(t, s));
             connects[usize::from(refused)] += 1;
         });
     }
-    assert!(connects[0] >= 200 && connects[1] >= 50, "{connects:?}");
+    assert!(connects[0] >= 200 && connects[1] >= 50 && both >= 1, "{connects:?}, {both}");
 }
 
 /// RULES C17: a connect that is allowed makes two pipes and four handles, which are counted, and changes
@@ -670,7 +669,7 @@ fn a_connect_makes_two_pipes_and_four_handles() {
                 continue;
             };
             if let Answer::Allowed(level) = step.answer {
-                assert_eq!(Some(Subject { level }), before.subject(numbers[0]));
+                assert_eq!(Some(level), before.subject(numbers[0]).map(|subject| subject.level));
                 assert_eq!(*run.monitor().tables(), with_channel(&before, numbers));
                 assert_eq!((run.tally().made - tally.made, run.tally().gone), (4, tally.gone));
             } else {
@@ -726,8 +725,8 @@ fn channels_met(call: Call, answer: Answer, before: &Tables, pipes: &BTreeSet<u6
         }
         (Call::Connect { s, t, .. }, Answer::Refused(_)) => {
             let needs = [s, t].map(|s| need_by_search(before, Thing::Subject(s)));
-            let levels = [s, t].map(|s| level_of(s).unwrap());
-            met.push(match (levels[0] < needs[1], levels[1] < needs[0]) {
+            let is_short = |s, need| is_below(before, Thing::Subject(s), need);
+            met.push(match (is_short(s, needs[1]), is_short(t, needs[0])) {
                 (true, _) => "9, s below the need of t",
                 (_, true) => "9, t below the need of s",
                 _ => "9, something upstream",
@@ -738,9 +737,9 @@ fn channels_met(call: Call, answer: Answer, before: &Tables, pipes: &BTreeSet<u6
             Ordering::Equal => "connected to an equal",
             Ordering::Greater => "connected to a lower one",
         }),
-        (Call::Read { s, p }, Answer::Lowered(_)) if at_channel(s, p) => met.push("read, lowered"),
+        (Call::Read { s, p }, Answer::Lowered(..)) if at_channel(s, p) => met.push("read, lowered"),
         (Call::Read { s, p }, Answer::Allowed(_)) if at_channel(s, p) => met.push("read"),
-        (Call::Write { s, p }, Answer::Lowered(_)) if at_channel(s, p) => met.push("written to, lowered"),
+        (Call::Write { s, p }, Answer::Lowered(..)) if at_channel(s, p) => met.push("written to, lowered"),
         (Call::Write { s, p }, Answer::Allowed(_)) if at_channel(s, p) => met.push("written to"),
         (Call::Close { s, p }, _) if at_channel(s, p) => met.push("closed"),
         (Call::Mark { s, p }, _) if at_channel(s, p) => met.push("marked"),
@@ -820,10 +819,10 @@ fn subjects_are_in_groups_as_the_calls_say() {
     }
 }
 
-/// RULES F22, T48: the members of a group have one level and one need. The need is that of one subject which has all
+/// RULES F22, T48: the members of a group have one label and one need. The need is that of one subject which has all
 /// their handles, as a search finds it.
 #[test]
-fn the_members_of_a_group_have_one_level_and_one_need() {
+fn the_members_of_a_group_have_one_label_and_one_need() {
     let mut groups = 0;
     for journal in mixed(150) {
         each_call(&journal, |call, _, before| {
@@ -847,7 +846,7 @@ fn the_members_of_a_group_have_one_level_and_one_need() {
 }
 
 /// The need of a group, in a graph in which each group is one thing: the lowest of its members.
-fn need_of_one(tables: &Tables, s: u64) -> u64 {
+fn need_of_one(tables: &Tables, s: u64) -> Label {
     let one = |thing: Thing| match thing {
         Thing::Subject(s) => Thing::Subject(tables.members(s).min().unwrap_or(s)),
         Thing::Object(_) => thing,
@@ -865,7 +864,7 @@ fn need_of_one(tables: &Tables, s: u64) -> u64 {
         }
         next += 1;
     }
-    reached.iter().filter_map(|&thing| file_level(tables, thing)).max().unwrap_or(0)
+    join_of_files(tables, &reached)
 }
 
 /// RULES F18: an open for reading that nothing else refuses is refused exactly where the file is below the need of its
@@ -873,7 +872,7 @@ fn need_of_one(tables: &Tables, s: u64) -> u64 {
 #[test]
 fn an_open_of_a_file_for_reading_goes_by_the_need_of_its_subject() {
     let mut opens = [0, 0];
-    for journal in mixed(150) {
+    for journal in mixed(250) {
         each_call(&journal, |call, answer, before| {
             let (Call::OpenRead { s, o, .. } | Call::Map { s, o, .. }) = call else {
                 return;
@@ -883,8 +882,8 @@ fn an_open_of_a_file_for_reading_goes_by_the_need_of_its_subject() {
                 Answer::Refused(_) => return,
                 _ => false,
             };
-            if let Some(level) = file_level(before, Thing::Object(o)) {
-                assert_eq!(refused, level < need_of_one(before, s), "{call:?}");
+            if file_label(before, Thing::Object(o)).is_some() {
+                assert_eq!(refused, is_below(before, Thing::Object(o), need_of_one(before, s)), "{call:?}");
                 opens[usize::from(refused)] += usize::from(before.mates(s).next().is_some());
             }
         });
@@ -893,7 +892,7 @@ fn an_open_of_a_file_for_reading_goes_by_the_need_of_its_subject() {
 }
 
 /// RULES R9, R109: an open by a member that nothing else refuses is refused exactly where, with the new handle, some
-/// live thing's level is below its need, as a search finds it.
+/// live thing's label is below its need, as a search finds it.
 #[test]
 fn an_open_by_a_member_goes_by_all_live_things() {
     let mut opens = [0, 0];
@@ -912,8 +911,8 @@ fn an_open_by_a_member_goes_by_all_live_things() {
             }
             let mut after = before.clone();
             after.set_handle(s, p, Some(Handle::new(o, Direction::Writing)));
-            let is_below = |thing| level(&after, thing).unwrap() < need_by_search(&after, thing);
-            assert_eq!(refused, live_things(&after).any(is_below), "{call:?}");
+            let is_short = |thing| is_below(&after, thing, need_by_search(&after, thing));
+            assert_eq!(refused, live_things(&after).any(is_short), "{call:?}");
             opens[usize::from(refused)] += 1;
         });
     }
@@ -960,8 +959,8 @@ fn threads_met(
         return met;
     };
     match (call, answer) {
-        (Call::Read { .. }, Answer::Lowered(_)) => met.push("all fall by a read"),
-        (Call::Map { .. }, Answer::Lowered(_)) => met.push("all fall by a map"),
+        (Call::Read { .. }, Answer::Lowered(..)) => met.push("all fall by a read"),
+        (Call::Map { .. }, Answer::Lowered(..)) => met.push("all fall by a map"),
         (Call::OpenRead { .. } | Call::OpenWrite { .. } | Call::Map { .. }, _) => {
             let mut alone = before.clone();
             alone.leave_group(s);
@@ -992,10 +991,13 @@ fn threads_met(
             met.push(if number == 9 { "exec refused with 9" } else { "exec refused otherwise" });
         }
         (Call::Exec { o, .. }, _) => {
-            let level = before.object(o).map_or(0, |object| object.level);
             let need = need_by_search(before, Thing::Subject(s));
-            met.push(if level < need { "exec, though a mate writes higher" } else { "exec" });
-            met.push(if matches!(answer, Answer::Lowered(_)) { "exec, lowered" } else { "exec, allowed" });
+            met.push(if is_below(before, Thing::Object(o), need) {
+                "exec, though a mate writes higher"
+            } else {
+                "exec"
+            });
+            met.push(if matches!(answer, Answer::Lowered(..)) { "exec, lowered" } else { "exec, allowed" });
             met.extend(before.mates(s).any(holds).then_some("exec, and mates have handles"));
             met.extend(before.mates(s).any(|mate| first.contains(&mate)).then_some("exec ends the first"));
             let by_mates = |o: u64| {
@@ -1015,7 +1017,7 @@ fn threads_met(
 #[test]
 fn threads_are_met_often() {
     let mut met = BTreeMap::new();
-    for journal in mixed(200) {
+    for journal in mixed(350) {
         let (mut left, mut first) = (BTreeSet::new(), BTreeSet::new());
         each_call(&journal, |call, answer, before| {
             for what in threads_met(call, answer, before, &left, &first) {
@@ -1111,7 +1113,12 @@ fn stores_met(
         (_, Answer::Refused(2)) if call.asker().is_some_and(upper) => met.push("2, above 32 bits"),
         (_, Answer::Refused(3)) if call.new_subject().is_some_and(upper) => met.push("3, above 32 bits"),
         (Call::Freeze { level }, _) if upper(level) => met.push("6, a freeze above 32 bits"),
-        (_, Answer::Refused(6)) if call.level().is_some_and(upper) => met.push("6, a level above 32 bits"),
+        (_, Answer::Refused(6)) if call.label().is_some_and(|label| upper(label.level)) => {
+            met.push("6, a level above 32 bits");
+        }
+        (_, Answer::Refused(6)) if call.label().is_some_and(|label| upper(label.shops)) => {
+            met.push("6, a set above 32 bits");
+        }
         (Call::Read { p, .. } | Call::OpenRead { p, .. }, Answer::Refused(7)) if upper(p) => {
             met.push("7, a place above 32 bits");
         }
@@ -1164,7 +1171,7 @@ fn the_store_is_met_often() {
             }
         });
     }
-    assert_eq!(met.len(), 22, "{met:?}");
+    assert_eq!(met.len(), 23, "{met:?}");
     assert!(met.values().all(|&times| times >= 10), "{met:?}");
     assert!(lengths.iter().all(|&times| times >= 50), "{lengths:?}");
     assert!(2 * lengths[0] > lengths.iter().sum::<u64>(), "{lengths:?}");
@@ -1208,19 +1215,33 @@ fn request_h_left_journals_of_small_numbers_as_they_were() {
 }
 
 /// RULES F5, F6: the need, by a search from the thing.
-fn need_by_search(tables: &Tables, start: Thing) -> u64 {
+fn need_by_search(tables: &Tables, start: Thing) -> Label {
     let reached = reached_from(tables, start);
-    reached.iter().filter_map(|&thing| file_level(tables, thing)).max().unwrap_or(0)
+    join_of_files(tables, &reached)
 }
 
-/// The level of a file.
-fn file_level(tables: &Tables, thing: Thing) -> Option<u64> {
+/// The highest level of the files among these things, and each mark that one of them has.
+fn join_of_files(tables: &Tables, things: &[Thing]) -> Label {
+    let files: Vec<Label> = things.iter().filter_map(|&thing| file_label(tables, thing)).collect();
+    let level = files.iter().map(|label| label.level).max().unwrap_or(0);
+    let has = |group: u32| files.iter().any(|label| label.shops >> group & 1 == 1);
+    let shops = (0..8).filter(|&group| has(group)).map(|group| 1 << group).sum();
+    Label { level, shops }
+}
+
+/// The label of a file.
+fn file_label(tables: &Tables, thing: Thing) -> Option<Label> {
     match thing {
         Thing::Object(o) => {
-            tables.object(o).filter(|object| object.kind == Kind::File).map(|file| file.level)
+            tables.object(o).filter(|object| object.kind == Kind::File).map(|file| file.label())
         }
         Thing::Subject(_) => None,
     }
+}
+
+/// Whether a live thing's label is not at least a need.
+fn is_below(tables: &Tables, thing: Thing, need: Label) -> bool {
+    label(tables, thing).is_some_and(|label| !label.is_at_least(need))
 }
 
 /// RULES F4, F22: what a chain of flows leads to.
@@ -1253,7 +1274,7 @@ fn needs_worked_out_in_passes_are_those_of_a_search() {
         let needs = Needs::of_tables(tables);
         for thing in live_things(tables) {
             assert_eq!(needs.of(thing), need_by_search(tables, thing));
-            assert!(level(tables, thing).is_some());
+            assert!(label(tables, thing).is_some());
         }
     }
 }
@@ -1265,7 +1286,8 @@ fn replies_have_a_line_for_each_record_and_an_end() {
         let lines: Vec<&str> = text.lines().collect();
         for (index, line) in lines.iter().take(lines.len() - 1).enumerate() {
             assert!(line.starts_with(&format!("{} ", index + 1)), "{line}");
-            assert_eq!(line.split(' ').count(), 4);
+            let letter = line.split(' ').nth(2);
+            assert_eq!(line.split(' ').count(), if letter == Some("L") { 5 } else { 4 }, "{line}");
         }
         assert!(lines[lines.len() - 1].starts_with("end "));
         assert!(text.ends_with('\n'));

@@ -228,7 +228,7 @@ fn met(trial: &Trial) -> Vec<&'static str> {
     let first = ran.made.iter().position(|call| is_refused(call.answer)).unwrap_or(ran.made.len());
     let goes_on = |is_met: fn(Answer) -> bool| ran.made[first..].iter().any(|call| is_met(call.answer));
     add("allowed after a refused one", goes_on(|answer| matches!(answer, Answer::Allowed(_))));
-    add("lowered after a refused one", goes_on(|answer| matches!(answer, Answer::Lowered(_))));
+    add("lowered after a refused one", goes_on(|answer| matches!(answer, Answer::Lowered(_, 0))));
     let call = |code: u64, is_met: &dyn Fn(Answer) -> bool| {
         ran.made.iter().any(|call| call.code == code && is_met(call.answer))
     };
@@ -248,7 +248,7 @@ fn met(trial: &Trial) -> Vec<&'static str> {
     add("open-write: flow", call(6, &refused(9)));
     add("open-write: frozen", call(6, &refused(15)));
     add("open-write: place taken", call(6, &refused(7)));
-    add("exec: lowered", call(10, &|answer| matches!(answer, Answer::Lowered(_))));
+    add("exec: lowered", call(10, &|answer| matches!(answer, Answer::Lowered(_, 0))));
     add("exec: flow", call(10, &refused(9)));
     add("exec: pipe", call(10, &refused(5)));
     add("exec: not live", call(10, &refused(4)));

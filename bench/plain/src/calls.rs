@@ -1,14 +1,16 @@
 //! The eighteen calls by code, and what a call is answered with.
 
+use crate::labels::Level;
 use crate::refusals::Refusal;
-use crate::tables::{Direction, Level};
+use crate::tables::Direction;
 
 /// What a call is answered with.
 #[derive(Clone, Copy, Debug, PartialEq, Eq)]
 pub enum Answer {
     Allowed(Level),
-    /// Allowed, and a read, write, exec or map made a level smaller.
-    Lowered(Level),
+    /// Allowed, and a read, write, exec or map made a level smaller or took a shop mark away; with how many shop marks the
+    /// thing has lost whose level it is.
+    Lowered(Level, u8),
     /// Refused, with the refusal's number.
     Refused(u8),
 }
@@ -22,8 +24,8 @@ impl From<Refusal> for Answer {
 /// A call with its numbers, any numbers.
 #[derive(Clone, Copy, Debug, PartialEq, Eq)]
 pub enum Call {
-    Admit { s: u64, level: u64 },
-    Register { o: u64, level: u64 },
+    Admit { s: u64, level: u64, shops: u64 },
+    Register { o: u64, level: u64, shops: u64 },
     Create { s: u64, o: u64 },
     Pipe { s: u64, o: u64, r: u64, w: u64 },
     Open { s: u64, o: u64, p: u64, direction: Direction },
@@ -50,8 +52,8 @@ impl Call {
         match code {
             17 => Some(6),
             4 => Some(4),
-            5 | 6 | 14 => Some(3),
-            1..=3 | 7..=11 | 15 | 18 => Some(2),
+            1 | 2 | 5 | 6 | 14 => Some(3),
+            3 | 7..=11 | 15 | 18 => Some(2),
             12 | 13 | 16 => Some(1),
             _ => None,
         }
@@ -60,8 +62,8 @@ impl Call {
     /// The call with this code; numbers that it does not use are ignored.
     pub fn new(code: u64, [a, b, c, d, e, f]: [u64; NUMBERS]) -> Option<Call> {
         Some(match code {
-            1 => Call::Admit { s: a, level: b },
-            2 => Call::Register { o: a, level: b },
+            1 => Call::Admit { s: a, level: b, shops: c },
+            2 => Call::Register { o: a, level: b, shops: c },
             3 => Call::Create { s: a, o: b },
             4 => Call::Pipe { s: a, o: b, r: c, w: d },
             5 => Call::Open { s: a, o: b, p: c, direction: Direction::Reading },

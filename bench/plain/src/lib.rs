@@ -7,6 +7,7 @@
 //!
 //! | module | has |
 //! |---|---|
+//! | [`labels`] | labels: a level and a set of shop marks |
 //! | [`tables`] | subjects, their groups, objects with their numbers, and handles, the marks, the mappings and the freeze |
 //! | [`needs`] | the need of every subject and object |
 //! | [`calls`] | the eighteen calls by code, and what a call is answered with |
@@ -23,6 +24,7 @@
 
 pub mod calls;
 pub mod journal;
+pub mod labels;
 pub mod lines;
 pub mod monitor;
 pub mod needs;
@@ -31,5 +33,6 @@ pub mod replies;
 pub mod tables;
 
 pub use calls::Answer;
+pub use labels::Label;
 pub use monitor::{Monitor, When};
 pub use replies::replies;

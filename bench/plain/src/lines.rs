@@ -120,7 +120,7 @@ impl Shell<'_> {
     fn make(&mut self, call: Call) {
         let count = match self.monitor.call(call) {
             Answer::Allowed(_) => &mut self.counts.allowed,
-            Answer::Lowered(_) => &mut self.counts.lowered,
+            Answer::Lowered(..) => &mut self.counts.lowered,
             Answer::Refused(_) => &mut self.counts.refused,
         };
         *count = count.wrapping_add(1);

@@ -1,9 +1,10 @@
 //! The monitor: each call is a method that first refuses, in the order that `refusals` tells, and then takes effect.
 
 use crate::calls::{Answer, Call, NUMBERS};
+use crate::labels::Label;
 use crate::needs::Needs;
-use crate::refusals::{freeze_in_range, level_in_range, Held, Refusal};
-use crate::tables::{numbers, Direction, Kind, Level, Object, Place, Subject, Tables, Tally, PLACES};
+use crate::refusals::{freeze_in_range, label_in_range, Held, Refusal};
+use crate::tables::{numbers, Direction, Kind, Object, Place, Subject, Tables, Tally, PLACES};
 
 /// When needs are worked out.
 #[derive(Clone, Copy, Debug, PartialEq, Eq)]
@@ -54,11 +55,11 @@ impl Monitor {
     /// Makes a call. A refused one changes no table.
     pub fn call(&mut self, call: Call) -> Answer {
         if self.when == When::EachCall {
-            self.needs = self.needs_for(call);
+            self.work_out_for(call);
         }
         let answer = match call {
-            Call::Admit { s, level } => self.admit(s, level),
-            Call::Register { o, level } => self.register(o, level),
+            Call::Admit { s, level, shops } => self.admit(s, level, shops),
+            Call::Register { o, level, shops } => self.register(o, level, shops),
             Call::Create { s, o } => self.create(s, o),
             Call::Pipe { s, o, r, w } => self.pipe(s, o, r, w),
             Call::Open { s, o, p, direction } => self.open(s, o, p, direction),
@@ -81,35 +82,35 @@ impl Monitor {
 
 /// The calls.
 impl Monitor {
-    fn admit(&mut self, s: u64, level: u64) -> Result<Answer, Refusal> {
+    fn admit(&mut self, s: u64, level: u64, shops: u64) -> Result<Answer, Refusal> {
         let s = self.tables.new_subject(s)?;
-        let level = level_in_range(level)?;
-        self.tables.admit(s, level);
-        Ok(Answer::Allowed(level))
+        let label = label_in_range(level, shops)?;
+        self.tables.admit(s, label);
+        Ok(allowed(label))
     }
 
-    fn register(&mut self, o: u64, level: u64) -> Result<Answer, Refusal> {
+    fn register(&mut self, o: u64, level: u64, shops: u64) -> Result<Answer, Refusal> {
         let slot = self.tables.new_object(o)?;
-        let level = level_in_range(level)?;
-        self.tables.bring(slot, o, Kind::File, level);
-        Ok(Answer::Allowed(level))
+        let label = label_in_range(level, shops)?;
+        self.tables.bring(slot, o, Kind::File, label);
+        Ok(allowed(label))
     }
 
     fn create(&mut self, s: u64, o: u64) -> Result<Answer, Refusal> {
         let s = self.tables.subject(s)?;
         let slot = self.tables.new_object(o)?;
-        self.tables.bring(slot, o, Kind::File, s.level);
-        Ok(Answer::Allowed(s.level))
+        self.tables.bring(slot, o, Kind::File, s.label);
+        Ok(allowed(s.label))
     }
 
     fn pipe(&mut self, s: u64, o: u64, r: u64, w: u64) -> Result<Answer, Refusal> {
         let s = self.tables.subject(s)?;
         let slot = self.tables.new_object(o)?;
         let [r, w] = self.tables.two_empty_places(s, r, w)?;
-        self.tables.bring(slot, o, Kind::Pipe, s.level);
+        self.tables.bring(slot, o, Kind::Pipe, s.label);
         self.tables.fill(s, r, slot, Direction::Reading);
         self.tables.fill(s, w, slot, Direction::Writing);
-        Ok(Answer::Allowed(s.level))
+        Ok(allowed(s.label))
     }
 
     fn open(&mut self, s: u64, o: u64, p: u64, direction: Direction) -> Result<Answer, Refusal> {
@@ -121,23 +122,23 @@ impl Monitor {
         }
         self.test_flow([Place::of(s.group, o, direction)])?;
         self.tables.fill(s, p, o, direction);
-        Ok(Answer::Allowed(object.level))
+        Ok(allowed(object.label))
     }
 
     fn read(&mut self, s: u64, p: u64) -> Result<Answer, Refusal> {
         let s = self.tables.subject(s)?;
         let Held { object, .. } = self.tables.held_for(s, p, Direction::Reading)?;
-        Ok(self.subject_falls(s, object.level))
+        Ok(self.subject_falls(s, object.label))
     }
 
     fn write(&mut self, s: u64, p: u64) -> Result<Answer, Refusal> {
         let s = self.tables.subject(s)?;
         let Held { o, object, .. } = self.tables.held_for(s, p, Direction::Writing)?;
         Ok(match object.kind {
-            // Who has it mapped reads it now, and fell to its level, with its mates, when it mapped it: nobody falls any more.
-            Kind::File => Answer::Allowed(object.level),
-            Kind::Pipe => fall(object.level, s.level, |level| {
-                self.tables.objects[o] = Some(Object { level, ..object })
+            // Who has it mapped reads it now, and fell to its label, with its mates, when it mapped it: nobody falls any more.
+            Kind::File => allowed(object.label),
+            Kind::Pipe => fall(object.label, s.label, |label| {
+                self.tables.objects[o] = Some(Object { label, ..object })
             }),
         })
     }
@@ -145,7 +146,7 @@ impl Monitor {
     fn fork(&mut self, s: u64, c: u64) -> Result<Answer, Refusal> {
         let s = self.tables.subject(s)?;
         let c = self.tables.new_subject(c)?;
-        let c = self.tables.admit(c, s.level);
+        let c = self.tables.admit(c, s.label);
         for place in 0..PLACES {
             if let Some((o, direction)) = self.tables.places[s.number][place].handle() {
                 self.tables.fill(c, place, o, direction);
@@ -153,14 +154,14 @@ impl Monitor {
         }
         self.tables.marks[c.number] = self.tables.marks[s.number];
         self.tables.maps[c.number] = self.tables.maps[s.number];
-        Ok(Answer::Allowed(s.level))
+        Ok(allowed(s.label))
     }
 
     fn exec(&mut self, s: u64, o: u64) -> Result<Answer, Refusal> {
         let s = self.tables.subject(s)?;
         let (_, object) = self.tables.file(o)?;
-        self.ask(|tables| Needs::at_exec(tables, s));
-        if object.level < self.needs.subject(s) {
+        self.ask(|needs, tables| needs.work_out_at_exec(tables, s));
+        if !object.label.is_at_least(self.needs.subject(s)) {
             return Err(Refusal::Flow);
         }
         for mate in numbers(self.tables.mates(s)) {
@@ -171,20 +172,20 @@ impl Monitor {
                 self.tables.empty(s.number, place);
             }
         }
-        Ok(self.subject_falls(s, object.level))
+        Ok(self.subject_falls(s, object.label))
     }
 
     fn close(&mut self, s: u64, p: u64) -> Result<Answer, Refusal> {
         let s = self.tables.subject(s)?;
         let Held { p, .. } = self.tables.held(s, p)?;
         self.tables.empty(s.number, p);
-        Ok(Answer::Allowed(s.level))
+        Ok(allowed(s.label))
     }
 
     fn exit(&mut self, s: u64) -> Result<Answer, Refusal> {
         let s = self.tables.subject(s)?;
         self.tables.leave(s);
-        Ok(Answer::Allowed(s.level))
+        Ok(allowed(s.label))
     }
 
     fn retire(&mut self, o: u64) -> Result<Answer, Refusal> {
@@ -193,7 +194,7 @@ impl Monitor {
             return Err(Refusal::StillOpen);
         }
         self.tables.end(o);
-        Ok(Answer::Allowed(object.level))
+        Ok(allowed(object.label))
     }
 
     fn map(&mut self, s: u64, o: u64, p: u64) -> Result<Answer, Refusal> {
@@ -203,14 +204,14 @@ impl Monitor {
         self.test_flow([Place::of(s.group, o, Direction::Reading)])?;
         self.tables.fill(s, p, o, Direction::Reading);
         self.tables.map(s.number, p);
-        Ok(self.subject_falls(s, object.level))
+        Ok(self.subject_falls(s, object.label))
     }
 
     fn mark(&mut self, s: u64, p: u64) -> Result<Answer, Refusal> {
         let s = self.tables.subject(s)?;
         let Held { p, .. } = self.tables.held(s, p)?;
         self.tables.mark(s.number, p);
-        Ok(Answer::Allowed(s.level))
+        Ok(allowed(s.label))
     }
 
     fn freeze(&mut self, level: u64) -> Result<Answer, Refusal> {
@@ -225,32 +226,32 @@ impl Monitor {
         let [p, q] = self.tables.two_empty_places(s, p, q).and(self.tables.two_empty_places(t, p, q))?;
         self.test_flow([Place::between(s, t), Place::between(t, s)])?;
         for (writer, reader, slot, o) in [(s, t, slot_a, a), (t, s, slot_b, b)] {
-            self.tables.bring(slot, o, Kind::Pipe, writer.level);
+            self.tables.bring(slot, o, Kind::Pipe, writer.label);
             self.tables.fill(writer, q, slot, Direction::Writing);
             self.tables.fill(reader, p, slot, Direction::Reading);
         }
-        Ok(Answer::Allowed(s.level))
+        Ok(allowed(s.label))
     }
 
     fn thread(&mut self, s: u64, c: u64) -> Result<Answer, Refusal> {
         let s = self.tables.subject(s)?;
         let c = self.tables.new_subject(c)?;
         self.tables.join(s, c);
-        Ok(Answer::Allowed(s.level))
+        Ok(allowed(s.label))
     }
 
-    /// A subject falls to a level if that is lower, and its mates with it.
-    fn subject_falls(&mut self, s: Subject, to: Level) -> Answer {
-        fall(s.level, to, |level| self.tables.set_level(s, level))
+    /// A subject falls to a label, and its mates with it.
+    fn subject_falls(&mut self, s: Subject, to: Label) -> Answer {
+        fall(s.label, to, |label| self.tables.set_label(s, label))
     }
 }
 
 /// When needs are worked out, and of what.
 impl Monitor {
-    /// Refusal 9: with what is sought, every live subject and object has at least the level of its need. So has then a
-    /// new pipe, which has its writer's level and its reader's need.
+    /// Refusal 9: with what is sought, every live subject and object has a label that is at least its need. So has
+    /// then a new pipe, which has its writer's label and its reader's need.
     fn test_flow<const N: usize>(&mut self, sought: [Place; N]) -> Result<(), Refusal> {
-        self.ask(|tables| Needs::work_out(tables, sought));
+        self.ask(|needs, tables| needs.work_out(tables, sought));
         if self.needs.are_met(&self.tables) {
             Ok(())
         } else {
@@ -259,44 +260,53 @@ impl Monitor {
     }
 
     /// Works needs out for the test of a call, unless that was done before all else.
-    fn ask(&mut self, work_out: impl FnOnce(&Tables) -> Needs) {
+    fn ask(&mut self, work_out: impl FnOnce(&mut Needs, &Tables)) {
         if self.when == When::Asked {
-            self.needs = work_out(&self.tables);
+            work_out(&mut self.needs, &self.tables);
         }
     }
 
-    /// The needs that a call is tested by, where the subjects and the object that it names are live: for an exec, without
-    /// what does not count then; for an open, a map or a connect, with what it seeks.
-    fn needs_for(&self, call: Call) -> Needs {
-        let tables = &self.tables;
-        let needs = match call {
-            Call::Exec { s, .. } => tables.subject(s).map(|s| Needs::at_exec(tables, s)),
-            Call::Open { s, o, direction, .. } => self.needs_with(s, o, direction),
-            Call::Map { s, o, .. } => self.needs_with(s, o, Direction::Reading),
+    /// Works the needs out that a call is tested by, where the subjects and the object that it names are live: for an exec,
+    /// without what does not count then; for an open, a map or a connect, with what it seeks.
+    fn work_out_for(&mut self, call: Call) {
+        let Monitor { tables, needs, .. } = self;
+        let worked_out = match call {
+            Call::Exec { s, .. } => tables.subject(s).map(|s| needs.work_out_at_exec(tables, s)),
+            Call::Open { s, o, direction, .. } => {
+                sought(tables, s, o, direction).map(|place| needs.work_out(tables, [place]))
+            }
+            Call::Map { s, o, .. } => {
+                sought(tables, s, o, Direction::Reading).map(|place| needs.work_out(tables, [place]))
+            }
             Call::Connect { s, t, .. } => tables
                 .two_subjects(s, t)
-                .map(|[s, t]| Needs::work_out(tables, [Place::between(s, t), Place::between(t, s)])),
-            _ => return Needs::work_out(tables, []),
+                .map(|[s, t]| needs.work_out(tables, [Place::between(s, t), Place::between(t, s)])),
+            _ => return needs.work_out(tables, []),
         };
-        needs.unwrap_or_else(|_| Needs::work_out(tables, []))
-    }
-
-    /// The needs with a handle that is sought.
-    fn needs_with(&self, s: u64, o: u64, direction: Direction) -> Result<Needs, Refusal> {
-        let s = self.tables.subject(s)?;
-        let (o, _) = self.tables.object(o)?;
-        Ok(Needs::work_out(&self.tables, [Place::of(s.group, o, direction)]))
+        worked_out.unwrap_or_else(|_| needs.work_out(tables, []))
     }
 }
 
-/// A level falls to another if that is lower.
-fn fall(from: Level, to: Level, set: impl FnOnce(Level)) -> Answer {
-    if to < from {
-        set(to);
-        Answer::Lowered(to)
-    } else {
-        Answer::Allowed(from)
+/// The handle of a subject on an object.
+fn sought(tables: &Tables, s: u64, o: u64, direction: Direction) -> Result<Place, Refusal> {
+    let s = tables.subject(s)?;
+    let (o, _) = tables.object(o)?;
+    Ok(Place::of(s.group, o, direction))
+}
+
+/// Allowed, and what has the label stays as it is.
+fn allowed(label: Label) -> Answer {
+    Answer::Allowed(label.level())
+}
+
+/// What has a label falls to another: it is lowered where that one is below its own.
+fn fall(from: Label, to: Label, set: impl FnOnce(Label)) -> Answer {
+    let now = from.fallen_to(to);
+    if now == from {
+        return allowed(from);
     }
+    set(now);
+    Answer::Lowered(now.level(), from.lost(now))
 }
 
 #[cfg(test)]
@@ -326,22 +336,25 @@ mod tests {
         assert_eq!(last(&[(99, [0; 4])]), Answer::Refused(1));
         // An open whose subject, object and place are all unfit, and with less and less of that.
         assert_eq!(last(&[(5, [0, 0, 16, 0])]), Answer::Refused(2));
-        assert_eq!(last(&[(1, [0, 9, 0, 0]), (5, [0, 0, 16, 0])]), Answer::Refused(4));
-        assert_eq!(last(&[(1, [0, 9, 0, 0]), (2, [0, 9, 0, 0]), (5, [0, 0, 16, 0])]), Answer::Refused(7));
+        assert_eq!(last(&[(1, [0, 9, 255, 0]), (5, [0, 0, 16, 0])]), Answer::Refused(4));
+        assert_eq!(
+            last(&[(1, [0, 9, 255, 0]), (2, [0, 9, 255, 0]), (5, [0, 0, 16, 0])]),
+            Answer::Refused(7)
+        );
         // A new subject whose number and level are unfit.
-        assert_eq!(last(&[(1, [32, 16, 0, 0])]), Answer::Refused(3));
-        assert_eq!(last(&[(1, [31, 16, 0, 0])]), Answer::Refused(6));
+        assert_eq!(last(&[(1, [32, 16, 255, 0])]), Answer::Refused(3));
+        assert_eq!(last(&[(1, [31, 16, 255, 0])]), Answer::Refused(6));
     }
 
     #[test]
     fn no_number_is_cut() {
         assert_eq!(last(&[(CUT | 1, [0, 9, 0, 0])]), Answer::Refused(1));
-        assert_eq!(last(&[(1, [CUT, 9, 0, 0])]), Answer::Refused(3));
-        assert_eq!(last(&[(1, [0, CUT, 0, 0])]), Answer::Refused(6));
-        assert_eq!(last(&[(1, [0, CUT | 16, 0, 0])]), Answer::Refused(6));
-        assert_eq!(last(&[(2, [0, CUT, 0, 0])]), Answer::Refused(6));
+        assert_eq!(last(&[(1, [CUT, 9, 255, 0])]), Answer::Refused(3));
+        assert_eq!(last(&[(1, [0, CUT, 255, 0])]), Answer::Refused(6));
+        assert_eq!(last(&[(1, [0, CUT | 16, 255, 0])]), Answer::Refused(6));
+        assert_eq!(last(&[(2, [0, CUT, 255, 0])]), Answer::Refused(6));
         assert_eq!(last(&[(16, [CUT, 0, 0, 0])]), Answer::Refused(6));
-        let start = [(1, [0, 9, 0, 0]), (2, [0, 9, 0, 0]), (5, [0, 0, 0, 0])];
+        let start = [(1, [0, 9, 255, 0]), (2, [0, 9, 255, 0]), (5, [0, 0, 0, 0])];
         let after = |code, numbers| last(&[&start[..], &[(code, numbers)]].concat());
         for code in (3..=12).chain([14, 15, 18]) {
             assert_eq!(after(code, [CUT, 0, 0, 0]), Answer::Refused(2), "{code}");
@@ -362,20 +375,20 @@ mod tests {
         assert_eq!(after(4, [0, CUT, CUT | 1, 2]), Answer::Refused(7));
         assert_eq!(after(4, [0, CUT, 1, CUT | 2]), Answer::Refused(7));
         // Another object, as it has another number.
-        assert_eq!(after(2, [CUT, 4, 0, 0]), Answer::Allowed(4));
+        assert_eq!(after(2, [CUT, 4, 255, 0]), Answer::Allowed(4));
         assert_eq!(after(4, [0, u64::MAX, 1, 2]), Answer::Allowed(9));
     }
 
     /// Subjects 0 of level 9 and 1 of level 8, and this many files from number 1,000 on, each 64 above the last.
     fn files(count: u64) -> Vec<(u64, [u64; 6])> {
-        let subjects = [(1, [0, 9, 0, 0, 0, 0]), (1, [1, 8, 0, 0, 0, 0])];
-        let files = (0..count).map(|file| (2, [1_000 + 64 * file, 8, 0, 0, 0, 0]));
+        let subjects = [(1, [0, 9, 255, 0, 0, 0]), (1, [1, 8, 255, 0, 0, 0])];
+        let files = (0..count).map(|file| (2, [1_000 + 64 * file, 8, 255, 0, 0, 0]));
         subjects.into_iter().chain(files).collect()
     }
 
     #[test]
     fn sixty_four_objects_are_live_at_a_time() {
-        let register = (2, [7, 16, 0, 0, 0, 0]);
+        let register = (2, [7, 16, 255, 0, 0, 0]);
         let one_more =
             [register, (3, [0, 7, 0, 0, 0, 0]), (4, [0, 7, 16, 16, 0, 0]), (17, [0, 1, 7, 8, 16, 16])];
         // It is tested after 3, and before 6 and 7.
@@ -402,7 +415,7 @@ mod tests {
         let retire = |o| (13, [o, 0, 0, 0, 0, 0]);
         let full = [&files(64)[..], &[retire(1_064), retire(1_128), connect]].concat();
         let after = |calls: &[(u64, [u64; 6])]| last(&[&full[..], calls].concat());
-        let register = |o| (2, [o, 3, 0, 0, 0, 0]);
+        let register = |o| (2, [o, 3, 255, 0, 0, 0]);
         assert_eq!(last(&full), Answer::Allowed(9));
         assert_eq!(after(&[register(5)]), Answer::Refused(17));
         assert_eq!(after(&[register(u64::MAX)]), Answer::Refused(3));
@@ -414,12 +427,12 @@ mod tests {
         let exits = [(12, [0; 6]), (12, [1, 0, 0, 0, 0, 0])];
         assert_eq!(after(&[&exits[..], &[register(5), register(6)]].concat()), Answer::Allowed(3));
         // The others are where they were.
-        assert_eq!(after(&[at(10, 0, 1_000 + 64 * 63)]), Answer::Lowered(8));
+        assert_eq!(after(&[at(10, 0, 1_000 + 64 * 63)]), Answer::Lowered(8, 0));
     }
 
     #[test]
     fn a_frozen_file_is_not_opened_for_writing() {
-        let start = [(1, [0, 9, 0, 0]), (2, [0, 9, 0, 0]), (4, [0, 1, 0, 1])];
+        let start = [(1, [0, 9, 255, 0]), (2, [0, 9, 255, 0]), (4, [0, 1, 0, 1])];
         let after = |calls: &[(u64, [u64; 4])]| last(&[&start[..], calls].concat());
         let (file, pipe) = ([0, 0, 2, 0], [0, 1, 2, 0]);
         for level in 0..=16 {
@@ -437,7 +450,7 @@ mod tests {
 
     #[test]
     fn the_freeze_is_said_before_the_flow() {
-        let start = [(1, [0, 9, 0, 0]), (2, [0, 9, 0, 0]), (4, [0, 1, 0, 1]), (1, [1, 8, 0, 0])];
+        let start = [(1, [0, 9, 255, 0]), (2, [0, 9, 255, 0]), (4, [0, 1, 0, 1]), (1, [1, 8, 255, 0])];
         let after = |calls: &[(u64, [u64; 4])]| last(&[&start[..], calls].concat());
         let (held, freeze) = ((6, [0, 0, 2, 0]), |level| (16, [level, 0, 0, 0]));
         // Subject 1 is below file 0.
@@ -448,14 +461,14 @@ mod tests {
         // A pipe is not frozen.
         assert_eq!(after(&[held, freeze(0), (6, [1, 1, 0, 0])]), Answer::Refused(9));
         // Nor is anything for reading.
-        let low = (2, [2, 8, 0, 0]);
+        let low = (2, [2, 8, 255, 0]);
         assert_eq!(after(&[held, low, freeze(0), (5, [0, 2, 3, 0])]), Answer::Refused(9));
         assert_eq!(after(&[held, low, freeze(0), (14, [0, 2, 3, 0])]), Answer::Refused(9));
     }
 
     #[test]
     fn an_exec_leaves_the_caller_s_marked_handles_out_and_closes_them() {
-        let start = [(1, [0, 9, 0, 0]), (2, [0, 9, 0, 0]), (2, [1, 2, 0, 0]), (6, [0, 0, 0, 0])];
+        let start = [(1, [0, 9, 255, 0]), (2, [0, 9, 255, 0]), (2, [1, 2, 255, 0]), (6, [0, 0, 0, 0])];
         let after = |calls: &[(u64, [u64; 4])]| last(&[&start[..], calls].concat());
         let (mark, exec, write) = ((15, [0; 4]), (10, [0, 1, 0, 0]), (8, [0; 4]));
         assert_eq!(after(&[mark]), Answer::Allowed(9));
@@ -464,7 +477,7 @@ mod tests {
         assert_eq!(after(&[(15, [0, 16, 0, 0])]), Answer::Refused(7));
         assert_eq!(after(&[(15, [1, 16, 0, 0])]), Answer::Refused(2));
         assert_eq!(after(&[exec]), Answer::Refused(9));
-        assert_eq!(after(&[mark, exec]), Answer::Lowered(2));
+        assert_eq!(after(&[mark, exec]), Answer::Lowered(2, 0));
         assert_eq!(after(&[mark, exec, write]), Answer::Refused(7));
         // A second handle is not marked: the exec is refused and the first one stays.
         let second = (6, [0, 0, 1, 0]);
@@ -474,27 +487,27 @@ mod tests {
         assert_eq!(after(&[mark, (11, [0; 4]), (6, [0; 4]), exec]), Answer::Refused(9));
         // A fork copies the mark, and each of the two has its own.
         let (fork, child) = ((9, [0, 1, 0, 0]), (10, [1, 1, 0, 0]));
-        assert_eq!(after(&[mark, fork, child]), Answer::Lowered(2));
+        assert_eq!(after(&[mark, fork, child]), Answer::Lowered(2, 0));
         assert_eq!(after(&[mark, fork, child, write]), Answer::Allowed(9));
         assert_eq!(after(&[fork, mark, child]), Answer::Refused(9));
     }
 
     #[test]
     fn a_pipe_ends_with_the_exec_that_closes_its_last_handle() {
-        let start = [(1, [0, 9, 0, 0]), (2, [0, 9, 0, 0]), (4, [0, 5, 0, 1]), (15, [0, 0, 0, 0])];
+        let start = [(1, [0, 9, 255, 0]), (2, [0, 9, 255, 0]), (4, [0, 5, 0, 1]), (15, [0, 0, 0, 0])];
         let ended = [(15, [0, 1, 0, 0]), (10, [0; 4])];
-        let again = (2, [5, 4, 0, 0]);
+        let again = (2, [5, 4, 255, 0]);
         assert_eq!(last(&[&start[..], &ended[..], &[again]].concat()), Answer::Allowed(4));
         assert_eq!(last(&[&start[..], &ended[1..], &[again]].concat()), Answer::Refused(3));
     }
 
     #[test]
     fn a_map_is_an_open_for_reading_and_a_read() {
-        let start = [(1, [0, 9, 0, 0]), (2, [0, 9, 0, 0]), (2, [1, 2, 0, 0]), (4, [0, 5, 14, 15])];
+        let start = [(1, [0, 9, 255, 0]), (2, [0, 9, 255, 0]), (2, [1, 2, 255, 0]), (4, [0, 5, 14, 15])];
         let after = |calls: &[(u64, [u64; 4])]| last(&[&start[..], calls].concat());
         let (high, low) = ((14, [0, 0, 0, 0]), (14, [0, 1, 1, 0]));
         assert_eq!(after(&[high]), Answer::Allowed(9));
-        assert_eq!(after(&[low]), Answer::Lowered(2));
+        assert_eq!(after(&[low]), Answer::Lowered(2, 0));
         assert_eq!(after(&[low, high]), Answer::Allowed(2));
         assert_eq!(after(&[low, (7, [0, 1, 0, 0])]), Answer::Allowed(2));
         assert_eq!(after(&[low, (8, [0, 1, 0, 0])]), Answer::Refused(8));
@@ -505,12 +518,12 @@ mod tests {
         assert_eq!(after(&[(6, [0, 0, 0, 0]), (14, [0, 1, 16, 0])]), Answer::Refused(7));
         assert_eq!(after(&[(6, [0, 0, 0, 0]), (14, [0, 1, 0, 0])]), Answer::Refused(7));
         assert_eq!(after(&[(6, [0, 0, 0, 0]), low]), Answer::Refused(9));
-        assert_eq!(after(&[(16, [0; 4]), low]), Answer::Lowered(2));
+        assert_eq!(after(&[(16, [0; 4]), low]), Answer::Lowered(2, 0));
     }
 
     #[test]
     fn a_write_to_a_mapped_file_lowers_nobody() {
-        let start = [(1, [0, 9, 0, 0]), (1, [1, 9, 0, 0]), (2, [0, 2, 0, 0]), (14, [1, 0, 0, 0])];
+        let start = [(1, [0, 9, 255, 0]), (1, [1, 9, 255, 0]), (2, [0, 2, 255, 0]), (14, [1, 0, 0, 0])];
         let after = |calls: &[(u64, [u64; 4])]| last(&[&start[..], calls].concat());
         let (open, write) = ((6, [0, 0, 3, 0]), (8, [0, 3, 0, 0]));
         assert_eq!(after(&[open, write]), Answer::Allowed(2));
@@ -520,7 +533,7 @@ mod tests {
 
     #[test]
     fn an_exec_closes_the_caller_s_mappings() {
-        let start = [(1, [0, 9, 0, 0]), (2, [0, 9, 0, 0]), (2, [1, 2, 0, 0]), (14, [0, 0, 0, 0])];
+        let start = [(1, [0, 9, 255, 0]), (2, [0, 9, 255, 0]), (2, [1, 2, 255, 0]), (14, [0, 0, 0, 0])];
         let after = |calls: &[(u64, [u64; 4])]| last(&[&start[..], calls].concat());
         let (exec, read) = ((10, [0; 4]), (7, [0; 4]));
         assert_eq!(after(&[exec]), Answer::Allowed(9));
@@ -539,10 +552,10 @@ mod tests {
     /// Subjects 0 of level 9 and 1 of level 2, files 0 of level 9 and 1 of level 2, then these calls.
     fn after(calls: &[(u64, [u64; 6])]) -> Answer {
         let start = [
-            (1, [0, 9, 0, 0, 0, 0]),
-            (1, [1, 2, 0, 0, 0, 0]),
-            (2, [0, 9, 0, 0, 0, 0]),
-            (2, [1, 2, 0, 0, 0, 0]),
+            (1, [0, 9, 255, 0, 0, 0]),
+            (1, [1, 2, 255, 0, 0, 0]),
+            (2, [0, 9, 255, 0, 0, 0]),
+            (2, [1, 2, 255, 0, 0, 0]),
         ];
         last(&[&start[..], calls].concat())
     }
@@ -562,13 +575,13 @@ mod tests {
         assert_eq!(after(&[CONNECT, at(8, 0, 4)]), Answer::Allowed(9));
         assert_eq!(after(&[CONNECT, at(7, 1, 3)]), Answer::Allowed(2));
         assert_eq!(after(&[CONNECT, at(8, 1, 4)]), Answer::Allowed(2));
-        assert_eq!(after(&[CONNECT, at(7, 0, 3)]), Answer::Lowered(2));
+        assert_eq!(after(&[CONNECT, at(7, 0, 3)]), Answer::Lowered(2, 0));
         for s in [0, 1] {
             assert_eq!(after(&[CONNECT, at(7, s, 4)]), Answer::Refused(8));
             assert_eq!(after(&[CONNECT, at(8, s, 3)]), Answer::Refused(8));
         }
         // A pipe ends with its last handle.
-        let again = (2, [5, 4, 0, 0, 0, 0]);
+        let again = (2, [5, 4, 255, 0, 0, 0]);
         assert_eq!(after(&[CONNECT, at(11, 0, 4), again]), Answer::Refused(3));
         assert_eq!(after(&[CONNECT, at(11, 0, 4), at(11, 1, 3), again]), Answer::Allowed(4));
     }
@@ -596,16 +609,16 @@ mod tests {
         assert_eq!(after(&[write, (17, [1, 0, 5, 6, 3, 4])]), Answer::Refused(9));
         assert_eq!(after(&[write, at(11, 0, 9), CONNECT]), Answer::Allowed(9));
         // Upstream of the one end, a file that it has open and has not read.
-        let (admit, read) = ((1, [2, 9, 0, 0, 0, 0]), (5, [2, 1, 0, 0, 0, 0]));
+        let (admit, read) = ((1, [2, 9, 255, 0, 0, 0]), (5, [2, 1, 0, 0, 0, 0]));
         assert_eq!(after(&[write, admit, (17, [0, 2, 5, 6, 3, 4])]), Answer::Allowed(9));
         assert_eq!(after(&[write, admit, read, (17, [0, 2, 5, 6, 3, 4])]), Answer::Refused(9));
     }
 
     #[test]
     fn a_read_lowers_and_an_open_does_not() {
-        let open = [(2, [0, 2, 0, 0]), (1, [0, 9, 0, 0]), (5, [0, 0, 15, 0])];
+        let open = [(2, [0, 2, 255, 0]), (1, [0, 9, 255, 0]), (5, [0, 0, 15, 0])];
         assert_eq!(last(&open), Answer::Allowed(2));
-        assert_eq!(last(&[&open[..], &[(7, [0, 15, 0, 0])]].concat()), Answer::Lowered(2));
+        assert_eq!(last(&[&open[..], &[(7, [0, 15, 0, 0])]].concat()), Answer::Lowered(2, 0));
         assert_eq!(last(&[&open[..], &[(11, [0, 15, 0, 0])]].concat()), Answer::Allowed(9));
     }
 }

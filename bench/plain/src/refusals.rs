@@ -3,9 +3,8 @@
 //! A call goes through them by rising refusal number, so that the smallest is given; but that 16 comes right after 2,
 //! 17 right after 3, and 15 just before 9.
 
-use crate::tables::{
-    slot_among, Direction, Kind, Level, Object, Place, Slots, Subject, Tables, LEVELS, NO_FREEZE,
-};
+use crate::labels::{Label, Level, Shops, LEVELS};
+use crate::tables::{slot_among, Direction, Kind, Object, Place, Slots, Subject, Tables, NO_FREEZE};
 
 /// Why a call, a journal or a line is refused; the number is what the answer gives.
 #[derive(Clone, Copy, Debug, PartialEq, Eq)]
@@ -145,9 +144,9 @@ impl Tables {
         }
     }
 
-    /// Refusal 15: the object is a pipe, or a file below the freeze.
+    /// Refusal 15: the object is a pipe, or a file whose level is below the freeze.
     pub fn writable(&self, object: Object) -> Result<(), Refusal> {
-        if object.kind == Kind::File && object.level >= self.freeze {
+        if object.kind == Kind::File && object.label.level() >= self.freeze {
             Err(Refusal::Frozen)
         } else {
             Ok(())
@@ -160,10 +159,10 @@ fn slot(free: Slots, o: u64) -> Result<usize, Refusal> {
     slot_among(free, o).ok_or(Refusal::TooManyObjects)
 }
 
-/// Refusal 6: the level is in range.
-pub fn level_in_range(level: u64) -> Result<Level, Refusal> {
-    if level < LEVELS as u64 {
-        Ok(level as Level)
+/// Refusal 6: the level and the set are in range.
+pub fn label_in_range(level: u64, shops: u64) -> Result<Label, Refusal> {
+    if level < LEVELS as u64 && shops <= u64::from(Shops::MAX) {
+        Ok(Label::new(level as Level, shops as Shops))
     } else {
         Err(Refusal::LevelTooHigh)
     }

@@ -24,18 +24,22 @@ pub fn replies(journal: &[u8], when: When, text: &mut Vec<u8>) {
     end(text, monitor.tally());
 }
 
-/// Position, code, A, L or R, and the level or refusal number.
+/// Position, code, A, L or R, and the level or refusal number; behind L also the number of shop marks lost.
 fn line(text: &mut Vec<u8>, position: u64, code: u64, answer: Answer) {
-    let (letter, value) = match answer {
-        Answer::Allowed(level) => (b'A', level),
-        Answer::Lowered(level) => (b'L', level),
-        Answer::Refused(number) => (b'R', number),
+    let (letter, value, lost) = match answer {
+        Answer::Allowed(level) => (b'A', level, None),
+        Answer::Lowered(level, lost) => (b'L', level, Some(lost)),
+        Answer::Refused(number) => (b'R', number, None),
     };
     decimal(text, position);
     text.push(b' ');
     decimal(text, code);
     text.extend_from_slice(&[b' ', letter, b' ']);
     decimal(text, value.into());
+    if let Some(lost) = lost {
+        text.push(b' ');
+        decimal(text, lost.into());
+    }
     text.push(b'\n');
 }
 
@@ -75,8 +79,14 @@ mod tests {
 
     #[test]
     fn the_first_journal_is_answered() {
-        let journal = [3, 2, 0, 2, 3, 1, 0, 9, 4, 5, 0, 0, 0, 3, 7, 0, 0];
-        assert_eq!(reply(&journal), "1 2 A 2\n2 1 A 9\n3 5 A 2\n4 7 L 2\nend 1 0 1\n");
+        let journal = [5, 2, 0, 2, 255, 1, 5, 1, 0, 9, 255, 1, 4, 5, 0, 0, 0, 3, 7, 0, 0];
+        assert_eq!(reply(&journal), "1 2 A 2\n2 1 A 9\n3 5 A 2\n4 7 L 2 0\nend 1 0 1\n");
+        // The sheet is vouched for by shop group 2 alone.
+        let journal = [4, 2, 0, 9, 4, 5, 1, 0, 9, 255, 1, 4, 5, 0, 0, 0, 3, 7, 0, 0, 3, 7, 0, 0];
+        assert_eq!(reply(&journal), "1 2 A 9\n2 1 A 9\n3 5 A 9\n4 7 L 9 7\n5 7 A 9\nend 1 0 1\n");
+        // Without sets, as before there were any.
+        let journal = [3, 2, 0, 2, 3, 1, 0, 9];
+        assert_eq!(reply(&journal), "1 2 R 12\n2 1 R 12\nend 0 0 0\n");
     }
 
     #[test]

@@ -3,24 +3,22 @@
 //!
 //! A live object has one of 64 slots and any number. Inside, it goes by its slot.
 //!
-//! Data flows freely among the members of a group, and they have one level: for flows a group is one thing, and what its
+//! Data flows freely among the members of a group, and they have one label: for flows a group is one thing, and what its
 //! members hold are the handles of that thing.
 
 use std::iter;
+
+use crate::labels::{Label, Level, LEVELS};
 
 /// How many there are of each; of objects, how many are live at a time.
 pub const SUBJECTS: usize = 32;
 pub const OBJECTS: usize = 64;
 pub const PLACES: usize = 16;
-pub const LEVELS: usize = 16;
-
-/// 0, the lowest, to 15.
-pub type Level = u8;
 
 /// The freeze where there is none: it is above every level.
 pub const NO_FREEZE: Level = LEVELS as Level;
 
-/// A file's level never changes; a pipe's can fall.
+/// A file's label never changes; a pipe's can fall.
 #[derive(Clone, Copy, Debug, PartialEq, Eq)]
 pub enum Kind {
     File,
@@ -31,7 +29,7 @@ pub enum Kind {
 #[derive(Clone, Copy, Debug, PartialEq, Eq)]
 pub struct Object {
     pub kind: Kind,
-    pub level: Level,
+    pub label: Label,
     /// How many handles are open on it.
     pub handles: u16,
 }
@@ -62,23 +60,23 @@ pub fn numbers(mut subjects: Subjects) -> impl Iterator<Item = usize> {
     })
 }
 
-/// A subject or several that are threads of one step. One without members is free, and its level says nothing.
+/// A subject or several that are threads of one step. One without members is free, and its label says nothing.
 #[derive(Clone, Copy, Debug, PartialEq, Eq)]
 pub struct Group {
-    pub level: Level,
+    pub label: Label,
     pub members: Subjects,
 }
 
 impl Group {
-    pub const FREE: Group = Group { level: 0, members: 0 };
+    pub const FREE: Group = Group { label: Label::LEAST, members: 0 };
 }
 
-/// A live subject, with its group and the level of that.
+/// A live subject, with its group and the label of that.
 #[derive(Clone, Copy, Debug, PartialEq, Eq)]
 pub struct Subject {
     pub number: usize,
     pub group: Thing,
-    pub level: Level,
+    pub label: Label,
 }
 
 /// What a place holds, kept as the flow that it makes: from its subject's group to an object that is written, from an
@@ -154,8 +152,8 @@ pub fn slot_among(free: Slots, o: u64) -> Option<usize> {
 }
 
 /// Every table. A subject that is not live holds no handle, every handle's object is live, and an empty place has no
-/// mark and is no mapping. A mapping is a reading handle on a file that its subject is not above. No two live objects
-/// have the same number. The members of a group are the live subjects that are in it.
+/// mark and is no mapping. A mapping is a reading handle on a file whose label is at least its subject's. No two live
+/// objects have the same number. The members of a group are the live subjects that are in it.
 #[derive(Clone, Debug, PartialEq, Eq)]
 pub struct Tables {
     /// The groups of the live subjects; none for a number that is free.
@@ -196,17 +194,17 @@ impl Tables {
     /// The live subject with a number.
     pub fn live(&self, number: usize) -> Option<Subject> {
         let group = (*self.subjects.get(number)?)?;
-        Some(Subject { number, group, level: self.groups[usize::from(group)].level })
+        Some(Subject { number, group, label: self.groups[usize::from(group)].label })
     }
 
     /// A new subject, without handles, in a group of its own. The group gets the number of the subject, or the lowest
     /// that is free where others still have that one: there are as many numbers as subjects.
-    pub fn admit(&mut self, number: usize, level: Level) -> Subject {
+    pub fn admit(&mut self, number: usize, label: Label) -> Subject {
         let is_free = |group: &usize| self.groups[*group].members == 0;
         let group = iter::once(number).chain(0..SUBJECTS).find(is_free).unwrap_or(number);
-        self.groups[group] = Group { level, members: 1 << number };
+        self.groups[group] = Group { label, members: 1 << number };
         self.subjects[number] = Some(group as Thing);
-        Subject { number, group: group as Thing, level }
+        Subject { number, group: group as Thing, label }
     }
 
     /// A new subject, without handles, in the group of another.
@@ -220,9 +218,9 @@ impl Tables {
         self.groups[usize::from(s.group)].members & !(1 << s.number)
     }
 
-    /// Sets the level of a subject, and so of its mates.
-    pub fn set_level(&mut self, s: Subject, level: Level) {
-        self.groups[usize::from(s.group)].level = level;
+    /// Sets the label of a subject, and so of its mates.
+    pub fn set_label(&mut self, s: Subject, label: Label) {
+        self.groups[usize::from(s.group)].label = label;
     }
 
     /// The subject is gone with its handles, and its number is free. Its mates stay.
@@ -245,8 +243,8 @@ impl Tables {
     }
 
     /// A new object, without handles, in a free slot.
-    pub fn bring(&mut self, slot: usize, o: u64, kind: Kind, level: Level) {
-        self.objects[slot] = Some(Object { kind, level, handles: 0 });
+    pub fn bring(&mut self, slot: usize, o: u64, kind: Kind, label: Label) {
+        self.objects[slot] = Some(Object { kind, label, handles: 0 });
         self.numbers[slot] = o;
         self.free &= !(1 << slot);
     }
@@ -327,6 +325,9 @@ impl Tables {
 #[cfg(test)]
 mod tests {
     use super::*;
+    use crate::labels::ALL_SHOPS;
+
+    const NINE: Label = Label::new(9, ALL_SHOPS);
 
     #[test]
     fn a_place_is_what_was_put_there() {
@@ -351,14 +352,14 @@ mod tests {
         let mut tables = Tables::EMPTY;
         assert_eq!(tables.slot_of(0), None);
         // In the slot of its number, and in another one.
-        tables.bring(3, 3, Kind::File, 9);
-        tables.bring(0, 1 << 32 | 3, Kind::File, 9);
+        tables.bring(3, 3, Kind::File, NINE);
+        tables.bring(0, 1 << 32 | 3, Kind::File, NINE);
         assert_eq!([3, 1 << 32 | 3, 67, 0].map(|o| tables.slot_of(o)), [Some(3), Some(0), None, None]);
         // A number that is free and brought again elsewhere.
         tables.end(3);
         tables.end(0);
         assert_eq!([3, 1 << 32 | 3].map(|o| tables.slot_of(o)), [None; 2]);
-        tables.bring(63, 3, Kind::Pipe, 9);
+        tables.bring(63, 3, Kind::Pipe, NINE);
         assert_eq!([3, 1 << 32 | 3].map(|o| tables.slot_of(o)), [Some(63), None]);
     }
 
@@ -372,7 +373,7 @@ mod tests {
     #[test]
     fn a_group_stays_until_its_last_member_leaves() {
         let mut tables = Tables::EMPTY;
-        let first = tables.admit(5, 9);
+        let first = tables.admit(5, NINE);
         tables.join(first, 31);
         let second = Subject { number: 31, ..first };
         assert_eq!((tables.live(5), tables.live(31), tables.live(0)), (Some(first), Some(second), None));
@@ -380,29 +381,33 @@ mod tests {
         tables.leave(first);
         assert_eq!((tables.live(5), tables.live(31), tables.mates(second)), (None, Some(second), 0));
         // The number of the group is the subject's where it is free.
-        assert_eq!([tables.admit(5, 9), tables.admit(3, 9)].map(|s| s.group), [0, 3]);
-        assert_eq!(tables.admit(0, 9).group, 1);
+        assert_eq!([tables.admit(5, NINE), tables.admit(3, NINE)].map(|s| s.group), [0, 3]);
+        assert_eq!(tables.admit(0, NINE).group, 1);
         tables.leave(second);
-        tables.leave(Subject { number: 5, group: 0, level: 9 });
-        assert_eq!(tables.admit(5, 9).group, 5);
+        tables.leave(Subject { number: 5, group: 0, label: NINE });
+        assert_eq!(tables.admit(5, NINE).group, 5);
     }
 
     #[test]
-    fn a_level_is_all_members_level() {
+    fn a_label_is_all_members_label() {
         let mut tables = Tables::EMPTY;
-        let (s, other) = (tables.admit(0, 9), tables.admit(1, 9));
+        let (s, other) = (tables.admit(0, NINE), tables.admit(1, NINE));
         tables.join(s, 2);
-        tables.set_level(s, 4);
-        assert_eq!([0, 1, 2].map(|s| tables.live(s).map(|s| s.level)), [Some(4), Some(9), Some(4)]);
+        let fallen = Label::new(4, 1);
+        tables.set_label(s, fallen);
+        assert_eq!(
+            [0, 1, 2].map(|s| tables.live(s).map(|s| s.label)),
+            [Some(fallen), Some(NINE), Some(fallen)]
+        );
         assert_eq!(tables.live(1), Some(other));
     }
 
     #[test]
     fn an_exec_is_tested_without_marked_handles_and_without_mates() {
         let mut tables = Tables::EMPTY;
-        let (s, other) = (tables.admit(0, 9), tables.admit(1, 9));
+        let (s, other) = (tables.admit(0, NINE), tables.admit(1, NINE));
         tables.join(s, 2);
-        tables.bring(5, 5, Kind::File, 9);
+        tables.bring(5, 5, Kind::File, NINE);
         let mate = Subject { number: 2, ..s };
         for (subject, p) in [(s, 0), (s, 1), (other, 0), (mate, 0)] {
             tables.fill(subject, p, 5, Direction::Writing);
@@ -419,8 +424,8 @@ mod tests {
     #[test]
     fn a_mark_goes_with_its_handle() {
         let mut tables = Tables::EMPTY;
-        let s = tables.admit(31, 9);
-        tables.bring(5, 5, Kind::File, 9);
+        let s = tables.admit(31, NINE);
+        tables.bring(5, 5, Kind::File, NINE);
         for p in [0, 15] {
             tables.fill(s, p, 5, Direction::Writing);
             assert!(!tables.is_marked(31, p));
@@ -437,8 +442,8 @@ mod tests {
     #[test]
     fn a_mapping_goes_with_its_handle() {
         let mut tables = Tables::EMPTY;
-        let s = tables.admit(31, 9);
-        tables.bring(5, 5, Kind::File, 9);
+        let s = tables.admit(31, NINE);
+        tables.bring(5, 5, Kind::File, NINE);
         for p in [0, 15] {
             tables.fill(s, p, 5, Direction::Reading);
             assert!(!tables.ends_at_exec(31, p));
@@ -455,12 +460,12 @@ mod tests {
     fn a_pipe_ends_with_its_last_handle_and_a_file_does_not() {
         for (kind, left) in [(Kind::Pipe, false), (Kind::File, true)] {
             let mut tables = Tables::EMPTY;
-            let s = tables.admit(0, 9);
-            tables.bring(5, u64::MAX, kind, 9);
+            let s = tables.admit(0, NINE);
+            tables.bring(5, u64::MAX, kind, NINE);
             tables.fill(s, 0, 5, Direction::Reading);
             tables.fill(s, 1, 5, Direction::Writing);
             tables.empty(0, 0);
-            assert_eq!(tables.objects[5], Some(Object { kind, level: 9, handles: 1 }));
+            assert_eq!(tables.objects[5], Some(Object { kind, label: NINE, handles: 1 }));
             tables.empty(0, 1);
             assert_eq!(tables.objects[5].is_some(), left);
             assert_eq!(tables.slot_of(u64::MAX), left.then_some(5));

@@ -1,10 +1,11 @@
 //! The plain program beside the independent one: the same replies to every journal, and after each direct call the
-//! same answer, the same tally, levels, groups, marks, mappings and freeze, and the needs as the independent program works
+//! same answer, the same tally, labels, groups, marks, mappings and freeze, and the needs as the independent program works
 //! them out.
 
 use gatekeeper_independent::calls::{Numbers, Shape, NUMBERS, SHAPES};
 use gatekeeper_independent::cases;
 use gatekeeper_independent::generate::{self, Style, Wish, STYLES};
+use gatekeeper_independent::labels::Label as LabelBeside;
 use gatekeeper_independent::monitor::{Answer as AnswerBeside, Monitor as MonitorBeside};
 use gatekeeper_independent::needs::{Needs, Thing};
 use gatekeeper_independent::random::Random;
@@ -12,7 +13,7 @@ use gatekeeper_independent::records::{self, Body, Reader};
 use gatekeeper_independent::replies::replies as replies_beside;
 use gatekeeper_independent::variants::Rules;
 use gatekeeper_plain::tables::{numbers, Subjects};
-use gatekeeper_plain::{replies, Answer, Monitor, When};
+use gatekeeper_plain::{replies, Answer, Label, Monitor, When};
 
 const SEED: u64 = 1;
 
@@ -34,9 +35,13 @@ fn reply(journal: &[u8], when: When) -> String {
 fn beside(answer: AnswerBeside) -> Answer {
     match answer {
         AnswerBeside::Allowed(level) => Answer::Allowed(level as u8),
-        AnswerBeside::Lowered(level) => Answer::Lowered(level as u8),
+        AnswerBeside::Lowered(level, lost) => Answer::Lowered(level as u8, lost as u8),
         AnswerBeside::Refused(number) => Answer::Refused(number as u8),
     }
+}
+
+fn label_beside(label: Label) -> LabelBeside {
+    LabelBeside { level: label.level().into(), shops: label.shops().into() }
 }
 
 #[test]
@@ -86,7 +91,7 @@ impl Pair {
         assert_eq!(tally.open(), self.independent.tables().handle_count());
         assert_eq!(u64::from(self.plain.tables().freeze), self.independent.tables().freeze());
         self.compare_handles();
-        self.compare_levels();
+        self.compare_labels();
         self.compare_groups();
         if let Answer::Refused(_) = answer {
             assert_eq!(self.plain.tables(), &before, "a refused call changed a table");
@@ -107,17 +112,17 @@ impl Pair {
         }
     }
 
-    /// Sees that the same subjects and objects are live, at the same levels.
-    fn compare_levels(&self) {
+    /// Sees that the same subjects and objects are live, with the same labels.
+    fn compare_labels(&self) {
         let (plain, tables) = (self.plain.tables(), self.independent.tables());
         for s in 0..32 {
-            let level = plain.live(s).map(|subject| u64::from(subject.level));
-            assert_eq!(level, tables.subject(s as u64).map(|subject| subject.level), "subject {s}");
+            let label = plain.live(s).map(|subject| label_beside(subject.label));
+            assert_eq!(label, tables.subject(s as u64).map(|subject| subject.label()), "subject {s}");
         }
         let mut live = 0;
         for (slot, o) in self.objects() {
-            let level = plain.objects[slot].map(|object| u64::from(object.level));
-            assert_eq!(level, tables.object(o).map(|object| object.level), "object {o}");
+            let label = plain.objects[slot].map(|object| label_beside(object.label));
+            assert_eq!(label, tables.object(o).map(|object| object.label()), "object {o}");
             assert_eq!(plain.slot_of(o), Some(slot), "object {o}");
             live += 1;
         }
@@ -150,11 +155,12 @@ impl Pair {
     fn compare_needs(&self) {
         let needs = Needs::of_tables(self.independent.tables());
         for s in 0..32 {
-            let need = self.plain.tables().live(s).map_or(0, |s| self.plain.needs().subject(s));
-            assert_eq!(u64::from(need), needs.of(Thing::Subject(s as u64)));
+            let need = self.plain.tables().live(s).map_or(Label::LEAST, |s| self.plain.needs().subject(s));
+            assert_eq!(label_beside(need), needs.of(Thing::Subject(s as u64)), "need of subject {s}");
         }
         for (slot, o) in self.objects() {
-            assert_eq!(u64::from(self.plain.needs().object(slot)), needs.of(Thing::Object(o)));
+            let need = self.plain.needs().object(slot);
+            assert_eq!(label_beside(need), needs.of(Thing::Object(o)), "need of object {o}");
         }
     }
 }
@@ -192,7 +198,7 @@ fn direct_calls_get_the_same_answers_and_needs() {
 fn drawn(random: &mut Random) -> u64 {
     match random.below(120) {
         0 => random.between(0, u64::MAX),
-        1..10 => random.pick(&[15, 16, 31, 32, 63, 64, 1 << 32, u64::MAX]).unwrap_or(0),
+        1..10 => random.pick(&[15, 16, 31, 32, 63, 64, 255, 256, 1 << 32, u64::MAX]).unwrap_or(0),
         10..30 => (1 << 32) | (64 * random.below(200)),
         _ => random.below(9),
     }
@@ -205,29 +211,34 @@ fn any_numbers_get_the_same_answers() {
         let mut random = Random::new(SEED, 0);
         let mut pair = Pair::new(when);
         let mut refused = [0; 18];
+        let mut lost = 0;
         for _ in 0..CALLS {
             let code = random.between(0, largest + 1);
             let numbers = [0; NUMBERS].map(|_: u64| drawn(&mut random));
-            if let Answer::Refused(number) = pair.call(code, numbers) {
-                refused[usize::from(number)] += 1;
+            match pair.call(code, numbers) {
+                Answer::Refused(number) => refused[usize::from(number)] += 1,
+                Answer::Lowered(_, 1..) => lost += 1,
+                _ => {}
             }
         }
         // 11 to 14 are not said of a direct call.
         let drawn = (1..=17).filter(|&number| refused[number] > 0);
         assert!(drawn.eq((1..=10).chain([15, 16, 17])), "a refusal was never drawn: {refused:?}");
+        assert!(lost > 20, "shop marks were lost {lost} times");
     }
 }
 
-/// What is there before the calls of steps with threads: two steps, of three threads and of two, and three files.
+/// What is there before the calls of steps with threads: two steps, of three threads and of two, and three files. The
+/// second step and the files lack shop marks.
 const STEPS: [(u64, Numbers); 8] = [
-    (1, [0, 12, 0, 0, 0, 0]),
+    (1, [0, 12, 255, 0, 0, 0]),
     (18, [0, 1, 0, 0, 0, 0]),
     (18, [1, 2, 0, 0, 0, 0]),
-    (1, [3, 12, 0, 0, 0, 0]),
+    (1, [3, 12, 0b0111, 0, 0, 0]),
     (18, [3, 4, 0, 0, 0, 0]),
-    (2, [0, 3, 0, 0, 0, 0]),
-    (2, [1, 9, 0, 0, 0, 0]),
-    (2, [2, 12, 0, 0, 0, 0]),
+    (2, [0, 3, 0b0001, 0, 0, 0]),
+    (2, [1, 9, 0b0110, 0, 0, 0]),
+    (2, [2, 12, 0b0011, 0, 0, 0]),
 ];
 
 /// How often each of their calls is drawn. No freeze is, as it would keep the upper files out.
@@ -246,14 +257,17 @@ fn drawn_few(random: &mut Random, name: &str) -> u64 {
         "s" | "t" | "c" => random.below(6),
         "p" | "q" | "r" | "w" => random.below(3),
         "level" => random.pick(&[3, 9, 12, 12]).unwrap_or(0),
+        "set" => random.pick(&[0b0001, 0b0011, 0b0110, 0b0111, 255, 255]).unwrap_or(0),
         _ => random.below(4),
     }
 }
 
-/// How often subjects with mates fell at a read or a map, ended them by an exec, and were refused one for the flow.
+/// How often subjects with mates fell at a read or a map, lost shop marks there, ended them by an exec, and were refused one
+/// for the flow.
 #[derive(Debug, Default)]
 struct Met {
     fell: u32,
+    lost: u32,
     ended: u32,
     stayed: u32,
 }
@@ -276,8 +290,11 @@ fn threads_get_the_same_answers() {
             }
             let has_mates = pair.mates(numbers[0]) != 0;
             match (shape.code, pair.call(shape.code, numbers)) {
-                (7 | 14, Answer::Lowered(_)) if has_mates => met.fell += 1,
-                (10, Answer::Allowed(_) | Answer::Lowered(_)) if has_mates => met.ended += 1,
+                (7 | 14, Answer::Lowered(_, lost)) if has_mates => {
+                    met.fell += 1;
+                    met.lost += u32::from(lost > 0);
+                }
+                (10, Answer::Allowed(_) | Answer::Lowered(..)) if has_mates => met.ended += 1,
                 (10, Answer::Refused(9)) if has_mates => met.stayed += 1,
                 _ => {}
             }
@@ -287,5 +304,5 @@ fn threads_get_the_same_answers() {
         }
     }
     // A comparison that met little says little.
-    assert!([met.fell, met.ended, met.stayed].into_iter().all(|met| met > 20), "{met:?}");
+    assert!([met.fell, met.lost, met.ended, met.stayed].into_iter().all(|met| met > 20), "{met:?}");
 }

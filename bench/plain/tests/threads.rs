@@ -8,7 +8,8 @@ use gatekeeper_plain::{Answer, Monitor, When};
 type Made<'a> = (u64, &'a [u64]);
 
 /// Subjects 0 of level 9 and 1 of level 2, files 0 of level 9 and 1 of level 2, and subject 2, a thread of subject 0.
-const START: [Made; 5] = [(1, &[0, 9]), (1, &[1, 2]), (2, &[0, 9]), (2, &[1, 2]), (18, &[0, 2])];
+const START: [Made; 5] =
+    [(1, &[0, 9, 255]), (1, &[1, 2, 255]), (2, &[0, 9, 255]), (2, &[1, 2, 255]), (18, &[0, 2])];
 
 fn make(monitor: &mut Monitor, (code, given): Made) -> Answer {
     let mut numbers = [0; 6];
@@ -61,7 +62,7 @@ fn what_lowers_a_member_lowers_its_mates() {
         let (open, read) = ([s, 1, 3], [s, 3]);
         for fall in [&[(5, &open[..]), (7, &read)][..], &[(14, &open)]] {
             let fallen = [&shown[..], fall].concat();
-            assert_eq!(after(&fallen), Answer::Lowered(2), "{s}");
+            assert_eq!(after(&fallen), Answer::Lowered(2, 0), "{s}");
             assert_eq!(then(&fallen, &[(11, &[3, 0])]), Answer::Allowed(2), "{s}");
             assert_eq!(then(&fallen, &[(11, &[4, 0])]), Answer::Allowed(9), "{s}");
             // Who comes now has the level that they fell to.
@@ -102,11 +103,11 @@ fn mates_are_connected() {
 #[test]
 fn an_exit_ends_one_member() {
     // The first member goes, and another subject has its number, in a group of its own.
-    let left: [Made; 3] = [(6, &[2, 0, 3]), (12, &[0]), (1, &[0, 9])];
+    let left: [Made; 3] = [(6, &[2, 0, 3]), (12, &[0]), (1, &[0, 9, 255])];
     assert_eq!(after(&left), Answer::Allowed(9));
     assert_eq!(then(&left, &[(8, &[2, 3])]), Answer::Allowed(9));
     let read = [(5, &[0, 1, 3][..]), (7, &[0, 3])];
-    assert_eq!(then(&left, &read), Answer::Lowered(2));
+    assert_eq!(then(&left, &read), Answer::Lowered(2, 0));
     assert_eq!(then(&left, &[&read[..], &[(11, &[2, 3])]].concat()), Answer::Allowed(9));
     assert_eq!(then(&left, &[(18, &[2, 3]), (5, &[3, 1, 3])]), Answer::Refused(9));
     assert_eq!(then(&left, &[(18, &[0, 3]), (5, &[3, 1, 3])]), Answer::Allowed(2));
@@ -119,16 +120,16 @@ fn an_exec_ends_the_mates_and_is_tested_without_them() {
     // A third member writes the upper file.
     let held: [Made; 2] = [(18, &[2, 31]), (6, &[31, 0, 3])];
     let exec: Made = (10, &[0, 1]);
-    assert_eq!(then(&held, &[exec]), Answer::Lowered(2));
+    assert_eq!(then(&held, &[exec]), Answer::Lowered(2, 0));
     for mate in [2, 31] {
         assert_eq!(then(&held, &[exec, (12, &[mate])]), Answer::Refused(2));
-        assert_eq!(then(&held, &[exec, (1, &[mate, 9]), (6, &[mate, 0, 3])]), Answer::Allowed(9));
+        assert_eq!(then(&held, &[exec, (1, &[mate, 9, 255]), (6, &[mate, 0, 3])]), Answer::Allowed(9));
     }
     // If that one runs the program it is refused and nobody is ended, but if its handle is marked.
     let holder: Made = (10, &[31, 1]);
     assert_eq!(then(&held, &[holder]), Answer::Refused(9));
     assert_eq!(then(&held, &[holder, (12, &[2])]), Answer::Allowed(9));
-    assert_eq!(then(&held, &[(15, &[31, 3]), holder]), Answer::Lowered(2));
+    assert_eq!(then(&held, &[(15, &[31, 3]), holder]), Answer::Lowered(2, 0));
     // Nobody falls to a program of the same level, and the mates end all the same.
     assert_eq!(then(&held, &[(10, &[0, 0])]), Answer::Allowed(9));
     assert_eq!(then(&held, &[(10, &[0, 0]), (12, &[2])]), Answer::Refused(2));
@@ -139,7 +140,7 @@ fn an_exec_is_tested_with_the_handles_of_others() {
     // Subject 4 writes the upper file and reads the pipe that subject 0 writes.
     let piped: [Made; 3] = [(4, &[0, 5, 0, 1]), (9, &[0, 4]), (6, &[4, 0, 3])];
     assert_eq!(then(&piped, &[(10, &[0, 1])]), Answer::Refused(9));
-    assert_eq!(then(&piped, &[(10, &[2, 1])]), Answer::Lowered(2));
+    assert_eq!(then(&piped, &[(10, &[2, 1])]), Answer::Lowered(2, 0));
 }
 
 #[test]
@@ -158,7 +159,7 @@ fn an_exec_counts_the_handles_of_mates_as_gone() {
         assert!(matches!(make(&mut monitor, call), Answer::Allowed(_)));
     }
     assert_eq!(monitor.tally(), Tally { made: 6, gone: 0 });
-    assert_eq!(make(&mut monitor, (10, &[0, 1])), Answer::Lowered(2));
+    assert_eq!(make(&mut monitor, (10, &[0, 1])), Answer::Lowered(2, 0));
     assert_eq!(monitor.tally(), Tally { made: 6, gone: 5 });
     assert_eq!((monitor.tables().slot_of(5), monitor.tables().live(2)), (None, None));
 }
@@ -167,13 +168,13 @@ fn an_exec_counts_the_handles_of_mates_as_gone() {
 fn there_are_groups_for_all_subjects() {
     // Each member but the last goes and comes back in a group of its own, one after the other.
     let mut monitor = Monitor::new(When::EachCall);
-    assert_eq!(make(&mut monitor, (1, &[0, 9])), Answer::Allowed(9));
+    assert_eq!(make(&mut monitor, (1, &[0, 9, 255])), Answer::Allowed(9));
     for c in 1..32 {
         assert_eq!(make(&mut monitor, (18, &[c - 1, c])), Answer::Allowed(9));
     }
     for s in 0..31 {
         assert_eq!(make(&mut monitor, (12, &[s])), Answer::Allowed(9));
-        assert_eq!(make(&mut monitor, (1, &[s, s % 9])), Answer::Allowed((s % 9) as u8));
+        assert_eq!(make(&mut monitor, (1, &[s, s % 9, 255])), Answer::Allowed((s % 9) as u8));
     }
     for s in 0..31 {
         assert_eq!(make(&mut monitor, (3, &[s, s])), Answer::Allowed((s % 9) as u8));

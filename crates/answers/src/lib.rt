@@ -1,12 +1,12 @@
 // The answer to a call, and what is read off it.
 ghost use mathlib.Core.Path.{_≡_};
 ghost use Rattle.model.specs.Calls.{outcome};
-ghost use Rattle.answers.specs.Telling.{told, letter-of, level-of, value-of, refuses};
+ghost use Rattle.answers.specs.Telling.{told, letter-of, level-of, value-of, lost-of, refuses};
 
 // The outcome of a call with the level, or the number of its refusal.
 pub enum Answer {
     Allowed(u8),
-    Lowered(u8),
+    Lowered(u8, u8),
     Refused(u8),
 }
 
@@ -16,7 +16,7 @@ pub fn letter(a: Answer) -> u8
 {
     match a {
         Answer::Allowed(_) => b'A',
-        Answer::Lowered(_) => b'L',
+        Answer::Lowered(_, _) => b'L',
         Answer::Refused(_) => b'R',
     }
 }
@@ -27,7 +27,7 @@ pub fn value(a: Answer) -> u8
 {
     match a {
         Answer::Allowed(l) => l,
-        Answer::Lowered(l) => l,
+        Answer::Lowered(l, _) => l,
         Answer::Refused(n) => n,
     }
 }
@@ -38,7 +38,18 @@ pub fn level(a: Answer) -> u8
 {
     match a {
         Answer::Allowed(l) => l,
-        Answer::Lowered(l) => l,
+        Answer::Lowered(l, _) => l,
+        Answer::Refused(_) => 0,
+    }
+}
+
+// How many marks were lost, 0 where nothing is lowered.
+pub fn lost(a: Answer) -> u8
+    ensures { λ r. ⌜ r ≡ lost-of (told a) ⌝ }
+{
+    match a {
+        Answer::Allowed(_) => 0,
+        Answer::Lowered(_, k) => k,
         Answer::Refused(_) => 0,
     }
 }
@@ -48,17 +59,17 @@ pub fn is_refused(a: Answer) -> bool
 {
     match a {
         Answer::Allowed(_) => false,
-        Answer::Lowered(_) => false,
+        Answer::Lowered(_, _) => false,
         Answer::Refused(_) => true,
     }
 }
 
 // The answer to a call that is not refused: whether some level got smaller, and the level that it gives.
-pub fn not_refused(lower: bool, level: u8) -> Answer
-    ensures { λ r. ⌜ told r ≡ outcome lower level ⌝ }
+pub fn not_refused(lower: bool, level: u8, lost: u8) -> Answer
+    ensures { λ r. ⌜ told r ≡ outcome lower level lost ⌝ }
 {
     if lower {
-        return Answer::Lowered(level);
+        return Answer::Lowered(level, lost);
     }
     Answer::Allowed(level)
 }

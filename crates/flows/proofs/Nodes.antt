@@ -9,13 +9,14 @@ use mathlib.Core.List.{List}
 use Prim.Native.Nat.{ℕ, _+_, _*_, _-_, _/_, _%_, _≤_, _<_}
 use native.Mathlib.Omega.{arith}
 use native.Mathlib.Decide.{ℕ-discrete, decLt}
-use native.Mathlib.Nat.{le-refl}
 use borrow.Author.Tests.{lt-ltb, le-ltb, ne-eqb}
 use lib.ListN.{length, getD, List·getD-eq-default}
 use lib.Dec.{T, ltb, ltb→lt, lt→ltb, eqb}
 use Rattle.model.specs.Lists.{In}
-use Rattle.model.specs.Label.{Label, _⊑_, label, level, bot}
-use Rattle.model.specs.Label.Laws.{⊑-antisym, ⊑-refl, level-label, le→⊑, ⊑→le, bot-least}
+use Rattle.model.specs.Label.{Label, _⊑_}
+use Rattle.model.specs.Label.Laws.{⊑-antisym, ⊑-refl, bot-least}
+use Rattle.labels.specs.Codes.{coded}
+use Rattle.labels.specs.Codes.Laws.{coded-zero}
 use Rattle.model.specs.Flow.{Thing, subject, object, Edge}
 use Rattle.model.specs.Flow.Laws.{need-self, need-flow, need-below}
 use Rattle.model.specs.Tables.{Dir, reading, writing, Entry, Tables, in-range, arc, flow, edges, demand, needs}
@@ -32,7 +33,7 @@ use Rattle.tables.specs.Records.{object-entry, reads-by, held, no-object, no-ha
 use Rattle.tables.specs.Needs.{node, Needed}
 use Rattle.groups.specs.Groups.{Leads}
 use Rattle.passes.specs.Least.{figure, Before, Settled, Between}
-use Rattle.passes.specs.Working.{alike, end-by, lead-of, source, target, demanded-by, Marked, Spread}
+use Rattle.passes.specs.Working.{alike, end-by, lead-of, source, target, demanded-by, Started, Spread}
 
 -- the thing of a number
 abbrev thing : ℕ → Thing
@@ -45,17 +46,17 @@ thing-node : (x : Thing) → T (in-range x) → thing (node x) ≡ x
 thing-node (subject n) g = rw (lt-ltb n 32 (ltb→lt n 32 g))
 thing-node (object n) g = thing-object n
 
-label-up : (a b : ℕ) → a ≤ b → label a ⊑ label b
-label-up a b h = le→⊑ _ _ (rw (level-label a, level-label b) h)
+-- the figure 0 is the least label
+zero-least : {a : Label} → coded 0 ⊑ a
+zero-least {a} = subst (λ (l : Label). l ⊑ a) (sym coded-zero) bot-least
 
 -- what an object demands
-demands-as : (n : ℕ) (x : Object) → level (demand (object n) (object-entry x)) ≡ demanded-by x
-unfolding Label level bot
+pub demands-as : (n : ℕ) (x : Object) → demand (object n) (object-entry x) ≡ demanded-by x
 demands-as n x = go (ℕ-discrete (x .kind) 0) (ℕ-discrete (x .kind) 1)
   where
-    go : Dec (x .kind ≡ 0) → Dec (x .kind ≡ 1) → level (demand (object n) (object-entry x)) ≡ demanded-by x
+    go : Dec (x .kind ≡ 0) → Dec (x .kind ≡ 1) → demand (object n) (object-entry x) ≡ demanded-by x
     go (yes e) d = rw e
-    go (no z) (yes e) = rw e (level-label (x .level))
+    go (no z) (yes e) = rw e
     go (no z) (no o) = rw (ne-eqb (x .kind) 0 z, ne-eqb (x .kind) 1 o)
 
 -- ── one record ──
@@ -120,7 +121,7 @@ module _ {t : Tables} (w : Wf t) {ld : List ℕ} (led : Leads (t .kin) ld) where
 
 -- ── the tables ──
 module _ (rest : Tables) (ss : List Subject) (os : List Object) (hs : List Handle) (w : Wf (tables-of rest ss os hs)) (lo : length os ≡ 64) (ld : List ℕ)
-    (led : Leads (rest .kin) ld) (base r : List ℕ) (lb : length base ≡ 96) (k : Marked os base) (p : Between 512 (source ld hs) (target ld hs) base r) where
+    (led : Leads (rest .kin) ld) (base r : List ℕ) (k : Started os base 64) (p : Between 512 (source ld hs) (target ld hs) base r) where
   abbrev t : Tables
   t = tables-of rest ss os hs
 
@@ -161,19 +162,20 @@ module _ (rest : Tables) (ss : List Subject) (os : List Object) (hs : List Handl
     empty-at a b e = end-at a b ∙ no-edge start (record-at s q) (lead s) (hand-is s q b ∙ e)
 
   -- ── the needs are a potential of the figures ──
-  ψ : ℕ → ℕ
-  ψ n = level (needs t (thing n))
+  ψ : ℕ → Label
+  ψ n = needs t (thing n)
 
-  above : (n : ℕ) → figure base n ≤ ψ n
+  above : (n : ℕ) → figure base n ⊑ ψ n
   unfolding ψ f tables-of
   above n = go (decLt n 32) (decLt n 96)
     where
-      go : Dec (n < 32) → Dec (n < 96) → figure base n ≤ level (needs t (thing n))
-      go (yes a) b = omega (arith, k .subjects n a)
+      go : Dec (n < 32) → Dec (n < 96) → figure base n ⊑ needs t (thing n)
+      go (yes a) b = subst (λ (z : ℕ). coded z ⊑ needs t (thing n)) (sym (k .subjects n a)) zero-least
       go (no a) (yes b) = let o : ℕ = n - 32 in let e : 32 + o ≡ n = omega arith in
-          subst (λ (z : ℕ). figure base z ≤ level (needs t (thing z))) e
-          (rw (thing-object o, k .objects o (omega arith), ← demands-as o (getD os o no-object)) (⊑→le _ _ (need-self (edges t) f (object o))))
-      go (no a) (no b) = rw (List·getD-eq-default base 0 {n = n} (omega arith)) (omega arith)
+          subst (λ (z : ℕ). figure base z ⊑ needs t (thing z)) e
+          (rw (thing-object o) (subst (λ (l : Label). l ⊑ needs t (object o)) (demands-as o (getD os o no-object) ∙ sym (k .objects o (omega arith)))
+          (need-self (edges t) f (object o))))
+      go (no a) (no b) = subst (λ (z : ℕ). coded z ⊑ needs t (thing n)) (sym (List·getD-eq-default base 0 {n = n} (omega (arith, k .long)))) zero-least
 
   -- a flow of a subject, taken for one of its lead, falls
   lead-falls : (s : ℕ) (j : Held) → s < 32 → needs t (flow (subject s) j .dst) ⊑ needs t (flow (subject s) j .src)
@@ -188,37 +190,35 @@ module _ (rest : Tables) (ss : List Subject) (os : List Object) (hs : List Handl
       go reading h = subst (λ (a : Label). a ⊑ needs t (object (j .to))) (sym e) h
       go writing h = subst (λ (a : Label). needs t (object (j .to)) ⊑ a) (sym e) h
 
-  settled : (i : ℕ) → i < 512 → ψ (target ld hs i) ≤ ψ (source ld hs i)
+  settled : (i : ℕ) → i < 512 → ψ (target ld hs i) ⊑ ψ (source ld hs i)
   unfolding ψ f
-  settled i l = let e : i / 16 * 16 + i % 16 ≡ i = omega arith in subst (λ (z : ℕ). ψ (target ld hs z) ≤ ψ (source ld hs z)) e
+  settled i l = let e : i / 16 * 16 + i % 16 ≡ i = omega arith in subst (λ (z : ℕ). ψ (target ld hs z) ⊑ ψ (source ld hs z)) e
       (go (i / 16) (i % 16) (omega arith) (omega arith) (t .hand (i / 16) (i % 16)) refl)
     where
-      go : (s q : ℕ) → s < 32 → q < 16 → (v : Option Held) → t .hand s q ≡ v → ψ (target ld hs (s * 16 + q)) ≤ ψ (source ld hs (s * 16 + q))
-      go s q a b none z = rw (empty-at true s q a b z, empty-at false s q a b z) (le-refl _)
+      go : (s q : ℕ) → s < 32 → q < 16 → (v : Option Held) → t .hand s q ≡ v → ψ (target ld hs (s * 16 + q)) ⊑ ψ (source ld hs (s * 16 + q))
+      go s q a b none z = rw (empty-at true s q a b z, empty-at false s q a b z) ⊑-refl
       go s q a b (some j) z =
-          subst₂ (λ x y. level (needs t x) ≤ level (needs t y)) (sym (end-thing false)) (sym (end-thing true))
-          (⊑→le _ _ (lead-falls s j a (need-flow (edges t) f (flow (subject s) j) (edge-in t (wf-ranged w) z z))))
+          subst₂ (λ x y. needs t x ⊑ needs t y) (sym (end-thing false)) (sym (end-thing true))
+          (lead-falls s j a (need-flow (edges t) f (flow (subject s) j) (edge-in t (wf-ranged w) z z)))
         where
           end-thing : (start : Bool) → thing (tip-at start s q) ≡ tip start (flow (subject (lead s)) j)
           end-thing start = ap thing (taken-at start s q j z)
               ∙ thing-node (tip start (flow (subject (lead s)) j)) (tip-in-range start (lead s) j (omega arith) (far s q j z .2))
 
   -- at any time while they are worked out
-  pub at-least : (x : Thing) → T (in-range x) → label (figure r (node x)) ⊑ needs (tables-of rest ss os hs) x
+  pub at-least : (x : Thing) → T (in-range x) → figure r (node x) ⊑ needs (tables-of rest ss os hs) x
   unfolding ψ
-  at-least x g = le→⊑ _ _ (rw (level-label (figure r (node x)))
-      (subst (λ (y : Thing). figure r (node x) ≤ level (needs t y)) (thing-node x g)
-      (p .under ψ (record { above = above; settled = settled }) (node x))))
+  at-least x g = subst (λ (y : Thing). figure r (node x) ⊑ needs t y) (thing-node x g) (p .under ψ (record { above = above; settled = settled }) (node x))
 
   -- of a subject by the figure of its lead
-  pub at-least-led : (s : ℕ) → s < 32 → label (figure r (lead-of ld s)) ⊑ needs (tables-of rest ss os hs) (subject s)
-  at-least-led s l = subst (λ (a : Label). label (figure r (lead s)) ⊑ a) (lead-needs w leads s l)
+  pub at-least-led : (s : ℕ) → s < 32 → figure r (lead-of ld s) ⊑ needs (tables-of rest ss os hs) (subject s)
+  at-least-led s l = subst (λ (a : Label). figure r (lead s) ⊑ a) (lead-needs w leads s l)
       (at-least (subject (lead s)) (lt→ltb (lead s) 32 (omega arith)))
 
   -- once they fall along every flow, and each subject has the figure of its lead
   module _ (st : Settled (source ld hs) (target ld hs) (figure r) (Before 512)) (v : List ℕ) (sp : Spread ld r v) where
     abbrev fig : Thing → Label
-    fig y = label (figure v (node y))
+    fig y = figure v (node y)
 
     -- ── the figures are a potential of the tables ──
     low : (y : Thing) → f y ⊑ fig y
@@ -228,32 +228,31 @@ module _ (rest : Tables) (ss : List Subject) (os : List Object) (hs : List Handl
         none-demanded : (o : Option Entry) → demand (subject n) o ⊑ fig (subject n)
         none-demanded none = bot-least
         none-demanded (some e) = bot-least
-    low (object n) = le→⊑ _ _ (go (decLt n 64))
+    low (object n) = go (decLt n 64)
       where
-        go : Dec (n < 64) → level (demand (object n) (object-entry (getD os n no-object))) ≤ level (fig (object n))
-        go (yes l) = rw (demands-as n (getD os n no-object), level-label (figure v (32 + n)))
-            (omega (arith, p .above (32 + n), k .objects n l, sp .objects n))
-        go (no nl) = rw (List·getD-eq-default os no-object {n = n} (omega arith), demands-as n no-object) (omega arith)
+        go : Dec (n < 64) → demand (object n) (object-entry (getD os n no-object)) ⊑ fig (object n)
+        go (yes l) = subst₂ _⊑_ (k .objects n l ∙ sym (demands-as n (getD os n no-object))) (ap coded (sym (sp .objects n))) (p .above (32 + n))
+        go (no nl) = subst (λ (x : Object). demand (object n) (object-entry x) ⊑ fig (object n)) (sym (List·getD-eq-default os no-object {n = n} (omega arith))) bot-least
 
     -- an end of a flow has the figure that it has as one of the lead's
     spread-tip : (start : Bool) (s : ℕ) (j : Held) → s < 32 → figure v (node (tip start (flow (subject s) j))) ≡ figure r (node (tip start (flow (subject (lead s)) j)))
     spread-tip start s j a = go start (j .dir)
       where
         go : (start : Bool) (d : Dir) → figure v (node (tip start (arc d (subject s) (object (j .to))))) ≡ figure r (node (tip start (arc d (subject (lead s)) (object (j .to)))))
-        go true reading = sp .objects (j .to)
-        go true writing = sp .subjects s a
-        go false reading = sp .subjects s a
-        go false writing = sp .objects (j .to)
+        go true reading = ap coded (sp .objects (j .to))
+        go true writing = ap coded (sp .subjects s a)
+        go false reading = ap coded (sp .subjects s a)
+        go false writing = ap coded (sp .objects (j .to))
 
     at-place : (s q : ℕ) (j : Held) → t .hand s q ≡ some j → fig (flow (subject s) j .dst) ⊑ fig (flow (subject s) j .src)
-    at-place s q j e = let b = far s q j e in label-up _ _ (subst₂ (λ x y. x ≤ y)
+    at-place s q j e = let b = far s q j e in subst₂ _⊑_
         (ap (figure r) (taken-at false s q j e) ∙ sym (spread-tip false s j (b .0)))
-        (ap (figure r) (taken-at true s q j e) ∙ sym (spread-tip true s j (b .0))) (st (s * 16 + q) (omega (arith, b .0, b .1))))
+        (ap (figure r) (taken-at true s q j e) ∙ sym (spread-tip true s j (b .0))) (st (s * 16 + q) (omega (arith, b .0, b .1)))
 
     -- members have the figure of one lead
     between : (a b : ℕ) → a < 32 → b < 32 → T (t .kin a b) → fig (subject b) ⊑ fig (subject a)
-    between a b la lb h = subst (λ (x : ℕ). label (figure v b) ⊑ label x)
-        (sp .subjects b lb ∙ ap (figure r) (sym (one-lead w leads a b la lb h)) ∙ sym (sp .subjects a la)) ⊑-refl
+    between a b la lb h = subst (λ (x : Label). figure v b ⊑ x)
+        (ap coded (sp .subjects b lb) ∙ ap (figure r) (sym (one-lead w leads a b la lb h)) ∙ ap coded (sym (sp .subjects a la))) ⊑-refl
 
     falls : (e : Edge) → In e (edges t) → fig (e .dst) ⊑ fig (e .src)
     falls e i = elim (in-edge t e i) [
@@ -267,8 +266,8 @@ module _ (rest : Tables) (ss : List Subject) (os : List Object) (hs : List Handl
     at-most x = need-below (edges t) f (λ y. fig y) low falls x
 
     no-less : (x : Thing) → T (in-range x) → fig x ⊑ needs t x
-    no-less (subject n) g = let l : n < 32 = ltb→lt n 32 g in subst (λ (v : ℕ). label v ⊑ needs t (subject n)) (sym (sp .subjects n l)) (at-least-led n l)
-    no-less (object n) g = subst (λ (v : ℕ). label v ⊑ needs t (object n)) (sym (sp .objects n)) (at-least (object n) tt)
+    no-less (subject n) g = let l : n < 32 = ltb→lt n 32 g in subst (λ (v : ℕ). coded v ⊑ needs t (subject n)) (sym (sp .subjects n l)) (at-least-led n l)
+    no-less (object n) g = subst (λ (v : ℕ). coded v ⊑ needs t (object n)) (sym (sp .objects n)) (at-least (object n) tt)
 
     pub needed : Needed (tables-of rest ss os hs) v
     needed = record { need-is = λ x g. ⊑-antisym (no-less x g) (at-most x) }

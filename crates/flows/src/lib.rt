@@ -1,4 +1,4 @@
-// Needs, from whole arrays: what each thing demands, the need of each, and whether some level is below one. Passes over
+// Needs, from whole arrays: what each thing demands, the need of each, and whether some label is below one. Passes over
 // the flows are in the crate `passes`, needs that are kept in `keeping`.
 ghost use mathlib.Core.Path.{_≡_};
 ghost use mathlib.Core.Bool.{not};
@@ -14,7 +14,8 @@ ghost use Rattle.model.specs.Figures.{Ready};
 ghost use Rattle.tables.specs.Needs.{figure-of, Needed};
 ghost use Rattle.tables.specs.Working.{some-below};
 ghost use Rattle.groups.specs.Groups.{kin-of};
-ghost use Rattle.passes.specs.Working.{demanded-by, Marked, Spread, low-by, short-subject, short-object};
+ghost use Rattle.labels.specs.Codes.{coded};
+ghost use Rattle.passes.specs.Working.{demanded-by, Started, Spread, low-by, short-subject, short-object};
 use tables::FILE;
 use tables::FREE;
 use tables::HANDLES;
@@ -26,21 +27,21 @@ use tables::Subject;
 use tables::THINGS;
 use tables::looks;
 
-// A file's level; nothing else demands anything.
-fn demanded(x: Object) -> u8
-    ensures { λ r. ⌜ r ≡ demanded-by x ⌝ }
+// A file's label; nothing else demands anything.
+pub fn demanded(x: Object) -> u16
+    ensures { λ r. ⌜ coded r ≡ demanded-by x ⌝ }
 {
     if x.kind == FILE {
-        return x.level;
+        return looks::object_label(x);
     }
     0
 }
 
 // What each thing demands of all that reach it.
-pub fn marks(objects: [Object; OBJECTS]) -> [u8; THINGS]
-    ensures { λ r. ⌜ Marked objects r ⌝ }
+pub fn starts(objects: [Object; OBJECTS]) -> [u16; THINGS]
+    ensures { λ r. ⌜ Started objects r 64 ⌝ }
 {
-    let mut r = [0u8; THINGS];
+    let mut r = [0u16; THINGS];
     let mut i: usize = 0;
     while i < OBJECTS {
         let object = objects[i];
@@ -52,7 +53,7 @@ pub fn marks(objects: [Object; OBJECTS]) -> [u8; THINGS]
 }
 
 // The figures with that of its lead, modulo SUBJECTS, for each subject.
-pub fn spread(n: [u8; THINGS], leads: [u8; SUBJECTS]) -> [u8; THINGS]
+pub fn spread(n: [u16; THINGS], leads: [u8; SUBJECTS]) -> [u16; THINGS]
     ensures { λ r. ⌜ Spread leads n r ⌝ }
 {
     let mut r = n;
@@ -71,47 +72,48 @@ pub fn figures(
     groups: [u8; SUBJECTS],
     objects: [Object; OBJECTS],
     handles: [Handle; HANDLES],
-) -> [u8; THINGS]
+) -> [u16; THINGS]
     ensures { λ r. ⌜ ((rest : Tables) → rest .kin ≡ kin-of subjects groups → Wf (tables-of rest subjects objects handles) →
         Needed (tables-of rest subjects objects handles) r) ⌝ }
 {
-    let start = marks(objects);
+    let start = starts(objects);
     let leads = groups::leads(subjects, groups);
-    let all = [0u8; THINGS];
-    let e = passes::listed(handles, leads, all, 0);
+    let e = passes::listed(handles, leads);
     let w = passes::worked(e, start, false, 0, 0);
     let led = w.figures;
     spread(led, leads)
 }
 
-// In use, and of a level below v.
-fn is_low(used: bool, level: u8, v: u8) -> bool
-    ensures { λ r. ⌜ r ≡ low-by used level v ⌝ }
+// In use, and of a label that is not at least v.
+fn is_low(used: bool, label: u16, v: u16) -> bool
+    ensures { λ r. ⌜ r ≡ low-by used (coded label) (coded v) ⌝ }
 {
     if used {
-        return level < v;
+        let enough = labels::is_at_most(v, label);
+        return !enough;
     }
     false
 }
 
-// Some live subject's level, or some live object's, is below its figure. (All are looked at: without a way out the compiler takes many at a time.)
-fn subjects_short(subjects: [Subject; SUBJECTS], n: [u8; THINGS]) -> bool
-    ensures { λ r. ⌜ r ≡ some-below 32 (λ i. short-subject (getD subjects i no-subject) (getD n i 0)) ⌝ }
+// Some live subject's label, or some live object's, is below its figure. (All are looked at: without a way out the compiler takes many at a time.)
+fn subjects_short(subjects: [Subject; SUBJECTS], n: [u16; THINGS]) -> bool
+    ensures { λ r. ⌜ r ≡ some-below 32 (λ i. short-subject (getD subjects i no-subject) (coded (getD n i 0))) ⌝ }
 {
     let mut found = false;
     let mut i: usize = 0;
     while i < SUBJECTS {
         let x = subjects[i];
         let used = x.live != 0;
-        let low = is_low(used, x.level, n[i]);
+        let label = looks::subject_label(x);
+        let low = is_low(used, label, n[i]);
         found = looks::either(found, low);
         i += 1;
     }
     found
 }
 
-fn objects_short(objects: [Object; OBJECTS], n: [u8; THINGS]) -> bool
-    ensures { λ r. ⌜ r ≡ some-below 64 (λ i. short-object (getD objects i no-object) (getD n (32 + i) 0)) ⌝ }
+fn objects_short(objects: [Object; OBJECTS], n: [u16; THINGS]) -> bool
+    ensures { λ r. ⌜ r ≡ some-below 64 (λ i. short-object (getD objects i no-object) (coded (getD n (32 + i) 0))) ⌝ }
 {
     let mut found = false;
     let mut i: usize = 0;
@@ -119,15 +121,16 @@ fn objects_short(objects: [Object; OBJECTS], n: [u8; THINGS]) -> bool
         let x = objects[i];
         let used = x.kind != FREE;
         let at = SUBJECTS + i;
-        let low = is_low(used, x.level, n[at]);
+        let label = looks::object_label(x);
+        let low = is_low(used, label, n[at]);
         found = looks::either(found, low);
         i += 1;
     }
     found
 }
 
-// Some live thing's level is below its need, of which n is the figure, in tables in which nothing dangles.
-pub fn is_short(subjects: [Subject; SUBJECTS], objects: [Object; OBJECTS], n: [u8; THINGS]) -> bool
+// Some live thing's label is below its need, of which n is the figure, in tables in which nothing dangles.
+pub fn is_short(subjects: [Subject; SUBJECTS], objects: [Object; OBJECTS], n: [u16; THINGS]) -> bool
     ensures { λ r. ⌜ ((rest : Tables) (hs : List Handle) → Wf (tables-of rest subjects objects hs) → Ready (tables-of rest subjects objects hs) (figure-of n) →
         r ≡ not (safe (tables-of rest subjects objects hs))) ⌝ }
 {

@@ -75,14 +75,14 @@ frees {n = n} z h = z .is ∙ ap (λ (b : Bool). cond b none (some n)) (eq-eqb n
 pub used-entry : (os : List Object) (i : ℕ) → T (slot-used os i) → T (is-some (object-entry (getD os i no-object)))
 used-entry os i u = go (eqb (getD os i no-object .kind) 0) u
   where
-    go : (b : Bool) → T (not b) → T (is-some (cond b none (some (entry (cond (eqb (getD os i no-object .kind) 1) file pipe) (label (getD os i no-object .level))))))
+    go : (b : Bool) → T (not b) → T (is-some (cond b none (some (entry (cond (eqb (getD os i no-object .kind) 1) file pipe) (label (getD os i no-object .level) (getD os i no-object .shops))))))
     go true u = absurd u
     go false u = tt
 
 pub entry-used : (os : List Object) (i : ℕ) → T (is-some (object-entry (getD os i no-object))) → T (slot-used os i)
 entry-used os i h = go (eqb (getD os i no-object .kind) 0) h
   where
-    go : (b : Bool) → T (is-some (cond b none (some (entry (cond (eqb (getD os i no-object .kind) 1) file pipe) (label (getD os i no-object .level)))))) → T (not b)
+    go : (b : Bool) → T (is-some (cond b none (some (entry (cond (eqb (getD os i no-object .kind) 1) file pipe) (label (getD os i no-object .level) (getD os i no-object .shops)))))) → T (not b)
     go true h = absurd h
     go false h = tt
 
@@ -227,7 +227,7 @@ module _ (m t : Monitor) (c : Call) (r a : Reply) (w : Wf (clean (slots m))) (ti
     -- an allowed call's answer is no refusal
     allowed-is : refusal (clean (slots m)) c ≡ none → (b : Told) → told (r .answer) ≡ b → cond (refuses b) m (r .monitor) ≡ r .monitor
     allowed-is q (allowed l) p = refl
-    allowed-is q (lowered l) p = refl
+    allowed-is q (lowered l lost) p = refl
     allowed-is q (refused n) p = absurd (Option·none-ne-some n (sym q ∙ answered-refused (clean (slots m)) c n .0 (sym is ∙ p)))
 
     refused-is : (k : ℕ) → refusal (clean (slots m)) c ≡ some k → settled m r .monitor ≡ m
@@ -261,7 +261,7 @@ module _ (m t : Monitor) (c : Call) (r a : Reply) (w : Wf (clean (slots m))) (ti
 
     whole : (v : Told) → told (r .answer) ≡ v → ((j : ℕ) → told (r .answer) ≡ refused j → ⊥) → Wf (slots (cond (refuses v) m (r .monitor)))
     whole (allowed l) p f = keeps .whole
-    whole (lowered l) p f = keeps .whole
+    whole (lowered l lost) p f = keeps .whole
     whole (refused j) p f = absurd (f j p)
 
     right : Fit m → (b : Bool) → Fit (cond b m (r .monitor))

@@ -5,16 +5,17 @@ use mathlib.Core.Bool.{Bool, true, false, not, _||_, cond}
 use mathlib.Core.Logic.{_⊎_, inl, inr}
 use mathlib.Core.Option.{Option, none, some, Option·none-ne-some, Option·some-injective}
 use mathlib.Core.List.{List, [], _∷_}
-use Prim.Native.Nat.{ℕ, _<_}
+use Prim.Native.Nat.{ℕ, _<_, min}
+use lib.Bits.{bitAnd}
 use native.Mathlib.Omega.{arith}
 use native.Mathlib.Decide.{decLt}
-use native.Mathlib.Nat.{le-refl}
-use borrow.Author.Tests.{lt-ltb, le-ltb, le-leb, ltb-true, ltb-false}
+use borrow.Author.Tests.{le-leb}
 use lib.Dec.{T, T-not, eqb, eqb→eq, leb, ltb, ltb→lt}
 use Rattle.model.specs.Bools.{test, both, is-true, neither, not-not, cond-no, cond-yes}
 use Rattle.model.specs.Lists.{In}
-use Rattle.model.specs.Label.{Label, leq, _⊑_, meet, label, level}
-use Rattle.model.specs.Label.Laws.{⊑-refl, level-label, le→⊑, not-least-is-below, meet-stays, meet-falls}
+use Rattle.model.specs.Sets.{lost}
+use Rattle.model.specs.Label.{Label, leq, _⊑_, meet, label, level, marks-lost}
+use Rattle.model.specs.Label.Laws.{⊑-refl, level-label, meet-labels, lost-labels}
 use Rattle.model.specs.Flow.{Thing, subject, object, same}
 use Rattle.model.specs.Flow.Laws.{same→eq}
 use Rattle.model.specs.Tables.{Kind, running, file, pipe, Dir, reading, writing, Entry, entry, handle, mapping, with-mark, Tables, with-at, with-hand, with-freeze, with-kin, subjects, places, is-some, live, label-of, a-file, cell, whole, mates, handles, open-on}
@@ -24,7 +25,7 @@ use Rattle.model.specs.Steps.{Step, runs, mix, put, row, place, parted, bound, 
 use Rattle.model.specs.Steps.Laws.{sink-one, put-cases, put-same, put-apart, place-other, place-apart, applies-append, ended-subject, reap-more, file-keeps}
 use Rattle.model.specs.Invariant.{Wf}
 use Rattle.model.specs.Invariant.Laws.{Less, parted-cases}
-use Rattle.model.specs.Calls.{Call, admit, register, create, make-pipe, opens, access, fork, thread, exec, close, exit, retire, maps, mark, freeze, connect, target, rereads, marking, sheds, channel, steps, stepped, effect, Test, roomy, alive, new, present, vacant, taken, apart, unlike, others, broken, tests, refusal, level-at, shown, refused, allowed, lowers, last-label, outcome, said, answer}
+use Rattle.model.specs.Calls.{Call, admit, register, create, make-pipe, opens, access, fork, thread, exec, close, exit, retire, maps, mark, freeze, connect, target, rereads, marking, sheds, channel, steps, stepped, effect, Test, roomy, alive, new, present, vacant, taken, apart, unlike, others, broken, tests, refusal, level-at, shown, refused, allowed, lowers, last-label, fewer, outcome, said, answer}
 use Rattle.model.specs.Calls.{Answer as Told}
 use Rattle.model.specs.Calls.Refusals.{allowed-iff}
 use Rattle.model.specs.Calls.Moving.{took, reread-by, rereads-none, rereads-file, None-lower, lowers-none, lowers-one}
@@ -62,11 +63,11 @@ full false e o q h = (q, refl)
 
 -- a live subject and a live object are what their records say
 pub full-subject : (t : Tables) (s : ℕ) (x : Subject) → t .at (subject s) ≡ subject-entry x → T (live t (subject s))
-    → t .at (subject s) ≡ some (entry running (label (x .level)))
+    → t .at (subject s) ≡ some (entry running (label (x .level) (x .shops)))
 full-subject t s x q l = full (eqb (x .live) 0) _ (t .at (subject s)) q (subst T (used-is t (subject s)) (live-of t (subject s) l .1)) .0
 
 pub full-object : (t : Tables) (o : ℕ) (y : Object) → t .at (object o) ≡ object-entry y → T (live t (object o))
-    → t .at (object o) ≡ some (entry (cond (eqb (y .kind) 1) file pipe) (label (y .level)))
+    → t .at (object o) ≡ some (entry (cond (eqb (y .kind) 1) file pipe) (label (y .level) (y .shops)))
 full-object t o y q l = full (eqb (y .kind) 0) _ (t .at (object o)) q (subst T (used-is t (object o)) (live-of t (object o) l .1)) .0
 
 -- a place that is taken holds what its record says
@@ -94,36 +95,36 @@ module _ (t : Tables) (c : Call) (e : refusal t c ≡ none) where
     row-low = ltb→lt s 32 (live-of t (subject s) low-row-live .0)
 
     module _ (x : Subject) (q : t .at (subject s) ≡ subject-entry x) where
-      step-full : (t .at (subject s) ≡ some (entry running (label (x .level)))) × (eqb (x .live) 0 ≡ false)
+      step-full : (t .at (subject s) ≡ some (entry running (label (x .level) (x .shops)))) × (eqb (x .live) 0 ≡ false)
       step-full = full (eqb (x .live) 0) _ (t .at (subject s)) q (subst T (used-is t (subject s)) (live-of t (subject s) low-row-live .1))
 
-      pub step-is : t .at (subject s) ≡ some (entry running (label (x .level)))
+      pub step-is : t .at (subject s) ≡ some (entry running (label (x .level) (x .shops)))
       step-is = step-full .0
 
       pub step-lives : eqb (x .live) 0 ≡ false
       step-lives = step-full .1
 
-      pub cell-is : t .at (cell t s) ≡ some (entry running (label (x .level)))
+      pub cell-is : t .at (cell t s) ≡ some (entry running (label (x .level) (x .shops)))
       cell-is = ap (t .at) (cell-self t s) ∙ step-is
 
-      pub own : label-of (t .at (cell t s)) ≡ label (x .level)
+      pub own : label-of (t .at (cell t s)) ≡ label (x .level) (x .shops)
       own = ap label-of cell-is
 
-      -- a subject with another level
-      pub step-at : (l : ℕ) → subject-entry (record { live = x .live; level = l }) ≡ some (entry running (label l))
-      step-at l = ap (λ (b : Bool). cond b none (some (entry running (label l)))) (step-full .1)
+      -- a subject with another label
+      pub step-at : (l m : ℕ) → subject-entry (record { live = x .live; level = l; shops = m }) ≡ some (entry running (label l m))
+      step-at l m = ap (λ (b : Bool). cond b none (some (entry running (label l m)))) (step-full .1)
 
   -- ── a live object ──
   module _ (o : ℕ) (l : T (live t (object o))) where
     module _ (y : Object) (q : t .at (object o) ≡ object-entry y) where
-      thing-full : (t .at (object o) ≡ some (entry (cond (eqb (y .kind) 1) file pipe) (label (y .level)))) × (eqb (y .kind) 0 ≡ false)
+      thing-full : (t .at (object o) ≡ some (entry (cond (eqb (y .kind) 1) file pipe) (label (y .level) (y .shops)))) × (eqb (y .kind) 0 ≡ false)
       thing-full = full (eqb (y .kind) 0) _ (t .at (object o)) q (subst T (used-is t (object o)) (live-of t (object o) l .1))
 
-      pub thing-is : t .at (object o) ≡ some (entry (cond (eqb (y .kind) 1) file pipe) (label (y .level)))
+      pub thing-is : t .at (object o) ≡ some (entry (cond (eqb (y .kind) 1) file pipe) (label (y .level) (y .shops)))
       thing-is = thing-full .0
 
-      pub thing-at : (k : ℕ) → object-entry (record { kind = y .kind; level = k }) ≡ some (entry (cond (eqb (y .kind) 1) file pipe) (label k))
-      thing-at k = ap (λ (b : Bool). cond b none (some (entry (cond (eqb (y .kind) 1) file pipe) (label k)))) (thing-full .1)
+      pub thing-at : (k m : ℕ) → object-entry (record { kind = y .kind; level = k; shops = m }) ≡ some (entry (cond (eqb (y .kind) 1) file pipe) (label k m))
+      thing-at k m = ap (λ (b : Bool). cond b none (some (entry (cond (eqb (y .kind) 1) file pipe) (label k m)))) (thing-full .1)
 
   pub present-live : (o : ℕ) → In (present o) (tests c) → T (live t (object o))
   present-live o i = is-present t o (passed t c e (present o) i)
@@ -150,7 +151,7 @@ module _ (t : Tables) (c : Call) (e : refusal t c ≡ none) where
         go none h = refl
         go (some k) h = absurd h
 
--- ── calls that make no level smaller ──
+-- ── calls that make no label smaller ──
 -- entries that are as they were, that are gone, or that are new
 none-smaller : (t u : Tables) → ((x : Thing) (d : Entry) → u .at x ≡ some d → (t .at x ≡ some d) ⊎ (t .at x ≡ none)) → None-lower t u
 none-smaller t u f x e d p q = elim (f x d q) [
@@ -168,10 +169,11 @@ left-over true o d q = absurd (Option·none-ne-some d q)
 left-over false o d q = q
 
 -- x shows level l, and u is what the call makes
-plain : (t : Tables) (c : Call) (x : Thing) (l : ℕ) (u : Tables) → refusal t c ≡ none → stepped t c ≡ u → shown t c ≡ level-at x
-    → ((x : Thing) (d : Entry) → u .at x ≡ some d → (t .at x ≡ some d) ⊎ (t .at x ≡ none)) → last-label (t .at x) (u .at x) ≡ label l → Does t c (allowed l) u
-plain t c x l u e is z n q = does t c (allowed l) u e (sym (ap (said t (stepped t c)) z ∙ ap (λ (v : Tables). said t v (level-at x)) is
-    ∙ ap₂ outcome (lowers-none t u (none-smaller t u n)) (ap level q ∙ level-label l))) (sym is)
+plain : (t : Tables) (c : Call) (x : Thing) (l m : ℕ) (u : Tables) → refusal t c ≡ none → stepped t c ≡ u → shown t c ≡ level-at x
+    → ((x : Thing) (d : Entry) → u .at x ≡ some d → (t .at x ≡ some d) ⊎ (t .at x ≡ none)) → last-label (t .at x) (u .at x) ≡ label l m → Does t c (allowed l) u
+plain t c x l m u e is z n q = does t c (allowed l) u e (sym (ap (said t (stepped t c)) z ∙ ap (λ (v : Tables). said t v (level-at x)) is
+    ∙ ap (λ (b : Bool). outcome b (level (last-label (t .at x) (u .at x))) (fewer (t .at x) (u .at x))) (lowers-none t u (none-smaller t u n))
+    ∙ ap allowed (ap level q ∙ level-label l m))) (sym is)
 
 -- ── steps that leave the handles as they are ──
 steady : (t : Tables) (a : Thing → Option Entry) → reap (handles t) (with-at t a) ≡ with-at t a
@@ -186,25 +188,25 @@ freeze-does t n e = does t (freeze n) (allowed n) (with-freeze t n) e refl
     (sym (reap-more t (with-freeze t n) (λ o h. subst (λ (hs : List Held). T (open-on hs o)) (handles-by t (with-freeze t n) refl) h)))
 
 -- ── a new thing: admit, register, create ──
-entered : (t : Tables) (c : Call) (x : Thing) (k : Kind) (l : ℕ) → refusal t c ≡ none → applies (steps t c) t ≡ with-at t
-    (put (t .at) x (some (entry k (label l))))
-    → shown t c ≡ level-at x → t .at x ≡ none → Does t c (allowed l) (with-at t (put (t .at) x (some (entry k (label l)))))
-entered t c x k l e q z b = plain t c x l _ e (effect-at t c (put (t .at) x v) q) z (new-one t x v b) (ap (last-label (t .at x)) (put-same (t .at) x v))
+entered : (t : Tables) (c : Call) (x : Thing) (k : Kind) (l m : ℕ) → refusal t c ≡ none → applies (steps t c) t ≡ with-at t
+    (put (t .at) x (some (entry k (label l m))))
+    → shown t c ≡ level-at x → t .at x ≡ none → Does t c (allowed l) (with-at t (put (t .at) x (some (entry k (label l m)))))
+entered t c x k l m e q z b = plain t c x l m _ e (effect-at t c (put (t .at) x v) q) z (new-one t x v b) (ap (last-label (t .at x)) (put-same (t .at) x v))
   where
     v : Option Entry
-    v = some (entry k (label l))
+    v = some (entry k (label l m))
 
-pub admit-does : (t : Tables) (s l : ℕ) → refusal t (admit s l) ≡ none → Does t (admit s l) (allowed l)
-    (with-at t (put (t .at) (subject s) (some (entry running (label l)))))
-admit-does t s l e = entered t (admit s l) (subject s) running l e refl refl (fresh t (admit s l) e (subject s) (inl refl))
+pub admit-does : (t : Tables) (s l m : ℕ) → refusal t (admit s (label l m)) ≡ none → Does t (admit s (label l m)) (allowed l)
+    (with-at t (put (t .at) (subject s) (some (entry running (label l m)))))
+admit-does t s l m e = entered t (admit s (label l m)) (subject s) running l m e refl refl (fresh t (admit s (label l m)) e (subject s) (inl refl))
 
-pub register-does : (t : Tables) (o l : ℕ) → refusal t (register o l) ≡ none → Does t (register o l) (allowed l)
-    (with-at t (put (t .at) (object o) (some (entry file (label l)))))
-register-does t o l e = entered t (register o l) (object o) file l e refl refl (fresh t (register o l) e (object o) (inl refl))
+pub register-does : (t : Tables) (o l m : ℕ) → refusal t (register o (label l m)) ≡ none → Does t (register o (label l m)) (allowed l)
+    (with-at t (put (t .at) (object o) (some (entry file (label l m)))))
+register-does t o l m e = entered t (register o (label l m)) (object o) file l m e refl refl (fresh t (register o (label l m)) e (object o) (inl refl))
 
 pub create-does : (t : Tables) (s o : ℕ) (x : Subject) → refusal t (create s o) ≡ none → t .at (subject s) ≡ subject-entry x
-    → Does t (create s o) (allowed (x .level)) (with-at t (put (t .at) (object o) (some (entry file (label (x .level))))))
-create-does t s o x e q = entered t (create s o) (object o) file (x .level) e
+    → Does t (create s o) (allowed (x .level)) (with-at t (put (t .at) (object o) (some (entry file (label (x .level) (x .shops))))))
+create-does t s o x e q = entered t (create s o) (object o) file (x .level) (x .shops) e
     (ap (λ (c : Label). with-at t (put (t .at) (object o) (some (entry file c)))) (own t (create s o) e s (inl refl) x q)) refl
     (fresh t (create s o) e (object o) (inr (inl refl)))
 
@@ -236,23 +238,23 @@ row-more h c r e s p k q = go (eqb c s) (eqb→eq c s)
     go true f = absurd (e p k (ap (λ (z : ℕ). h z p) (f tt) ∙ q))
 
 -- a new thing and its handles
-joined : (t : Tables) (c : Call) (x : Thing) (k : Kind) (l : ℕ) (h : ℕ → ℕ → Option Held) → refusal t c ≡ none
-    → applies (steps t c) t ≡ with-hand (with-at t (put (t .at) x (some (entry k (label l))))) h → shown t c ≡ level-at x → t .at x ≡ none
+joined : (t : Tables) (c : Call) (x : Thing) (k : Kind) (l n : ℕ) (h : ℕ → ℕ → Option Held) → refusal t c ≡ none
+    → applies (steps t c) t ≡ with-hand (with-at t (put (t .at) x (some (entry k (label l n))))) h → shown t c ≡ level-at x → t .at x ≡ none
     → ((s p : ℕ) (j : Held) → t .hand s p ≡ some j → h s p ≡ some j)
-    → Does t c (allowed l) (with-hand (with-at t (put (t .at) x (some (entry k (label l))))) h)
-joined t c x k l h e q z b m = plain t c x l u e (ap (reap (handles t)) q ∙ reap-more t u (more-open t u m)) z (new-one t x v b)
+    → Does t c (allowed l) (with-hand (with-at t (put (t .at) x (some (entry k (label l n))))) h)
+joined t c x k l n h e q z b m = plain t c x l n u e (ap (reap (handles t)) q ∙ reap-more t u (more-open t u m)) z (new-one t x v b)
     (ap (last-label (t .at x)) (put-same (t .at) x v))
   where
     v : Option Entry
-    v = some (entry k (label l))
+    v = some (entry k (label l n))
 
     u : Tables
     u = with-hand (with-at t (put (t .at) x v)) h
 
 pub pipe-does : (t : Tables) (s o r w : ℕ) (x : Subject) → refusal t (make-pipe s o r w) ≡ none → t .at (subject s) ≡ subject-entry x
-    → Does t (make-pipe s o r w) (allowed (x .level)) (with-hand (with-at t (put (t .at) (object o) (some (entry pipe (label (x .level))))))
+    → Does t (make-pipe s o r w) (allowed (x .level)) (with-hand (with-at t (put (t .at) (object o) (some (entry pipe (label (x .level) (x .shops))))))
     (place (place (t .hand) s r (some (handle reading o))) s w (some (handle writing o))))
-pipe-does t s o r w x e q = joined t (make-pipe s o r w) (object o) pipe (x .level) _ e
+pipe-does t s o r w x e q = joined t (make-pipe s o r w) (object o) pipe (x .level) (x .shops) _ e
     (ap (λ (c : Label). with-hand (with-at t (put (t .at) (object o) (some (entry pipe c)))) (place h₁ s w (some (handle writing o))))
     (own t (make-pipe s o r w) e s (inl refl) x q)) refl (fresh t (make-pipe s o r w) e (object o) (inr (inl refl)))
     (λ s′ p′ k z. place-more h₁ s w (some (handle writing o)) still s′ p′ k
@@ -268,12 +270,12 @@ pipe-does t s o r w x e q = joined t (make-pipe s o r w) (object o) pipe (x .lev
 
 pub open-does : (t : Tables) (d : Dir) (s o p : ℕ) (y : Object) → refusal t (opens d s o p) ≡ none → t .at (object o) ≡ object-entry y
     → Does t (opens d s o p) (allowed (y .level)) (with-hand t (place (t .hand) s p (some (handle d o))))
-open-does t d s o p y e q = plain t (opens d s o p) (object o) (y .level) u e is refl (λ x d q. inl q) (ap (λ (v : Option Entry). last-label v v) there)
+open-does t d s o p y e q = plain t (opens d s o p) (object o) (y .level) (y .shops) u e is refl (λ x d q. inl q) (ap (λ (v : Option Entry). last-label v v) there)
   where
     u : Tables
     u = with-hand t (place (t .hand) s p (some (handle d o)))
 
-    there : t .at (object o) ≡ some (entry (cond (eqb (y .kind) 1) file pipe) (label (y .level)))
+    there : t .at (object o) ≡ some (entry (cond (eqb (y .kind) 1) file pipe) (label (y .level) (y .shops)))
     there = thing-is t (opens d s o p) e o (present-live t (opens d s o p) e o (inr (inl refl))) y q
 
     is : reap (handles t) u ≡ u
@@ -281,8 +283,8 @@ open-does t d s o p y e q = plain t (opens d s o p) (object o) (y .level) u e is
 
 pub fork-does : (t : Tables) (s c : ℕ) (x : Subject) → Wf t → refusal t (fork s c) ≡ none → t .at (subject s) ≡ subject-entry x
     → Does t (fork s c) (allowed (x .level))
-    (with-hand (with-at t (put (t .at) (subject c) (some (entry running (label (x .level)))))) (row (t .hand) c (t .hand s)))
-fork-does t s c x w e q = joined t (fork s c) (subject c) running (x .level) (row (t .hand) c (t .hand s)) e
+    (with-hand (with-at t (put (t .at) (subject c) (some (entry running (label (x .level) (x .shops)))))) (row (t .hand) c (t .hand s)))
+fork-does t s c x w e q = joined t (fork s c) (subject c) running (x .level) (x .shops) (row (t .hand) c (t .hand s)) e
     (ap (λ (l : Label). with-hand (with-at t (put (t .at) (subject c) (some (entry running l)))) (row (t .hand) c (t .hand s)))
     (own t (fork s c) e s (inl refl) x q))
     refl (fresh t (fork s c) e (subject c) (inr (inl refl))) (row-more (t .hand) c (t .hand s) bare)
@@ -294,12 +296,12 @@ fork-does t s c x w e q = joined t (fork s c) (subject c) running (x .level) (ro
 
 -- a new member, with no handles
 pub thread-does : (t : Tables) (s c : ℕ) (x : Subject) → refusal t (thread s c) ≡ none → t .at (subject s) ≡ subject-entry x
-    → Does t (thread s c) (allowed (x .level)) (with-kin (with-at t (put (t .at) (subject c) (some (entry running (label (x .level)))))) (bound c s (t .kin)))
-thread-does t s c x e q = plain t (thread s c) (subject c) (x .level) u e is refl (new-one t (subject c) v (fresh t (thread s c) e (subject c) (inr (inl refl))))
+    → Does t (thread s c) (allowed (x .level)) (with-kin (with-at t (put (t .at) (subject c) (some (entry running (label (x .level) (x .shops)))))) (bound c s (t .kin)))
+thread-does t s c x e q = plain t (thread s c) (subject c) (x .level) (x .shops) u e is refl (new-one t (subject c) v (fresh t (thread s c) e (subject c) (inr (inl refl))))
     (ap (last-label (t .at (subject c))) (put-same (t .at) (subject c) v))
   where
     v : Option Entry
-    v = some (entry running (label (x .level)))
+    v = some (entry running (label (x .level) (x .shops)))
 
     u : Tables
     u = with-kin (with-at t (put (t .at) (subject c) v)) (bound c s (t .kin))
@@ -312,10 +314,10 @@ thread-does t s c x e q = plain t (thread s c) (subject c) (x .level) u e is ref
 pub connect-does : (t : Tables) (s u a b p q : ℕ) (x z : Subject) → refusal t (connect s u a b p q) ≡ none → t .at (subject s) ≡ subject-entry x
     → t .at (subject u) ≡ subject-entry z
     → Does t (connect s u a b p q) (allowed (x .level))
-    (with-hand (with-at t (put (put (t .at) (object a) (some (entry pipe (label (x .level))))) (object b) (some (entry pipe (label (z .level))))))
+    (with-hand (with-at t (put (put (t .at) (object a) (some (entry pipe (label (x .level) (x .shops))))) (object b) (some (entry pipe (label (z .level) (z .shops))))))
     (place (place (place (place (t .hand) s p (some (handle reading b))) s q (some (handle writing a))) u p (some (handle reading a))) u q
     (some (handle writing b))))
-connect-does t s u a b p q x z e i j = plain t c (cell t s) (x .level) n e (ap (reap (handles t)) made ∙ reap-more t n (more-open t n more)) refl new-ones
+connect-does t s u a b p q x z e i j = plain t c (cell t s) (x .level) (x .shops) n e (ap (reap (handles t)) made ∙ reap-more t n (more-open t n more)) refl new-ones
     (ap (last-label (t .at (cell t s))) (put-apart (put (t .at) (object a) ea) (object b) (cell t s) eb (own-entry .0) free-b (still-own ∙ own-entry .1)
     ∙ still-own)
     ∙ ap (λ (v : Option Entry). last-label v v) (cell-is t c e s (inl refl) x i))
@@ -324,10 +326,10 @@ connect-does t s u a b p q x z e i j = plain t c (cell t s) (x .level) n e (ap (
     c = connect s u a b p q
 
     ea : Option Entry
-    ea = some (entry pipe (label (x .level)))
+    ea = some (entry pipe (label (x .level) (x .shops)))
 
     eb : Option Entry
-    eb = some (entry pipe (label (z .level)))
+    eb = some (entry pipe (label (z .level) (z .shops)))
 
     h₁ : ℕ → ℕ → Option Held
     h₁ = place (t .hand) s p (some (handle reading b))
@@ -389,7 +391,7 @@ connect-does t s u a b p q x z e i j = plain t c (cell t s) (x .level) n e (ap (
 -- ── mark ──
 pub mark-does : (t : Tables) (s p : ℕ) (x : Subject) → refusal t (mark s p) ≡ none → t .at (subject s) ≡ subject-entry x
     → Does t (mark s p) (allowed (x .level)) (with-hand t (place (t .hand) s p (marking (t .hand s p))))
-mark-does t s p x e q = plain t (mark s p) (cell t s) (x .level) u e is refl (λ x d q. inl q)
+mark-does t s p x e q = plain t (mark s p) (cell t s) (x .level) (x .shops) u e is refl (λ x d q. inl q)
     (ap (λ (v : Option Entry). last-label v v) (cell-is t (mark s p) e s (inl refl) x q))
   where
     u : Tables
@@ -414,7 +416,7 @@ mark-does t s p x e q = plain t (mark s p) (cell t s) (x .level) u e is refl (λ
 -- ── things and handles that go: close, exit, retire ──
 pub close-does : (t : Tables) (s p : ℕ) (x : Subject) → refusal t (close s p) ≡ none → t .at (subject s) ≡ subject-entry x
     → Does t (close s p) (allowed (x .level)) (reap (handles t) (with-hand t (place (t .hand) s p none)))
-close-does t s p x e q = plain t (close s p) (cell t s) (x .level) (reap (handles t) u) e refl refl
+close-does t s p x e q = plain t (close s p) (cell t s) (x .level) (x .shops) (reap (handles t) u) e refl refl
     (λ y d z. inl (left-over (ended (handles t) (handles u) y (t .at y)) (t .at y) d z))
     (ap (λ (y : Thing). last-label (t .at y) (reap (handles t) u .at y)) (cell-self t s)
     ∙ ap₂ last-label (step-is t (close s p) e s (inl refl) x q) (stays ∙ step-is t (close s p) e s (inl refl) x q))
@@ -429,7 +431,7 @@ close-does t s p x e q = plain t (close s p) (cell t s) (x .level) (reap (handle
 pub exit-does : (t : Tables) (s : ℕ) (x : Subject) → refusal t (exit s) ≡ none → t .at (subject s) ≡ subject-entry x
     → Does t (exit s) (allowed (x .level)) (reap (handles t)
     (with-kin (with-at (with-hand t (row (t .hand) s (λ p. none))) (put (t .at) (subject s) none)) (parted (same (subject s)) (t .kin))))
-exit-does t s x e q = plain t (exit s) (cell t s) (x .level) (reap (handles t) u) e refl refl
+exit-does t s x e q = plain t (exit s) (cell t s) (x .level) (x .shops) (reap (handles t) u) e refl refl
     (λ y d z. inl (without (subject s) y d (left-over (ended (handles t) (handles u) y (u .at y)) (u .at y) d z)))
     (ap (λ (y : Thing). last-label (t .at y) (reap (handles t) u .at y)) (cell-self t s) ∙ ap₂ last-label (step-is t (exit s) e s (inl refl) x q) gone)
   where
@@ -445,67 +447,48 @@ exit-does t s x e q = plain t (exit s) (cell t s) (x .level) (reap (handles t) u
 
 pub retire-does : (t : Tables) (o : ℕ) (y : Object) → refusal t (retire o) ≡ none → t .at (object o) ≡ object-entry y
     → Does t (retire o) (allowed (y .level)) (with-at t (put (t .at) (object o) none))
-retire-does t o y e q = plain t (retire o) (object o) (y .level) _ e (effect-at t (retire o) (put (t .at) (object o) none) refl) refl
+retire-does t o y e q = plain t (retire o) (object o) (y .level) (y .shops) _ e (effect-at t (retire o) (put (t .at) (object o) none) refl) refl
     (λ x d z. elim (put-cases (t .at) (object o) none x (some d) z) [ inl c ↦ absurd (Option·none-ne-some d (c .1)) | inr c ↦ inl (c .1) ])
     (ap₂ last-label (thing-is t (retire o) e o (present-live t (retire o) e o (inl refl)) y q) (put-same (t .at) (object o) none))
 
 -- ── data moves: read, write, exec, map ──
--- the smaller of two levels
-below-is : (k n : ℕ) → not (leq (label k) (label n)) ≡ ltb n k
-below-is k n = go (decLt n k)
-  where
-    go : Dec (n < k) → not (leq (label k) (label n)) ≡ ltb n k
-    go (yes l) = is-true (not (leq (label k) (label n))) (not-least-is-below (label k) (label n) .1 (rw (level-label k, level-label n) l)) ∙ sym (lt-ltb n k l)
-    go (no h) = ap not (is-true (leq (label k) (label n)) (le→⊑ _ _ (rw (level-label k, level-label n) (omega arith)) .tested)) ∙ sym (le-ltb n k (omega arith))
-
-meet-level : (k l : ℕ) → meet (label k) (label l) ≡ label (cond (ltb l k) l k)
-meet-level k l = go (ltb l k) refl
-  where
-    go : (b : Bool) → ltb l k ≡ b → meet (label k) (label l) ≡ label (cond b l k)
-    go true h = meet-falls (label k) (label l) (le→⊑ _ _ (rw (level-label k, level-label l) (omega (arith, ltb-true l k h))))
-    go false h = meet-stays (label k) (label l) (le→⊑ _ _ (rw (level-label k, level-label l) (ltb-false l k h)))
-
--- y, of kind kd and level k, takes in z, of level l, and has level n then; u is what the steps make, by y's entry after them, and y does not end with the call
-module _ (t : Tables) (c : Call) (y z : Thing) (kd kz : Kind) (k l : ℕ) (e : refusal t c ≡ none) (u : Option Entry → Tables)
+-- y, of kind kd and label k, takes in z, of label l, and has label n then; u is what the steps make, by y's entry after them, and y does not end with the call
+module _ (t : Tables) (c : Call) (y z : Thing) (kd kz : Kind) (k l : Label) (e : refusal t c ≡ none) (u : Option Entry → Tables)
     (q : applies (steps t c) t ≡ u (fall y (t .at y) (t .at z))) (g : shown t c ≡ level-at y)
     (w : (v : Option Entry) (x : Thing) (b : Entry) → T (not (same y x)) → u v .at x ≡ some b → t .at x ≡ some b)
     (there : (d : Entry) → reap (handles t) (u (some d)) .at y ≡ some d) (r : Stands t y)
-    (o : t .at y ≡ some (entry kd (label k))) (s : t .at z ≡ some (entry kz (label l))) where
-  taken-in : (n : ℕ) → sunk y kd (label k) (label l) ≡ label n → Does t c (outcome (ltb n k) n) (reap (handles t) (u (some (entry kd (label n)))))
-  taken-in n f = does t c (outcome (ltb n k) n) after e (sym shows) (sym is)
+    (o : t .at y ≡ some (entry kd k)) (s : t .at z ≡ some (entry kz l)) where
+  taken-in : (n : Label) → sunk y kd k l ≡ n → Does t c (outcome (not (leq k n)) (level n) (marks-lost k n)) (reap (handles t) (u (some (entry kd n))))
+  taken-in n f = does t c (outcome (not (leq k n)) (level n) (marks-lost k n)) after e (sym shows) (sym is)
     where
       d : Entry
-      d = entry kd (label n)
+      d = entry kd n
 
       after : Tables
       after = reap (handles t) (u (some d))
 
       is : reap (handles t) (applies (steps t c) t) ≡ after
       is = ap (reap (handles t)) (q ∙ ap u
-          (ap (λ (v : Option Entry). fall y v (t .at z)) o ∙ ap (fall y (some (entry kd (label k)))) s ∙ ap (λ (b : Label). some (entry kd b)) f))
+          (ap (λ (v : Option Entry). fall y v (t .at z)) o ∙ ap (fall y (some (entry kd k))) s ∙ ap (λ (b : Label). some (entry kd b)) f))
 
       -- any other thing is as it was, or gone
       others : (x : Thing) (a b : Entry) → T (not (same y x)) → t .at x ≡ some a → after .at x ≡ some b → a .label ⊑ b .label
       others x a b n p h = subst (λ (j : Entry). a .label ⊑ j .label) (Option·some-injective a b (sym p
           ∙ w (some d) x b n (left-over (ended (handles t) (handles (u (some d))) x (u (some d) .at x)) (u (some d) .at x) b h))) ⊑-refl
 
-      shows : said t (reap (handles t) (applies (steps t c) t)) (shown t c) ≡ outcome (ltb n k) n
+      shows : said t (reap (handles t) (applies (steps t c) t)) (shown t c) ≡ outcome (not (leq k n)) (level n) (marks-lost k n)
       shows = ap (said t (reap (handles t) (applies (steps t c) t))) g ∙ ap (λ (v : Tables). said t v (level-at y)) is
-          ∙ ap₂ outcome (lowers-one t after y (entry kd (label k)) d r o (there d) others ∙ below-is k n)
-          (ap (λ (v : Option Entry). level (last-label (t .at y) v)) (there d) ∙ level-label n)
+          ∙ ap (λ (b : Bool). outcome b (level (last-label (t .at y) (after .at y))) (fewer (t .at y) (after .at y))) (lowers-one t after y (entry kd k) d r o (there d) others)
+          ∙ ap₂ (λ (b a : Option Entry). outcome (not (leq k n)) (level (last-label b a)) (fewer b a)) o (there d)
 
 -- any other entry is as it was
 put-others : (a : Thing → Option Entry) (y : Thing) (v : Option Entry) (x : Thing) (b : Entry) → T (not (same y x)) → put a y v x ≡ some b → a x ≡ some b
 put-others a y v x b n h = sym (cond-no (same y x) v (a x) n) ∙ h
 
--- the record of a live subject that takes in something of level l
-fell : (s : ℕ) (x : Subject) (k : Kind) (l : ℕ) → eqb (x .live) 0 ≡ false
-    → fall (subject s) (some (entry running (label (x .level)))) (some (entry k (label l))) ≡ some (entry running (label (fallen-by x l .level)))
-fell s x k l z = ap (λ (b : Label). some (entry running b)) (meet-level (x .level) l ∙ ap label (by (ltb l (x .level))))
-  where
-    by : (b : Bool) → cond b l (x .level) ≡ cond b (record { live = x .live; level = l }) x .level
-    by true = refl
-    by false = refl
+-- a live subject that takes in something of this label
+fell : (s : ℕ) (x : Subject) (k : Kind) (l m : ℕ)
+    → fall (subject s) (some (entry running (label (x .level) (x .shops)))) (some (entry k (label l m))) ≡ some (entry running (label (fallen-by x l m .level) (fallen-by x l m .shops)))
+fell s x k l m = ap (λ (b : Label). some (entry running b)) (meet-labels (x .level) (x .shops) l m)
 
 -- where only y's entry changes, no pipe ends
 one-changed : (t : Tables) (y : Thing) (d : Entry) → reap (handles t) (with-at t (put (t .at) y (some d))) .at y ≡ some d
@@ -539,23 +522,31 @@ module _ (t : Tables) (w : Wf t) (c : Call) (s p : ℕ) (h : Handle) (e : refusa
   pub found-target : target (t .hand s p) ≡ object (h .object)
   found-target = ap target (found .1) ∙ ap object (sym found-to)
 
--- s and its mates take in z, which has level l: u has their entries, and b says whether some level got smaller
-group-does : (t : Tables) (w : Wf t) (c : Call) (s : ℕ) (i : In (alive s) (tests c)) (x : Subject) (z : Thing) (k : Kind) (l : ℕ) (u : Tables) (b : Bool) (e : refusal t c ≡ none)
-    → t .at (subject s) ≡ subject-entry x → t .at z ≡ some (entry k (label l)) → stepped t c ≡ u → shown t c ≡ level-at (cell t s)
-    → u .at (subject s) ≡ sink t (subject s) (t .at z) (subject s) → lowers t u ≡ b → Does t c (outcome b (fallen-by x l .level)) u
-group-does t w c s i x z k l u b e q h is g a n = does t c (outcome b (fallen-by x l .level)) u e (sym (ap (said t (stepped t c)) (g ∙ ap level-at (cell-self t s))
-    ∙ ap (λ (v : Tables). said t v (level-at (subject s))) is ∙ ap₂ outcome n (ap (λ (v : Option Entry). level (last-label (t .at (subject s)) v)) now ∙ level-label (fallen-by x l .level))))
+-- what is told of a fall, by levels and sets
+told-fall : (b : Bool) (l m k n : ℕ) → outcome b (level (label k n)) (marks-lost (label l m) (label k n)) ≡ outcome b k (lost m n)
+told-fall b l m k n = ap₂ (outcome b) (level-label k n) (lost-labels l m k n)
+
+-- s and its mates take in z, which has this label: u has their entries, and b says whether some label got smaller
+group-does : (t : Tables) (w : Wf t) (c : Call) (s : ℕ) (i : In (alive s) (tests c)) (x : Subject) (z : Thing) (k : Kind) (l n : ℕ) (u : Tables) (b : Bool) (e : refusal t c ≡ none)
+    → t .at (subject s) ≡ subject-entry x → t .at z ≡ some (entry k (label l n)) → stepped t c ≡ u → shown t c ≡ level-at (cell t s)
+    → u .at (subject s) ≡ sink t (subject s) (t .at z) (subject s) → lowers t u ≡ b
+    → Does t c (outcome b (fallen-by x l n .level) (lost (x .shops) (fallen-by x l n .shops))) u
+group-does t w c s i x z k l n u b e q h is g a f = does t c (outcome b (fallen-by x l n .level) (lost (x .shops) (fallen-by x l n .shops))) u e (sym (ap (said t (stepped t c)) (g ∙ ap level-at (cell-self t s))
+    ∙ ap (λ (v : Tables). said t v (level-at (subject s))) is
+    ∙ ap (λ (d : Bool). outcome d (level (last-label (t .at (subject s)) (u .at (subject s)))) (fewer (t .at (subject s)) (u .at (subject s)))) f
+    ∙ ap₂ (λ (b′ a : Option Entry). outcome b (level (last-label b′ a)) (fewer b′ a)) (step-is t c e s i x q) now
+    ∙ told-fall b (x .level) (x .shops) (fallen-by x l n .level) (fallen-by x l n .shops)))
     (sym is)
   where
-    now : u .at (subject s) ≡ some (entry running (label (fallen-by x l .level)))
+    now : u .at (subject s) ≡ some (entry running (label (fallen-by x l n .level) (fallen-by x l n .shops)))
     now = a ∙ cond-yes (whole t (subject s) (subject s)) (fall (subject s) (t .at (subject s)) (t .at z)) (t .at (subject s)) (whole-self t (subject s) (w .teams .itself))
-        ∙ ap₂ (fall (subject s)) (step-is t c e s i x q) h ∙ fell s x k l (step-lives t c e s i x q)
+        ∙ ap₂ (fall (subject s)) (step-is t c e s i x q) h ∙ fell s x k l n
 
 pub read-does : (t : Tables) (w : Wf t) (s p : ℕ) (x : Subject) (h : Handle) (y : Object) (u : Tables) (b : Bool) → refusal t (access reading s p) ≡ none
     → t .at (subject s) ≡ subject-entry x → t .hand s p ≡ held h → t .at (object (h .object)) ≡ object-entry y
     → u ≡ with-at t (sink t (subject s) (t .at (object (h .object)))) → lowers t u ≡ b
-    → Does t (access reading s p) (outcome b (fallen-by x (y .level) .level)) u
-read-does t w s p x h y u b e q r z f n = group-does t w (access reading s p) s (inl refl) x (object (h .object)) _ (y .level) u b e q
+    → Does t (access reading s p) (outcome b (fallen-by x (y .level) (y .shops) .level) (lost (x .shops) (fallen-by x (y .level) (y .shops) .shops))) u
+read-does t w s p x h y u b e q r z f n = group-does t w (access reading s p) s (inl refl) x (object (h .object)) _ (y .level) (y .shops) u b e q
     (thing-is t (access reading s p) e (h .object) (found-live t w (access reading s p) s p h e (inr (inl refl)) r) y z)
     (ap₂ (λ (c o : Thing). reap (handles t) (with-at t (sink t c (t .at o)))) (cell-self t s) (found-target t w (access reading s p) s p h e (inr (inl refl)) r)
     ∙ steady t (sink t (subject s) (t .at (object (h .object)))) ∙ sym f) refl (ap (λ (v : Tables). v .at (subject s)) f) n
@@ -563,8 +554,8 @@ read-does t w s p x h y u b e q r z f n = group-does t w (access reading s p) s 
 pub map-does : (t : Tables) (w : Wf t) (s o p : ℕ) (x : Subject) (y : Object) (u : Tables) (b : Bool) → refusal t (maps s o p) ≡ none
     → t .at (subject s) ≡ subject-entry x → t .at (object o) ≡ object-entry y
     → u ≡ with-hand (with-at t (sink t (subject s) (t .at (object o)))) (place (t .hand) s p (some (mapping o))) → lowers t u ≡ b
-    → Does t (maps s o p) (outcome b (fallen-by x (y .level) .level)) u
-map-does t w s o p x y u b e q z f n = group-does t w (maps s o p) s (inl refl) x (object o) _ (y .level) u b e q
+    → Does t (maps s o p) (outcome b (fallen-by x (y .level) (y .shops) .level) (lost (x .shops) (fallen-by x (y .level) (y .shops) .shops))) u
+map-does t w s o p x y u b e q z f n = group-does t w (maps s o p) s (inl refl) x (object o) _ (y .level) (y .shops) u b e q
     (thing-is t (maps s o p) e o (present-live t (maps s o p) e o (inr (inl refl))) y z)
     (ap (λ (a : Thing → Option Entry). reap (handles t) (with-hand (with-at t a) (place (t .hand) s p (some (mapping o)))))
     (fun-ext (λ v. ap (λ (c : Thing). sink mapped c (t .at (object o)) v) (cell-self t s) ∙ same-sink v)) ∙ still ∙ sym f) refl (ap (λ (v : Tables). v .at (subject s)) f) n
@@ -585,21 +576,26 @@ map-does t w s o p x y u b e q z f n = group-does t w (maps s o p) s (inl refl) 
 -- s is alone then, and takes the file in for itself
 pub exec-does : (t : Tables) (w : Wf t) (s o : ℕ) (x : Subject) (y : Object) → refusal t (exec s o) ≡ none → t .at (subject s) ≡ subject-entry x
     → t .at (object o) ≡ object-entry y
-    → Does t (exec s o) (outcome (ltb (fallen-by x (y .level) .level) (x .level)) (fallen-by x (y .level) .level))
-    (reap (handles t) (with-at (applies (sheds t s) t) (put (applies (sheds t s) t .at) (subject s) (subject-entry (fallen-by x (y .level))))))
+    → Does t (exec s o) (let v = fallen-by x (y .level) (y .shops) in outcome (not (leq (label (x .level) (x .shops)) (label (v .level) (v .shops)))) (v .level) (lost (x .shops) (v .shops)))
+    (reap (handles t) (with-at (applies (sheds t s) t) (put (applies (sheds t s) t .at) (subject s) (subject-entry (fallen-by x (y .level) (y .shops))))))
 unfolding sheds
-exec-does t w s o x y e q z = subst₂ (λ (c : Thing) (v : Option Entry). Does t (exec s o) (outcome (ltb n (x .level)) n) (reap (handles t) (u c v)))
-    (cell-self t s) (sym (subject-now (ltb (y .level) (x .level)) refl))
-    (taken-in t (exec s o) (cell t s) (object o) running _ (x .level) (y .level) e (u (cell t s))
+exec-does t w s o x y e q z = subst₂ (λ (c : Thing) (v : Option Entry). Does t (exec s o) (outcome (not (leq (label (x .level) (x .shops)) n)) (fallen .level) (lost (x .shops) (fallen .shops))) (reap (handles t) (u c v)))
+    (cell-self t s) (sym (step-at t (exec s o) e s (inl refl) x q (fallen .level) (fallen .shops)))
+    (subst (λ (a : Told). Does t (exec s o) a (reap (handles t) (u (cell t s) (some (entry running n)))))
+    (told-fall (not (leq (label (x .level) (x .shops)) n)) (x .level) (x .shops) (fallen .level) (fallen .shops))
+    (taken-in t (exec s o) (cell t s) (object o) running _ (label (x .level) (x .shops)) (label (y .level) (y .shops)) e (u (cell t s))
     (applies-append (sheds t s) (mix runs (subject s) (object o) (cell t s) (object o) ∷ []) t
     ∙ ap (with-at shed) (ap (λ (c : Thing). sink shed c (t .at (object o))) (cell-self t s) ∙ sink-one shed (subject s) (t .at (object o)) (whole-self shed (subject s) (less .teamed (w .teams) .itself)) only
     ∙ ap₂ (λ (c : Thing) (v : Option Entry). put (shed .at) c (fall c v (t .at (object o)))) (sym (cell-self t s)) (own-entry ∙ ap (t .at) (sym (cell-self t s)))))
     refl (λ v c b m h. less .was-at c b (put-others (shed .at) (cell t s) v c b m h)) (λ d. stays d (cell t s) (sym (cell-self t s))) ranged
     (cell-is t (exec s o) e s (inl refl) x q) (thing-is t (exec s o) e o (present-live t (exec s o) e o (inr (inl refl))) y z) n
-    (ap (λ (c : Thing). sunk c running (label (x .level)) (label (y .level))) (cell-self t s) ∙ meet-level (x .level) (y .level) ∙ ap label (level-by (ltb (y .level) (x .level)))))
+    (ap (λ (c : Thing). sunk c running (label (x .level) (x .shops)) (label (y .level) (y .shops))) (cell-self t s) ∙ meet-labels (x .level) (x .shops) (y .level) (y .shops))))
   where
-    n : ℕ
-    n = fallen-by x (y .level) .level
+    fallen : Subject
+    fallen = fallen-by x (y .level) (y .shops)
+
+    n : Label
+    n = label (fallen .level) (fallen .shops)
 
     shed : Tables
     shed = applies (sheds t s) t
@@ -609,15 +605,6 @@ exec-does t w s o x y e q z = subst₂ (λ (c : Thing) (v : Option Entry). Does 
 
     u : Thing → Option Entry → Tables
     u c v = with-at shed (put (shed .at) c v)
-
-    level-by : (b : Bool) → cond b (y .level) (x .level) ≡ cond b (record { live = x .live; level = y .level }) x .level
-    level-by true = refl
-    level-by false = refl
-
-    subject-now : (b : Bool) → ltb (y .level) (x .level) ≡ b → subject-entry (cond b (record { live = x .live; level = y .level }) x)
-        ≡ some (entry running (label (cond b (record { live = x .live; level = y .level }) x .level)))
-    subject-now true f = step-at t (exec s o) e s (inl refl) x q (y .level)
-    subject-now false f = sym q ∙ step-is t (exec s o) e s (inl refl) x q
 
     ranged : Stands t (cell t s)
     ranged = subst (λ (y : Thing). Stands t y) (sym (cell-self t s)) (live-of t (subject s) (low-row-live t (exec s o) e s (inl refl)) .0)
@@ -655,9 +642,9 @@ put-self a x v q = fun-ext (λ y. go y (same x y) (same→eq x y))
 pub write-does : (t : Tables) (w : Wf t) (s p : ℕ) (x : Subject) (h : Handle) (y : Object) (after : Tables) (b : Bool) → refusal t (access writing s p) ≡ none
     → t .at (subject s) ≡ subject-entry x → t .hand s p ≡ held h → t .at (object (h .object)) ≡ object-entry y
     → after ≡ applies (rereads t (object (h .object))) t → lowers t after ≡ b
-    → Does t (access writing s p) (outcome (ltb (sunken-by y (x .level) .level) (y .level) || b) (sunken-by y (x .level) .level))
-    (with-at after (put (after .at) (object (h .object)) (object-entry (sunken-by y (x .level)))))
-write-does t w s p x h y after b e q r z f n = by (eqb (y .kind) 1) refl (ltb (x .level) (y .level)) refl
+    → Does t (access writing s p) (let v = sunken-by y (x .level) (x .shops) in outcome (not (leq (label (y .level) (y .shops)) (label (v .level) (v .shops))) || b) (v .level) (lost (y .shops) (v .shops)))
+    (with-at after (put (after .at) (object (h .object)) (object-entry (sunken-by y (x .level) (x .shops)))))
+write-does t w s p x h y after b e q r z f n = by (eqb (y .kind) 1) refl
   where
     o : Thing
     o = object (h .object)
@@ -665,7 +652,7 @@ write-does t w s p x h y after b e q r z f n = by (eqb (y .kind) 1) refl (ltb (x
     lives-there : T (live t o)
     lives-there = found-live t w (access writing s p) s p h e (inr (inl refl)) r
 
-    there : t .at o ≡ some (entry (cond (eqb (y .kind) 1) file pipe) (label (y .level)))
+    there : t .at o ≡ some (entry (cond (eqb (y .kind) 1) file pipe) (label (y .level) (y .shops)))
     there = thing-is t (access writing s p) e (h .object) lives-there y z
 
     open-there : T (open-on (handles t) (h .object))
@@ -673,8 +660,8 @@ write-does t w s p x h y after b e q r z f n = by (eqb (y .kind) 1) refl (ltb (x
         (open-here t s p (found t w (access writing s p) s p h e (inr (inl refl)) r .0) (row-low t (access writing s p) e s (inl refl)) (found-place t w (access writing s p) s p h e (inr (inl refl)) r)
         (found t w (access writing s p) s p h e (inr (inl refl)) r .1))
 
-    kind-is : (k : Bool) → eqb (y .kind) 1 ≡ k → t .at o ≡ some (entry (cond k file pipe) (label (y .level)))
-    kind-is k m = there ∙ ap (λ (b : Bool). some (entry (cond b file pipe) (label (y .level)))) m
+    kind-is : (k : Bool) → eqb (y .kind) 1 ≡ k → t .at o ≡ some (entry (cond k file pipe) (label (y .level) (y .shops)))
+    kind-is k m = there ∙ ap (λ (b : Bool). some (entry (cond b file pipe) (label (y .level) (y .shops)))) m
 
     to : target (t .hand s p) ≡ o
     to = found-target t w (access writing s p) s p h e (inr (inl refl)) r
@@ -687,14 +674,14 @@ write-does t w s p x h y after b e q r z f n = by (eqb (y .kind) 1) refl (ltb (x
         ∙ ap (λ (a : Thing → Option Entry). applies (rereads t o) (with-at t a)) (sink-one t o (t .at (cell t s)) (whole-self t o (w .teams .itself)) (whole-object t (h .object)))
 
     Written : Object → Type 0
-    Written v = Does t (access writing s p) (outcome (ltb (v .level) (y .level) || b) (v .level)) (with-at after (put (after .at) o (object-entry v)))
+    Written v = Does t (access writing s p) (outcome (not (leq (label (y .level) (y .shops)) (label (v .level) (v .shops))) || b) (v .level) (lost (y .shops) (v .shops))) (with-at after (put (after .at) o (object-entry v)))
 
     -- a file keeps its entry, and those who have it mapped read it
     to-file : eqb (y .kind) 1 ≡ true → Written y
     to-file m = subst₂ (λ (a : Told) (u : Tables). Does t (access writing s p) a u)
-        (ap (λ (c : Bool). outcome (c || b) (y .level)) (sym (le-ltb (y .level) (y .level) (le-refl (y .level)))))
+        (ap (λ (c : Bool). outcome (not c || b) (y .level) (lost (y .shops) (y .shops))) (sym (is-true (leq (label (y .level) (y .shops)) (label (y .level) (y .shops))) (⊑-refl .tested))))
         (sym (ap (with-at after) (put-self (after .at) o (object-entry y) (sym z ∙ sym same-o))))
-        (does t (access writing s p) (outcome b (y .level)) after e (sym shows) (sym is))
+        (does t (access writing s p) (outcome b (y .level) (lost (y .shops) (y .shops))) after e (sym shows) (sym is))
       where
         a-file-there : T (a-file o (t .at o))
         a-file-there = subst (λ (v : Option Entry). T (a-file o v)) (sym (kind-is true m)) tt
@@ -714,20 +701,23 @@ write-does t w s p x h y after b e q r z f n = by (eqb (y .kind) 1) refl (ltb (x
             (put-self (t .at) o (fall o (t .at o) (t .at (cell t s))) (file-keeps o (t .at o) (t .at (cell t s)) a-file-there)) ∙ sym f ∙ read)
             ∙ steady t (reread-by t (h .object) subjects) ∙ sym read
 
-        shows : said t (reap (handles t) (applies (steps t (access writing s p)) t)) (shown t (access writing s p)) ≡ outcome b (y .level)
+        shows : said t (reap (handles t) (applies (steps t (access writing s p)) t)) (shown t (access writing s p)) ≡ outcome b (y .level) (lost (y .shops) (y .shops))
         shows = ap (said t (reap (handles t) (applies (steps t (access writing s p)) t))) g ∙ ap (λ (v : Tables). said t v (level-at o)) is
-            ∙ ap₂ outcome n (ap (λ (v : Option Entry). level (last-label (t .at o) v)) (same-o ∙ kind-is true m) ∙ level-label (y .level))
+            ∙ ap (λ (c : Bool). outcome c (level (last-label (t .at o) (after .at o))) (fewer (t .at o) (after .at o))) n
+            ∙ ap₂ (λ (v a : Option Entry). outcome b (level (last-label v a)) (fewer v a)) (kind-is true m) (same-o ∙ kind-is true m)
+            ∙ told-fall b (y .level) (y .shops) (y .level) (y .shops)
 
     -- a pipe falls, and nobody reads
-    to-pipe : eqb (y .kind) 1 ≡ false → (v : Object) → object-entry v ≡ some (entry pipe (label (v .level)))
-        → meet (label (y .level)) (label (x .level)) ≡ label (v .level) → Written v
+    to-pipe : eqb (y .kind) 1 ≡ false → (v : Object) → object-entry v ≡ some (entry pipe (label (v .level) (v .shops)))
+        → meet (label (y .level) (y .shops)) (label (x .level) (x .shops)) ≡ label (v .level) (v .shops) → Written v
     to-pipe m v i d = subst₂ (λ (a : Told) (u : Tables). Does t (access writing s p) a u)
-        (ap (λ (c : Bool). outcome c (v .level)) (sym (or-none (ltb (v .level) (y .level)) b quiet)))
-        (steady t (put (t .at) o (some (entry pipe (label (v .level)))))
+        (told-fall (not (leq (label (y .level) (y .shops)) (label (v .level) (v .shops)))) (y .level) (y .shops) (v .level) (v .shops)
+        ∙ ap (λ (c : Bool). outcome c (v .level) (lost (y .shops) (v .shops))) (sym (or-none (not (leq (label (y .level) (y .shops)) (label (v .level) (v .shops)))) b quiet)))
+        (steady t (put (t .at) o (some (entry pipe (label (v .level) (v .shops)))))
         ∙ ap₂ (λ (u : Tables) (c : Option Entry). with-at u (put (u .at) o c)) (sym unread) (sym i))
-        (taken-in t (access writing s p) o (cell t s) pipe running (y .level) (x .level) e (λ c. with-at t (put (t .at) o c))
+        (taken-in t (access writing s p) o (cell t s) pipe running (label (y .level) (y .shops)) (label (x .level) (x .shops)) e (λ c. with-at t (put (t .at) o c))
         (made ∙ ap (λ (ks : List Step). applies ks (with-at t (put (t .at) o (fall o (t .at o) (t .at (cell t s)))))) none-read) g (put-others (t .at) o) (one-changed t o)
-        open-there (kind-is false m) (cell-is t (access writing s p) e s (inl refl) x q) (v .level) d)
+        open-there (kind-is false m) (cell-is t (access writing s p) e s (inl refl) x q) (label (v .level) (v .shops)) d)
       where
         none-read : rereads t o ≡ []
         none-read = rereads-none t o (subst (λ (v : Option Entry). T (not (a-file o v))) (sym (kind-is false m)) tt)
@@ -742,12 +732,10 @@ write-does t w s p x h y after b e q r z f n = by (eqb (y .kind) 1) refl (ltb (x
         or-none true c q = refl
         or-none false c q = q
 
-    pipe-at : eqb (y .kind) 1 ≡ false → (k : ℕ) → object-entry (record { kind = y .kind; level = k }) ≡ some (entry pipe (label k))
-    pipe-at m k = thing-at t (access writing s p) e (h .object) lives-there y z k ∙ ap (λ (b : Bool). some (entry (cond b file pipe) (label k))) m
+    pipe-at : eqb (y .kind) 1 ≡ false → (k n : ℕ) → object-entry (record { kind = y .kind; level = k; shops = n }) ≡ some (entry pipe (label k n))
+    pipe-at m k n = thing-at t (access writing s p) e (h .object) lives-there y z k n ∙ ap (λ (b : Bool). some (entry (cond b file pipe) (label k n))) m
 
-    by : (k : Bool) → eqb (y .kind) 1 ≡ k → (c : Bool) → ltb (x .level) (y .level) ≡ c
-        → Written (cond k y (cond c (record { kind = y .kind; level = x .level }) y))
-    by true m c d = to-file m
-    by false m true d = to-pipe m (record { kind = y .kind; level = x .level }) (pipe-at m (x .level)) (meet-level (y .level) (x .level)
-        ∙ ap (λ (c : Bool). label (cond c (x .level) (y .level))) d)
-    by false m false d = to-pipe m y (pipe-at m (y .level)) (meet-level (y .level) (x .level) ∙ ap (λ (c : Bool). label (cond c (x .level) (y .level))) d)
+    by : (k : Bool) → eqb (y .kind) 1 ≡ k → Written (cond k y (record { kind = y .kind; level = min (y .level) (x .level); shops = bitAnd (y .shops) (x .shops) }))
+    by true m = to-file m
+    by false m = to-pipe m (record { kind = y .kind; level = min (y .level) (x .level); shops = bitAnd (y .shops) (x .shops) }) (pipe-at m (min (y .level) (x .level)) (bitAnd (y .shops) (x .shops)))
+        (meet-labels (y .level) (y .shops) (x .level) (x .shops))

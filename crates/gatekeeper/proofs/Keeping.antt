@@ -10,7 +10,8 @@ use lib.ListN.{getD}
 use lib.Dec.{T, eqb, ltb→lt}
 use Rattle.model.specs.Bools.{is-true, both}
 use Rattle.model.specs.Label.{label}
-use Rattle.model.specs.Label.Laws.{label-zero}
+use Rattle.labels.specs.Codes.{coded}
+use Rattle.labels.specs.Codes.Laws.{coded-zero}
 use Rattle.model.specs.Flow.{Thing, subject}
 use Rattle.model.specs.Tables.{running, Entry, entry, Tables, empty, with-freeze, with-numbers, in-range, is-some, used, live, clean, needs, safe}
 use Rattle.model.specs.Tables.Laws.{used-is, some-is, live-of}
@@ -59,13 +60,13 @@ module _ (m : Monitor) (w : Wf (clean (slots m))) where
   kept-by x = cond (live (slots m) x) (getD (m .needs) (node x) 0) 0
 
   -- on a right monitor, the need of any thing
-  pub told-right : (x : Thing) → Fit m → label (kept-by x) ≡ needs (clean (slots m)) x
+  pub told-right : (x : Thing) → Fit m → coded (kept-by x) ≡ needs (clean (slots m)) x
   unfolding clean
   told-right x r = go (slots m .at x) refl
     where
-      go : (o : Option Entry) → slots m .at x ≡ o → label (kept-by x) ≡ needs (clean (slots m)) x
-      go none q = ap (λ (b : Bool). label (cond b (getD (m .needs) (node x) 0) 0)) (dead x q) ∙ label-zero ∙ sym (needs-none (clean (slots m)) x w q)
-      go (some e) q = ap (λ (b : Bool). label (cond b (getD (m .needs) (node x) 0) 0)) (alive x e q)
+      go : (o : Option Entry) → slots m .at x ≡ o → coded (kept-by x) ≡ needs (clean (slots m)) x
+      go none q = ap (λ (b : Bool). coded (cond b (getD (m .needs) (node x) 0) 0)) (dead x q) ∙ coded-zero ∙ sym (needs-none (clean (slots m)) x w q)
+      go (some e) q = ap (λ (b : Bool). coded (cond b (getD (m .needs) (node x) 0) 0)) (alive x e q)
           ∙ r .need-is x (live-hand (slots m) (clean (slots m) .hand) x (subst T (sym (alive x e q)) tt))
 
   told-none : (x : Thing) → slots m .at x ≡ none → 0 ≡ kept-by x
@@ -76,11 +77,11 @@ module _ (m : Monitor) (w : Wf (clean (slots m))) where
 
   -- a number, and that it is told on a right monitor
   unfoldable pub Told : Thing → ℕ → Type 0
-  Told x n = (n ≡ kept-by x) × (Fit m → label n ≡ needs (clean (slots m)) x)
+  Told x n = (n ≡ kept-by x) × (Fit m → coded n ≡ needs (clean (slots m)) x)
 
   as-told : (x : Thing) (n : ℕ) → n ≡ kept-by x → Told x n
   unfolding Told
-  as-told x n q = (q, λ r. ap label q ∙ told-right x r)
+  as-told x n q = (q, λ r. ap coded q ∙ told-right x r)
 
   -- the record of thing y says that it is free, or what it is
   module _ (y : Thing) (free : Bool) (e : Entry) (q : slots m .at y ≡ cond free none (some e)) where
@@ -95,10 +96,10 @@ module _ (m : Monitor) (w : Wf (clean (slots m))) where
 
   module _ (s : ℕ) (x : Subject) (q : slots m .at (subject s) ≡ subject-entry x) where
     pub subject-dead : x .live ≡ 0 → Told (subject s) 0
-    subject-dead e = free-told (subject s) (eqb (x .live) 0) (entry running (label (x .level))) q (eq-eqb (x .live) 0 e)
+    subject-dead e = free-told (subject s) (eqb (x .live) 0) (entry running (label (x .level) (x .shops))) q (eq-eqb (x .live) 0 e)
 
     pub subject-told : (n : ℕ) → (x .live ≡ 0 → ⊥) → n ≡ getD (m .needs) (s % 32) 0 → Told (subject s) n
-    subject-told n e f = used-told (subject s) (eqb (x .live) 0) (entry running (label (x .level))) q (s % 32) n (ne-eqb (x .live) 0 e) f
+    subject-told n e f = used-told (subject s) (eqb (x .live) 0) (entry running (label (x .level) (x .shops))) q (s % 32) n (ne-eqb (x .live) 0 e) f
         (λ r. omega (arith, ltb→lt s 32 (live-of (slots m) (subject s) r .0)))
 
   -- ── worked out anew ──

@@ -68,7 +68,7 @@ noted-long ns i x l = go (ltb i 64)
 used-some : (os : List Object) (i : ℕ) → T (slot-used os i) → object-entry (getD os i no-object) ≡ none → ⊥
 used-some os i u q = go (eqb (getD os i no-object .kind) 0) u q
   where
-    go : (b : Bool) → T (not b) → cond b none (some (entry (cond (eqb (getD os i no-object .kind) 1) file pipe) (label (getD os i no-object .level)))) ≡ none → ⊥
+    go : (b : Bool) → T (not b) → cond b none (some (entry (cond (eqb (getD os i no-object .kind) 1) file pipe) (label (getD os i no-object .level) (getD os i no-object .shops)))) ≡ none → ⊥
     go true u q = u
     go false u q = Option·none-ne-some _ (sym q)
 

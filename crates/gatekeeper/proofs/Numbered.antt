@@ -323,12 +323,12 @@ module _ (m t : Monitor) (c k : Call) (r : Reply) (lo : length (m .objects) ≡ 
     where
       go : (v : Told) → told (r .answer) ≡ v → refuses v ≡ false
       go (allowed l) i = refl
-      go (lowered l) i = refl
+      go (lowered l lost) i = refl
       go (refused j) i = absurd (Option·none-ne-some j (sym s ∙ answered-refused (clean (view m)) c j .0 (sym (full-answer h) ∙ i)))
 
   wholes : (v : Told) → told (r .answer) ≡ v → ((j : ℕ) → told (r .answer) ≡ refused j → ⊥) → Whole (cond (refuses v) (once m) (r .monitor)) → Whole (cond (refuses v) m (r .monitor))
   wholes (allowed l) p f x = x
-  wholes (lowered l) p f x = x
+  wholes (lowered l lost) p f x = x
   wholes (refused j) p f x = absurd (f j p)
 
   -- what holds of the reply holds of the monitor that is handed back: it is m, or the reply's

@@ -11,10 +11,13 @@ use borrow.Author.Tests.{lt-ltb, ltb-false, eq-eqb, ne-eqb}
 use lib.ListN.{length, getD, set, length-set}
 use lib.Seq.{getD-set-same, getD-set-other}
 use lib.Dec.{T, T-not, eqb, eqb→eq, eqb-refl, leb, ltb, ltb→lt, lt→ltb}
-use Rattle.model.specs.Bools.{is-false, neither}
+use Rattle.model.specs.Bools.{is-false, not-not, neither}
 use Rattle.model.specs.Lists.{In}
-use Rattle.model.specs.Label.{Label, leq, label, bot}
-use Rattle.model.specs.Label.Laws.{label-zero}
+use Rattle.model.specs.Sets.{lost}
+use Rattle.model.specs.Label.{Label, leq, label, in-scale, bot}
+use Rattle.model.specs.Label.Laws.{level-label, shops-label, level-in-scale, shops-in-scale}
+use Rattle.labels.specs.Codes.{coded}
+use Rattle.labels.specs.Codes.Laws.{coded-zero}
 use Rattle.model.specs.Flow.{Thing, subject, object, same}
 use Rattle.model.specs.Flow.Changes.{but}
 use Rattle.model.specs.Tables.{running, file, pipe, reading, writing, Entry, entry, handle, mapping, Tables, empty, with-at, with-hand, with-kin, is-some, live, label-of, cell, handles, open-on, needs, safe}
@@ -42,7 +45,6 @@ use Rattle.groups.specs.Groups.Laws.{kin-live, kin-new, kin-joined, kin-parted}
 use Rattle.tables.specs.Needs.Laws.{set-ready}
 use Rattle.refusals.proofs.Finding.{alone}
 use Rattle.refusals.specs.Refusing.{Room, Refuses, Late, direction}
-use Rattle.flows.proofs.Short.{below-test}
 use Rattle.keeping.proofs.Closing.{anew}
 use Rattle.tables.specs.Working.{subject-at, object-at, handle-at, joining, fallen-by, sunken-by, Outlives}
 use Rattle.gatekeeper.specs.declared.Monitor.{Monitor}
@@ -54,14 +56,21 @@ use Rattle.gatekeeper.proofs.Acting.{seen, acts}
 
 -- the monitor with these arrays and groups, and the freeze of m; and with the groups of m
 abbrev pub grouped : Monitor → List Subject → List ℕ → List Object → List Handle → List ℕ → Monitor
-grouped m ss gs os hs ns = record { subjects = ss; objects = os; handles = hs; freeze = m .freeze; needs = ns; groups = gs; sure = m .sure; numbers = m .numbers }
+grouped m ss gs os hs ns = record { numbers = m .numbers; needs = ns; subjects = ss; objects = os; handles = hs; freeze = m .freeze; groups = gs; sure = m .sure }
 
 abbrev pub monitor : Monitor → List Subject → List Object → List Handle → List ℕ → Monitor
 monitor m ss os hs ns = grouped m ss (m .groups) os hs ns
 
--- a level that a call may name is a byte
-leveled-low : (t : Tables) (c : Call) (l : ℕ) → refusal t c ≡ none → In (leveled l) (tests c) → l % 256 ≡ l
-leveled-low t c l e i = let h : l ≤ 15 = ltb-false 15 l (is-false (ltb 15 l) (passed t c e (leveled l) i)) in omega arith
+-- a label that a call may name is two bytes
+module _ (t : Tables) (c : Call) (l n : ℕ) (e : refusal t c ≡ none) (i : In (leveled (label l n)) (tests c)) where
+  named : T (in-scale (label l n))
+  named = not-not (in-scale (label l n)) (passed t c e (leveled (label l n)) i)
+
+  level-low : l % 256 ≡ l
+  level-low = let h : l ≤ 15 = subst (λ (k : ℕ). k ≤ 15) (level-label l n) (level-in-scale (label l n) named) in omega arith
+
+  shops-low : n % 256 ≡ n
+  shops-low = let h : n ≤ 255 = subst (λ (k : ℕ). k ≤ 255) (shops-label l n) (shops-in-scale (label l n) named) in omega arith
 
 -- ── all handles ──
 all-handles : (m : Monitor) → handles (slots m) ≡ handles (with-hand empty (hands (m .handles)))
@@ -149,7 +158,7 @@ abbrev Shorts : List Subject → List Object → List ℕ → Bool → Type 0
 Shorts ss os ns r = (rest : Tables) (hs : List Handle) → Wf (tables-of rest ss os hs) → Ready (tables-of rest ss os hs) (figure-of ns)
     → r ≡ not (safe (tables-of rest ss os hs))
 
--- the figures once a handle came, and whether some level is below one
+-- the figures once a handle came, and whether some label is below one
 abbrev pub Opening : Monitor → Bool → List Handle → ℕ → Handle → List ℕ → Bool → Type 0
 Opening m sure next s h ns short = (rest : Tables) (t : Tables) (p : ℕ) → rest .kin ≡ kin-of (m .subjects) (m .groups) → Wf t → Ends t s p (joins h) → t .hand s p ≡ none
     → tables-of rest (m .subjects) (m .objects) next ≡ apply (hold s p (some (joins h))) t → (sure ≡ true → Ready t (figure-of (m .needs)))
@@ -206,7 +215,7 @@ module _ (m : Monitor) (g : Long m) where
   unfolding tables-of
   not-standing c l q = let e : c % 32 ≡ c = omega arith in go (eqb (getD (m .subjects) (c % 32) no-subject .live) 0) (ap (λ (i : ℕ). subject-entry (getD (m .subjects) i no-subject)) e ∙ q)
     where
-      go : (b : Bool) → cond b none (some (entry running (label (getD (m .subjects) (c % 32) no-subject .level)))) ≡ none → T (not (not b))
+      go : (b : Bool) → cond b none (some (entry running (label (getD (m .subjects) (c % 32) no-subject .level) (getD (m .subjects) (c % 32) no-subject .shops)))) ≡ none → T (not (not b))
       go true z = tt
       go false z = absurd (Option·none-ne-some _ (sym z))
 
@@ -215,7 +224,7 @@ module _ (m : Monitor) (g : Long m) where
   standing s l h = let e : s % 32 ≡ s = omega arith in go (eqb (getD (m .subjects) (s % 32) no-subject .live) 0)
       (subst (λ (i : ℕ). T (is-some (subject-entry (getD (m .subjects) i no-subject)))) (sym e) (subst T (used-is (slots m) (subject s)) (live-of (slots m) (subject s) h .1)))
     where
-      go : (b : Bool) → T (is-some (cond b none (some (entry running (label (getD (m .subjects) (s % 32) no-subject .level)))))) → T (not b)
+      go : (b : Bool) → T (is-some (cond b none (some (entry running (label (getD (m .subjects) (s % 32) no-subject .level) (getD (m .subjects) (s % 32) no-subject .shops)))))) → T (not b)
       go true z = absurd z
       go false z = tt
 
@@ -229,19 +238,19 @@ module _ (m : Monitor) (g : Long m) where
   put-object o v ns l = store-object (beside m) (m .subjects) (m .objects) (m .handles) o v (g .objects) l
 
   -- one figure
-  kept-subject : (s v : ℕ) (a : Label) (t : Tables) → s < 32 → label v ≡ a → Ready t (but (figure-of (m .needs)) (subject s) a)
+  kept-subject : (s v : ℕ) (a : Label) (t : Tables) → s < 32 → coded v ≡ a → Ready t (but (figure-of (m .needs)) (subject s) a)
       → Ready t (figure-of (set (m .needs) (s % 32) v))
   kept-subject s v a t l q k = let e : s ≡ s % 32 = omega arith in
       subst (λ (i : ℕ). Ready t (figure-of (set (m .needs) i v))) e (set-ready (m .needs) (subject s) v (g .needs) (lt→ltb s 32 l) t a q k)
 
-  kept-object : (o v : ℕ) (a : Label) (t : Tables) → o < 64 → label v ≡ a → Ready t (but (figure-of (m .needs)) (object o) a)
+  kept-object : (o v : ℕ) (a : Label) (t : Tables) → o < 64 → coded v ≡ a → Ready t (but (figure-of (m .needs)) (object o) a)
       → Ready t (figure-of (set (m .needs) (32 + o % 64) v))
   kept-object o v a t l q k = let e : o ≡ o % 64 = omega arith in
       subst (λ (i : ℕ). Ready t (figure-of (set (m .needs) (32 + i) v))) e (set-ready (m .needs) (object o) v (g .needs) (lt→ltb o 64 l) t a q k)
 
   -- that of a subject in range
-  own-figure : (s : ℕ) → s < 32 → label (getD (m .needs) (s % 32) 0) ≡ figure-of (m .needs) (subject s)
-  own-figure s l = let e : s % 32 ≡ s = omega arith in ap (λ (i : ℕ). label (getD (m .needs) i 0)) e
+  own-figure : (s : ℕ) → s < 32 → coded (getD (m .needs) (s % 32) 0) ≡ figure-of (m .needs) (subject s)
+  own-figure s l = let e : s % 32 ≡ s = omega arith in ap (λ (i : ℕ). coded (getD (m .needs) i 0)) e
 
   -- figures that were worked out for the tables that the steps make
   worked : (c : Call) (os : List Object) (hs : List Handle) (ns : List ℕ) → tables-of (beside m) (m .subjects) os hs ≡ applies (steps (slots m) c) (slots m)
@@ -250,53 +259,59 @@ module _ (m : Monitor) (g : Long m) where
       (λ x h. f (beside m) refl w .need-is x h ∙ ap (λ (t : Tables). needs t x) q)
 
   -- ── admit, register, create ──
-  pub admits : (s l : ℕ) (ss : List Subject) (gs : List ℕ) (v : ℕ) (ns : List ℕ) → Wf (slots m) → refusal (slots m) (admit s l) ≡ none
-      → ss ≡ set (m .subjects) (s % 32) (record { live = 1; level = l % 256 }) → Fresh (m .subjects) (m .groups) v → gs ≡ set (m .groups) (s % 32) v
-      → ns ≡ set (m .needs) (s % 32) 0 → Acts m (admit s l) (allowed (l % 256)) (grouped m ss gs (m .objects) (m .handles) ns)
-  admits s l ss gs v ns w e p f d q = rw (p, d, q, leveled-low (slots m) (admit s l) l e (inr (inl refl)))
-      (acts m (admit s l) (allowed l) _ _ refl refl (admit-does (slots m) s l e)
-      (seen-is _ (set (m .groups) (s % 32) v) (m .objects) (m .handles) (set (m .needs) (s % 32) 0) ∙ ap₂ with-kin (put-subject s (record { live = 1; level = l }) low)
-      (alone-kin s v (record { live = 1; level = l }) low (is-new (slots m) (subject s) (passed (slots m) (admit s l) e (new (subject s)) (inl refl)) .1) f))
-      (λ k. kept-subject s 0 bot _ low label-zero (admit-ready (slots m) (figure-of (m .needs)) w k s l e)))
+  pub admits : (s l n : ℕ) (ss : List Subject) (gs : List ℕ) (v : ℕ) (ns : List ℕ) → Wf (slots m) → refusal (slots m) (admit s (label l n)) ≡ none
+      → ss ≡ set (m .subjects) (s % 32) (record { live = 1; level = l % 256; shops = n % 256 }) → Fresh (m .subjects) (m .groups) v → gs ≡ set (m .groups) (s % 32) v
+      → ns ≡ set (m .needs) (s % 32) 0 → Acts m (admit s (label l n)) (allowed (l % 256)) (grouped m ss gs (m .objects) (m .handles) ns)
+  admits s l n ss gs v ns w e p f d q = rw (p, d, q, level-low (slots m) (admit s (label l n)) l n e (inr (inl refl)), shops-low (slots m) (admit s (label l n)) l n e (inr (inl refl)))
+      (acts m (admit s (label l n)) (allowed l) _ _ refl refl (admit-does (slots m) s l n e)
+      (seen-is _ (set (m .groups) (s % 32) v) (m .objects) (m .handles) (set (m .needs) (s % 32) 0) ∙ ap₂ with-kin (put-subject s (record { live = 1; level = l; shops = n }) low)
+      (alone-kin s v (record { live = 1; level = l; shops = n }) low (is-new (slots m) (subject s) (passed (slots m) (admit s (label l n)) e (new (subject s)) (inl refl)) .1) f))
+      (λ k. kept-subject s 0 bot _ low coded-zero (admit-ready (slots m) (figure-of (m .needs)) w k s (label l n) e)))
     where
       low : s < 32
-      low = new-row (slots m) (admit s l) e s (inl refl)
+      low = new-row (slots m) (admit s (label l n)) e s (inl refl)
 
-  pub registers : (o l : ℕ) (os : List Object) (ns : List ℕ) → Wf (slots m) → refusal (slots m) (register o l) ≡ none → Room (slots m) (register o l)
-      → os ≡ set (m .objects) (o % 64) (record { kind = 1; level = l % 256 }) → ns ≡ set (m .needs) (32 + o % 64) (l % 256)
-      → Acts m (register o l) (allowed (l % 256)) (monitor m (m .subjects) os (m .handles) ns)
-  registers o l os ns w e room p q = rw (p, q, leveled-low (slots m) (register o l) l e (inr (inl refl)))
-      (acts m (register o l) (allowed l) _ _ refl refl (register-does (slots m) o l e) (put-object o (record { kind = 1; level = l }) (set (m .needs) (32 + o % 64) l) low)
-      (λ k. kept-object o l (label l) _ low refl (register-ready (slots m) (figure-of (m .needs)) w k o l e)))
+  pub registers : (o l n v : ℕ) (os : List Object) (ns : List ℕ) → Wf (slots m) → refusal (slots m) (register o (label l n)) ≡ none → Room (slots m) (register o (label l n))
+      → os ≡ set (m .objects) (o % 64) (record { kind = 1; level = l % 256; shops = n % 256 }) → coded v ≡ label (l % 256) (n % 256) → ns ≡ set (m .needs) (32 + o % 64) v
+      → Acts m (register o (label l n)) (allowed (l % 256)) (monitor m (m .subjects) os (m .handles) ns)
+  registers o l n v os ns w e room p z q = rw (p, q, is-l, is-n)
+      (acts m (register o (label l n)) (allowed l) _ _ refl refl (register-does (slots m) o l n e) (put-object o (record { kind = 1; level = l; shops = n }) (set (m .needs) (32 + o % 64) v) low)
+      (λ k. kept-object o v (label l n) _ low (subst₂ (λ (a b : ℕ). coded v ≡ label a b) is-l is-n z) (register-ready (slots m) (figure-of (m .needs)) w k o (label l n) e)))
     where
       low : o < 64
-      low = new-column (slots m) (register o l) e o (inl refl) (inr (inr (inl refl))) room
+      low = new-column (slots m) (register o (label l n)) e o (inl refl) (inr (inr (inl refl))) room
 
-  pub creates : (s o : ℕ) (x : Subject) (os : List Object) (ns : List ℕ) → Wf (slots m) → refusal (slots m) (create s o) ≡ none → Room (slots m) (create s o)
-      → slots m .at (subject s) ≡ subject-entry x → os ≡ set (m .objects) (o % 64) (record { kind = 1; level = x .level })
-      → ns ≡ set (m .needs) (32 + o % 64) (x .level) → Acts m (create s o) (allowed (x .level)) (monitor m (m .subjects) os (m .handles) ns)
-  creates s o x os ns w e room q p r = rw (p, r) (acts m (create s o) (allowed (x .level)) _ _ refl refl (create-does (slots m) s o x e q)
-      (put-object o (record { kind = 1; level = x .level }) (set (m .needs) (32 + o % 64) (x .level)) low)
-      (λ k. kept-object o (x .level) _ _ low (sym (own (slots m) (create s o) e s (inl refl) x q)) (create-ready (slots m) (figure-of (m .needs)) w k s o e)))
+      is-l : l % 256 ≡ l
+      is-l = level-low (slots m) (register o (label l n)) l n e (inr (inl refl))
+
+      is-n : n % 256 ≡ n
+      is-n = shops-low (slots m) (register o (label l n)) l n e (inr (inl refl))
+
+  pub creates : (s o : ℕ) (x : Subject) (v : ℕ) (os : List Object) (ns : List ℕ) → Wf (slots m) → refusal (slots m) (create s o) ≡ none → Room (slots m) (create s o)
+      → slots m .at (subject s) ≡ subject-entry x → os ≡ set (m .objects) (o % 64) (record { kind = 1; level = x .level; shops = x .shops })
+      → coded v ≡ label (x .level) (x .shops) → ns ≡ set (m .needs) (32 + o % 64) v → Acts m (create s o) (allowed (x .level)) (monitor m (m .subjects) os (m .handles) ns)
+  creates s o x v os ns w e room q p f r = rw (p, r) (acts m (create s o) (allowed (x .level)) _ _ refl refl (create-does (slots m) s o x e q)
+      (put-object o (record { kind = 1; level = x .level; shops = x .shops }) (set (m .needs) (32 + o % 64) v) low)
+      (λ k. kept-object o v _ _ low (f ∙ sym (own (slots m) (create s o) e s (inl refl) x q)) (create-ready (slots m) (figure-of (m .needs)) w k s o e)))
     where
       low : o < 64
       low = new-column (slots m) (create s o) e o (inr (inl refl)) (inr (inr (inl refl))) room
 
   -- ── read, write ──
-  -- what one of a group takes in, stored for all of them, and whether a level is smaller by that
-  abbrev Takes : ℕ → ℕ → List Subject → Bool → Type 0
-  Takes s l after b = ((rest : Tables) (os : List Object) (hs : List Handle) (d : Entry) → s < 32 → rest .kin ≡ kin-of (m .subjects) (m .groups) → d .label ≡ label l
+  -- what one of a group takes in, stored for all of them, and whether a label is smaller by that
+  abbrev Takes : ℕ → ℕ → ℕ → List Subject → Bool → Type 0
+  Takes s l n after b = ((rest : Tables) (os : List Object) (hs : List Handle) (d : Entry) → s < 32 → rest .kin ≡ kin-of (m .subjects) (m .groups) → d .label ≡ label l n
       → tables-of rest after os hs ≡ with-at (tables-of rest (m .subjects) os hs) (sink (tables-of rest (m .subjects) os hs) (subject s) (some d)))
       × (((rest : Tables) (os : List Object) (hs : List Handle) → lowers (tables-of rest (m .subjects) os hs) (tables-of rest after os hs) ≡ b)
       × ((a : ℕ) → stands after a ≡ stands (m .subjects) a))
 
   pub reads : (s p : ℕ) (x v : Subject) (h : Handle) (y : Object) (ss : List Subject) (b : Bool) (a : Told) → Wf (slots m) → refusal (slots m) (access reading s p) ≡ none
-      → slots m .at (subject s) ≡ subject-entry x → slots m .hand s p ≡ held h → slots m .at (object (h .object)) ≡ object-entry y → v ≡ fallen-by x (y .level)
-      → Takes s (y .level) ss b → a ≡ outcome b (v .level) → Acts m (access reading s p) a (monitor m ss (m .objects) (m .handles) (m .needs))
+      → slots m .at (subject s) ≡ subject-entry x → slots m .hand s p ≡ held h → slots m .at (object (h .object)) ≡ object-entry y → v ≡ fallen-by x (y .level) (y .shops)
+      → Takes s (y .level) (y .shops) ss b → a ≡ outcome b (v .level) (lost (x .shops) (v .shops)) → Acts m (access reading s p) a (monitor m ss (m .objects) (m .handles) (m .needs))
   reads s p x v h y ss b a w e q r o f n k = acts m (access reading s p) a _ _ refl refl
-      (subst (λ (c : Told). Does (slots m) (access reading s p) c u) (sym (k ∙ ap (λ (z : Subject). outcome b (z .level)) f))
+      (subst (λ (c : Told). Does (slots m) (access reading s p) c u) (sym (k ∙ ap (λ (z : Subject). outcome b (z .level) (lost (x .shops) (z .shops))) f))
       (read-does (slots m) w s p x h y u b e q r o
-      (n .0 (beside m) (m .objects) (m .handles) (entry _ (label (y .level))) (row-low (slots m) (access reading s p) e s (inl refl)) refl refl
+      (n .0 (beside m) (m .objects) (m .handles) (entry _ (label (y .level) (y .shops))) (row-low (slots m) (access reading s p) e s (inl refl)) refl refl
       ∙ ap (λ (d : Option Entry). with-at (slots m) (sink (slots m) (subject s) d)) (sym there)) (n .1 .0 (beside m) (m .objects) (m .handles))))
       (seen-is ss (m .groups) (m .objects) (m .handles) (m .needs) ∙ ap (with-kin u) (same-kin ss (n .1 .1)) ∙ kept-kin ss (m .objects) (m .handles) (u .at) .0)
       (λ k. access-ready (slots m) (figure-of (m .needs)) w k reading s p)
@@ -304,21 +319,21 @@ module _ (m : Monitor) (g : Long m) where
       u : Tables
       u = tables-of (beside m) ss (m .objects) (m .handles)
 
-      there : slots m .at (object (h .object)) ≡ some (entry (cond (eqb (y .kind) 1) file pipe) (label (y .level)))
+      there : slots m .at (object (h .object)) ≡ some (entry (cond (eqb (y .kind) 1) file pipe) (label (y .level) (y .shops)))
       there = full-object (slots m) (h .object) y o (found-live (slots m) w (access reading s p) s p h e (inr (inl refl)) r)
 
-  -- the subjects once those who have the object mapped have read it, and whether one of them has a smaller level then
+  -- the subjects once those who have the object mapped have read it, and whether one of them has a smaller label then
   pub writes : (s p : ℕ) (x : Subject) (h : Handle) (y v : Object) (after : List Subject) (os : List Object) (b : Bool) (a : Told) → Wf (slots m)
       → refusal (slots m) (access writing s p) ≡ none → slots m .at (subject s) ≡ subject-entry x → slots m .hand s p ≡ held h
-      → y ≡ object-at (h .object) (getD (m .objects) (h .object % 64) no-object) → v ≡ sunken-by y (x .level)
+      → y ≡ object-at (h .object) (getD (m .objects) (h .object % 64) no-object) → v ≡ sunken-by y (x .level) (x .shops)
       → ((rest : Tables) (os : List Object) → rest .kin ≡ kin-of (m .subjects) (m .groups) → getD os (h .object) no-object ≡ y
       → tables-of rest after os (m .handles) ≡ applies (rereads (tables-of rest (m .subjects) os (m .handles)) (object (h .object)))
       (tables-of rest (m .subjects) os (m .handles)))
       → ((i : ℕ) → stands after i ≡ stands (m .subjects) i) → ((rest : Tables) (os : List Object) (hs : List Handle) → lowers (tables-of rest (m .subjects) os hs) (tables-of rest after os hs) ≡ b)
-      → os ≡ set (m .objects) (h .object % 64) v → a ≡ outcome (ltb (v .level) (y .level) || b) (v .level)
+      → os ≡ set (m .objects) (h .object % 64) v → a ≡ outcome (not (leq (label (y .level) (y .shops)) (label (v .level) (v .shops))) || b) (v .level) (lost (y .shops) (v .shops))
       → Acts m (access writing s p) a (monitor m after os (m .handles) (m .needs))
   writes s p x h y v after os b a w e q r o f n lives l c k = rw c (acts m (access writing s p) a _ _ refl refl (subst₂ (λ (c : Told) (z : Object). Does (slots m) (access writing s p) c
-      (with-at u (put (u .at) (object (h .object)) (object-entry z)))) (sym (k ∙ ap (λ (z : Object). outcome (ltb (z .level) (y .level) || b) (z .level)) f))
+      (with-at u (put (u .at) (object (h .object)) (object-entry z)))) (sym (k ∙ ap (λ (z : Object). outcome (not (leq (label (y .level) (y .shops)) (label (z .level) (z .shops))) || b) (z .level) (lost (y .shops) (z .shops))) f))
       (sym f)
       (write-does (slots m) w s p x h y u b e q r (object-got (h .object) y o)
       (n (beside m) (m .objects) refl (ap (λ (i : ℕ). getD (m .objects) i no-object) same ∙ sym (o ∙ object-low (h .object) low)))
@@ -339,18 +354,18 @@ module _ (m : Monitor) (g : Long m) where
   -- ── pipe ──
   pub pipes : (s o r w : ℕ) (x : Subject) (os : List Object) (next : List Handle) (v : ℕ) (ns : List ℕ) → Wf (slots m)
       → refusal (slots m) (make-pipe s o r w) ≡ none → Room (slots m) (make-pipe s o r w) → slots m .at (subject s) ≡ subject-entry x
-      → os ≡ set (m .objects) (o % 64) (record { kind = 2; level = x .level }) → Joins (m .handles) (s % 32) (r % 16) (w % 16) (o % 64) (o % 64) next
+      → os ≡ set (m .objects) (o % 64) (record { kind = 2; level = x .level; shops = x .shops }) → Joins (m .handles) (s % 32) (r % 16) (w % 16) (o % 64) (o % 64) next
       → v ≡ getD (m .needs) (s % 32) 0 → ns ≡ set (m .needs) (32 + o % 64) v
       → Acts m (make-pipe s o r w) (allowed (x .level)) (monitor m (m .subjects) os next ns)
   unfolding tables-of
   pipes s o r w x os next v ns wf e room q p f d n = rw (p, n) (acts m (make-pipe s o r w) (allowed (x .level)) _ _ refl refl (pipe-does (slots m) s o r w x e q)
       (f (beside m) (m .subjects) (set (m .objects) (o % 64) y)
       ∙ ap (λ (u : Tables). with-hand u (joined (hands (m .handles)) (s % 32) (r % 16) (w % 16) (o % 64) (o % 64))) (put-object o y (m .needs) low)
-      ∙ ap (λ (h : ℕ → ℕ → Option Held). with-hand (with-at (slots m) (put (slots m .at) (object o) (some (entry pipe (label (x .level)))))) h)
+      ∙ ap (λ (h : ℕ → ℕ → Option Held). with-hand (with-at (slots m) (put (slots m .at) (object o) (some (entry pipe (label (x .level) (x .shops)))))) h)
       (joined-same (hands (m .handles)) s r w o o low-s
       (place-low (slots m) (make-pipe s o r w) e s r (inr (inr (inl refl))))
       (place-low (slots m) (make-pipe s o r w) e s w (inr (inr (inr (inl refl))))) low low))
-      (λ k. kept-object o v _ _ low (ap label d ∙ own-figure s low-s) (pipe-ready (slots m) (figure-of (m .needs)) wf k s o r w e)))
+      (λ k. kept-object o v _ _ low (ap coded d ∙ own-figure s low-s) (pipe-ready (slots m) (figure-of (m .needs)) wf k s o r w e)))
     where
       low : o < 64
       low = new-column (slots m) (make-pipe s o r w) e o (inr (inl refl)) (inr (inr (inr (inr (inr (inl refl)))))) room
@@ -359,14 +374,14 @@ module _ (m : Monitor) (g : Long m) where
       low-s = row-low (slots m) (make-pipe s o r w) e s (inl refl)
 
       y : Object
-      y = record { kind = 2; level = x .level }
+      y = record { kind = 2; level = x .level; shops = x .shops }
 
   -- ── connect ──
   module _ (s u a b p q : ℕ) (x z : Subject) (os₁ os : List Object) (one next : List Handle) (ns : List ℕ) (w : Wf (slots m)) (k : Refuses (slots m) (connect s u a b p q) 0) (room : Room (slots m) (connect s u a b p q))
       (i : slots m .at (subject s) ≡ subject-entry x) (j : slots m .at (subject u) ≡ subject-entry z)
       (f : Joins (m .handles) (s % 32) (p % 16) (q % 16) (b % 64) (a % 64) one) (g′ : Joins one (u % 32) (p % 16) (q % 16) (a % 64) (b % 64) next)
-      (is-one : os₁ ≡ set (m .objects) (a % 64) (record { kind = 2; level = x .level }))
-      (is-both : os ≡ set os₁ (b % 64) (record { kind = 2; level = z .level })) (h : Works (m .subjects) (m .groups) os next ns) where
+      (is-one : os₁ ≡ set (m .objects) (a % 64) (record { kind = 2; level = x .level; shops = x .shops }))
+      (is-both : os ≡ set os₁ (b % 64) (record { kind = 2; level = z .level; shops = z .shops })) (h : Works (m .subjects) (m .groups) os next ns) where
     passes : In-order (slots m) (connect s u a b p q) 15
     passes = early-passed (slots m) (connect s u a b p q) k
 
@@ -392,29 +407,29 @@ module _ (m : Monitor) (g : Long m) where
     low-q′ : q < 16
     low-q′ = is-place (slots m) s q (passes (vacant s q) (inr (inr (inr (inr (inr (inr (inr (inl refl)))))))) tt)
 
-    abbrev pipe-of : ℕ → Object
-    pipe-of l = record { kind = 2; level = l }
+    abbrev pipe-of : Subject → Object
+    pipe-of v = record { kind = 2; level = v .level; shops = v .shops }
 
     abbrev both-pipes : List Object
-    both-pipes = set (set (m .objects) (a % 64) (pipe-of (x .level))) (b % 64) (pipe-of (z .level))
+    both-pipes = set (set (m .objects) (a % 64) (pipe-of x)) (b % 64) (pipe-of z)
 
     os-is : os ≡ both-pipes
-    os-is = is-both ∙ ap (λ (l : List Object). set l (b % 64) (pipe-of (z .level))) is-one
+    os-is = is-both ∙ ap (λ (l : List Object). set l (b % 64) (pipe-of z)) is-one
 
     -- both pipes and all four handles
     connected : tables-of (beside m) (m .subjects) both-pipes next ≡ with-hand
-        (with-at (slots m) (put (put (slots m .at) (object a) (some (entry pipe (label (x .level))))) (object b) (some (entry pipe (label (z .level))))))
+        (with-at (slots m) (put (put (slots m .at) (object a) (some (entry pipe (label (x .level) (x .shops))))) (object b) (some (entry pipe (label (z .level) (z .shops))))))
         (joined (joined (slots m .hand) s p q b a) u p q a b)
     unfolding tables-of
     connected = g′ (beside m) (m .subjects) both-pipes
         ∙ ap (λ (v : Tables). with-hand v (joined (v .hand) (u % 32) (p % 16) (q % 16) (a % 64) (b % 64))) (f (beside m) (m .subjects) both-pipes)
         ∙ ap (λ (v : Tables). with-hand v (joined (joined (hands (m .handles)) (s % 32) (p % 16) (q % 16) (b % 64) (a % 64)) (u % 32) (p % 16) (q % 16)
         (a % 64) (b % 64)))
-        (store-object (beside m) (m .subjects) (set (m .objects) (a % 64) (pipe-of (x .level))) (m .handles) b (pipe-of (z .level))
+        (store-object (beside m) (m .subjects) (set (m .objects) (a % 64) (pipe-of x)) (m .handles) b (pipe-of z)
         (simp length-set (g .objects)) low-b
-        ∙ ap (λ (v : Tables). with-at v (put (v .at) (object b) (some (entry pipe (label (z .level)))))) (put-object a (pipe-of (x .level)) (m .needs) low-a))
+        ∙ ap (λ (v : Tables). with-at v (put (v .at) (object b) (some (entry pipe (label (z .level) (z .shops)))))) (put-object a (pipe-of x) (m .needs) low-a))
         ∙ ap (λ (h : ℕ → ℕ → Option Held). with-hand
-        (with-at (slots m) (put (put (slots m .at) (object a) (some (entry pipe (label (x .level))))) (object b) (some (entry pipe (label (z .level)))))) h)
+        (with-at (slots m) (put (put (slots m .at) (object a) (some (entry pipe (label (x .level) (x .shops))))) (object b) (some (entry pipe (label (z .level) (z .shops)))))) h)
         (ap (λ (h : ℕ → ℕ → Option Held). joined h (u % 32) (p % 16) (q % 16) (a % 64) (b % 64))
         (joined-same (hands (m .handles)) s p q b a (low-row s (inl refl)) low-p′ low-q′ low-b low-a)
         ∙ joined-same (joined (hands (m .handles)) s p q b a) u p q a b (low-row u (inr (inl refl))) low-p′ low-q′ low-a low-b)
@@ -427,7 +442,7 @@ module _ (m : Monitor) (g : Long m) where
         (sym (own-label s x (inl refl) i)) (sym (own-label u z (inr (inl refl)) j))
       where
         own-label : (v : ℕ) (y : Subject) → In (alive v) (tests (connect s u a b p q)) → slots m .at (subject v) ≡ subject-entry y
-            → label-of (slots m .at (cell (slots m) v)) ≡ label (y .level)
+            → label-of (slots m .at (cell (slots m) v)) ≡ label (y .level) (y .shops)
         own-label v y d e = ap label-of (ap (slots m .at) (cell-self (slots m) v) ∙ full-subject (slots m) v y e (is-alive (slots m) v (passes (alive v) d tt)))
 
     flows-now : tables-of (beside m) (m .subjects) os next ≡ applies (channel (slots m) s u a b p q) (slots m)
@@ -526,16 +541,16 @@ module _ (m : Monitor) (g : Long m) where
       left-now = gone-now
 
   pub forks : (s c : ℕ) (x : Subject) (ss : List Subject) (gs : List ℕ) (i : ℕ) (after : List Handle) (v : ℕ) (ns : List ℕ) → Wf (slots m) → refusal (slots m) (fork s c) ≡ none
-      → slots m .at (subject s) ≡ subject-entry x → ss ≡ set (m .subjects) (c % 32) (record { live = 1; level = x .level })
+      → slots m .at (subject s) ≡ subject-entry x → ss ≡ set (m .subjects) (c % 32) (record { live = 1; level = x .level; shops = x .shops })
       → Fresh (m .subjects) (m .groups) i → gs ≡ set (m .groups) (c % 32) i → Rowed (m .handles) (c % 32) (hands (m .handles) (s % 32)) after
       → ((rest : Tables) (ss : List Subject) (os : List Object) → length os ≡ 64 → s < 32 → Wf (tables-of rest ss os (m .handles)) → Ready (tables-of rest ss os (m .handles)) (figure-of (m .needs))
-      → label v ≡ own-need (tables-of rest ss os (m .handles)) s) → ns ≡ set (m .needs) (c % 32) v
+      → coded v ≡ own-need (tables-of rest ss os (m .handles)) s) → ns ≡ set (m .needs) (c % 32) v
       → Acts m (fork s c) (allowed (x .level)) (grouped m ss gs (m .objects) after ns)
   unfolding tables-of
   forks s c x ss gs i after v ns w e q n f d a o r = rw (n, d, r) (acts m (fork s c) (allowed (x .level)) _ _ refl refl (fork-does (slots m) s c x w e q)
       (seen-is _ (set (m .groups) (c % 32) i) (m .objects) after (set (m .needs) (c % 32) v) ∙ ap₂ with-kin rows
-      (alone-kin c i (record { live = 1; level = x .level }) low (is-new (slots m) (subject c) (passed (slots m) (fork s c) e (new (subject c)) (inr (inl refl))) .1) f))
-      (λ k. kept-subject c v (label v) _ low refl (fork-ready (slots m) (figure-of (m .needs)) w k s c (label v) (o (beside m) (m .subjects) (m .objects) (g .objects) low-s w k) e)))
+      (alone-kin c i (record { live = 1; level = x .level; shops = x .shops }) low (is-new (slots m) (subject c) (passed (slots m) (fork s c) e (new (subject c)) (inr (inl refl))) .1) f))
+      (λ k. kept-subject c v (coded v) _ low refl (fork-ready (slots m) (figure-of (m .needs)) w k s c (coded v) (o (beside m) (m .subjects) (m .objects) (g .objects) low-s w k) e)))
     where
       low : c < 32
       low = new-row (slots m) (fork s c) e c (inr (inl refl))
@@ -549,19 +564,19 @@ module _ (m : Monitor) (g : Long m) where
       same-s : s % 32 ≡ s
       same-s = omega (arith, low-s)
 
-      rows : tables-of (beside m) (set (m .subjects) (c % 32) (record { live = 1; level = x .level })) (m .objects) after
-          ≡ with-hand (with-at (slots m) (put (slots m .at) (subject c) (some (entry running (label (x .level)))))) (row (slots m .hand) c (slots m .hand s))
-      rows = a (beside m) _ _ ∙ ap₂ (λ (u : Tables) (f : ℕ → ℕ → Option Held). with-hand u f) (put-subject c (record { live = 1; level = x .level }) low)
+      rows : tables-of (beside m) (set (m .subjects) (c % 32) (record { live = 1; level = x .level; shops = x .shops })) (m .objects) after
+          ≡ with-hand (with-at (slots m) (put (slots m .at) (subject c) (some (entry running (label (x .level) (x .shops)))))) (row (slots m .hand) c (slots m .hand s))
+      rows = a (beside m) _ _ ∙ ap₂ (λ (u : Tables) (f : ℕ → ℕ → Option Held). with-hand u f) (put-subject c (record { live = 1; level = x .level; shops = x .shops }) low)
           (ap₂ (λ (i : ℕ) (f : ℕ → Option Held). row (hands (m .handles)) i f) same-c (ap (hands (m .handles)) same-s))
 
   -- a new member has the byte and the need of the one that it joins
   pub threads : (s c : ℕ) (x : Subject) (ss : List Subject) (gs : List ℕ) (b v : ℕ) (ns : List ℕ) → Wf (slots m) → refusal (slots m) (thread s c) ≡ none
-      → slots m .at (subject s) ≡ subject-entry x → ss ≡ set (m .subjects) (c % 32) (record { live = 1; level = x .level })
+      → slots m .at (subject s) ≡ subject-entry x → ss ≡ set (m .subjects) (c % 32) (record { live = 1; level = x .level; shops = x .shops })
       → b ≡ getD (m .groups) (s % 32) 0 → gs ≡ set (m .groups) (c % 32) b → v ≡ getD (m .needs) (s % 32) 0 → ns ≡ set (m .needs) (c % 32) v
       → Acts m (thread s c) (allowed (x .level)) (grouped m ss gs (m .objects) (m .handles) ns)
   threads s c x ss gs b v ns w e q n i d j r = rw (n, d, r) (acts m (thread s c) (allowed (x .level)) _ _ refl refl (thread-does (slots m) s c x e q)
-      (seen-is _ (set (m .groups) (c % 32) b) (m .objects) (m .handles) (set (m .needs) (c % 32) v) ∙ ap₂ with-kin (put-subject c (record { live = 1; level = x .level }) low) joined-kin)
-      (λ k. kept-subject c v _ _ low (ap label j ∙ own-figure s low-s) (thread-ready (slots m) (figure-of (m .needs)) w k s c e)))
+      (seen-is _ (set (m .groups) (c % 32) b) (m .objects) (m .handles) (set (m .needs) (c % 32) v) ∙ ap₂ with-kin (put-subject c (record { live = 1; level = x .level; shops = x .shops }) low) joined-kin)
+      (λ k. kept-subject c v _ _ low (ap coded j ∙ own-figure s low-s) (thread-ready (slots m) (figure-of (m .needs)) w k s c e)))
     where
       free : slots m .at (subject c) ≡ none
       free = is-new (slots m) (subject c) (passed (slots m) (thread s c) e (new (subject c)) (inr (inl refl))) .1
@@ -582,9 +597,9 @@ module _ (m : Monitor) (g : Long m) where
       apart-now z = subst (λ (o : Option Entry). T (is-some o)) (ap (λ (i : ℕ). slots m .at (subject i)) (sym same-s ∙ z ∙ same-c) ∙ free)
           (subst T (used-is (slots m) (subject s)) (live-of (slots m) (subject s) (low-row-live (slots m) (thread s c) e s (inl refl)) .1))
 
-      joined-kin : kin-of (set (m .subjects) (c % 32) (record { live = 1; level = x .level })) (set (m .groups) (c % 32) b) ≡ bound c s (slots m .kin)
-      joined-kin = ap (λ (i : ℕ). kin-of (set (m .subjects) (c % 32) (record { live = 1; level = x .level })) (set (m .groups) (c % 32) i)) i
-          ∙ kin-joined (m .subjects) (m .groups) (c % 32) (record { live = 1; level = x .level }) (g .subjects) (g .groups) (omega arith) (s % 32) apart-now
+      joined-kin : kin-of (set (m .subjects) (c % 32) (record { live = 1; level = x .level; shops = x .shops })) (set (m .groups) (c % 32) b) ≡ bound c s (slots m .kin)
+      joined-kin = ap (λ (i : ℕ). kin-of (set (m .subjects) (c % 32) (record { live = 1; level = x .level; shops = x .shops })) (set (m .groups) (c % 32) i)) i
+          ∙ kin-joined (m .subjects) (m .groups) (c % 32) (record { live = 1; level = x .level; shops = x .shops }) (g .subjects) (g .groups) (omega arith) (s % 32) apart-now
           (not-standing c low free) (standing s low-s (low-row-live (slots m) (thread s c) e s (inl refl))) tt
           ∙ ap₂ (λ (a b : ℕ). bound a b (kin-of (m .subjects) (m .groups))) same-c same-s ∙ ap (bound c s) (sym own-kin)
 
@@ -702,24 +717,24 @@ module _ (m : Monitor) (g : Long m) where
     }
 
     -- the tables with the mapping and the group that fell
-    fallen-now : (ss : List Subject) (b : Bool) → Takes s (x .level) ss b
+    fallen-now : (ss : List Subject) (b : Bool) → Takes s (x .level) (x .shops) ss b
         → tables-of (beside m) ss (m .objects) (m .handles) ≡ with-at (slots m) (sink (slots m) (subject s) (slots m .at (object o)))
-    fallen-now ss b n = n .0 (beside m) (m .objects) (m .handles) (entry _ (label (x .level))) map-low-s refl refl
+    fallen-now ss b n = n .0 (beside m) (m .objects) (m .handles) (entry _ (label (x .level) (x .shops))) map-low-s refl refl
         ∙ ap (λ (d : Option Entry). with-at (slots m) (sink (slots m) (subject s) d)) (sym (full-object (slots m) o x k map-there))
 
-    map-stored : (ss : List Subject) (b : Bool) → Takes s (x .level) ss b → tables-of (beside m) ss (m .objects) (set (m .handles) (s % 32 * 16 + p % 16) (joining 3 o))
+    map-stored : (ss : List Subject) (b : Bool) → Takes s (x .level) (x .shops) ss b → tables-of (beside m) ss (m .objects) (set (m .handles) (s % 32 * 16 + p % 16) (joining 3 o))
         ≡ with-hand (with-at (slots m) (sink (slots m) (subject s) (slots m .at (object o)))) (place (slots m .hand) s p (some (mapping o)))
     map-stored ss b n = store-handle (beside m) ss (m .objects) (m .handles) s p (joining 3 o) (g .handles) map-low-s map-low-p
         ∙ ap (λ (u : Tables). with-hand u (place (u .hand) s p (held (joining 3 o)))) (fallen-now ss b n)
         ∙ ap (λ (n : ℕ). with-hand (with-at (slots m) (sink (slots m) (subject s) (slots m .at (object o)))) (place (slots m .hand) s p (some (mapping n)))) same-o
 
     -- the groups stay
-    map-seen : (ss : List Subject) (b : Bool) (n : Takes s (x .level) ss b) → with-kin (tables-of (beside m) ss (m .objects) (set (m .handles) (s % 32 * 16 + p % 16) (joining 3 o)))
+    map-seen : (ss : List Subject) (b : Bool) (n : Takes s (x .level) (x .shops) ss b) → with-kin (tables-of (beside m) ss (m .objects) (set (m .handles) (s % 32 * 16 + p % 16) (joining 3 o)))
         (kin-of ss (m .groups)) ≡ with-hand (with-at (slots m) (sink (slots m) (subject s) (slots m .at (object o)))) (place (slots m .hand) s p (some (mapping o)))
     map-seen ss b n = ap₂ with-kin (map-stored ss b n) (same-kin ss (n .1 .1))
 
-    -- which levels are smaller is seen without the handle
-    map-lower : (ss : List Subject) (b : Bool) (n : Takes s (x .level) ss b)
+    -- which labels are smaller is seen without the handle
+    map-lower : (ss : List Subject) (b : Bool) (n : Takes s (x .level) (x .shops) ss b)
         → lowers (slots m) (with-hand (with-at (slots m) (sink (slots m) (subject s) (slots m .at (object o)))) (place (slots m .hand) s p (some (mapping o)))) ≡ b
     unfolding lowers
     map-lower ss b n = ap (lowers (slots m)) (sym (fallen-now ss b n)) ∙ n .1 .0 (beside m) (m .objects) (m .handles)
@@ -728,10 +743,10 @@ module _ (m : Monitor) (g : Long m) where
     map-ready-now k = subst (λ (t : Tables). Ready t (figure-of ns)) map-placed (map-out (λ q. k) .0)
 
     pub maps-acts : (y v : Subject) (ss : List Subject) (hs : List Handle) (c : Bool) (b : Told) → slots m .at (subject s) ≡ subject-entry y
-        → refusal (slots m) (maps s o p) ≡ none → v ≡ fallen-by y (x .level) → Takes s (x .level) ss c
-        → hs ≡ set (m .handles) (s % 32 * 16 + p % 16) (joining 3 o) → b ≡ outcome c (v .level) → Acts m (maps s o p) b (monitor m ss (m .objects) hs ns)
+        → refusal (slots m) (maps s o p) ≡ none → v ≡ fallen-by y (x .level) (x .shops) → Takes s (x .level) (x .shops) ss c
+        → hs ≡ set (m .handles) (s % 32 * 16 + p % 16) (joining 3 o) → b ≡ outcome c (v .level) (lost (y .shops) (v .shops)) → Acts m (maps s o p) b (monitor m ss (m .objects) hs ns)
     maps-acts y v ss hs c b q e d n j h = rw j (acts m (maps s o p) b _ _ refl refl
-        (subst (λ (a : Told). Does (slots m) (maps s o p) a u) (sym (h ∙ ap (λ (z : Subject). outcome c (z .level)) d))
+        (subst (λ (a : Told). Does (slots m) (maps s o p) a u) (sym (h ∙ ap (λ (z : Subject). outcome c (z .level) (lost (y .shops) (z .shops))) d))
         (map-does (slots m) w s o p y x u c e q k refl (map-lower ss c n)))
         (seen-is ss (m .groups) (m .objects) (set (m .handles) (s % 32 * 16 + p % 16) (joining 3 o)) ns ∙ map-seen ss c n)
         (λ k. map-ready (slots m) s o p (figure-of ns) w e (map-ready-now k)))
@@ -739,7 +754,7 @@ module _ (m : Monitor) (g : Long m) where
         u : Tables
         u = with-hand (with-at (slots m) (sink (slots m) (subject s) (slots m .at (object o)))) (place (slots m .hand) s p (some (mapping o)))
 
-    pub maps-keeps : (ss : List Subject) (hs : List Handle) (c : Bool) → Takes s (x .level) ss c → hs ≡ set (m .handles) (s % 32 * 16 + p % 16) (joining 3 o)
+    pub maps-keeps : (ss : List Subject) (hs : List Handle) (c : Bool) → Takes s (x .level) (x .shops) ss c → hs ≡ set (m .handles) (s % 32 * 16 + p % 16) (joining 3 o)
         → Keeps m (maps s o p) (monitor m ss (m .objects) hs ns)
     unfolding tables-of
     maps-keeps ss hs c n j = rw j (record {
@@ -790,30 +805,30 @@ module _ (m : Monitor) (g : Long m) where
     needed-now : Needed (tables-of beside-own own-ss (m .objects) after) ns
     needed-now = f beside-own refl shed-wf
 
-    pub exec-late : (v : ℕ) → v ≡ getD ns (s % 32) 0 → Late (slots m) (exec s o) (ltb (y .level) v) false false
-    exec-late v e = record { nine = alone unfit; ten = refl; fifteen = refl }
+    pub exec-late : (v a : ℕ) (r : Bool) → v ≡ getD ns (s % 32) 0 → coded a ≡ label (y .level) (y .shops) → r ≡ not (leq (coded v) (coded a)) → Late (slots m) (exec s o) r false false
+    exec-late v a r e k d = record { nine = alone unfit; ten = refl; fifteen = refl }
       where
         u : Tables
         u = applies (sheds (slots m) s) (slots m)
 
-        its-need : label v ≡ needs u (cell (slots m) s)
-        its-need = ap label e ∙ ap (λ (i : ℕ). label (getD ns i 0)) same-row ∙ needed-now .need-is (subject s) (lt→ltb s 32 low-run)
+        its-need : coded v ≡ needs u (cell (slots m) s)
+        its-need = ap coded e ∙ ap (λ (i : ℕ). coded (getD ns i 0)) same-row ∙ needed-now .need-is (subject s) (lt→ltb s 32 low-run)
             ∙ ap₂ needs sheds-now (sym (cell-self (slots m) s))
 
-        own-level : label-of (slots m .at (object o)) ≡ label (y .level)
-        own-level = ap label-of (full-object (slots m) o y q exec-there)
+        own-label : label-of (slots m .at (object o)) ≡ label (y .level) (y .shops)
+        own-label = ap label-of (full-object (slots m) o y q exec-there)
 
-        unfit : broken (slots m) (suits s o) ≡ ltb (y .level) v
-        unfit = sym (below-test v (y .level) ∙ ap₂ (λ (a b : Label). not (leq a b)) its-need (sym own-level))
+        unfit : broken (slots m) (suits s o) ≡ r
+        unfit = sym (d ∙ ap₂ (λ (a b : Label). not (leq a b)) its-need (k ∙ sym own-label))
 
     pub execs : (x v : Subject) (ss : List Subject) (left : List Object) (b : Told) → length own-ss ≡ 32 → getD own-ss (s % 32) no-subject ≡ getD (m .subjects) (s % 32) no-subject
-        → slots m .at (subject s) ≡ subject-entry x → refusal (slots m) (exec s o) ≡ none → v ≡ fallen-by x (y .level) → ss ≡ set own-ss (s % 32) v
-        → b ≡ outcome (ltb (v .level) (x .level)) (v .level) → Reaps (m .objects) (m .handles) after left
+        → slots m .at (subject s) ≡ subject-entry x → refusal (slots m) (exec s o) ≡ none → v ≡ fallen-by x (y .level) (y .shops) → ss ≡ set own-ss (s % 32) v
+        → b ≡ outcome (not (leq (label (x .level) (x .shops)) (label (v .level) (v .shops)))) (v .level) (lost (x .shops) (v .shops)) → Reaps (m .objects) (m .handles) after left
         → Acts m (exec s o) b (monitor m ss left after ns)
     unfolding tables-of
     execs x v ss left b lo i r e d n h c = acts m (exec s o) b _ _ refl refl (subst₂ (λ (c : Told) (z : Subject). Does (slots m) (exec s o) c (reap (handles (slots m))
         (with-at u (put (u .at) (subject s) (subject-entry z)))))
-        (sym (h ∙ ap (λ (z : Subject). outcome (ltb (z .level) (x .level)) (z .level)) d)) (sym d) (exec-does (slots m) w s o x y e r q))
+        (sym (h ∙ ap (λ (z : Subject). outcome (not (leq (label (x .level) (x .shops)) (label (z .level) (z .shops)))) (z .level) (lost (x .shops) (z .shops))) d)) (sym d) (exec-does (slots m) w s o x y e r q))
         (seen-is ss (m .groups) left after ns ∙ ap (λ (t : Tables). with-kin t (kin-of ss (m .groups))) (c (beside m) ss (slots m) (all-handles m))
         ∙ reap-kin (handles (slots m)) (tables-of (beside m) ss (m .objects) after) (kin-of ss (m .groups)) ∙ ap (reap (handles (slots m))) ran-now)
         (λ k. exec-ready (slots m) s o (figure-of ns) (λ x h. needed-now .need-is x h ∙ ap (λ (t : Tables). needs t x) sheds-now))
@@ -821,15 +836,10 @@ module _ (m : Monitor) (g : Long m) where
         u : Tables
         u = applies (sheds (slots m) s) (slots m)
 
-        -- s is as live as it was
-        stays : (b : Bool) → not (eqb (cond b (record { live = x .live; level = y .level }) x .live) 0) ≡ not (eqb (x .live) 0)
-        stays true = refl
-        stays false = refl
-
         lives-still : (j : ℕ) → stands ss j ≡ stands own-ss j
         lives-still j = ap (λ (l : List Subject). stands l j) n ∙ elim (ℕ-discrete j (s % 32)) [
           | yes k ↦ ap (λ (y : Subject). not (eqb (y .live) 0)) (ap (λ (t : ℕ). getD (set own-ss (s % 32) v) t no-subject) k
-              ∙ getD-set-same own-ss (s % 32) v no-subject (omega arith)) ∙ ap (λ (y : Subject). not (eqb (y .live) 0)) d ∙ stays (ltb (y .level) (x .level))
+              ∙ getD-set-same own-ss (s % 32) v no-subject (omega arith)) ∙ ap (λ (y : Subject). not (eqb (y .live) 0)) d
               ∙ own-live ∙ ap (stands own-ss) (sym k)
           | no k ↦ ap (λ (y : Subject). not (eqb (y .live) 0)) (getD-set-other own-ss (s % 32) j v no-subject k)
         ]
@@ -842,7 +852,7 @@ module _ (m : Monitor) (g : Long m) where
                 some-stands : (x : Subject) → is-some (subject-entry x) ≡ not (eqb (x .live) 0)
                 some-stands x = go (eqb (x .live) 0)
                   where
-                    go : (b : Bool) → is-some (cond b none (some (entry running (label (x .level))))) ≡ not b
+                    go : (b : Bool) → is-some (cond b none (some (entry running (label (x .level) (x .shops))))) ≡ not b
                     go true = refl
                     go false = refl
 
@@ -887,7 +897,7 @@ module _ (m : Monitor) (g : Long m) where
 
   -- ── freeze ──
   pub freezes : (n : ℕ) → Wf (slots m) → refusal (slots m) (freeze n) ≡ none → Acts m (freeze n) (allowed (n % 256))
-      (record { subjects = m .subjects; objects = m .objects; handles = m .handles; freeze = n % 256; needs = m .needs; groups = m .groups; sure = m .sure; numbers = m .numbers })
+      (record { numbers = m .numbers; needs = m .needs; subjects = m .subjects; objects = m .objects; handles = m .handles; freeze = n % 256; groups = m .groups; sure = m .sure })
   unfolding tables-of
   freezes n w e = rw low (acts m (freeze n) (allowed n) _ _ refl refl (freeze-does (slots m) n e) refl (λ k. freeze-ready (slots m) (figure-of (m .needs)) w k n))
     where

@@ -12,8 +12,8 @@ use lib.Dec.{T}
 use borrow.Author.Tests.{lt-ltb, le-ltb}
 use Rattle.model.specs.Lists.{In, from-on}
 use Rattle.model.specs.Lists.Rising.{from-on-is, from-on-none, inserts-rising}
-use Rattle.model.specs.Label.{label}
-use Rattle.model.specs.Label.Laws.{label-zero}
+use Rattle.labels.specs.Codes.{coded}
+use Rattle.labels.specs.Codes.Laws.{coded-zero}
 use Rattle.model.specs.Flow.{Thing, subject, object}
 use Rattle.model.specs.Tables.{Entry, Tables, used, clean, needs, safe}
 use Rattle.model.specs.Tables.Laws.{used-is, some-is}
@@ -137,7 +137,7 @@ module _ (m : Monitor) (lo : length (m .objects) ≡ 64) (w : Wf (clean (slots (
 -- ── the kept need of a subject ──
 -- (x: what stands at the subject's number)
 pub subject-need : (m : Monitor) → length (m .objects) ≡ 64 → (w : Wf (clean (slots (once m)))) (s n : ℕ) → Told (once m) w (subject s) n
-    → (n ≡ kept-need m s) × (Right m → label n ≡ needs (clean (view m)) (subject s))
+    → (n ≡ kept-need m s) × (Right m → coded n ≡ needs (clean (view m)) (subject s))
 unfolding Told used tables-of
 subject-need m lo w s n z = (z .0, λ r. z .1 r ∙ sym (thing-need m lo w (forth m) (back m) (renumbers (slot-used (single (m .objects) (m .numbers))) (called m) 64) (given m) (subject s)))
 
@@ -153,14 +153,14 @@ module _ (m : Monitor) (lo : length (m .objects) ≡ 64) (w : Wf (clean (slots (
   by-slot-need : (i : ℕ) → ρ₀ i ≡ o → needs (clean (view m)) (object o) ≡ needs (clean (slots (once m))) (object i)
   by-slot-need i e = ap (λ (n : ℕ). needs (clean (view m)) (object n)) (sym e) ∙ thing-need m lo w ρ₀ σ₀ v₀ gives (object i)
 
-  pub need-here : (i : ℕ) → Here os (m .numbers) o i → Right m → label (getD (m .needs) (32 + i) 0) ≡ needs (clean (view m)) (object o)
+  pub need-here : (i : ℕ) → Here os (m .numbers) o i → Right m → coded (getD (m .needs) (32 + i) 0) ≡ needs (clean (view m)) (object o)
   unfolding clean tables-of
   need-here i h r = r .need-is (object i) (subst T (sym (used-is (clean (slots (once m))) (object i))) (used-entry os i (h .1)))
       ∙ sym (by-slot-need i (gives i (h .0) (h .1) ∙ h .2))
 
-  pub need-absent : Absent os (m .numbers) o → label 0 ≡ needs (clean (view m)) (object o)
+  pub need-absent : Absent os (m .numbers) o → coded 0 ≡ needs (clean (view m)) (object o)
   unfolding clean tables-of
-  need-absent a = label-zero ∙ sym (by-slot-need (σ₀ o) (v₀ .forth o) ∙ needs-none (clean (slots (once m))) (object (σ₀ o)) w (go (object-entry (getD os (σ₀ o) no-object)) refl))
+  need-absent a = coded-zero ∙ sym (by-slot-need (σ₀ o) (v₀ .forth o) ∙ needs-none (clean (slots (once m))) (object (σ₀ o)) w (go (object-entry (getD os (σ₀ o) no-object)) refl))
     where
       go : (x : Option Entry) → object-entry (getD os (σ₀ o) no-object) ≡ x → object-entry (getD os (σ₀ o) no-object) ≡ none
       go none q = q
@@ -168,19 +168,19 @@ module _ (m : Monitor) (lo : length (m .objects) ≡ 64) (w : Wf (clean (slots (
 
 -- what is told of object o, by where it was found
 pub told-need : (m : Monitor) → length (m .objects) ≡ 64 → Wf (clean (slots (once m))) → (o i r : ℕ) → Found (single (m .objects) (m .numbers)) (m .numbers) o i
-    → ((i < 64) × (r ≡ getD (m .needs) (32 + i % 64) 0)) ⊎ ((64 ≤ i) × (r ≡ 0)) → Kept-at m o r × (Right m → label r ≡ needs (clean (view m)) (object o))
+    → ((i < 64) × (r ≡ getD (m .needs) (32 + i % 64) 0)) ⊎ ((64 ≤ i) × (r ≡ 0)) → Kept-at m o r × (Right m → coded r ≡ needs (clean (view m)) (object o))
 told-need m lo w o i r f z = go (f .is) z
   where
     os : List Object
     os = single (m .objects) (m .numbers)
 
     go : Here os (m .numbers) o i ⊎ (Absent os (m .numbers) o × (i ≡ 64)) → ((i < 64) × (r ≡ getD (m .needs) (32 + i % 64) 0)) ⊎ ((64 ≤ i) × (r ≡ 0))
-        → Kept-at m o r × (Right m → label r ≡ needs (clean (view m)) (object o))
+        → Kept-at m o r × (Right m → coded r ≡ needs (clean (view m)) (object o))
     go (inl h) (inl k) = let e : r ≡ getD (m .needs) (32 + i) 0 = k .1 ∙ (let q : 32 + i % 64 ≡ 32 + i = (let l = k .0 in omega (arith, l)) in ap (λ (j : ℕ). getD (m .needs) j 0) q) in
-        (inl (i, h, e), λ x. ap label e ∙ need-here m lo w o (forth m) (back m) (renumbers (slot-used os) (called m) 64) (given m) i h x)
+        (inl (i, h, e), λ x. ap coded e ∙ need-here m lo w o (forth m) (back m) (renumbers (slot-used os) (called m) 64) (given m) i h x)
     go (inl h) (inr k) = absurd (let a = h .0 in let b = k .0 in omega (arith, a, b))
     go (inr h) (inl k) = absurd (let a = h .1 in let b = k .0 in omega (arith, a, b))
-    go (inr h) (inr k) = (inr (h .0, k .1), λ x. ap label (k .1) ∙ need-absent m lo w o (forth m) (back m) (renumbers (slot-used os) (called m) 64) (given m) (h .0))
+    go (inr h) (inr k) = (inr (h .0, k .1), λ x. ap coded (k .1) ∙ need-absent m lo w o (forth m) (back m) (renumbers (slot-used os) (called m) 64) (given m) (h .0))
 
 -- ── the lowest number from o on ──
 -- what is found among the slots is the first of the numbers that are listed

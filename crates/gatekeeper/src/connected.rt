@@ -13,7 +13,7 @@ use tables::PIPE;
 use tables::looks;
 
 impl Monitor {
-    // Call 17, whose t is u here: two new empty pipes, a at s's level and b at u's; s and u each read the other's at place p and write their own at q.
+    // Call 17, whose t is u here: two new empty pipes, a at s's label and b at u's; s and u each read the other's at place p and write their own at q.
     pub(crate) fn connect(mut self, s: u64, u: u64, a: u64, b: u64, p: u64, q: u64) -> Reply
         ensures { λ r. ⌜ (Wf (slots self) → Room (slots self) (connect s u a b p q) → Acts self (connect s u a b p q) (told (r .answer)) (r .monitor)) ⌝ }
     {
@@ -35,10 +35,12 @@ impl Monitor {
         let pipe_a = Object {
             kind: PIPE,
             level: x.level,
+            shops: x.shops,
         };
         let pipe_b = Object {
             kind: PIPE,
             level: z.level,
+            shops: z.shops,
         };
         let one = looks::with_object(objects, a, pipe_a);
         let both = looks::with_object(one, b, pipe_b);

@@ -45,8 +45,8 @@ impl Monitor {
         ensures keeps { λ r. ⌜ (Wf (slots self) → Room (slots self) (decode (direct code a b c d e f)) → Keeps self (decode (direct code a b c d e f)) (r .monitor)) ⌝ }
     {
         match code {
-            1 => self.admit(a, b),
-            2 => self.register(a, b),
+            1 => self.admit(a, b, c),
+            2 => self.register(a, b, c),
             3 => self.create(a, b),
             4 => self.pipe(a, b, c, d),
             5 => self.open(true, a, b, c),

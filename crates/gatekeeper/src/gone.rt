@@ -65,7 +65,11 @@ impl Monitor {
         let before = self.handles;
         let after = handles::vacated(before, s);
         let left = handles::reaped(objects, before, after);
-        let gone = Subject { live: 0, level: 0 };
+        let gone = Subject {
+            live: 0,
+            level: 0,
+            shops: 0,
+        };
         let rest = looks::with_subject(subjects, s, gone);
         let had = self.needs;
         let groups = self.groups;
@@ -100,6 +104,7 @@ impl Monitor {
         let gone = Object {
             kind: FREE,
             level: 0,
+            shops: 0,
         };
         let rest = looks::with_object(objects, o, gone);
         self.objects = rest;

@@ -32,17 +32,17 @@ mod seats;
 
 // The tables, and beside them the kept needs, of the subjects and then of the slots. The object in slot i has number i of `numbers`, a handle names a slot, and place p
 // of subject s is handle 16 s + p. A freeze of NO_FREEZE and above says that no file is frozen. Two live subjects are in one group where their bytes of `groups` are equal. `sure` is SURE where this value says of itself that its slots in use
-// have numbers that differ, that nothing dangles in it, that its kept needs are right and that no level is below its need, as it is of what calls from the empty
+// have numbers that differ, that nothing dangles in it, that its kept needs are right and that no label is below its need, as it is of what calls from the empty
 // tables make, and of what `assured` does: then calls go by the kept needs, and look for no dangling handle. Any other byte says nothing, and calls work out what
 // they go by.
 #[repr(C)]
 pub struct Monitor {
     pub numbers: [u64; OBJECTS],
+    pub needs: [u16; THINGS],
     pub subjects: [Subject; SUBJECTS],
     pub objects: [Object; OBJECTS],
     pub handles: [Handle; HANDLES],
     pub freeze: u8,
-    pub needs: [u8; THINGS],
     pub groups: [u8; SUBJECTS],
     pub sure: u8,
 }
@@ -66,7 +66,7 @@ fn way_of(reads: bool) -> u8
 }
 
 impl Monitor {
-    // The empty tables, whose needs are right, and which calls may rely on. The free part (model, `Promise`: the level and the kept need of a subject that is not live, those and the number
+    // The empty tables, whose needs are right, and which calls may rely on. The free part (model, `Promise`: the label and the kept need of a subject that is not live, those and the number
     // of a free slot, the slot and mark beside an empty place) is any; this code has zeros there.
     pub fn empty() -> Monitor
         ensures tables { λ r. ⌜ view r ≡ empty ⌝ }
@@ -74,10 +74,15 @@ impl Monitor {
         ensures honest { λ r. ⌜ Honest r ⌝ }
         ensures sure { λ r. ⌜ r .sure ≡ 1 ⌝ }
     {
-        let subjects = [Subject { live: 0, level: 0 }; SUBJECTS];
+        let subjects = [Subject {
+            live: 0,
+            level: 0,
+            shops: 0,
+        }; SUBJECTS];
         let objects = [Object {
             kind: FREE,
             level: 0,
+            shops: 0,
         }; OBJECTS];
         let handles = [Handle {
             way: EMPTY,
@@ -86,11 +91,11 @@ impl Monitor {
         }; HANDLES];
         Monitor {
             numbers: [0; OBJECTS],
+            needs: [0; THINGS],
             subjects: subjects,
             objects: objects,
             handles: handles,
             freeze: NO_FREEZE,
-            needs: [0; THINGS],
             groups: [0; SUBJECTS],
             sure: SURE,
         }

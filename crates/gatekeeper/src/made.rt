@@ -1,4 +1,5 @@
 // Calls that make things, and that place and mark handles, on tables in which nothing dangles.
+ghost use Rattle.model.specs.Label.{label};
 ghost use Rattle.model.specs.Calls.{admit, register, create, make-pipe, opens, fork, thread, mark};
 ghost use Rattle.answers.specs.Telling.{told};
 ghost use Rattle.model.specs.Invariant.{Wf};
@@ -19,17 +20,22 @@ use tables::looks;
 
 impl Monitor {
     // Call 1: a new subject from outside, in a group of its own, with no handles, and so with no need.
-    pub(crate) fn admit(mut self, s: u64, level: u64) -> Reply
-        ensures { λ r. ⌜ (Wf (slots self) → Acts self (admit s level) (told (r .answer)) (r .monitor)) ⌝ }
+    pub(crate) fn admit(mut self, s: u64, level: u64, shops: u64) -> Reply
+        ensures { λ r. ⌜ (Wf (slots self) → Acts self (admit s (label level shops)) (told (r .answer)) (r .monitor)) ⌝ }
     {
         let before = self.subjects;
         let x = looks::subject_of(before, s);
-        let n = refusals::of_admit(s, level, x);
+        let n = refusals::of_admit(s, level, shops, x);
         if n != 0 {
             return self.refuse(n);
         }
         let l = (level % 256) as u8;
-        let new = Subject { live: 1, level: l };
+        let z = (shops % 256) as u8;
+        let new = Subject {
+            live: 1,
+            level: l,
+            shops: z,
+        };
         let after = looks::with_subject(before, s, new);
         let groups = self.groups;
         let own = groups::fresh(before, groups);
@@ -45,24 +51,27 @@ impl Monitor {
         }
     }
 
-    // Call 2: a new file from outside, which needs its level.
-    pub(crate) fn register(mut self, o: u64, level: u64) -> Reply
-        ensures { λ r. ⌜ (Wf (slots self) → Room (slots self) (register o level) → Acts self (register o level) (told (r .answer)) (r .monitor)) ⌝ }
+    // Call 2: a new file from outside, which needs its label.
+    pub(crate) fn register(mut self, o: u64, level: u64, shops: u64) -> Reply
+        ensures { λ r. ⌜ (Wf (slots self) → Room (slots self) (register o (label level shops)) →
+            Acts self (register o (label level shops)) (told (r .answer)) (r .monitor)) ⌝ }
     {
         let before = self.objects;
         let y = looks::object_of(before, o);
-        let n = refusals::of_register(o, level, y);
+        let n = refusals::of_register(o, level, shops, y);
         if n != 0 {
             return self.refuse(n);
         }
         let l = (level % 256) as u8;
+        let z = (shops % 256) as u8;
         let new = Object {
             kind: FILE,
             level: l,
+            shops: z,
         };
         let after = looks::with_object(before, o, new);
         let had = self.needs;
-        let needs = keeping::with_object(had, o, l);
+        let needs = keeping::with_object(had, o, labels::code(l, z));
         self.objects = after;
         self.needs = needs;
         Reply {
@@ -71,7 +80,7 @@ impl Monitor {
         }
     }
 
-    // Call 3: a new empty file at s's level, no handle.
+    // Call 3: a new empty file at s's label, no handle.
     pub(crate) fn create(mut self, s: u64, o: u64) -> Reply
         ensures { λ r. ⌜ (Wf (slots self) → Room (slots self) (create s o) → Acts self (create s o) (told (r .answer)) (r .monitor)) ⌝ }
     {
@@ -86,10 +95,11 @@ impl Monitor {
         let new = Object {
             kind: FILE,
             level: x.level,
+            shops: x.shops,
         };
         let after = looks::with_object(before, o, new);
         let had = self.needs;
-        let needs = keeping::with_object(had, o, x.level);
+        let needs = keeping::with_object(had, o, looks::subject_label(x));
         self.objects = after;
         self.needs = needs;
         Reply {
@@ -98,7 +108,7 @@ impl Monitor {
         }
     }
 
-    // Call 4: a new empty pipe at s's level; place r reads, w writes. It needs what s needs.
+    // Call 4: a new empty pipe at s's label; place r reads, w writes. It needs what s needs.
     pub(crate) fn pipe(mut self, s: u64, o: u64, r: u64, w: u64) -> Reply
         ensures { λ a. ⌜ (Wf (slots self) → Room (slots self) (make-pipe s o r w) → Acts self (make-pipe s o r w) (told (a .answer)) (a .monitor)) ⌝ }
     {
@@ -116,6 +126,7 @@ impl Monitor {
         let new = Object {
             kind: PIPE,
             level: x.level,
+            shops: x.shops,
         };
         let after = looks::with_object(before, o, new);
         let joined = handles::with_ends(held, s, r, w, o, o);
@@ -130,7 +141,7 @@ impl Monitor {
         }
     }
 
-    // Calls 5 and 6: a reading or writing handle; no level falls.
+    // Calls 5 and 6: a reading or writing handle; no label falls.
     pub(crate) fn open(mut self, reads: bool, s: u64, o: u64, p: u64) -> Reply
         ensures acts { λ r. ⌜ (Firm self → Acts self (opens (direction reads) s o p) (told (r .answer)) (r .monitor)) ⌝ }
         ensures keeps { λ r. ⌜ (Wf (slots self) → Keeps self (opens (direction reads) s o p) (r .monitor)) ⌝ }
@@ -166,7 +177,7 @@ impl Monitor {
         }
     }
 
-    // Call 9: new subject c, in a group of its own, with s's level and the same handles at the same places. It needs what s needs by these handles.
+    // Call 9: new subject c, in a group of its own, with s's label and the same handles at the same places. It needs what s needs by these handles.
     pub(crate) fn fork(mut self, s: u64, c: u64) -> Reply
         ensures { λ r. ⌜ (Wf (slots self) → Acts self (fork s c) (told (r .answer)) (r .monitor)) ⌝ }
     {
@@ -180,6 +191,7 @@ impl Monitor {
         let new = Subject {
             live: 1,
             level: x.level,
+            shops: x.shops,
         };
         let after = looks::with_subject(before, c, new);
         let held = self.handles;
@@ -199,7 +211,7 @@ impl Monitor {
         }
     }
 
-    // Call 18: new subject c, with no handles, in the group of s. It has the group's level, and needs what s needs.
+    // Call 18: new subject c, with no handles, in the group of s. It has the group's label, and needs what s needs.
     pub(crate) fn thread(mut self, s: u64, c: u64) -> Reply
         ensures { λ r. ⌜ (Wf (slots self) → Acts self (thread s c) (told (r .answer)) (r .monitor)) ⌝ }
     {
@@ -213,6 +225,7 @@ impl Monitor {
         let new = Subject {
             live: 1,
             level: x.level,
+            shops: x.shops,
         };
         let after = looks::with_subject(before, c, new);
         let groups = self.groups;

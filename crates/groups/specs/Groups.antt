@@ -32,9 +32,9 @@ pub record Leads (kin : ℕ → ℕ → Bool) (ld : List ℕ) : Type 0 where
 abbrev pub Fresh : List Subject → List ℕ → ℕ → Type 0
 Fresh ss gs v = (a : ℕ) → T (stands ss a) → getD gs a 0 ≡ v → ⊥
 
--- x, or x once it has taken in something of level l
-abbrev pub taken-by : Subject → Bool → ℕ → Subject
-taken-by x takes l = cond takes (fallen-by x l) x
+-- x, or x once it has taken in something of level l and set m
+abbrev pub taken-by : Subject → Bool → ℕ → ℕ → Subject
+taken-by x takes l m = cond takes (fallen-by x l m) x
 
 -- x, or a record that is not live
 abbrev pub ousted-by : Subject → Bool → Subject

@@ -178,29 +178,30 @@ pub fn fresh(subjects: [Subject; SUBJECTS], groups: [u8; SUBJECTS]) -> u8
 
 // ---- what members become
 
-// A subject record once it has taken in something of this level, or as it is where it does not.
-pub fn taken_in(x: Subject, takes: bool, level: u8) -> Subject
-    ensures { λ r. ⌜ r ≡ taken-by x takes level ⌝ }
+// A subject record once it has taken in something of this label, or as it is where it does not.
+pub fn taken_in(x: Subject, takes: bool, level: u8, shops: u8) -> Subject
+    ensures { λ r. ⌜ r ≡ taken-by x takes level shops ⌝ }
 {
     if takes {
-        return looks::fallen(x, level);
+        return looks::fallen(x, level, shops);
     }
     x
 }
 
-// The subjects once these have taken in something of this level.
+// The subjects once these have taken in something of this label.
 pub fn lowered(
     subjects: [Subject; SUBJECTS],
     takes: [bool; SUBJECTS],
     level: u8,
+    shops: u8,
 ) -> [Subject; SUBJECTS]
-    ensures { λ r. ⌜ ((a : ℕ) → a < 32 → getD r a no-subject ≡ taken-by (getD subjects a no-subject) (getD takes a false) level) ⌝ }
+    ensures { λ r. ⌜ ((a : ℕ) → a < 32 → getD r a no-subject ≡ taken-by (getD subjects a no-subject) (getD takes a false) level shops) ⌝ }
 {
     let mut r = subjects;
     let mut a: usize = 0;
     while a < SUBJECTS {
         let x = r[a];
-        let put = taken_in(x, takes[a], level);
+        let put = taken_in(x, takes[a], level, shops);
         r[a] = put;
         a += 1;
     }
@@ -212,7 +213,11 @@ fn unless_ousted(x: Subject, goes: bool) -> Subject
     ensures { λ r. ⌜ r ≡ ousted-by x goes ⌝ }
 {
     if goes {
-        return Subject { live: 0, level: 0 };
+        return Subject {
+            live: 0,
+            level: 0,
+            shops: 0,
+        };
     }
     x
 }

@@ -52,21 +52,22 @@ ended-entry : (before after : List Held) (n : ℕ) (x : Object) (was is : Bool) 
 unfolding ended
 ended-entry before after n x was is p q =
     subst₂ (λ a b. object-entry (outlived-by x a b) ≡ cond (ended before after (object n) (object-entry x)) none (object-entry x)) (sym p) (sym q)
-    (go (x .kind) (x .level))
+    (go (x .kind) (x .level) (x .shops))
   where
-    go : (k l : ℕ) → object-entry (outlived-by (record { kind = k; level = l }) (open-on before n) (open-on after n))
-        ≡ cond (ended before after (object n) (object-entry (record { kind = k; level = l }))) none (object-entry (record { kind = k; level = l }))
-    go zero l = refl
-    go (suc zero) l = refl
-    go (suc (suc k)) l = rw (le-ltb (suc (suc k)) 2 (omega arith), pipe-is) (inner (open-on before n) (open-on after n))
+    go : (k l m : ℕ) → object-entry (outlived-by (record { kind = k; level = l; shops = m }) (open-on before n) (open-on after n))
+        ≡ cond (ended before after (object n) (object-entry (record { kind = k; level = l; shops = m }))) none
+        (object-entry (record { kind = k; level = l; shops = m }))
+    go zero l m = refl
+    go (suc zero) l m = refl
+    go (suc (suc k)) l m = rw (le-ltb (suc (suc k)) 2 (omega arith), pipe-is) (inner (open-on before n) (open-on after n))
       where
         y : Object
-        y = record { kind = suc (suc k); level = l }
+        y = record { kind = suc (suc k); level = l; shops = m }
 
-        pipe-is : object-entry y ≡ some (entry pipe (label l))
+        pipe-is : object-entry y ≡ some (entry pipe (label l m))
         pipe-is = rw (ne-eqb (suc (suc k)) 0 (λ e. omega arith), ne-eqb (suc (suc k)) 1 (λ e. omega arith))
 
-        inner : (a b : Bool) → object-entry (cond b y (cond a no-object y)) ≡ cond (a && not b) none (some (entry pipe (label l)))
+        inner : (a b : Bool) → object-entry (cond b y (cond a no-object y)) ≡ cond (a && not b) none (some (entry pipe (label l m)))
         inner false true = pipe-is
         inner false false = pipe-is
         inner true true = pipe-is

@@ -121,6 +121,7 @@ pub fn outlived(handles: [Handle; HANDLES], object: Object, o: u8) -> Object
     Object {
         kind: FREE,
         level: 0,
+        shops: 0,
     }
 }
 
@@ -166,6 +167,7 @@ fn left(x: Object, was: bool, is: bool) -> Object
         return Object {
             kind: FREE,
             level: 0,
+            shops: 0,
         };
     }
     x

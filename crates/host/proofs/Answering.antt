@@ -1,4 +1,4 @@
--- Answers as numbers: of a call, from its letter and value; of the journal's functions, a result r that the code took apart, and the case x that it
+-- Answers as numbers: of a call, from its letter, its value and the marks lost; of the journal's functions, a result r that the code took apart, and the case x that it
 -- found. Assumes nothing.
 use mathlib.Core.Path.{_≡_, refl, sym, ap, _∙_, subst}
 use mathlib.Core.Bool.{Bool, true, false, cond}
@@ -23,15 +23,15 @@ use Rattle.journal.specs.Answers.{Answer, answers, refused, record-answer, leng
 use Rattle.journal.specs.Calls.{known}
 use Rattle.journal.specs.Record.{longest-record, record-of, fitting, recording}
 use Rattle.journal.specs.Record.Laws.{record-length}
-use Rattle.answers.specs.Telling.{letter-of, value-of}
+use Rattle.answers.specs.Telling.{letter-of, value-of, lost-of}
 use Rattle.host.specs.Numbers.{answer-number, answer-in, record-number, roomy-number}
 use Rattle.host.specs.Numbers.Laws.{answer-back}
 
 -- ── calls ──
-pub call-numbered : (a : Told) (l v : ℕ) → l ≡ letter-of a → v ≡ value-of a → v < 256
-    → (256 * l + v ≡ answer-number a) × (answer-in (256 * l + v) ≡ a)
-call-numbered a l v p q h =
-    let e : 256 * l + v ≡ answer-number a = omega (arith, p, q) in
+pub call-numbered : (a : Told) (l v k : ℕ) → l ≡ letter-of a → v ≡ value-of a → k ≡ lost-of a → v < 256
+    → (65536 * k + 256 * l + v ≡ answer-number a) × (answer-in (65536 * k + 256 * l + v) ≡ a)
+call-numbered a l v k p q r h =
+    let e : 65536 * k + 256 * l + v ≡ answer-number a = omega (arith, p, q, r) in
     (e, ap answer-in e ∙ answer-back a (omega (arith, q, h)))
 
 -- ── records ──

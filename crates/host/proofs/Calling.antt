@@ -24,7 +24,7 @@ use Rattle.host.specs.Demand3.{Called}
 -- a letter R is that of a refusal
 r-refused : (a : Answer) → letter-of a ≡ 82 → (k : ℕ) × (a ≡ refused k)
 r-refused (allowed l) h = absurd (omega arith)
-r-refused (lowered l) h = absurd (omega arith)
+r-refused (lowered l k) h = absurd (omega arith)
 r-refused (refused k) h = (k, refl)
 
 -- call c was made on the monitor m and the tally y, loaded from the bytes s; it is answered a, and n and z are handed back

@@ -4,15 +4,15 @@ use mathlib.Core.Path.{_≡_, refl, sym, ap, ap₂, _∙_, subst}
 use mathlib.Core.Bool.{Bool, true, false, not, _&&_, _||_, cond}
 use mathlib.Core.Option.{Option, none, some}
 use mathlib.Core.List.{List, [], _∷_, _++_}
-use Prim.Native.Nat.{ℕ, zero, suc, _+_, _*_, _%_, _≤_, _<_}
+use Prim.Native.Nat.{ℕ, zero, suc, _+_, _*_, _/_, _%_, _≤_, _<_}
 use native.Mathlib.Omega.{arith}
 use native.Mathlib.Nat.{mul-suc, mul-le-mul-left}
 use borrow.Author.Tests.{eq-eqb, ne-eqb}
 use lib.Dec.{T, eqb, ltb, ltb→lt}
 use lib.ListN.{length, take, drop, getD, length-take}
 use lib.Seq.{take-at, drop-at, drop-drop, getD-take, ext-getD}
-use Rattle.model.specs.Label.{label, level}
-use Rattle.model.specs.Label.Laws.{level-label}
+use Rattle.model.specs.Label.{label, level, shops}
+use Rattle.model.specs.Label.Laws.{level-label, shops-label}
 use Rattle.model.specs.Lists.{each, keep, from-on}
 use Rattle.model.specs.Lists.Rising.{each-of, each-has, each-rising, from-on-is}
 use Rattle.model.specs.Flow.{Thing, subject, object}
@@ -38,11 +38,11 @@ use Rattle.gatekeeper.proofs.Owned.{Long}
 use Rattle.gatekeeper.proofs.Keeping.{read-wf, dead, alive}
 use Rattle.gatekeeper.proofs.Numbered.{single-long, once-long}
 use Rattle.gatekeeper.proofs.Telling.{view-read, told-subject, told-place, told-entry}
-use Rattle.stored.specs.State.{state-bytes, Sized, subject-width, object-width, handle-width, byte-width, number-width, objects-at, handles-at, made-at, gone-at, freeze-at, needs-at, numbers-at, groups-at}
+use Rattle.stored.specs.State.{state-bytes, Sized, subject-width, object-width, handle-width, byte-width, need-width, number-width, objects-at, handles-at, made-at, gone-at, freeze-at, needs-at, numbers-at, groups-at}
 use Rattle.stored.specs.State.{records, live-of, sort-of, ways, live-byte, subject-of, object-of, handle-of, byte-of, whole}
-use Rattle.stored.specs.State.{subjects-of, objects-of, handles-of, made-of, gone-of, freeze-of, needs-of, numbers-of, groups-of, monitor-of, tally-of, need-bytes, state-view, Put-right}
-use Rattle.stored.specs.State.Laws.{length-records, getD-records, bytes-count, bytes-back}
-use Rattle.host.specs.Numbers.{sized, seen-entry, members, seen-group, seen-handle, seen-object}
+use Rattle.stored.specs.State.{subjects-of, objects-of, handles-of, made-of, gone-of, freeze-of, needs-of, numbers-of, groups-of, monitor-of, tally-of, need-bytes, Narrow, state-view, Put-right}
+use Rattle.stored.specs.State.Laws.{length-records, getD-records, numbers-stored, numbers-loaded}
+use Rattle.host.specs.Numbers.{sized, seen-entry, members, seen-group, seen-handle, seen-object, seen-label}
 use Rattle.host.specs.Working.{way-number}
 use Rattle.stored.specs.Over.{over}
 use Rattle.stored.specs.Over.Laws.{over-length}
@@ -65,28 +65,32 @@ record-in f d w b n j s h l = getD-records f w n (drop b s) j d h ∙ ap (λ (t 
     ∙ ap f (bytes-taken w (b + w * j) s (fits w b n j s h l))
 
 module _ (st : List ℕ) (size : Sized st) where
-  pub subject-read : (s l : ℕ) → l ≡ live-of (getD st (0 + 2 * (s % 32)) 0)
-      → subject-at s (record { live = l; level = getD st (0 + 2 * (s % 32) + 1) 0 }) ≡ subject-at s (getD (subjects-of st) (s % 32) no-subject)
+  pub subject-read : (s l : ℕ) → l ≡ live-of (getD st (0 + 3 * (s % 32)) 0)
+      → subject-at s (record { live = l; level = getD st (0 + 3 * (s % 32) + 1) 0; shops = getD st (0 + 3 * (s % 32) + 1 + 1) 0 })
+      ≡ subject-at s (getD (subjects-of st) (s % 32) no-subject)
   unfolding subjects-of
-  subject-read s l q = ap (subject-at s) (ap (λ (v : ℕ). record { live = v; level = getD st (0 + 2 * (s % 32) + 1) 0 }) q
+  subject-read s l q = ap (subject-at s) (ap (λ (v : ℕ). record { live = v; level = getD st (0 + 3 * (s % 32) + 1) 0; shops = getD st (0 + 3 * (s % 32) + 1 + 1) 0 }) q
       ∙ sym (record-in subject-of no-subject subject-width 0 32 (s % 32) st (omega arith) (omega arith)))
 
-  pub handle-read : (s p i w m : ℕ) → i ≡ s % 32 * 16 + p % 16 → w ≡ sort-of ways (getD st (192 + 3 * i) 0) → m ≡ live-of (getD st (192 + 3 * i + 1 + 1) 0)
-      → handle-at s p (record { way = w; object = getD st (192 + 3 * i + 1) 0; mark = m })
+  pub handle-read : (s p i w m : ℕ) → i ≡ s % 32 * 16 + p % 16 → w ≡ sort-of ways (getD st (handles-at + 3 * i) 0) → m ≡ live-of (getD st (handles-at + 3 * i + 1 + 1) 0)
+      → handle-at s p (record { way = w; object = getD st (handles-at + 3 * i + 1) 0; mark = m })
       ≡ handle-at s p (getD (handles-of st) (s % 32 * 16 + p % 16) no-handle)
   unfolding handles-of
-  handle-read s p i w m e q r = ap (handle-at s p) (ap₂ (λ (v k : ℕ). record { way = v; object = getD st (192 + 3 * i + 1) 0; mark = k }) q r
+  handle-read s p i w m e q r = ap (handle-at s p) (ap₂ (λ (v k : ℕ). record { way = v; object = getD st (handles-at + 3 * i + 1) 0; mark = k }) q r
       ∙ sym (record-in handle-of no-handle handle-width handles-at 512 i st (omega arith) (omega arith))
       ∙ ap (λ (j : ℕ). getD (records handle-of handle-width 512 (drop handles-at st)) j no-handle) e)
 
-  pub need-read : (i : ℕ) → i < 96 → getD st (1745 + i) 0 ≡ getD (needs-of st) i 0
-  unfolding needs-of
-  need-read i h = let e : 1745 + i ≡ needs-at + byte-width * i = omega arith in
-      ap (λ (k : ℕ). getD st k 0) e ∙ sym (record-in byte-of 0 byte-width needs-at 96 i st h (omega arith))
+  -- a number of w bytes, of n that stand from index b on
+  whole-read : (w b n i : ℕ) → i < n → whole (take w (drop (b + w * i) st)) ≡ getD (records whole w n (drop b st)) i 0
+  whole-read w b n i h = sym (getD-records whole w n (drop b st) i 0 h ∙ ap (λ (t : List ℕ). whole (take w t)) (drop-drop (w * i) b st))
 
-  pub number-read : (i : ℕ) → i < 64 → whole (take 8 (drop (1841 + 8 * i) st)) ≡ getD (numbers-of st) i 0
+  pub need-read : (i : ℕ) → i < 96 → whole (take 2 (drop (needs-at + 2 * i) st)) ≡ getD (needs-of st) i 0
+  unfolding needs-of
+  need-read i h = whole-read need-width needs-at 96 i h
+
+  pub number-read : (i : ℕ) → i < 64 → whole (take 8 (drop (numbers-at + 8 * i) st)) ≡ getD (numbers-of st) i 0
   unfolding numbers-of
-  number-read i h = sym (getD-records whole number-width 64 (drop numbers-at st) i 0 h ∙ ap (λ (t : List ℕ). whole (take number-width t)) (drop-drop (number-width * i) numbers-at st))
+  number-read i h = whole-read number-width numbers-at 64 i h
 
   -- ── the tables at a number ──
   long-subjects : length (subjects-of st) ≡ 32
@@ -103,7 +107,7 @@ module _ (st : List ℕ) (size : Sized st) where
 
   long-needs : length (needs-of st) ≡ 96
   unfolding needs-of
-  long-needs = length-records byte-of byte-width 96 (drop needs-at st)
+  long-needs = length-records whole need-width 96 (drop needs-at st)
 
   long-groups : length (groups-of st) ≡ 32
   unfolding groups-of
@@ -158,7 +162,7 @@ module _ (st : List ℕ) (size : Sized st) where
     live-told : live (state-view st) (subject s) ≡ not (eqb (x .live) 0)
     live-told = ap (λ (b : Bool). in-range (subject s) && b)
         (used-is (state-view st) (subject s) ∙ ap is-some (told-subject its s) ∙ sym (used-is (slots (once its)) (subject s)))
-        ∙ lives (subject s) (eqb (x .live) 0) (entry running (label (x .level))) (slot-subject s x q)
+        ∙ lives (subject s) (eqb (x .live) 0) (entry running (label (x .level) (x .shops))) (slot-subject s x q)
 
     pub group-none : x .live ≡ 0 → seen-group (state-view st) s ≡ 0
     group-none e = ap (λ (b : Bool). cond b (256 + from-on 0 (members (state-view st) s)) 0) (live-told ∙ ap not (eq-eqb (x .live) 0 e))
@@ -192,9 +196,9 @@ module _ (st : List ℕ) (size : Sized st) where
   unfolding clean
   handle-counted s p x h y qx qh qy = ap (counted (ltb p places && live (slots (once its)) (subject s)) (λ o. live (slots (once its)) (object o))) (handle-seen s p h qh)
       ∙ counted-held h (ltb p places && live (slots (once its)) (subject s)) (not (eqb (y .kind) 0)) (λ o. live (slots (once its)) (object o))
-      (lives (object (h .object)) (eqb (y .kind) 0) (entry (cond (eqb (y .kind) 1) file pipe) (label (y .level))) (slot-object (h .object) y qy))
+      (lives (object (h .object)) (eqb (y .kind) 0) (entry (cond (eqb (y .kind) 1) file pipe) (label (y .level) (y .shops))) (slot-object (h .object) y qy))
       ∙ ap (λ (b : Bool). cond (ltb p places && b && not (eqb (y .kind) 0)) (held h) none)
-      (lives (subject s) (eqb (x .live) 0) (entry running (label (x .level))) (slot-subject s x qx))
+      (lives (subject s) (eqb (x .live) 0) (entry running (label (x .level) (x .shops))) (slot-subject s x qx))
       ∙ by-place (ltb p 16) (ltb (h .object) 64) (eqb (x .live) 0) refl refl
       ∙ sym (kept-held h (eqb (x .live) 0) (ltb (h .object) 64) (eqb (y .kind) 0))
     where
@@ -228,20 +232,33 @@ module _ (st : List ℕ) (size : Sized st) where
           ∙ either (not l && (a && not (eqb (y .kind) 0))))
 
 -- ── as numbers ──
-pub seen-subject : (x : Subject) → seen-entry (subject-entry x) ≡ cond (eqb (x .live) 0) 0 (256 + x .level)
+-- a label of a kind's number k
+seen-kind : (k l s : ℕ) → 65536 * shops (label l s) + k + level (label l s) ≡ 65536 * s + k + l
+seen-kind k l s = ap₂ (λ (a b : ℕ). 65536 * a + k + b) (shops-label l s) (level-label l s)
+
+pub seen-subject : (x : Subject) → seen-entry (subject-entry x) ≡ cond (eqb (x .live) 0) 0 (65536 * x .shops + 256 + x .level)
 seen-subject x = go (eqb (x .live) 0)
   where
-    go : (b : Bool) → seen-entry (cond b none (some (entry running (label (x .level))))) ≡ cond b 0 (256 + x .level)
+    go : (b : Bool) → seen-entry (cond b none (some (entry running (label (x .level) (x .shops))))) ≡ cond b 0 (65536 * x .shops + 256 + x .level)
     go true = refl
-    go false = ap (λ (n : ℕ). 256 + n) (level-label (x .level))
+    go false = seen-kind 256 (x .level) (x .shops)
 
-pub object-number : (y : Object) → seen-entry (object-entry y) ≡ cond (eqb (y .kind) 0) 0 (cond (eqb (y .kind) 1) (256 + y .level) (512 + y .level))
+pub object-number : (y : Object) → seen-entry (object-entry y)
+    ≡ cond (eqb (y .kind) 0) 0 (cond (eqb (y .kind) 1) (65536 * y .shops + 256 + y .level) (65536 * y .shops + 512 + y .level))
 object-number y = go (eqb (y .kind) 0) (eqb (y .kind) 1)
   where
-    go : (b c : Bool) → seen-entry (cond b none (some (entry (cond c file pipe) (label (y .level))))) ≡ cond b 0 (cond c (256 + y .level) (512 + y .level))
+    go : (b c : Bool) → seen-entry (cond b none (some (entry (cond c file pipe) (label (y .level) (y .shops)))))
+        ≡ cond b 0 (cond c (65536 * y .shops + 256 + y .level) (65536 * y .shops + 512 + y .level))
     go true c = refl
-    go false true = ap (λ (n : ℕ). 256 + n) (level-label (y .level))
-    go false false = ap (λ (n : ℕ). 512 + n) (level-label (y .level))
+    go false true = seen-kind 256 (y .level) (y .shops)
+    go false false = seen-kind 512 (y .level) (y .shops)
+
+-- a kept need, of 16 bits, and its level and its set as they are read off
+pub need-seen : (n r : ℕ) → n < 65536 → r ≡ seen-label n → label (r % 256) (r / 65536) ≡ label (n / 256) (n % 256)
+need-seen n r h e =
+    let high : r % 256 ≡ n / 256 = omega (arith, h, e) in
+    let low : r / 65536 ≡ n % 256 = omega (arith, h, e) in
+    ap₂ label high low
 
 -- a way is a small number
 pub way-small : (w n : ℕ) → n ≡ way-number w → n ≤ 3
@@ -382,9 +399,9 @@ module _ (s s′ : List ℕ) (h : Sized s) (h′ : Sized s′) (e : take needs-a
       number at l = sym (number-front needs-at s′ (omega arith) at l) ∙ ap (λ (t : List ℕ). whole (take 8 (drop at t))) e ∙ number-front needs-at s (omega arith) at l
 
 module _ (s ns : List ℕ) (h : Sized s) (long : length ns ≡ 96) where
-  count : length (need-bytes ns) ≡ 96
+  count : length (need-bytes ns) ≡ 192
   unfolding need-bytes
-  count = bytes-count ns 96 long
+  count = numbers-stored need-width ns 96 long
 
   kept-size : Sized (over needs-at (need-bytes ns) s)
   kept-size = over-length needs-at (need-bytes ns) s (omega (arith, count)) ∙ h
@@ -395,26 +412,26 @@ module _ (s ns : List ℕ) (h : Sized s) (long : length ns ≡ 96) where
 
   kept-behind : drop numbers-at (over needs-at (need-bytes ns) s) ≡ drop numbers-at s
   unfolding over
-  kept-behind = (let e : 96 + needs-at ≡ numbers-at = omega arith in ap (λ (k : ℕ). drop k (over needs-at (need-bytes ns) s)) (sym e)) ∙ sym (drop-drop 96 needs-at (over needs-at (need-bytes ns) s))
-      ∙ ap (drop 96) (drop-at (take needs-at s) (need-bytes ns ++ drop (needs-at + length (need-bytes ns)) s) needs-at (omega (arith, length-take needs-at s)))
-      ∙ drop-at (need-bytes ns) (drop (needs-at + length (need-bytes ns)) s) 96 count
+  kept-behind = (let e : 192 + needs-at ≡ numbers-at = omega arith in ap (λ (k : ℕ). drop k (over needs-at (need-bytes ns) s)) (sym e)) ∙ sym (drop-drop 192 needs-at (over needs-at (need-bytes ns) s))
+      ∙ ap (drop 192) (drop-at (take needs-at s) (need-bytes ns ++ drop (needs-at + length (need-bytes ns)) s) needs-at (omega (arith, length-take needs-at s)))
+      ∙ drop-at (need-bytes ns) (drop (needs-at + length (need-bytes ns)) s) 192 count
       ∙ (let e : needs-at + length (need-bytes ns) ≡ numbers-at = omega (arith, count) in ap (λ (k : ℕ). drop k s) e)
 
-  kept-needs : needs-of (over needs-at (need-bytes ns) s) ≡ ns
+  kept-needs : Narrow 16 ns → needs-of (over needs-at (need-bytes ns) s) ≡ ns
   unfolding needs-of over need-bytes
-  kept-needs = ap (records byte-of byte-width 96) (drop-at (take needs-at s) _ needs-at (omega (arith, length-take needs-at s))) ∙ bytes-back ns 96 _ long
+  kept-needs f = ap (records whole need-width 96) (drop-at (take needs-at s) _ needs-at (omega (arith, length-take needs-at s))) ∙ numbers-loaded need-width 16 refl ns 96 _ long f
 
 -- the monitor m was loaded from the bytes s, n is m put right, and its kept needs are stored
-pub put-right : (s s′ : List ℕ) (m n : Monitor) → Sized s → m ≡ monitor-of s → Righted m n → length (n .needs) ≡ 96
+pub put-right : (s s′ : List ℕ) (m n : Monitor) → Sized s → m ≡ monitor-of s → Righted m n → length (n .needs) ≡ 96 → Narrow 16 (n .needs)
     → s′ ≡ over needs-at (need-bytes (n .needs)) s → Put-right s s′
-put-right s s′ m n h q r l e = subst (Put-right s) (sym e) (record {
+put-right s s′ m n h q r l f e = subst (Put-right s) (sym e) (record {
   size = size;
   others = front;
   behind = behind;
   tables = same-view s t h size front behind;
   tally = same-tally s t h size front behind;
   right = subst Right (r .same ∙ ap (λ (x : Monitor). with-needs x (n .needs)) q ∙ sym (same-monitor s t h size front behind (n .needs))
-      ∙ ap (with-needs (monitor-of t)) (sym (kept-needs s (n .needs) h l))) (r .right);
+      ∙ ap (with-needs (monitor-of t)) (sym (kept-needs s (n .needs) h l f))) (r .right);
 })
   where
     t : List ℕ

@@ -23,7 +23,7 @@ use Rattle.gatekeeper.proofs.Numbered.{once-long}
 use Rattle.gatekeeper.proofs.Telling.{told-subject}
 use Rattle.tally.specs.declared.Tally.{Tally}
 use Rattle.tally.specs.Counting.{counts-of}
-use Rattle.stored.specs.State.{Sized, subject-of, subject-width, object-of, object-width, objects-at, handle-of, handle-width, handles-at, byte-of, byte-width, needs-at, groups-at, subjects-of, objects-of, handles-of, needs-of, groups-of, monitor-of, tally-of, Stands, state-view}
+use Rattle.stored.specs.State.{Sized, subject-of, subject-width, object-of, object-width, objects-at, handle-of, handle-width, handles-at, byte-of, byte-width, whole, need-width, needs-at, groups-at, subjects-of, objects-of, handles-of, needs-of, groups-of, monitor-of, tally-of, Stands, state-view}
 use Rattle.stored.specs.State.Laws.{length-records}
 use Rattle.lines.specs.Calls.{calls-of}
 use Rattle.typed.specs.declared.Outcome.{Outcome}
@@ -40,7 +40,7 @@ module _ (s : List ℕ) where
     subjects = length-records subject-of subject-width subjects s;
     objects = length-records object-of object-width objects (drop objects-at s);
     handles = length-records handle-of handle-width (subjects * places) (drop handles-at s);
-    needs = length-records byte-of byte-width (subjects + objects) (drop needs-at s);
+    needs = length-records whole need-width (subjects + objects) (drop needs-at s);
     groups = length-records byte-of byte-width subjects (drop groups-at s);
   }
 

@@ -13,7 +13,7 @@ pub mod Laws
 pub record Called (s : List ℕ) (r : Raw) (n : ℕ) (s′ : List ℕ) : Type 0 where
   -- RULES H12, H11: the rules' answer as a number, 0 where the bytes have another length
   pub returned : n ≡ call-number s (decode r)
-  -- the header's two functions read the rules' answer off it, whichever the bytes are
+  -- the header's three functions read the rules' answer off it, whichever the bytes are
   pub told : Sized s → answer-in n ≡ answer (clean (state-view s)) (decode r)
   pub stored : Sized s → Stored s (decode r) s′
   -- RULES H11: bytes of another length are not touched

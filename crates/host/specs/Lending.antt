@@ -38,7 +38,7 @@ lent-kind = record { view = lent-view; honest = lent-honest; whole = λ x. Whole
 
 -- `gatekeeper_monitor_call` of the call r on the state x returned n, and left the state y
 pub record Lends (x : State) (r : Raw) (n : ℕ) (y : State) : Type 0 where
-  -- RULES H12: n is the number of the answer that the header's two functions read off it
+  -- RULES H12: n is the number of the answer that the header's three functions read off it
   pub number : n ≡ answer-number (answer-in n)
   -- RULES T15, F12, F20, R102, R103: and that answer and the state left are what the rules promise of a call
   pub meets : Meets lent-kind x (decode r) (answer-in n) y

@@ -9,7 +9,7 @@ use mathlib.Core.List.{List, []}
 use Prim.Native.Nat.{ℕ, _+_, _*_, _/_, _%_}
 use lib.Dec.{eqb, ltb}
 use lib.ListN.{length}
-use Rattle.model.specs.Label.{level}
+use Rattle.model.specs.Label.{level, shops}
 use Rattle.model.specs.Lists.{each, keep, from-on}
 use Rattle.model.specs.Flow.{subject}
 use Rattle.model.specs.Tables.{Kind, running, file, pipe, Dir, reading, writing, Entry, Handle, Tables, no-freeze, subjects, live, clean}
@@ -20,36 +20,39 @@ use Rattle.journal.specs.Answers.{answers, refused}
 use Rattle.journal.specs.Answers.{Answer as Recording}
 use Rattle.journal.specs.Calls.{known}
 use Rattle.journal.specs.Record.{record-of}
-use Rattle.answers.specs.Telling.{letter-of, value-of}
+use Rattle.answers.specs.Telling.{letter-of, value-of, lost-of}
 use Rattle.gatekeeper.specs.View.{Kept-at}
 use Rattle.stored.specs.State.{state-bytes, Sized, monitor-of, state-view}
 pub mod Laws
 
 -- RULES H22: the version of the archive, first part, second and third
 abbrev pub version : ℕ
-version = 65536 * 7 + 256 * 0 + 0
+version = 65536 * 8 + 256 * 0 + 0
 
 -- RULES H10, H11: x where the bytes have the length of a state; else y
 abbrev pub sized : {A : Type 0} → List ℕ → A → A → A
 sized s x y = cond (eqb (length s) state-bytes) x y
 
--- RULES H12: 256 times the letter's byte, and the value
+-- RULES H12: 65,536 times the number of marks lost, 256 times the letter's byte, and the value
 abbrev pub answer-number : Answer → ℕ
-answer-number a = 256 * letter-of a + value-of a
+answer-number a = 65536 * lost-of a + 256 * letter-of a + value-of a
 
--- what a host reads off it: host/gatekeeper.h, `gatekeeper_letter` and `gatekeeper_value`
+-- what a host reads off it: host/gatekeeper.h, `gatekeeper_letter`, `gatekeeper_value` and `gatekeeper_lost`
 abbrev pub letter-in : ℕ → ℕ
-letter-in n = n / 256
+letter-in n = n / 256 % 256
+
+abbrev pub lost-in : ℕ → ℕ
+lost-in n = n / 65536
 
 abbrev pub value-in : ℕ → ℕ
 value-in n = n % 256
 
--- and the answer that the two tell: 65 is A, 76 is L, 82 is R
-abbrev pub answer-by : (letter value : ℕ) → Answer
-answer-by letter value = cond (eqb letter 65) (allowed value) (cond (eqb letter 76) (lowered value) (no value))
+-- and the answer that the three tell: 65 is A, 76 is L, 82 is R
+abbrev pub answer-by : (letter value lost : ℕ) → Answer
+answer-by letter value lost = cond (eqb letter 65) (allowed value) (cond (eqb letter 76) (lowered value lost) (no value))
 
 abbrev pub answer-in : ℕ → Answer
-answer-in n = answer-by (letter-in n) (value-in n)
+answer-in n = answer-by (letter-in n) (value-in n) (lost-in n)
 
 -- RULES H11, H12: what call c on the bytes s is answered
 unfoldable pub call-number : List ℕ → Call → ℕ
@@ -74,7 +77,7 @@ reading-value (good value used) before = value
 reading-value malformed before = before
 
 -- ── what a host sees ──
--- RULES H17: 0 where there is none; else 256 times the kind, 1 for a subject and for a file, 2 for a pipe, and the level
+-- RULES H17: 0 where there is none; else 65,536 times the set, 256 times the kind, 1 for a subject and for a file, 2 for a pipe, and the level
 abbrev pub kind-number : Kind → ℕ
 kind-number running = 1
 kind-number file = 1
@@ -82,7 +85,7 @@ kind-number pipe = 2
 
 abbrev pub seen-entry : Option Entry → ℕ
 seen-entry none = 0
-seen-entry (some e) = 256 * kind-number (e .kind) + level (e .label)
+seen-entry (some e) = 65536 * shops (e .label) + 256 * kind-number (e .kind) + level (e .label)
 
 -- RULES H31: the numbers in the group of subject s, rising
 unfoldable pub members : Tables → ℕ → List ℕ
@@ -106,9 +109,13 @@ abbrev pub seen-object : Option Handle → ℕ
 seen-object none = 0
 seen-object (some k) = k .to
 
+-- RULES H20: of a kept need, which is 256 times its level and its set, 65,536 times the set, and the level
+abbrev pub seen-label : ℕ → ℕ
+seen-label n = 65536 * (n % 256) + n / 256
+
 -- RULES H20: r is what is told of object o's kept need
 abbrev pub Seen-need : List ℕ → ℕ → ℕ → Type 0
-Seen-need s o r = (Sized s → Kept-at (monitor-of s) o r) × ((Sized s → ⊥) → r ≡ 0)
+Seen-need s o r = (Sized s → (n : ℕ) × Kept-at (monitor-of s) o n × (r ≡ seen-label n)) × ((Sized s → ⊥) → r ≡ 0)
 
 -- RULES H19: the freeze, 16 for every one that freezes nothing
 abbrev pub seen-freeze : ℕ → ℕ

@@ -36,7 +36,7 @@ mod lent;
 mod seen;
 
 // The version, its three parts in one number (specs/Numbers.antt).
-const VERSION: u32 = 65536 * 7 + 256 * 0 + 0;
+const VERSION: u32 = 65536 * 8 + 256 * 0 + 0;
 
 // The answer to a call on bytes of another length, which is no answer of a call.
 const UNSIZED: u32 = 0;
@@ -46,14 +46,15 @@ const UNSIZED_LINE: u64 = 255;
 
 // ---- answers as numbers
 
-// 256 times the letter's byte, and the level or the number of the refusal.
+// 65,536 times the number of marks lost, 256 times the letter's byte, and the level or the number of the refusal.
 fn to_number(a: Answer) -> u32
     ensures number { λ r. ⌜ r ≡ answer-number (told a) ⌝ }
     ensures back { λ r. ⌜ answer-in r ≡ told a ⌝ }
 {
     let letter = answers::letter(a);
     let value = answers::value(a);
-    256 * (letter as u32) + value as u32
+    let lost = answers::lost(a);
+    65536 * (lost as u32) + 256 * (letter as u32) + value as u32
 }
 
 // ---- exported

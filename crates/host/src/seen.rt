@@ -1,8 +1,8 @@
-// What a host sees of the lent bytes (RULES H17 to H21, H27, H28, H31), without a call: who is live and at which level, and in which group, the handle at a place and
+// What a host sees of the lent bytes (RULES H17 to H21, H27, H28, H31), without a call: who is live and with which label, and in which group, the handle at a place and
 // its object, the live objects from a number on, the freeze, and the kept needs, which can be put right. What is told of an object or a handle loads the 64 slots and
 // their numbers, what is told of a group the subjects and the groups; all else reads the few bytes that it tells of.
 ghost use mathlib.Core.Path.{_≡_};
-ghost use Prim.Native.Nat.{_+_, _*_, _%_};
+ghost use Prim.Native.Nat.{_+_, _*_, _/_, _%_};
 ghost use lib.Dec.{eqb};
 ghost use lib.ListN.{length, getD};
 ghost use Rattle.model.specs.Lists.{from-on};
@@ -15,7 +15,7 @@ ghost use Rattle.tables.specs.Working.{subject-at, object-at, handle-at};
 ghost use Rattle.gatekeeper.specs.View.{slots, once, kept-need};
 ghost use Rattle.stored.specs.State.{Sized, subjects-of, objects-of, handles-of, numbers-of, freeze-of, monitor-of, state-view, state-right, state-bytes, Put-right};
 ghost use Rattle.host.specs.Working.{way-number};
-ghost use Rattle.host.specs.Numbers.{sized, seen-entry, seen-group, seen-handle, seen-object, Seen-need, seen-freeze};
+ghost use Rattle.host.specs.Numbers.{sized, seen-entry, seen-group, seen-handle, seen-object, seen-label, Seen-need, seen-freeze};
 use stored::FREEZE_AT;
 use stored::HANDLES_AT;
 use stored::NEEDS_AT;
@@ -45,11 +45,13 @@ fn subject_in(state: &[u8], s: u64) -> Subject
     ensures { λ r. ⌜ r ≡ subject-at s (getD (subjects-of (now (state .entry))) (s % 32) no-subject) ⌝ }
 {
     let i = s as usize % SUBJECTS;
-    let at = SUBJECTS_AT + 2 * i;
+    let at = SUBJECTS_AT + 3 * i;
     let live = stored::to_live(state[at]);
     let next = at + 1;
     let level = state[next];
-    let x = Subject { live, level };
+    let last = next + 1;
+    let shops = state[last];
+    let x = Subject { live, level, shops };
     looks::subject_at(s, x)
 }
 
@@ -97,15 +99,18 @@ fn handle_in(state: &[u8], s: u64, p: u64) -> Handle
     looks::handle_at(s, p, h)
 }
 
-fn number_of(b: u8) -> u32
-    ensures { λ r. ⌜ r ≡ b ⌝ }
+// A kept need as a host sees it: 65,536 times its set, and its level.
+fn number_of(n: u16) -> u32
+    ensures { λ r. ⌜ r ≡ seen-label n ⌝ }
 {
-    b as u32
+    let shops = n % 256;
+    let level = n / 256;
+    65536 * (shops as u32) + level as u32
 }
 
 // ---- exported
 
-// 256 and the level of subject s; 0 where it is not live, and for bytes of another length.
+// 65,536 times the set of subject s, 256, and its level; 0 where it is not live, and for bytes of another length.
 #[no_mangle]
 pub extern "C" fn gatekeeper_subject(state: &[u8], s: u64) -> u32
     ensures { λ r. ⌜ r ≡ sized (now (state .entry)) (seen-entry (state-view (now (state .entry)) .at (subject s))) 0 ⌝ }
@@ -117,7 +122,7 @@ pub extern "C" fn gatekeeper_subject(state: &[u8], s: u64) -> u32
     if x.live == 0 {
         return 0;
     }
-    256 + x.level as u32
+    65536 * (x.shops as u32) + 256 + x.level as u32
 }
 
 // 256 and the lowest number in the group of subject s; 0 where it is not live, and for bytes of another length.
@@ -139,7 +144,7 @@ pub extern "C" fn gatekeeper_group(state: &[u8], s: u64) -> u32
     256 + leads[i] as u32
 }
 
-// 256 times the kind of object o, and its level; 0 where it is not live, and for bytes of another length.
+// 65,536 times the set of object o, 256 times its kind, and its level; 0 where it is not live, and for bytes of another length.
 #[no_mangle]
 pub extern "C" fn gatekeeper_object(state: &[u8], o: u64) -> u32
     ensures { λ r. ⌜ r ≡ sized (now (state .entry)) (seen-entry (state-view (now (state .entry)) .at (object o))) 0 ⌝ }
@@ -153,9 +158,9 @@ pub extern "C" fn gatekeeper_object(state: &[u8], o: u64) -> u32
         return 0;
     }
     if y.kind == FILE {
-        return 256 + y.level as u32;
+        return 65536 * (y.shops as u32) + 256 + y.level as u32;
     }
-    512 + y.level as u32
+    65536 * (y.shops as u32) + 512 + y.level as u32
 }
 
 // The lowest number from o on of a live object; 0 where there is none, and for bytes of another length.
@@ -248,9 +253,9 @@ pub extern "C" fn gatekeeper_frozen_from(state: &[u8]) -> u32
 // The kept need of subject s, and of object o; 0 where it is not live, and for bytes of another length. Where the bytes are right, it is the need.
 #[no_mangle]
 pub extern "C" fn gatekeeper_subject_need(state: &[u8], s: u64) -> u32
-    ensures kept { λ r. ⌜ r ≡ sized (now (state .entry)) (kept-need (monitor-of (now (state .entry))) s) 0 ⌝ }
+    ensures kept { λ r. ⌜ r ≡ sized (now (state .entry)) (seen-label (kept-need (monitor-of (now (state .entry))) s)) 0 ⌝ }
     ensures right { λ r. ⌜ (Sized (now (state .entry)) → state-right (now (state .entry)) →
-        label r ≡ needs (clean (state-view (now (state .entry)))) (subject s)) ⌝ }
+        label (r % 256) (r / 65536) ≡ needs (clean (state-view (now (state .entry)))) (subject s)) ⌝ }
 {
     if state.len() != STATE_BYTES {
         return 0;
@@ -260,15 +265,15 @@ pub extern "C" fn gatekeeper_subject_need(state: &[u8], s: u64) -> u32
         return 0;
     }
     let i = s as usize % SUBJECTS;
-    let at = NEEDS_AT + i;
-    number_of(state[at])
+    let at = NEEDS_AT + 2 * i;
+    number_of(stored::load_label(state, at))
 }
 
 #[no_mangle]
 pub extern "C" fn gatekeeper_object_need(state: &[u8], o: u64) -> u32
     ensures kept { λ r. ⌜ Seen-need (now (state .entry)) o r ⌝ }
     ensures right { λ r. ⌜ (Sized (now (state .entry)) → state-right (now (state .entry)) →
-        label r ≡ needs (clean (state-view (now (state .entry)))) (object o)) ⌝ }
+        label (r % 256) (r / 65536) ≡ needs (clean (state-view (now (state .entry)))) (object o)) ⌝ }
 {
     if state.len() != STATE_BYTES {
         return 0;
@@ -278,8 +283,8 @@ pub extern "C" fn gatekeeper_object_need(state: &[u8], o: u64) -> u32
         return 0;
     }
     let k = SUBJECTS + (i % OBJECT_NUMBERS) as usize;
-    let at = NEEDS_AT + k;
-    number_of(state[at])
+    let at = NEEDS_AT + 2 * k;
+    number_of(stored::load_label(state, at))
 }
 
 // Works the kept needs out anew, for bytes that were brought in from outside; false, and nothing is touched, where they have another length.

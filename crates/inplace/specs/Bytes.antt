@@ -18,10 +18,10 @@ from f k (suc n) = f k ∷ from f (suc k) n
 
 -- RULES H24: a record's bytes in the order of its fields, one after the other
 abbrev pub subject-of : List ℕ → ℕ → Subject
-subject-of b i = record { live = getD b (2 * i) 0; level = getD b (2 * i + 1) 0 }
+subject-of b i = record { live = getD b (3 * i) 0; level = getD b (3 * i + 1) 0; shops = getD b (3 * i + 1 + 1) 0 }
 
 abbrev pub object-of : List ℕ → ℕ → Object
-object-of b i = record { kind = getD b (2 * i) 0; level = getD b (2 * i + 1) 0 }
+object-of b i = record { kind = getD b (3 * i) 0; level = getD b (3 * i + 1) 0; shops = getD b (3 * i + 1 + 1) 0 }
 
 abbrev pub handle-of : List ℕ → ℕ → Handle
 handle-of b i = record { way = getD b (3 * i) 0; object = getD b (3 * i + 1) 0; mark = getD b (3 * i + 1 + 1) 0 }

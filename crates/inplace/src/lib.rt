@@ -3,7 +3,7 @@
 //
 // The parts are those of the monitor (`gatekeeper::Monitor`) as they lie in memory, and the two counts. What their bytes stand for is in specs/Bytes.antt.
 ghost use mathlib.Core.Path.{_≡_};
-ghost use mathlib.Core.Bool.{true, not, _&&_, _||_};
+ghost use mathlib.Core.Bool.{true, _&&_, cond};
 ghost use mathlib.Core.Logic.{_⊎_, _↔_};
 ghost use Prim.Native.Nat.{_+_, _*_, _%_, _<_};
 ghost use lib.Dec.{eqb};
@@ -12,7 +12,8 @@ ghost use Rattle.model.specs.Tally.{wrapped};
 ghost use Rattle.tables.specs.Records.{reads-by, no-subject, no-object, no-handle};
 ghost use Rattle.tables.specs.Slots.{slot-used, Found};
 ghost use Rattle.tables.specs.Working.{subject-at, object-at, handle-at};
-ghost use Rattle.passes.specs.Working.{demands};
+ghost use Rattle.labels.specs.Codes.{coded};
+ghost use Rattle.passes.specs.Working.{spare-by, backed-by};
 ghost use Rattle.inplace.specs.Bytes.{subjects-in, objects-in, handles-in, Beside};
 use tables::EMPTY;
 use tables::FILE;
@@ -26,38 +27,42 @@ use tables::SUBJECTS;
 use tables::Subject;
 use tables::looks;
 
-// How many bytes each part has; the counts are two numbers.
-const SUBJECT_BYTES: usize = 2 * SUBJECTS;
+// How many bytes each part has; the needs are 96 numbers and the counts two.
+const SUBJECT_BYTES: usize = 3 * SUBJECTS;
 
-const OBJECT_BYTES: usize = 2 * OBJECTS;
+const OBJECT_BYTES: usize = 3 * OBJECTS;
 
 const HANDLE_BYTES: usize = 3 * HANDLES;
 
 // ---- one record
 
 pub fn subject_in(subjects: &[u8], s: u64) -> Subject
-    requires { ⌜ length (now subjects) ≡ 64 ⌝ }
+    requires { ⌜ length (now subjects) ≡ 96 ⌝ }
     ensures there { λ r. ⌜ r ≡ subject-at s (getD (subjects-in (now (subjects .entry))) (s % 32) no-subject) ⌝ }
     ensures byte { λ r. ⌜ r .level < 256 ⌝ }
 {
-    let at = 2 * (s as usize % SUBJECTS);
+    let at = 3 * (s as usize % SUBJECTS);
     let live = subjects[at];
     let next = at + 1;
     let level = subjects[next];
-    let x = Subject { live, level };
+    let last = next + 1;
+    let shops = subjects[last];
+    let x = Subject { live, level, shops };
     looks::subject_at(s, x)
 }
 
 pub fn object_in(objects: &[u8], o: u64) -> Object
-    requires { ⌜ length (now objects) ≡ 128 ⌝ }
+    requires { ⌜ length (now objects) ≡ 192 ⌝ }
     ensures there { λ r. ⌜ r ≡ object-at o (getD (objects-in (now (objects .entry))) (o % 64) no-object) ⌝ }
     ensures byte { λ r. ⌜ r .level < 256 ⌝ }
 {
-    let at = 2 * (o as usize % OBJECTS);
+    let at = 3 * (o as usize % OBJECTS);
     let kind = objects[at];
     let next = at + 1;
     let level = objects[next];
-    let y = Object { kind, level };
+    let last = next + 1;
+    let shops = objects[last];
+    let y = Object { kind, level, shops };
     looks::object_at(o, y)
 }
 
@@ -91,7 +96,7 @@ pub fn put(handles: &mut [u8], s: u64, p: u64, h: Handle)
 }
 
 // The need of subject s, and of object o, each modulo how many there are.
-pub fn subject_need(needs: &[u8], s: u64) -> u8
+pub fn subject_need(needs: &[u16], s: u64) -> u16
     requires { ⌜ length (now needs) ≡ 96 ⌝ }
     ensures { λ r. ⌜ r ≡ getD (now (needs .entry)) (s % 32) 0 ⌝ }
 {
@@ -99,7 +104,7 @@ pub fn subject_need(needs: &[u8], s: u64) -> u8
     needs[at]
 }
 
-pub fn object_need(needs: &[u8], o: u64) -> u8
+pub fn object_need(needs: &[u16], o: u64) -> u16
     requires { ⌜ length (now needs) ≡ 96 ⌝ }
     ensures { λ r. ⌜ r ≡ getD (now (needs .entry)) (32 + o % 64) 0 ⌝ }
 {
@@ -128,7 +133,7 @@ pub fn are_whole(
     needs: usize,
     counts: usize,
 ) -> bool
-    ensures { λ r. ⌜ (r ≡ true) ↔ ((subjects ≡ 64) × (objects ≡ 128) × (handles ≡ 1536) × (needs ≡ 96) × (counts ≡ 2)) ⌝ }
+    ensures { λ r. ⌜ (r ≡ true) ↔ ((subjects ≡ 96) × (objects ≡ 192) × (handles ≡ 1536) × (needs ≡ 96) × (counts ≡ 2)) ⌝ }
 {
     if subjects != SUBJECT_BYTES {
         return false;
@@ -173,11 +178,11 @@ fn is_beside(handles: &[u8], o: u8, at: usize) -> bool
 
 // Slot i, modulo how many there are, is in use and has the number o.
 fn is_at(objects: &[u8], numbers: &[u64], i: u64, o: u64) -> bool
-    requires { ⌜ (length (now objects) ≡ 128) × (length (now numbers) ≡ 64) ⌝ }
+    requires { ⌜ (length (now objects) ≡ 192) × (length (now numbers) ≡ 64) ⌝ }
     ensures { λ r. ⌜ r ≡ (slot-used (objects-in (now (objects .entry))) (i % 64) && eqb (getD (now (numbers .entry)) (i % 64) 0) o) ⌝ }
 {
     let j = (i % OBJECT_NUMBERS) as usize;
-    let at = 2 * j;
+    let at = 3 * j;
     let kind = objects[at];
     let n = numbers[j];
     let used = kind != FREE;
@@ -187,7 +192,7 @@ fn is_at(objects: &[u8], numbers: &[u64], i: u64, o: u64) -> bool
 
 // The slot of object o, which is looked for at o modulo OBJECTS first; OBJECTS where it is not live.
 pub fn slot_in(objects: &[u8], numbers: &[u64], o: u64) -> u64
-    requires { ⌜ (length (now objects) ≡ 128) × (length (now numbers) ≡ 64) ⌝ }
+    requires { ⌜ (length (now objects) ≡ 192) × (length (now numbers) ≡ 64) ⌝ }
     ensures { λ r. ⌜ Found (objects-in (now (objects .entry))) (now (numbers .entry)) o r ⌝ }
 {
     if is_at(objects, numbers, o, o) {
@@ -205,15 +210,15 @@ pub fn slot_in(objects: &[u8], numbers: &[u64], o: u64) -> u64
 
 // ---- what is asked of a close
 
-// No need changes where subject s closes handle h: the needs of its two ends differ, both are 0, or h read the file y, which demands as much by itself.
-pub fn is_quiet(h: Handle, y: Object, mine: u8, its: u8) -> bool
-    ensures { λ r. ⌜ r ≡ (not (eqb mine its) || (eqb mine 0 || (reads-by (h .way) && demands y mine))) ⌝ }
+// No need changes where subject s closes handle h, which is on object y: its flow is spare by what y demands by itself.
+pub fn is_quiet(h: Handle, y: Object, mine: u16, its: u16) -> bool
+    ensures { λ r. ⌜ r ≡ spare-by (coded (cond (reads-by (h .way)) mine its)) (coded (cond (reads-by (h .way)) its mine)) (backed-by h y) ⌝ }
 {
-    let apart = mine != its;
-    let none = mine == 0;
-    let backed = keeping::is_backed(h, y, mine);
-    let same = looks::either(none, backed);
-    looks::either(apart, same)
+    let reads = looks::is_reading(h.way);
+    let source = keeping::chosen(reads, its, mine);
+    let end = keeping::chosen(reads, mine, its);
+    let own = keeping::backing(h, y);
+    keeping::is_spare(end, source, own)
 }
 
 // The object y of a handle outlives it: it is a file, or another handle is on it.

@@ -10,8 +10,8 @@ pub mod Laws
 -- RULES C1 to C18, J9: how many numbers the call of each code takes, from code 1 on; every call takes one, and 0 says that there is no such call
 abbrev pub arities : List ℕ
 arities =
-    2  -- admit s, level
-    ∷ 2  -- register o, level
+    3  -- admit s, level, set
+    ∷ 3  -- register o, level, set
     ∷ 2  -- create s, o
     ∷ 4  -- pipe s, o, r, w
     ∷ 3  -- open for reading s, o, p

@@ -22,8 +22,8 @@ const CODES: usize = 19;
 // How many numbers the call of each code takes, from code 0 on; every call takes one, and 0 says that there is no such call.
 const ARITIES: [usize; CODES] = [
     0, // no call
-    2, // admit s, level
-    2, // register o, level
+    3, // admit s, level, set
+    3, // register o, level, set
     2, // create s, o
     4, // pipe s, o, r, w
     3, // open for reading s, o, p

@@ -1,15 +1,15 @@
--- Figures that are kept when a handle comes: where its flow falls by them no need changes, and no level is below one that was not. Assumes nothing.
-use mathlib.Core.Path.{_≡_, sym, ap, subst}
+-- Figures that are kept when a handle comes: where its flow falls by them no need changes, and no label is below one that was not. Assumes nothing.
+use mathlib.Core.Path.{_≡_, sym, _∙_, ap, subst}
 use mathlib.Core.Bool.{Bool, true, false, not, _&&_, cond}
 use mathlib.Core.Logic.{inl, inr}
 use mathlib.Core.Option.{none, some}
 use mathlib.Core.List.{List}
 use Prim.Native.Nat.{ℕ, _+_, _%_, _<_}
 use lib.ListN.{getD}
-use lib.Dec.{T, leb, leb→le, ltb→lt}
+use lib.Dec.{T, ltb→lt}
 use Rattle.model.specs.Bools.{is-true, both-of}
-use Rattle.model.specs.Label.{Label, label, _⊑_}
-use Rattle.model.specs.Label.Laws.{level-label, le→⊑}
+use Rattle.model.specs.Label.{Label, leq, _⊑_}
+use Rattle.labels.specs.Codes.{coded}
 use Rattle.model.specs.Flow.{Thing, subject, object}
 use Rattle.model.specs.Flow.Changes.{Adds, add-quiet}
 use Rattle.model.specs.Tables.{reading, writing, Tables, arc, flow, edges, demand, needs, safe}
@@ -32,7 +32,7 @@ pub opened-wf : (t : Tables) (s p : ℕ) (h : Handle) → Wf t → Ends t s p (j
 opened-wf t s p h w e = wf-hold t s p (joins h) w e
 
 module _ (n : List ℕ) (t : Tables) (s p : ℕ) (h : Handle) (w : Wf t) (e : Ends t s p (joins h)) (v : t .hand s p ≡ none) (k : Ready t (figure-of n)) (low : h .object < 64)
-    (q : falls-by (reads-by (h .way)) (getD n (s % 32) 0) (getD n (32 + h .object % 64) 0) ≡ true) where
+    (q : falls-by (reads-by (h .way)) (coded (getD n (s % 32) 0)) (coded (getD n (32 + h .object % 64) 0)) ≡ true) where
   u : Tables
   u = apply (hold s p (some (joins h))) t
 
@@ -40,13 +40,13 @@ module _ (n : List ℕ) (t : Tables) (s p : ℕ) (h : Handle) (w : Wf t) (e : En
   unfolding u
   adds = hold-adds t s p (joins h) w (ltb→lt s 32 (live-of t (subject s) (e .from) .0)) (e .place) v
 
-  at-most : (a b : ℕ) → leb a b ≡ true → label a ⊑ label b
-  at-most a b z = le→⊑ _ _ (rw (level-label a, level-label b) (leb→le a b (subst T (sym z) tt)))
+  at-most : (a b : Label) → leq a b ≡ true → a ⊑ b
+  at-most a b z = record { tested = subst T (sym z) tt }
 
   down : needs t (flow (subject s) (joins h) .dst) ⊑ needs t (flow (subject s) (joins h) .src)
   down = go (reads-by (h .way)) q
     where
-      go : (r : Bool) → falls-by r (getD n (s % 32) 0) (getD n (32 + h .object % 64) 0) ≡ true
+      go : (r : Bool) → falls-by r (coded (getD n (s % 32) 0)) (coded (getD n (32 + h .object % 64) 0)) ≡ true
           → needs t (arc (cond r reading writing) (subject s) (object (h .object)) .dst) ⊑ needs t (arc (cond r reading writing) (subject s) (object (h .object)) .src)
       go true z = rw (sym (mine-is n t s p h e k low), sym (its-is n t s p h e k low)) (at-most _ _ z)
       go false z = rw (sym (mine-is n t s p h e k low), sym (its-is n t s p h e k low)) (at-most _ _ z)
@@ -64,5 +64,5 @@ module _ (n : List ℕ) (t : Tables) (s p : ℕ) (h : Handle) (w : Wf t) (e : En
   quiet-safe f = ap not (sym (is-true (safe u) (safe-complete u (record { above = λ x d z. subst (λ (a : Label). a ⊑ d .label) (sym (same x)) (f .above x d z) }))))
 
 -- the quick test's two parts
-pub quiet-parts : (a b : Bool) → (a && b) ≡ true → (a ≡ true) × (b ≡ true)
-quiet-parts a b z = let r = both-of a b (subst T (sym z) tt) in (is-true a (r .0), is-true b (r .1))
+pub quiet-parts : (r a b : Bool) → r ≡ (a && b) → r ≡ true → (a ≡ true) × (b ≡ true)
+quiet-parts r a b e z = let v = both-of a b (subst T (sym z ∙ e) tt) in (is-true a (v .0), is-true b (v .1))

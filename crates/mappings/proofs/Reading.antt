@@ -1,21 +1,22 @@
 -- Who has a file mapped, worked out handle by handle and by leads, is what the rules ask; the subjects once these and their mates have taken it in are
--- the tables after the rules' reads; and a level that fell is found by comparing the subjects. Assumes nothing.
+-- the tables after the rules' reads; and a label that fell is found by comparing the subjects. Assumes nothing.
 use mathlib.Core.Path.{_≡_, refl, sym, _∙_, ap, subst, subst₂, fun-ext}
 use mathlib.Core.Bool.{Bool, true, false, not, _||_, _&&_, cond}
 use mathlib.Core.Logic.{inl}
 use mathlib.Core.Option.{Option, none, some, Option·none-ne-some, Option·some-injective}
 use mathlib.Core.List.{List}
-use Prim.Native.Nat.{ℕ, zero, suc, _+_, _*_, _/_, _%_, _<_}
+use Prim.Native.Nat.{ℕ, zero, suc, _+_, _*_, _/_, _%_, _<_, min}
 use native.Mathlib.Omega.{arith}
 use native.Mathlib.Decide.{decLt}
-use borrow.Author.Tests.{lt-ltb, eq-eqb, ne-eqb, ltb-true, ltb-false}
+use borrow.Author.Tests.{lt-ltb, eq-eqb, ne-eqb}
 use lib.ListN.{length, getD, List·getD-eq-default}
-use lib.Dec.{T, eqb, eqb→eq, eqb-refl, ltb, lt→ltb}
-use Rattle.model.specs.Bools.{both, both-of, is-true}
+use lib.Bits.{bitAnd}
+use lib.Dec.{T, eqb, eqb→eq, eqb-refl, lt→ltb}
+use Rattle.model.specs.Bools.{both, both-of, is-true, not-not}
 use Rattle.model.specs.Lists.{In}
 use Rattle.model.specs.Lists.Laws.{in-each, any-of}
-use Rattle.model.specs.Label.{Label, _⊑_, meet, label}
-use Rattle.model.specs.Label.Laws.{⊑-refl, level-label, le→⊑, not-least-is-below, meet-stays, meet-falls}
+use Rattle.model.specs.Label.{Label, leq, _⊑_, meet, label}
+use Rattle.model.specs.Label.Laws.{⊑-refl, meet-labels}
 use Rattle.model.specs.Flow.{Thing, subject, object, same}
 use Rattle.model.specs.Tables.{running, file, pipe, Entry, entry, Tables, with-at, places, a-file, cell, whole, one, handles-of}
 use Rattle.model.specs.Tables.{Handle as Held}
@@ -138,57 +139,46 @@ module _ (rest : Tables) (ss : List Subject) (os : List Object) (hs : List Handl
             number q = cc
 
 -- ── what they become ──
--- a subject that reads something of level l
-taken-entry : (s : ℕ) (x : Subject) (l : ℕ) → subject-entry (fallen-by x l) ≡ fall (subject s) (subject-entry x) (some (entry file (label l)))
-taken-entry s x l = by (ltb l (x .level)) refl
+-- a subject that reads something of level l and set m
+taken-entry : (s : ℕ) (x : Subject) (l m : ℕ) → subject-entry (fallen-by x l m) ≡ fall (subject s) (subject-entry x) (some (entry file (label l m)))
+taken-entry s x l m = at (eqb (x .live) 0)
   where
-    at : (a : ℕ) → meet (label (x .level)) (label l) ≡ label a → (z : Bool) → cond z none (some (entry running (label a)))
-        ≡ fall (subject s) (cond z none (some (entry running (label (x .level))))) (some (entry file (label l)))
-    at a q true = refl
-    at a q false = ap (λ (b : Label). some (entry running b)) (sym q)
-
-    by : (b : Bool) → ltb l (x .level) ≡ b → subject-entry (cond b (record { live = x .live; level = l }) x)
-        ≡ fall (subject s) (subject-entry x) (some (entry file (label l)))
-    by true q = at l (meet-falls (label (x .level)) (label l) (le→⊑ _ _ (rw (level-label (x .level), level-label l) (omega (arith, ltb-true l (x .level) q)))))
-        (eqb (x .live) 0)
-    by false q = at (x .level) (meet-stays (label (x .level)) (label l) (le→⊑ _ _ (rw (level-label (x .level), level-label l) (ltb-false l (x .level) q))))
-        (eqb (x .live) 0)
+    at : (z : Bool) → cond z none (some (entry running (label (min (x .level) l) (bitAnd (x .shops) m))))
+        ≡ fall (subject s) (cond z none (some (entry running (label (x .level) (x .shops))))) (some (entry file (label l m)))
+    at true = refl
+    at false = ap (λ (b : Label). some (entry running b)) (sym (meet-labels (x .level) (x .shops) l m))
 
 -- who is live stays so
-pub taken-live : (ss r : List Subject) (takes : List Bool) (l : ℕ) → length ss ≡ 32 → length r ≡ 32
-    → ((a : ℕ) → a < 32 → getD r a no-subject ≡ taken-by (getD ss a no-subject) (getD takes a false) l) → (a : ℕ) → stands r a ≡ stands ss a
-taken-live ss r takes l ls lr g a = elim (decLt a 32) [
+pub taken-live : (ss r : List Subject) (takes : List Bool) (l m : ℕ) → length ss ≡ 32 → length r ≡ 32
+    → ((a : ℕ) → a < 32 → getD r a no-subject ≡ taken-by (getD ss a no-subject) (getD takes a false) l m) → (a : ℕ) → stands r a ≡ stands ss a
+taken-live ss r takes l m ls lr g a = elim (decLt a 32) [
   | yes h ↦ ap (λ (x : Subject). not (eqb (x .live) 0)) (g a h) ∙ still (getD ss a no-subject) (getD takes a false)
   | no n ↦ ap (λ (x : Subject). not (eqb (x .live) 0)) (List·getD-eq-default r no-subject {n = a} (omega arith) ∙ sym (List·getD-eq-default ss no-subject {n = a} (omega arith)))
 ]
   where
-    fallen : (x : Subject) (b : Bool) → not (eqb (cond b (record { live = x .live; level = l }) x .live) 0) ≡ not (eqb (x .live) 0)
-    fallen x true = refl
-    fallen x false = refl
-
-    still : (x : Subject) (b : Bool) → not (eqb (taken-by x b l .live) 0) ≡ not (eqb (x .live) 0)
-    still x true = fallen x (ltb l (x .level))
+    still : (x : Subject) (b : Bool) → not (eqb (taken-by x b l m .live) 0) ≡ not (eqb (x .live) 0)
+    still x true = refl
     still x false = refl
 
 -- a subject and its mates take in something
-pub group-read : (rest : Tables) (ss : List Subject) (os : List Object) (hs : List Handle) (gs : List ℕ) (s l : ℕ) (d : Entry) (r : List Subject) (takes : List Bool)
-    → s < 32 → rest .kin ≡ kin-of ss gs → d .label ≡ label l → length ss ≡ 32 → length r ≡ 32
+pub group-read : (rest : Tables) (ss : List Subject) (os : List Object) (hs : List Handle) (gs : List ℕ) (s l m : ℕ) (d : Entry) (r : List Subject) (takes : List Bool)
+    → s < 32 → rest .kin ≡ kin-of ss gs → d .label ≡ label l m → length ss ≡ 32 → length r ≡ 32
     → ((a : ℕ) → a < 32 → getD takes a false ≡ kin-of ss gs (s % 32) a)
-    → ((a : ℕ) → a < 32 → getD r a no-subject ≡ taken-by (getD ss a no-subject) (getD takes a false) l)
+    → ((a : ℕ) → a < 32 → getD r a no-subject ≡ taken-by (getD ss a no-subject) (getD takes a false) l m)
     → tables-of rest r os hs ≡ with-at (tables-of rest ss os hs) (sink (tables-of rest ss os hs) (subject s) (some d))
 unfolding tables-of whole
-group-read rest ss os hs gs s l d r takes low k e ls lr f g = ap (with-at (tables-of rest ss os hs)) (fun-ext at)
+group-read rest ss os hs gs s l m d r takes low k e ls lr f g = ap (with-at (tables-of rest ss os hs)) (fun-ext at)
   where
     same-s : s % 32 ≡ s
     same-s = omega arith
 
-    by : (a : ℕ) (b : Bool) → subject-entry (taken-by (getD ss a no-subject) b l)
+    by : (a : ℕ) (b : Bool) → subject-entry (taken-by (getD ss a no-subject) b l m)
         ≡ cond b (fall (subject a) (subject-entry (getD ss a no-subject)) (some d)) (subject-entry (getD ss a no-subject))
-    by a true = taken-entry a (getD ss a no-subject) l ∙ level-alone (subject-entry (getD ss a no-subject))
+    by a true = taken-entry a (getD ss a no-subject) l m ∙ label-alone (subject-entry (getD ss a no-subject))
       where
-        level-alone : (v : Option Entry) → fall (subject a) v (some (entry file (label l))) ≡ fall (subject a) v (some d)
-        level-alone none = refl
-        level-alone (some c) = ap (λ (b : Label). some (entry (c .kind) (meet (c .label) b))) (sym e)
+        label-alone : (v : Option Entry) → fall (subject a) v (some (entry file (label l m))) ≡ fall (subject a) v (some d)
+        label-alone none = refl
+        label-alone (some c) = ap (λ (b : Label). some (entry (c .kind) (meet (c .label) b))) (sym e)
     by a false = refl
 
     beyond : (x : Thing) (v c : Option Entry) (b : Bool) → v ≡ none → none ≡ cond b (fall x v c) v
@@ -217,25 +207,25 @@ module _ (rest : Tables) (ss : List Subject) (os : List Object) (hs : List Handl
       no-file : T (not (a-file (object o) (object-entry (getD os o no-object))))
       no-file = rw (q, ne-eqb (y .kind) 1 n) (go (eqb (y .kind) 0))
         where
-          go : (b : Bool) → T (not (a-file (object o) (cond b none (some (entry pipe (label (y .level)))))))
+          go : (b : Bool) → T (not (a-file (object o) (cond b none (some (entry pipe (label (y .level) (y .shops)))))))
           go true = tt
           go false = tt
 
   -- a file is taken in by those who have it mapped and by their mates
   pub file-read : (r : List Subject) (takes : List Bool) → y .kind ≡ 1 → length ss ≡ 32 → length r ≡ 32
       → ((a : ℕ) → a < 32 → getD takes a false ≡ took (tables-of rest ss os hs) o 32 (subject a))
-      → ((a : ℕ) → a < 32 → getD r a no-subject ≡ taken-by (getD ss a no-subject) (getD takes a false) (y .level))
+      → ((a : ℕ) → a < 32 → getD r a no-subject ≡ taken-by (getD ss a no-subject) (getD takes a false) (y .level) (y .shops))
       → tables-of rest r os hs ≡ applies (rereads (tables-of rest ss os hs) (object o)) (tables-of rest ss os hs)
   unfolding tables-of
   file-read r takes k ls lr f g = ap (with-at (tables-of rest ss os hs)) (fun-ext at)
       ∙ sym (rereads-file (tables-of rest ss os hs) o (subst (λ (v : Option Entry). T (a-file (object o) v)) (sym there) tt))
     where
-      there : object-entry (getD os o no-object) ≡ some (entry file (label (y .level)))
+      there : object-entry (getD os o no-object) ≡ some (entry file (label (y .level) (y .shops)))
       there = rw (q, k)
 
-      by : (a : ℕ) (b : Bool) → subject-entry (taken-by (getD ss a no-subject) b (y .level))
+      by : (a : ℕ) (b : Bool) → subject-entry (taken-by (getD ss a no-subject) b (y .level) (y .shops))
           ≡ cond b (fall (subject a) (subject-entry (getD ss a no-subject)) (object-entry (getD os o no-object))) (subject-entry (getD ss a no-subject))
-      by a true = taken-entry a (getD ss a no-subject) (y .level) ∙ ap (fall (subject a) (subject-entry (getD ss a no-subject))) (sym there)
+      by a true = taken-entry a (getD ss a no-subject) (y .level) (y .shops) ∙ ap (fall (subject a) (subject-entry (getD ss a no-subject))) (sym there)
       by a false = refl
 
       -- beyond the array nothing stands, nor falls
@@ -254,7 +244,7 @@ module _ (rest : Tables) (ss : List Subject) (os : List Object) (hs : List Handl
               ∙ beyond (subject n) (subject-entry (getD ss n no-subject)) (object-entry (getD os o no-object)) (took (tables-of rest ss os hs) o 32 (subject n))
               (ap subject-entry (List·getD-eq-default ss no-subject {n = n} (omega arith)))
 
--- ── a level that fell ──
+-- ── a label that fell ──
 module _ (rest : Tables) (before after : List Subject) (os : List Object) (hs : List Handle) where
   pub found-lower : (s : ℕ) → s < 32 → sank-by (getD before s no-subject) (getD after s no-subject) ≡ true
       → lowers (tables-of rest before os hs) (tables-of rest after os hs) ≡ true
@@ -267,18 +257,18 @@ module _ (rest : Tables) (before after : List Subject) (os : List Object) (hs : 
       y : Subject
       y = getD after s no-subject
 
-      go : (a : Bool) → eqb (x .live) 0 ≡ a → (b : Bool) → eqb (y .live) 0 ≡ b → cond a false (cond b false (ltb (y .level) (x .level))) ≡ true
+      go : (a : Bool) → eqb (x .live) 0 ≡ a → (b : Bool) → eqb (y .live) 0 ≡ b → cond a false (cond b false (not (leq (label (x .level) (x .shops)) (label (y .level) (y .shops))))) ≡ true
           → lowers (tables-of rest before os hs) (tables-of rest after os hs) ≡ true
       go true d b e z = absurd (subst T (sym z) tt)
       go false d true e z = absurd (subst T (sym z) tt)
       go false d false e z = lowers-some (tables-of rest before os hs) (tables-of rest after os hs) (record {
         thing = subject s;
-        was = entry running (label (x .level));
-        now = entry running (label (y .level));
+        was = entry running (label (x .level) (x .shops));
+        now = entry running (label (y .level) (y .shops));
         stands = lt→ltb s 32 l;
-        there = ap (λ (b : Bool). cond b none (some (entry running (label (x .level))))) d;
-        then = ap (λ (b : Bool). cond b none (some (entry running (label (y .level))))) e;
-        less = not-least-is-below (label (x .level)) (label (y .level)) .1 (rw (level-label (x .level), level-label (y .level)) (ltb-true (y .level) (x .level) z));
+        there = ap (λ (b : Bool). cond b none (some (entry running (label (x .level) (x .shops))))) d;
+        then = ap (λ (b : Bool). cond b none (some (entry running (label (y .level) (y .shops))))) e;
+        less = subst T (sym z) tt;
       })
 
   pub none-lower : length before ≡ 32 → ((s : ℕ) → s < 32 → sank-by (getD before s no-subject) (getD after s no-subject) ≡ false)
@@ -289,12 +279,12 @@ module _ (rest : Tables) (before after : List Subject) (os : List Object) (hs : 
       kept : (x y : Subject) (e d : Entry) → sank-by x y ≡ false → subject-entry x ≡ some e → subject-entry y ≡ some d → e .label ⊑ d .label
       kept x y e d z p r = go (eqb (x .live) 0) (eqb (y .live) 0) z p r
         where
-          go : (a b : Bool) → cond a false (cond b false (ltb (y .level) (x .level))) ≡ false → cond a none (some (entry running (label (x .level)))) ≡ some e
-              → cond b none (some (entry running (label (y .level)))) ≡ some d → e .label ⊑ d .label
+          go : (a b : Bool) → cond a false (cond b false (not (leq (label (x .level) (x .shops)) (label (y .level) (y .shops))))) ≡ false → cond a none (some (entry running (label (x .level) (x .shops)))) ≡ some e
+              → cond b none (some (entry running (label (y .level) (y .shops)))) ≡ some d → e .label ⊑ d .label
           go true b z p r = absurd (Option·none-ne-some e p)
           go false true z p r = absurd (Option·none-ne-some d r)
           go false false z p r = subst₂ (λ (i j : Entry). i .label ⊑ j .label) (Option·some-injective _ e p) (Option·some-injective _ d r)
-              (le→⊑ _ _ (rw (level-label (x .level), level-label (y .level)) (ltb-false (y .level) (x .level) z)))
+              (record { tested = not-not (leq (label (x .level) (x .shops)) (label (y .level) (y .shops))) (subst (λ (w : Bool). T (not w)) (sym z) tt) })
 
       at : (x : Thing) (e d : Entry) → entries before os x ≡ some e → entries after os x ≡ some d → e .label ⊑ d .label
       at (object n) e d p r = subst (λ (i : Entry). e .label ⊑ i .label) (Option·some-injective e d (sym p ∙ r)) ⊑-refl

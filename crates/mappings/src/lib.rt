@@ -1,4 +1,4 @@
-// Mappings on one file: who has it mapped, what these subjects become when it is written to, and whether a level fell by that.
+// Mappings on one file: who has it mapped, what these subjects become when it is written to, and whether a label fell by that.
 ghost use mathlib.Core.Path.{_≡_};
 ghost use mathlib.Core.Bool.{false};
 ghost use mathlib.Core.Option.{some};
@@ -24,6 +24,7 @@ use tables::Object;
 use tables::PLACES;
 use tables::SUBJECTS;
 use tables::Subject;
+use tables::looks;
 
 // s where h is a mapping on object o; SUBJECTS for any other record.
 fn reader(h: Handle, o: u8, s: usize) -> usize
@@ -87,10 +88,10 @@ pub fn reread(
     let leads = groups::leads(subjects, groups);
     let reads = readers(handles, leads, o);
     let all = led(reads, leads);
-    groups::lowered(subjects, all, y.level)
+    groups::lowered(subjects, all, y.level, y.shops)
 }
 
-// A subject that is live before and after, and has a smaller level after.
+// A subject that is live before and after, and whose label has become smaller: its level, or a shop mark alone.
 fn sank(x: Subject, y: Subject) -> bool
     ensures { λ r. ⌜ r ≡ sank-by x y ⌝ }
 {
@@ -100,10 +101,13 @@ fn sank(x: Subject, y: Subject) -> bool
     if y.live == 0 {
         return false;
     }
-    y.level < x.level
+    let was = looks::subject_label(x);
+    let is = looks::subject_label(y);
+    let kept = labels::is_at_most(was, is);
+    !kept
 }
 
-// Some subject has a smaller level after.
+// Some subject has a smaller label after.
 pub fn is_lower(before: [Subject; SUBJECTS], after: [Subject; SUBJECTS]) -> bool
     ensures { λ r. ⌜ ((rest : Tables) (os : List Object) (hs : List Handle) →
         lowers (tables-of rest before os hs) (tables-of rest after os hs) ≡ r) ⌝ }
@@ -122,22 +126,28 @@ pub fn is_lower(before: [Subject; SUBJECTS], after: [Subject; SUBJECTS]) -> bool
 
 // ---- what one takes in, its mates do
 
-// The subjects once one of them has taken something in, and whether some level is smaller by that.
+// The subjects once one of them has taken something in, and whether some label is smaller by that.
 pub struct Taking {
     pub subjects: [Subject; SUBJECTS],
     pub lower: bool,
 }
 
-// Subject s, modulo SUBJECTS, takes in something of this level, and its mates with it.
-pub fn taken(subjects: [Subject; SUBJECTS], groups: [u8; SUBJECTS], s: u64, level: u8) -> Taking
-    ensures tables { λ r. ⌜ ((rest : Tables) (os : List Object) (hs : List Handle) (d : Entry) → s < 32 → rest .kin ≡ kin-of subjects groups → d .label ≡ label level →
+// Subject s, modulo SUBJECTS, takes in something of this label, and its mates with it.
+pub fn taken(
+    subjects: [Subject; SUBJECTS],
+    groups: [u8; SUBJECTS],
+    s: u64,
+    level: u8,
+    shops: u8,
+) -> Taking
+    ensures tables { λ r. ⌜ ((rest : Tables) (os : List Object) (hs : List Handle) (d : Entry) → s < 32 → rest .kin ≡ kin-of subjects groups → d .label ≡ label level shops →
         tables-of rest (r .subjects) os hs ≡ with-at (tables-of rest subjects os hs) (sink (tables-of rest subjects os hs) (subject s) (some d))) ⌝ }
     ensures lower { λ r. ⌜ ((rest : Tables) (os : List Object) (hs : List Handle) →
         lowers (tables-of rest subjects os hs) (tables-of rest (r .subjects) os hs) ≡ r .lower) ⌝ }
     ensures live { λ r. ⌜ ((a : ℕ) → stands (r .subjects) a ≡ stands subjects a) ⌝ }
 {
     let members = groups::members(subjects, groups, s);
-    let after = groups::lowered(subjects, members, level);
+    let after = groups::lowered(subjects, members, level, shops);
     let lower = is_lower(subjects, after);
     Taking {
         subjects: after,

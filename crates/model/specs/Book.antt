@@ -1,5 +1,5 @@
 -- The book: the rules' term for what demand 3 is measured by. (A reference model of the tables with contents.) States RULES B1 to B21, B29 and B30, and
--- of B28 which outside contents differ only below a level.
+-- of B28 which outside contents differ only where they are brought in under a label that is not at least a given one.
 --
 -- What is kept; the handling of data; what each step does to contents; the book run over a list of calls; where contents are
 -- brought in. The book is fed the calls, the outside contents and the handling, and nothing else. Assumes nothing.

@@ -1,4 +1,4 @@
--- The eighteen calls: what each asks, what it tests, what it does, what it answers. States RULES C1 to C18, C101 to C113, C116 and C117, R1 to R10 and R15 to R17,
+-- The eighteen calls: what each asks, what it tests, what it does, what it answers. States RULES C1 to C18, C101 to C113 and C116 to C118, R1 to R10 and R15 to R17,
 -- of the sentences about all refusals RULES R101, R102, R105, R108, R110 and R117 to R123, and RULES T44.
 --
 -- In order: the calls by code; the effect of each row as a list of steps; the conditions of the refusals and which of them each call
@@ -10,7 +10,7 @@ use mathlib.Core.List.{List, [], _∷_, _++_}
 use Prim.Native.Nat.{ℕ, _+_}
 use lib.ListN.{getD, length}
 use lib.Dec.{T, eqb, ltb, leb}
-use Rattle.model.specs.Label.{Label, leq, label, level, highest}
+use Rattle.model.specs.Label.{Label, leq, label, level, in-scale, marks-lost}
 use Rattle.model.specs.Lists.{In, each, keep, any, inserts, only}
 use Rattle.model.specs.Flow.{Thing, subject, object, same}
 use Rattle.model.specs.Tables.{running, file, pipe, Dir, reading, writing, Entry, entry, Handle, handle, mapping, with-mark, Tables, with-numbers, no-freeze, subjects, objects, places, in-range, is-some, used, live, label-of, is-file, a-file, is-pipe, cell, things, handles-of, handles, open-on, needs, safe, mates}
@@ -19,6 +19,7 @@ pub mod Refusals
 pub mod Passed
 pub mod Dangling
 pub mod Scale
+pub mod Vouched
 pub mod Moving
 pub mod Mapped
 pub mod Sound
@@ -34,7 +35,8 @@ pub mod Before
 
 -- ── the calls ──
 pub data Call : Type 0 where
-  admit register create : ℕ → ℕ → Call
+  admit register : ℕ → Label → Call
+  create : ℕ → ℕ → Call
   make-pipe : ℕ → ℕ → ℕ → ℕ → Call
   opens : Dir → ℕ → ℕ → ℕ → Call
   maps : ℕ → ℕ → ℕ → Call
@@ -63,8 +65,8 @@ coded n c = record { code = n; call = c }
 -- RULES C1 to C18: the code, the call and its numbers
 abbrev pub rows : Raw → List Row
 rows r = let a : ℕ = arg 0 r in let b : ℕ = arg 1 r in let c : ℕ = arg 2 r in let d : ℕ = arg 3 r in let e : ℕ = arg 4 r in let f : ℕ = arg 5 r in
-    coded 1 (admit a b)
-    ∷ coded 2 (register a b)
+    coded 1 (admit a (label b c))
+    ∷ coded 2 (register a (label b c))
     ∷ coded 3 (create a b)
     ∷ coded 4 (make-pipe a b c d)
     ∷ coded 5 (opens reading a b c)
@@ -146,8 +148,8 @@ channel t s u a b p q =
 
 -- RULES C1 to C18, C113: the effect, row by row; who is new is in a group of its own, but for a thread
 abbrev pub steps : Tables → Call → List Step
-steps t (admit s n) = enter (subject s) (entry running (label n)) outside ∷ []
-steps t (register o n) = enter (object o) (entry file (label n)) outside ∷ []
+steps t (admit s l) = enter (subject s) (entry running l) outside ∷ []
+steps t (register o l) = enter (object o) (entry file l) outside ∷ []
 steps t (create s o) = enter (object o) (entry file (label-of (t .at (cell t s)))) blank ∷ []
 steps t (make-pipe s o r w) = enter (object o) (entry pipe (label-of (t .at (cell t s)))) blank ∷ hold s r (some (handle reading o)) ∷ hold s w (some (handle writing o)) ∷ []
 steps t (opens d s o p) = hold s p (some (handle d o)) ∷ []
@@ -195,7 +197,8 @@ effect t c = relisted t c (stepped t c)
 -- ── refusals ──
 pub data Test : Type 0 where
   known : Test
-  alive present no-pipe leveled freezable : ℕ → Test
+  alive present no-pipe freezable : ℕ → Test
+  leveled : Label → Test
   new : Thing → Test
   vacant taken apart unlike others : ℕ → ℕ → Test
   facing : Dir → ℕ → ℕ → Test
@@ -256,7 +259,7 @@ broken t (new x) = not (in-range x) || used t x
 broken t (unlike a b) = eqb a b
 broken t (present o) = not (live t (object o))
 broken t (no-pipe o) = is-pipe (object o) (t .at (object o))
-broken t (leveled n) = ltb highest n
+broken t (leveled l) = not (in-scale l)
 broken t (freezable n) = ltb no-freeze n
 broken t (vacant s p) = not (ltb p places) || is-some (t .hand s p)
 broken t (taken s p) = not (ltb p places) || not (is-some (t .hand s p))
@@ -348,17 +351,18 @@ shown t (freeze n) = given n
 shown t (connect s u a b p q) = level-at (cell t s)
 shown t unknown = given 0
 
--- the outcome with the level in the answer, or the number of the refusal (whose level is 0)
+-- the outcome with the level in the answer, of a lowered one also with the number of marks lost, or the number of the refusal (whose level is 0)
 pub data Answer : Type 0 where
-  allowed lowered refused : ℕ → Answer
+  allowed refused : ℕ → Answer
+  lowered : ℕ → ℕ → Answer
 
--- what is there before and after, and has a smaller level after
+-- what is there before and after, and whose label is not kept: its level is smaller, or a mark is lost
 abbrev pub smaller : Option Entry → Option Entry → Bool
 smaller none a = false
 smaller (some b) none = false
 smaller (some b) (some a) = not (leq (b .label) (a .label))
 
--- RULES C104: some thing that is live in t has a smaller level in u
+-- RULES C104: some thing that is live in t has a smaller label in u
 unfoldable pub lowers : Tables → Tables → Bool
 lowers t u = any (λ x. smaller (t .at x) (u .at x)) (things t)
 
@@ -367,13 +371,19 @@ abbrev pub last-label : Option Entry → Option Entry → Label
 last-label b none = label-of b
 last-label b (some a) = a .label
 
--- RULES C104, C105: lowered, or allowed
-abbrev pub outcome : Bool → ℕ → Answer
-outcome b n = cond b (lowered n) (allowed n)
+-- RULES C118: how many marks what is there before and after has lost
+abbrev pub fewer : Option Entry → Option Entry → ℕ
+fewer none a = 0
+fewer (some b) none = 0
+fewer (some b) (some a) = marks-lost (b .label) (a .label)
+
+-- RULES C104, C105, C118: lowered, with the marks lost, or allowed
+abbrev pub outcome : Bool → ℕ → ℕ → Answer
+outcome b n k = cond b (lowered n k) (allowed n)
 
 -- what is said of tables t that became u
 abbrev pub said : Tables → Tables → Shown → Answer
-said t u (level-at x) = outcome (lowers t u) (level (last-label (t .at x) (u .at x)))
+said t u (level-at x) = outcome (lowers t u) (level (last-label (t .at x) (u .at x))) (fewer (t .at x) (u .at x))
 said t u (given n) = allowed n
 
 -- RULES R101, C104, C105: the refusal's number, or the outcome

@@ -9,7 +9,8 @@ use Prim.Native.Nat.{ℕ}
 use lib.ListN.{length, drop}
 use lib.Dec.{T, eqb}
 use Rattle.model.specs.Bools.{both-of}
-use Rattle.model.specs.Label.{Label, label, level, leq, meet, join, bot}
+use Rattle.model.specs.Label.{Label, label, level, in-scale, leq, meet, join, bot, marks-lost}
+use lib.Count.{ones, onesIn}
 use Rattle.model.specs.Flow.{need}
 use Rattle.model.specs.Tables.{empty, used, cell, whole, speaks, things, handles, edges, safe}
 use Rattle.model.specs.Steps.{ended}
@@ -35,14 +36,14 @@ abbrev pub A : ℕ → Answer
 A n = allowed n
 
 abbrev pub L : ℕ → Answer
-L n = lowered n
+L n = lowered n 0
 
 abbrev pub R : ℕ → Answer
 R n = refused n
 
 -- RULES K0
 abbrev pub start : List Raw
-start = call 2 (0 ∷ 9 ∷ []) ∷ call 2 (1 ∷ 2 ∷ []) ∷ call 1 (0 ∷ 9 ∷ []) ∷ []
+start = call 2 (0 ∷ 9 ∷ 255 ∷ []) ∷ call 2 (1 ∷ 2 ∷ 255 ∷ []) ∷ call 1 (0 ∷ 9 ∷ 255 ∷ []) ∷ []
 
 -- RULES K1 to K9: register 2, admit 1, pipe 4, open 5 and 6, read 7, fork 9, exec 10, close 11
 unfoldable pub table : List Case
@@ -50,24 +51,24 @@ table =
     case 1 (calls (call 6 (0 ∷ 0 ∷ 0 ∷ []) ∷ call 5 (0 ∷ 1 ∷ 1 ∷ []) ∷ [])) (A 9 ∷ R 9 ∷ [])
     ∷ case 2 (calls (call 6 (0 ∷ 0 ∷ 0 ∷ []) ∷ call 5 (0 ∷ 1 ∷ 1 ∷ []) ∷ call 11 (0 ∷ 0 ∷ []) ∷ call 5 (0 ∷ 1 ∷ 1 ∷ []) ∷ [])) (A 9 ∷ R 9 ∷ A 9 ∷ A 2 ∷ [])
     ∷ case 3 (calls (call 5 (0 ∷ 1 ∷ 0 ∷ []) ∷ call 6 (0 ∷ 0 ∷ 1 ∷ []) ∷ [])) (A 2 ∷ R 9 ∷ [])
-    ∷ case 4 (calls (call 1 (1 ∷ 8 ∷ []) ∷ call 6 (1 ∷ 0 ∷ 0 ∷ []) ∷ [])) (A 8 ∷ R 9 ∷ [])
-    ∷ case 5 (calls (call 1 (1 ∷ 9 ∷ []) ∷ call 6 (1 ∷ 0 ∷ 0 ∷ []) ∷ [])) (A 9 ∷ A 9 ∷ [])
+    ∷ case 4 (calls (call 1 (1 ∷ 8 ∷ 255 ∷ []) ∷ call 6 (1 ∷ 0 ∷ 0 ∷ []) ∷ [])) (A 8 ∷ R 9 ∷ [])
+    ∷ case 5 (calls (call 1 (1 ∷ 9 ∷ 255 ∷ []) ∷ call 6 (1 ∷ 0 ∷ 0 ∷ []) ∷ [])) (A 9 ∷ A 9 ∷ [])
     ∷ case 6 (calls (call 4 (0 ∷ 2 ∷ 0 ∷ 1 ∷ []) ∷ call 9 (0 ∷ 1 ∷ []) ∷ call 6 (0 ∷ 0 ∷ 2 ∷ []) ∷ call 5 (1 ∷ 1 ∷ 2 ∷ []) ∷ [])) (A 9 ∷ A 9 ∷ A 9 ∷ R 9 ∷ [])
     ∷ case 7 (calls (call 4 (0 ∷ 2 ∷ 0 ∷ 1 ∷ []) ∷ call 9 (0 ∷ 1 ∷ []) ∷ call 11 (0 ∷ 0 ∷ []) ∷ call 11 (1 ∷ 1 ∷ []) ∷ call 6 (0 ∷ 0 ∷ 2 ∷ []) ∷ call 5 (1 ∷ 1 ∷ 2 ∷ []) ∷ [])) (A 9 ∷ A 9 ∷ A 9 ∷ A 9 ∷ A 9 ∷ A 2 ∷ [])
     ∷ case 8 (calls (call 4 (0 ∷ 2 ∷ 0 ∷ 1 ∷ []) ∷ call 9 (0 ∷ 1 ∷ []) ∷ call 11 (0 ∷ 0 ∷ []) ∷ call 11 (1 ∷ 1 ∷ []) ∷ call 6 (0 ∷ 0 ∷ 2 ∷ []) ∷ call 5 (1 ∷ 1 ∷ 2 ∷ []) ∷ call 7 (1 ∷ 2 ∷ []) ∷ call 11 (0 ∷ 2 ∷ []) ∷ [])) (A 9 ∷ A 9 ∷ A 9 ∷ A 9 ∷ A 9 ∷ A 2 ∷ L 2 ∷ A 9 ∷ [])
-    ∷ case 9 (calls (call 2 (2 ∷ 9 ∷ []) ∷ call 6 (0 ∷ 0 ∷ 0 ∷ []) ∷ call 10 (0 ∷ 1 ∷ []) ∷ call 10 (0 ∷ 2 ∷ []) ∷ [])) (A 9 ∷ A 9 ∷ R 9 ∷ A 9 ∷ [])
+    ∷ case 9 (calls (call 2 (2 ∷ 9 ∷ 255 ∷ []) ∷ call 6 (0 ∷ 0 ∷ 0 ∷ []) ∷ call 10 (0 ∷ 1 ∷ []) ∷ call 10 (0 ∷ 2 ∷ []) ∷ [])) (A 9 ∷ A 9 ∷ R 9 ∷ A 9 ∷ [])
     ∷ []
 
 -- ── the table is right ──
 abbrev pub equal : Answer → Answer → Bool
 equal (allowed a) (allowed b) = eqb a b
-equal (allowed a) (lowered b) = false
+equal (allowed a) (lowered b j) = false
 equal (allowed a) (refused b) = false
-equal (lowered a) (allowed b) = false
-equal (lowered a) (lowered b) = eqb a b
-equal (lowered a) (refused b) = false
+equal (lowered a i) (allowed b) = false
+equal (lowered a i) (lowered b j) = eqb a b && eqb i j
+equal (lowered a i) (refused b) = false
 equal (refused a) (allowed b) = false
-equal (refused a) (lowered b) = false
+equal (refused a) (lowered b j) = false
 equal (refused a) (refused b) = eqb a b
 
 abbrev pub all-equal : List Answer → List Answer → Bool
@@ -108,7 +109,7 @@ table-called = tt
 
 -- the table is computed once, where no journal is asked
 computed : right (λ b. []) table ≡ true
-unfolding table Label label level leq meet join bot need used cell whole speaks things handles edges safe decode rereads sheds ended effect refusal lowers answer
+unfolding table Label in-scale marks-lost ones onesIn label level leq meet join bot need used cell whole speaks things handles edges safe decode rereads sheds ended effect refusal lowers answer
 computed = refl
 
 -- K1 to K9

@@ -16,8 +16,7 @@ pub mod Mappings
 pub mod Reads
 pub mod Top
 
--- RULES F4, R9: x reaches, through open handles, a file that a thing of label a must not reach: one of a higher level
--- (of labels that are levels, `not (leq b a)` says that a's level is below b's: `Label.Laws`, `not-least-is-below`)
+-- RULES F4, R9: x reaches, through open handles, a file that a thing of label a must not reach: one whose label a is not at least
 pub record Leaks (u : Tables) (a : Label) (x : Thing) : Type 0 where
   pub high : Thing
   pub high-entry : Entry
@@ -26,7 +25,7 @@ pub record Leaks (u : Tables) (a : Label) (x : Thing) : Type 0 where
   pub higher : T (not (leq (high-entry .label) a))
   pub reaches : Reaches (edges u) x high
 
--- RULES R9, R109: some live thing reaches a file of a higher level
+-- RULES R9, R109: some live thing reaches a file whose label its own is not at least
 pub record Offends (u : Tables) : Type 0 where
   pub low : Thing
   pub low-live : T (live u low)

@@ -6,7 +6,7 @@ use mathlib.Core.Option.{some}
 use mathlib.Core.List.{List, [], _∷_}
 use Prim.Native.Nat.{ℕ, _<_, _≤_}
 use lib.Dec.{T, eqb}
-use Rattle.model.specs.Label.{highest, in-scale, _⊑_}
+use Rattle.model.specs.Label.{Label, highest, every-shop, shops, in-scale, _⊑_}
 use Rattle.model.specs.Lists.{In}
 use Rattle.model.specs.Flow.{Thing, subject, object}
 use Rattle.model.specs.Tables.{reading, Entry, Handle, Tables, no-freeze, places, in-range, live, label-of, a-file, is-pipe, cell, handles, open-on, needs}
@@ -33,11 +33,11 @@ pub record Wf (t : Tables) : Type 0 where
   pub ranged : (x : Thing) (e : Entry) → t .at x ≡ some e → T (in-range x)
   pub teams : Teams t
 
--- RULES F8: each live thing's level is at least its need
+-- RULES F8: each live thing's label is at least its need
 pub record Safe (t : Tables) : Type 0 where
   pub above : (x : Thing) (e : Entry) → t .at x ≡ some e → needs t x ⊑ e .label
 
--- RULES T48: the members of a group have one level
+-- RULES T48: the members of a group have one label
 pub record Even (t : Tables) : Type 0 where
   pub one-level : (a b : ℕ) → T (t .kin a b) → label-of (t .at (subject a)) ≡ label-of (t .at (subject b))
 
@@ -45,9 +45,17 @@ pub record Even (t : Tables) : Type 0 where
 pub record Piped (t : Tables) : Type 0 where
   pub joined : (o : ℕ) → T (is-pipe (object o) (t .at (object o))) → T (open-on (handles t) o)
 
--- RULES T27: each live thing's label is one that a call may name: its level is 0 to 15
-pub record Scaled (t : Tables) : Type 0 where
-  pub within : (x : Thing) (e : Entry) → t .at x ≡ some e → T (in-scale (e .label))
+-- each live thing's label is a P
+pub record Labelled (P : Label → Type 0) (t : Tables) : Type 0 where
+  pub within : (x : Thing) (e : Entry) → t .at x ≡ some e → P (e .label)
+
+-- RULES T27: one that a call may name: its level is 0 to 15, and its set 0 to 255
+abbrev pub Scaled : Tables → Type 0
+Scaled = Labelled (λ a. T (in-scale a))
+
+-- RULES T53: one with every mark
+abbrev pub Vouched : Tables → Type 0
+Vouched = Labelled (λ a. shops a ≡ every-shop)
 
 -- RULES T34: the freeze is a level or says that there is none
 pub record Frozen (t : Tables) : Type 0 where
@@ -91,10 +99,10 @@ topmost (freeze n) = no-freeze
 topmost (connect s u a b p q) = highest
 topmost unknown = highest
 
--- RULES T27, R112: the answer to a call gives a level of 0 to 15, to a freeze 0 to 16, or the number of a refusal that calls have
+-- RULES T27, R112: the answer to a call gives a level of 0 to 15 and at most eight marks lost, to a freeze 0 to 16, or the number of a refusal that calls have
 abbrev pub Sayable : Call → Answer → Type 0
 Sayable c (allowed l) = l ≤ topmost c
-Sayable c (lowered l) = l ≤ highest
+Sayable c (lowered l k) = (l ≤ highest) × (k ≤ 8)
 Sayable c (refused n) = In n order
 
 -- and so in a list of calls with their answers

@@ -2,6 +2,7 @@
 pub mod Cases
 pub mod Bools
 pub mod Lists
+pub mod Sets
 pub mod Label
 pub mod Flow
 pub mod Tables

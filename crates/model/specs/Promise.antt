@@ -1,7 +1,7 @@
 -- What one call of a monitor promises towards the rules. States RULES T15, T16, T19, T23, F12 to F14, F20 and R102.
 --
 -- A monitor is a value of any type with a view of it as tables. What of it the view does not read is its *free part*: of the struct of arrays,
--- the level and the kept need of a subject that is not live, those and the number of a free slot, the slot and mark at an empty place, for the tables have none
+-- the label and the kept need of a subject that is not live, those and the number of a free slot, the slot and mark at an empty place, for the tables have none
 -- there; which slot an object stands in, for the tables have it by its number; and which of the bytes that mean the same (RULES T29 to T31, T36) a record has. What
 -- an allowed call leaves in the free part is not promised, nor what the empty monitor has there. The kept needs of live things are free likewise in a monitor that
 -- is not right, and only there (RULES F13). On honest monitors no answer and no later tables go by any of it (`free-unseen` in Promise/Laws), and a refused call

@@ -1,4 +1,4 @@
--- The primitive steps that calls are made of, and what each does to the tables. States RULES C102 and C114 to C116, and how a level falls in
+-- The primitive steps that calls are made of, and what each does to the tables. States RULES C102 and C114 to C116, and how a label falls (T51) in
 -- RULES C7, C8, C10 and C14. What a step does to contents is in `Book`. Assumes nothing.
 use mathlib.Core.Bool.{Bool, true, false, not, _||_, _&&_, cond}
 use mathlib.Core.Option.{Option, none, some}
@@ -65,7 +65,7 @@ abbrev pub bound : ℕ → ℕ → (ℕ → ℕ → Bool) → ℕ → ℕ → Bo
 bound c s k a b = k (stand-in c s a) (stand-in c s b)
 
 -- ── falling ──
--- RULES T7, T8, T9: whose level may fall; a file's stays
+-- RULES T7, T8, T9: whose label may fall; a file's stays
 abbrev pub falls : Thing → Kind → Bool
 falls (subject n) k = true
 falls (object n) running = false

@@ -215,7 +215,7 @@ demand x (some e) = cond (is-file x (e .kind)) (e .label) bot
 abbrev pub needs : Tables → Thing → Label
 needs t x = need (λ y. demand y (t .at y)) (edges t) x
 
--- RULES F8, R9, R109: no live thing has a level below its need
+-- RULES F8, R9, R109: no live thing has a label below its need
 unfoldable pub safe : Tables → Bool
 safe t = let es : List Edge = edges t in not (any (λ x. not (leq (need (λ y. demand y (t .at y)) es x) (label-of (t .at x)))) (things t))
 

@@ -1,9 +1,11 @@
-// Flows as a list of edges between things, and figures that are raised along them in passes over the list until they fall along every one: from any
-// figures, the least ones that do. A thing is a number below 96.
+// Flows as a list of edges between things, and figures, each a label, that are raised along them in passes over the list until they fall along every one:
+// from any figures, the least ones that do. A thing is a number below 96.
 ghost use mathlib.Core.Path.{_≡_};
 ghost use mathlib.Core.Bool.{true, false};
-ghost use Prim.Native.Nat.{_≤_, _<_};
-ghost use Rattle.passes.specs.Least.{figure, Settled, Between, Passed, Before};
+ghost use Prim.Native.Nat.{_<_};
+ghost use Rattle.model.specs.Label.{_⊑_};
+ghost use Rattle.labels.specs.Codes.{coded};
+ghost use Rattle.passes.specs.Least.{figure, end-at, Settled, Between, Passed, Before};
 ghost use Rattle.passes.specs.Listing.{Bounded, Listed};
 use tables::EMPTY;
 use tables::HANDLES;
@@ -23,20 +25,20 @@ pub struct Edges {
 
 // Figures after a pass, and whether one of them grew.
 pub struct Round {
-    pub figures: [u8; THINGS],
+    pub figures: [u16; THINGS],
     pub grew: bool,
 }
 
 // Figures, and whether they fall along every flow.
 pub struct Raised {
-    pub figures: [u8; THINGS],
+    pub figures: [u16; THINGS],
     pub still: bool,
 }
 
-// The flows of the handles, in the order of their places: of those whose source has the figure `need`. A subject counts as its lead, modulo SUBJECTS, so that a group
-// is one thing. (Both ends are worked out once here, and not in each pass.)
-pub fn listed(handles: [Handle; HANDLES], leads: [u8; SUBJECTS], n: [u8; THINGS], need: u8) -> Edges
-    ensures { λ r. ⌜ Listed leads handles n need (r .from) (r .to) (r .count) 512 ⌝ }
+// The flows of the handles, in the order of their places. A subject counts as its lead, modulo SUBJECTS, so that a group is one thing. (Both ends are worked
+// out once here, and not in each pass.)
+pub fn listed(handles: [Handle; HANDLES], leads: [u8; SUBJECTS]) -> Edges
+    ensures { λ r. ⌜ Listed leads handles (r .from) (r .to) (r .count) 512 ⌝ }
 {
     let mut from = [0u8; HANDLES];
     let mut to = [0u8; HANDLES];
@@ -45,7 +47,6 @@ pub fn listed(handles: [Handle; HANDLES], leads: [u8; SUBJECTS], n: [u8; THINGS]
     while s < SUBJECTS {
         let base = s * PLACES;
         let lead = leads[s] as usize % SUBJECTS;
-        let writes = n[lead] == need;
         let mut p: usize = 0;
         while p < PLACES {
             let at = base + p;
@@ -53,18 +54,13 @@ pub fn listed(handles: [Handle; HANDLES], leads: [u8; SUBJECTS], n: [u8; THINGS]
             if h.way != EMPTY {
                 let o = SUBJECTS + h.object as usize % OBJECTS;
                 if looks::is_reading(h.way) {
-                    if n[o] == need {
-                        from[count] = o as u8;
-                        to[count] = lead as u8;
-                        count += 1;
-                    }
+                    from[count] = o as u8;
+                    to[count] = lead as u8;
                 } else {
-                    if writes {
-                        from[count] = lead as u8;
-                        to[count] = o as u8;
-                        count += 1;
-                    }
+                    from[count] = lead as u8;
+                    to[count] = o as u8;
                 }
+                count += 1;
             }
             p += 1;
         }
@@ -77,11 +73,11 @@ pub fn listed(handles: [Handle; HANDLES], leads: [u8; SUBJECTS], n: [u8; THINGS]
     }
 }
 
-// One pass over the list, from the first edge to the last: the source of each takes its target's figure where that is higher. The inner loop finds the next such
-// edge.
-fn pass(e: Edges, figures: [u8; THINGS]) -> Round
+// One pass over the list, from the first edge to the last: the source of each takes its target's figure in, where it has not got it. The inner loop finds
+// the next such edge.
+fn pass(e: Edges, figures: [u16; THINGS]) -> Round
     requires { ⌜ Bounded (e .from) (e .to) (e .count) ⌝ }
-    ensures { λ r. ⌜ Passed (e .count) (figure (e .from)) (figure (e .to)) figures (r .figures) (Before (e .count)) (r .grew) ⌝ }
+    ensures { λ r. ⌜ Passed (e .count) (end-at (e .from)) (end-at (e .to)) figures (r .figures) (Before (e .count)) (r .grew) ⌝ }
 {
     let mut next = figures;
     let mut grew = false;
@@ -90,7 +86,9 @@ fn pass(e: Edges, figures: [u8; THINGS]) -> Round
         while i < e.count {
             let a = e.from[i] as usize;
             let b = e.to[i] as usize;
-            if next[a] < next[b] {
+            let mine = next[a];
+            let its = next[b];
+            if !labels::is_at_most(its, mine) {
                 break;
             }
             i += 1;
@@ -103,16 +101,18 @@ fn pass(e: Edges, figures: [u8; THINGS]) -> Round
         }
         let start = e.from[i] as usize;
         let end = e.to[i] as usize;
-        next[start] = next[end];
+        let had = next[start];
+        let takes = next[end];
+        next[start] = labels::joined(had, takes);
         grew = true;
         i += 1;
     }
 }
 
 // And one from the last to the first.
-pub fn pass_back(e: Edges, figures: [u8; THINGS]) -> Round
+pub fn pass_back(e: Edges, figures: [u16; THINGS]) -> Round
     requires { ⌜ Bounded (e .from) (e .to) (e .count) ⌝ }
-    ensures { λ r. ⌜ Passed (e .count) (figure (e .from)) (figure (e .to)) figures (r .figures) (Before (e .count)) (r .grew) ⌝ }
+    ensures { λ r. ⌜ Passed (e .count) (end-at (e .from)) (end-at (e .to)) figures (r .figures) (Before (e .count)) (r .grew) ⌝ }
 {
     let mut next = figures;
     let mut moved = false;
@@ -122,7 +122,9 @@ pub fn pass_back(e: Edges, figures: [u8; THINGS]) -> Round
             let i = left - 1;
             let a = e.from[i] as usize;
             let b = e.to[i] as usize;
-            if next[a] < next[b] {
+            let mine = next[a];
+            let its = next[b];
+            if !labels::is_at_most(its, mine) {
                 break;
             }
             left = i;
@@ -136,20 +138,22 @@ pub fn pass_back(e: Edges, figures: [u8; THINGS]) -> Round
         let j = left - 1;
         let start = e.from[j] as usize;
         let end = e.to[j] as usize;
-        next[start] = next[end];
+        let had = next[start];
+        let takes = next[end];
+        next[start] = labels::joined(had, takes);
         moved = true;
         left = j;
     }
 }
 
 // Passes by turns, until one of them finds nothing to raise: a chain along the order of the places or against it takes one. Where `stops`, they end
-// as soon as the figure of thing `at` is `enough`, too.
-pub fn worked(e: Edges, start: [u8; THINGS], stops: bool, at: usize, enough: u8) -> Raised
+// as soon as the figure of thing `at` is at least `enough`, too.
+pub fn worked(e: Edges, start: [u16; THINGS], stops: bool, at: usize, enough: u16) -> Raised
     requires bounded { ⌜ Bounded (e .from) (e .to) (e .count) ⌝ }
     requires low { ⌜ at < 96 ⌝ }
-    ensures between { λ r. ⌜ Between (e .count) (figure (e .from)) (figure (e .to)) start (r .figures) ⌝ }
-    ensures still { λ r. ⌜ (r .still ≡ true → Settled (figure (e .from)) (figure (e .to)) (figure (r .figures)) (Before (e .count))) ⌝ }
-    ensures stopped { λ r. ⌜ (r .still ≡ false → (stops ≡ true) × (enough ≤ figure (r .figures) at)) ⌝ }
+    ensures between { λ r. ⌜ Between (e .count) (end-at (e .from)) (end-at (e .to)) start (r .figures) ⌝ }
+    ensures still { λ r. ⌜ (r .still ≡ true → Settled (end-at (e .from)) (end-at (e .to)) (figure (r .figures)) (Before (e .count))) ⌝ }
+    ensures stopped { λ r. ⌜ (r .still ≡ false → (stops ≡ true) × (coded enough ⊑ figure (r .figures) at)) ⌝ }
 {
     let mut figures = start;
     loop {
@@ -162,7 +166,8 @@ pub fn worked(e: Edges, start: [u8; THINGS], stops: bool, at: usize, enough: u8)
             };
         }
         if stops {
-            if enough <= forth[at] {
+            let there = forth[at];
+            if labels::is_at_most(enough, there) {
                 return Raised {
                     figures: forth,
                     still: false,

@@ -1,20 +1,21 @@
 -- A close on a monitor's parts: refused, left where its ends do not tell that no need changes or where it ends a pipe, and done else. Assumes nothing.
-use mathlib.Core.Path.{_≡_, refl, sym, _∙_, ap, ap₂, subst, subst₂}
-use mathlib.Core.Bool.{Bool, true, false, not, _&&_, _||_, cond}
+use mathlib.Core.Path.{_≡_, refl, sym, _∙_, ap, subst, subst₂}
+use mathlib.Core.Bool.{Bool, true, false, cond}
 use mathlib.Core.Logic.{_⊎_, inl, inr}
 use mathlib.Core.Option.{none, some, Option·none-ne-some, Option·some-injective}
 use mathlib.Core.List.{List}
 use Prim.Native.Nat.{ℕ, _+_, _*_, _%_, _≤_, _<_}
 use native.Mathlib.Omega.{arith}
 use native.Mathlib.Decide.{ℕ-discrete, decLt}
-use borrow.Author.Tests.{eq-eqb, ne-eqb, lt-ltb, le-ltb, le-leb}
+use borrow.Author.Tests.{lt-ltb, le-ltb}
 use lib.ListN.{length, getD, set, length-set}
 use lib.Seq.{getD-set-same, getD-set-other, ext-getD}
-use lib.Dec.{eqb, ltb, ltb→lt}
-use Rattle.model.specs.Label.{Label, label, level, _⊑_, bot}
-use Rattle.model.specs.Label.Laws.{level-label, ⊑→le, ⊑-antisym, label-zero, bot-least}
+use lib.Dec.{T, ltb, ltb→lt}
+use Rattle.model.specs.Bools.{is-true}
+use Rattle.model.specs.Label.{Label, bot}
+use Rattle.labels.specs.Codes.{coded}
 use Rattle.model.specs.Flow.{subject, object}
-use Rattle.model.specs.Tables.{file, pipe, reading, writing, entry, Tables, empty, with-hand, handles, open-on, demand, needs}
+use Rattle.model.specs.Tables.{reading, writing, Tables, empty, with-hand, handles, open-on, arc, demand, needs}
 use Rattle.model.specs.Tables.{Handle as Held}
 use Rattle.model.specs.Tables.Laws.{live-of}
 use Rattle.model.specs.Tables.Laws.{object-entry as live-entry}
@@ -33,9 +34,10 @@ use Rattle.refusals.specs.Refusing.{Refuses}
 use Rattle.tables.specs.Working.{subject-at, object-at, handle-at, Outlives}
 use Rattle.handles.specs.Working.{on}
 use Rattle.handles.proofs.Opening.{found, none-found}
-use Rattle.passes.specs.Working.{demands}
+use Rattle.passes.specs.Working.{demanded-by, spare-by, backed-by}
+use Rattle.flows.proofs.Nodes.{demands-as}
 use Rattle.passes.proofs.Raising.{true-false}
-use Rattle.keeping.proofs.Closing.{mine-is, its-is, apart-ready, zero-ready, backed-ready, object-then}
+use Rattle.keeping.proofs.Closing.{mine-is, its-is, end-figure, source-figure, backed-kept}
 use Rattle.gatekeeper.specs.declared.Monitor.{Monitor}
 use Rattle.gatekeeper.specs.View.{beside, slots, view, Apart, Honest, direct}
 use Rattle.gatekeeper.specs.Numbering.{Lift}
@@ -124,72 +126,33 @@ module _ (gs : List ℕ) (lg : length gs ≡ 32) (ns sb ob hb nb cs : List ℕ) 
     its = getD nb (32 + h .object % 64) 0
 
     abbrev quiet-test : Bool
-    quiet-test = not (eqb mine its) || (eqb mine 0 || (reads-by (h .way) && demands y mine))
+    quiet-test = spare-by (coded (cond (reads-by (h .way)) mine its)) (coded (cond (reads-by (h .way)) its mine)) (backed-by h y)
 
-    -- what the ends tell is what the quick tests ask
+    -- what the ends tell is what the quick test asks
     module _ (e : Ends (slots m) s p (joins h)) where
       lower : h .object < 64
       lower = slot-low (beside m) (m .subjects) (m .objects) (m .handles) (g .objects) (slots m) (h .object) refl (e .to)
 
-      own-is : label mine ≡ needs (slots m) (subject s)
+      own-is : coded mine ≡ needs (slots m) (subject s)
       own-is = mine-is nb (slots m) s p h e (i one .2) lower
 
-      other-is : label its ≡ needs (slots m) (object (h .object))
+      other-is : coded its ≡ needs (slots m) (object (h .object))
       other-is = its-is nb (slots m) s p h e (i one .2) lower
 
-      by-least : needs (slots m) (subject s) ≡ bot → quiet-test ≡ true
-      by-least b = second (not (eqb mine its)) (eqb mine 0) (reads-by (h .way) && demands y mine)
-          (eq-eqb mine 0 (sym (level-label mine) ∙ ap level (own-is ∙ b ∙ sym label-zero) ∙ level-label 0))
-        where
-          second : (a b c : Bool) → b ≡ true → (a || (b || c)) ≡ true
-          second true b c q = refl
-          second false true c q = refl
-          second false false c q = true-false (sym q)
-
-      by-file : (joins h .dir ≡ reading) × (needs (slots m) (subject s) ⊑ demand (object (h .object)) (slots m .at (object (h .object)))) → quiet-test ≡ true
-      by-file (d, v) = go (ℕ-discrete (y .kind) 1)
-        where
-          entry-is : slots m .at (object (h .object)) ≡ object-entry y
-          entry-is = object-got m g (h .object) y ey
-
-          third : (a b c : Bool) → c ≡ true → (a || (b || c)) ≡ true
-          third true b c q = refl
-          third false true c q = refl
-          third false false c q = q
-
-          reads-it : (r : Bool) → cond r reading writing ≡ reading → r ≡ true
-          reads-it true q = refl
-          reads-it false q = let w : _≡_ {A = ℕ} 0 1 = cc in absurd (omega arith)
-
-          no-file : (b : Bool) → demand (object (h .object)) (cond b none (some (entry pipe (label (y .level))))) ≡ bot
-          no-file true = refl
-          no-file false = refl
-
-          go : Dec (y .kind ≡ 1) → quiet-test ≡ true
-          go (yes q) = third (not (eqb mine its)) (eqb mine 0) (reads-by (h .way) && demands y mine)
-              (ap₂ (λ (a b : Bool). a && b) (reads-it (reads-by (h .way)) d) (ap₂ (λ (a b : Bool). a && b) (eq-eqb (y .kind) 1 q) (le-leb mine (y .level) enough)))
-            where
-              asks : demand (object (h .object)) (slots m .at (object (h .object))) ≡ label (y .level)
-              asks = ap (demand (object (h .object))) entry-is ∙ rw q
-
-              under : label mine ⊑ label (y .level)
-              under = subst₂ (λ (a b : Label). a ⊑ b) (sym own-is) asks v
-
-              enough : mine ≤ y .level
-              enough = omega (arith, ⊑→le (label mine) (label (y .level)) under, level-label mine, level-label (y .level))
-          go (no q) = by-least (⊑-antisym (subst (λ (a : Label). needs (slots m) (subject s) ⊑ a) asks v) bot-least)
-            where
-              asks : demand (object (h .object)) (slots m .at (object (h .object))) ≡ bot
-              asks = ap (demand (object (h .object))) entry-is
-                  ∙ ap (λ (b : Bool). demand (object (h .object)) (cond (eqb (y .kind) 0) none (some (entry (cond b file pipe) (label (y .level)))))) (ne-eqb (y .kind) 1 q)
-                  ∙ no-file (eqb (y .kind) 0)
+      asks : demand (object (h .object)) (slots m .at (object (h .object))) ≡ demanded-by y
+      asks = ap (demand (object (h .object))) (object-got m g (h .object) y ey) ∙ demands-as (h .object) y
 
       by-loose : Loose (slots m) s (joins h) → quiet-test ≡ true
-      by-loose (inl d) = ap (λ (b : Bool). not b || (eqb mine 0 || (reads-by (h .way) && demands y mine))) (ne-eqb mine its (λ q. d (sym own-is ∙ ap label q ∙ other-is)))
-      by-loose (inr (inl b)) = by-least b
-      by-loose (inr (inr f)) = by-file f
+      by-loose = go (reads-by (h .way))
+        where
+          go : (r : Bool) → T (spare-by (needs (slots m) (arc (cond r reading writing) (subject s) (object (h .object)) .dst)) (needs (slots m) (arc (cond r reading writing) (subject s) (object (h .object)) .src))
+              (elim (cond r reading writing) as (λ _. Label) [ reading ↦ demand (object (h .object)) (slots m .at (object (h .object))) | writing ↦ bot ]))
+              → spare-by (coded (cond r mine its)) (coded (cond r its mine)) (cond r (demanded-by y) bot) ≡ true
+          go true z = is-true (spare-by (coded mine) (coded its) (demanded-by y)) (rw (own-is, other-is, sym asks) z)
+          go false z = is-true (spare-by (coded its) (coded mine) bot) (rw (own-is, other-is) z)
 
-    pub close-loud : (not (eqb (getD nb (s % 32) 0) (getD nb (32 + h .object % 64) 0)) || (eqb (getD nb (s % 32) 0) 0 || (reads-by (h .way) && demands y (getD nb (s % 32) 0)))) ≡ false
+    pub close-loud : spare-by (coded (cond (reads-by (h .way)) (getD nb (s % 32) 0) (getD nb (32 + h .object % 64) 0)))
+        (coded (cond (reads-by (h .way)) (getD nb (32 + h .object % 64) 0) (getD nb (s % 32) 0))) (backed-by h y) ≡ false
         → Settles (view (monitor-in gs ns sb ob hb nb fz su)) (decode (direct 11 s p 0 0 0 0)) 0
     close-loud q = left (λ k there loose stays. true-false (sym (by-loose (its-ends k there) (subst (Loose (slots m) s) (same-handle k there) loose)) ∙ q))
 
@@ -246,7 +209,8 @@ module _ (gs : List ℕ) (lg : length gs ≡ 32) (ns sb ob hb nb cs : List ℕ) 
 
   -- the object outlives the handle, and no need changes
   module _ (z : n ≡ 0) (y : Object) (ey : y ≡ object-at (h .object) (getD (objects-in ob) (h .object % 64) no-object))
-      (quiet : (not (eqb (getD nb (s % 32) 0) (getD nb (32 + h .object % 64) 0)) || (eqb (getD nb (s % 32) 0) 0 || (reads-by (h .way) && demands y (getD nb (s % 32) 0)))) ≡ true)
+      (quiet : spare-by (coded (cond (reads-by (h .way)) (getD nb (s % 32) 0) (getD nb (32 + h .object % 64) 0)))
+      (coded (cond (reads-by (h .way)) (getD nb (32 + h .object % 64) 0) (getD nb (s % 32) 0))) (backed-by h y) ≡ true)
       (at : ℕ) (ea : at ≡ s % 32 * 16 + p % 16) (out : (y .kind < 2) ⊎ Beside (handles-in hb) (h .object) at) where
     hs : List Handle
     hs = set (handles-in hb) (s % 32 * 16 + p % 16) no-handle
@@ -263,19 +227,11 @@ module _ (gs : List ℕ) (lg : length gs ≡ 32) (ns sb ob hb nb cs : List ℕ) 
             still : on (getD hs (b .index) no-handle) (h .object) ≡ true
             still = ap (λ (j : Handle). on j (h .object)) (getD-set-other (handles-in hb) (s % 32 * 16 + p % 16) (b .index) no-handle no-handle (λ q. b .apart (q ∙ sym ea))) ∙ b .is-on
 
-    -- the quick tests, one by one
+    -- the quick test, on the figures of the two ends
     kept : (rest : Tables) (ss : List Subject) (t : Tables) (p : ℕ) → Wf t → t .hand s p ≡ some (joins h) → tables-of rest ss (objects-in ob) hs ≡ apply (hold s p none) t
         → Ready t (figure-of nb) → Ready (tables-of rest ss (objects-in ob) hs) (figure-of nb)
-    kept rest ss t p v j q k = subst (λ (u : Tables). Ready u (figure-of nb)) (sym q) (go (ℕ-discrete (getD nb (s % 32) 0) (getD nb (32 + h .object % 64) 0)) (ℕ-discrete (getD nb (s % 32) 0) 0))
-      where
-        low : h .object < 64
-        low = slot-low rest ss (objects-in ob) hs (length-objects ob) t (h .object) (ap (λ (u : Tables). u .at (object (h .object))) q) (v .ends s p (joins h) j .to)
-
-        go : Dec (getD nb (s % 32) 0 ≡ getD nb (32 + h .object % 64) 0) → Dec (getD nb (s % 32) 0 ≡ 0) → Ready (apply (hold s p none) t) (figure-of nb)
-        go (no e) d = apart-ready nb t s p h v j k low e
-        go (yes e) (yes o) = zero-ready nb t s p h v j k low e o
-        go (yes e) (no o) = backed-ready nb t s p h v j k low y (object-then rest ss (objects-in ob) hs t s p (h .object) y (length-objects ob) q ey)
-            (sym (ap₂ (λ (a b : Bool). not a || (b || (reads-by (h .way) && demands y (getD nb (s % 32) 0)))) (eq-eqb _ _ e) (ne-eqb _ 0 o)) ∙ quiet)
+    kept rest ss t p v j q k = backed-kept rest ss (objects-in ob) hs (length-objects ob) nb t s p h v j k q y ey
+        (subst₂ (λ (a b : ℕ). spare-by (coded a) (coded b) (backed-by h y) ≡ true) (end-figure nb h s refl refl refl refl) (source-figure nb h s refl refl refl refl) quiet)
 
     acted : (hb′ : List ℕ) → handles-in hb′ ≡ set (handles-in hb) (s % 32 * 16 + p % 16) no-handle → Wf (slots m) → Acts m c (allowed (x .level)) (monitor-in gs ns sb ob hb′ nb fz su)
     unfolding hs

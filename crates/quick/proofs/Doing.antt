@@ -19,7 +19,7 @@ use Rattle.tables.specs.declared.Object.{Object}
 use Rattle.gatekeeper.specs.declared.Monitor.{Monitor}
 use Rattle.answers.specs.declared.Answer.{Answer}
 use Rattle.answers.specs.declared.Answer.the-variants.{Allowed, Refused}
-use Rattle.answers.specs.Telling.{told, letter-of, value-of}
+use Rattle.answers.specs.Telling.{told, letter-of, value-of, lost-of}
 use Rattle.gatekeeper.specs.View.{slots, numbers-of, once, view, Apart, Honest, Tidy, monitors}
 use Rattle.gatekeeper.specs.Numbering.{Lift}
 use Rattle.gatekeeper.specs.Acting.{Firm, Acts, Keeps, settled}
@@ -127,7 +127,7 @@ module _ (gs : List ℕ) (lg : length gs ≡ 32) (ns sb ob hb nb cs : List ℕ) 
 -- what was done is settled: its number is the answer's
 pub done-settles : (m : Monitor) {y y′ : Tally} {m′ : Monitor} {r : Raw} {n : ℕ} → Long m → Honest m → 0 < n → Done m y r n m′ y′ → Settles (view m) (decode r) n
 done-settles m {r = r} g h l d = record {
-  refusing = λ k q z. d .number ∙ ap (λ (a : Told). 256 * letter-of a + value-of a)
+  refusing = λ k q z. d .number ∙ ap (λ (a : Told). 65536 * lost-of a + 256 * letter-of a + value-of a)
       (d .meets .answered h ∙ ap (λ (u : Tables). answer u (decode r)) (view-read m (g .objects) (read-wf (once m) (once-long m g))) ∙ answered-refused (view m) (decode r) k .1 q);
   opening = λ d s o p e f g. l;
   closing = λ s p k e f g i j. l;

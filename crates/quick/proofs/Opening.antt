@@ -8,11 +8,12 @@ use mathlib.Core.List.{List, [], _∷_}
 use Prim.Native.Nat.{ℕ, _+_, _*_, _%_, _<_}
 use native.Mathlib.Omega.{arith}
 use native.Mathlib.Decide.{ℕ-discrete}
-use borrow.Author.Tests.{eq-eqb, ne-eqb, le-leb}
+use borrow.Author.Tests.{eq-eqb, ne-eqb}
 use lib.ListN.{length, getD, set}
-use lib.Dec.{T, eqb, leb, ltb→lt}
-use Rattle.model.specs.Label.{Label, label, _⊑_}
-use Rattle.model.specs.Label.Laws.{level-label, ⊑→le}
+use lib.Dec.{T, eqb, ltb→lt}
+use Rattle.model.specs.Bools.{is-true}
+use Rattle.model.specs.Label.{Label, leq, _⊑_}
+use Rattle.labels.specs.Codes.{coded}
 use Rattle.model.specs.Lists.{In}
 use Rattle.model.specs.Flow.{Thing, subject, object}
 use Rattle.model.specs.Flow.Laws.{need-flow}
@@ -115,20 +116,20 @@ module _ (nb : List ℕ) (t : Tables) (r : Bool) (s o p : ℕ) (low : o < 64) (w
   ends-any : Ends t s p (joins any-way)
   ends-any = record { from = live-s; to = live-o; place = low-p }
 
-  mine-now : needs u (subject s) ≡ label (getD nb (s % 32) 0)
+  mine-now : needs u (subject s) ≡ coded (getD nb (s % 32) 0)
   mine-now = still (subject s) live-s ∙ sym (mine-is nb t s p any-way ends-any k low)
 
-  its-now : needs u (object o) ≡ label (getD nb (32 + o % 64) 0)
+  its-now : needs u (object o) ≡ coded (getD nb (32 + o % 64) 0)
   its-now = still (object o) live-o ∙ sym (its-is nb t s p any-way ends-any k low)
 
-  at-most : (a b : ℕ) → label a ⊑ label b → leb a b ≡ true
-  at-most a b h = le-leb a b (omega (arith, ⊑→le (label a) (label b) h, level-label a, level-label b))
+  at-most : (a b : Label) → a ⊑ b → leq a b ≡ true
+  at-most a b h = is-true (leq a b) (h .tested)
 
-  pub stay-falls : falls-by r (getD nb (s % 32) 0) (getD nb (32 + o % 64) 0) ≡ true
+  pub stay-falls : falls-by r (coded (getD nb (s % 32) 0)) (coded (getD nb (32 + o % 64) 0)) ≡ true
   stay-falls = go r falls
     where
       go : (r : Bool) → needs u (flow (subject s) (handle (direction r) o) .dst) ⊑ needs u (flow (subject s) (handle (direction r) o) .src)
-          → falls-by r (getD nb (s % 32) 0) (getD nb (32 + o % 64) 0) ≡ true
+          → falls-by r (coded (getD nb (s % 32) 0)) (coded (getD nb (32 + o % 64) 0)) ≡ true
       go true f = at-most _ _ (subst₂ (λ (a b : Label). a ⊑ b) mine-now its-now f)
       go false f = at-most _ _ (subst₂ (λ (a b : Label). a ⊑ b) its-now mine-now f)
 
@@ -189,7 +190,7 @@ module _ (gs : List ℕ) (lg : length gs ≡ 32) (ns sb ob hb nb cs : List ℕ) 
 
     module _ (warm : frozen ≡ false) where
       -- it is left: the flow does not fall
-      pub open-left : falls-by (eqb code 5) (getD nb (s % 32) 0) (getD nb (32 + o % 64) 0) ≡ false → Honest (monitor-in gs ns sb ob hb nb fz su)
+      pub open-left : falls-by (eqb code 5) (coded (getD nb (s % 32) 0)) (coded (getD nb (32 + o % 64) 0)) ≡ false → Honest (monitor-in gs ns sb ob hb nb fz su)
           → Settles (view (monitor-in gs ns sb ob hb nb fz su)) (decode (direct code s n₀ p 0 0 0)) 0
       open-left up i = settles-by gs lg ns sb ob hb nb cs fz su w one (direct code s n₀ p 0 0 0) (opens (direction b) s n₀ p) c (opens-is code s n₀ p e) lift i 0
           (λ ρ σ v l long. open-ren ρ σ v l (slots m) long (direction b) s o p 0 (record {
@@ -199,12 +200,12 @@ module _ (gs : List ℕ) (lg : length gs ≡ 32) (ns sb ob hb nb cs : List ℕ) 
           }))
 
       -- the flow falls
-      module _ (new : Handle) (en : new ≡ joining (way-by (eqb code 5)) o) (down : falls-by (eqb code 5) (getD nb (s % 32) 0) (getD nb (32 + o % 64) 0) ≡ true) where
+      module _ (new : Handle) (en : new ≡ joining (way-by (eqb code 5)) o) (down : falls-by (eqb code 5) (coded (getD nb (s % 32) 0)) (coded (getD nb (32 + o % 64) 0)) ≡ true) where
         way-reads : (b : Bool) → reads-by (way-by b) ≡ b
         way-reads true = refl
         way-reads false = refl
 
-        down-new : falls-by (reads-by (new .way)) (getD nb (s % 32) 0) (getD nb (32 + new .object % 64) 0) ≡ true
+        down-new : falls-by (reads-by (new .way)) (coded (getD nb (s % 32) 0)) (coded (getD nb (32 + new .object % 64) 0)) ≡ true
         down-new = let q : o % 64 % 64 ≡ o % 64 = omega arith in
             rw en (rw (way-reads b, q) down)
 

@@ -1,19 +1,19 @@
 -- What is settled of an open or a close goes by no number that an object has: settled on some tables, it is settled on them renumbered. Assumes nothing.
 use mathlib.Core.Path.{_≡_, refl, sym, _∙_, ap, subst, subst₂}
-use mathlib.Core.Logic.{inl, inr}
 use mathlib.Core.Option.{Option, none, some, Option·none-ne-some, Option·some-injective}
 use mathlib.Core.List.{List}
 use Prim.Native.Nat.{ℕ, _<_}
 use native.Mathlib.Omega.{arith}
 use lib.ListN.{length}
 use lib.Dec.{T}
-use Rattle.model.specs.Label.{Label, _⊑_}
+use Rattle.model.specs.Label.{Label, bot}
 use Rattle.model.specs.Flow.{Thing, subject, object}
-use Rattle.model.specs.Tables.{Dir, Handle, Tables, needs}
+use Rattle.model.specs.Tables.{Dir, reading, writing, Handle, Tables, arc, demand, needs}
 use Rattle.model.specs.Calls.{Call, opens, close, refusal, effect}
 use Rattle.model.specs.Calls.Needs.{needs-numbers}
 use Rattle.model.specs.Calls.Renaming.{Renumbers, call, thing, joined, held, ren, at-there, live-ren, needs-ren, demands-ren, refusal-ren, effect-ren}
-use Rattle.quick.specs.Parts.{Loose, Settles}
+use Rattle.passes.specs.Working.{spare-by}
+use Rattle.quick.specs.Parts.{demanded-at, Loose, Settles}
 
 module _ (ρ σ : ℕ → ℕ) (v : Renumbers ρ σ) (l : List ℕ) (t : Tables) (long : length l ≡ length (t .numbers)) where
   abbrev u : Tables
@@ -45,9 +45,19 @@ module _ (ρ σ : ℕ → ℕ) (v : Renumbers ρ σ) (l : List ℕ) (t : Tables)
 
   -- the handle at a place
   loose-ren : (s : ℕ) (k : Handle) → Loose u s (joined ρ σ v l k) → Loose t s k
-  loose-ren s k (inl f) = inl (λ q. f (needs-ren ρ σ v l t (subject s) ∙ q ∙ sym (needs-ren ρ σ v l t (object (k .to)))))
-  loose-ren s k (inr (inl q)) = inr (inl (sym (needs-ren ρ σ v l t (subject s)) ∙ q))
-  loose-ren s k (inr (inr (d, h))) = inr (inr (d, subst₂ (λ (a b : Label). a ⊑ b) (needs-ren ρ σ v l t (subject s)) (demands-ren ρ σ v l t (object (k .to))) h))
+  loose-ren s k = go (k .dir)
+    where
+      mine : needs u (subject s) ≡ needs t (subject s)
+      mine = needs-ren ρ σ v l t (subject s)
+
+      its : needs u (object (ρ (k .to))) ≡ needs t (object (k .to))
+      its = needs-ren ρ σ v l t (object (k .to))
+
+      go : (d : Dir) → T (spare-by (needs u (arc d (subject s) (object (ρ (k .to))) .dst)) (needs u (arc d (subject s) (object (ρ (k .to))) .src)) (demanded-at u (record { dir = d; to = ρ (k .to); marked = k .marked; mapped = k .mapped })))
+          → T (spare-by (needs t (arc d (subject s) (object (k .to)) .dst)) (needs t (arc d (subject s) (object (k .to)) .src)) (demanded-at t (record { dir = d; to = k .to; marked = k .marked; mapped = k .mapped })))
+      go reading z = subst₂ (λ (a b : Label). T (spare-by (needs t (subject s)) a b)) its (demands-ren ρ σ v l t (object (k .to)))
+          (subst (λ (a : Label). T (spare-by a (needs u (object (ρ (k .to)))) (demand (object (ρ (k .to))) (u .at (object (ρ (k .to))))))) mine z)
+      go writing z = subst₂ (λ (a b : Label). T (spare-by a b bot)) its mine z
 
   pub close-ren : (s p n : ℕ) → Settles t (close s p) n → Settles (ren ρ σ v l t) (call ρ σ v l (close s p)) n
   close-ren s p n z = record {

@@ -11,7 +11,7 @@ use lib.Dec.{T, ltb, leb, eqb}
 use Rattle.model.specs.Bools.{is-true}
 use Rattle.model.specs.Label.Laws.{level-label}
 use Rattle.model.specs.Flow.{Thing, subject, object}
-use Rattle.model.specs.Label.{label}
+use Rattle.model.specs.Label.{label, in-scale}
 use Rattle.model.specs.Tables.{file, pipe, entry, Dir, reading, writing, Entry, Tables, in-range, live, is-pipe}
 use Rattle.model.specs.Tables.{Handle as Held}
 use Rattle.model.specs.Tables.Laws.{used-is}
@@ -63,7 +63,7 @@ new-object-is t o y q = new-is t (object o) (eqb (y .kind) 0) true _ refl q
 pub free-is : (t : Tables) (o : ℕ) (y : Object) (b : Bool) → t .at (object o) ≡ object-entry y → b ≡ used-object y → b ≡ false → t .at (object o) ≡ none
 free-is t o y b q e n = q ∙ go (eqb (y .kind) 0) (sym e ∙ n)
   where
-    go : (a : Bool) → not a ≡ false → cond a none (some (entry (cond (eqb (y .kind) 1) file pipe) (label (y .level)))) ≡ none
+    go : (a : Bool) → not a ≡ false → cond a none (some (entry (cond (eqb (y .kind) 1) file pipe) (label (y .level) (y .shops)))) ≡ none
     go true h = refl
     go false h = absurd (subst T h tt)
 
@@ -115,9 +115,9 @@ module _ (t : Tables) (s p : ℕ) (h : Handle) (q : t .hand s p ≡ held h) wher
       go (yes e) = rw e
       go (no n) = rw (ne-eqb (h .way) 0 n) (of (reads-by (h .way)))
 
--- ── levels ──
-pub high-is : (t : Tables) (n : ℕ) → broken t (leveled n) ≡ ltb 15 n
-high-is t n = refl
+-- ── labels ──
+pub off-is : (t : Tables) (n m : ℕ) → broken t (leveled (label n m)) ≡ not (in-scale (label n m))
+off-is t n m = refl
 
 pub beyond-is : (t : Tables) (n : ℕ) → broken t (freezable n) ≡ ltb 16 n
 beyond-is t n = refl
@@ -130,5 +130,5 @@ frozen-is t o f false y e q = ap₂ (λ (n : ℕ) (v : Option Entry). frozen n (
   where
     go : Dec (y .kind ≡ 0) → Dec (y .kind ≡ 1) → frozen f (object o) (object-entry y) ≡ frozen-by f false y
     go (yes k) d = rw k (sym (and-false (ltb f 16)))
-    go (no n) (yes k) = rw (k, level-label (y .level))
+    go (no n) (yes k) = rw (k, level-label (y .level) (y .shops))
     go (no n) (no m) = rw (ne-eqb (y .kind) 0 n, ne-eqb (y .kind) 1 m)

@@ -5,8 +5,9 @@
 // The records are those at the numbers that the call names, empty ones where a number is out of range (`looks`); of an object the number is that of its slot. That
 // there is no room for a new object is told by a slot that is none of the OBJECTS, which is what `Room` in specs/Refusing.antt asks of the caller.
 ghost use mathlib.Core.Path.{_≡_};
-ghost use mathlib.Core.Bool.{_||_};
+ghost use mathlib.Core.Bool.{not, _||_};
 ghost use Prim.Native.Nat.{ℕ};
+ghost use Rattle.model.specs.Label.{label, in-scale};
 ghost use Rattle.model.specs.Flow.{subject, object};
 ghost use Rattle.model.specs.Tables.{Tables, Dir, reading, writing};
 ghost use Rattle.model.specs.Invariant.{Wf};
@@ -14,6 +15,7 @@ ghost use Rattle.model.specs.Calls.{Call, admit, register, create, make-pipe, o
 ghost use Rattle.tables.specs.Records.{subject-entry, object-entry, held};
 ghost use Rattle.refusals.specs.Refusing.{found, Room, Refuses, Late, Refused, direction};
 ghost use Rattle.tables.specs.Working.{used-subject, used-object, used-place};
+use labels::EVERY_SHOP;
 use tables::EMPTY;
 use tables::FILE;
 use tables::FREE;
@@ -106,23 +108,33 @@ fn ends_used(p: u64, q: u64, h: Handle, k: Handle) -> bool
     looks::either(at_p, at_q)
 }
 
+// RULES R6 of a label that a call names: the level, or the set, is too large.
+fn is_off(level: u64, shops: u64) -> bool
+    ensures { λ r. ⌜ r ≡ not (in-scale (label level shops)) ⌝ }
+{
+    let high = HIGHEST < level;
+    let many = EVERY_SHOP < shops;
+    looks::either(high, many)
+}
+
 // Call 1; x stands at s.
-pub fn of_admit(s: u64, level: u64, x: Subject) -> u8
-    ensures { λ r. ⌜ ((t : Tables) → Wf t → t .at (subject s) ≡ subject-entry x → Refuses t (admit s level) r) ⌝ }
+pub fn of_admit(s: u64, level: u64, shops: u64, x: Subject) -> u8
+    ensures { λ r. ⌜ ((t : Tables) → Wf t → t .at (subject s) ≡ subject-entry x → Refuses t (admit s (label level shops)) r) ⌝ }
 {
     let used = subject_used(s, x);
-    let high = HIGHEST < level;
-    first(false, false, used, false, false, false, high, false, false)
+    let off = is_off(level, shops);
+    first(false, false, used, false, false, false, off, false, false)
 }
 
 // Call 2; y stands at o.
-pub fn of_register(o: u64, level: u64, y: Object) -> u8
-    ensures { λ r. ⌜ ((t : Tables) → Wf t → t .at (object o) ≡ object-entry y → Room t (register o level) → Refuses t (register o level) r) ⌝ }
+pub fn of_register(o: u64, level: u64, shops: u64, y: Object) -> u8
+    ensures { λ r. ⌜ ((t : Tables) → Wf t → t .at (object o) ≡ object-entry y → Room t (register o (label level shops)) →
+        Refuses t (register o (label level shops)) r) ⌝ }
 {
     let used = object_used(y);
     let full = OBJECT_NUMBERS <= o;
-    let high = HIGHEST < level;
-    first(false, false, used, full, false, false, high, false, false)
+    let off = is_off(level, shops);
+    first(false, false, used, full, false, false, off, false, false)
 }
 
 // Call 3; x stands at s, y at o.

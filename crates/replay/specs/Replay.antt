@@ -1,4 +1,4 @@
--- The reply to a whole journal, byte for byte. States RULES P2 to P10, P14, P20 and P21, B23, and RULES R11 to R14 and
+-- The reply to a whole journal, byte for byte. States RULES P2 to P10, P14, P20, P21 and P23, B23, and RULES R11 to R14 and
 -- R113 to R116 of a run.
 --
 -- In order: the records of a journal; the calls among them; what each is answered; the lines of the reply; the reply. Assumes nothing.
@@ -14,7 +14,7 @@ use Rattle.model.specs.Tally.{Tally, zeroed, tally, difference}
 use Rattle.journal.specs.Answers.{Said, said, Next, body, end}
 use Rattle.journal.specs.Answers.{Answer as Read, answers as reads, refused as bad}
 use Rattle.journal.specs.Journal.{entry-at, body-in}
-use Rattle.answers.specs.Telling.{letter-of, value-of}
+use Rattle.answers.specs.Telling.{letter-of, value-of, lost-of}
 use Rattle.text.specs.Reply.{line, ending, longest-line, longest-end}
 pub mod Laws
 
@@ -64,10 +64,14 @@ replies t (said code (reads ns) ∷ l) = replied code (answer t (decode (raw cod
 replies t (said code (bad n) ∷ l) = replied code (refused n) ∷ replies t l
 
 -- ── the text ──
+-- RULES P4, P7, P8, P23: the line of a record, by its answer
+abbrev pub answer-line : ℕ → ℕ → Answer → List ℕ
+answer-line p code a = line p code (letter-of a) (value-of a) (lost-of a)
+
 -- RULES P3, P5: a line for each record, with its position, here from p
 abbrev pub lines : ℕ → List Replied → List ℕ
 lines p [] = []
-lines p (r ∷ l) = line p (r .code) (letter-of (r .answer)) (value-of (r .answer)) ++ lines (suc p) l
+lines p (r ∷ l) = answer-line p (r .code) (r .answer) ++ lines (suc p) l
 
 -- RULES P9, P10
 abbrev pub last-line : Tally → List ℕ

@@ -22,13 +22,12 @@ use Rattle.journal.specs.Answers.{answers as reads, refused as bad}
 use Rattle.journal.specs.Journal.{entry-at, body-in}
 use Rattle.journal.specs.Journal.Laws.{entry-next}
 use Rattle.gatekeeper.specs.declared.Monitor.{Monitor}
-use Rattle.answers.specs.Telling.{letter-of, value-of}
 use Rattle.gatekeeper.specs.View.{view}
-use Rattle.text.specs.Reply.{line, ending, longest-line, longest-end}
+use Rattle.text.specs.Reply.{last-fields, line, ending, longest-line, longest-end}
 use Rattle.text.specs.Decimal.{decimal, digits}
 use Rattle.text.specs.Parts.{Over}
 use Rattle.text.specs.Parts.Laws.{untouched, put-over, over-count, over-put, rest-length, put-after, none-after}
-use Rattle.replay.specs.Replay.{records, records-of, calls-of, last-line, largest-journal, reply, Begun, reply-room}
+use Rattle.replay.specs.Replay.{records, records-of, calls-of, answer-line, last-line, largest-journal, reply, Begun, reply-room}
 use Rattle.replay.specs.Replay.Laws.{records-more, records-end, records-stop, Plain, body-plain, eleven-plain, left, left-more, kept-more, ends-more}
 use Rattle.replay.specs.One.{Turned}
 
@@ -89,7 +88,7 @@ module _ (j first out : List ℕ) (p used : ℕ) where
   module _ (m n : Monitor) (y z : Tally) (s : Said) (l : List Said) (code : ℕ) (a : Answer) (plain : Plain s)
       (o : Turned m y s code a n z) (g : Stage j first out (view m) y p used (s ∷ l)) where
     abbrev e : List ℕ
-    e = line p code (letter-of a) (value-of a)
+    e = answer-line p code a
 
     rejoined : g .done ++ (e ++ left (suc p) (view n) z l) ≡ whole j
     rejoined = ap (λ (k : List ℕ). g .done ++ k) (sym (left-more m n y z code a (g .kept) p s l plain o)) ∙ g .sum
@@ -169,9 +168,9 @@ module _ (j first out : List ℕ) (at p used : ℕ) (m : Monitor) (y : Tally) (g
         go (suc n) q = (n, (omega (arith, g .enough, entry-next j at start len next e)), subst (λ (x : List Said). Stage j first out (view m) y p used x) (ap (λ (i : ℕ). records i j at) q ∙ records-more n j at start len next e) (g .stage))
 
     module _ (n : Monitor) (z : Tally) (code : ℕ) (a : Answer) (o : Turned m y s code a n z)
-        (thin : length (line p code (letter-of a) (value-of a)) ≤ longest-line) where
-      pub record-turn : (ys : List ℕ) (k : ℕ) → some k ≡ fitted (line p code (letter-of a) (value-of a)) (take (length out - used) (drop used out))
-          → ys ≡ put (line p code (letter-of a) (value-of a)) (take (length out - used) (drop used out))
+        (thin : length (answer-line p code a) ≤ longest-line) where
+      pub record-turn : (ys : List ℕ) (k : ℕ) → some k ≡ fitted (answer-line p code a) (take (length out - used) (drop used out))
+          → ys ≡ put (answer-line p code a) (take (length out - used) (drop used out))
           → Going j first (putMid used (length out - used) out ys) (view n) z next (p + 1) (used + k) true
       record-turn ys k answer wrote = let (i, far, g′) = here in record {
         most = i;
@@ -182,7 +181,7 @@ module _ (j first out : List ℕ) (at p used : ℕ) (m : Monitor) (y : Tally) (g
           arith,
           g .short,
           thin,
-          fits (line p code (letter-of a) (value-of a))
+          fits (answer-line p code a)
               (take (length out - used) (drop used out)) k (sym answer) .0,
           entry-next j at start len next e .0,
         );
@@ -190,21 +189,21 @@ module _ (j first out : List ℕ) (at p used : ℕ) (m : Monitor) (y : Tally) (g
             (sym (add-one p)) (more j first out p used m n y z s (records i j next) code a (body-plain (take len (drop start j))) o g′ ys k answer wrote);
       }
 
-      record-short : none ≡ fitted (line p code (letter-of a) (value-of a)) (take (length out - used) (drop used out))
+      record-short : none ≡ fitted (answer-line p code a) (take (length out - used) (drop used out))
           → none ≡ fitted (whole j) first
       record-short answer =
           let (i, far, g′) = here in
           no-more j first out p used m n y z s (records i j next) code a (body-plain (take len (drop start j))) o g′ answer
 
       pub record-ends : length j ≤ largest-journal → (ys : List ℕ)
-          → none ≡ fitted (line p code (letter-of a) (value-of a)) (take (length out - used) (drop used out))
-          → ys ≡ put (line p code (letter-of a) (value-of a)) (take (length out - used) (drop used out))
+          → none ≡ fitted (answer-line p code a) (take (length out - used) (drop used out))
+          → ys ≡ put (answer-line p code a) (take (length out - used) (drop used out))
           → Ends (whole j) first (putMid used (length out - used) out ys) none
-      record-ends small ys answer = short-ends j first out p used (view m) y (records (g .most) j at) (g .stage) (line p code (letter-of a) (value-of a))
+      record-ends small ys answer = short-ends j first out p used (view m) y (records (g .most) j at) (g .stage) (answer-line p code a)
           longest-line thin (λ room. omega (arith, g .short, room, small, entry-next j at start len next e)) (record-short answer) ys answer
 
   -- no record can be found at `at`
-  module _ (e : entry-at j at ≡ bad 11) (h : at < length j) (thin : length (line p 0 82 11) ≤ longest-line) where
+  module _ (e : entry-at j at ≡ bad 11) (h : at < length j) (thin : length (line p 0 82 11 0) ≤ longest-line) where
     there : Stage j first out (view m) y p used (said 0 (bad 11) ∷ [])
     there = go (g .most) refl
       where
@@ -213,19 +212,19 @@ module _ (j first out : List ℕ) (at p used : ℕ) (m : Monitor) (y : Tally) (g
         go (suc i) q = subst (λ (x : List Said). Stage j first out (view m) y p used x) (ap (λ (k : ℕ). records k j at) q ∙ records-stop i j at 11 e)
             (g .stage)
 
-    pub broken-turn : (ys : List ℕ) (k : ℕ) → some k ≡ fitted (line p 0 82 11) (take (length out - used) (drop used out)) → ys ≡ put (line p 0 82 11)
+    pub broken-turn : (ys : List ℕ) (k : ℕ) → some k ≡ fitted (line p 0 82 11 0) (take (length out - used) (drop used out)) → ys ≡ put (line p 0 82 11 0)
         (take (length out - used) (drop used out))
         → Going j first (putMid used (length out - used) out ys) (view m) y at p (used + k) false
     broken-turn ys k answer wrote = stopped j first (putMid used (length out - used) out ys) (view m) y at p (suc p) (used + k) (g .inside) (g .early)
-        (omega (arith, g .short, thin, fits (line p 0 82 11) (take (length out - used) (drop used out)) k (sym answer) .0))
+        (omega (arith, g .short, thin, fits (line p 0 82 11 0) (take (length out - used) (drop used out)) k (sym answer) .0))
         (more j first out p used m m y y (said 0 (bad 11)) [] 0 (refused 11) eleven-plain (refl, refl, refl, refl) there ys k answer wrote)
 
-    broken-short : none ≡ fitted (line p 0 82 11) (take (length out - used) (drop used out)) → none ≡ fitted (whole j) first
+    broken-short : none ≡ fitted (line p 0 82 11 0) (take (length out - used) (drop used out)) → none ≡ fitted (whole j) first
     broken-short answer = no-more j first out p used m m y y (said 0 (bad 11)) [] 0 (refused 11) eleven-plain (refl, refl, refl, refl) there answer
 
-    pub broken-ends : length j ≤ largest-journal → (ys : List ℕ) → none ≡ fitted (line p 0 82 11) (take (length out - used) (drop used out))
-        → ys ≡ put (line p 0 82 11) (take (length out - used) (drop used out)) → Ends (whole j) first (putMid used (length out - used) out ys) none
-    broken-ends small ys answer = short-ends j first out p used (view m) y (records (g .most) j at) (g .stage) (line p 0 82 11) longest-line thin
+    pub broken-ends : length j ≤ largest-journal → (ys : List ℕ) → none ≡ fitted (line p 0 82 11 0) (take (length out - used) (drop used out))
+        → ys ≡ put (line p 0 82 11 0) (take (length out - used) (drop used out)) → Ends (whole j) first (putMid used (length out - used) out ys) none
+    broken-ends small ys answer = short-ends j first out p used (view m) y (records (g .most) j at) (g .stage) (line p 0 82 11 0) longest-line thin
         (λ room. omega (arith, g .short, room, small)) (broken-short answer) ys answer
 
   -- the journal ends at `at`
@@ -280,10 +279,10 @@ module _ (d e first : List ℕ) (thin : length (d ++ e) ≤ reply-room) where
 
 -- the text for a journal that is too long
 abbrev pub refusal : List ℕ
-refusal = line 1 0 82 14 ++ ending 0 0 0
+refusal = line 1 0 82 14 0 ++ ending 0 0 0
 
 nineteen : _≡_ {A = ℕ} (length refusal) 19
-unfolding line ending decimal digits
+unfolding line last-fields ending decimal digits
 nineteen = refl
 
 pub refusal-thin : length refusal ≤ reply-room
@@ -291,7 +290,7 @@ refusal-thin = omega (arith, nineteen)
 
 pub reply-long : (j : List ℕ) → largest-journal < length j → refusal ≡ reply j
 unfolding reply
-reply-long j h = rw (lt-ltb largest-journal (length j) h) (ap (λ (x : List ℕ). x ++ ending 0 0 0) (sym (append-nil (line 1 0 82 14))))
+reply-long j h = rw (lt-ltb largest-journal (length j) h) (ap (λ (x : List ℕ). x ++ ending 0 0 0) (sym (append-nil (line 1 0 82 14 0))))
 
 pub reply-whole : (j : List ℕ) → length j ≤ largest-journal → whole j ≡ reply j
 unfolding reply

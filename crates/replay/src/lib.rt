@@ -1,4 +1,4 @@
-// Journals, replayed on the monitor (RULES P2 to P22). The reply to a whole journal is a definition in specs/Replay.antt; what one record
+// Journals, replayed on the monitor (RULES P2 to P23). The reply to a whole journal is a definition in specs/Replay.antt; what one record
 // does is in specs/One.antt.
 ghost use mathlib.Core.Path.{_≡_};
 ghost use mathlib.Core.Option.{some};
@@ -26,7 +26,7 @@ use tally::Tally;
 pub const LARGEST_JOURNAL: usize = 65536;
 
 // The longest line of a reply, and the longest last line, in bytes.
-const LONGEST_LINE: usize = 38;
+const LONGEST_LINE: usize = 42;
 
 const LONGEST_END: usize = 67;
 
@@ -116,7 +116,8 @@ fn records(journal: &[u8], out: &mut [u8]) -> Ran
                 let answer = r.answer;
                 let letter = answers::letter(answer);
                 let value = answers::value(answer);
-                match text::write_line(&mut out[used..], position, r.code, letter, value) {
+                let lost = answers::lost(answer);
+                match text::write_line(&mut out[used..], position, r.code, letter, value, lost) {
                     Written::Bytes(n) => {
                         used = used + n;
                         at = next;
@@ -134,7 +135,7 @@ fn records(journal: &[u8], out: &mut [u8]) -> Ran
                 }
             }
             Entry::Broken => {
-                match text::write_line(&mut out[used..], position, 0, b'R', 11) {
+                match text::write_line(&mut out[used..], position, 0, b'R', 11, 0) {
                     Written::Bytes(n) => {
                         used = used + n;
                         going = false;
@@ -174,7 +175,7 @@ fn records(journal: &[u8], out: &mut [u8]) -> Ran
 fn too_long(out: &mut [u8]) -> Written
     ensures { λ r. ⌜ Ends refusal (now (out .entry)) (now (out .exit)) (writing r) ⌝ }
 {
-    match text::write_line(out, 1, 0, b'R', 14) {
+    match text::write_line(out, 1, 0, b'R', 14, 0) {
         Written::Bytes(n) => {
             match text::write_end(&mut out[n..], 0, 0, 0) {
                 Written::Bytes(k) => Written::Bytes(n + k),

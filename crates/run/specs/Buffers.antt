@@ -6,7 +6,7 @@ use lib.ListN.{getD}
 use lib.Dec.{ltb, eqb}
 use Rattle.model.specs.Lists.{each}
 use Rattle.model.specs.Calls.{Raw, Answer, allowed, lowered, refused}
-use Rattle.answers.specs.Telling.{letter-of, value-of}
+use Rattle.answers.specs.Telling.{letter-of, value-of, lost-of}
 use Rattle.gatekeeper.specs.View.{direct}
 pub mod Laws
 
@@ -22,16 +22,17 @@ call-at l i = direct (getD l (i * 7) 0) (getD l (i * 7 + 1) 0) (getD l (i * 7 + 
 abbrev pub calls-in : List ℕ → ℕ → List Raw
 calls-in l n = each n (λ i. call-at l i ∷ [])
 
--- RULES H2: two bytes for each answer
+-- RULES H2: three bytes for each answer
 abbrev pub bytes : List Answer → List ℕ
 bytes [] = []
-bytes (a ∷ l) = letter-of a ∷ value-of a ∷ bytes l
+bytes (a ∷ l) = letter-of a ∷ value-of a ∷ lost-of a ∷ bytes l
 
--- and back: 65 is A, 76 is L, 82 is R
-abbrev pub answer-in : ℕ → ℕ → Answer
-answer-in letter value = cond (eqb letter 65) (allowed value) (cond (eqb letter 76) (lowered value) (refused value))
+-- and back: 65 is A, 76 is L, 82 is R; marks are lost where it is L alone
+abbrev pub answer-in : ℕ → ℕ → ℕ → Answer
+answer-in letter value lost = cond (eqb letter 65) (allowed value) (cond (eqb letter 76) (lowered value lost) (refused value))
 
 abbrev pub answers-in : List ℕ → List Answer
 answers-in [] = []
 answers-in (a ∷ []) = []
-answers-in (a ∷ b ∷ l) = answer-in a b ∷ answers-in l
+answers-in (a ∷ b ∷ []) = []
+answers-in (a ∷ b ∷ c ∷ l) = answer-in a b c ∷ answers-in l

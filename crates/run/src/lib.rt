@@ -27,16 +27,16 @@ fn fewer(a: usize, b: usize) -> usize
 }
 
 // Makes the calls of the list one after the other, from empty tables, as many as the list has and as there is room to answer. A call
-// is seven numbers, its code first; an answer is two bytes, its letter and then its level or refusal number.
+// is seven numbers, its code first; an answer is three bytes, its letter, then its level or refusal number, then how many marks were lost.
 pub fn run(calls: &[u64], out: &mut [u8]) -> Ran
-    ensures made { λ r. ⌜ r .made ≡ lesser (length (now (calls .entry)) / 7) (length (now (out .entry)) / 2) ⌝ }
-    ensures written { λ r. ⌜ now (out .exit) ≡ bytes (answers empty (calls-in (now (calls .entry)) (r .made))) ++ drop (r .made * 2) (now (out .entry)) ⌝ }
-    ensures demand3 { λ r. ⌜ Demand3 (calls-in (now (calls .entry)) (r .made)) (answers-in (take (r .made * 2) (now (out .exit)))) (view (r .monitor)) ⌝ }
+    ensures made { λ r. ⌜ r .made ≡ lesser (length (now (calls .entry)) / 7) (length (now (out .entry)) / 3) ⌝ }
+    ensures written { λ r. ⌜ now (out .exit) ≡ bytes (answers empty (calls-in (now (calls .entry)) (r .made))) ++ drop (r .made * 3) (now (out .entry)) ⌝ }
+    ensures demand3 { λ r. ⌜ Demand3 (calls-in (now (calls .entry)) (r .made)) (answers-in (take (r .made * 3) (now (out .exit)))) (view (r .monitor)) ⌝ }
     ensures right { λ r. ⌜ Right (r .monitor) ⌝ }
     ensures honest { λ r. ⌜ Honest (r .monitor) ⌝ }
     ensures sure { λ r. ⌜ r .monitor .sure ≡ 1 ⌝ }
 {
-    let n = fewer(calls.len() / 7, out.len() / 2);
+    let n = fewer(calls.len() / 7, out.len() / 3);
     let mut m = Monitor::empty();
     let mut i: usize = 0;
     while i < n {
@@ -51,9 +51,10 @@ pub fn run(calls: &[u64], out: &mut [u8]) -> Ran
             calls[at + 6],
         );
         let answer = r.answer;
-        let to = i * 2;
+        let to = i * 3;
         out[to] = answers::letter(answer);
         out[to + 1] = answers::value(answer);
+        out[to + 2] = answers::lost(answer);
         m = r.monitor;
         i += 1;
     }

@@ -35,20 +35,25 @@ pub loaded-none : {A : Type 0} (f : List ℕ → A) (d : A) (w b n : ℕ) (s : L
 loaded-none f d w b n s r h l = record { within = omega arith; room = l; long = h; done = λ j lj. absurd (omega arith) }
 
 module _ {A : Type 0} {f : List ℕ → A} {d : A} {w b n : ℕ} {s : List ℕ} {r : List A} {i : ℕ} (p : Loaded f d w b n s r i) where
-  pub loaded-more : (v : A) → i < n → v ≡ f (bytes-at w (b + w * i) s) → Loaded f d w b n s (set r i v) (i + 1)
-  loaded-more v l e = record {
+  -- one element more, from the bytes where it stands
+  pub loaded-part : (v : A) → i < n → v ≡ f (take w (drop (b + w * i) s)) → Loaded f d w b n s (set r i v) (i + 1)
+  loaded-part v l e = record {
     within = omega arith;
     room = p .room;
     long = simp length-set (p .long);
     done = λ j lj. go j lj (ℕ-discrete j i);
   }
     where
+      go : (j : ℕ) → j < i + 1 → Dec (j ≡ i) → getD (set r i v) j d ≡ f (take w (drop (b + w * j) s))
+      go j lj (yes q) = rw (q, getD-set-same r i v d (omega (arith, p .long))) e
+      go j lj (no nq) = getD-set-other r i j v d nq ∙ p .done j (omega arith)
+
+  -- or from these one by one
+  pub loaded-more : (v : A) → i < n → v ≡ f (bytes-at w (b + w * i) s) → Loaded f d w b n s (set r i v) (i + 1)
+  loaded-more v l e = loaded-part v l (e ∙ ap f (sym (bytes-taken w (b + w * i) s fits)))
+    where
       fits : b + w * i + w ≤ length s
       fits = omega (arith, p .room, mul-suc w i, mul-le-mul-left {m = suc i} {n = n} w (omega arith))
-
-      go : (j : ℕ) → j < i + 1 → Dec (j ≡ i) → getD (set r i v) j d ≡ f (take w (drop (b + w * j) s))
-      go j lj (yes q) = rw (q, getD-set-same r i v d (omega (arith, p .long))) (e ∙ ap f (sym (bytes-taken w (b + w * i) s fits)))
-      go j lj (no nq) = getD-set-other r i j v d nq ∙ p .done j (omega arith)
 
   pub loaded-all : n ≤ i → r ≡ records f w n (drop b s)
   loaded-all l = ext-getD d r (records f w n (drop b s)) (omega (arith, p .long, length-records f w n (drop b s))) (λ j lj. at j (omega (arith, p .long)))

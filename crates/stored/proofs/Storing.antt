@@ -1,18 +1,19 @@
--- Storing into bytes: a loop that stores an array of records of bytes, from the front (`Laid`); all of a state, part after part; a loop that
+-- Storing into bytes: a loop that stores an array of records of bytes, from the front (`Laid`), and of numbers (`Listed`); all of a state, part after part; a loop that
 -- stores a number, from its lowest byte up (`Spelt`); and one that stores zeros. Assumes nothing.
-use mathlib.Core.Path.{_≡_, refl, sym, ap, _∙_}
+use mathlib.Core.Path.{_≡_, refl, sym, ap, _∙_, subst}
 use mathlib.Core.List.{List, [], _∷_, _++_, append-assoc, append-nil}
-use Prim.Native.Nat.{ℕ, suc, _+_, _*_, _-_, _/_, _%_, _≤_, _<_}
+use Prim.Native.Nat.{ℕ, suc, _+_, _*_, _-_, _/_, _%_, _^_, _≤_, _<_}
 use native.Mathlib.Omega.{arith}
 use native.Mathlib.Nat.{mul-suc, mul-le-mul-left}
 use native.Mathlib.Numerals.{add-one}
+use native.Mathlib.Decide.{ℕ-discrete}
 use lib.ListN.{length, take, drop, getD, set, replicate, length-append, length-replicate, getD-replicate}
 use lib.Seq.{length-take-le, take-suc, take-all, drop-cons, sets, sets-eq}
 use Rattle.gatekeeper.specs.declared.Monitor.{Monitor}
 use Rattle.tally.specs.declared.Tally.{Tally}
 use Rattle.stored.specs.State.{state-bytes, objects-at, handles-at, made-at, gone-at, freeze-at, needs-at, numbers-at, groups-at}
-use Rattle.stored.specs.State.{flat, byte-record, digits, subject-bytes, object-bytes, handle-bytes, need-bytes, number-bytes, group-bytes, bytes-of}
-use Rattle.stored.specs.State.Laws.{length-flat, flat-append, length-digits, Long, subjects-count, objects-count, handles-count, needs-count, numbers-count, bytes-length}
+use Rattle.stored.specs.State.{flat, byte-record, digits, subject-bytes, object-bytes, handle-bytes, need-bytes, number-bytes, group-bytes, Narrow, bytes-of}
+use Rattle.stored.specs.State.Laws.{length-flat, flat-append, length-digits, Long, narrow-of, subjects-count, objects-count, handles-count, needs-count, numbers-count, bytes-length}
 use Rattle.stored.specs.Over.{over}
 use Rattle.stored.specs.Over.Laws.{over-none, over-length, over-next, over-all}
 
@@ -26,7 +27,7 @@ stores-sets : (s : List ℕ) (at : ℕ) (e : List ℕ) → stores s at e ≡ set
 stores-sets s at [] = refl
 stores-sets s at (u ∷ e) = stores-sets (set s at u) (at + 1) e ∙ ap (λ (k : ℕ). sets (set s at u) k e) (add-one at)
 
-stores-over : (s : List ℕ) (at : ℕ) (e : List ℕ) → at + length e ≤ length s → stores s at e ≡ over at e s
+pub stores-over : (s : List ℕ) (at : ℕ) (e : List ℕ) → at + length e ≤ length s → stores s at e ≡ over at e s
 unfolding over
 stores-over s at e h = stores-sets s at e ∙ sets-eq e s at h ∙ append-assoc (take at s) e (drop (at + length e) s)
 
@@ -87,6 +88,35 @@ module _ {A : Type 0} {g : A → List ℕ} {w b n : ℕ} {l : List A} {o s : Lis
 
   pub laid-all : n ≤ i → s ≡ over b (flat g l) o
   laid-all h = p .is ∙ ap (λ (y : List A). over b (flat g y) o) (take-all i l (omega (arith, p .long)))
+
+-- ── an array of numbers ──
+-- the first i of the n numbers of l, of w bits and in k bytes each, were stored over o, from index b on, which is now s
+pub record Listed (k w b n : ℕ) (l o s : List ℕ) (i : ℕ) : Type 0 where
+  pub laid : Laid (digits k) k b n l o s i
+  pub narrow : (j : ℕ) → j < i → getD l j 0 < 2 ^ w
+
+pub listed-none : (k w b n : ℕ) (l o : List ℕ) → length l ≡ n → b + k * n ≤ length o → Listed k w b n l o o 0
+listed-none k w b n l o h r = record { laid = laid-none (digits k) k b n l o (length-digits k) h r; narrow = λ j lj. absurd (omega arith) }
+
+module _ {k w b n : ℕ} {l o s : List ℕ} {i : ℕ} (p : Listed k w b n l o s i) where
+  pub listed-long : length s ≡ length o
+  listed-long = laid-long (p .laid)
+
+  pub listed-more : (at : ℕ) (s′ : List ℕ) → i < n → at ≡ b + k * i → s′ ≡ over at (digits k (getD l i 0)) s → getD l i 0 < 2 ^ w → Listed k w b n l o s′ (i + 1)
+  listed-more at s′ h ha q small = record {
+    laid = laid-over (p .laid) at (digits k (getD l i 0)) 0 s′ h ha refl q;
+    narrow = λ j lj. go j lj (ℕ-discrete j i);
+  }
+    where
+      go : (j : ℕ) → j < i + 1 → Dec (j ≡ i) → getD l j 0 < 2 ^ w
+      go j lj (yes e) = subst (λ (x : ℕ). getD l x 0 < 2 ^ w) (sym e) small
+      go j lj (no ne) = p .narrow j (omega arith)
+
+  pub listed-all : n ≤ i → s ≡ over b (flat (digits k) l) o
+  listed-all h = laid-all (p .laid) h
+
+  pub listed-narrow : n ≤ i → Narrow w l
+  listed-narrow h = narrow-of w l (λ j lj. p .narrow j (omega (arith, p .laid .long)))
 
 -- ── all of a state ──
 module _ (m : Monitor) (y : Tally) (long : Long m) (o : List ℕ) (size : length o ≡ state-bytes) where

@@ -1,8 +1,8 @@
 -- A monitor and its tally as the bytes that a host lends. States RULES H4 to H10, H15, H16, H21, H26 and H30, and F11, F12 and F15 of the bytes. Every value
 -- of the monitor goes by the rules (RULES T16), so that every byte string of the length is one.
 --
--- The layout: the subjects and the objects, two bytes each, then the handles, three bytes each, in the order of the struct; then made and gone, eight bytes
--- each, lowest first; then the freeze, one byte; then the kept needs, one byte each, of the subjects and of the slots; then the objects' numbers, eight bytes
+-- The layout: the subjects, the objects and the handles, three bytes each; then made and gone, eight bytes
+-- each, lowest first; then the freeze, one byte; then the kept needs, two bytes each, of the subjects and of the slots; then the objects' numbers, eight bytes
 -- each, lowest first; then the groups, one byte each. In order: where the parts stand; records of bytes; one record of each kind; numbers; from bytes, and to bytes; the empty state, and what a
 -- call leaves. The laws are in State/Laws. Assumes nothing.
 use mathlib.Core.Path.{_≡_}
@@ -27,7 +27,7 @@ pub mod Laws
 
 -- RULES H4
 abbrev pub state-bytes : ℕ
-state-bytes = 2 * subjects + 2 * objects + 3 * (subjects * places) + 2 * 8 + 1 + (subjects + objects) + 8 * objects + subjects
+state-bytes = 3 * subjects + 3 * objects + 3 * (subjects * places) + 2 * 8 + 1 + 2 * (subjects + objects) + 8 * objects + subjects
 
 -- RULES H10: bytes that are a state
 abbrev pub Sized : List ℕ → Type 0
@@ -36,16 +36,19 @@ Sized s = length s ≡ state-bytes
 -- ── where the parts stand ──
 -- RULES H5: in how many bytes a record is kept
 abbrev pub subject-width : ℕ
-subject-width = 2
+subject-width = 3
 
 abbrev pub object-width : ℕ
-object-width = 2
+object-width = 3
 
 abbrev pub handle-width : ℕ
 handle-width = 3
 
 abbrev pub byte-width : ℕ
 byte-width = 1
+
+abbrev pub need-width : ℕ
+need-width = 2
 
 abbrev pub number-width : ℕ
 number-width = 8
@@ -70,7 +73,7 @@ abbrev pub needs-at : ℕ
 needs-at = freeze-at + 1
 
 abbrev pub numbers-at : ℕ
-numbers-at = needs-at + byte-width * (subjects + objects)
+numbers-at = needs-at + need-width * (subjects + objects)
 
 abbrev pub groups-at : ℕ
 groups-at = numbers-at + number-width * objects
@@ -109,18 +112,18 @@ live-byte n = cond (eqb n 0) 0 1
 abbrev pub sort-byte : ℕ → ℕ → ℕ
 sort-byte k n = cond (ltb n k) n 2
 
--- RULES H6 to H9, H15: the first byte, the second, and of a handle the third
+-- RULES H6 to H9, H15: the first byte, the second and the third
 abbrev pub subject-of : List ℕ → Subject
-subject-of b = record { live = live-of (getD b 0 0); level = getD b 1 0 }
+subject-of b = record { live = live-of (getD b 0 0); level = getD b 1 0; shops = getD b 2 0 }
 
 abbrev pub subject-record : Subject → List ℕ
-subject-record x = live-byte (x .live) ∷ x .level ∷ []
+subject-record x = live-byte (x .live) ∷ x .level ∷ x .shops ∷ []
 
 abbrev pub object-of : List ℕ → Object
-object-of b = record { kind = sort-of kinds (getD b 0 0); level = getD b 1 0 }
+object-of b = record { kind = sort-of kinds (getD b 0 0); level = getD b 1 0; shops = getD b 2 0 }
 
 abbrev pub object-record : Object → List ℕ
-object-record x = sort-byte kinds (x .kind) ∷ x .level ∷ []
+object-record x = sort-byte kinds (x .kind) ∷ x .level ∷ x .shops ∷ []
 
 abbrev pub handle-of : List ℕ → Handle
 handle-of b = record { way = sort-of ways (getD b 0 0); object = getD b 1 0; mark = live-of (getD b 2 0) }
@@ -128,7 +131,7 @@ handle-of b = record { way = sort-of ways (getD b 0 0); object = getD b 1 0; mar
 abbrev pub handle-record : Handle → List ℕ
 handle-record x = sort-byte ways (x .way) ∷ x .object ∷ live-byte (x .mark) ∷ []
 
--- RULES H16, H30: a kept need is one byte, as it is, and so is a group
+-- RULES H30: a group is one byte, as it is
 abbrev pub byte-of : List ℕ → ℕ
 byte-of b = getD b 0 0
 
@@ -164,8 +167,9 @@ gone-of s = whole (take 8 (drop gone-at s))
 unfoldable pub freeze-of : List ℕ → ℕ
 freeze-of s = getD s freeze-at 0
 
+-- RULES H16: a kept need is two bytes, its set and then its level
 unfoldable pub needs-of : List ℕ → List ℕ
-needs-of s = records byte-of byte-width (subjects + objects) (drop needs-at s)
+needs-of s = records whole need-width (subjects + objects) (drop needs-at s)
 
 -- RULES H26: eight bytes each
 unfoldable pub numbers-of : List ℕ → List ℕ
@@ -202,7 +206,7 @@ unfoldable pub handle-bytes : List Handle → List ℕ
 handle-bytes l = flat handle-record l
 
 unfoldable pub need-bytes : List ℕ → List ℕ
-need-bytes l = flat byte-record l
+need-bytes l = flat (digits 2) l
 
 unfoldable pub number-bytes : List ℕ → List ℕ
 number-bytes l = flat (digits 8) l
@@ -210,10 +214,10 @@ number-bytes l = flat (digits 8) l
 unfoldable pub group-bytes : List ℕ → List ℕ
 group-bytes l = flat byte-record l
 
--- each number is 64 bits wide
-abbrev pub Narrow : List ℕ → Type 0
-Narrow [] = Unit {0}
-Narrow (n ∷ l) = (n < 2 ^ 64) × Narrow l
+-- each number is w bits wide
+abbrev pub Narrow : ℕ → List ℕ → Type 0
+Narrow w [] = Unit {0}
+Narrow w (n ∷ l) = (n < 2 ^ w) × Narrow w l
 
 -- RULES H5, H9, H16, H26, H30
 unfoldable pub bytes-of : Monitor → Tally → List ℕ
@@ -249,7 +253,7 @@ stored-kind = record { view = state-view; honest = state-honest; whole = λ s. W
 
 -- as what it is stored: the freeze says that there is none, and all else is 0
 unfoldable pub blank-bytes : List ℕ
-blank-bytes = replicate freeze-at 0 ++ (no-freeze ∷ replicate (subjects + objects + number-width * objects + subjects) 0)
+blank-bytes = replicate freeze-at 0 ++ (no-freeze ∷ replicate (need-width * (subjects + objects) + number-width * objects + subjects) 0)
 
 -- RULES T12, F12, Y8: empty tables, kept needs that are right, and counts of 0
 pub record Blank (s : List ℕ) : Type 0 where
@@ -260,7 +264,7 @@ pub record Blank (s : List ℕ) : Type 0 where
 
 -- RULES T16, T23, F12, R102, R103: call c on the bytes s leaves the bytes s′. They meet the rules as a monitor does, so that a refused call
 -- leaves every byte; the tally in them is the history's; and what an allowed or lowered call leaves is the bytes of a monitor and a tally.
--- Which level, kept need and group byte a subject has that is not live, which byte a group has, which level, kept need and number a free slot has, which slot an object
+-- Which label, kept need and group byte a subject has that is not live, which byte a group has, which label, kept need and number a free slot has, which slot an object
 -- stands in, and which slot and mark stand at an empty place, is the free part of `Promise`.
 pub record Stored (s : List ℕ) (c : Call) (s′ : List ℕ) : Type 0 where
   pub size : Sized s′

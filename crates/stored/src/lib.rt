@@ -17,13 +17,13 @@ use tables::Subject;
 use tables::THINGS;
 use tally::Tally;
 
-// Where the parts of a state stand: the subjects at 0, two bytes each; the objects likewise; the handles, three bytes each; the two counts, eight bytes each; the freeze,
-// one byte; the kept needs, one byte each; the objects' numbers, eight bytes each; the groups, one byte each.
+// Where the parts of a state stand: the subjects at 0, three bytes each; the objects and the handles likewise; the two counts, eight bytes each; the freeze,
+// one byte; the kept needs, two bytes each; the objects' numbers, eight bytes each; the groups, one byte each.
 pub const SUBJECTS_AT: usize = 0;
 
-pub const OBJECTS_AT: usize = 2 * SUBJECTS;
+pub const OBJECTS_AT: usize = 3 * SUBJECTS;
 
-pub const HANDLES_AT: usize = OBJECTS_AT + 2 * OBJECTS;
+pub const HANDLES_AT: usize = OBJECTS_AT + 3 * OBJECTS;
 
 pub const MADE_AT: usize = HANDLES_AT + 3 * HANDLES;
 
@@ -33,7 +33,7 @@ pub const FREEZE_AT: usize = GONE_AT + 8;
 
 pub const NEEDS_AT: usize = FREEZE_AT + 1;
 
-pub const NUMBERS_AT: usize = NEEDS_AT + THINGS;
+pub const NUMBERS_AT: usize = NEEDS_AT + 2 * THINGS;
 
 pub const GROUPS_AT: usize = NUMBERS_AT + 8 * OBJECTS;
 
@@ -97,14 +97,20 @@ pub fn load_subjects(state: &[u8]) -> [Subject; SUBJECTS]
     requires { ⌜ Sized (now state) ⌝ }
     ensures { λ r. ⌜ r ≡ subjects-of (now (state .entry)) ⌝ }
 {
-    let mut r = [Subject { live: 0, level: 0 }; SUBJECTS];
+    let mut r = [Subject {
+        live: 0,
+        level: 0,
+        shops: 0,
+    }; SUBJECTS];
     let mut i: usize = 0;
     while i < SUBJECTS {
-        let at = SUBJECTS_AT + 2 * i;
+        let at = SUBJECTS_AT + 3 * i;
         let live = to_live(state[at]);
         let next = at + 1;
         let level = state[next];
-        r[i] = Subject { live, level };
+        let last = next + 1;
+        let shops = state[last];
+        r[i] = Subject { live, level, shops };
         i += 1;
     }
     r
@@ -114,14 +120,20 @@ pub fn load_objects(state: &[u8]) -> [Object; OBJECTS]
     requires { ⌜ Sized (now state) ⌝ }
     ensures { λ r. ⌜ r ≡ objects-of (now (state .entry)) ⌝ }
 {
-    let mut r = [Object { kind: 0, level: 0 }; OBJECTS];
+    let mut r = [Object {
+        kind: 0,
+        level: 0,
+        shops: 0,
+    }; OBJECTS];
     let mut i: usize = 0;
     while i < OBJECTS {
-        let at = OBJECTS_AT + 2 * i;
+        let at = OBJECTS_AT + 3 * i;
         let kind = to_sort(KINDS, state[at]);
         let next = at + 1;
         let level = state[next];
-        r[i] = Object { kind, level };
+        let last = next + 1;
+        let shops = state[last];
+        r[i] = Object { kind, level, shops };
         i += 1;
     }
     r
@@ -150,15 +162,27 @@ pub fn load_handles(state: &[u8]) -> [Handle; HANDLES]
     r
 }
 
-pub fn load_needs(state: &[u8]) -> [u8; THINGS]
+// The label in the two bytes at an offset: its set, and then its level.
+pub fn load_label(state: &[u8], at: usize) -> u16
+    requires { ⌜ at + 2 ≤ length (now state) ⌝ }
+    ensures { λ r. ⌜ r ≡ whole (take 2 (drop at (now (state .entry)))) ⌝ }
+{
+    let shops = state[at];
+    let next = at + 1;
+    let level = state[next];
+    256 * (level as u16) + shops as u16
+}
+
+pub fn load_needs(state: &[u8]) -> [u16; THINGS]
     requires { ⌜ Sized (now state) ⌝ }
     ensures { λ r. ⌜ r ≡ needs-of (now (state .entry)) ⌝ }
 {
-    let mut r = [0u8; THINGS];
+    let mut r = [0u16; THINGS];
     let mut i: usize = 0;
     while i < THINGS {
-        let at = NEEDS_AT + i;
-        r[i] = state[at];
+        let at = NEEDS_AT + 2 * i;
+        let n = load_label(state, at);
+        r[i] = n;
         i += 1;
     }
     r
@@ -251,10 +275,12 @@ pub fn store_subjects(state: &mut [u8], subjects: [Subject; SUBJECTS])
     let mut i: usize = 0;
     while i < SUBJECTS {
         let x = subjects[i];
-        let place = SUBJECTS_AT + 2 * i;
+        let place = SUBJECTS_AT + 3 * i;
         let next = place + 1;
+        let last = next + 1;
         state[place] = from_live(x.live);
         state[next] = x.level;
+        state[last] = x.shops;
         i += 1;
     }
 }
@@ -267,10 +293,12 @@ pub fn store_objects(state: &mut [u8], objects: [Object; OBJECTS])
     while i < OBJECTS {
         let x = objects[i];
         let kind = x.kind;
-        let place = OBJECTS_AT + 2 * i;
+        let place = OBJECTS_AT + 3 * i;
         let next = place + 1;
+        let last = next + 1;
         state[place] = from_sort(KINDS, kind);
         state[next] = x.level;
+        state[last] = x.shops;
         i += 1;
     }
 }
@@ -310,15 +338,28 @@ pub fn store_number(state: &mut [u8], at: usize, number: u64)
     }
 }
 
-pub fn store_needs(state: &mut [u8], needs: [u8; THINGS])
+// A label into the two bytes at an offset: its set, and then its level.
+pub fn store_label(state: &mut [u8], at: usize, label: u16)
+    requires { ⌜ at + 2 ≤ length (now state) ⌝ }
+    ensures bytes { λ _. ⌜ now (state .exit) ≡ over at (digits 2 label) (now (state .entry)) ⌝ }
+    ensures narrow { λ _. ⌜ label < 2 ^ 16 ⌝ }
+{
+    let next = at + 1;
+    state[at] = (label % 256) as u8;
+    state[next] = (label / 256) as u8;
+}
+
+pub fn store_needs(state: &mut [u8], needs: [u16; THINGS])
     requires { ⌜ Sized (now state) ⌝ }
     ensures bytes { λ _. ⌜ now (state .exit) ≡ over needs-at (need-bytes needs) (now (state .entry)) ⌝ }
     ensures all { λ _. ⌜ length needs ≡ 96 ⌝ }
+    ensures narrow { λ _. ⌜ Narrow 16 needs ⌝ }
 {
     let mut i: usize = 0;
     while i < THINGS {
-        let place = NEEDS_AT + i;
-        state[place] = needs[i];
+        let n = needs[i];
+        let place = NEEDS_AT + 2 * i;
+        store_label(state, place, n);
         i += 1;
     }
 }
@@ -326,7 +367,7 @@ pub fn store_needs(state: &mut [u8], needs: [u8; THINGS])
 pub fn store_numbers(state: &mut [u8], numbers: [u64; OBJECTS])
     requires { ⌜ Sized (now state) ⌝ }
     ensures bytes { λ _. ⌜ now (state .exit) ≡ over numbers-at (number-bytes numbers) (now (state .entry)) ⌝ }
-    ensures narrow { λ _. ⌜ Narrow numbers ⌝ }
+    ensures narrow { λ _. ⌜ Narrow 64 numbers ⌝ }
 {
     let mut i: usize = 0;
     while i < OBJECTS {

@@ -5,7 +5,8 @@ use Prim.Native.Nat.{ℕ, _+_}
 use lib.ListN.{getD}
 use mathlib.Core.Bool.{Bool}
 use lib.Dec.{T, ltb}
-use Rattle.model.specs.Label.{Label, label}
+use Rattle.model.specs.Label.{Label}
+use Rattle.labels.specs.Codes.{coded}
 use Rattle.model.specs.Flow.{Thing, subject, object}
 use Rattle.model.specs.Tables.{Tables, in-range, needs}
 pub mod Laws
@@ -21,7 +22,7 @@ node (object n) = 32 + n
 
 -- RULES F10: the subjects first, then the slots
 abbrev pub figure-of : List ℕ → Thing → Label
-figure-of r x = label (getD r (node x) 0)
+figure-of r x = coded (getD r (node x) 0)
 
 -- the figures of all things, live or not, are their needs
 pub record Needed (t : Tables) (r : List ℕ) : Type 0 where

@@ -18,11 +18,11 @@ pub mod Laws
 -- ── one record ──
 -- RULES T29: live 0 is free, any other is live
 abbrev pub subject-entry : Subject → Option Entry
-subject-entry x = cond (eqb (x .live) 0) none (some (entry running (label (x .level))))
+subject-entry x = cond (eqb (x .live) 0) none (some (entry running (label (x .level) (x .shops))))
 
 -- RULES T30: kind 0 is free, 1 a file, any other a pipe
 abbrev pub object-entry : Object → Option Entry
-object-entry x = cond (eqb (x .kind) 0) none (some (entry (cond (eqb (x .kind) 1) file pipe) (label (x .level))))
+object-entry x = cond (eqb (x .kind) 0) none (some (entry (cond (eqb (x .kind) 1) file pipe) (label (x .level) (x .shops))))
 
 -- RULES T31, T36: way 0 is an empty place, 1 reads, 3 is a mapping and reads, any other writes; mark 0 is not marked, any other is
 abbrev pub reads-by : ℕ → Bool
@@ -36,10 +36,10 @@ held h = cond (eqb (h .way) 0) none (some (joins h))
 
 -- what stands where an array ends
 abbrev pub no-subject : Subject
-no-subject = record { live = 0; level = 0 }
+no-subject = record { live = 0; level = 0; shops = 0 }
 
 abbrev pub no-object : Object
-no-object = record { kind = 0; level = 0 }
+no-object = record { kind = 0; level = 0; shops = 0 }
 
 abbrev pub no-handle : Handle
 no-handle = record { way = 0; object = 0; mark = 0 }

@@ -3,7 +3,8 @@
 use mathlib.Core.Path.{_≡_}
 use mathlib.Core.Bool.{Bool, true, false, not, _&&_, _||_, cond}
 use mathlib.Core.List.{List}
-use Prim.Native.Nat.{ℕ, zero, suc, _%_}
+use Prim.Native.Nat.{ℕ, zero, suc, _%_, min}
+use lib.Bits.{bitAnd}
 use lib.Dec.{ltb, leb, eqb}
 use Rattle.model.specs.Tables.{empty, with-hand, handles, open-on}
 use Rattle.tables.specs.declared.Subject.{Subject}
@@ -30,11 +31,11 @@ abbrev pub joining : ℕ → ℕ → Handle
 joining way o = record { way = way; object = o % 64; mark = 0 }
 
 -- ── falling ──
-abbrev pub fallen-by : Subject → ℕ → Subject
-fallen-by x l = cond (ltb l (x .level)) (record { live = x .live; level = l }) x
+abbrev pub fallen-by : Subject → ℕ → ℕ → Subject
+fallen-by x l m = record { live = x .live; level = min (x .level) l; shops = bitAnd (x .shops) m }
 
-abbrev pub sunken-by : Object → ℕ → Object
-sunken-by y l = cond (eqb (y .kind) 1) y (cond (ltb l (y .level)) (record { kind = y .kind; level = l }) y)
+abbrev pub sunken-by : Object → ℕ → ℕ → Object
+sunken-by y l m = cond (eqb (y .kind) 1) y (record { kind = y .kind; level = min (y .level) l; shops = bitAnd (y .shops) m })
 
 -- ── tests ──
 abbrev pub used-subject : ℕ → Subject → Bool

@@ -39,18 +39,21 @@ pub const WRITES: u8 = 2;
 // A mapping: it reads.
 pub const MAPS: u8 = 3;
 
-// `live` is 0 for a number that is not in use, `mark` is 0 for a handle that is not marked. A handle's `object` is the slot of its object, whose number stands
+// `live` is 0 for a number that is not in use, `mark` is 0 for a handle that is not marked. A label is `level` and `shops`, the set of its shop marks, one bit for each
+// of eight shop groups. A handle's `object` is the slot of its object, whose number stands
 // beside the slot.
 #[repr(C)]
 pub struct Subject {
     pub live: u8,
     pub level: u8,
+    pub shops: u8,
 }
 
 #[repr(C)]
 pub struct Object {
     pub kind: u8,
     pub level: u8,
+    pub shops: u8,
 }
 
 #[repr(C)]

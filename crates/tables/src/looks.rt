@@ -1,8 +1,10 @@
 // The record at any number that a call names, what its way says, and what a record becomes where something falls.
 ghost use mathlib.Core.Path.{_≡_};
 ghost use mathlib.Core.Bool.{_&&_, _||_};
-ghost use Prim.Native.Nat.{_+_, _*_, _%_};
+ghost use Prim.Native.Nat.{_+_, _*_, _%_, min};
 ghost use lib.ListN.{getD, set};
+ghost use Rattle.model.specs.Label.{label};
+ghost use Rattle.labels.specs.Codes.{coded};
 ghost use Rattle.tables.specs.Records.{reads-by, no-subject, no-object, no-handle};
 ghost use Rattle.tables.specs.Working.{subject-at, object-at, handle-at, joining, fallen-by, sunken-by, writes-by};
 use crate::EMPTY;
@@ -23,7 +25,11 @@ pub fn subject_at(s: u64, x: Subject) -> Subject
     ensures { λ r. ⌜ r ≡ subject-at s x ⌝ }
 {
     if SUBJECTS as u64 <= s {
-        return Subject { live: 0, level: 0 };
+        return Subject {
+            live: 0,
+            level: 0,
+            shops: 0,
+        };
     }
     x
 }
@@ -36,6 +42,7 @@ pub fn object_at(o: u64, y: Object) -> Object
         return Object {
             kind: FREE,
             level: 0,
+            shops: 0,
         };
     }
     y
@@ -176,31 +183,50 @@ pub fn is_writing(way: u8) -> bool
     !reads
 }
 
-// A live subject that takes in something of this level: it falls to it if that is lower.
-pub fn fallen(x: Subject, level: u8) -> Subject
-    ensures { λ r. ⌜ r ≡ fallen-by x level ⌝ }
+// The label of a subject, and of an object, as one number.
+pub fn subject_label(x: Subject) -> u16
+    ensures { λ r. ⌜ coded r ≡ label (x .level) (x .shops) ⌝ }
 {
-    if level < x.level {
-        return Subject {
-            live: x.live,
-            level: level,
-        };
-    }
-    x
+    labels::code(x.level, x.shops)
 }
 
-// An object that something of this level is written to: a pipe falls to it if that is lower, a file keeps its own.
-pub fn sunken(y: Object, level: u8) -> Object
-    ensures { λ r. ⌜ r ≡ sunken-by y level ⌝ }
+pub fn object_label(y: Object) -> u16
+    ensures { λ r. ⌜ coded r ≡ label (y .level) (y .shops) ⌝ }
+{
+    labels::code(y.level, y.shops)
+}
+
+// The smaller of two levels.
+fn lower(a: u8, b: u8) -> u8
+    ensures { λ r. ⌜ r ≡ min a b ⌝ }
+{
+    if b < a {
+        return b;
+    }
+    a
+}
+
+// A live subject that takes in something of this label: it falls to the smaller level and the common set.
+pub fn fallen(x: Subject, level: u8, shops: u8) -> Subject
+    ensures { λ r. ⌜ r ≡ fallen-by x level shops ⌝ }
+{
+    Subject {
+        live: x.live,
+        level: lower(x.level, level),
+        shops: x.shops & shops,
+    }
+}
+
+// An object that something of this label is written to: a pipe falls, a file keeps its own.
+pub fn sunken(y: Object, level: u8, shops: u8) -> Object
+    ensures { λ r. ⌜ r ≡ sunken-by y level shops ⌝ }
 {
     if y.kind == FILE {
         return y;
     }
-    if level < y.level {
-        return Object {
-            kind: y.kind,
-            level: level,
-        };
+    Object {
+        kind: y.kind,
+        level: lower(y.level, level),
+        shops: y.shops & shops,
     }
-    y
 }

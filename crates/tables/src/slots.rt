@@ -119,6 +119,7 @@ fn once(again: bool, y: Object) -> Object
         return Object {
             kind: FREE,
             level: 0,
+            shops: 0,
         };
     }
     y

@@ -174,7 +174,7 @@ not-refused x n e q = false-true (sym q ∙ ap refuses e)
 pub tally-same : (x : Answer) (t : Tables) (c : Call) (y : Counts) → x ≡ answer t c → refuses x ≡ true → y ≡ tallied t c y
 unfolding tallied
 tally-same (allowed l) t c y e q = absurd (false-true q)
-tally-same (lowered l) t c y e q = absurd (false-true q)
+tally-same (lowered l k) t c y e q = absurd (false-true q)
 tally-same (refused n) t c y e q = rw (answered-refused t c n .0 (sym e), tallied)
 
 pub tally-moved : (x : Answer) (t : Tables) (c : Call) (y : Counts) (m g : ℕ) → x ≡ answer t c → refuses x ≡ false → m ≡ wrapped (y .made + makes t c)

@@ -32,12 +32,12 @@ how-many f (a ∷ l) = cond (f a) 1 0 + how-many f l
 
 abbrev pub is-allowed : Answer → Bool
 is-allowed (allowed n) = true
-is-allowed (lowered n) = false
+is-allowed (lowered n k) = false
 is-allowed (refused n) = false
 
 abbrev pub is-lowered : Answer → Bool
 is-lowered (allowed n) = false
-is-lowered (lowered n) = true
+is-lowered (lowered n k) = true
 is-lowered (refused n) = false
 
 abbrev pub outcome-of : List Answer → Outcome

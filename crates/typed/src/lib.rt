@@ -56,7 +56,7 @@ fn counted(before: Outcome, answer: Answer) -> Outcome
         Answer::Allowed(_) => {
             out.allowed = std::num::wrapping_add_u64(before.allowed, 1);
         }
-        Answer::Lowered(_) => {
+        Answer::Lowered(_, _) => {
             out.lowered = std::num::wrapping_add_u64(before.lowered, 1);
         }
         Answer::Refused(_) => {

@@ -6,6 +6,7 @@ use crate::calls::{shape_of_code, Role};
 use crate::scene::{capital, Scene};
 use crate::things::Thing;
 use gk_names::number::shown;
+use gk_names::shops::written;
 use gk_names::Kind;
 
 /// A call in words, without a full stop; `happens` says whether it was allowed.
@@ -26,14 +27,18 @@ pub fn asked(call: Call, scene: Scene, happens: bool) -> String {
         None => format!(" at place {}", shown(place)),
     };
     let new = |kind: Kind, number: u64| scene.new_thing(kind, number);
+    let marks = |set: u64| match u8::try_from(set) {
+        Ok(set) => scene.with_marks(set),
+        Err(_) => format!(" with the set {}", shown(set)),
+    };
     match call {
-        Call::Admit { subject, level } => {
+        Call::Admit { subject, level, shops } => {
             let who = capital(&new(Kind::Step, subject));
-            format!("{who} {is} admitted from outside at level {}", shown(level))
+            format!("{who} {is} admitted from outside at level {}{}", shown(level), marks(shops))
         }
-        Call::Register { object, level } => {
+        Call::Register { object, level, shops } => {
             let what = capital(&new(Kind::File, object));
-            format!("{what} {is} registered from outside at level {}", shown(level))
+            format!("{what} {is} registered from outside at level {}{}", shown(level), marks(shops))
         }
         Call::Create { subject, object } => {
             by(subject, "creates", "create", &format!(" {}", new(Kind::File, object)))
@@ -97,11 +102,20 @@ pub fn names_in(call: Call, scene: Scene) -> Vec<(&'static str, String)> {
         Role::File => scene.new_name(Kind::File, number),
         Role::Pipe => scene.new_name(Kind::Pipe, number),
         Role::Object => scene.name(Thing::Object(number)),
-        Role::Place | Role::Level => None,
+        Role::Place | Role::Level | Role::Set => None,
+    };
+    // The names of a set's shop groups, where each has one.
+    let marks = |set: u64| {
+        let written = written(set, scene.names, scene.record);
+        let is_named = !written.starts_with(|sign: char| sign.is_ascii_digit());
+        (is_named && !["all", "none"].contains(&written.as_str())).then(|| written.replace('"', ""))
     };
     parts
         .zip(call.numbers())
-        .filter_map(|((part, role), number)| name(part, role, number).map(|name| (part, name.to_string())))
+        .filter_map(|((part, role), number)| match role {
+            Role::Set => marks(number).map(|names| (part, names)),
+            _ => name(part, role, number).map(|name| (part, name.to_string())),
+        })
         .collect()
 }
 

@@ -12,6 +12,8 @@ pub enum Role {
     Pipe,
     Place,
     Level,
+    /// A set of shop marks.
+    Set,
 }
 
 /// A call's code, its word, and the names of its numbers in their order.
@@ -35,6 +37,7 @@ impl Shape {
             ("o", "register" | "create") => Role::File,
             ("o", _) => Role::Object,
             ("level", _) => Role::Level,
+            ("set", _) => Role::Set,
             _ => Role::Place,
         }
     }
@@ -46,8 +49,8 @@ const fn shape(code: u64, word: &'static str, numbers: &'static [&'static str]) 
 
 /// RULES C1 to C18, in the order of their codes.
 pub const SHAPES: [Shape; 18] = [
-    shape(1, "admit", &["s", "level"]),
-    shape(2, "register", &["o", "level"]),
+    shape(1, "admit", &["s", "level", "set"]),
+    shape(2, "register", &["o", "level", "set"]),
     shape(3, "create", &["s", "o"]),
     shape(4, "pipe", &["s", "o", "r", "w"]),
     shape(5, "open-read", &["s", "o", "p"]),
@@ -80,8 +83,8 @@ pub fn shape_of_word(word: &str) -> Option<&'static Shape> {
 pub fn call_of(code: u64, numbers: [u64; 6]) -> Option<Call> {
     let [a, b, c, d, e, f] = numbers;
     Some(match code {
-        1 => Call::Admit { subject: a, level: b },
-        2 => Call::Register { object: a, level: b },
+        1 => Call::Admit { subject: a, level: b, shops: c },
+        2 => Call::Register { object: a, level: b, shops: c },
         3 => Call::Create { subject: a, object: b },
         4 => Call::Pipe { subject: a, object: b, reads: c, writes: d },
         5 => Call::OpenRead { subject: a, object: b, place: c },

@@ -19,7 +19,7 @@ pub enum Malformed {
 
 impl Malformed {
     /// RULES J4 to J6: why the proved reader finds no number at the front of these bytes.
-    fn of(bytes: &[u8]) -> Malformed {
+    pub fn of(bytes: &[u8]) -> Malformed {
         match bytes.iter().position(|byte| byte & 0x80 == 0) {
             None => Malformed::CutOff,
             Some(last) if last > 0 && bytes[last] == 0 => Malformed::Padded,

@@ -1,7 +1,7 @@
 //! A refusal in words: what did not happen and why, the chain behind a 9, also one that a 15 hides, and the ways out.
 
-use gatekeeper::{Call, Refusal, NO_FREEZE};
-use gk_chain::{chain_of, Link};
+use gatekeeper::{Call, Refusal, ALL_SHOPS, NO_FREEZE};
+use gk_chain::{chain_of, Lack, Link};
 
 use crate::asked::{asked, not_done};
 use crate::calls::{number_of, SHAPES};
@@ -56,10 +56,9 @@ pub fn refused(call: Call, refusal: Refusal, scene: Scene, closing: Option<Closi
             facts.push(format!("{}.", sentence(&nine_once_open("it would be refused with"))));
         }
         facts.push(format!(
-            "{} has level {}, and {high_name} takes nothing from below level {}.",
+            "{} {}.",
             crate::scene::capital(low_name),
-            low.level,
-            high.level
+            insufficient((low, "has level"), (high, high_name), "level ", scene)
         ));
         facts.extend(threads::in_chain(&chain, scene));
         facts.extend(floor(call, scene));
@@ -72,16 +71,49 @@ pub fn answer_words(refusal: Refusal) -> String {
     format!("Refused ({}): {}.", refusal.number(), refusal.words())
 }
 
-/// RULES F5: how far the step that asks to read may fall, as the monitor has it.
+/// What is insufficient of the thing at the front of a chain for the file at its end, the level or shop marks: "has level
+/// 2, and file 0 takes nothing from below level 9", "lacks the shop mark of north, and file 0 takes nothing without it". `has`
+/// leads up to the low level, `below` to the high one.
+pub fn insufficient(
+    (low, has): (&Link, &str),
+    (high, name): (&Link, &str),
+    below: &str,
+    scene: Scene,
+) -> String {
+    let lack = Lack::of(low.label, high.label);
+    let (level, least) = (low.label.level, high.label.level);
+    let it = if lack.shops.count_ones() == 1 { "it" } else { "them" };
+    match (lack.level, lack.shops) {
+        (_, 0) => format!("{has} {level}, and {name} takes nothing from below {below}{least}"),
+        (false, shops) => {
+            format!("lacks {}, and {name} takes nothing without {it}", scene.marks(shops))
+        }
+        (true, shops) => {
+            let marks = scene.marks(shops);
+            format!(
+                "{has} {level} and lacks {marks}, and {name} takes nothing from below {below}{least} and nothing \
+                 without {it}"
+            )
+        }
+    }
+}
+
+/// RULES F5: how far the step that asks to read may fall, as the monitor has it. The shop marks that it has to keep are
+/// said where what it would read lacks one of them.
 fn floor(call: Call, scene: Scene) -> Option<String> {
-    let (Call::OpenRead { subject, .. } | Call::Map { subject, .. }) = call else {
+    let (Call::OpenRead { subject, object, .. } | Call::Map { subject, object, .. }) = call else {
         return None;
     };
     let need = scene.monitor.need_of_subject(subject)?;
+    let label = scene.monitor.object(object)?.label;
+    let keep = match Lack::of(label, need).shops {
+        0 => String::new(),
+        _ => format!(" and to keep {}", scene.marks(need.shops)),
+    };
     Some(format!(
-        "With the handles that there are, {} has to stay at level {}.",
+        "With the handles that there are, {} has to stay at level {}{keep}.",
         scene.step(subject),
-        or_above(need.into())
+        or_above(need.level.into())
     ))
 }
 
@@ -162,6 +194,9 @@ fn why(
         Refusal::IsPipe => "it is a pipe".to_string(),
         Refusal::LevelTooHigh => match call {
             Call::Freeze { .. } => format!("a freeze is 0 to {HIGHEST}, or {NO_FREEZE} for none"),
+            Call::Admit { level: ..=HIGHEST, .. } | Call::Register { level: ..=HIGHEST, .. } => {
+                format!("a set of shop marks is 0 to {ALL_SHOPS}")
+            }
             _ => format!("levels are 0 to {HIGHEST}"),
         },
         Refusal::PlaceUnfit => unfit_place(call, scene),
@@ -180,7 +215,7 @@ fn why(
         }
         Refusal::Frozen => {
             let level =
-                number_of(call, "o").and_then(|o| monitor.object(o)).map_or(0, |object| object.level);
+                number_of(call, "o").and_then(|o| monitor.object(o)).map_or(0, |object| object.label.level);
             let since = closing.map_or_else(String::new, |closing| format!(" {}", closing.words()));
             format!("the books are{since}, and it has level {level}")
         }
@@ -203,7 +238,13 @@ fn flow_reason(call: Call, chain: &[(Link, String)], scene: Scene) -> String {
         |thing: Thing| mates(scene.monitor, call.numbers()[0]).any(|mate| thing == Thing::Step(mate));
     match (call, &chain[..chain.len() - 1]) {
         (Call::OpenWrite { .. }, _) if low.thing == step => {
-            format!("its level is {}, and {high_name} takes nothing from below {}", low.level, high.level)
+            let lack = Lack::of(low.label, high.label);
+            let words = insufficient((low, "its level is"), (high, high_name), "", scene);
+            if lack.level {
+                words.replacen(" and lacks ", " and it lacks ", 1)
+            } else {
+                format!("it {words}")
+            }
         }
         (Call::OpenWrite { .. }, _) => format!("what {low_name} has could get there through it"),
         (Call::Connect { .. }, _) => format!("what {low_name} has could then reach {high_name}"),

@@ -30,10 +30,11 @@ pub struct Step {
 }
 
 impl Step {
-    /// RULES P4, P7, P8: the reply line, without its end.
+    /// RULES P4, P7, P8: the reply line, without its end. That of a lowered call ends with the number of shop marks lost.
     pub fn line(&self) -> String {
         let (letter, value) = letter_and_value(self.answer);
-        format!("{} {} {letter} {value}", self.position, self.code)
+        let lost = lost(self.answer).map_or(String::new(), |lost| format!(" {lost}"));
+        format!("{} {} {letter} {value}{lost}", self.position, self.code)
     }
 
     /// Why it was refused; none where it was not.
@@ -49,8 +50,16 @@ impl Step {
 pub fn letter_and_value(answer: Answer) -> (char, u32) {
     match answer {
         Answer::Allowed(level) => ('A', level.into()),
-        Answer::Lowered(level) => ('L', level.into()),
+        Answer::Lowered { level, .. } => ('L', level.into()),
         Answer::Refused(refusal) => ('R', refusal.number()),
+    }
+}
+
+/// How many shop marks the thing lost whose level the answer gives; none where the answer does not say so.
+pub fn lost(answer: Answer) -> Option<u8> {
+    match answer {
+        Answer::Lowered { lost, .. } => Some(lost),
+        _ => None,
     }
 }
 
@@ -209,6 +218,8 @@ mod tests {
             &[1, 99],
             &[1, 0],
             &[3, 2, 0, 2, 3, 1, 0, 9, 4, 5, 0, 0, 0, 3, 7, 0, 0],
+            &[5, 2, 0, 2, 0xff, 1, 5, 1, 0, 9, 0xff, 1, 4, 5, 0, 0, 0, 3, 7, 0, 0],
+            &[4, 2, 0, 2, 3, 5, 1, 0, 9, 0xff, 1, 4, 5, 0, 0, 0, 3, 7, 0, 0],
             &[4, 2, 0, 2, 9, 2, 2, 0, 3, 1, 0, 0x80],
             &[0; JOURNAL_BYTES + 1],
         ] {
@@ -218,7 +229,7 @@ mod tests {
 
     #[test]
     fn a_record_in_the_making_is_waited_for() {
-        let journal = [3, 2, 0, 2, 3, 1, 0, 9];
+        let journal = [4, 2, 0, 2, 3, 4, 1, 0, 9, 3];
         for end in 0..=journal.len() {
             let mut run = Growing::new();
             let mut records = 0;
@@ -228,8 +239,8 @@ mod tests {
                     last => break last,
                 }
             };
-            assert_eq!(records, end / 4);
-            assert_eq!(matches!(last, Next::Unfinished), end % 4 != 0, "{end}");
+            assert_eq!(records, end / 5);
+            assert_eq!(matches!(last, Next::Unfinished), end % 5 != 0, "{end}");
         }
         assert!(matches!(Growing::new().next(&[0x80, 0x80]), Next::Unfinished));
         assert!(matches!(Growing::new().next(&[0x80, 0x00]), Next::Step(_)));

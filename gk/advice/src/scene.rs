@@ -2,12 +2,12 @@
 
 use std::collections::BTreeMap;
 
-use gatekeeper::{Call, Handle, Kind as ObjectKind, State as Monitor, Way};
+use gatekeeper::{Call, Handle, Kind as ObjectKind, Label, State as Monitor, Way};
 
 use crate::run::{Content, Step};
-use crate::things::{level, objects, Thing, STEPS};
+use crate::things::{label, level, objects, Thing, ALL_SHOPS, STEPS};
 use gk_names::number::shown;
-use gk_names::{Entry, Kind, Names};
+use gk_names::{shops, Entry, Kind, Names};
 
 /// At which records the things of each number went, so that a name is not taken for that of the next one.
 #[derive(Clone, Debug, Default)]
@@ -117,12 +117,43 @@ impl<'a> Scene<'a> {
         self.thing(Thing::Object(o))
     }
 
-    /// A thing with its level.
-    pub fn leveled(&self, thing: Thing) -> String {
-        match level(self.monitor, thing) {
-            Some(level) => format!("{} (level {level})", self.thing(thing)),
+    /// A thing with its label.
+    pub fn labelled(&self, thing: Thing) -> String {
+        match label(self.monitor, thing) {
+            Some(label) => format!("{} ({})", self.thing(thing), self.label(label)),
             None => self.thing(thing),
         }
+    }
+
+    /// A label: "level 9", or "level 9, shop marks of north and east". All shop marks are not spoken of.
+    pub fn label(&self, label: Label) -> String {
+        format!("level {}{}", label.level, self.beside_level(label.shops, ", "))
+    }
+
+    /// The same in a sentence: "level 9", or "level 9 with the shop marks of north and east".
+    pub fn level_with(&self, label: Label) -> String {
+        format!("level {}{}", label.level, self.with_marks(label.shops))
+    }
+
+    /// " with the shop marks of north and east"; nothing where the set has all shop marks.
+    pub fn with_marks(&self, set: u8) -> String {
+        match set {
+            ALL_SHOPS => String::new(),
+            _ => format!(" with {}", self.marks(set)),
+        }
+    }
+
+    /// A set of shop marks in a table or in brackets, without its article.
+    fn beside_level(&self, set: u8, start: &str) -> String {
+        match set {
+            ALL_SHOPS => String::new(),
+            _ => format!("{start}{}", self.marks(set).trim_start_matches("the ")),
+        }
+    }
+
+    /// A set of shop marks: "the shop marks of north and east", "all shop marks", "no shop marks".
+    pub fn marks(&self, set: u8) -> String {
+        shops::words(set, self.names, self.record)
     }
 
     /// What a thing that a call is to make will be called.
@@ -137,6 +168,7 @@ impl<'a> Scene<'a> {
         let thing = match kind {
             Kind::Step => Thing::Step(number),
             Kind::File | Kind::Pipe => Thing::Object(number),
+            Kind::Shop => return None,
         };
         let entry = self.names.entry(kind, number, self.record)?;
         let is_its = level(self.monitor, thing).is_none() && entry.from > self.lives.of(thing).went;
@@ -202,7 +234,7 @@ impl<'a> Scene<'a> {
             Way::Writes => "writing handle on",
             Way::Maps => "mapping of",
         };
-        format!("{marked}{what} {}", self.leveled(Thing::Object(handle.object)))
+        format!("{marked}{what} {}", self.labelled(Thing::Object(handle.object)))
     }
 }
 

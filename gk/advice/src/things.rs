@@ -1,6 +1,6 @@
 //! What a monitor holds, as lists: its steps, its files and pipes, and every handle with the flow that it lets through.
 
-use gatekeeper::{Handle, Kind, State as Monitor, Way};
+use gatekeeper::{Handle, Kind, Label, State as Monitor, Way};
 
 /// How many steps and places of a step there can be, and how many files and pipes at a time.
 pub use gatekeeper::{OBJECTS, PLACES, SUBJECTS as STEPS};
@@ -8,6 +8,9 @@ pub use gk_chain::{mates, Thing};
 
 /// The highest level.
 pub const HIGHEST: u64 = 15;
+
+/// The set of all shop marks.
+pub const ALL_SHOPS: u8 = u8::MAX;
 
 /// A handle with its holder and its place.
 #[derive(Clone, Copy, Debug, PartialEq, Eq)]
@@ -78,12 +81,17 @@ pub fn handles_on(monitor: &Monitor, object: u64) -> impl Iterator<Item = Held> 
     handles(monitor).filter(move |held| held.object() == object)
 }
 
-/// The level of a thing; none where it is not there.
-pub fn level(monitor: &Monitor, thing: Thing) -> Option<u8> {
+/// The label of a thing; none where it is not there.
+pub fn label(monitor: &Monitor, thing: Thing) -> Option<Label> {
     match thing {
         Thing::Step(s) => monitor.subject(s),
-        Thing::Object(o) => monitor.object(o).map(|object| object.level),
+        Thing::Object(o) => monitor.object(o).map(|object| object.label),
     }
+}
+
+/// The level of a thing; none where it is not there.
+pub fn level(monitor: &Monitor, thing: Thing) -> Option<u8> {
+    label(monitor, thing).map(|label| label.level)
 }
 
 pub fn is_file(monitor: &Monitor, object: u64) -> bool {
@@ -107,6 +115,6 @@ pub fn empty_places(monitor: &Monitor, step: u64) -> impl Iterator<Item = u64> +
 /// RULES R15: whether a file can at present not be opened for writing, whoever asks.
 pub fn is_frozen(monitor: &Monitor, object: u64) -> bool {
     let level =
-        monitor.object(object).filter(|object| object.kind == Kind::File).map(|object| object.level);
+        monitor.object(object).filter(|object| object.kind == Kind::File).map(|object| object.label.level);
     matches!((monitor.frozen_from(), level), (Some(freeze), Some(level)) if level >= freeze)
 }

@@ -9,13 +9,13 @@ mod numbers;
 mod places;
 mod room;
 
-use gatekeeper::{Answer, Call, Refusal, State as Monitor, NO_FREEZE};
+use gatekeeper::{Answer, Call, Label, Refusal, State as Monitor, NO_FREEZE};
 use gk_chain::is_nine_once_open;
 
 pub use closing::places_words;
 
 use crate::scene::{listed, Closing, Scene};
-use crate::things::{is_frozen, Held, HIGHEST};
+use crate::things::{is_frozen, Held, ALL_SHOPS, HIGHEST};
 
 /// Things of a kind that are named one by one.
 const MOST_NAMED: usize = 3;
@@ -130,33 +130,115 @@ fn aim_after(monitor: &Monitor, first: &[Call], call: Call) -> Option<Vec<Call>>
     Some(first.iter().copied().chain(then).collect())
 }
 
-/// The least level from which on, up to the highest, there are calls; and those of that level.
-fn from_level(calls_at: impl Fn(u64) -> Option<Vec<Call>>) -> Option<(u64, Vec<Call>)> {
-    (0..=HIGHEST).rev().map_while(|level| calls_at(level).map(|calls| (level, calls))).last()
+/// The shop marks that a thing from outside is to have in an advice.
+#[derive(Clone, Copy, Debug, PartialEq, Eq)]
+enum Marks {
+    /// These, and any others may be there.
+    AtLeast(u8),
+    /// No others than these.
+    AtMost(u8),
+}
+
+impl Marks {
+    /// The set that the advised calls have. Where no mark is asked for, it is the one with all of them, as where nothing is
+    /// said of shop marks.
+    fn set(self) -> u8 {
+        match self {
+            Marks::AtLeast(0) => ALL_SHOPS,
+            Marks::AtLeast(set) | Marks::AtMost(set) => set,
+        }
+    }
+
+    /// To follow a level: " with the shop marks of north and east". Nothing where all shop marks will do and no other set is
+    /// better, so that nothing is said where shop marks are not used.
+    fn words(self, scene: Scene) -> String {
+        match self {
+            Marks::AtLeast(0 | ALL_SHOPS) => String::new(),
+            Marks::AtLeast(set) => format!(" with {}", scene.marks(set)),
+            Marks::AtMost(0) => " with no shop marks".to_string(),
+            Marks::AtMost(set) => {
+                let marks = scene.marks(set).replacen("shop ", "", 1);
+                format!(" with no other shop marks than {marks}")
+            }
+        }
+    }
+}
+
+/// The shop marks with which there are calls: the fewest where with all of them there are, or else the most where with
+/// none there are; none where there are not. What a call asks of a thing from outside goes one way only: it is to have at
+/// least some, or at most some.
+fn marks_for(has_calls: impl Fn(u8) -> bool) -> Option<Marks> {
+    let each = || (0..8).map(|group| 1u8 << group);
+    if has_calls(ALL_SHOPS) {
+        let fewer = |set: u8, mark: u8| if has_calls(set & !mark) { set & !mark } else { set };
+        return Some(Marks::AtLeast(each().fold(ALL_SHOPS, fewer)));
+    }
+    has_calls(0).then(|| {
+        let more = |set: u8, mark: u8| if has_calls(set | mark) { set | mark } else { set };
+        Marks::AtMost(each().fold(0, more))
+    })
+}
+
+/// A label of an advice, as numbers of a call.
+fn label_of(level: u64, shops: u8) -> Label {
+    Label { level: u8::try_from(level).unwrap_or(u8::MAX), shops }
+}
+
+/// The least level from which on, up to the highest, there are calls, the shop marks that go with it, and the calls of that
+/// level.
+fn from_level(calls_at: impl Fn(Label) -> Option<Vec<Call>>) -> Option<(u64, Marks, Vec<Call>)> {
+    let marks = marks_for(|set| calls_at(label_of(HIGHEST, set)).is_some())?;
+    let at = |level: u64| calls_at(label_of(level, marks.set())).map(|calls| (level, marks, calls));
+    (0..=HIGHEST).rev().map_while(at).last()
+}
+
+/// Levels at which there are calls, the shop marks that go with them, and the calls of the lowest.
+struct Between {
+    low: u64,
+    high: u64,
+    marks: Marks,
+    calls: Vec<Call>,
 }
 
 /// The lowest level at which there are calls, the highest up to which there are at all between, and the calls of the
 /// lowest. Where these do not open the books, those between do not, either.
-fn between_levels(calls_at: impl Fn(u64) -> Option<Vec<Call>>) -> Option<(u64, u64, Vec<Call>)> {
-    let (low, calls) = (0..=HIGHEST).find_map(|level| calls_at(level).map(|calls| (level, calls)))?;
-    let is_like =
-        |level: &u64| calls_at(*level).is_some_and(|others| opens_books(&others) == opens_books(&calls));
+fn between_levels(calls_at: impl Fn(Label) -> Option<Vec<Call>>) -> Option<Between> {
+    let lowest = |set: u8| (0..=HIGHEST).find_map(|level| Some((level, calls_at(label_of(level, set))?)));
+    let marks = marks_for(|set| lowest(set).is_some())?;
+    let set = marks.set();
+    let (low, calls) = lowest(set)?;
+    let is_like = |level: &u64| {
+        calls_at(label_of(*level, set)).is_some_and(|others| opens_books(&others) == opens_books(&calls))
+    };
     let high = (low..=HIGHEST).take_while(is_like).last()?;
-    Some((low, high, calls))
+    Some(Between { low, high, marks, calls })
 }
 
-/// These levels, and what a level means to who gives one.
-fn level_words(low: u64, high: u64) -> String {
-    match (low, high) {
+/// These levels with their shop marks, and what a level means to who gives one.
+fn level_words(between: &Between, scene: Scene) -> String {
+    let Between { low, high, marks, .. } = *between;
+    let at = match (low, high) {
         (0, HIGHEST) => "at any level".to_string(),
         (_, HIGHEST) => format!("at level {}", or_above(low)),
         _ if low == high => format!("at level {low}"),
         _ => format!("at level {low} to {high}"),
+    };
+    at + &marks.words(scene)
+}
+
+/// What is to be minded where a thing from outside is to get such a label.
+fn no_higher(between: &Between, scene: Scene) -> String {
+    match between.marks.words(scene).is_empty() {
+        true => NO_HIGHER.to_string(),
+        false => format!("{NO_HIGHER} {NO_MORE}"),
     }
 }
 
 /// Said where a thing from outside is to get a level.
 const NO_HIGHER: &str = "A level says how well a thing has been looked over: give it no higher one.";
+
+/// And likewise where it is to get shop marks.
+const NO_MORE: &str = "A shop mark says that a shop group is vouched for: give it none that is not.";
 
 /// Whether the calls of an [`aim`] open the books.
 fn opens_books(calls: &[Call]) -> bool {

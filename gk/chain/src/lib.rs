@@ -1,4 +1,5 @@
-//! The chain behind a refusal 9: how something low could reach a higher file if the call were let through.
+//! The chain behind a refusal 9: how a thing of an insufficient label could reach a file if the call were let through. Its
+//! level may be too low, or it may lack shop marks that the file has ([`Lack`]).
 //!
 //! That a call is refused with 9 exactly where there is such a chain is proved (RULES R9), but that an open which
 //! offends the freeze as well is refused with 15 (RULES R117). Which chain it is, [`behind`] finds, and that is
@@ -11,9 +12,9 @@
 //! use gk_chain::{behind, Thing};
 //!
 //! let mut monitor = Monitor::new();
-//! monitor.admit(0, 9).granted()?; // a step of level 9
-//! monitor.register(0, 9).granted()?; // the pay book
-//! monitor.register(1, 2).granted()?; // an hours sheet
+//! monitor.admit(0, 9, 255).granted()?; // a step of level 9, with all shop marks
+//! monitor.register(0, 9, 255).granted()?; // the pay book
+//! monitor.register(1, 2, 255).granted()?; // an hours sheet
 //! monitor.open_write(0, 0, 0).granted()?;
 //!
 //! let call = Call::OpenRead { subject: 0, object: 1, place: 1 };
@@ -26,7 +27,7 @@
 
 mod thing;
 
-use gatekeeper::{Answer, Call, Kind, Refusal, State, Way, NO_FREEZE, PLACES, SUBJECTS};
+use gatekeeper::{Answer, Call, Kind, Label, Refusal, State, Way, NO_FREEZE, PLACES, SUBJECTS};
 
 pub use thing::{flow, mates, shared, Thing, Things};
 
@@ -43,7 +44,30 @@ pub struct Link {
     pub thing: Thing,
     /// What it is where it is no step; a pipe that a connect would make is one, too.
     pub kind: Option<Kind>,
-    pub level: u8,
+    pub label: Label,
+}
+
+/// What a label lacks for another: the level, shop marks, or both; nothing where it is at least the other.
+#[derive(Clone, Copy, Debug, PartialEq, Eq)]
+pub struct Lack {
+    pub level: bool,
+    /// The set of the shop marks that are missing.
+    pub shops: u8,
+}
+
+impl Lack {
+    pub fn of(label: Label, wanted: Label) -> Lack {
+        Lack { level: label.level < wanted.level, shops: wanted.shops & !label.shops }
+    }
+
+    /// What the thing at the front of a chain lacks for the file at its end.
+    pub fn behind(chain: &[Link]) -> Option<Lack> {
+        Some(Lack::of(chain.first()?.label, chain.last()?.label))
+    }
+
+    pub fn is_nothing(self) -> bool {
+        !self.level && self.shops == 0
+    }
 }
 
 /// The flows that a call would add; none for a call that adds none.
@@ -80,13 +104,14 @@ pub fn chain_of(monitor: &State, refusal: Refusal, code: u64, numbers: [u64; 6])
     }
 }
 
-/// The chain of flows that a call refused with 9 would have closed, from the low thing to the higher file, in
-/// the monitor before the call. It is empty where there is none, and where no step can have a number that the call names.
+/// The chain of flows that a call refused with 9 would have closed, from a thing to a file that its label is not at least
+/// the label of, in the monitor before the call. It is empty where there is none, and where no step can have a number that
+/// the call names.
 ///
-/// It is the shortest; of several as short, the one from the lowest thing; of several such, the one whose
-/// things come first in their order. It starts at a thing that is there: a pipe that a connect would make is
-/// as low as the step that writes it. That of an exec starts at the file, since no other level is asked about
-/// (RULES R9).
+/// It is the shortest; of several as short, the one from the lowest thing, that is of the lowest level and then of the
+/// fewest shop marks; of several such, the one whose things come first in their order. It starts at a thing that is there:
+/// a pipe that a connect would make has the label of the step that writes it. That of an exec starts at the file, since no
+/// other label is asked about (RULES R9).
 pub fn behind(monitor: &State, code: u64, numbers: [u64; 6]) -> Vec<Link> {
     let sought = sought(code, numbers);
     let things = Things::of(monitor, &sought);
@@ -99,20 +124,25 @@ pub fn behind(monitor: &State, code: u64, numbers: [u64; 6]) -> Vec<Link> {
     let is_start = |thing: Thing| code != EXEC || thing == Thing::Object(numbers[1]);
     let starts = things.all().filter_map(|thing| link(monitor, thing)).filter(|link| is_start(link.thing));
     let chains = starts.filter_map(|start| way_up(start, &links, &next, &things));
-    chains.min_by_key(|chain| (chain.len(), chain[0].level)).unwrap_or_default()
+    chains.min_by_key(|chain| (chain.len(), height(chain[0].label))).unwrap_or_default()
+}
+
+/// By what the lower of two things at the front of a chain is known: the level, then how many shop marks it has.
+fn height(label: Label) -> (u8, u32) {
+    (label.level, label.shops.count_ones())
 }
 
 /// A thing as it is before the call; none where it is not there.
 fn link(monitor: &State, thing: Thing) -> Option<Link> {
     match thing {
-        Thing::Step(s) => monitor.subject(s).map(|level| Link { thing, kind: None, level }),
+        Thing::Step(s) => monitor.subject(s).map(|label| Link { thing, kind: None, label }),
         Thing::Object(o) => {
-            monitor.object(o).map(|object| Link { thing, kind: Some(object.kind), level: object.level })
+            monitor.object(o).map(|object| Link { thing, kind: Some(object.kind), label: object.label })
         }
     }
 }
 
-/// All things that are there, by place, with the pipes that a connect would make: each has its writer's level
+/// All things that are there, by place, with the pipes that a connect would make: each has its writer's label
 /// (RULES C17).
 fn links(monitor: &State, code: u64, numbers: [u64; 6], things: &Things) -> Vec<Option<Link>> {
     let mut links: Vec<Option<Link>> = things.all().map(|thing| link(monitor, thing)).collect();
@@ -122,7 +152,7 @@ fn links(monitor: &State, code: u64, numbers: [u64; 6], things: &Things) -> Vec<
             let thing = Thing::Object(pipe);
             if let Some(place) = things.place(thing) {
                 links[place] =
-                    monitor.subject(writer).map(|level| Link { thing, kind: Some(Kind::Pipe), level });
+                    monitor.subject(writer).map(|label| Link { thing, kind: Some(Kind::Pipe), label });
             }
         }
     }
@@ -153,7 +183,7 @@ fn next(monitor: &State, code: u64, numbers: [u64; 6], things: &Things) -> Vec<V
     next
 }
 
-/// The shortest way from a thing to a file of a higher level, the first of these in the order of things. It
+/// The shortest way from a thing to a file that it is below, the first of these in the order of things. It
 /// is looked for breadth first: where each thing's next ones are in order, ways that are as long are reached
 /// in theirs.
 fn way_up(start: Link, links: &[Option<Link>], next: &[Vec<usize>], things: &Things) -> Option<Vec<Link>> {
@@ -165,7 +195,7 @@ fn way_up(start: Link, links: &[Option<Link>], next: &[Vec<usize>], things: &Thi
     is_known[first] = true;
     let mut at = 0;
     while let Some(&(here, _)) = reached.get(at) {
-        if here.kind == Some(Kind::File) && here.level > start.level {
+        if here.kind == Some(Kind::File) && !start.label.at_least(here.label) {
             return Some(way_to(at, &reached));
         }
         for &place in &next[places[at]] {
@@ -200,15 +230,15 @@ mod tests {
     fn found(monitor: &mut Monitor, code: u64, numbers: [u64; 6]) -> Vec<(Thing, u8)> {
         let chain = behind(&State::from(&*monitor), code, numbers);
         assert_eq!(monitor.direct(code, numbers), Answer::Refused(Refusal::Flow));
-        chain.iter().map(|link| (link.thing, link.level)).collect()
+        chain.iter().map(|link| (link.thing, link.label.level)).collect()
     }
 
     /// Step 0 of level 9 writes file 0 of level 9; file 1 has level 2.
     fn book() -> Result<Monitor, Refusal> {
         let mut monitor = Monitor::new();
-        monitor.admit(0, 9).granted()?;
-        monitor.register(0, 9).granted()?;
-        monitor.register(1, 2).granted()?;
+        monitor.admit(0, 9, 255).granted()?;
+        monitor.register(0, 9, 255).granted()?;
+        monitor.register(1, 2, 255).granted()?;
         monitor.open_write(0, 0, 0).granted()?;
         Ok(monitor)
     }
@@ -221,7 +251,7 @@ mod tests {
         assert_eq!(found(&mut monitor, MAP, [0, 1, 1, 0, 0, 0]), up);
         assert_eq!(found(&mut monitor, EXEC, [0, 1, 0, 0, 0, 0]), up);
 
-        monitor.admit(1, 5).granted()?;
+        monitor.admit(1, 5, 255).granted()?;
         assert_eq!(found(&mut monitor, OPEN_WRITE, [1, 0, 0, 0, 0, 0]), [(Step(1), 5), (Object(0), 9)]);
         let channel = found(&mut monitor, CONNECT, [0, 1, 5, 6, 1, 2]);
         assert_eq!(channel, [(Step(1), 5), (Object(6), 5), (Step(0), 9), (Object(0), 9)]);
@@ -232,7 +262,7 @@ mod tests {
     #[test]
     fn a_fifteen_has_the_chain_of_the_nine_behind_it() -> Result<(), Refusal> {
         let mut monitor = book()?;
-        monitor.admit(1, 5).granted()?;
+        monitor.admit(1, 5, 255).granted()?;
         monitor.freeze(9).granted()?;
         let (own, low) = ([0, 0, 1, 0, 0, 0], [1, 0, 0, 0, 0, 0]);
         for numbers in [own, low] {
@@ -258,7 +288,7 @@ mod tests {
     #[test]
     fn each_link_has_its_kind() -> Result<(), Refusal> {
         let mut monitor = book()?;
-        monitor.admit(1, 5).granted()?;
+        monitor.admit(1, 5, 255).granted()?;
         let chain = behind(&State::from(&monitor), CONNECT, [0, 1, 5, 6, 1, 2]);
         let kinds: Vec<Option<Kind>> = chain.iter().map(|link| link.kind).collect();
         assert_eq!(kinds, [None, Some(Kind::Pipe), None, Some(Kind::File)]);
@@ -273,7 +303,7 @@ mod tests {
         assert_eq!(found(&mut monitor, EXEC, [0, 1, 0, 0, 0, 0]).len(), 3);
         monitor.mark(0, 3).granted()?;
         assert!(behind(&State::from(&monitor), EXEC, [0, 1, 0, 0, 0, 0]).is_empty());
-        assert_eq!(monitor.exec(0, 1), Answer::Lowered(2));
+        assert_eq!(monitor.exec(0, 1), Answer::Lowered { level: 2, lost: 0 });
         Ok(())
     }
 
@@ -281,7 +311,7 @@ mod tests {
     fn an_exec_starts_at_the_file_alone() -> Result<(), Refusal> {
         let mut monitor = book()?;
         // Step 1 writes the file that is run; an exec does not ask who does.
-        monitor.admit(1, 2).granted()?;
+        monitor.admit(1, 2, 255).granted()?;
         monitor.open_write(1, 1, 0).granted()?;
         let up = [(Object(1), 2), (Step(0), 9), (Object(0), 9)];
         assert_eq!(found(&mut monitor, EXEC, [0, 1, 0, 0, 0, 0]), up);
@@ -321,14 +351,14 @@ mod tests {
         // Threads of another step are a way like any other.
         monitor.pipe(2, 8, 0, 1).granted()?;
         monitor.close(2, 0).granted()?;
-        monitor.admit(5, 9).granted()?;
+        monitor.admit(5, 9, 255).granted()?;
         monitor.thread(5, 6).granted()?;
         monitor.open_read(5, 8, 0).granted()?;
         monitor.open_write(6, 0, 0).granted()?;
         let up = [(Object(1), 2), (Step(2), 9), (Object(8), 9), (Step(5), 9), (Step(6), 9), (Object(0), 9)];
         assert_eq!(found(&mut monitor, EXEC, [2, 1, 0, 0, 0, 0]), up);
         monitor.close(6, 0).granted()?;
-        assert_eq!(monitor.exec(2, 1), Answer::Lowered(2));
+        assert_eq!(monitor.exec(2, 1), Answer::Lowered { level: 2, lost: 0 });
         Ok(())
     }
 
@@ -336,10 +366,10 @@ mod tests {
     fn of_several_as_short_the_one_from_the_lowest_then_the_first() -> Result<(), Refusal> {
         let mut monitor = Monitor::new();
         for (step, level) in [(0, 9), (1, 6), (2, 4), (3, 4), (4, 12)] {
-            monitor.admit(step, level).granted()?;
+            monitor.admit(step, level, 255).granted()?;
         }
-        monitor.register(0, 9).granted()?;
-        monitor.register(1, 9).granted()?;
+        monitor.register(0, 9, 255).granted()?;
+        monitor.register(1, 9, 255).granted()?;
         monitor.pipe(4, 8, 0, 1).granted()?;
         monitor.close(4, 0).granted()?;
         for step in [3, 2, 1] {
@@ -366,12 +396,61 @@ mod tests {
     fn a_chain_has_any_numbers() -> Result<(), Refusal> {
         let mut monitor = Monitor::new();
         let (book, sheet) = (u64::MAX, 1 << 40);
-        monitor.admit(0, 9).granted()?;
-        monitor.register(book, 9).granted()?;
-        monitor.register(sheet, 2).granted()?;
+        monitor.admit(0, 9, 255).granted()?;
+        monitor.register(book, 9, 255).granted()?;
+        monitor.register(sheet, 2, 255).granted()?;
         monitor.open_write(0, book, 0).granted()?;
         let up = [(Object(sheet), 2), (Step(0), 9), (Object(book), 9)];
         assert_eq!(found(&mut monitor, OPEN_READ, [0, sheet, 1, 0, 0, 0]), up);
+        Ok(())
+    }
+
+    /// A chain may start at a thing whose level is high enough: it lacks a shop mark.
+    #[test]
+    fn a_chain_goes_by_labels() -> Result<(), Refusal> {
+        let mut monitor = Monitor::new();
+        monitor.admit(0, 9, 0b011).granted()?;
+        monitor.register(0, 9, 0b001).granted()?;
+        monitor.register(1, 15, 0b110).granted()?;
+        monitor.register(2, 2, 0b001).granted()?;
+        monitor.register(3, 2, 0b000).granted()?;
+        monitor.open_write(0, 0, 0).granted()?;
+        for (sheet, lack) in [
+            (1, Lack { level: false, shops: 1 }),
+            (2, Lack { level: true, shops: 0 }),
+            (3, Lack { level: true, shops: 1 }),
+        ] {
+            let numbers = [0, sheet, 1, 0, 0, 0];
+            let chain = behind(&State::from(&monitor), OPEN_READ, numbers);
+            let things: Vec<Thing> = chain.iter().map(|link| link.thing).collect();
+            assert_eq!(things, [Object(sheet), Step(0), Object(0)]);
+            assert_eq!(Lack::behind(&chain), Some(lack));
+            assert_eq!(monitor.direct(OPEN_READ, numbers), Answer::Refused(Refusal::Flow));
+        }
+        // A book that asks for fewer marks takes it.
+        monitor.register(4, 15, 0b001).granted()?;
+        assert!(behind(&State::from(&monitor), OPEN_READ, [0, 4, 1, 0, 0, 0]).is_empty());
+        assert_eq!(monitor.open_read(0, 4, 1), Answer::Allowed(15));
+        Ok(())
+    }
+
+    /// Of things as low by their level, the one with the fewest shop marks.
+    #[test]
+    fn of_several_as_low_the_one_with_the_fewest_marks() -> Result<(), Refusal> {
+        let mut monitor = Monitor::new();
+        for (step, shops) in [(0, 255), (1, 3), (2, 128), (3, 64)] {
+            monitor.admit(step, 9, shops).granted()?;
+        }
+        monitor.register(0, 9, 255).granted()?;
+        monitor.pipe(0, 8, 0, 1).granted()?;
+        for step in [1, 2, 3] {
+            monitor.open_write(step, 8, 0).granted()?;
+        }
+        let things: Vec<(Thing, u8)> = behind(&State::from(&monitor), OPEN_WRITE, [0, 0, 2, 0, 0, 0])
+            .iter()
+            .map(|link| (link.thing, link.label.shops))
+            .collect();
+        assert_eq!(things, [(Step(2), 128), (Object(8), 255), (Step(0), 255), (Object(0), 255)]);
         Ok(())
     }
 }

@@ -85,7 +85,7 @@ mod tests {
     fn each_thing_has_a_place_of_its_own() -> Result<(), Refusal> {
         let mut monitor = Monitor::new();
         for object in [u64::MAX, 7, 1 << 40] {
-            monitor.register(object, 9).granted()?;
+            monitor.register(object, 9, 255).granted()?;
         }
         let new = [(Thing::Step(0), Thing::Object(64)), (Thing::Object(7), Thing::Step(99))];
         let things = Things::of(&State::from(&monitor), &new);
@@ -105,7 +105,7 @@ mod tests {
     #[test]
     fn threads_of_one_step_are_mates() -> Result<(), Refusal> {
         let mut monitor = Monitor::new();
-        monitor.admit(4, 9).granted()?;
+        monitor.admit(4, 9, 255).granted()?;
         monitor.thread(4, 1).granted()?;
         monitor.thread(1, 7).granted()?;
         monitor.fork(4, 2).granted()?;

@@ -2,9 +2,9 @@
 //! told in another way here; and so has each that is refused with 15 and would be with 9 once the books are open.
 
 use gatekeeper::{
-    Answer, Call, Kind, Refusal, State as Monitor, Way, NO_FREEZE, OBJECTS, PLACES, SUBJECTS,
+    Answer, Call, Kind, Label, Refusal, State as Monitor, Way, NO_FREEZE, OBJECTS, PLACES, SUBJECTS,
 };
-use gk_chain::{behind, chain_of, flow, sought, Link, Thing, Things};
+use gk_chain::{behind, chain_of, flow, sought, Lack, Link, Thing, Things};
 
 const RUNS: u64 = 500;
 const CALLS: usize = 600;
@@ -26,8 +26,10 @@ impl Draw {
     }
 }
 
-/// How many steps, files and pipes the calls of a run name.
+/// How many steps, files and pipes the calls of a run name, and which sets of shop marks.
 struct Size {
+    /// The marks that are drawn from; the others are on all things.
+    shops: u64,
     steps: u64,
     objects: u64,
     /// What numbers of files and pipes are multiples of: with a large one they are anywhere in 64 bits.
@@ -50,6 +52,7 @@ fn drawn(draw: &mut Draw, size: &Size, monitor: &Monitor) -> (u64, [u64; 6]) {
     };
     let (s, t) = (draw.below(size.steps), draw.below(size.steps));
     let (o, p, level) = (size.object(draw.below(size.objects)), draw.below(PLACES), draw.below(16));
+    let shops = 255 ^ (draw.below(256) & draw.below(256) & size.shops);
     let objects = (0..size.objects).rev().map(|o| size.object(o));
     let mut new = objects.filter(|&o| monitor.object(o).is_none());
     let (to, from) = (new.next().unwrap_or(o), new.next().unwrap_or(o));
@@ -57,8 +60,8 @@ fn drawn(draw: &mut Draw, size: &Size, monitor: &Monitor) -> (u64, [u64; 6]) {
     let mut empty = (0..PLACES).filter(|&place| is_empty(s, place) && (code != 17 || is_empty(t, place)));
     let (one, other) = (empty.next().unwrap_or(p), empty.next().unwrap_or(p));
     let numbers = match code {
-        1 => [s, level, 0, 0, 0, 0],
-        2 => [o, level, 0, 0, 0, 0],
+        1 => [s, level, shops, 0, 0, 0],
+        2 => [o, level, shops, 0, 0, 0],
         4 => [s, to, one, other, 0, 0],
         9 => [s, t, 0, 0, 0, 0],
         18 => [s, (0..size.steps).rev().find(|&t| monitor.subject(t).is_none()).unwrap_or(t), 0, 0, 0, 0],
@@ -84,10 +87,10 @@ struct Met {
 
 impl Met {
     fn of(monitor: &Monitor, code: u64, numbers: [u64; 6]) -> Met {
-        let step = |s: u64| Some(Link { thing: Thing::Step(s), kind: None, level: monitor.subject(s)? });
+        let step = |s: u64| Some(Link { thing: Thing::Step(s), kind: None, label: monitor.subject(s)? });
         let objects = monitor.objects().map(|(o, object)| {
             let (thing, kind) = (Thing::Object(o), Some(object.kind));
-            Link { thing, kind, level: object.level }
+            Link { thing, kind, label: object.label }
         });
         let there = (0..SUBJECTS).filter_map(step).chain(objects).collect();
         let [s, peer, to, from, ..] = numbers;
@@ -95,8 +98,8 @@ impl Met {
             17 => [(s, to), (peer, from)]
                 .into_iter()
                 .filter_map(|(writer, pipe)| {
-                    let level = monitor.subject(writer)?;
-                    Some(Link { thing: Thing::Object(pipe), kind: Some(Kind::Pipe), level })
+                    let label = monitor.subject(writer)?;
+                    Some(Link { thing: Thing::Object(pipe), kind: Some(Kind::Pipe), label })
                 })
                 .collect(),
             _ => Vec::new(),
@@ -133,11 +136,11 @@ impl Met {
         self.things.place(thing).expect("a thing that is there or made")
     }
 
-    /// For each thing, by place, the fewest flows to a file above a level: what a flow leads to is one flow nearer.
-    fn distances(&self, level: u8) -> Vec<Option<usize>> {
+    /// For each thing, by place, the fewest flows to a file that a label is below: what a flow leads to is one flow nearer.
+    fn distances(&self, label: Label) -> Vec<Option<usize>> {
         let mut distances = vec![None; self.things.count()];
         for link in &self.there {
-            if link.kind == Some(Kind::File) && link.level > level {
+            if link.kind == Some(Kind::File) && is_below(label, link.label) {
                 distances[self.place(link.thing)] = Some(0);
             }
         }
@@ -159,14 +162,14 @@ impl Met {
 
     /// The chain that is to be chosen: at each thing the first of the next ones that are a flow nearer.
     fn chain(&self, starts: &[Link]) -> Vec<Link> {
-        let fewest = |link: &Link| self.distances(link.level)[self.place(link.thing)];
-        let known = starts.iter().filter_map(|link| Some((fewest(link)?, link.level, *link)));
-        let Some((_, level, start)) =
-            known.min_by_key(|&(fewest, level, link)| (fewest, level, link.thing))
-        else {
+        let fewest = |link: &Link| self.distances(link.label)[self.place(link.thing)];
+        let known = starts.iter().filter_map(|link| Some((fewest(link)?, *link)));
+        let Some((_, start)) = known.min_by_key(|&(fewest, Link { thing, label, .. })| {
+            (fewest, label.level, label.shops.count_ones(), thing)
+        }) else {
             return Vec::new();
         };
-        let distances = self.distances(level);
+        let distances = self.distances(start.label);
         let mut chain = vec![start];
         loop {
             let here = chain[chain.len() - 1].thing;
@@ -183,13 +186,20 @@ impl Met {
     }
 }
 
+/// Whether the level is too low, or one of the other's shop marks is missing.
+fn is_below(one: Label, other: Label) -> bool {
+    one.level < other.level
+        || (0..8).any(|group| other.shops >> group & 1 == 1 && one.shops >> group & 1 == 0)
+}
+
 /// Sees that a call's chain is a chain, and the one that is to be chosen; says how long it is, and how many of its links
-/// are from a thread of a step to another.
-fn holds(monitor: &Monitor, code: u64, numbers: [u64; 6]) -> (usize, usize) {
+/// are from a thread of a step to another, and whether only shop marks are insufficient.
+fn holds(monitor: &Monitor, code: u64, numbers: [u64; 6]) -> (usize, usize, bool) {
     let chain = behind(monitor, code, numbers);
     let met = Met::of(monitor, code, numbers);
     let (low, high) = (chain.first().expect("a chain"), chain.last().expect("a chain"));
-    assert!(low.level < high.level && high.kind == Some(Kind::File));
+    assert!(is_below(low.label, high.label) && high.kind == Some(Kind::File));
+    assert_eq!(Lack::behind(&chain).map(Lack::is_nothing), Some(false));
     assert!(met.there.contains(low));
     assert!(code != 10 || low.thing == Thing::Object(numbers[1]));
     let joins: Vec<(Thing, Thing)> = chain.windows(2).map(|pair| (pair[0].thing, pair[1].thing)).collect();
@@ -200,7 +210,8 @@ fn holds(monitor: &Monitor, code: u64, numbers: [u64; 6]) -> (usize, usize) {
         met.there.iter().copied().filter(|link| code != 10 || link.thing == low.thing).collect();
     assert_eq!(chain, met.chain(&starts), "code {code}, {numbers:?}");
     let is_shared = |join: &&(Thing, Thing)| matches!(join, (Thing::Step(_), Thing::Step(_)));
-    (chain.len(), joins.iter().filter(is_shared).count())
+    let is_by_marks = Lack::behind(&chain).is_some_and(|lack| !lack.level);
+    (chain.len(), joins.iter().filter(is_shared).count(), is_by_marks)
 }
 
 #[test]
@@ -208,10 +219,17 @@ fn each_nine_has_its_chain_and_nothing_else_has_one() {
     let (mut nines, mut lengths, mut shared) = ([0; 18], [0; 97], [0; 18]);
     // Of the calls refused with 15: those that are then refused with 9, and those that are then let through.
     let mut fifteens = [0; 2];
+    // Of those refused with 9: where only shop marks are insufficient.
+    let mut by_marks = [0; 18];
     for run in 0..RUNS {
         let mut draw = Draw(run);
         let spread = if run % 2 == 0 { 1 } else { 0x9e37_79b9_7f4a_7c15 };
-        let size = Size { steps: draw.between(3, SUBJECTS), objects: draw.between(4, OBJECTS), spread };
+        let size = Size {
+            steps: draw.between(3, SUBJECTS),
+            objects: draw.between(4, OBJECTS),
+            spread,
+            shops: [0, 255, 1][run as usize % 3],
+        };
         let mut monitor = Monitor::new();
         for _ in 0..CALLS {
             let (code, numbers) = drawn(&mut draw, &size, &monitor);
@@ -219,9 +237,10 @@ fn each_nine_has_its_chain_and_nothing_else_has_one() {
             match monitor.direct(code, numbers) {
                 Answer::Refused(Refusal::Flow) => {
                     nines[code as usize] += 1;
-                    let (length, between) = holds(&before, code, numbers);
+                    let (length, between, is_by_marks) = holds(&before, code, numbers);
                     lengths[length] += 1;
                     shared[code as usize] += usize::from(between > 0);
+                    by_marks[code as usize] += usize::from(is_by_marks);
                 }
                 Answer::Refused(Refusal::Frozen) => {
                     let mut open = before.clone();
@@ -246,5 +265,6 @@ fn each_nine_has_its_chain_and_nothing_else_has_one() {
     assert!([5, 6, 14, 17].iter().all(|&code| shared[code] > 20), "through threads: {shared:?}");
     // An exec leaves out the threads of its own step, so that these are another's.
     assert!(shared[10] > 2, "through threads: {shared:?}");
+    assert!([5, 6, 10, 14, 17].iter().all(|&code| by_marks[code] > 10), "by marks alone: {by_marks:?}");
     assert!(fifteens.iter().all(|&count| count > 100), "{fifteens:?}");
 }

@@ -17,6 +17,8 @@ pub const LONGEST_FILE: usize = 1 << 22;
 const EXPECTED_NAME: &str =
     "a name behind the record: 1 to 60 letters, digits, single spaces and - _ . / + ' & @ %, with a letter";
 
+const EXPECTED_SHOP: &str = "another name for a shop group: not all or none, and not shop before a number";
+
 /// A mark that some editors put before a text; it says nothing.
 const BYTE_ORDER_MARK: &[u8] = b"\xef\xbb\xbf";
 
@@ -85,13 +87,17 @@ impl Names {
     fn take(&mut self, line: &str) -> Result<(), &'static str> {
         let mut parts = line.splitn(4, ' ');
         let mut part = || parts.next().unwrap_or("");
-        let kind = Kind::of_word(part()).ok_or("step, file or pipe")?;
+        let kind = Kind::of_word(part()).ok_or("step, file, pipe or shop")?;
         let number =
             digits(part()).filter(|&number| number <= kind.highest()).ok_or(kind.numbers_words())?;
         let from = digits(part())
             .filter(|&from| from > 0)
             .ok_or("the first record behind the number, from 1 on")?;
-        let name = Name::new(part()).map_err(|_| EXPECTED_NAME)?;
+        let text = part();
+        let name = Name::new(text).map_err(|_| EXPECTED_NAME)?;
+        if kind == Kind::Shop {
+            Name::of_shop(text).map_err(|_| EXPECTED_SHOP)?;
+        }
         self.give(kind, number, from, name);
         Ok(())
     }
@@ -117,7 +123,7 @@ mod tests {
     #[test]
     fn a_file_is_read_and_written() {
         let text =
-            "names 1\nstep 17 1 merge\nfile 18446744073709551615 1 the hours sheet of shop 3\nstep 17 204 sheet reader\n";
+            "names 1\nstep 17 1 merge\nfile 18446744073709551615 1 the hours sheet of shop 3\nstep 17 204 sheet reader\nshop 7 300 the north\n";
         let names = Names::read(text.as_bytes()).unwrap();
         assert_eq!(names.text(), text);
         let other = "\u{feff}names 1\r\n# by hand\r\n\r\nstep 17 204 sheet reader\r\nstep 17 1 merge";
@@ -143,6 +149,10 @@ mod tests {
             ("names 1\n\nstep 1 1  a\n", 3),
             ("names 1\nstep 1 1 a\u{1b}[2J\n", 2),
             ("names 1\n step 1 1 a\n", 2),
+            ("names 1\nshop 7 1 north\nshop 8 1 east\n", 3),
+            ("names 1\nshop 1 1 all\n", 2),
+            ("names 1\nshop 1 1 None\n", 2),
+            ("names 1\nshop 1 1 shop 2\n", 2),
         ] {
             let fault = Names::read(text.as_bytes()).unwrap_err();
             assert!(matches!(fault, Fault::Line(at, _) if at == line), "{text:?}: {fault}");

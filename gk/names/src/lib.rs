@@ -1,4 +1,4 @@
-//! Names for the steps, files and pipes of a journal, and the file that keeps them beside it.
+//! Names for the steps, files and pipes of a journal and for the shop groups, and the file that keeps them beside it.
 //!
 //! A journal has numbers alone. A names file says what people call the things behind them, and from which record on,
 //! since a number is used again once its thing is gone:
@@ -9,19 +9,22 @@
 //! file 1 1 the hours sheet of shop 3
 //! # step 1 exits at record 203; from record 204 on the number is another step's
 //! step 1 204 sheet reader
+//! shop 0 1 north
 //! ```
 //!
 //! The first line is `names 1`. Each other line is empty, a comment (its first character is `#`), or a kind (`step`,
-//! `file` or `pipe`), a number in decimal digits (0 to 31 for a step, 0 to 18446744073709551615 for a file or pipe), the
-//! record from which on the name holds (from 1), and the name, with one space between two of them. The file is UTF-8,
-//! lines end in a line feed, with or without a carriage return. [`beside`] says where it stands: `run.names` beside
-//! `run.journal`.
+//! `file`, `pipe` or `shop`), a number in decimal digits (0 to 31 for a step, 0 to 18446744073709551615 for a file or
+//! pipe, 0 to 7 for a shop group), the record from which on the name holds (from 1), and the name, with one space between
+//! two of them. The file is UTF-8, lines end in a line feed, with or without a carriage return. [`beside`] says where it
+//! stands: `run.names` beside `run.journal`.
 //!
 //! What holds at a record:
 //!
 //! - A number has the name that was given to it last, at that record or before. Files and pipes share their numbers,
 //!   so that a name for file 5 takes the place of one for pipe 5.
 //! - A name is one thing's: given to another one, it is no longer the first one's from that record on.
+//! - The eight shop groups have names apart from those of things: a file may be called as a group is. No group is called
+//!   `all` or `none`, or `shop` and a number, which say something else in a set ([`shops`]).
 //! - Of two lines for the same record, the later one counts.
 //!
 //! A name cannot be taken for anything else in a text: see [`Name::new`] for what it may be made of.
@@ -31,7 +34,8 @@
 //! | find the file of a journal | [`beside`] |
 //! | read it | [`Names::load`] from a path, [`Names::read`] from bytes |
 //! | ask what a thing is called at a record | [`Names::get`], or [`Names::object`] where file or pipe is not known |
-//! | ask what a name stands for at a record | [`Names::find`] |
+//! | ask what a name stands for at a record | [`Names::find`], or [`Names::find_shop`] for a shop group |
+//! | write a set of shop marks, or read one | [`shops`]: `north,east`, `all`, `none`, or a number |
 //! | give a name from a record on | [`Names::give`] with a [`Name`]: [`Name::new`], or [`Name::fitted`] for any text |
 //! | write the file | [`Names::text`] |
 //! | lose no file by it, and no word | [`files`]: what every command asks before it reads and writes |
@@ -55,6 +59,7 @@ mod file;
 pub mod files;
 mod name;
 pub mod number;
+pub mod shops;
 
 use std::collections::BTreeMap;
 
@@ -67,10 +72,12 @@ pub enum Kind {
     Step,
     File,
     Pipe,
+    /// A shop group, which is no thing of the tables.
+    Shop,
 }
 
 impl Kind {
-    pub const ALL: [Kind; 3] = [Kind::Step, Kind::File, Kind::Pipe];
+    pub const ALL: [Kind; 4] = [Kind::Step, Kind::File, Kind::Pipe, Kind::Shop];
 
     /// The kind as a word: in a names file, in assembly and in sentences.
     pub fn word(self) -> &'static str {
@@ -78,6 +85,7 @@ impl Kind {
             Kind::Step => "step",
             Kind::File => "file",
             Kind::Pipe => "pipe",
+            Kind::Shop => "shop",
         }
     }
 
@@ -91,6 +99,7 @@ impl Kind {
         match self {
             Kind::Step => 31,
             Kind::File | Kind::Pipe => u64::MAX,
+            Kind::Shop => shops::GROUPS - 1,
         }
     }
 
@@ -101,14 +110,16 @@ impl Kind {
             Kind::File | Kind::Pipe => {
                 "a number behind the kind: files and pipes have 0 to 18,446,744,073,709,551,615"
             }
+            Kind::Shop => "a number behind the kind: shop groups have 0 to 7",
         }
     }
 
-    /// Steps have numbers of their own; files and pipes share theirs.
+    /// Steps and shop groups have numbers of their own; files and pipes share theirs.
     fn numbers(self) -> Numbers {
         match self {
             Kind::Step => Numbers::Steps,
             Kind::File | Kind::Pipe => Numbers::Objects,
+            Kind::Shop => Numbers::Shops,
         }
     }
 }
@@ -118,6 +129,7 @@ impl Kind {
 enum Numbers {
     Steps,
     Objects,
+    Shops,
 }
 
 /// A name that is given to a thing from a record on.
@@ -137,8 +149,8 @@ pub struct Names {
     entries: Vec<Entry>,
     /// For each number the entries of it, rising by record, then as given.
     by_number: BTreeMap<(Numbers, u64), Vec<usize>>,
-    /// For each name the entries with it, likewise.
-    by_name: BTreeMap<String, Vec<usize>>,
+    /// For each name the entries with it, likewise; those of shop groups apart.
+    by_name: BTreeMap<(bool, String), Vec<usize>>,
 }
 
 /// Two are equal if they have the same entries in the order of [`Names::entries`].
@@ -163,7 +175,7 @@ impl Names {
     pub fn give(&mut self, kind: Kind, number: u64, from: u64, name: Name) {
         let index = self.entries.len();
         let of_number = self.by_number.entry((kind.numbers(), number)).or_default();
-        let of_name = self.by_name.entry(name.as_str().to_string()).or_default();
+        let of_name = self.by_name.entry(key(kind, name.as_str())).or_default();
         for list in [of_number, of_name] {
             let place = list.partition_point(|&other| self.entries[other].from <= from);
             list.insert(place, index);
@@ -186,9 +198,19 @@ impl Names {
         self.of_number(Numbers::Objects, number, at).map(|entry| (entry.kind, &entry.name))
     }
 
-    /// What a name stands for at a record.
+    /// The thing that a name stands for at a record.
     pub fn find(&self, name: &str, at: u64) -> Option<(Kind, u64)> {
-        let index = self.last(self.by_name.get(name)?, at)?;
+        self.found(Kind::Step, name, at)
+    }
+
+    /// The shop group that a name stands for at a record.
+    pub fn find_shop(&self, name: &str, at: u64) -> Option<u64> {
+        self.found(Kind::Shop, name, at).map(|(_, group)| group)
+    }
+
+    /// What a name stands for among things, or where the kind is that of shop groups among these.
+    fn found(&self, among: Kind, name: &str, at: u64) -> Option<(Kind, u64)> {
+        let index = self.last(self.by_name.get(&key(among, name))?, at)?;
         let Entry { kind, number, .. } = self.entries[index];
         // The thing may have been given another name since.
         (self.last(self.by_number.get(&(kind.numbers(), number))?, at) == Some(index))
@@ -215,7 +237,8 @@ impl Names {
         let index = self.last(self.by_number.get(&(numbers, number))?, at)?;
         let entry = &self.entries[index];
         // The name may have been given to another thing since.
-        (self.last(self.by_name.get(entry.name.as_str())?, at) == Some(index)).then_some(entry)
+        let of_name = self.by_name.get(&key(entry.kind, entry.name.as_str()))?;
+        (self.last(of_name, at) == Some(index)).then_some(entry)
     }
 
     /// The last of these entries that holds at a record.
@@ -223,6 +246,11 @@ impl Names {
         let behind = list.partition_point(|&index| self.entries[index].from <= at);
         behind.checked_sub(1).map(|place| list[place])
     }
+}
+
+/// A name as it is looked up: those of shop groups apart from those of things.
+fn key(kind: Kind, name: &str) -> (bool, String) {
+    (kind == Kind::Shop, name.to_string())
 }
 
 #[cfg(test)]
@@ -282,5 +310,18 @@ mod tests {
         assert_eq!(names.until(39).find("merge", u64::MAX), Some((Kind::Step, 3)));
         assert_eq!(names.until(40), names);
         assert!(names.until(0).is_empty());
+    }
+
+    #[test]
+    fn shop_groups_have_names_of_their_own() {
+        let mut names = Names::new();
+        names.give(Kind::Shop, 0, 1, name("north"));
+        names.give(Kind::File, 0, 1, name("north"));
+        names.give(Kind::Shop, 3, 9, name("north"));
+        assert_eq!(names.find("north", 9), Some((Kind::File, 0)));
+        assert_eq!([8, 9].map(|at| names.find_shop("north", at)), [Some(0), Some(3)]);
+        assert_eq!([8, 9].map(|at| called(&names, Kind::Shop, 0, at)), [Some("north"), None]);
+        assert_eq!(called(&names, Kind::File, 0, 9), Some("north"));
+        assert_eq!(names.find_shop("east", 9), None);
     }
 }

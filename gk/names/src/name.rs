@@ -23,6 +23,7 @@ pub enum Unfit {
     Space,
     Stop,
     Number,
+    Shop,
 }
 
 impl Name {
@@ -34,6 +35,15 @@ impl Name {
         match fault(text) {
             Some(unfit) => Err(unfit),
             None => Ok(Name(text.to_string())),
+        }
+    }
+
+    /// A name that a shop group may have: not one that says something else where a set of shop marks stands.
+    pub fn of_shop(text: &str) -> Result<Name, Unfit> {
+        let is_word = ["all", "none"].iter().any(|word| text.eq_ignore_ascii_case(word));
+        match Name::new(text) {
+            Ok(_) if is_word || before_number(text, &["shop"]).is_some() => Err(Unfit::Shop),
+            name => name,
         }
     }
 
@@ -86,6 +96,7 @@ impl Unfit {
             Unfit::Space => "has no space at its start or end, and not two in a row",
             Unfit::Stop => "has no dot before a space or at its end",
             Unfit::Number => "has no step, file, pipe, place, level or record before a number",
+            Unfit::Shop => "of a shop group is not all or none, and has no shop before a number",
         }
     }
 }
@@ -133,12 +144,17 @@ fn is_right_to_left(character: char) -> bool {
 
 /// Where a space stands between one of the words that come before a number in our sentences, and a digit.
 fn numbered(text: &str) -> Option<usize> {
+    before_number(text, &["step", "file", "pipe", "place", "level", "record"])
+}
+
+/// Where a space stands between one of these words, or more than one of it, and a digit.
+fn before_number(text: &str, words: &[&str]) -> Option<usize> {
     text.match_indices(' ').map(|(at, _)| at).find(|&at| {
         let before = text[..at].rsplit(|character: char| !character.is_alphanumeric()).next().unwrap_or("");
         let before = before.to_lowercase();
         let word = before.strip_suffix('s').unwrap_or(&before);
         let is_before_digit = text[at + 1..].starts_with(|character: char| character.is_numeric());
-        is_before_digit && ["step", "file", "pipe", "place", "level", "record"].contains(&word)
+        is_before_digit && words.contains(&word)
     })
 }
 
@@ -176,6 +192,11 @@ mod tests {
         assert_eq!(Name::new(&"é".repeat(61)), Err(Unfit::TooLong));
         assert!(Name::new("profile 3").is_ok());
         assert!(Unfit::TooLong.words().contains(&LONGEST.to_string()));
+        assert!(Name::new("the hours sheet of shop 3").is_ok() && Name::of_shop("north").is_ok());
+        for text in ["all", "NONE", "shop 3", "the shops 3 and 4"] {
+            assert_eq!(Name::of_shop(text), Err(Unfit::Shop), "{text:?}");
+        }
+        assert_eq!(Name::of_shop("a,b"), Err(Unfit::Sign));
     }
 
     #[test]

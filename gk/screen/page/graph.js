@@ -182,7 +182,7 @@ function draw(position, state, before, said) {
   graph.setAttribute("viewBox", `0 0 ${layout.width} ${layout.height}`);
   graph.classList.toggle("dim", said.chain.length > 0 || said.letter === "L");
   drawBands(layout, state.freeze);
-  drawThings(layout, placed, ghosts, state, said, chain, position);
+  drawThings(layout, placed, ghosts, state, before, said, chain, position);
   drawEdges(layout, state, before, said, chain);
 }
 
@@ -229,6 +229,7 @@ function groupOf(key, thing, kind) {
     group.append(drawn("text", { y: 4 }, ended(numberOf(thing), MOST_DIGITS)));
     const nameAt = shape === "step" ? -18 : 26;
     group.append(drawn("text", { y: 25, class: "need" }), drawn("text", { y: nameAt, class: "name" }));
+    group.append(drawn("text", { y: shape === "step" ? 35 : -17, class: "need" }));
     group.dataset.shape = shape;
     group.addEventListener("pointerenter", () => pick(thing));
     group.addEventListener("pointerleave", () => pick(-1));
@@ -246,7 +247,7 @@ function pick(thing) {
   }
 }
 
-function drawThings(layout, placed, ghosts, state, said, chain, position) {
+function drawThings(layout, placed, ghosts, state, before, said, chain, position) {
   const used = new Set();
   const put = (key, thing, level, kind, classes) => {
     const spot = layout.spot(thing, level);
@@ -257,16 +258,20 @@ function drawThings(layout, placed, ghosts, state, said, chain, position) {
     const group = groupOf(key, thing, kind);
     group.setAttribute("class", `thing ${classes}`);
     group.style.transform = `translate(${spot.x}px, ${spot.y}px)`;
-    const [title, , , need, name] = group.children;
+    const [title, , , need, name, shops] = group.children;
     const isStep = thing < STEPS;
     const plain = `${shapeOf(thing, kind)} ${numberOf(thing)}`;
     const own = nameOf(plain, position);
     const isGhost = classes.includes("ghost");
     const hasNeed = isStep && !isGhost;
     const mates = hasNeed ? withMates(thing, state, position) : "";
-    const floor = hasNeed ? `, may fall to ${state.need[thing]}${mates}` : "";
-    title.textContent = `${own ? `${own} (${plain})` : plain}, level ${level}${floor}`;
+    const keeps = state.keeps[thing] > 0 && state.keeps[thing] < ALL ? ` with ${shopWords(state.keeps[thing], position)}` : "";
+    const floor = hasNeed ? `, may fall to ${state.need[thing]}${keeps}${mates}` : "";
+    const set = isGhost ? before.shops[thing] : state.shops[thing];
+    const marks = set === ALL ? "" : ` with ${shopWords(set, position)}`;
+    title.textContent = `${own ? `${own} (${plain})` : plain}, level ${level}${marks}${floor}`;
     need.textContent = hasNeed ? `≥${state.need[thing]}` : "";
+    shops.textContent = set === ALL ? "" : shopShort(set, position);
     const isEnd = thing === said.chain[0]?.[0] || thing === said.chain.at(-1)?.[0];
     const isNamed = !isGhost && (spot.isWide || classes.includes("about") || isEnd);
     const short = own.length > MOST_LETTERS ? `${own.slice(0, MOST_LETTERS - 1)}…` : own;

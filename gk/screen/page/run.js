@@ -24,15 +24,21 @@ const RECORDS = DATA.records;
 /** The numbers of files and pipes are texts, so that none is rounded. */
 const OBJECTS = DATA.objects;
 const THINGS = FIRST + OBJECTS.length;
-/** Letters of a piece of what a record changed: a thing, and a handle. */
+/** Letters of a piece of what a record changed: a thing, a handle, and the shop marks of a thing. */
 const OF_THING = 4;
 const OF_HANDLE = 5;
+const OF_SETS = 5;
+/** The shop groups, and the set with the mark of each. */
+const GROUPS = 8;
+const ALL = 255;
 
 class State {
   constructor() {
     this.kind = new Uint8Array(THINGS); // 0 not there; 1 a step or file; 2 a pipe
     this.level = new Uint8Array(THINGS);
     this.need = new Uint8Array(THINGS);
+    this.shops = new Uint8Array(THINGS); // the set of its shop marks
+    this.keeps = new Uint8Array(THINGS); // the set of those that it has to keep
     this.group = Uint8Array.from({ length: STEPS }, (_, step) => step);
     this.way = new Uint8Array(STEPS * PLACES);
     this.object = new Uint16Array(STEPS * PLACES);
@@ -42,7 +48,7 @@ class State {
 
   copy() {
     const copy = new State();
-    for (const field of ["kind", "level", "need", "group", "way", "object", "marked"]) {
+    for (const field of ["kind", "level", "need", "shops", "keeps", "group", "way", "object", "marked"]) {
       copy[field].set(this[field]);
     }
     copy.freeze = this.freeze;
@@ -51,9 +57,9 @@ class State {
 
   /** Makes the changes of a record. */
   apply(changes) {
-    const behind = changes.indexOf(".");
-    for (let at = 0; at < behind; at += OF_THING) {
-      const number = unpacked(changes, at, OF_THING);
+    const [things, handles, sets] = changes === "" ? ["", "", ""] : [...changes.split("."), ""];
+    for (let at = 0; at < things.length; at += OF_THING) {
+      const number = unpacked(things, at, OF_THING);
       const [thing, stands] = [Math.floor(number / 768), number % 768];
       if (thing === FREEZE) {
         this.freeze = stands;
@@ -66,10 +72,18 @@ class State {
         this.kind[thing] = stands >> 8;
         this.level[thing] = (stands >> 4) & 15;
         this.need[thing] = stands & 15;
+        // Where other sets do not stand at the end.
+        this.shops[thing] = ALL;
+        this.keeps[thing] = this.need[thing] > 0 ? ALL : 0;
       }
     }
-    for (let at = behind + 1; behind >= 0 && at < changes.length; at += OF_HANDLE) {
-      const number = unpacked(changes, at, OF_HANDLE);
+    for (let at = 0; at < sets.length; at += OF_SETS) {
+      const number = unpacked(sets, at, OF_SETS);
+      this.shops[number >> 16] = (number >> 8) & 255;
+      this.keeps[number >> 16] = number & 255;
+    }
+    for (let at = 0; at < handles.length; at += OF_HANDLE) {
+      const number = unpacked(handles, at, OF_HANDLE);
       const place = number & 511;
       this.marked[place] = (number >> 9) & 1;
       this.way[place] = (number >> 10) & 3;
@@ -121,9 +135,11 @@ function unpacked(text, at, letters) {
 
 /** A record by its position, with the fields of its list named. */
 function record(position) {
-  const [letter, value, code, changes, asked, why, ways, notes, changed, about, chain, sought] = RECORDS[position - 1];
-  const said = { asked, why, ways, notes, changed, about, chain: pairs(chain), sought: pairs(sought) };
-  return { position, letter, value, code, changes, ...said };
+  const [letter, packed, code, changes, asked, why, ways, notes, changed, about, chain, sought] = RECORDS[position - 1];
+  // With a level of the chain goes the set of the shop marks that are missing, with the value how many were lost.
+  const links = pairs(chain).map(([thing, height]) => [thing, height & 255, ALL ^ (height >> 8)]);
+  const said = { asked, why, ways, notes, changed, about, chain: links, sought: pairs(sought) };
+  return { position, letter, value: packed & 255, lost: packed >> 8, code, changes, ...said };
 }
 
 function pairs(list) {
@@ -190,6 +206,44 @@ function nameOf(plain, position) {
 
 const KINDS = { s: "step", f: "file", p: "pipe", o: "file or pipe" };
 
+/** What a shop group is called at a record. */
+function shopOf(group, position) {
+  return nameOf(`shop ${group}`, position) || `shop ${group}`;
+}
+
+/** The shop groups whose mark is in a set. */
+function groupsOf(set) {
+  return Array.from({ length: GROUPS }, (_, group) => group).filter((group) => (set >> group) & 1);
+}
+
+/** A set of shop marks in a sentence. */
+function shopWords(set, position) {
+  if (set === 0 || set === ALL) {
+    return set === 0 ? "no shop marks" : "all shop marks";
+  }
+  const names = groupsOf(set).map((group) => shopOf(group, position));
+  const last = names.pop();
+  return names.length === 0 ? `the shop mark of ${last}` : `the shop marks of ${names.join(", ")} and ${last}`;
+}
+
+/** A sign for each shop group: the first letter of its name where no other group has it, or else its number. */
+function shopSigns(position) {
+  const firsts = Array.from({ length: GROUPS }, (_, group) => {
+    const first = nameOf(`shop ${group}`, position).slice(0, 1).toUpperCase();
+    return /^[A-Z]$/.test(first) ? first : "";
+  });
+  const isOwn = (first) => first !== "" && firsts.filter((other) => other === first).length === 1;
+  return firsts.map((first, group) => (isOwn(first) ? first : String(group)));
+}
+
+/** A set of shop marks in a table: a sign for each that is there, and a dot for each that is not. */
+function shopShort(set, position) {
+  if (set === 0 || set === ALL) {
+    return set === 0 ? "none" : "all";
+  }
+  return shopSigns(position).map((sign, group) => ((set >> group) & 1 ? sign : "·")).join("");
+}
+
 /** A text at the front of a sentence: with a capital, but that a name stays as it is, an article at its front apart. */
 function capital(text) {
   const isFront = /^(?:(?:step|file|pipe|file or pipe) \d|(?:the|an?) )/.test(text);
@@ -199,7 +253,7 @@ function capital(text) {
 /** A phrase written out: its words, with the numbers put in. */
 function text(phrase, position) {
   let at = 0;
-  const written = DATA.words[phrase[0]].replace(/\{([sfponl])\}/g, (mark, sign) => {
+  const written = DATA.words[phrase[0]].replace(/\{([sfponlm])\}/g, (mark, sign) => {
     at += 1;
     const number = phrase[at];
     if (sign === "n") {
@@ -207,6 +261,9 @@ function text(phrase, position) {
     }
     if (sign === "l") {
       return ranges(number);
+    }
+    if (sign === "m") {
+      return shopWords(number, position);
     }
     const plain = `${KINDS[sign]} ${number}`;
     const name = nameOf(plain, position);
@@ -251,6 +308,6 @@ function called(thing, state, position) {
 }
 
 /** The line that the program replies with. */
-function replyLine({ position, code, letter, value }) {
-  return `${position} ${code} ${letter} ${value}`;
+function replyLine({ position, code, letter, value, lost }) {
+  return `${position} ${code} ${letter} ${value}${letter === "L" ? ` ${lost}` : ""}`;
 }

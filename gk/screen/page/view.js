@@ -25,11 +25,12 @@ function items(list, texts) {
 }
 
 /** The answer in words, with a sign before it. */
-function answerWords({ letter, value }) {
+function answerWords({ letter, value, lost }) {
   if (letter === "R") {
     return `✗ Refused (${value}): ${DATA.refusals[value - 1] ?? ""}`;
   }
-  return letter === "L" ? `↓ Lowered: level ${value} now` : `✓ Allowed, level ${value}`;
+  const marks = lost === 0 ? "" : lost === 1 ? ", 1 shop mark lost" : `, ${lost} shop marks lost`;
+  return letter === "L" ? `↓ Lowered: level ${value} now${marks}` : `✓ Allowed, level ${value}`;
 }
 
 const NOTHING = { letter: "", chain: [], sought: [], about: [], why: [], ways: [], notes: [], changed: [] };
@@ -104,7 +105,7 @@ function showSaid(to, said, state) {
 function showChain(to, said, state) {
   const links = said.chain;
   const isSought = (from, there) => said.sought.some(([one, other]) => one === from && other === there);
-  const rows = links.map(([thing, level], at) => {
+  const rows = links.map(([thing, level, shops], at) => {
     const classes = at === 0 ? "start" : isSought(links[at - 1][0], thing) ? "sought" : "";
     const row = made("li", "", classes);
     const ends = at === 0 || at === links.length - 1 ? "ends" : "";
@@ -112,7 +113,11 @@ function showChain(to, said, state) {
     if (classes === "sought") {
       row.append(made("span", "✗ refused", "here"));
     }
-    row.append(made("span", `level ${level}`, `level ${ends}`));
+    const label = made("span", `level ${level}`, `level ${ends}`);
+    if (links.some(([, , set]) => set !== ALL)) {
+      label.append(" ", made("small", shopShort(shops, to)));
+    }
+    row.append(label);
     return row;
   });
   const isNear = (at) => rows.slice(Math.max(0, at - 1), at + 2).some((each) => each.className === "sought");
@@ -144,18 +149,43 @@ function row(body, head, cells, hasMoved) {
   const line = document.createElement("tr");
   const first = made("th", head);
   first.scope = "row";
-  line.append(first, ...cells.map((cell) => made("td", cell)));
+  line.append(
+    first,
+    ...cells.map((cell) => {
+      const filled = made("td");
+      filled.append(...[cell].flat());
+      return filled;
+    }),
+  );
   line.classList.toggle("moved", hasMoved);
   body.append(line);
 }
 
-function fellFrom(thing, state, before) {
-  const fell = before.kind[thing] !== 0 && before.level[thing] !== state.level[thing];
-  return fell ? `${before.level[thing]} → ${state.level[thing]}` : String(state.level[thing]);
+/** A level, and small beside it the shop marks. */
+function label(level, shops, to) {
+  return [`${level} `, made("small", shopShort(shops, to), "shops")];
+}
+
+function fellFrom(thing, state, before, to) {
+  const now = label(state.level[thing], state.shops[thing], to);
+  const isOther = before.level[thing] !== state.level[thing] || before.shops[thing] !== state.shops[thing];
+  const fell = before.kind[thing] !== 0 && isOther;
+  return fell ? [...label(before.level[thing], before.shops[thing], to), " → ", ...now] : now;
+}
+
+/** Which sign is which shop group's, where a thing lacks a shop mark; "" where none does. */
+function legend(state, to) {
+  const lacks = [...state.kind.keys()].some((thing) => state.kind[thing] !== 0 && state.shops[thing] !== ALL);
+  const signs = shopSigns(to);
+  const named = signs.map((sign, group) => [sign, nameOf(`shop ${group}`, to)]).filter(([, name]) => name !== "");
+  const numbers = named.length < GROUPS ? "a digit is the number of a shop group, " : "";
+  const names = named.length > 0 ? `${named.map(([sign, name]) => `${sign} ${name}`).join(", ")}; ` : "";
+  return lacks ? `Shop marks: ${names}${numbers}· is one that is not there` : "";
 }
 
 function hasChanged(thing, state, before) {
-  const fields = thing < STEPS ? ["kind", "level", "need", "group"] : ["kind", "level", "need"];
+  const every = ["kind", "level", "need", "shops", "keeps"];
+  const fields = thing < STEPS ? [...every, "group"] : every;
   return fields.some((field) => state[field][thing] !== before[field][thing]);
 }
 
@@ -178,7 +208,7 @@ function showSteps(to, state, before) {
   for (const step of state.steps()) {
     const name = capital(called(step, state, to)) + withMates(step, state, to);
     const holds = (held.get(step) ?? ["nothing"]).join("; ");
-    const cells = [fellFrom(step, state, before), String(state.need[step]), holds];
+    const cells = [fellFrom(step, state, before, to), label(state.need[step], state.keeps[step], to), holds];
     row(body, name, cells, hasChanged(step, state, before));
   }
   if (body.rows.length === 0) {
@@ -199,7 +229,7 @@ function showObjects(to, state, before) {
   for (let thing = FIRST; thing < THINGS; thing += 1) {
     if (state.kind[thing] !== 0) {
       live += 1;
-      const cells = [fellFrom(thing, state, before), list(writers, thing), list(readers, thing)];
+      const cells = [fellFrom(thing, state, before, to), list(writers, thing), list(readers, thing)];
       row(body, capital(called(thing, state, to)), cells, hasChanged(thing, state, before));
     }
   }
@@ -207,6 +237,7 @@ function showObjects(to, state, before) {
     row(body, "No file and no pipe", ["", "", ""], false);
   }
   byId("live-objects").textContent = `${live} of ${DATA.most} live`;
+  byId("shop-legend").textContent = legend(state, to);
 }
 
 // Going from record to record.

@@ -3,10 +3,10 @@
 
 use std::collections::BTreeMap;
 
-use gatekeeper::{Answer, Call, Refusal, State as Monitor, NO_FREEZE};
+use gatekeeper::{Answer, Call, Label, Refusal, State as Monitor, NO_FREEZE};
 use gk_advice::calls::{number_of, with_number};
 use gk_advice::run::{Content, Step};
-use gk_advice::things::{empty_places, HIGHEST};
+use gk_advice::things::{empty_places, ALL_SHOPS, HIGHEST};
 use gk_names::number::of_text;
 
 use crate::names::Names;
@@ -91,6 +91,7 @@ impl Advised {
             ("room", 20),
             ("room and a number", 5),
             ("a level", 50),
+            ("a set", 5),
             ("retire after", 20),
             ("exit and retire", 20),
             ("books", 20),
@@ -146,6 +147,45 @@ fn closes(text: &str) -> Vec<Call> {
     handles(text).into_iter().map(|(subject, place)| Call::Close { subject, place }).collect()
 }
 
+/// The groups of "shop 0, shop 1 and shop 3 …", as a set.
+fn set_of(list: &str) -> u8 {
+    let (mut set, mut rest) = (0, list);
+    while let Some(behind) = rest.strip_prefix("shop ") {
+        let group = behind.chars().next().and_then(|digit| digit.to_digit(10)).expect("a shop group");
+        set |= 1 << group;
+        rest = behind[1..].trim_start_matches(", ").trim_start_matches(" and ");
+    }
+    assert_ne!(set, 0, "{list}");
+    set
+}
+
+/// The sets that a text names: at least some shop marks, so that all will do, too; or at most some, so that none will do.
+/// Where it names none, all marks will do.
+fn sets(text: &str) -> Vec<u8> {
+    for of in
+        [" with no other shop marks than the marks of ", " with no other shop marks than the mark of "]
+    {
+        if let Some((_, list)) = text.split_once(of) {
+            return vec![set_of(list), 0];
+        }
+    }
+    for of in [" with the shop marks of ", " with the shop mark of "] {
+        if let Some((_, list)) = text.split_once(of) {
+            return vec![set_of(list), ALL_SHOPS];
+        }
+    }
+    vec![if text.contains(" with no shop marks") { 0 } else { ALL_SHOPS }]
+}
+
+/// The labels that a text names.
+fn labels(text: &str) -> Vec<Label> {
+    let sets = sets(text);
+    let label = |level: u64, shops: u8| Label { level: level as u8, shops };
+    levels(text)
+        .flat_map(|level| sets.iter().map(move |&shops| label(level, shops)).collect::<Vec<_>>())
+        .collect()
+}
+
 /// The levels of "at level 12 or above", "at level 0 to 9", "at any level", or "at level 9", which is one.
 fn levels(text: &str) -> std::ops::RangeInclusive<u64> {
     if text.contains("at any level") {
@@ -192,8 +232,9 @@ fn changed(call: Call, text: &str, monitor: &Monitor) -> Option<(&'static str, L
     }
     if let Some((list, _)) = text.split_once("; then register file ") {
         let object = number_of(call, "o").expect("a file or pipe");
-        let lists = levels(text)
-            .map(|level| [rooms_first(list), vec![Call::Register { object, level }, call]].concat());
+        let lists = labels(text)
+            .into_iter()
+            .map(|label| [rooms_first(list), vec![Call::register(object, label), call]].concat());
         return Some(("room and register", lists.collect()));
     }
     if let (true, Some((list, _))) = (is_crowded(call, monitor), text.split_once("; ")) {
@@ -209,18 +250,19 @@ fn changed(call: Call, text: &str, monitor: &Monitor) -> Option<(&'static str, L
     }
     if text.starts_with("When a clerk has looked ") {
         let object = call.numbers()[1];
-        let lists =
-            levels(text).map(|level| then(vec![Call::Retire { object }, Call::Register { object, level }]));
+        let registers = |label| vec![Call::Retire { object }, Call::register(object, label)];
+        let lists = labels(text).into_iter().map(|label| then(registers(label)));
         return Some(("looked over", lists.collect()));
     }
     if let Some((list, _)) = parts(text, "Admit ", " first") {
         let admits =
-            |level: u64| numbers(list).into_iter().map(move |subject| Call::Admit { subject, level });
-        return Some(("admit first", levels(text).map(|level| then(admits(level).collect())).collect()));
+            |label: Label| numbers(list).into_iter().map(move |subject| Call::admit(subject, label));
+        let lists = labels(text).into_iter().map(|label| then(admits(label).collect()));
+        return Some(("admit first", lists.collect()));
     }
     if let Some((list, _)) = parts(text, "Register file ", " first") {
         let object = numbers(list)[0];
-        let lists = levels(text).map(|level| then(vec![Call::Register { object, level }]));
+        let lists = labels(text).into_iter().map(|label| then(vec![Call::register(object, label)]));
         return Some(("register first", lists.collect()));
     }
     if let Some((list, _)) = parts(text, "Let ", " exit; retire it after that") {
@@ -328,6 +370,15 @@ fn other_numbers(call: Call, text: &str, monitor: &Monitor) -> Option<(&'static 
             vec![vec![with_number(with_number(call, "a", list[0]), "b", list[1])]],
         ));
     }
+    if text.starts_with("Give a set of shop marks from 0 to 255") {
+        let lists = (0..=255).map(|set| vec![with_number(call, "set", set)]);
+        return Some(("a set", lists.collect()));
+    }
+    if text.starts_with("Give a level from 0 to 15 and a set of shop marks from 0 to 255") {
+        let lists = (0..=HIGHEST)
+            .map(|level| vec![with_number(with_number(call, "level", level), "set", 255 - 17 * level)]);
+        return Some(("a level and a set", lists.collect()));
+    }
     if text.starts_with("Give a level from 0 to 15") {
         let most = if matches!(call, Call::Freeze { .. }) { NO_FREEZE } else { HIGHEST };
         return Some((
@@ -352,7 +403,7 @@ fn other_calls(call: Call, text: &str, monitor: &Monitor) -> Option<(&'static st
     if text.starts_with("Admit a step at level ") {
         let subject = behind(text, ", number ")?;
         let last = with_number(with_number(call, "s", subject), "p", 0);
-        let lists = levels(text).map(|level| vec![Call::Admit { subject, level }, last]);
+        let lists = labels(text).into_iter().map(|label| vec![Call::admit(subject, label), last]);
         return Some(("admit a step", lists.collect()));
     }
     if let (Some(rest), Call::Connect { reading, writing, .. }) =

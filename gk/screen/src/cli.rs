@@ -20,10 +20,11 @@ usage: gk screen [--at N] JOURNAL          the state after the last record, or N
        gk screen --follow JOURNAL          a journal that is still being written
        gk screen --page [--at N] JOURNAL   a page, on standard output
 
-The duty screen: which steps run, at which level, the lowest level that each may
-fall to while no handle goes, and what it holds; the files and pipes; the
-freeze; the last refusals, the way out first. All of it is asked of the proved
-gatekeeper; only the chain behind a refusal 9 is looked for, and said to be.
+The duty screen: which steps run, at which level and with which shop marks, the
+lowest level that each may fall to and the marks that it has to keep while no
+handle goes, and what it holds; the files and pipes; the freeze; the last
+refusals, the way out first. All of it is asked of the proved gatekeeper; only
+the chain behind a refusal 9 is looked for, and said to be.
 
   JOURNAL        a journal; '-' reads standard input
   --at N         the state after record N; 0 is before the first. On a page:
@@ -32,8 +33,8 @@ gatekeeper; only the chain behind a refusal 9 is looked for, and said to be.
                  breaks or gets shorter, or standard input ends; into a pipe, a
                  line for each
   --page         one file, without a network: gk screen --page RUN > run.html
-  --names FILE   names for steps, files and pipes; else those of run.names
-                 beside run.journal, if it is there
+  --names FILE   names for steps, files, pipes and shop groups; else those of
+                 run.names beside run.journal, if it is there
   --title TEXT   what stands over it, in place of the journal's name
   --color WHEN   always, never, or auto: on a terminal, unless NO_COLOR is set
   --help         this text

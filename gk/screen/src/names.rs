@@ -1,4 +1,4 @@
-//! Names for the steps, files and pipes of a journal, from a names file as `gk_names` reads it.
+//! Names for the steps, files and pipes of a journal and for the shop groups, from a names file as `gk_names` reads it.
 //!
 //! A number has the name that was given to it last; files and pipes share their numbers. A name is one thing's: given
 //! to another, it is no longer the first one's from that record on. And it goes with its thing: where a number is used
@@ -6,9 +6,11 @@
 
 use std::collections::BTreeMap;
 
+use gk_names::shops;
+
 use crate::state::{State, Thing, STEPS};
 
-const KINDS: [&str; 3] = ["step", "file", "pipe"];
+const KINDS: [&str; 4] = ["step", "file", "pipe", "shop"];
 
 /// Names of one number after the other, each with the record from which on it holds.
 type Given = Vec<(u64, Option<String>)>;
@@ -31,6 +33,21 @@ impl Names {
         given[..behind].last()?.1.as_deref()
     }
 
+    /// What a shop group is called at a record.
+    pub fn shop(&self, group: u64, record: u64) -> String {
+        self.name("shop", group, record).map_or_else(|| format!("shop {group}"), str::to_string)
+    }
+
+    /// A set of shop marks in a sentence: "the shop marks of north and east".
+    pub fn marks(&self, set: u8, record: u64) -> String {
+        shops::words_by(set, |group| self.shop(group, record))
+    }
+
+    /// A sign for each shop group at a record.
+    pub fn signs(&self, record: u64) -> [char; shops::GROUPS as usize] {
+        shops::signs(|group| self.name("shop", group, record))
+    }
+
     /// Every name with its kind, its number, and the record from which on it holds; none where a name is lost.
     pub fn all(&self) -> impl Iterator<Item = (&'static str, u64, u64, Option<&str>)> {
         self.of.iter().flat_map(|(&(kind, n), given)| {
@@ -45,7 +62,7 @@ impl Names {
         }
         let objects = State::objects_of(before, after).into_iter().map(Thing::Object);
         for thing in (0..STEPS).map(Thing::Step).chain(objects) {
-            match (before.level(thing).is_some(), after.level(thing).is_some()) {
+            match (before.label(thing).is_some(), after.label(thing).is_some()) {
                 (true, false) => drop(self.went.insert(thing, record)),
                 (false, true) => {
                     if let Some(went) = self.went.get(&thing).copied() {
@@ -60,7 +77,7 @@ impl Names {
     fn renew(&mut self, thing: Thing, went: u64, record: u64) {
         let (kinds, number): (&[&str], u64) = match thing {
             Thing::Step(s) => (&KINDS[..1], s),
-            Thing::Object(o) => (&KINDS[1..], o),
+            Thing::Object(o) => (&KINDS[1..3], o),
         };
         for (_, given) in self.of.iter_mut().filter(|((kind, n), _)| *n == number && kinds.contains(kind)) {
             let behind = given.partition_point(|(from, _)| *from <= record);
@@ -73,21 +90,23 @@ impl Names {
     /// The names that the entries of a names file give.
     pub fn given(file: &gk_names::Names) -> Names {
         let mut names = Names::default();
-        let mut holders: BTreeMap<&str, (&'static str, u64)> = BTreeMap::new();
+        // The names of shop groups are apart from those of things.
+        let mut holders: BTreeMap<(bool, &str), (&'static str, u64)> = BTreeMap::new();
         for entry in file.entries() {
             let (kind, number, from, name) =
                 (entry.kind.word(), entry.number, entry.from, entry.name.as_str());
-            if kind != "step" {
+            let is_shop = kind == "shop";
+            if kind == "file" || kind == "pipe" {
                 let other = if kind == "file" { "pipe" } else { "file" };
                 names.set(other, number, from, None);
             }
-            if let Some(&(kind, number)) = holders.get(name) {
+            if let Some(&(kind, number)) = holders.get(&(is_shop, name)) {
                 if names.name(kind, number, from) == Some(name) {
                     names.set(kind, number, from, None);
                 }
             }
             names.set(kind, number, from, Some(name.to_string()));
-            holders.insert(name, (kind, number));
+            holders.insert((is_shop, name), (kind, number));
         }
         names
     }
@@ -150,11 +169,21 @@ mod tests {
             }
             names.follow(record, &before, &State::of(&gatekeeper::State::from(&monitor)));
         };
-        follow(3, |monitor, s| monitor.admit(s, 9));
+        follow(3, |monitor, s| monitor.admit(s, 9, 255));
         follow(8, |monitor, s| monitor.exit(s));
-        follow(9, |monitor, s| monitor.admit(s, 9));
+        follow(9, |monitor, s| monitor.admit(s, 9, 255));
         assert_eq!((names.name("step", 1, 8), names.name("step", 1, 9)), (Some("hours"), None));
         assert_eq!((names.name("step", 2, 8), names.name("step", 2, 9)), (Some("merge"), Some("reader")));
+    }
+
+    #[test]
+    fn shop_groups_have_names_apart() {
+        let names = read("names 1\nshop 0 1 north\nfile 0 1 north\nshop 1 4 east\nshop 2 9 north\n");
+        assert_eq!(names.name("file", 0, 9), Some("north"));
+        assert_eq!([8, 9].map(|at| names.shop(0, at)), ["north", "shop 0"]);
+        assert_eq!(names.marks(3, 4), "the shop marks of north and east");
+        assert_eq!(names.marks(2, 3), "the shop mark of shop 1");
+        assert_eq!(names.signs(4).iter().collect::<String>(), "NE234567");
     }
 
     /// What could be taken for more than a name is none.

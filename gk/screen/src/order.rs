@@ -148,9 +148,9 @@ mod tests {
     #[test]
     fn a_chain_is_a_line_in_the_direction_of_the_data() -> Result<(), Refusal> {
         let mut monitor = Monitor::new();
-        monitor.register(9, 5).granted()?;
+        monitor.register(9, 5, 255).granted()?;
         for s in [7, 3, 5] {
-            monitor.admit(s, 9).granted()?;
+            monitor.admit(s, 9, 255).granted()?;
         }
         // Step 7 to pipe 1 to step 3 to pipe 0 to step 5 to file 9.
         monitor.pipe(7, 1, 0, 1).granted()?;

@@ -4,10 +4,11 @@
 use std::collections::HashMap;
 use std::fmt::Write;
 
-use gatekeeper::{Call, Kind, Refusal, Way, NO_FREEZE};
+use gatekeeper::{Call, Kind, Label, Refusal, Way, NO_FREEZE};
 use gk_advice::records::{Body, Records};
-use gk_advice::run::{letter_and_value, Run, Step};
+use gk_advice::run::{letter_and_value, lost, Run, Step};
 use gk_names::number::shown;
+use gk_names::shops;
 
 use crate::names::Names;
 use crate::order::Joins;
@@ -161,9 +162,11 @@ impl Words {
 }
 
 /// A record: letter, value, code, changes, what is asked, why, ways out, notes on them, what changed, about whom, chain,
-/// flows sought.
+/// flows sought. With the value goes the number of shop marks lost, and with a level of the chain the set of those that are
+/// missing, each 256 times.
 fn record(turn: &Step, told: &Told, changes: &str, numbers: &Numbers, words: &mut Words) -> String {
     let (letter, value) = letter_and_value(turn.answer);
+    let value = value + 256 * u32::from(lost(turn.answer).unwrap_or(0));
     let asked = words.phrase(&told.asked);
     let [why, ways, notes, changed] =
         [&told.why, &told.ways, &told.notes, &told.changed].map(|part| words.phrases(part));
@@ -175,8 +178,10 @@ fn record(turn: &Step, told: &Told, changes: &str, numbers: &Numbers, words: &mu
         about.join(",")
     )];
     if !told.chain.is_empty() {
-        let links =
-            told.chain.iter().filter_map(|link| Some(format!("{},{}", index(link.thing)?, link.level)));
+        let links = told
+            .chain
+            .iter()
+            .filter_map(|link| Some(format!("{},{}", index(link.thing)?, height(link.label))));
         fields.push(format!("[{}]", links.collect::<Vec<_>>().join(",")));
         let sought =
             told.sought.iter().filter_map(|&(from, to)| Some(format!("{},{}", index(from)?, index(to)?)));
@@ -227,16 +232,32 @@ const GROUP: u64 = 2 * 256;
 const OF_THING: u32 = 4;
 const OF_HANDLE: u32 = 5;
 
+/// Letters of a piece that has the sets of a thing's shop marks and of its need's.
+const OF_SETS: u32 = 5;
+
 /// What is different after a record, in pieces: first things and the freeze, then a dot, then handles. Behind a step that
 /// is a thread of one with a lower number stands a second piece, which has that number in the place of kind, level and need.
+/// Behind a second dot stand the sets of those of these things that have others than [`usual`].
 fn changes(before: &State, after: &State, numbers: &Numbers) -> String {
-    let mut text = String::new();
+    let (mut text, mut sets) = (String::new(), String::new());
     if before == after {
         return text;
     }
+    let mut sets_of = |place: u64, label: Label, need: Label| {
+        if (label.shops, need.shops) != usual(need) {
+            packed(
+                65_536 * place + 256 * u64::from(label.shops) + u64::from(need.shops),
+                OF_SETS,
+                &mut sets,
+            );
+        }
+    };
     for s in 0..STEPS {
         if before.step(s) != after.step(s) {
-            let stands = after.step(s).map_or(0, |step| standing(1, step.level, step.need));
+            let stands = after.step(s).map_or(0, |step| standing(1, step.label, step.need));
+            if let Some(step) = after.step(s) {
+                sets_of(s, step.label, step.need);
+            }
             packed(768 * s + stands, OF_THING, &mut text);
             if let Some(step) = after.step(s).filter(|step| step.group != s) {
                 packed(768 * s + GROUP + step.group, OF_THING, &mut text);
@@ -247,9 +268,13 @@ fn changes(before: &State, after: &State, numbers: &Numbers) -> String {
         if before.object(o) != after.object(o) {
             let stands = after.object(o).map_or(0, |object| {
                 let kind = if object.kind == Kind::File { 1 } else { 2 };
-                standing(kind, object.level, object.need)
+                standing(kind, object.label, object.need)
             });
-            packed(768 * numbers.index(Thing::Object(o)).unwrap_or(0) + stands, OF_THING, &mut text);
+            let place = numbers.index(Thing::Object(o)).unwrap_or(0);
+            packed(768 * place + stands, OF_THING, &mut text);
+            if let Some(object) = after.object(o) {
+                sets_of(place, object.label, object.need);
+            }
         }
     }
     if before.frozen_from != after.frozen_from {
@@ -272,12 +297,27 @@ fn changes(before: &State, after: &State, numbers: &Numbers) -> String {
             }
         }
     }
-    text
+    if sets.is_empty() {
+        text
+    } else {
+        format!("{text}.{sets}")
+    }
+}
+
+/// The sets that a thing and its need have where shop marks are not used: all marks, and those of the files that are
+/// reached, if one above level 0 is.
+fn usual(need: Label) -> (u8, u8) {
+    (shops::ALL, if need.level > 0 { shops::ALL } else { shops::NONE })
+}
+
+/// A level, and 256 times the set of the shop marks that are missing.
+fn height(label: Label) -> u32 {
+    u32::from(label.level) + 256 * u32::from(!label.shops)
 }
 
 /// Kind, level and need in one number below 768. From empty tables no level is above 15.
-fn standing(kind: u64, level: u8, need: u8) -> u64 {
-    256 * kind + 16 * u64::from(level.min(15)) + u64::from(need.min(15))
+fn standing(kind: u64, label: Label, need: Label) -> u64 {
+    256 * kind + 16 * u64::from(label.level.min(15)) + u64::from(need.level.min(15))
 }
 
 /// A number as so many letters, six bits each.
@@ -366,9 +406,9 @@ mod tests {
         let mut monitor = gatekeeper::State::new();
         let empty = State::of(&monitor);
         for call in [
-            Call::Admit { subject: 31, level: 9 },
-            Call::Register { object: u64::MAX, level: 9 },
-            Call::Register { object: 7, level: 20 },
+            Call::Admit { subject: 31, level: 9, shops: 255 },
+            Call::Register { object: u64::MAX, level: 9, shops: 255 },
+            Call::Register { object: 7, level: 20, shops: 255 },
             Call::OpenWrite { subject: 31, object: u64::MAX, place: 15 },
             Call::Freeze { level: 9 },
         ] {
@@ -398,7 +438,10 @@ mod tests {
             changes(&before, &State::of(&monitor), &numbers)
         };
         let stands = 256 + 16 * 9;
-        assert_eq!(step(Call::Admit { subject: 5, level: 9 }), format!("{}.", thing(5, stands)));
+        assert_eq!(
+            step(Call::Admit { subject: 5, level: 9, shops: 255 }),
+            format!("{}.", thing(5, stands))
+        );
         let joined = format!("{}{}.", thing(31, stands), thing(31, 512 + 5));
         assert_eq!(step(Call::Thread { subject: 5, member: 31 }), joined);
         // With a lower number they are another's, all of them.
@@ -406,6 +449,30 @@ mod tests {
         assert_eq!(step(Call::Thread { subject: 31, member: 2 }), format!("{}.", lower.concat()));
         let left = [thing(2, 0), thing(5, stands), thing(31, stands), thing(31, 512 + 5)];
         assert_eq!(step(Call::Exit { subject: 2 }), format!("{}.", left.concat()));
+    }
+
+    /// Only sets other than the usual ones are there.
+    #[test]
+    fn sets_are_packed() {
+        let mut monitor = gatekeeper::State::new();
+        let mut journal = Vec::new();
+        let empty = State::of(&monitor);
+        for call in [
+            Call::Admit { subject: 1, level: 9, shops: 3 },
+            Call::Admit { subject: 2, level: 9, shops: 255 },
+            Call::Register { object: 7, level: 9, shops: 1 },
+            Call::OpenWrite { subject: 1, object: 7, place: 0 },
+        ] {
+            call.write_record(&mut journal);
+            assert!(monitor.call(call).granted().is_ok(), "{call:?}");
+        }
+        let mut sets = String::new();
+        for (place, label, need) in [(1, 3, 1), (33, 1, 1)] {
+            packed(65_536 * place + 256 * label + need, OF_SETS, &mut sets);
+        }
+        let changes = changes(&empty, &State::of(&monitor), &Numbers::of(&journal));
+        assert_eq!(changes.split('.').nth(2), Some(sets.as_str()), "{changes}");
+        assert_eq!(height(Label { level: 9, shops: 254 }), 9 + 256);
     }
 
     fn thing(place: u64, stands: u64) -> String {
@@ -419,5 +486,6 @@ mod tests {
     fn every_place_fits_into_its_letters() {
         let most = 128 + gatekeeper::JOURNAL_BYTES as u64 / 5 + FREEZE;
         assert!(768 * (most + 1) < 1 << (6 * OF_THING) && 512 * 8 * (most + 1) < 1 << (6 * OF_HANDLE));
+        assert!(65_536 * (most + 1) < 1 << (6 * OF_SETS));
     }
 }

@@ -23,6 +23,8 @@ pub enum Piece {
     Number(u64),
     /// Numbers that rise, written short: "1 to 4, 7".
     List(Vec<u64>),
+    /// A set of shop marks: "the shop marks of north and east".
+    Shops(u8),
 }
 
 /// A sentence.
@@ -113,6 +115,7 @@ impl Phrase {
             Piece::Either(_) => "{o}",
             Piece::Number(_) => "{n}",
             Piece::List(_) => "{l}",
+            Piece::Shops(_) => "{m}",
         });
         marks.collect()
     }
@@ -126,6 +129,7 @@ impl Phrase {
                 Some(format!("\"{}\"", shown(*n)))
             }
             Piece::Number(n) => Some(n.to_string()),
+            Piece::Shops(set) => Some(set.to_string()),
             Piece::List(list) => {
                 Some(format!("[{}]", list.iter().map(u64::to_string).collect::<Vec<_>>().join(",")))
             }
@@ -158,6 +162,10 @@ impl Phrase {
                 }
                 Piece::List(list) => {
                     text.push_str(&ranges(list));
+                    continue;
+                }
+                Piece::Shops(set) => {
+                    text.push_str(&names.marks(*set, record));
                     continue;
                 }
                 Piece::Step(n) => ("step", *n),

@@ -2,7 +2,8 @@
 
 use std::collections::BTreeMap;
 
-use gatekeeper::{Handle, Kind, State as Monitor};
+use gatekeeper::{Handle, Kind, Label, State as Monitor};
+use gk_names::shops;
 
 /// How many there can be of each; of files and pipes, at a time.
 pub use gatekeeper::{OBJECTS, PLACES, SUBJECTS as STEPS};
@@ -11,9 +12,9 @@ pub use gk_chain::{flow, Thing};
 /// What is known of a running step.
 #[derive(Clone, Copy, Debug, PartialEq, Eq)]
 pub struct Step {
-    pub level: u8,
-    /// The lowest level that it may fall to while no handle goes.
-    pub need: u8,
+    pub label: Label,
+    /// The lowest label that it may fall to while no handle goes.
+    pub need: Label,
     /// The lowest number of a thread of the same step: its own where it is by itself.
     pub group: u64,
 }
@@ -22,8 +23,8 @@ pub struct Step {
 #[derive(Clone, Copy, Debug, PartialEq, Eq)]
 pub struct Object {
     pub kind: Kind,
-    pub level: u8,
-    pub need: u8,
+    pub label: Label,
+    pub need: Label,
 }
 
 /// Who holds what at one moment.
@@ -48,7 +49,7 @@ impl State {
     pub fn of(monitor: &Monitor) -> State {
         let object = |o, object: gatekeeper::Object| {
             let need = monitor.need_of_object(o)?;
-            Some((o, Object { kind: object.kind, level: object.level, need }))
+            Some((o, Object { kind: object.kind, label: object.label, need }))
         };
         let mut state = State {
             steps: [None; STEPS as usize],
@@ -60,7 +61,7 @@ impl State {
         };
         for s in 0..STEPS {
             let known = monitor.subject(s).zip(monitor.need_of_subject(s)).zip(monitor.group(s));
-            state.steps[s as usize] = known.map(|((level, need), group)| Step { level, need, group });
+            state.steps[s as usize] = known.map(|((label, need), group)| Step { label, need, group });
             for p in 0..PLACES {
                 state.handles[(PLACES * s + p) as usize] = monitor.handle(s, p);
             }
@@ -130,12 +131,19 @@ impl State {
         self.handles().filter(move |(_, _, handle)| handle.object == o)
     }
 
-    /// The level of a thing that is there.
-    pub fn level(&self, thing: Thing) -> Option<u8> {
+    /// The label of a thing that is there.
+    pub fn label(&self, thing: Thing) -> Option<Label> {
         match thing {
-            Thing::Step(s) => self.step(s).map(|step| step.level),
-            Thing::Object(o) => self.object(o).map(|object| object.level),
+            Thing::Step(s) => self.step(s).map(|step| step.label),
+            Thing::Object(o) => self.object(o).map(|object| object.label),
         }
+    }
+
+    /// Whether a thing lacks a shop mark: where none does, they are not spoken of.
+    pub fn is_marked(&self) -> bool {
+        let labels =
+            self.steps().map(|(_, step)| step.label).chain(self.objects().map(|(_, object)| object.label));
+        labels.into_iter().any(|label| label.shops != shops::ALL)
     }
 
     pub fn kind(&self, o: u64) -> Option<Kind> {

@@ -2,10 +2,11 @@
 
 use std::collections::VecDeque;
 
-use gatekeeper::{Answer, Refusal, Way};
+use gatekeeper::{Answer, Label, Refusal, Way};
 use gk_advice::run::Step;
 use gk_chain::Link;
 use gk_names::number::shown;
+use gk_names::shops;
 
 use crate::names::Names;
 use crate::phrase::{ranges, Phrase, Piece};
@@ -114,7 +115,7 @@ impl Screen {
         let mut lines: Vec<Line> = asked.into_iter().map(|line| Line(Look::Strong, line)).collect();
         let look = match turn.answer {
             Answer::Allowed(_) => Look::Allowed,
-            Answer::Lowered(_) => Look::Lowered,
+            Answer::Lowered { .. } => Look::Lowered,
             Answer::Refused(_) => Look::Refused,
         };
         let answer = wrapped("  ", &format!("{}.", answer_words(turn.answer)), 2);
@@ -172,7 +173,10 @@ impl Screen {
                 (Thing::Object(o), _) => Piece::Pipe(o),
             };
             let named = Phrase(vec![piece]).middle(&self.names, self.position);
-            format!("{named} at {}", link.level)
+            match link.label.shops {
+                shops::ALL => format!("{named} at {}", link.label.level),
+                _ => format!("{named} at {}", self.label(link.label).trim_start()),
+            }
         };
         let mut words: Vec<String> = chain.iter().map(link).collect();
         if words.len() > MOST_LINKS {
@@ -259,7 +263,10 @@ impl Screen {
         let rows: Vec<(u64, String)> =
             groups.iter().flatten().map(|&s| (s, self.name("step", s))).collect();
         let names = name_columns(&rows);
-        let head = format!("{} level  may fall to  holds", fitted("Steps", 3 + names.max(2)));
+        let label = |s: &u64| state.step(*s).map(|step| self.label(step.label));
+        let levels = level_columns(rows.iter().filter_map(|(s, _)| label(s)));
+        let head =
+            format!("{} {:<levels$}  may fall to  holds", fitted("Steps", 3 + names.max(2)), "level");
         let mut lines = vec![Line(Look::Plain, String::new()), Line(Look::Strong, head)];
         let known = rows.iter().filter_map(|(s, name)| Some((*s, state.step(*s)?, name)));
         for (s, step, name) in known {
@@ -281,8 +288,8 @@ impl Screen {
                 })
                 .collect();
             let held = if held.is_empty() { "nothing".to_string() } else { held.join("; ") };
-            let start =
-                format!("{s:>2} {} {:>5}  {:>11}  ", fitted(name, names.max(2)), step.level, step.need);
+            let (label, need) = (self.label(step.label), self.label(step.need));
+            let start = format!("{s:>2} {} {label:<levels$}  {need:<11}  ", fitted(name, names.max(2)));
             let indent = width(&start);
             lines.extend(wrapped(&start, &held, indent).into_iter().map(|line| Line(Look::Plain, line)));
             // Below the last one of them: threads of one step stand together.
@@ -303,8 +310,9 @@ impl Screen {
         let rows: Vec<(u64, String)> = state.objects().map(|(o, _)| (o, self.name(kind(o), o))).collect();
         let names = name_columns(&rows).max(8);
         let columns = number_columns(&rows);
+        let levels = level_columns(state.objects().map(|(_, object)| self.label(object.label)));
         let head = fitted("Files and pipes", 6 + columns + names);
-        let head = format!("{head} level  written by            read by");
+        let head = format!("{head} {:<levels$}  written by            read by", "level");
         let live = format!("{} of {OBJECTS} live", rows.len());
         let mut lines = vec![Line(Look::Plain, String::new())];
         // The count stands at the end of the line, or where there is no room below it.
@@ -336,8 +344,8 @@ impl Screen {
                 number = String::new();
             }
             let word = if number.is_empty() { "" } else { kind(o) };
-            let start =
-                format!("{word:4} {number:>columns$} {} {:>5}  ", fitted(name, names), object.level);
+            let label = self.label(object.label);
+            let start = format!("{word:4} {number:>columns$} {} {label:<levels$}  ", fitted(name, names));
             let text = if width(&writers) <= 20 {
                 wrapped(
                     &format!("{start}{}  ", fitted(&or_none(writers), 20)),
@@ -354,8 +362,36 @@ impl Screen {
         if rows.is_empty() {
             lines.push(Line(Look::Plain, "no file and no pipe".to_string()));
         }
+        if state.is_marked() {
+            let legend = wrapped("Shop marks: ", &self.legend(), 12);
+            lines.extend(legend.into_iter().map(|line| Line(Look::Plain, line)));
+        }
         lines
     }
+
+    /// A label in a table: the level, and small beside it the set of shop marks.
+    fn label(&self, label: Label) -> String {
+        let signs = self.names.signs(self.position);
+        format!("{:>2} {}", label.level, shops::compact(label.shops, &signs))
+    }
+
+    /// Which sign is which shop group's.
+    fn legend(&self) -> String {
+        let signs = self.names.signs(self.position);
+        let named = (0..).zip(signs).filter_map(|(group, sign)| {
+            Some(format!("{sign} {}", self.names.name("shop", group, self.position)?))
+        });
+        let named: Vec<String> = named.collect();
+        let numbers =
+            if named.len() < signs.len() { "a digit is the number of a shop group, " } else { "" };
+        let named = if named.is_empty() { String::new() } else { format!("{}; ", named.join(", ")) };
+        format!("{named}{numbers}· is one that is not there")
+    }
+}
+
+/// Columns of levels with their shop marks.
+fn level_columns(labels: impl Iterator<Item = String>) -> usize {
+    labels.map(|label| width(&label)).max().unwrap_or(0).max(5)
 }
 
 /// Columns of the numbers of files and pipes: as many as the longest has that is not too long for a table.
@@ -381,7 +417,9 @@ fn cut(lines: &mut Vec<Line>, most: usize) {
 fn answer_words(answer: Answer) -> String {
     match answer {
         Answer::Allowed(level) => format!("Allowed, level {level}"),
-        Answer::Lowered(level) => format!("Lowered: level {level} now"),
+        Answer::Lowered { level, lost: 0 } => format!("Lowered: level {level} now"),
+        Answer::Lowered { level, lost: 1 } => format!("Lowered: level {level} now, 1 shop mark lost"),
+        Answer::Lowered { level, lost } => format!("Lowered: level {level} now, {lost} shop marks lost"),
         Answer::Refused(refusal) => format!("Refused ({}): {}", refusal.number(), refusal.words()),
     }
 }

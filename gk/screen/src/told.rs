@@ -112,32 +112,55 @@ impl Memory {
         let (Some(step), Some(low)) = (before.step(s), before.object(o)) else {
             return Vec::new();
         };
-        if low.level >= step.level {
+        if low.label.at_least(step.label) {
             return Vec::new();
         }
-        let mut why = vec![match step.need {
-            0 => phrase![
+        let level = low.label.level;
+        let lost = step.label.shops & !low.label.shops;
+        let by_level = match step.need.level {
+            _ if level >= step.label.level => None,
+            0 => Some(phrase![
                 "It may: no way leads from ",
                 Piece::Step(s),
                 " to a file above level 0, so it may fall as low as it likes."
-            ],
-            need if need <= low.level => phrase![
+            ]),
+            need if need <= level => Some(phrase![
                 "It may: the highest file that ",
                 Piece::Step(s),
                 " can reach has level ",
                 need,
                 ", which is not above ",
-                low.level,
+                level,
                 "."
-            ],
-            need => phrase![
+            ]),
+            need => Some(phrase![
                 "It may: without the handles that end here, no file above level ",
-                low.level,
+                level,
                 " is reached; with them the need was ",
                 need,
                 "."
-            ],
-        }];
+            ]),
+        };
+        // A shop mark goes where no file that is reached has it.
+        let has = if lost.count_ones() == 1 { "has it." } else { "has one of them." };
+        let by_marks = match lost & step.need.shops {
+            _ if lost == 0 => None,
+            0 => Some(phrase![
+                "It may lose ",
+                Piece::Shops(lost),
+                ": no file that ",
+                Piece::Step(s),
+                " can reach ",
+                has
+            ]),
+            _ => Some(phrase![
+                "It may lose ",
+                Piece::Shops(lost),
+                ": without the handles that end here, no file is reached that ",
+                has
+            ]),
+        };
+        let mut why: Vec<Phrase> = by_level.into_iter().chain(by_marks).collect();
         if let (5 | 7 | 14, Some(&(record, other))) = (code, self.refused.get(&o)) {
             if other != s {
                 why.push(phrase![
@@ -210,9 +233,9 @@ mod tests {
         (why, ways)
     }
 
-    const STEP: Call = Call::Admit { subject: 0, level: 9 };
-    const BOOK: Call = Call::Register { object: 0, level: 9 };
-    const SHEET: Call = Call::Register { object: 1, level: 2 };
+    const STEP: Call = Call::Admit { subject: 0, level: 9, shops: 255 };
+    const BOOK: Call = Call::Register { object: 0, level: 9, shops: 255 };
+    const SHEET: Call = Call::Register { object: 1, level: 2, shops: 255 };
     const WRITES: Call = Call::OpenWrite { subject: 0, object: 0, place: 0 };
     const READS: Call = Call::OpenRead { subject: 0, object: 1, place: 1 };
 
@@ -223,7 +246,8 @@ mod tests {
         assert_eq!(why[0], "Nothing is opened.");
         assert_eq!(why[1], "File 1 has level 2, and file 0 takes nothing from below level 9.");
         assert_eq!(ways[0], "Close place 0 (writing file 0) of step 0; open it after that.");
-        let (_, ways) = said(&[STEP, Call::Admit { subject: 7, level: 9 }, BOOK, SHEET, WRITES, READS]);
+        let (_, ways) =
+            said(&[STEP, Call::Admit { subject: 7, level: 9, shops: 255 }, BOOK, SHEET, WRITES, READS]);
         assert_eq!(ways[1], "Let another step open it: step 7 may.");
         let refused = [STEP, Call::Mark { subject: 0, place: 12 }];
         assert_eq!(
@@ -272,7 +296,7 @@ mod tests {
 
     #[test]
     fn the_other_way_is_told_of_the_same_thing_alone() {
-        let other = Call::Admit { subject: 1, level: 9 };
+        let other = Call::Admit { subject: 1, level: 9, shops: 255 };
         let may = Call::OpenRead { subject: 1, object: 1, place: 0 };
         let (why, _) = said(&[STEP, other, BOOK, SHEET, WRITES, READS, may]);
         assert_eq!(
@@ -310,7 +334,7 @@ mod tests {
         let [asked, why, ways, _] = all_said(&[STEP, BOOK, SHEET, READS, freeze, asks]);
         assert!(asked[0].contains(": the books are closed from level 9 up since record 5"), "{asked:?}");
         let then =
-            "Once the books are open again (freeze 16) it would be refused with 9: low data could reach a higher file.";
+            "Once the books are open again (freeze 16) it would be refused with 9: data could reach a file of a higher level or with a shop mark that it lacks.";
         let low = "File 1 has level 2, and file 0 takes nothing from below level 9.";
         assert_eq!(why, ["Nothing is opened.", then, low]);
         assert_eq!(
@@ -325,7 +349,7 @@ mod tests {
             ]
         );
         // Another step that may; a closing that does not help is not advised.
-        let step = Call::Admit { subject: 1, level: 2 };
+        let step = Call::Admit { subject: 1, level: 2, shops: 255 };
         let asks = Call::OpenWrite { subject: 1, object: 0, place: 0 };
         let [_, why, ways, notes] = all_said(&[STEP, BOOK, WRITES, freeze, step, asks]);
         assert_eq!(why[1..], [then, "Step 1 has level 2, and file 0 takes nothing from below level 9."]);

@@ -1,7 +1,8 @@
 //! Trials on generated journals of a fixed seed: what is shown beside the independent program, and that nothing fails.
 
-use gatekeeper::{replay, Call, Kind, Way, JOURNAL_BYTES, NO_FREEZE};
+use gatekeeper::{replay, Call, Kind, Label, Way, JOURNAL_BYTES, NO_FREEZE};
 use gatekeeper_independent::generate::{journal, Style, Wish, STYLES};
+use gatekeeper_independent::labels::Label as OtherLabel;
 use gatekeeper_independent::monitor::{Answer as OtherAnswer, Monitor as OtherMonitor};
 use gatekeeper_independent::needs::{Needs, Thing as Other};
 use gatekeeper_independent::replies;
@@ -33,14 +34,18 @@ fn journals() -> Vec<Vec<u8>> {
     all
 }
 
+/// A label as the independent program has it.
+fn other(label: Label) -> OtherLabel {
+    OtherLabel { level: label.level.into(), shops: label.shops.into() }
+}
+
 fn agrees(state: &State, tables: &Tables) {
     let needs = Needs::of_tables(tables);
     for s in 0..STEPS {
-        let known =
-            state.step(s).map(|step| (u64::from(step.level), u64::from(step.need), Some(step.group)));
+        let known = state.step(s).map(|step| (other(step.label), other(step.need), Some(step.group)));
         let other = tables
             .subject(s)
-            .map(|subject| (subject.level, needs.of(Other::Subject(s)), tables.members(s).next()));
+            .map(|subject| (subject.label(), needs.of(Other::Subject(s)), tables.members(s).next()));
         assert_eq!(known, other, "step {s}");
         assert!(state.mates(s).into_iter().eq(tables.mates(s)), "the threads of step {s}");
         for p in 0..PLACES {
@@ -58,10 +63,10 @@ fn agrees(state: &State, tables: &Tables) {
     for o in live {
         let known = state
             .object(o)
-            .map(|object| (object.kind == Kind::File, u64::from(object.level), u64::from(object.need)));
+            .map(|object| (object.kind == Kind::File, other(object.label), other(object.need)));
         let other = tables
             .object(o)
-            .map(|object| (object.kind == OtherKind::File, object.level, needs.of(Other::Object(o))));
+            .map(|object| (object.kind == OtherKind::File, object.label(), needs.of(Other::Object(o))));
         assert_eq!(known, other, "file or pipe {o}");
     }
     assert_eq!(state.frozen_from.map(u64::from), tables.frozen_from());
@@ -71,7 +76,7 @@ fn agrees(state: &State, tables: &Tables) {
 /// alone, and is allowed.
 #[test]
 fn what_is_shown_is_so_and_what_is_advised_holds() {
-    let (mut records, mut nines, mut hidden) = (0, 0, 0);
+    let (mut records, mut nines, mut hidden, mut by_marks) = (0, 0, 0, 0);
     let mut advised = Advised::default();
     for journal in journals() {
         let mut other = replies::Run::new(&journal, Rules::default());
@@ -100,8 +105,9 @@ fn what_is_shown_is_so_and_what_is_advised_holds() {
                     &before,
                     &told.chain.iter().map(|link| link.thing).collect::<Vec<_>>(),
                 );
-                assert!(low.level < high.level && high.kind == Some(Kind::File));
+                assert!(!low.label.at_least(high.label) && high.kind == Some(Kind::File));
                 nines += 1;
+                by_marks += u64::from(low.label.level >= high.label.level);
             }
             let has_advice = !(told.ways.is_empty() && told.notes.is_empty());
             assert_eq!(has_advice, turn.refusal().is_some(), "{}", turn.line());
@@ -112,6 +118,7 @@ fn what_is_shown_is_so_and_what_is_advised_holds() {
         assert!(other.next_step().is_none());
     }
     assert!(records > 50_000 && nines > 1_500, "{records} records, {nines} nines");
+    assert!(by_marks > 100, "{by_marks} nines for a shop mark alone");
     assert!(hidden > 100, "{hidden} nines behind a fifteen");
     advised.is_enough();
 }
@@ -195,9 +202,9 @@ fn colours_only_stand_beside_words() {
 fn a_fifteen_is_shown_with_the_nine_behind_it() {
     let mut journal = Vec::new();
     for call in [
-        Call::Admit { subject: 0, level: 9 },
-        Call::Register { object: 0, level: 9 },
-        Call::Register { object: 1, level: 2 },
+        Call::Admit { subject: 0, level: 9, shops: 255 },
+        Call::Register { object: 0, level: 9, shops: 255 },
+        Call::Register { object: 1, level: 2, shops: 255 },
         Call::OpenRead { subject: 0, object: 1, place: 0 },
         Call::Freeze { level: 9 },
         Call::OpenWrite { subject: 0, object: 0, place: 1 },
@@ -227,8 +234,8 @@ fn a_fifteen_is_shown_with_the_nine_behind_it() {
 fn long_numbers_are_shown_whole() {
     let mut journal = Vec::new();
     let numbers = [u64::MAX, 12_345_678, 5];
-    let registers = numbers.map(|object| Call::Register { object, level: 9 });
-    let mut step = vec![Call::Admit { subject: 3, level: 9 }];
+    let registers = numbers.map(|object| Call::Register { object, level: 9, shops: 255 });
+    let mut step = vec![Call::Admit { subject: 3, level: 9, shops: 255 }];
     step.extend((0..).zip(numbers).map(|(place, object)| Call::OpenRead { subject: 3, object, place }));
     registers.iter().chain(&step).for_each(|call| call.write_record(&mut journal));
     let mut screen = Screen::new("a journal".to_string(), Names::new(), State::empty());

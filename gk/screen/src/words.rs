@@ -1,6 +1,7 @@
 //! What a record has changed, in words. The changes are read off the states before and after it.
 
-use gatekeeper::{Handle, Kind, Way};
+use gatekeeper::{Handle, Kind, Label, Way};
+use gk_names::shops;
 
 use crate::phrase::{object, phrase, Phrase, Piece};
 use crate::state::{State, PLACES, STEPS};
@@ -56,24 +57,32 @@ fn threads(steps: &[u64], word: &'static str) -> Phrase {
 }
 
 /// What has fallen, as it is told: a thing, or threads of one step, which fall together.
-fn falls(before: &State, after: &State) -> Vec<(Phrase, bool, u8, u8)> {
-    let mut falls: Vec<(Phrase, bool, u8, u8)> = Vec::new();
+fn falls(before: &State, after: &State) -> Vec<(Phrase, bool, Label, Label)> {
+    let mut falls: Vec<(Phrase, bool, Label, Label)> = Vec::new();
     for group in after.groups() {
-        let fell = |s: &u64| Some((before.step(*s)?.level, after.step(*s)?.level));
-        let mut levels: Vec<(u8, u8)> = group.iter().filter_map(fell).collect();
-        levels.dedup();
-        for (from, to) in levels {
+        let fell = |s: &u64| Some((before.step(*s)?.label, after.step(*s)?.label));
+        let mut labels: Vec<(Label, Label)> = group.iter().filter_map(fell).collect();
+        labels.dedup();
+        for (from, to) in labels {
             let steps: Vec<u64> = group.iter().copied().filter(|s| fell(s) == Some((from, to))).collect();
             falls.push((threads(&steps, "Steps"), steps.len() > 1, from, to));
         }
     }
     for o in State::objects_of(before, after) {
         if let (Some(old), Some(new)) = (before.object(o), after.object(o)) {
-            falls.push((phrase![object(o, after)], false, old.level, new.level));
+            falls.push((phrase![object(o, after)], false, old.label, new.label));
         }
     }
     falls.retain(|(_, _, from, to)| from != to);
     falls
+}
+
+/// " with the shop marks of north and east"; nothing where it has all of them.
+fn with_marks(label: Label) -> Phrase {
+    match label.shops {
+        shops::ALL => Phrase::default(),
+        set => phrase![" with ", Piece::Shops(set)],
+    }
 }
 
 /// Who came, who went, and who fell.
@@ -82,11 +91,21 @@ fn levels(before: &State, after: &State, said: &mut Vec<Phrase>) {
     let objects = State::objects_of(before, after);
     let alone = if falls.len() == 1 { ". Nothing else falls." } else { "." };
     for (who, are_threads, from, to) in falls {
-        let (fall, why) = match are_threads {
-            true => (" fall from level ", ": they are threads of one step"),
-            false => (" falls from level ", ""),
+        let (fall, stay, lose, why) = match are_threads {
+            true => {
+                (" fall from level ", " stay at level ", " and lose ", ": they are threads of one step")
+            }
+            false => (" falls from level ", " stays at level ", " and loses ", ""),
         };
-        said.push(who.then(phrase![fall, from, " to level ", to, why, alone]));
+        let level = match to.level < from.level {
+            true => phrase![fall, from.level, " to level ", to.level],
+            false => phrase![stay, to.level],
+        };
+        let lost = match from.shops & !to.shops {
+            0 => Phrase::default(),
+            lost => phrase![lose, Piece::Shops(lost)],
+        };
+        said.push(who.then(level).then(lost).then(phrase![why, alone]));
     }
     for s in 0..STEPS {
         match (before.step(s), after.step(s)) {
@@ -98,7 +117,8 @@ fn levels(before: &State, after: &State, said: &mut Vec<Phrase>) {
                         .then(threads(&mates, "steps"))
                         .then(phrase!["."]),
                 };
-                said.push(phrase![Piece::Step(s), " is new, at level ", new.level].then(with));
+                let is_new = phrase![Piece::Step(s), " is new, at level ", new.label.level];
+                said.push(is_new.then(with_marks(new.label)).then(with));
             }
             (Some(_), None) => said.push(match before.held(s).count() {
                 0 => phrase![Piece::Step(s), " is gone, and its number is free."],
@@ -113,10 +133,12 @@ fn levels(before: &State, after: &State, said: &mut Vec<Phrase>) {
     for o in objects {
         match (before.object(o), after.object(o)) {
             (None, Some(new)) if new.kind == Kind::File => {
-                said.push(phrase![Piece::File(o), " is new, at level ", new.level, " for good."]);
+                let is_new = phrase![Piece::File(o), " is new, at level ", new.label.level];
+                said.push(is_new.then(with_marks(new.label)).then(phrase![" for good."]));
             }
             (None, Some(new)) => {
-                said.push(phrase![Piece::Pipe(o), " is new and empty, at level ", new.level, "."])
+                let is_new = phrase![Piece::Pipe(o), " is new and empty, at level ", new.label.level];
+                said.push(is_new.then(with_marks(new.label)).then(phrase!["."]));
             }
             (Some(old), None) if old.kind == Kind::File => {
                 said.push(phrase![Piece::File(o), " is gone, and its number is free."]);
@@ -162,14 +184,21 @@ fn handles(s: u64, before: &State, after: &State, said: &mut Vec<Phrase>) {
     }
 }
 
-/// Who may fall less far than before, and who further; by the level that they may fall to now.
+/// Who may fall less far than before, and who further; by the label that they may fall to now. Shop marks are spoken of where
+/// a thing lacks one.
 fn needs(before: &State, after: &State, said: &mut Vec<Phrase>) {
-    for need in (0..=u8::MAX).rev() {
+    let is_marked = before.is_marked() || after.is_marked();
+    // Where shop marks are not spoken of, only the level counts.
+    let seen = |need: Label| if is_marked { need } else { Label { shops: 0, ..need } };
+    let old = |s: u64| before.step(s).map(|step| seen(step.need));
+    let mut needs: Vec<Label> = after.steps().map(|(_, step)| seen(step.need)).collect();
+    needs.sort_unstable_by_key(|need| std::cmp::Reverse((need.level, need.shops)));
+    needs.dedup();
+    for need in needs {
         let moved = |rises: bool| {
             let steps = after.steps().filter(move |&(s, new)| {
-                before.step(s).is_some_and(|old| {
-                    new.need == need && if rises { old.need < need } else { old.need > need }
-                })
+                let is_higher = |old: Label| old != need && (need.at_least(old) == rises);
+                seen(new.need) == need && old(s).is_some_and(is_higher)
             });
             steps.map(|(s, _)| s).collect::<Vec<u64>>()
         };
@@ -177,12 +206,18 @@ fn needs(before: &State, after: &State, said: &mut Vec<Phrase>) {
             [s] => phrase![Piece::Step(*s)],
             _ => phrase!["Steps ", Piece::List(steps)],
         };
+        let marks = || match is_marked {
+            true => phrase![" with ", Piece::Shops(need.shops)],
+            false => Phrase::default(),
+        };
         let (up, down) = (moved(true), moved(false));
         if !up.is_empty() {
-            said.push(who(up).then(phrase![" may fall no lower than level ", need, " now."]));
+            let floor = who(up).then(phrase![" may fall no lower than level ", need.level]);
+            said.push(floor.then(marks()).then(phrase![" now."]));
         }
         if !down.is_empty() {
-            said.push(who(down).then(phrase![" may fall to level ", need, " now."]));
+            let floor = who(down).then(phrase![" may fall to level ", need.level]);
+            said.push(floor.then(marks()).then(phrase![" now."]));
         }
     }
 }
@@ -205,8 +240,8 @@ mod tests {
             let before = monitor.clone();
             call(&mut monitor).granted().map(|_| told(&before, &monitor))
         };
-        assert_eq!(step(|m| m.admit(0, 9))?, ["Step 0 is new, at level 9."]);
-        assert_eq!(step(|m| m.register(1, 2))?, ["File 1 is new, at level 2 for good."]);
+        assert_eq!(step(|m| m.admit(0, 9, 255))?, ["Step 0 is new, at level 9."]);
+        assert_eq!(step(|m| m.register(1, 2, 255))?, ["File 1 is new, at level 2 for good."]);
         assert_eq!(
             step(|m| m.pipe(0, 2, 0, 1))?,
             [
@@ -236,7 +271,7 @@ mod tests {
                 "Pipe 2 has lost its last handle and ends."
             ]
         );
-        assert_eq!(step(|m| m.admit(3, 9))?, ["Step 3 is new, at level 9."]);
+        assert_eq!(step(|m| m.admit(3, 9, 255))?, ["Step 3 is new, at level 9."]);
         assert_eq!(
             step(|m| m.thread(3, 1))?,
             ["Step 1 is new, at level 9, a thread of one step with step 3."]
@@ -263,7 +298,7 @@ mod tests {
             step(|m| m.thread(1, 9))?,
             ["Step 9 is new, at level 2, a thread of one step with steps 1, 3, 5 to 8."]
         );
-        assert_eq!(step(|m| m.register(4, 0))?, ["File 4 is new, at level 0 for good."]);
+        assert_eq!(step(|m| m.register(4, 0, 255))?, ["File 4 is new, at level 0 for good."]);
         assert_eq!(
             step(|m| m.map(9, 4, 0))?,
             [
@@ -284,6 +319,55 @@ mod tests {
         );
         assert_eq!(step(|m| m.freeze(9))?, ["No file at or above level 9 can be opened for writing now."]);
         assert_eq!(step(|m| m.freeze(16))?, ["Every file can be opened for writing again."]);
+        Ok(())
+    }
+
+    #[test]
+    fn what_changes_in_shop_marks_is_said() -> Result<(), Refusal> {
+        let mut monitor = Monitor::new();
+        let mut step = |call: fn(&mut Monitor) -> gatekeeper::Answer| {
+            let before = monitor.clone();
+            call(&mut monitor).granted().map(|_| told(&before, &monitor))
+        };
+        assert_eq!(
+            step(|m| m.admit(0, 9, 7))?,
+            ["Step 0 is new, at level 9 with the shop marks of shop 0, shop 1 and shop 2."]
+        );
+        assert_eq!(
+            step(|m| m.register(1, 9, 3))?,
+            ["File 1 is new, at level 9 with the shop marks of shop 0 and shop 1 for good."]
+        );
+        assert_eq!(
+            step(|m| m.register(2, 2, 0))?,
+            ["File 2 is new, at level 2 with no shop marks for good."]
+        );
+        assert_eq!(step(|m| m.register(3, 12, 255))?, ["File 3 is new, at level 12 for good."]);
+        assert_eq!(step(|m| m.open_read(0, 1, 0))?, ["Step 0 reads file 1, at place 0."]);
+        assert_eq!(
+            step(|m| m.open_write(0, 1, 1))?,
+            [
+                "Step 0 writes file 1, at place 1.",
+                "Step 0 may fall no lower than level 9 with the shop marks of shop 0 and shop 1 now."
+            ]
+        );
+        assert_eq!(
+            step(|m| m.read(0, 0))?,
+            ["Step 0 stays at level 9 and loses the shop mark of shop 2. Nothing else falls."]
+        );
+        assert_eq!(
+            step(|m| m.close(0, 1))?,
+            [
+                "Step 0 no longer writes file 1; place 1 is empty.",
+                "Step 0 may fall to level 0 with no shop marks now."
+            ]
+        );
+        assert_eq!(
+            step(|m| m.map(0, 2, 1))?,
+            [
+                "Step 0 falls from level 9 to level 2 and loses the shop marks of shop 0 and shop 1. Nothing else falls.",
+                "Step 0 has file 2 mapped, at place 1."
+            ]
+        );
         Ok(())
     }
 }

@@ -11,6 +11,7 @@ use std::time::{Duration, Instant};
 use devtools::json::Json;
 use devtools::Browser;
 use gatekeeper_independent::generate::{journal, Style, Wish};
+use gatekeeper_independent::labels::Label;
 use gatekeeper_independent::monitor::Answer;
 use gatekeeper_independent::needs::{Needs, Thing};
 use gatekeeper_independent::records::Body;
@@ -114,15 +115,6 @@ fn plain(head: &str) -> String {
     let inner = head.rsplit_once('(').and_then(|(_, rest)| rest.strip_suffix(')')).unwrap_or(head);
     inner.to_lowercase()
 }
-
-/// A cell's number, the last one where it was another before: `12 → 2` is 2.
-fn number(cell: &str) -> u64 {
-    cell.rsplit(' ')
-        .next()
-        .and_then(|number| number.parse().ok())
-        .unwrap_or_else(|| panic!("no number: {cell}"))
-}
-
 /// A step's first cell without names, and the threads of the same step that are named behind it.
 fn with_mates(head: &str) -> (String, Vec<String>) {
     match head.split_once(" · thread of one step with ") {
@@ -131,37 +123,53 @@ fn with_mates(head: &str) -> (String, Vec<String>) {
     }
 }
 
+/// A label as the page's tables have it where no shop group has a name: "12 all", "9 none", "2 01······".
+fn short(label: Label) -> String {
+    let signs =
+        || (0..8).map(|group| if label.shops >> group & 1 == 1 { char::from(b'0' + group) } else { '·' });
+    match label.shops {
+        255 => format!("{} all", label.level),
+        0 => format!("{} none", label.level),
+        _ => format!("{} {}", label.level, signs().collect::<String>()),
+    }
+}
+
+/// What a label is now: it stands behind an arrow where it fell.
+fn now(cell: &str) -> String {
+    cell.rsplit("→ ").next().unwrap_or(cell).to_string()
+}
+
 /// The page's tables beside those of the independent program. Threads of one step stand together, and a line joins each to
 /// the next one.
 fn tables_agree(said: &Json, tables: &Tables) {
     let needs = Needs::of_tables(tables);
-    let shown: Vec<((String, Vec<String>), u64, u64, usize)> = rows(said, "steps")
+    let shown: Vec<((String, Vec<String>), String, String, usize)> = rows(said, "steps")
         .iter()
         .map(|row| {
             let held = if row[3] == "nothing" { 0 } else { row[3].split("; ").count() };
-            (with_mates(row[0]), number(row[1]), number(row[2]), held)
+            (with_mates(row[0]), now(row[1]), now(row[2]), held)
         })
         .collect();
     let mut steps: Vec<u64> = tables.live_subjects().collect();
     steps.sort_by_key(|&s| (tables.members(s).next(), s));
-    let there: Vec<((String, Vec<String>), u64, u64, usize)> = steps
+    let there: Vec<((String, Vec<String>), String, String, usize)> = steps
         .iter()
         .map(|&s| {
-            let level = tables.subject(s).map_or(0, |subject| subject.level);
+            let label = tables.subject(s).map_or(String::new(), |subject| short(subject.label()));
             let mates = tables.mates(s).map(|mate| format!("step {mate}")).collect();
             let name = (format!("step {s}"), mates);
-            (name, level, needs.of(Thing::Subject(s)), tables.handles_of(s).count())
+            (name, label, short(needs.of(Thing::Subject(s))), tables.handles_of(s).count())
         })
         .collect();
     assert_eq!(shown, there);
     let joined = steps.iter().filter(|&&s| tables.members(s).next() != Some(s)).count();
     assert_eq!(said.get("shared").number(), Some(joined as f64), "lines between threads");
 
-    let shown: Vec<(String, u64, usize, usize)> = rows(said, "objects")
+    let shown: Vec<(String, String, usize, usize)> = rows(said, "objects")
         .iter()
-        .map(|row| (plain(row[0]), number(row[1]), count(row[2]), count(row[3])))
+        .map(|row| (plain(row[0]), now(row[1]), count(row[2]), count(row[3])))
         .collect();
-    let there: Vec<(String, u64, usize, usize)> = tables
+    let there: Vec<(String, String, usize, usize)> = tables
         .live_objects()
         .map(|o| {
             let object = tables.object(o).expect("it is live");
@@ -178,7 +186,12 @@ fn tables_agree(said: &Json, tables: &Tables) {
                 steps.len()
             };
             let readers = who(Direction::Reading, false) + who(Direction::Reading, true);
-            (format!("{kind} {}", in_words(o)), object.level, who(Direction::Writing, false), readers)
+            (
+                format!("{kind} {}", in_words(o)),
+                short(object.label()),
+                who(Direction::Writing, false),
+                readers,
+            )
         })
         .collect();
     assert_eq!(shown, there);
@@ -383,7 +396,7 @@ fn bad_journals_have_a_page_that_says_so() {
     }
     let folder = std::env::temp_dir().join(format!("gk-screen-names-{}", std::process::id()));
     fs::write(&folder, "names 1\nstep 0 1 r&d's 100% é 日本 b-script/b\n").expect("a names file");
-    let paged = Paged::new("named", vec![3, 1, 0, 9], &["--names", &folder.to_string_lossy()]);
+    let paged = Paged::new("named", vec![5, 1, 0, 9, 255, 1], &["--names", &folder.to_string_lossy()]);
     fs::remove_file(&folder).expect("it is there");
     browser.open(&paged.page, "");
     let asked = "r&d's 100% é 日本 b-script/b (step 0) is admitted from outside at level 9";

@@ -81,12 +81,12 @@ fn march_is_shown_after_a_record() {
     let text = shown(&["--at", "196", MARCH], b"");
     assert!(text.starts_with("stdin: record 196 of 306 "), "{text}");
     for words in [
-        "Step 17 may not open file 1 for reading at place 5: it writes file 0.\n  Refused (9): low data could reach",
-        "17       12           12  1: writes pipe 37; 2: reads pipe 36; 4: writes file 0",
+        "Step 17 may not open file 1 for reading at place 5: it writes file 0.\n  Refused (9): data could reach",
+        "17    12 all  12 all       1: writes pipe 37; 2: reads pipe 36; 4: writes file 0",
         "  196  Way out: Close place 1 (writing pipe 37) and place 4 (writing file 0) of\n         step 17; open it after that.",
         "retire it, register it at level\n         12 or above, and open it then.",
         "file 1 at 2 → step 17 at 12 → file 0 at 9 (looked for, not proved)",
-        "pipe 37             12  17                    18",
+        "pipe 37          12 all  17                    18",
     ] {
         assert!(text.contains(words), "{words} is not in:\n{text}");
     }
@@ -97,6 +97,35 @@ fn march_is_shown_after_a_record() {
         "{text}"
     );
     assert!(text.contains("at record 198: from there a way led up."), "{text}");
+}
+
+/// Shop marks stand small beside the level, by the letters of the groups' names, and what they are below.
+#[test]
+fn shop_marks_are_shown_beside_the_level() {
+    let scratch = Scratch::new("shops");
+    // A step with the marks of groups 0, 1 and 7, a file with that of group 0 and one with none.
+    let bytes = [5, 1, 0, 12, 131, 1, 4, 2, 0, 9, 1, 4, 2, 1, 2, 0, 4, 6, 0, 0, 3, 4, 5, 0, 1, 4];
+    let journal = scratch.write("run.journal", &bytes);
+    let text = shown(&[&journal], b"");
+    for words in [
+        " 0    12 01·····7   9 0·······  3: writes file 0\n",
+        "  9 0·······  0 ",
+        "  2 none      - ",
+        "Shop marks: a digit is the number of a shop group, · is one that is not there\n",
+        "file 1 at 2 none → step 0 at 12 01·····7 → file 0 at 9 0·······",
+    ] {
+        assert!(text.contains(words), "{words} is not in:\n{text}");
+    }
+    scratch.write("run.names", b"names 1\nshop 0 1 north\nshop 1 1 east\nshop 7 1 the harbour\n");
+    let text = shown(&[&journal], b"");
+    for words in [
+        " 0    12 NE·····T   9 N·······  3: writes file 0\n",
+        "Shop marks: N north, E east, T the harbour; a digit",
+    ] {
+        assert!(text.contains(words), "{words} is not in:\n{text}");
+    }
+    // Where all marks are there, nothing is to be said of them.
+    assert!(!shown(&[MARCH], b"").contains("Shop marks"));
 }
 
 #[test]
@@ -163,7 +192,7 @@ fn names_and_titles_cannot_become_a_part_of_the_page() {
 #[test]
 fn names_beside_the_journal_are_found() {
     let scratch = Scratch::new("beside");
-    let journal = scratch.write("run.journal", &[3, 1, 0, 9]);
+    let journal = scratch.write("run.journal", &[5, 1, 0, 9, 255, 1]);
     assert!(shown(&[&journal], b"").contains("Step 0 is admitted"));
     scratch.write("run.names", b"names 1\nstep 0 1 shell\n");
     assert!(shown(&[&journal], b"").contains("shell (step 0) is admitted"));

@@ -17,7 +17,7 @@ use crate::text::{marked, shown};
 use gk_advice::records::{Body, Record, Records};
 
 /// The longest text that is assembled, in bytes: comments take room, but input without end is no text.
-const LONGEST_TEXT: usize = 1 << 24;
+pub const LONGEST_TEXT: usize = 1 << 24;
 
 /// A journal; one byte past the limit is enough to know that it is above it.
 pub fn read_journal(command: &str, file: Option<&OsStr>) -> Result<Vec<u8>, Failure> {
@@ -184,7 +184,7 @@ fn write_assembled(arguments: &Arguments, assembled: &Assembled) -> Done {
 }
 
 /// A fault with its line, and a mark under the column.
-fn fault_text(name: &str, text: &[u8], fault: &assembly::Fault) -> String {
+pub fn fault_text(name: &str, text: &[u8], fault: &assembly::Fault) -> String {
     let line = lines(text).nth(fault.line - 1).unwrap_or(&[]);
     let marked = marked(&String::from_utf8_lossy(line), fault.column, 1);
     format!("{name}:{}:{}: {}\n{marked}{}", fault.line, fault.column, fault.expected, fault.advice)

@@ -39,10 +39,14 @@ fn record(told: &Told) -> Object {
     object.number("record", step.position);
     object.number("code", step.code);
     match step.answer {
-        Answer::Allowed(level) | Answer::Lowered(level) => {
-            let is_lowered = matches!(step.answer, Answer::Lowered(_));
-            object.string("outcome", if is_lowered { "lowered" } else { "allowed" });
+        Answer::Allowed(level) => {
+            object.string("outcome", "allowed");
             object.number("level", level.into());
+        }
+        Answer::Lowered { level, lost } => {
+            object.string("outcome", "lowered");
+            object.number("level", level.into());
+            object.number("lost", lost.into());
         }
         Answer::Refused(refusal) => {
             object.string("outcome", "refused");
@@ -111,7 +115,8 @@ fn link_text(link: Link, name: &str) -> String {
     object.string("kind", kind.word());
     object.number("number", number);
     object.digits(&[("number", number)]);
-    object.number("level", link.level.into());
+    object.number("level", link.label.level.into());
+    object.number("set", link.label.shops.into());
     object.string("called", name);
     object.text()
 }
@@ -122,7 +127,8 @@ fn thread_text(thread: &Thread, step: &Step) -> String {
     let holds: Vec<String> = thread.holds.iter().map(|held| held_text(held, monitor)).collect();
     let mut object = Object::default();
     object.number("number", thread.number);
-    object.number("level", thread.level.into());
+    object.number("level", thread.label.level.into());
+    object.number("set", thread.label.shops.into());
     object.string("called", &thread.called);
     if thread.is_ended {
         object.raw("ended", "true".to_string());

@@ -1,56 +1,68 @@
 //! What an allowed call has done, in sentences.
 
-use gatekeeper::{Call, State as Monitor, NO_FREEZE};
+use gatekeeper::{Call, Label, State as Monitor, NO_FREEZE};
 
 use gk_advice::scene::{capital, listed, way_word, Closing, Scene};
-use gk_advice::things::{handles_of, has_mapped, level, mates, members, objects, steps, Held, Thing};
+use gk_advice::things::{
+    handles_of, has_mapped, label, mates, members, objects, steps, Held, Thing, ALL_SHOPS,
+};
 use gk_advice::threads::{holdings, named, together};
 
 /// The sentences; `before` and `now` are the moments before the call and after it, `closing` the freeze before it.
 pub fn outcome(call: Call, before: Scene, now: Scene, closing: Option<Closing>) -> Vec<String> {
     let after = now.monitor;
-    let old = |thing: Thing| level(before.monitor, thing).unwrap_or(0);
-    let new = |thing: Thing| level(after, thing).unwrap_or(0);
     let (step, object) = (Thing::Step, Thing::Object);
-    match call {
-        Call::Admit { subject, level } => {
-            vec![format!("{} runs at level {level}, with no handles.", capital(&now.step(subject)))]
+    // "level 9", or "level 9 with the shop marks of north and east"
+    let was = |thing: Thing| before.level_with(label(before.monitor, thing).unwrap_or(Label::LEAST));
+    let is = |thing: Thing| now.level_with(label(after, thing).unwrap_or(Label::LEAST));
+    // What a new thing has from its maker, to follow "the".
+    let from = |maker: u64, thing: Thing| {
+        let label = label(after, thing).unwrap_or(Label::LEAST);
+        let (maker, level) = (now.step(maker), label.level);
+        match label.shops {
+            ALL_SHOPS => format!("level of {maker}, {level}"),
+            set => format!("label of {maker}, level {level} with {}", now.marks(set)),
         }
-        Call::Register { object: o, level } => {
-            vec![format!("{} has level {level} for good.", capital(&now.object(o)))]
+    };
+    match call {
+        Call::Admit { subject, .. } => {
+            let who = capital(&now.step(subject));
+            vec![format!("{who} runs at {}, with no handles.", is(step(subject)))]
+        }
+        Call::Register { object: o, .. } => {
+            vec![format!("{} has {} for good.", capital(&now.object(o)), is(object(o)))]
         }
         Call::Create { subject, object: o } => vec![format!(
-            "{} is empty and has the level of {}, {}, for good.",
+            "{} is empty and has the {}, for good.",
             capital(&now.object(o)),
-            now.step(subject),
-            new(object(o))
+            from(subject, object(o))
         )],
         Call::Pipe { subject, object: o, .. } => vec![format!(
-            "{} is empty and starts at the level of {}, {}.",
+            "{} is empty and starts at the {}.",
             capital(&now.object(o)),
-            now.step(subject),
-            new(object(o))
+            from(subject, object(o))
         )],
         Call::OpenRead { subject, object: o, .. } => vec![format!(
-            "{} has level {}; {} keeps level {} until it reads.",
+            "{} has {}; {} keeps {} until it reads.",
             capital(&before.object(o)),
-            old(object(o)),
+            was(object(o)),
             before.step(subject),
-            old(step(subject))
+            was(step(subject))
         )],
         Call::OpenWrite { subject, object: o, .. } => vec![format!(
-            "{} has level {}, {} level {}.",
+            "{} has {}, {} {}.",
             capital(&before.object(o)),
-            old(object(o)),
+            was(object(o)),
             before.step(subject),
-            old(step(subject))
+            was(step(subject))
         )],
-        Call::Read { subject, .. } => {
-            [vec![fall(step(subject), before, after)], fell_with(subject, before, now)].concat()
+        Call::Read { subject, place } => {
+            let read = before.monitor.handle(subject, place).map(|handle| object(handle.object));
+            [vec![fall(step(subject), read, before, after)], fell_with(subject, before, now)].concat()
         }
-        Call::Exec { subject, .. } => exec(subject, before, after),
+        Call::Exec { subject, object: o } => exec(subject, o, before, after),
         Call::Write { subject, place } => match before.monitor.handle(subject, place) {
-            Some(handle) => write(handle.object, before, after),
+            Some(handle) => write(subject, handle.object, before, after),
             None => Vec::new(),
         },
         Call::Fork { subject, child } => fork(subject, child, now),
@@ -63,7 +75,7 @@ pub fn outcome(call: Call, before: Scene, now: Scene, closing: Option<Closing>) 
             };
             let mut facts = vec![format!(
                 "Its last level was {}; {closed}. Its number is free.{}",
-                old(step(subject)),
+                was(step(subject)).trim_start_matches("level "),
                 ended(before, after)
             )];
             let left: Vec<u64> = mates(before.monitor, subject).collect();
@@ -74,14 +86,15 @@ pub fn outcome(call: Call, before: Scene, now: Scene, closing: Option<Closing>) 
             facts
         }
         Call::Retire { object: o } => {
-            vec![format!("Its last level was {}; its number is free.", old(object(o)))]
+            let last = was(object(o));
+            vec![format!("Its last level was {}; its number is free.", last.trim_start_matches("level "))]
         }
         Call::Map { subject, object, place } => map(subject, object, place, before, now),
         Call::Mark { subject, place } => mark(subject, place, before),
         Call::Freeze { level } => freeze(level, closing),
         Call::Connect { subject, peer, to, from, reading, writing } => {
             let way = |from: u64, to: u64, o: u64| {
-                let pipe = now.leveled(object(o));
+                let pipe = now.labelled(object(o));
                 let (from, to) = (now.step(from), now.step(to));
                 format!("{from} writes {pipe} at place {writing}, and {to} reads it at place {reading}")
             };
@@ -92,30 +105,40 @@ pub fn outcome(call: Call, before: Scene, now: Scene, closing: Option<Closing>) 
             ]
         }
         Call::Thread { member, .. } => vec![
-            format!(
-                "{} starts at level {}, with no handles.",
-                capital(&now.step(member)),
-                new(step(member))
-            ),
+            format!("{} starts at {}, with no handles.", capital(&now.step(member)), is(step(member))),
             together(&members(after, member), now),
         ],
         _ => Vec::new(),
     }
 }
 
-fn fall(thing: Thing, before: Scene, after: &Monitor) -> String {
-    let (from, to) = (level(before.monitor, thing).unwrap_or(0), level(after, thing).unwrap_or(0));
-    let who = capital(&before.thing(thing));
-    if to < from {
-        format!("{who} falls from level {from} to level {to}.")
-    } else {
-        format!("{who} stays at level {to}.")
+/// What has become of a thing's label, and the thing whose data came to it.
+fn fall(thing: Thing, source: Option<Thing>, before: Scene, after: &Monitor) -> String {
+    format!("{} {}.", capital(&before.thing(thing)), fell(thing, source, before, after))
+}
+
+/// The same without who it is: "falls from level 9 to level 2 and loses the shop mark of north, which file 1 does not have; it
+/// keeps the shop mark of east".
+fn fell(thing: Thing, source: Option<Thing>, before: Scene, after: &Monitor) -> String {
+    let label = |monitor: &Monitor| label(monitor, thing).unwrap_or(Label::LEAST);
+    let (from, to) = (label(before.monitor), label(after));
+    let level = match to.level < from.level {
+        true => format!("falls from level {} to level {}", from.level, to.level),
+        false => format!("stays at level {}", to.level),
+    };
+    match from.shops & !to.shops {
+        0 => level,
+        lost => {
+            let why = source.map(|source| format!(", which {} does not have", before.thing(source)));
+            let (lost, kept) = (before.marks(lost), before.marks(to.shops));
+            format!("{level} and loses {lost}{}; it keeps {kept}", why.unwrap_or_default())
+        }
     }
 }
 
 /// RULES C114: the mates that have fallen with a step that has read, and which of them all holds what.
 fn fell_with(subject: u64, before: Scene, now: Scene) -> Vec<String> {
-    let falls = |&mate: &u64| now.monitor.subject(mate) < before.monitor.subject(mate);
+    let falls = |&mate: &u64| now.monitor.subject(mate) != before.monitor.subject(mate);
     let fell: Vec<u64> = mates(before.monitor, subject).filter(falls).collect();
     let why = match fell.len() {
         0 => return Vec::new(),
@@ -145,8 +168,8 @@ fn ended(before: Scene, after: &Monitor) -> String {
 }
 
 /// RULES C8, C111: who reads a mapped file after a write to it, in that order.
-fn write(object: u64, before: Scene, after: &Monitor) -> Vec<String> {
-    let mut facts = vec![fall(Thing::Object(object), before, after)];
+fn write(writer: u64, object: u64, before: Scene, after: &Monitor) -> Vec<String> {
+    let mut facts = vec![fall(Thing::Object(object), Some(Thing::Step(writer)), before, after)];
     let readers: Vec<String> = steps(before.monitor)
         .filter(|&s| has_mapped(before.monitor, s, object))
         .map(|s| before.step(s))
@@ -178,9 +201,11 @@ fn fork(parent: u64, child: u64, now: Scene) -> Vec<String> {
     };
     let marked = part(handles.iter().filter(|held| held.handle.marked).count(), "marked", "marked");
     let mapped = part(handles.iter().filter(|held| held.is_mapping()).count(), "a mapping", "mappings");
-    let level = now.monitor.subject(child).unwrap_or(0);
+    let label = now.monitor.subject(child).unwrap_or(Label::LEAST);
     let who = capital(&now.step(child));
-    let mut facts = vec![format!("{who} starts at level {level} with {copies}{marked}{mapped}.")];
+    let and = if label.shops == ALL_SHOPS { " with" } else { ", and with" };
+    let level = now.level_with(label);
+    let mut facts = vec![format!("{who} starts at {level}{and} {copies}{marked}{mapped}.")];
     if mates(now.monitor, parent).next().is_some() {
         facts.push("It has a memory of its own: it is no thread of that step.".to_string());
     }
@@ -189,8 +214,8 @@ fn fork(parent: u64, child: u64, now: Scene) -> Vec<String> {
 
 /// RULES C10, C116: the mates that an exec has ended, the marked handles and the mappings that it has closed, and the pipes
 /// that have ended so.
-fn exec(subject: u64, before: Scene, after: &Monitor) -> Vec<String> {
-    let mut facts = vec![fall(Thing::Step(subject), before, after)];
+fn exec(subject: u64, program: u64, before: Scene, after: &Monitor) -> Vec<String> {
+    let mut facts = vec![fall(Thing::Step(subject), Some(Thing::Object(program)), before, after)];
     let closed: Vec<Held> = handles_of(before.monitor, subject)
         .filter(|held| after.handle(subject, held.place).is_none())
         .collect();
@@ -248,13 +273,8 @@ fn ended_mates(subject: u64, before: Scene) -> Option<String> {
 /// RULES C14, C111: a map is a read at that moment, and one after each write to come.
 fn map(subject: u64, object: u64, place: u64, before: Scene, now: Scene) -> Vec<String> {
     let who = before.step(subject);
-    let level = |monitor: &Monitor| monitor.subject(subject).unwrap_or(0);
-    let (from, to) = (level(before.monitor), level(now.monitor));
-    let change = match to < from {
-        true => format!("falls from level {from} to level {to}"),
-        false => format!("stays at level {to}"),
-    };
-    let file = capital(&before.leveled(Thing::Object(object)));
+    let change = fell(Thing::Step(subject), Some(Thing::Object(object)), before, now.monitor);
+    let file = capital(&before.labelled(Thing::Object(object)));
     let later = if has_mapped(before.monitor, subject, object) {
         format!(
             "{} had it mapped before: it reads it once after each write to it, as until now.",

@@ -1,7 +1,7 @@
 //! A run step by step: for each step when it was there, its levels over time, the threads that were one step with it, what
 //! it held, and what it was refused.
 
-use gatekeeper::{Call, Way};
+use gatekeeper::{Call, Label, Way};
 
 use super::{Differs, End};
 use crate::names::Names;
@@ -19,7 +19,8 @@ struct Stay {
     called: String,
     from: u64,
     until: Option<u64>,
-    levels: Vec<(u64, u8)>,
+    /// Its labels, each from a record on, with the shop marks in words.
+    labels: Vec<(u64, Label, String)>,
     /// Its mates from a record on, and what they are called; from the first record at which it has some.
     mates: Vec<(u64, Vec<u64>, String)>,
     handles: Vec<Hold>,
@@ -138,15 +139,15 @@ fn follow(step: &Step, after: Scene, stays: &mut Vec<Stay>) {
 
 fn follow_step(number: u64, step: &Step, after: Scene, stays: &mut Vec<Stay>) {
     let position = step.position;
-    let level = step.after.subject(number);
+    let label = step.after.subject(number);
     if step.before.subject(number).is_none() {
-        if let Some(level) = level {
+        if let Some(label) = label {
             stays.push(Stay {
                 number,
                 called: after.whole(Thing::Step(number)),
                 from: position,
                 until: None,
-                levels: vec![(position, level)],
+                labels: vec![(position, label, after.with_marks(label.shops))],
                 mates: Vec::new(),
                 handles: Vec::new(),
                 refused: Vec::new(),
@@ -160,12 +161,13 @@ fn follow_step(number: u64, step: &Step, after: Scene, stays: &mut Vec<Stay>) {
     if after.name(Thing::Step(number)).is_some() {
         stay.called = after.whole(Thing::Step(number));
     }
-    if let Some(level) = level.filter(|&level| stay.levels.last().is_none_or(|&(_, last)| last != level)) {
-        stay.levels.push((position, level));
+    let is_new = |label: &Label| stay.labels.last().is_none_or(|(_, last, _)| last != label);
+    if let Some(label) = label.filter(is_new) {
+        stay.labels.push((position, label, after.with_marks(label.shops)));
     }
     let mates: Vec<u64> = mates(&step.after, number).collect();
     let known = stay.mates.last().map_or(&[][..], |(_, known, _)| known);
-    if level.is_some() && known != mates {
+    if label.is_some() && known != mates {
         let called = named(&mates, after);
         stay.mates.push((position, mates, called));
     }
@@ -194,7 +196,7 @@ fn follow_step(number: u64, step: &Step, after: Scene, stays: &mut Vec<Stay>) {
             });
         }
     }
-    if level.is_none() {
+    if label.is_none() {
         stay.until = Some(position);
     }
 }
@@ -206,8 +208,11 @@ fn paragraphs(stay: &Stay) -> String {
         "",
         &format!("{}, from record {} to {}.", capital(&stay.called), stay.from, until(stay.until)),
     );
-    let levels: Vec<String> =
-        stay.levels.iter().map(|(record, level)| format!("{level} from record {record} on")).collect();
+    let levels: Vec<String> = stay
+        .labels
+        .iter()
+        .map(|(record, label, marks)| format!("{}{marks} from record {record} on", label.level))
+        .collect();
     text.push_str(&paragraph("  ", &format!("Level: {}.", levels.join(", "))));
     let mates: Vec<String> = stay
         .mates

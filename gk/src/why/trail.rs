@@ -1,12 +1,30 @@
-//! Where levels come from: each thing of a run, when it was there, and which records set its level, with the thing that
-//! each took it from. All levels are asked of the proved monitor; which thing one was taken from is worked out here.
+//! Where labels come from: each thing of a run, when it was there, and which records set its level or took a shop mark of
+//! it, with the thing that each took it from. All labels are asked of the proved monitor; which thing one was taken from is
+//! worked out here.
 
 use std::collections::{BTreeMap, BTreeSet};
 
-use gatekeeper::{Call, State as Monitor};
+use gatekeeper::{Call, Label, State as Monitor};
 use gk_advice::run::{Content, Step};
-use gk_advice::things::{is_pipe, level, objects, Thing, STEPS};
+use gk_advice::things::{is_pipe, label, objects, Thing, STEPS};
 use gk_names::Kind;
+
+/// What of a label is asked after.
+#[derive(Clone, Copy, Debug, PartialEq, Eq)]
+pub enum Part {
+    Level,
+    /// The mark of a shop group, which is there or missing.
+    Shop(u64),
+}
+
+impl Part {
+    fn of(self, label: Label) -> u8 {
+        match self {
+            Part::Level => label.level,
+            Part::Shop(group) => label.shops >> group & 1,
+        }
+    }
+}
 
 /// A thing, for as long as it has its number: under a number that is used again stands another one.
 #[derive(Clone, Debug, PartialEq, Eq)]
@@ -19,27 +37,26 @@ pub struct Stay {
     pub until: Option<u64>,
     /// The record with which the thing before it under this number went; 0 where there was none.
     pub before: u64,
-    /// The records that set its level: the one that made it, and those at which it fell.
+    /// The records that set its label: the one that made it, and those at which it fell.
     pub marks: Vec<Mark>,
 }
 
-/// A record that set the level of a thing.
+/// A record that set the label of a thing.
 #[derive(Clone, Copy, Debug, PartialEq, Eq)]
 pub struct Mark {
     pub record: u64,
-    pub level: u8,
-    /// The thing that it took the level from, by its place in the list; none where it came from outside.
+    pub label: Label,
+    /// The thing that it took the label from, by its place in the list; none where it came from outside.
     source: Option<usize>,
     /// The mate that has read, by its place in the list, where the step itself has not.
     pub mate: Option<usize>,
 }
 
-/// A link of a chain: a thing, by its place in the list, and the record that gave it the level.
+/// A link of a chain: a thing, by its place in the list, and the record that gave it what is asked after.
 #[derive(Clone, Copy, Debug, PartialEq, Eq)]
 pub struct Link {
     pub stay: usize,
     pub record: u64,
-    pub level: u8,
 }
 
 /// Every thing of a run.
@@ -56,7 +73,7 @@ impl Stay {
     pub fn thing(&self) -> Thing {
         match self.kind {
             Kind::Step => Thing::Step(self.number),
-            Kind::File | Kind::Pipe => Thing::Object(self.number),
+            Kind::File | Kind::Pipe | Kind::Shop => Thing::Object(self.number),
         }
     }
 
@@ -65,9 +82,17 @@ impl Stay {
         self.from <= record && self.until.is_none_or(|until| record < until)
     }
 
-    /// What set the level that it has after a record.
-    pub fn mark(&self, record: u64) -> Option<Mark> {
-        self.marks.iter().rev().find(|mark| mark.record <= record).copied()
+    /// The label that it has after a record.
+    pub fn label(&self, record: u64) -> Label {
+        let last = self.marks.iter().rev().find(|mark| mark.record <= record);
+        last.map_or(Label::LEAST, |mark| mark.label)
+    }
+
+    /// What set a part of the label that it has after a record.
+    pub fn mark(&self, record: u64, part: Part) -> Option<Mark> {
+        let now = part.of(self.label(record));
+        let until = self.marks.iter().rev().skip_while(|mark| mark.record > record);
+        until.take_while(|mark| part.of(mark.label) == now).last().copied()
     }
 }
 
@@ -80,25 +105,25 @@ impl Trail {
         };
         let objects = objects(&step.before).chain(objects(&step.after)).map(Thing::Object);
         let things: BTreeSet<Thing> = (0..STEPS).map(Thing::Step).chain(objects).collect();
-        let levels = |thing: Thing| (level(&step.before, thing), level(&step.after, thing));
+        let labels = |thing: Thing| (label(&step.before, thing), label(&step.after, thing));
         let changed: Vec<Thing> =
-            things.into_iter().filter(|&thing| levels(thing).0 != levels(thing).1).collect();
+            things.into_iter().filter(|&thing| labels(thing).0 != labels(thing).1).collect();
         // All that is taken is there before the record; so the sources are found first.
         let sources: Vec<Option<usize>> = changed
             .iter()
             .map(|&thing| source(thing, call, &step.before).and_then(|from| self.last.get(&from).copied()))
             .collect();
         for (thing, source) in changed.into_iter().zip(sources) {
-            match (levels(thing), self.last.get(&thing).copied()) {
-                ((None, Some(level)), _) => {
-                    let mark = Mark { record: step.position, level, source, mate: None };
+            match (labels(thing), self.last.get(&thing).copied()) {
+                ((None, Some(label)), _) => {
+                    let mark = Mark { record: step.position, label, source, mate: None };
                     self.arrive(thing, mark, &step.after);
                 }
-                ((_, Some(level)), Some(stay)) => {
+                ((_, Some(label)), Some(stay)) => {
                     let mate =
                         reader(call).filter(|&reader| matches!(thing, Thing::Step(_)) && reader != thing);
                     let mate = mate.and_then(|mate| self.last.get(&mate).copied());
-                    self.stays[stay].marks.push(Mark { record: step.position, level, source, mate });
+                    self.stays[stay].marks.push(Mark { record: step.position, label, source, mate });
                 }
                 (_, Some(stay)) => self.stays[stay].until = Some(step.position),
                 (_, None) => {}
@@ -119,18 +144,18 @@ impl Trail {
         self.stays.push(Stay { kind, number, from, until, before, marks });
     }
 
-    /// How a thing came to the level that it has after a record, from the first link on; none where it is not there then.
-    /// The first link is a file, or a step that was admitted: with them a level comes in.
-    pub fn chain(&self, stay: usize, record: u64) -> Vec<Link> {
+    /// How a thing came to a part of the label that it has after a record, from the first link on; none where it is not
+    /// there then. The first link is a file, or a step that was admitted: with them a label comes in.
+    pub fn chain(&self, stay: usize, record: u64, part: Part) -> Vec<Link> {
         let mut chain: Vec<Link> = Vec::new();
         let mut next = Some((stay, record)).filter(|_| self.stays[stay].is_at(record));
         while let Some((stay, record)) = next {
-            let Some(mark) = self.stays[stay].mark(record) else {
+            let Some(mark) = self.stays[stay].mark(record, part) else {
                 break;
             };
-            // A file has its level for good. Only where it is the file itself that is asked for goes the chain on.
+            // A file has its label for good. Only where it is the file itself that is asked for goes the chain on.
             let is_end = self.stays[stay].kind == Kind::File && !chain.is_empty();
-            chain.push(Link { stay, record: mark.record, level: mark.level });
+            chain.push(Link { stay, record: mark.record });
             // What the source had just before the record.
             next = mark.source.map(|source| (source, mark.record - 1)).filter(|_| !is_end);
         }
@@ -147,7 +172,7 @@ fn reader(call: Call) -> Option<Thing> {
     }
 }
 
-/// From where a thing takes the level that a call gives it; none where the level comes from outside.
+/// From where a thing takes the label that a call gives it; none where the label comes from outside.
 fn source(thing: Thing, call: Call, before: &Monitor) -> Option<Thing> {
     let (step, object) = (Thing::Step, Thing::Object);
     match call {
@@ -177,9 +202,9 @@ mod tests {
     fn who_has_a_file_mapped_takes_its_level_from_the_file() {
         let mut monitor = Monitor::new();
         for call in [
-            Call::Register { object: 1, level: 3 },
-            Call::Admit { subject: 0, level: 9 },
-            Call::Admit { subject: 4, level: 9 },
+            Call::Register { object: 1, level: 3, shops: 255 },
+            Call::Admit { subject: 0, level: 9, shops: 255 },
+            Call::Admit { subject: 4, level: 9, shops: 255 },
             Call::Map { subject: 0, object: 1, place: 0 },
             Call::OpenWrite { subject: 4, object: 1, place: 2 },
         ] {

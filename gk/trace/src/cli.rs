@@ -6,7 +6,7 @@ use std::path::{Path, PathBuf};
 
 use gk_names::files::{is_input_open, no_names, replaces, INPUT, INPUT_CLOSED, REPLACES};
 
-use crate::levels::{Levels, LONGEST_FILE, TOP};
+use crate::levels::{Levels, LEVEL, LONGEST_FILE};
 use crate::output::write_whole;
 use crate::report::Verdict;
 use crate::run::{journal_of, Failure as RunFailure};
@@ -32,27 +32,32 @@ than two characters; less is not enough.
 A report goes to standard error: which calls were written, which of them the gatekeeper refuses, what was NOT SEEN
 and what was left out, with the first line of each kind.
 
-  --levels FILE   which level each file has; needed
+  --levels FILE   which level each file has, and which shop marks; needed
   -o FILE         write the journal there; the names go to the same path with .names in the place of its ending
-  --names FILE    write the names of steps, files and pipes there
+  --names FILE    write the names of steps, files, pipes and shop groups there
   --folder PATH   the folder that the run was started in, where the trace does not say it; absolute
   --start LEVEL   the level of the first step (15)
+  --shops SET     its shop marks (all)
   --until LINE    read the trace up to this line
-  --all-files     keep files of level 15 that are only read (harmless: docs/TRACE.md says why)
+  --all-files     keep files of level 15 with all shop marks that are only read (harmless: docs/TRACE.md says why)
   --repeats       keep reads and writes that come again and lower nobody
   --one-step      take threads for their process, without numbers of their own; all other answers are the same
   --report-only   status 0 wherever the journal is written, whatever was refused or not seen
   --quiet         no report
 
 The levels file has a line for each pattern; the first that fits counts:
-  # unchecked hours
-  sheets/*.csv     2
+  name shop 0 north          # names for the eight shop groups, 0 to 7
+  name shop 1 east
+  sheets/north/*.csv 2 north,east    # unchecked hours, of shops that are vouched for: north and east
+  sheets/*.csv     2 none   # of shops that nobody vouches for
   paybook.csv      9
   bank.csv         12
   \"month end/**\"   step     # files that the run makes: the level of the step that makes them
   /var/log/**      out      # left out; where the run reads one, that is reported as NOT SEEN
   <stdin>          2        # what the run is started with: <stdin>, <stdout>, <stderr>
   else             15       # every other file; the last line
+Behind a level stands a set of shop marks: names of shop groups joined by commas, all, none, or a number, 0 to 255.
+A line without one means all of them.
 A pattern is matched with the path from the starting folder and with the absolute path: * and ? are any
 characters but /, ** is any at all, [a-z] is one of a set, \\ takes the next character as it is.
 
@@ -89,6 +94,7 @@ struct Arguments {
     levels: Option<String>,
     journal: Option<String>,
     names: Option<String>,
+    shops: Option<String>,
     until: Option<u64>,
     is_quiet: bool,
     is_report_only: bool,
@@ -100,11 +106,15 @@ fn command(arguments: &[String]) -> Result<Verdict, Failure> {
     if before_dashes.clone().any(|argument| argument == "--help" || argument == "-h") {
         return write_output(HELP.as_bytes()).map(|()| Verdict::Clear);
     }
-    let arguments = sorted(arguments)?;
-    let Some(path) = &arguments.levels else {
+    let mut arguments = sorted(arguments)?;
+    let Some(path) = &arguments.levels.clone() else {
         return Err(Failure::Usage("expected --levels FILE".to_string()));
     };
     let levels = read_levels(path)?;
+    if let Some(set) = &arguments.shops {
+        let set = levels.set_of(set).map_err(|expected| Failure::Usage(format!("--shops: {expected}")))?;
+        arguments.options.start.shops = set;
+    }
     let name = arguments.trace.as_deref().filter(|name| *name != "-");
     let written = match name {
         None if !is_input_open() => return Err(Failure::Failed(INPUT_CLOSED.to_string())),
@@ -175,7 +185,8 @@ fn sorted(arguments: &[String]) -> Result<Arguments, Failure> {
                 }
                 sorted.options.folder = Some(folder.into_bytes());
             }
-            "--start" => sorted.options.start = number(argument, &value()?, TOP.into())? as u64,
+            "--start" => sorted.options.start.level = number(argument, &value()?, LEVEL)? as u8,
+            "--shops" => sorted.shops = Some(value()?),
             "--until" => sorted.until = Some(number(argument, &value()?, u64::MAX)?),
             "--all-files" => sorted.options.all_files = true,
             "--repeats" => sorted.options.repeats = true,

@@ -153,7 +153,7 @@ impl World<'_> {
 
     /// Writes a read down: the first on a handle, and each that lowers the step.
     pub fn read(&mut self, step: u64, end: End) -> Done {
-        let lowers = self.journal.object_level(end.object) < self.journal.step_level(step);
+        let lowers = !self.journal.object_label(end.object).at_least(self.journal.step_label(step));
         if self.is_worth(step, end, lowers)? {
             self.make(Call::Read { subject: step, place: end.place })?;
         }
@@ -164,7 +164,8 @@ impl World<'_> {
     /// Writes a write down: the first on a handle, and each that lowers a pipe.
     pub fn write(&mut self, step: u64, end: End) -> Done {
         let is_pipe = self.journal.is_pipe(end.object);
-        let lowers = is_pipe && self.journal.step_level(step) < self.journal.object_level(end.object);
+        let lowers =
+            is_pipe && !self.journal.step_label(step).at_least(self.journal.object_label(end.object));
         if self.is_worth(step, end, lowers)? {
             self.make(Call::Write { subject: step, place: end.place })?;
         }
@@ -193,7 +194,7 @@ impl World<'_> {
             if peer == step || self.step(peer)?.memory != memory {
                 continue;
             }
-            if self.journal.object_level(object) >= self.journal.step_level(peer) {
+            if self.journal.object_label(object).at_least(self.journal.step_label(peer)) {
                 continue;
             }
             self.note(Note::SharedRead);
@@ -257,9 +258,12 @@ impl World<'_> {
             Move::Read(end) => (end, true),
             Move::Write(end) => (end, false),
         };
-        let step_level = self.journal.step_level(step);
-        let object_level = self.journal.object_level(end.object);
-        let lowers = if is_read { object_level < step_level } else { step_level < object_level };
+        let step_label = self.journal.step_label(step);
+        let object_label = self.journal.object_label(end.object);
+        let lowers = match is_read {
+            true => !object_label.at_least(step_label),
+            false => !step_label.at_least(object_label),
+        };
         lowers && self.is_there(step, end, is_read) && (is_read || self.journal.is_pipe(end.object))
     }
 

@@ -1,12 +1,13 @@
 //! Files and pipes, and the numbers that they have in the journal.
 //!
-//! Each has a number of its own for the whole run, and none is used twice: they count up from 0. A file keeps its level,
-//! so that it can be retired while nobody holds it, where 64 are live; it is registered again, at the same level and
+//! Each has a number of its own for the whole run, and none is used twice: they count up from 0. A file keeps its label,
+//! so that it can be retired while nobody holds it, where 64 are live; it is registered again, with the same label and
 //! under its number, when it is opened again.
 
 use std::collections::BTreeMap;
 
-use gatekeeper::Call;
+use gatekeeper::{Call, Label};
+use gk_names::shops;
 
 use crate::levels::{Found, Level, TOP};
 use crate::names::{Kind, Names};
@@ -17,7 +18,7 @@ use crate::world::{Done, World, OBJECTS};
 pub struct File {
     /// The paths that it has; without one it goes with its last handle.
     keys: Vec<Key>,
-    pub level: u64,
+    pub label: Label,
     /// The number that it has, from the first time on that it is asked for.
     number: Option<u64>,
     /// When it was last asked for.
@@ -47,7 +48,7 @@ pub struct Seat {
     object: u64,
     from: u64,
     path: String,
-    level: u64,
+    label: Label,
     /// Whether a line of the levels file names it, and not only `else`.
     is_named: bool,
 }
@@ -85,13 +86,13 @@ impl Files {
     }
 
     /// A new file, under a path or without one.
-    fn add(&mut self, key: Option<Key>, level: u64) -> usize {
+    fn add(&mut self, key: Option<Key>, label: Label) -> usize {
         let id = self.files.len();
         self.by_key.extend(key.iter().map(|key| (key.clone(), id)));
         let keys = key.into_iter().collect();
         self.files.push(File {
             keys,
-            level,
+            label,
             number: None,
             asked: 0,
             is_written: false,
@@ -152,7 +153,13 @@ impl Files {
 
     /// Where the file under a number has its level from `else` alone at a record: that, and the line that is missing.
     /// `is_high` says that it takes nothing lower; then it is one that the run writes.
-    pub fn unlisted(&self, object: u64, record: u64, is_high: bool) -> Option<String> {
+    pub fn unlisted(
+        &self,
+        object: u64,
+        record: u64,
+        is_high: bool,
+        names: &gk_names::Names,
+    ) -> Option<String> {
         let seat = self.seats.iter().rev().find(|seat| seat.object == object && seat.from <= record)?;
         if seat.is_named {
             return None;
@@ -164,9 +171,13 @@ impl Files {
             true => format!("{pattern} step (a file that the run makes has the level of its maker)"),
             false => format!("{pattern} LEVEL"),
         };
-        let (path, level) = (&seat.path, seat.level);
+        let (path, level) = (&seat.path, seat.label.level);
+        let marks = match seat.label.shops {
+            shops::ALL => String::new(),
+            set => format!(" with {}", shops::words(set, names, record)),
+        };
         Some(format!(
-            "No line of the levels file names {path}: it has level {level} from the line else. Give it a line, as: \
+            "No line of the levels file names {path}: it has level {level}{marks} from the line else. Give it a line, as: \
              {line}."
         ))
     }
@@ -218,14 +229,13 @@ impl Files {
 }
 
 impl World<'_> {
-    /// The level of a path. What was moved there has at most the level of where it came from.
+    /// The level of a path. What was moved there has at most the label of where it came from.
     pub fn level_of(&self, key: &[u8]) -> Done<Found> {
         let mut found = self.listed(key)?;
         for origin in self.paths.origins(key) {
-            if let (Level::At(level), Level::At(before)) =
-                (found.level, self.listed(&origin)?.level.of_unmade())
-            {
-                found.level = Level::At(level.min(before));
+            let before = self.levels.of_unmade(self.listed(&origin)?.level);
+            if let (Level::At(label), Level::At(before)) = (found.level, before) {
+                found.level = Level::At(label.fallen_to(before));
             }
         }
         Ok(found)
@@ -262,19 +272,22 @@ impl World<'_> {
         }
         match level {
             Level::Step if is_made => self.create(step, Some(key.to_vec())),
-            Level::At(level) => Ok(self.files.add(Some(key.to_vec()), level)),
-            Level::Step | Level::Out => Ok(self.files.add(Some(key.to_vec()), 0)),
+            Level::At(label) => Ok(self.files.add(Some(key.to_vec()), label)),
+            Level::Step | Level::Out => {
+                let unmade = self.levels.unmade();
+                Ok(self.files.add(Some(key.to_vec()), unmade))
+            }
         }
     }
 
-    /// Makes an empty file at the step's level.
+    /// Makes an empty file with the step's label.
     pub fn create(&mut self, step: u64, key: Option<Key>) -> Done<usize> {
         let wanted = key.as_ref().map_or("a file without a name".to_string(), |key| shown(key));
         self.make_room(&wanted)?;
         let object = self.files.fresh();
         let id = self.files.add(key, TOP);
         self.make(Call::Create { subject: step, object })?;
-        self.files.file_mut(id).level = u64::from(self.journal.object_level(object));
+        self.files.file_mut(id).label = self.journal.object_label(object);
         self.files.file_mut(id).is_written = true;
         self.seat(id, object);
         Ok(id)
@@ -291,18 +304,18 @@ impl World<'_> {
         let wanted = self.files.files[id].keys.first().map_or(String::new(), |key| shown(key));
         self.make_room(&wanted)?;
         let object = own.unwrap_or_else(|| self.files.fresh());
-        self.make(Call::Register { object, level: self.files.files[id].level })?;
+        self.make(Call::register(object, self.files.files[id].label))?;
         self.seat(id, object);
         Ok(object)
     }
 
     /// Registers a file that has no path in the trace, as standard input.
-    pub fn register(&mut self, name: &str, level: u64) -> Done<u64> {
-        let id = self.files.add(Some(format!("<{name}>").into_bytes()), level);
+    pub fn register(&mut self, name: &str, label: Label) -> Done<u64> {
+        let id = self.files.add(Some(format!("<{name}>").into_bytes()), label);
         self.files.files[id].name = String::new();
         self.make_room(name)?;
         let object = self.files.fresh();
-        self.make(Call::Register { object, level })?;
+        self.make(Call::register(object, label))?;
         self.seat(id, object);
         Ok(object)
     }
@@ -313,8 +326,8 @@ impl World<'_> {
         if let Some(key) = self.files.files[id].keys.first().cloned() {
             let is_named =
                 self.level_of(&key).map_or(true, |found| found.is_named) || key.starts_with(b"<");
-            let (path, level) = (shown(&key), self.files.files[id].level);
-            self.files.seats.push(Seat { object, from, path, level, is_named });
+            let (path, label) = (shown(&key), self.files.files[id].label);
+            self.files.seats.push(Seat { object, from, path, label, is_named });
         }
         let file = &mut self.files.files[id];
         file.number = Some(object);

@@ -1,7 +1,8 @@
 //! The journal as it grows: each call is made on a proved monitor first, so that the answer is known.
 
-use gatekeeper::{Answer, Call, Handle, Kind, Refusal, State as Monitor, JOURNAL_BYTES};
+use gatekeeper::{Answer, Call, Handle, Kind, Label, Refusal, State as Monitor, JOURNAL_BYTES};
 
+use crate::levels::TOP;
 use crate::names::Names;
 use crate::report::Report;
 use crate::world::{PLACES, STEPS};
@@ -23,6 +24,13 @@ pub enum Trouble {
 }
 
 impl Journal {
+    /// An empty journal, with the names that shop groups have.
+    pub fn naming(shops: &gk_names::Names) -> Journal {
+        let mut journal = Journal::default();
+        shops.entries().for_each(|entry| journal.names.give_shop(entry.number, &entry.name));
+        journal
+    }
+
     /// Writes a call. Whether it is granted: it is not where the gatekeeper refuses it for the flow (9).
     pub fn make(&mut self, call: Call, report: &mut Report) -> Result<bool, Trouble> {
         let end = self.bytes.len();
@@ -52,14 +60,14 @@ impl Journal {
         self.records + 1
     }
 
-    /// The level of a step; 0 where it is not there.
-    pub fn step_level(&self, step: u64) -> u8 {
-        self.monitor.subject(step).unwrap_or(0)
+    /// The label of a step; the least where it is not there.
+    pub fn step_label(&self, step: u64) -> Label {
+        self.monitor.subject(step).unwrap_or(Label::LEAST)
     }
 
-    /// The level of a file or pipe; 15 where it is not there.
-    pub fn object_level(&self, object: u64) -> u8 {
-        self.monitor.object(object).map_or(15, |object| object.level)
+    /// The label of a file or pipe; the highest where it is not there.
+    pub fn object_label(&self, object: u64) -> Label {
+        self.monitor.object(object).map_or(TOP, |object| object.label)
     }
 
     pub fn is_live(&self, object: u64) -> bool {

@@ -91,8 +91,8 @@ impl World<'_> {
     /// Whether a file has one level under its path and another under a new one.
     fn is_between_levels(&self, from: &[u8], to: &[u8]) -> Done<bool> {
         let before = match self.files.find(from) {
-            Some(id) => Level::At(self.files.file(id).level),
-            None => self.level_of(from)?.level.of_unmade(),
+            Some(id) => Level::At(self.files.file(id).label),
+            None => self.levels.of_unmade(self.level_of(from)?.level),
         };
         Ok(is_other(before, self.level_of(to)?.level))
     }
@@ -219,7 +219,7 @@ impl World<'_> {
             self.left(own.left.moved(Way::Reads, own.path.as_deref()));
             return Ok(());
         };
-        let before = Level::At(self.files.file(source).level);
+        let before = Level::At(self.files.file(source).label);
         if !is_other(before, self.level_of(&to)?.level) {
             self.files.add_key(source, to);
             return Ok(());

@@ -42,6 +42,11 @@ impl Names {
         self.names.give(kind, number, from, Name::fitted(name));
     }
 
+    /// Gives a shop group its name, for the whole run.
+    pub fn give_shop(&mut self, group: u64, name: &Name) {
+        self.names.give(Kind::Shop, group, 1, name.clone());
+    }
+
     /// All that were given.
     pub fn given(&self) -> &gk_names::Names {
         &self.names

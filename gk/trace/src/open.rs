@@ -138,7 +138,7 @@ impl World<'_> {
         }
         let known = self.files.find(&key);
         let is_written = known.is_some_and(|id| self.files.file(id).is_written);
-        let level = known.map_or(found.level, |id| Level::At(self.files.file(id).level));
+        let level = known.map_or(found.level, |id| Level::At(self.files.file(id).label));
         let is_top = level == Level::At(TOP) && !writes && !is_written && !self.options.all_files;
         let why = match found.level {
             _ if !found.is_named && special(&key).is_some() => special(&key),

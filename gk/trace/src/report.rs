@@ -5,7 +5,7 @@ use std::collections::BTreeMap;
 use gatekeeper::{Answer, Call, Way};
 use gk_advice::calls::shape_of_code;
 use gk_advice::refused::of_record;
-use gk_advice::run::Run;
+use gk_advice::run::{lost, Run};
 use gk_advice::scene::Past;
 use gk_advice::things::Thing;
 use gk_names::number::grouped as counted;
@@ -182,6 +182,8 @@ pub struct Report {
     pub missing: Vec<&'static str>,
     made: BTreeMap<u64, u64>,
     answers: [u64; 3],
+    /// Shop marks that were lost, all of them counted.
+    lost: u64,
     left: BTreeMap<Left, Count>,
     notes: BTreeMap<Note, Count>,
     strange: BTreeMap<String, Count>,
@@ -222,10 +224,11 @@ impl Report {
         *self.made.entry(call.code()).or_insert(0) += 1;
         let index = match answer {
             Answer::Allowed(_) => 0,
-            Answer::Lowered(_) => 1,
+            Answer::Lowered { .. } => 1,
             Answer::Refused(_) => 2,
         };
         self.answers[index] += 1;
+        self.lost += u64::from(lost(answer).unwrap_or(0));
     }
 
     /// How many threads were written.
@@ -266,7 +269,7 @@ impl Report {
                     ];
                     let unlisted =
                         ends.into_iter().flatten().filter_map(|((link, _), is_high)| match link.thing {
-                            Thing::Object(object) => files.unlisted(object, step.position, is_high),
+                            Thing::Object(object) => files.unlisted(object, step.position, is_high, names),
                             Thing::Step(_) => None,
                         });
                     let unlisted: Vec<String> = unlisted.collect();
@@ -309,7 +312,14 @@ impl Report {
         if !kinds.is_empty() {
             text.push_str(&wrapped(&format!("  written: {}", kinds.join(", "))));
         }
-        text.push_str(&format!("  answers: {allowed} allowed, {lowered} lowered, {refused} refused\n"));
+        let lost = match self.lost {
+            0 => String::new(),
+            1 => "; 1 shop mark was lost".to_string(),
+            lost => format!("; {} shop marks were lost", counted(lost)),
+        };
+        text.push_str(&format!(
+            "  answers: {allowed} allowed, {lowered} lowered, {refused} refused{lost}\n"
+        ));
         for Refused { program, code, count, first, record, told } in &self.refused {
             let named: Vec<String> =
                 first.iter().map(|(what, line)| format!("{what} (line {line})")).collect();
@@ -421,7 +431,7 @@ mod tests {
     #[test]
     fn a_report_counts_and_says_where_first() {
         let mut report = Report { lines: 1200, ..Report::default() };
-        report.wrote(Call::Admit { subject: 0, level: 15 }, Answer::Allowed(15));
+        report.wrote(Call::Admit { subject: 0, level: 15, shops: 255 }, Answer::Allowed(15));
         report.left(Left::Failed, 7);
         report.left(Left::Failed, 9);
         report.strange("frob", 11);

@@ -1,6 +1,6 @@
 //! Steps that come and go: fork and its kin, exec, exit.
 
-use gatekeeper::{Call, Way};
+use gatekeeper::{Call, Label, Way};
 
 use crate::call::{arguments, fd, field, has_flag, noted_path, string, Sys};
 use crate::levels::Level;
@@ -21,7 +21,7 @@ impl World<'_> {
             self.left(Left::Outside);
         }
         let step = self.free_step(&format!("process {process}"))?;
-        self.make(Call::Admit { subject: step, level: self.options.start })?;
+        self.make(Call::admit(step, self.options.start))?;
         let admitted = self.journal.next() - 1;
         let memory = self.tick();
         self.steps[step as usize] = Some(Step {
@@ -39,7 +39,7 @@ impl World<'_> {
         for (number, which) in ["stdin", "stdout", "stderr"].into_iter().enumerate() {
             let descriptor = match self.levels.standard(number) {
                 None => Descriptor::left(Left::Standard, None),
-                Some(level) => self.standard(step, which, level)?,
+                Some(label) => self.standard(step, which, label)?,
             };
             self.put(step, number as i32, descriptor)?;
         }
@@ -47,10 +47,10 @@ impl World<'_> {
     }
 
     /// What a step was started with, where the levels file has a level for it.
-    fn standard(&mut self, step: u64, which: &str, level: u64) -> Done<Descriptor> {
+    fn standard(&mut self, step: u64, which: &str, label: Label) -> Done<Descriptor> {
         let object = match self.files.find(format!("<{which}>").as_bytes()) {
             Some(id) => self.object_of(id)?,
-            None => self.register(which, level)?,
+            None => self.register(which, label)?,
         };
         let way = if which == "stdin" { Way::Reads } else { Way::Writes };
         match (self.open(step, object, way)?, way) {

@@ -5,7 +5,7 @@
 
 use std::collections::{BTreeMap, BTreeSet};
 
-use gatekeeper::{Call, Way};
+use gatekeeper::{Call, Label, Way};
 use gk_names::number::grouped as counted;
 
 use crate::files::Files;
@@ -36,8 +36,8 @@ pub struct Options {
     pub repeats: bool,
     /// Threads have no numbers of their own.
     pub one_step: bool,
-    /// The level of the first step.
-    pub start: u64,
+    /// The label of the first step.
+    pub start: Label,
     /// The folder that the run was started in, absolute.
     pub folder: Option<Vec<u8>>,
 }
@@ -173,7 +173,7 @@ impl<'a> World<'a> {
         World {
             levels,
             options,
-            journal: Journal::default(),
+            journal: Journal::naming(levels.names()),
             report: Report::default(),
             steps: (0..STEPS).map(|_| None).collect(),
             tasks: BTreeMap::new(),

@@ -398,3 +398,34 @@ fn what_has_no_counterpart_is_counted() {
         assert!(text.contains(row), "{row}\n{text}");
     }
 }
+
+/// Shop marks stand behind the level, and a file is opened for what its label lets through.
+#[test]
+fn sets_of_the_levels_file_are_in_the_journal() {
+    let levels = "name shop 0 north\nname shop 1 east\nlow 9 east\nmid 9 north\nown step\nelse 15\n";
+    let opens = "1 openat(AT_FDCWD, \"mid\", O_WRONLY) = 3\n1 openat(AT_FDCWD, \"low\", O_RDONLY) = 4\n\
+                 1 openat(AT_FDCWD, \"own\", O_RDONLY) = 5";
+    let written = told(&format!("{START}\n{opens}"), levels);
+    assert_eq!(
+        words(&written.journal)[3..],
+        [
+            "register 1 9 1",
+            "open-write 0 1 0",
+            "register 2 9 2",
+            "open-read 0 2 1",
+            "register 3 0 0",
+            "open-read 0 3 1"
+        ]
+    );
+    assert_eq!(refused(&written.journal).iter().map(|(_, number)| *number).collect::<Vec<u32>>(), [9, 9]);
+    assert!(written.names.starts_with("names 1\nshop 0 1 north\nshop 1 1 east\n"), "{}", written.names);
+    let report = written.report.text(0).split_whitespace().collect::<Vec<&str>>().join(" ");
+    assert!(report.contains("may not open low (file 2) for reading at place 1: it writes mid"), "{report}");
+    // A read that takes a mark away is written, each time; a file of level 15 that lacks one is no top file.
+    let levels = "low 15 1\nelse 15\n";
+    let reads = "1 openat(AT_FDCWD, \"low\", O_RDONLY) = 3\n1 read(3, \"\", 1) = 1\n1 read(3, \"\", 1) = 1";
+    let written = told(&format!("{START}\n{reads}"), levels);
+    assert_eq!(words(&written.journal)[3..], ["register 1 15 1", "open-read 0 1 0", "read 0 0"]);
+    let report = written.report.text(0);
+    assert!(report.contains("1 lowered, 0 refused; 7 shop marks were lost\n"), "{report}");
+}

@@ -285,9 +285,20 @@ fn what_cannot_be_read_or_written_is_one() {
 #[test]
 fn until_and_start_are_heeded() {
     let output = run(&["pay.trace", "--levels", "pay.levels", "--until", "5", "--start", "9"], b"");
-    assert_eq!(output.stdout, [3, 1, 0, 9, 3, 2, 0, 15, 3, 10, 0, 0]);
+    assert_eq!(output.stdout, [5, 1, 0, 9, 255, 1, 5, 2, 0, 15, 255, 1, 3, 10, 0, 0]);
     assert!(errors(&output).contains("read up to line 5, as --until says"), "{}", errors(&output));
     assert_eq!(output.status.code(), Some(4), "what comes later is not seen");
+    // The shop marks of the first step: by number, or by names that the levels file has.
+    let start =
+        |set: &str| run(&["pay.trace", "--levels", "pay.levels", "--until", "5", "--shops", set], b"");
+    assert_eq!(start("3").stdout[..5], [4, 1, 0, 15, 3]);
+    let output = start("north");
+    assert_eq!((output.status.code(), output.stdout.is_empty()), (Some(2), true));
+    assert!(
+        errors(&output).contains("--shops: expected a set of shop marks: all, none,"),
+        "{}",
+        errors(&output)
+    );
 }
 
 #[test]

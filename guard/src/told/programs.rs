@@ -79,12 +79,13 @@ impl Told {
 
 #[cfg(test)]
 mod tests {
-    use super::super::tests::{held, told};
+    use super::super::tests::{at, held, told};
 
     #[test]
     fn marks_come_from_what_is_held() {
         let mut told = told();
-        let (low, book) = (told.file((1, 1), 2, b"/low").unwrap(), told.file((1, 2), 9, b"/book").unwrap());
+        let (low, book) =
+            (told.file((1, 1), at(2), b"/low").unwrap(), told.file((1, 2), at(9), b"/book").unwrap());
         told.open(0, book, false, true).unwrap();
         let stays = told.ends(0, &[held((1, 2), false, true, true), held((1, 2), false, true, false)]);
         assert!(!told.would_exec(0, &[low], &stays));
@@ -93,7 +94,7 @@ mod tests {
         let gone = told.ends(0, &[]);
         assert!(told.would_exec(0, &[low], &gone));
         // A refused exec leaves a mark; where the descriptor stays, it is taken off.
-        let other = told.file((1, 3), 9, b"/other").unwrap();
+        let other = told.file((1, 3), at(9), b"/other").unwrap();
         told.open(0, other, false, true).unwrap();
         let both = told.ends(0, &[held((1, 2), false, true, true), held((1, 3), false, true, false)]);
         assert!(told.exec(0, &[low], &both).is_err());

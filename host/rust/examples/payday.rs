@@ -3,7 +3,8 @@
 //!
 //! In `host/rust`: `cargo run --offline --example payday`
 
-use gatekeeper::{Answer, Call, Handle, Kind, Monitor, Way, NO_FREEZE, PLACES, SUBJECTS};
+use gatekeeper::{Answer, Call, Handle, Kind, Label, Monitor, Way};
+use gatekeeper::{ALL_SHOPS, NO_FREEZE, PLACES, SUBJECTS};
 
 // What comes from outside, and the numbers that this host gives to it and to what it makes.
 const SHELL: u64 = 0;
@@ -16,11 +17,15 @@ const STATION: u64 = 6;
 const PAYSLIPS: u64 = 7;
 const TAX: u64 = 8;
 const TAX_THREAD: u64 = 9;
+const BONUS: u64 = 10;
 const PAY_BOOK: u64 = 0;
 const SHEET: u64 = 1;
 const HOURS: u64 = 2;
 const LIST: u64 = 3;
 const VIEWER: u64 = 4;
+const SALES: u64 = 5;
+const BONUS_0: u64 = 6;
+const BONUS_2: u64 = 7;
 /// From the adder to the shell.
 const PIPE: u64 = 8;
 /// To the print station, and back.
@@ -43,7 +48,9 @@ impl Host {
         print!("{what:66} ");
         match self.monitor.call(call) {
             Answer::Allowed(level) => println!("allowed, level {level}"),
-            Answer::Lowered(level) => println!("lowered to level {level}"),
+            Answer::Lowered { level, lost } => {
+                println!("lowered to level {level}, shop marks lost: {lost}")
+            }
             Answer::Refused(refusal) => {
                 println!("refused ({}): {}", refusal.number(), refusal.words());
                 return false;
@@ -60,14 +67,14 @@ impl Host {
         }
     }
 
-    /// What the duty screen shows of a step: its level, the lowest one that it may fall to while no handle goes, its
+    /// What the duty screen shows of a step: its label, the lowest one that it may fall to while no handle goes, its
     /// handles, and its mates, which share its memory.
     fn show(&self, step: u64) {
         let monitor = &self.monitor;
-        let Some((level, need)) = monitor.subject(step).zip(monitor.need_of_subject(step)) else {
+        let Some((label, need)) = monitor.subject(step).zip(monitor.need_of_subject(step)) else {
             return;
         };
-        println!("The duty screen shows: step {step} is at level {level} and may fall to {need}.");
+        println!("The duty screen shows: step {step} has {label} and may fall to {need}.");
         for place in 0..PLACES {
             let Some(Handle { way, object, marked }) = monitor.handle(step, place) else {
                 continue;
@@ -101,16 +108,16 @@ fn main() {
     let mut host = Host::default();
 
     println!("What comes from outside");
-    host.must("The pay book is file 0.", Call::Register { object: PAY_BOOK, level: 9 });
+    host.must("The pay book is file 0.", Call::Register { object: PAY_BOOK, level: 9, shops: ALL_SHOPS });
     host.must(
         "The hours sheet of shop 3, which nobody has checked, is file 1.",
-        Call::Register { object: SHEET, level: 2 },
+        Call::Register { object: SHEET, level: 2, shops: ALL_SHOPS },
     );
     host.must(
         "The checked hours of all other shops are file 2.",
-        Call::Register { object: HOURS, level: 12 },
+        Call::Register { object: HOURS, level: 12, shops: ALL_SHOPS },
     );
-    host.must("The shell is step 0.", Call::Admit { subject: SHELL, level: 12 });
+    host.must("The shell is step 0.", Call::Admit { subject: SHELL, level: 12, shops: ALL_SHOPS });
 
     println!("\nThe shell starts a step that adds up the hours");
     host.must(
@@ -175,7 +182,7 @@ fn main() {
     );
     host.must(
         "The sheet viewer, a program from elsewhere, is file 4.",
-        Call::Register { object: VIEWER, level: 2 },
+        Call::Register { object: VIEWER, level: 2, shops: ALL_SHOPS },
     );
     host.must("The shell forks the launcher, step 3.", Call::Fork { subject: SHELL, child: LAUNCHER });
     if !host.ask("The launcher runs the viewer.", Call::Exec { subject: LAUNCHER, object: VIEWER }) {
@@ -198,7 +205,10 @@ fn main() {
         Call::Map { subject: IMPORTER, object: SHEET, place: 1 },
     );
     host.show(IMPORTER);
-    host.must("The terminal of shop 3 is step 5.", Call::Admit { subject: TERMINAL, level: 2 });
+    host.must(
+        "The terminal of shop 3 is step 5.",
+        Call::Admit { subject: TERMINAL, level: 2, shops: ALL_SHOPS },
+    );
     host.must(
         "The terminal opens the sheet for writing.",
         Call::OpenWrite { subject: TERMINAL, object: SHEET, place: 0 },
@@ -217,7 +227,7 @@ fn main() {
     println!(
         "\nThe payslip step and the print station talk over a local socket: one pipe there and one back"
     );
-    host.must("The print station is step 6.", Call::Admit { subject: STATION, level: 5 });
+    host.must("The print station is step 6.", Call::Admit { subject: STATION, level: 5, shops: ALL_SHOPS });
     host.must("The shell forks the payslip step, step 7.", Call::Fork { subject: SHELL, child: PAYSLIPS });
     let channel = Call::Connect {
         subject: PAYSLIPS,
@@ -241,7 +251,7 @@ fn main() {
     println!(
         "\nThe tax step runs as two threads, which share memory: what one of them reads, both have read"
     );
-    host.must("The tax step is step 8.", Call::Admit { subject: TAX, level: 12 });
+    host.must("The tax step is step 8.", Call::Admit { subject: TAX, level: 12, shops: ALL_SHOPS });
     host.must("It starts a thread, step 9.", Call::Thread { subject: TAX, member: TAX_THREAD });
     host.must(
         "The tax step opens the pay book for writing.",
@@ -260,6 +270,40 @@ fn main() {
         Call::Exec { subject: TAX, object: VIEWER },
     );
     host.must("The viewer exits.", Call::Exit { subject: TAX });
+
+    println!(
+        "\nA level does not say whose figures were looked over: for that there are the marks of eight shop groups"
+    );
+    host.must(
+        "The sales of shop groups 0 and 1, looked over, are file 5.",
+        Call::register(SALES, Label { level: 12, shops: 1 | 2 }),
+    );
+    host.must(
+        "The bonus list of shop group 0 is file 6.",
+        Call::register(BONUS_0, Label { level: 9, shops: 1 }),
+    );
+    host.must(
+        "The bonus list of shop group 2 is file 7.",
+        Call::register(BONUS_2, Label { level: 9, shops: 4 }),
+    );
+    host.must("The bonus step is step 10.", Call::Admit { subject: BONUS, level: 12, shops: ALL_SHOPS });
+    host.must(
+        "The bonus step opens the list of group 2 for writing.",
+        Call::OpenWrite { subject: BONUS, object: BONUS_2, place: 0 },
+    );
+    let open = Call::OpenRead { subject: BONUS, object: SALES, place: 1 };
+    if !host.ask("The bonus step opens the sales for reading.", open) {
+        host.must("The bonus step closes the list of group 2.", Call::Close { subject: BONUS, place: 0 });
+        host.must(
+            "The bonus step opens the list of group 0 for writing.",
+            Call::OpenWrite { subject: BONUS, object: BONUS_0, place: 0 },
+        );
+        host.must("The bonus step opens the sales for reading.", open);
+    }
+    host.must("The bonus step reads the sales: its level stays.", Call::Read { subject: BONUS, place: 1 });
+    host.show(BONUS);
+    host.must("The bonus step writes the list of group 0.", Call::Write { subject: BONUS, place: 0 });
+    host.must("The bonus step exits.", Call::Exit { subject: BONUS });
 
     println!("\nThe books are closed until the bank file is sent; who has the pay book open goes on");
     host.must("Files of level 9 and above are frozen.", Call::Freeze { level: 9 });
@@ -281,15 +325,18 @@ fn main() {
 
     println!("\nA clerk has looked over the sheet: it comes in again as checked");
     host.must("The sheet of shop 3 is retired.", Call::Retire { object: SHEET });
-    host.must("The checked sheet is file 1.", Call::Register { object: SHEET, level: 12 });
+    host.must(
+        "The checked sheet is file 1.",
+        Call::Register { object: SHEET, level: 12, shops: ALL_SHOPS },
+    );
 
     println!("\nThe file store gives numbers of its own");
     host.must(
         "The bank's receipt is file 18446744073709551615.",
-        Call::Register { object: RECEIPT, level: 12 },
+        Call::Register { object: RECEIPT, level: 12, shops: ALL_SHOPS },
     );
     for (number, object) in host.monitor.objects() {
-        println!("The duty screen lists: {} {number} is at level {}.", words(object.kind), object.level);
+        println!("The duty screen lists: {} {number} has {}.", words(object.kind), object.label);
     }
 
     let Host { monitor, journal } = host;

@@ -12,10 +12,11 @@ pub enum Answer {
     /// Allowed, with a level: that of the new, opened, written or retired thing, or of the freeze, or else the
     /// subject's.
     Allowed(u8),
-    /// Allowed, and a read, write, exec or map made a level smaller: with that thing's level after it. Only at a write
-    /// to a file it is the file's, which stays, and what fell is a subject that has the file mapped; on a monitor that
-    /// started empty there is no such answer.
-    Lowered(u8),
+    /// Allowed, and a read, write, exec or map made a label smaller, in its level, in its set of shop marks or in both:
+    /// with that thing's level after it, which may be as before, and how many shop marks it lost, 0 to 8. Only at a write
+    /// to a file the level is the file's, which stays and loses none, and what fell is a subject that has the file mapped;
+    /// on a monitor that started empty there is no such answer.
+    Lowered { level: u8, lost: u8 },
     /// Refused. Nothing has changed.
     Refused(Refusal),
 }
@@ -24,17 +25,18 @@ impl Answer {
     /// The level of a call that was not refused, for use with `?`.
     pub fn granted(self) -> Result<u8, Refusal> {
         match self {
-            Answer::Allowed(level) | Answer::Lowered(level) => Ok(level),
+            Answer::Allowed(level) | Answer::Lowered { level, .. } => Ok(level),
             Answer::Refused(refusal) => Err(refusal),
         }
     }
 
-    /// An answer as the archive gives it: 256 times the outcome's letter, and the level or refusal number.
+    /// An answer as the archive gives it: 256 times 256 times the number of shop marks lost, 256 times the outcome's
+    /// letter, and the level or refusal number.
     pub(crate) fn from_number(number: u32) -> Answer {
-        let [value, letter, ..] = number.to_le_bytes();
+        let [value, letter, lost, _] = number.to_le_bytes();
         match letter {
             b'A' => Answer::Allowed(value),
-            b'L' => Answer::Lowered(value),
+            b'L' => Answer::Lowered { level: value, lost },
             b'R' => Answer::Refused(Refusal::proved(value.into())),
             _ => panic!("{}", archive::OTHER_VERSION),
         }
@@ -116,10 +118,10 @@ impl Refusal {
             Refusal::NumberTaken => "the number for the new thing cannot be used",
             Refusal::NoObject => "the file or pipe is not there",
             Refusal::IsPipe => "a pipe cannot be run, retired or mapped",
-            Refusal::LevelTooHigh => "the level is above 15, or a freeze above 16",
+            Refusal::LevelTooHigh => "the level is above 15, the set above 255, or a freeze above 16",
             Refusal::PlaceUnfit => "the place does not fit",
             Refusal::WrongDirection => "the handle is for the other direction",
-            Refusal::Flow => "low data could reach a higher file",
+            Refusal::Flow => "data could reach a file of a higher level or with a shop mark that it lacks",
             Refusal::StillOpen => "a handle is still open on the file",
             Refusal::JournalBroken => "the journal breaks off here",
             Refusal::RecordBroken => "the record is not well formed",
@@ -159,7 +161,9 @@ mod tests {
     #[test]
     fn an_answer_is_read_from_its_number() {
         assert_eq!(Answer::from_number(256 * u32::from(b'A') + 15), Answer::Allowed(15));
-        assert_eq!(Answer::from_number(256 * u32::from(b'L')), Answer::Lowered(0));
+        let lowered = |level, lost| Answer::Lowered { level, lost };
+        assert_eq!(Answer::from_number(256 * u32::from(b'L')), lowered(0, 0));
+        assert_eq!(Answer::from_number(256 * 256 * 8 + 256 * u32::from(b'L') + 15), lowered(15, 8));
         assert_eq!(Answer::from_number(256 * u32::from(b'R') + 9), Answer::Refused(Refusal::Flow));
     }
 
@@ -171,8 +175,11 @@ mod tests {
 
     #[test]
     fn a_refusal_ends_a_chain_of_calls() {
-        assert_eq!(Answer::Lowered(2).granted(), Ok(2));
+        assert_eq!(Answer::Lowered { level: 2, lost: 8 }.granted(), Ok(2));
         let error: Box<dyn Error> = Answer::Refused(Refusal::Flow).granted().unwrap_err().into();
-        assert_eq!(error.to_string(), "low data could reach a higher file (refusal 9)");
+        assert_eq!(
+            error.to_string(),
+            "data could reach a file of a higher level or with a shop mark that it lacks (refusal 9)"
+        );
     }
 }

@@ -4,7 +4,7 @@
 //! Why it is sound: each function takes any bytes and any numbers, reads and writes only what it is lent, and keeps none
 //! of it. A slice has its length behind its pointer, a [`State`] is laid out as the header's struct, with every value of
 //! a field being one, and what is behind a `&mut` is lent to nobody else. The parts of a state are bytes without padding
-//! between them, or numbers of 64 bits, and lie apart from each other.
+//! between them, or numbers of 16 or 64 bits, and lie apart from each other.
 
 use std::mem::size_of_val;
 
@@ -62,7 +62,7 @@ mod c {
             objects_len: usize,
             handles: *mut u8,
             handles_len: usize,
-            needs: *const u8,
+            needs: *const u16,
             needs_len: usize,
             counts: *mut u64,
             counts_len: usize,
@@ -80,7 +80,7 @@ mod c {
             objects_len: usize,
             handles: *mut u8,
             handles_len: usize,
-            needs: *const u8,
+            needs: *const u16,
             needs_len: usize,
             counts: *mut u64,
             counts_len: usize,
@@ -221,8 +221,8 @@ pub fn monitor_call(monitor: &mut State, code: u64, numbers: [u64; 6]) -> u32 {
     unsafe { c::gatekeeper_monitor_call(monitor, code, a, b, c, d, e, f) }
 }
 
-/// How long the parts of a state are: how many numbers; subjects, objects, handles and kept needs in bytes; and how many
-/// counts.
+/// How long the parts of a state are: how many numbers; subjects, objects and handles in bytes; how many kept needs; and
+/// how many counts.
 type Lengths = [usize; 6];
 
 #[inline]
@@ -335,23 +335,26 @@ pub fn number(bytes: &[u8]) -> (u64, u32) {
 #[cfg(test)]
 mod tests {
     use super::*;
-    use crate::monitor::{GROUPS_AT, NUMBERS_AT};
-    use crate::{Call, STATE_BYTES};
+    use crate::monitor::{GROUPS_AT, HANDLES_AT, NEEDS_AT, NUMBERS_AT, OBJECTS_AT};
+    use crate::{Call, ALL_SHOPS, STATE_BYTES};
 
     /// What a handle's number has more where it is marked.
     const MARKED: u32 = 256 * 256;
 
+    /// What a label's number has more for the mark of shop group 0.
+    const SHOP: u32 = 256 * 256;
+
     #[test]
     fn bytes_of_another_length_are_not_touched() {
         // 1,232 bytes are those of a version before 2.0.0, 1,745 those of 2.0.0 to 3.0.0, 1,841 those of 4.0.0 to 5.0.0,
-        // and 2,353 those of 6.0.0 and 6.1.0. In bytes that are all 1 every subject and a file is live, in bytes that are
-        // all 2 a pipe.
-        for len in [0, 1, 1232, 1745, 1841, 2353, STATE_BYTES - 1, STATE_BYTES + 1, 2 * STATE_BYTES] {
+        // 2,353 those of 6.0.0 and 6.1.0, and 2,385 those of 7.0.0. In bytes that are all 1 every subject and a file is
+        // live, in bytes that are all 2 a pipe.
+        for len in [0, 1, 1232, 1745, 1841, 2353, 2385, STATE_BYTES - 1, STATE_BYTES + 1, 2 * STATE_BYTES] {
             for byte in [1, 2, 7] {
                 let mut state = vec![byte; len];
                 assert!(!empty(&mut state));
                 assert!(!put_right(&mut state));
-                assert_eq!(call(&mut state, 1, [0, 9, 0, 0, 0, 0]), 0);
+                assert_eq!(call(&mut state, 1, [0, 9, 255, 0, 0, 0]), 0);
                 assert_eq!((made(&state), gone(&state), frozen_from(&state)), (0, 0, 0));
                 let number = u64::from_le_bytes([byte; 8]);
                 assert_eq!((subject(&state, 0), object(&state, number), handle(&state, 0, 0)), (0, 0, 0));
@@ -375,14 +378,14 @@ mod tests {
     fn parts_of_another_length_are_not_touched() {
         let mut state = State::new();
         for call in [
-            Call::Register { object: 0, level: 7 },
-            Call::Admit { subject: 0, level: 9 },
+            Call::Register { object: 0, level: 7, shops: ALL_SHOPS },
+            Call::Admit { subject: 0, level: 9, shops: ALL_SHOPS },
             Call::OpenRead { subject: 0, object: 0, place: 0 },
         ] {
             assert!(state.call(call).granted().is_ok(), "{call:?}");
         }
         let whole = lengths(&state);
-        assert_eq!(whole, [64, 64, 128, 1536, 96, 2]);
+        assert_eq!(whole, [64, 96, 192, 1536, 96, 2]);
 
         // An open and a close are quick with these lengths, and so are two that are refused.
         type Tried = fn(&mut State, Lengths) -> u32;
@@ -428,20 +431,21 @@ mod tests {
 
     #[test]
     fn what_is_there_is_a_number() {
-        // Every subject and every file is live, and every handle reads the file in slot 1 and is marked; every kept need
-        // is 1. File i is in slot i, but the last one has the highest number.
+        // Every subject and every file is live, and every handle reads the file in slot 1 and is marked; level and set of
+        // each, and of every kept need, are 1. File i is in slot i, but the last one has the highest number.
         let mut state = with_numbers([1; STATE_BYTES]);
         state[GROUPS_AT - 8..GROUPS_AT].fill(0xff);
-        assert_eq!((subject(&state, 31), object(&state, 62), object(&state, u64::MAX)), (257, 257, 257));
+        let one = SHOP + 256 + 1;
+        assert_eq!((subject(&state, 31), object(&state, 62), object(&state, u64::MAX)), (one, one, one));
         assert_eq!((handle(&state, 31, 15), handle_object(&state, 31, 15)), (MARKED + 256, 1));
-        assert_eq!((subject_need(&state, 31), object_need(&state, u64::MAX)), (1, 1));
+        assert_eq!((subject_need(&state, 31), object_need(&state, u64::MAX)), (SHOP + 1, SHOP + 1));
         assert_eq!(frozen_from(&state), 1);
         assert_eq!([0, 1, 62].map(|o| object_from(&state, o)), [0, 1, 62]);
         assert_eq!([63, 1 << 32, u64::MAX].map(|o| object_from(&state, o)), [u64::MAX; 3]);
 
         // No file is written, so that no subject needs anything.
         assert!(put_right(&mut state));
-        assert_eq!((subject_need(&state, 31), object_need(&state, u64::MAX)), (0, 1));
+        assert_eq!((subject_need(&state, 31), object_need(&state, u64::MAX)), (0, SHOP + 1));
 
         // Out of range, or of another number, there is nothing, whatever the bits of the number.
         for far in [64, 65, 256, 1 << 16, 1 << 31, 1 << 32, 1 << 63, u64::MAX - 31, u64::MAX - 1] {
@@ -454,12 +458,15 @@ mod tests {
         assert_eq!((handle(&state, 32, 0), handle(&state, 0, 16)), (0, 0));
         assert_eq!((subject(&state, u64::MAX), handle(&state, 0, u64::MAX)), (0, 0));
 
-        // A level is any byte.
-        for level in 0..=255 {
-            state[1] = level;
-            state[65] = level;
-            assert_eq!(subject(&state, 0), 256 + u32::from(level));
-            assert_eq!(object(&state, 0), 256 + u32::from(level));
+        // A level is any byte, and so is a set.
+        for (level, shops) in (0..=255).flat_map(|byte| [(byte, 1), (1, byte), (byte, byte ^ 0x5a)]) {
+            state[1..3].copy_from_slice(&[level, shops]);
+            state[OBJECTS_AT + 1..][..2].copy_from_slice(&[level, shops]);
+            state[NEEDS_AT..][..2].copy_from_slice(&[shops, level]);
+            state[NEEDS_AT + 2 * 32..][..2].copy_from_slice(&[shops, level]);
+            let label = SHOP * u32::from(shops) + u32::from(level);
+            assert_eq!((subject(&state, 0), object(&state, 0)), (256 + label, 256 + label));
+            assert_eq!((subject_need(&state, 0), object_need(&state, 0)), (label, label));
         }
     }
 
@@ -468,16 +475,16 @@ mod tests {
         for byte in 0..=255 {
             let mut state = with_numbers([1; STATE_BYTES]);
             state[0] = byte; // of subject 0
-            state[64] = byte; // of slot 0, in which object 0 stands
-            state[192 + 3 * 16] = byte; // of place 0 of subject 1
-            state[192 + 3 * 17 + 1] = byte; // the slot of place 1
-            state[192 + 3 * 18 + 2] = byte; // the mark of place 2
+            state[OBJECTS_AT] = byte; // of slot 0, in which object 0 stands
+            state[HANDLES_AT + 3 * 16] = byte; // of place 0 of subject 1
+            state[HANDLES_AT + 3 * 17 + 1] = byte; // the slot of place 1
+            state[HANDLES_AT + 3 * 18 + 2] = byte; // the mark of place 2
             let known = |kinds| if (1..=kinds).contains(&byte) { u32::from(byte) } else { 0 };
-            assert_eq!(subject(&state, 0), if byte == 1 { 256 + 1 } else { 0 }, "{byte}");
-            assert_eq!(subject_need(&state, 0), known(1), "{byte}");
+            assert_eq!(subject(&state, 0), if byte == 1 { SHOP + 256 + 1 } else { 0 }, "{byte}");
+            assert_eq!(subject_need(&state, 0), if byte == 1 { SHOP + 1 } else { 0 }, "{byte}");
             let kind = known(2);
-            assert_eq!(object(&state, 0), if kind > 0 { 256 * kind + 1 } else { 0 }, "{byte}");
-            assert_eq!(object_need(&state, 0), u32::from(kind > 0), "{byte}");
+            assert_eq!(object(&state, 0), if kind > 0 { SHOP + 256 * kind + 1 } else { 0 }, "{byte}");
+            assert_eq!(object_need(&state, 0), if kind > 0 { SHOP + 1 } else { 0 }, "{byte}");
             let way = known(3);
             assert_eq!(handle(&state, 1, 0), if way > 0 { MARKED + 256 * way } else { 0 }, "{byte}");
             assert_eq!(handle_object(&state, 1, 0), u64::from(way > 0), "{byte}");
@@ -494,14 +501,14 @@ mod tests {
     fn of_slots_with_one_number_the_first_in_use_counts() {
         // Slots 2, 5 and 9 have the number 2^40; subject 0 has a handle on each.
         let mut state = with_numbers([0; STATE_BYTES]);
-        state[..2].copy_from_slice(&[1, 9]);
+        state[..3].copy_from_slice(&[1, 9, 255]);
         for (place, (slot, kind, level)) in [(2, 1, 7), (5, 2, 8), (9, 1, 9)].into_iter().enumerate() {
-            state[64 + 2 * slot..][..2].copy_from_slice(&[kind, level]);
-            state[192 + 3 * place..][..2].copy_from_slice(&[1, slot as u8]);
+            state[OBJECTS_AT + 3 * slot..][..3].copy_from_slice(&[kind, level, slot as u8]);
+            state[HANDLES_AT + 3 * place..][..2].copy_from_slice(&[1, slot as u8]);
             state[NUMBERS_AT + 8 * slot..][..8].copy_from_slice(&(1u64 << 40).to_le_bytes());
         }
         for (used, seen) in [(2, 256 + 7), (5, 512 + 8), (9, 256 + 9)] {
-            assert_eq!(object(&state, 1 << 40), seen);
+            assert_eq!(object(&state, 1 << 40), SHOP * used + seen);
             assert_eq!((object_from(&state, 0), object_from(&state, (1 << 40) + 1)), (1 << 40, 0));
             for (place, slot) in [2, 5, 9].into_iter().enumerate() {
                 let there = if slot == used { (256, 1 << 40) } else { (0, 0) };
@@ -509,7 +516,7 @@ mod tests {
                 assert_eq!((handle(&state, 0, place), handle_object(&state, 0, place)), there, "{slot}");
             }
             // With the first one free, the next one counts.
-            state[64 + 2 * used] = 0;
+            state[OBJECTS_AT + 3 * used as usize] = 0;
         }
         assert_eq!((object(&state, 1 << 40), object_from(&state, 0)), (0, 0));
     }
@@ -523,8 +530,8 @@ mod tests {
         }
         assert_eq!([0, 3, 4, 30, 31].map(|s| group(&state, s)), [256, 256 + 3, 256, 256 + 2, 256 + 3]);
         // The lowest that is live; and one that is not live is in no group, whatever its byte is.
-        state[2 * 3] = 0;
-        state[2 * 7] = 7;
+        state[3 * 3] = 0;
+        state[3 * 7] = 7;
         assert_eq!([3, 7, 11, 31].map(|s| group(&state, s)), [0, 0, 256 + 11, 256 + 11]);
         // With a byte that no other live subject has, a subject is by itself.
         for byte in 0..=255u8 {

@@ -7,17 +7,17 @@ use crate::archive;
 pub const JOURNAL_BYTES: usize = 65_536;
 
 /// Room for the reply to every journal, in bytes.
-pub const REPLY_ROOM: usize = 2_490_435;
+pub const REPLY_ROOM: usize = 2_752_579;
 
 /// Room for every record, in bytes.
 pub const RECORD_ROOM: usize = 62;
 
 /// The reply to a journal, from an empty monitor: a line for each record with its position, code, A, L or R, and
-/// the level or refusal number; then `end`, handles made, gone and open.
+/// the level or refusal number, after an L also the number of shop marks lost; then `end`, handles made, gone and open.
 ///
 /// ```
-/// let journal = [3, 2, 0, 2, 3, 1, 0, 9, 4, 5, 0, 0, 0, 3, 7, 0, 0];
-/// assert_eq!(gatekeeper::replay(&journal), "1 2 A 2\n2 1 A 9\n3 5 A 2\n4 7 L 2\nend 1 0 1\n");
+/// let journal = [4, 2, 0, 2, 1, 4, 1, 0, 9, 7, 4, 5, 0, 0, 0, 3, 7, 0, 0];
+/// assert_eq!(gatekeeper::replay(&journal), "1 2 A 2\n2 1 A 9\n3 5 A 2\n4 7 L 2 2\nend 1 0 1\n");
 /// ```
 #[must_use]
 pub fn replay(journal: &[u8]) -> String {
@@ -67,17 +67,17 @@ pub fn read_number(bytes: &[u8]) -> Option<(u64, usize)> {
 #[cfg(test)]
 mod tests {
     use super::*;
-    use crate::{Call, NO_FREEZE};
+    use crate::{Call, ALL_SHOPS, NO_FREEZE};
 
     #[test]
     fn a_journal_is_written_and_replayed() {
         let mut journal = Vec::new();
-        Call::Register { object: 0, level: 2 }.write_record(&mut journal);
-        Call::Admit { subject: 0, level: 9 }.write_record(&mut journal);
+        Call::Register { object: 0, level: 2, shops: 1 }.write_record(&mut journal);
+        Call::Admit { subject: 0, level: 9, shops: ALL_SHOPS }.write_record(&mut journal);
         Call::OpenRead { subject: 0, object: 0, place: 0 }.write_record(&mut journal);
         Call::Read { subject: 0, place: 0 }.write_record(&mut journal);
-        assert_eq!(journal, [3, 2, 0, 2, 3, 1, 0, 9, 4, 5, 0, 0, 0, 3, 7, 0, 0]);
-        let reply = "1 2 A 2\n2 1 A 9\n3 5 A 2\n4 7 L 2\nend 1 0 1\n";
+        assert_eq!(journal, [4, 2, 0, 2, 1, 5, 1, 0, 9, 255, 1, 4, 5, 0, 0, 0, 3, 7, 0, 0]);
+        let reply = "1 2 A 2\n2 1 A 9\n3 5 A 2\n4 7 L 2 7\nend 1 0 1\n";
         assert_eq!(replay(&journal), reply);
 
         let mut exact = vec![0; reply.len()];
@@ -89,14 +89,14 @@ mod tests {
     #[test]
     fn a_journal_is_run_from_a_monitor_without_a_freeze() {
         let mut journal = Vec::new();
-        Call::Register { object: 0, level: 9 }.write_record(&mut journal);
-        Call::Admit { subject: 0, level: 9 }.write_record(&mut journal);
+        Call::Register { object: 0, level: 9, shops: ALL_SHOPS }.write_record(&mut journal);
+        Call::Admit { subject: 0, level: 9, shops: ALL_SHOPS }.write_record(&mut journal);
         Call::OpenWrite { subject: 0, object: 0, place: 0 }.write_record(&mut journal);
         Call::Freeze { level: 9 }.write_record(&mut journal);
         Call::OpenWrite { subject: 0, object: 0, place: 1 }.write_record(&mut journal);
         Call::Write { subject: 0, place: 0 }.write_record(&mut journal);
         Call::Freeze { level: NO_FREEZE }.write_record(&mut journal);
-        assert_eq!(journal[13..16], [2, 16, 9]);
+        assert_eq!(journal[17..20], [2, 16, 9]);
         let reply = "1 2 A 9\n2 1 A 9\n3 6 A 9\n4 16 A 9\n5 6 R 15\n6 8 A 9\n7 16 A 16\nend 1 0 1\n";
         assert_eq!(replay(&journal), reply);
     }
@@ -104,34 +104,34 @@ mod tests {
     #[test]
     fn a_journal_has_marks() {
         let mut journal = Vec::new();
-        Call::Register { object: 0, level: 9 }.write_record(&mut journal);
-        Call::Register { object: 1, level: 2 }.write_record(&mut journal);
-        Call::Admit { subject: 0, level: 9 }.write_record(&mut journal);
+        Call::Register { object: 0, level: 9, shops: ALL_SHOPS }.write_record(&mut journal);
+        Call::Register { object: 1, level: 2, shops: ALL_SHOPS }.write_record(&mut journal);
+        Call::Admit { subject: 0, level: 9, shops: ALL_SHOPS }.write_record(&mut journal);
         Call::OpenWrite { subject: 0, object: 0, place: 3 }.write_record(&mut journal);
         Call::Exec { subject: 0, object: 1 }.write_record(&mut journal);
         Call::Mark { subject: 0, place: 2 }.write_record(&mut journal);
         Call::Mark { subject: 0, place: 3 }.write_record(&mut journal);
         Call::Exec { subject: 0, object: 1 }.write_record(&mut journal);
-        assert_eq!(journal[25..29], [3, 15, 0, 3]);
+        assert_eq!(journal[31..35], [3, 15, 0, 3]);
         let reply =
-            "1 2 A 9\n2 2 A 2\n3 1 A 9\n4 6 A 9\n5 10 R 9\n6 15 R 7\n7 15 A 9\n8 10 L 2\nend 1 1 0\n";
+            "1 2 A 9\n2 2 A 2\n3 1 A 9\n4 6 A 9\n5 10 R 9\n6 15 R 7\n7 15 A 9\n8 10 L 2 0\nend 1 1 0\n";
         assert_eq!(replay(&journal), reply);
     }
 
     #[test]
     fn a_journal_has_mappings() {
         let mut journal = Vec::new();
-        Call::Register { object: 1, level: 2 }.write_record(&mut journal);
-        Call::Admit { subject: 0, level: 9 }.write_record(&mut journal);
+        Call::Register { object: 1, level: 2, shops: ALL_SHOPS }.write_record(&mut journal);
+        Call::Admit { subject: 0, level: 9, shops: ALL_SHOPS }.write_record(&mut journal);
         Call::Map { subject: 0, object: 0, place: 3 }.write_record(&mut journal);
         Call::Map { subject: 0, object: 1, place: 3 }.write_record(&mut journal);
         Call::OpenWrite { subject: 0, object: 1, place: 4 }.write_record(&mut journal);
         Call::Write { subject: 0, place: 4 }.write_record(&mut journal);
         Call::Exec { subject: 0, object: 1 }.write_record(&mut journal);
         Call::Read { subject: 0, place: 3 }.write_record(&mut journal);
-        assert_eq!(journal[13..18], [4, 14, 0, 1, 3]);
+        assert_eq!(journal[17..22], [4, 14, 0, 1, 3]);
         let reply =
-            "1 2 A 2\n2 1 A 9\n3 14 R 4\n4 14 L 2\n5 6 A 2\n6 8 A 2\n7 10 A 2\n8 7 R 7\nend 2 1 1\n";
+            "1 2 A 2\n2 1 A 9\n3 14 R 4\n4 14 L 2 0\n5 6 A 2\n6 8 A 2\n7 10 A 2\n8 7 R 7\nend 2 1 1\n";
         assert_eq!(replay(&journal), reply);
     }
 
@@ -139,17 +139,17 @@ mod tests {
     fn a_journal_has_channels() {
         let mut journal = Vec::new();
         let connect = Call::Connect { subject: 0, peer: 1, to: 5, from: 6, reading: 0, writing: 1 };
-        Call::Admit { subject: 0, level: 9 }.write_record(&mut journal);
+        Call::Admit { subject: 0, level: 9, shops: ALL_SHOPS }.write_record(&mut journal);
         connect.write_record(&mut journal);
-        Call::Admit { subject: 1, level: 2 }.write_record(&mut journal);
+        Call::Admit { subject: 1, level: 2, shops: ALL_SHOPS }.write_record(&mut journal);
         connect.write_record(&mut journal);
         Call::Write { subject: 1, place: 1 }.write_record(&mut journal);
         Call::Read { subject: 0, place: 0 }.write_record(&mut journal);
         Call::Exit { subject: 1 }.write_record(&mut journal);
         connect.write_record(&mut journal);
-        assert_eq!(journal[4..12], [7, 17, 0, 1, 5, 6, 0, 1]);
+        assert_eq!(journal[6..14], [7, 17, 0, 1, 5, 6, 0, 1]);
         let reply =
-            "1 1 A 9\n2 17 R 2\n3 1 A 2\n4 17 A 9\n5 8 A 2\n6 7 L 2\n7 12 A 2\n8 17 R 2\nend 4 2 2\n";
+            "1 1 A 9\n2 17 R 2\n3 1 A 2\n4 17 A 9\n5 8 A 2\n6 7 L 2 0\n7 12 A 2\n8 17 R 2\nend 4 2 2\n";
         assert_eq!(replay(&journal), reply);
     }
 
@@ -158,16 +158,16 @@ mod tests {
         let mut journal = Vec::new();
         let thread = Call::Thread { subject: 0, member: 1 };
         thread.write_record(&mut journal);
-        Call::Admit { subject: 0, level: 9 }.write_record(&mut journal);
+        Call::Admit { subject: 0, level: 9, shops: ALL_SHOPS }.write_record(&mut journal);
         thread.write_record(&mut journal);
         thread.write_record(&mut journal);
-        Call::Register { object: 1, level: 2 }.write_record(&mut journal);
+        Call::Register { object: 1, level: 2, shops: ALL_SHOPS }.write_record(&mut journal);
         Call::Map { subject: 1, object: 1, place: 3 }.write_record(&mut journal);
         Call::Exec { subject: 0, object: 1 }.write_record(&mut journal);
         Call::Read { subject: 1, place: 3 }.write_record(&mut journal);
         assert_eq!(journal[..4], [3, 18, 0, 1]);
         let reply =
-            "1 18 R 2\n2 1 A 9\n3 18 A 9\n4 18 R 3\n5 2 A 2\n6 14 L 2\n7 10 A 2\n8 7 R 2\nend 1 1 0\n";
+            "1 18 R 2\n2 1 A 9\n3 18 A 9\n4 18 R 3\n5 2 A 2\n6 14 L 2 0\n7 10 A 2\n8 7 R 2\nend 1 1 0\n";
         assert_eq!(replay(&journal), reply);
     }
 

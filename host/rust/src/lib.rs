@@ -8,21 +8,26 @@
 //! use gatekeeper::{Answer, Monitor, Refusal};
 //!
 //! let mut monitor = Monitor::new();
-//! monitor.admit(0, 9).granted()?; // a step of level 9
-//! monitor.register(0, 9).granted()?; // the pay book, which takes nothing from below level 9
-//! monitor.register(1, 2).granted()?; // an hours sheet that nobody has checked
+//! monitor.admit(0, 9, 0b11).granted()?; // a step of level 9, vouched for by shop groups 0 and 1
+//! monitor.register(0, 9, 0b01).granted()?; // the pay book of group 0, which takes nothing from below level 9
+//! monitor.register(1, 2, 0b11).granted()?; // an hours sheet that nobody has checked
+//! monitor.register(2, 9, 0b10).granted()?; // one that was checked, for group 1 alone
 //!
 //! assert_eq!(monitor.open_write(0, 0, 0), Answer::Allowed(9));
-//! assert_eq!(monitor.open_read(0, 1, 1), Answer::Refused(Refusal::Flow));
+//! assert_eq!(monitor.open_read(0, 1, 1), Answer::Refused(Refusal::Flow)); // its level is too low
+//! assert_eq!(monitor.open_read(0, 2, 1), Answer::Refused(Refusal::Flow)); // it lacks the mark of group 0
 //!
-//! monitor.close(0, 0).granted()?; // with the pay book closed, the sheet may be read
+//! monitor.close(0, 0).granted()?; // with the pay book closed, both sheets may be read
 //! assert_eq!(monitor.open_read(0, 1, 1), Answer::Allowed(2));
-//! assert_eq!(monitor.read(0, 1), Answer::Lowered(2));
+//! assert_eq!(monitor.read(0, 1), Answer::Lowered { level: 2, lost: 0 });
+//! assert_eq!(monitor.open_read(0, 2, 2), Answer::Allowed(9));
+//! assert_eq!(monitor.read(0, 2), Answer::Lowered { level: 2, lost: 1 }); // a shop mark alone
 //! # Ok::<(), Refusal>(())
 //! ```
 //!
-//! [`Monitor::subject`], [`Monitor::object`] and [`Monitor::handle`] show what the tables hold, and
-//! [`Monitor::need_of_subject`] how far a step may fall.
+//! A step, a file and a pipe has a [`Label`]: a level, and a set of shop marks. [`Monitor::subject`],
+//! [`Monitor::object`] and [`Monitor::handle`] show what the tables hold, and [`Monitor::need_of_subject`] how far a step
+//! may fall.
 //!
 //! [`State`] is a monitor that is kept as a struct in place of bytes, and answers the same, faster.
 //!
@@ -34,6 +39,7 @@ mod answer;
 mod archive;
 mod call;
 mod journal;
+mod label;
 mod lent;
 mod line;
 mod look;
@@ -43,6 +49,7 @@ pub use answer::{Answer, Refusal};
 pub use call::{Call, NO_FREEZE};
 pub use journal::{read_number, replay, replay_into, write_record};
 pub use journal::{JOURNAL_BYTES, RECORD_ROOM, REPLY_ROOM};
+pub use label::{Label, ALL_SHOPS, SHOPS};
 pub use lent::State;
 pub use line::Counts;
 pub use look::{Handle, Kind, Object, Way, OBJECTS, PLACES, SUBJECTS};

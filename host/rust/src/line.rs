@@ -51,12 +51,12 @@ impl Monitor {
     /// use gatekeeper::{Counts, Monitor, Refusal};
     ///
     /// let mut monitor = Monitor::new();
-    /// monitor.admit(0, 12).granted()?; // the shell
-    /// monitor.register(1, 9).granted()?; // hours that were checked
-    /// monitor.register(2, 9).granted()?; // the pay book
-    /// monitor.register(3, 2).granted()?; // hours that were not
-    /// monitor.register(20, 12).granted()?; // a program that adds
-    /// monitor.register(21, 12).granted()?; // and one that books
+    /// monitor.admit(0, 12, 3).granted()?; // the shell
+    /// monitor.register(1, 9, 3).granted()?; // hours of shop groups 0 and 1 that were checked
+    /// monitor.register(2, 9, 3).granted()?; // their pay book
+    /// monitor.register(3, 9, 2).granted()?; // hours that were not checked for group 0
+    /// monitor.register(20, 12, 3).granted()?; // a program that adds
+    /// monitor.register(21, 12, 3).granted()?; // and one that books
     ///
     /// // Children from number 1 on, pipes from number 100 on.
     /// let counts = monitor.line(b"20 <1 | 21 >2", 0, 1, 100)?;
@@ -81,8 +81,8 @@ impl State {
     /// use gatekeeper::{Call, Counts, Refusal, State};
     ///
     /// let mut state = State::new();
-    /// state.call(Call::Admit { subject: 0, level: 12 }).granted()?; // the shell
-    /// state.call(Call::Register { object: 20, level: 9 }).granted()?; // a program of level 9
+    /// state.call(Call::Admit { subject: 0, level: 12, shops: 255 }).granted()?; // the shell
+    /// state.call(Call::Register { object: 20, level: 9, shops: 255 }).granted()?; // a program of level 9
     ///
     /// // A fork, an exec, by which the child falls to level 9, and an exit; and so once more.
     /// let counts = state.line(b"20; 20", 0, 1, 100)?;

@@ -5,22 +5,34 @@ use std::fmt;
 use crate::answer::Answer;
 use crate::archive;
 use crate::call::{Call, NO_FREEZE};
+use crate::label::ALL_SHOPS;
 
 /// How many bytes a monitor, its tally, its kept needs and its groups take.
-pub const STATE_BYTES: usize = 2385;
+pub const STATE_BYTES: usize = 2577;
 
-/// Where the slots of the objects stand, two bytes each, and the handles, three bytes each.
-pub(crate) const OBJECTS_AT: usize = 64;
-pub(crate) const HANDLES_AT: usize = 192;
+/// Where the slots of the objects stand, behind the subjects, and the handles: three bytes each.
+pub(crate) const OBJECTS_AT: usize = 96;
+pub(crate) const HANDLES_AT: usize = 288;
 
-/// Where the groups of the subjects stand, one byte each; so many bytes a monitor took in versions 6.0.0 and 6.1.0.
-pub(crate) const GROUPS_AT: usize = 2353;
+/// Where the kept needs stand, two bytes each; the numbers of the objects, eight bytes each; and the groups of the
+/// subjects, one byte each.
+pub(crate) const NEEDS_AT: usize = 1841;
+pub(crate) const NUMBERS_AT: usize = 2033;
+pub(crate) const GROUPS_AT: usize = 2545;
 
-/// Where the numbers of the objects stand, eight bytes each; so many bytes a monitor took in versions 4.0.0 to 5.0.0.
-pub(crate) const NUMBERS_AT: usize = 1841;
-
-/// How many it took in versions 2.0.0 to 3.0.0: those before the kept needs.
-pub(crate) const NEEDS_AT: usize = 1745;
+/// The bytes of before this version, in which subjects and slots had two bytes and a kept need one.
+pub(crate) mod before {
+    /// Where the handles stood. What came before them were subjects and slots alone.
+    pub(crate) const HANDLES_AT: usize = 192;
+    /// Where the kept needs stood; so many bytes a monitor took in versions 2.0.0 to 3.0.0.
+    pub(crate) const NEEDS_AT: usize = 1745;
+    /// Where the numbers of the objects stood; so many bytes a monitor took in versions 4.0.0 to 5.0.0.
+    pub(crate) const NUMBERS_AT: usize = 1841;
+    /// Where the groups of the subjects stood; so many bytes a monitor took in versions 6.0.0 and 6.1.0.
+    pub(crate) const GROUPS_AT: usize = 2353;
+    /// So many bytes a monitor took in version 7.0.0.
+    pub(crate) const STATE_BYTES: usize = 2385;
+}
 
 /// A monitor with its tally of handles and its kept needs. It is a plain value: a clone is a monitor of its own.
 ///
@@ -46,27 +58,35 @@ impl Monitor {
         Monitor { state }
     }
 
-    /// The monitor that a host kept as bytes: those of this version as they are; the 2,353 of version 6.0.0 or 6.1.0 with
-    /// a group of its own for each subject; the 1,841 of versions 4.0.0 to 5.0.0 with the numbers 0 to 63 of its objects as
-    /// well; or the 1,745 of version 2.0.0, 2.1.0 or 3.0.0 with both, put right. None for bytes of any other length.
+    /// The monitor that a host kept as bytes: those of this version as they are; the 2,385 of version 7.0.0 with the shop
+    /// marks of all groups ([`ALL_SHOPS`]) for each subject and object, put right; the 2,353 of version 6.0.0 or 6.1.0 with
+    /// a group of its own for each subject as well; and the 1,841 of versions 4.0.0 to 5.0.0, or the 1,745 of version 2.0.0,
+    /// 2.1.0 or 3.0.0, with the numbers 0 to 63 of its objects, too. None for bytes of any other length.
+    ///
+    /// With all shop marks everywhere, calls on the monitor are answered as those on the one of before.
     ///
     /// Those of a version before these lack the third byte of each handle, which is 0, and the last, which is
     /// [`NO_FREEZE`]; with them they are bytes of version 2.0.0.
     ///
     /// ```
-    /// use gatekeeper::{Monitor, Refusal};
+    /// use gatekeeper::{Label, Monitor, Refusal};
     ///
     /// let mut monitor = Monitor::new();
-    /// monitor.admit(0, 9).granted()?; // a step of level 9
-    /// monitor.register(0, 7).granted()?; // a book of level 7
+    /// monitor.admit(0, 9, 3).granted()?; // a step of level 9, vouched for by shop groups 0 and 1
+    /// monitor.register(0, 7, 1).granted()?; // a book of level 7, of shop group 0
     /// monitor.open_write(0, 0, 0).granted()?;
     ///
     /// let kept = monitor.as_bytes().to_vec();
     /// assert_eq!(Monitor::from_kept(&kept), Some(monitor));
     ///
-    /// for before in [2353, 1841, 1745] {
-    ///     let before = &kept[..before]; // as version 6.1.0 kept it, as 5.0.0 did, and as 3.0.0 did
-    ///     assert_eq!(Monitor::from_kept(before).and_then(|monitor| monitor.need_of_subject(0)), Some(7));
+    /// // As version 7.0.0 kept such a step and such a book, and as 6.1.0, 5.0.0 and 3.0.0 did.
+    /// let mut kept = vec![0; 2385];
+    /// kept[..2].copy_from_slice(&[1, 9]);
+    /// kept[64..66].copy_from_slice(&[1, 7]);
+    /// kept[192..195].copy_from_slice(&[2, 0, 0]);
+    /// for bytes in [2385, 2353, 1841, 1745] {
+    ///     let need = Monitor::from_kept(&kept[..bytes]).and_then(|monitor| monitor.need_of_subject(0));
+    ///     assert_eq!(need, Some(Label { level: 7, shops: 255 }));
     /// }
     /// # Ok::<(), Refusal>(())
     /// ```
@@ -74,22 +94,30 @@ impl Monitor {
         if let Ok(state) = kept.try_into() {
             return Some(Monitor::from_bytes(state));
         }
-        if ![GROUPS_AT, NUMBERS_AT, NEEDS_AT].contains(&kept.len()) {
+        let lengths = [before::STATE_BYTES, before::GROUPS_AT, before::NUMBERS_AT, before::NEEDS_AT];
+        if !lengths.contains(&kept.len()) {
             return None;
         }
         let mut state = [0; STATE_BYTES];
-        // The object of number i stood at i, and each subject was in a group by itself.
+        // Subjects and slots.
+        let things = kept[..before::HANDLES_AT].chunks_exact(2);
+        for (bytes, thing) in state[..HANDLES_AT].chunks_exact_mut(3).zip(things) {
+            bytes.copy_from_slice(&[thing[0], thing[1], ALL_SHOPS as u8]);
+        }
+        // Handles, counts and the freeze.
+        state[HANDLES_AT..NEEDS_AT].copy_from_slice(&kept[before::HANDLES_AT..before::NEEDS_AT]);
+        // Numbers and groups. Before there were any, the object of number i stood at i, and each subject was by itself.
         for (bytes, number) in state[NUMBERS_AT..GROUPS_AT].chunks_exact_mut(8).zip(0u64..) {
             bytes.copy_from_slice(&number.to_le_bytes());
         }
         for (byte, group) in state[GROUPS_AT..].iter_mut().zip(0..) {
             *byte = group;
         }
-        state[..kept.len()].copy_from_slice(kept);
-        let mut monitor = Monitor::from_bytes(state);
-        if kept.len() == NEEDS_AT {
-            monitor.put_right();
+        if let Some(rest) = kept.get(before::NUMBERS_AT..) {
+            state[NUMBERS_AT..][..rest.len()].copy_from_slice(rest);
         }
+        let mut monitor = Monitor::from_bytes(state);
+        monitor.put_right();
         Some(monitor)
     }
 
@@ -103,19 +131,19 @@ impl Monitor {
     /// or not, leaves a right one. So this is for bytes that came from elsewhere ([`Monitor::from_bytes`]), once.
     ///
     /// ```
-    /// use gatekeeper::{Monitor, Refusal};
+    /// use gatekeeper::{Label, Monitor, Refusal};
     ///
     /// let mut monitor = Monitor::new();
-    /// monitor.admit(0, 9).granted()?; // a step of level 9
-    /// monitor.register(0, 7).granted()?; // a book of level 7
+    /// monitor.admit(0, 9, 3).granted()?; // a step of level 9, vouched for by shop groups 0 and 1
+    /// monitor.register(0, 7, 1).granted()?; // a book of level 7, of shop group 0
     /// monitor.open_write(0, 0, 0).granted()?;
     ///
     /// let mut bytes = *monitor.as_bytes();
-    /// bytes[1745] = 3; // the kept need of step 0, which no call made so
+    /// bytes[1842] = 3; // the level of the kept need of step 0, which no call made so
     /// let mut monitor = Monitor::from_bytes(bytes);
-    /// assert_eq!(monitor.need_of_subject(0), Some(3));
+    /// assert_eq!(monitor.need_of_subject(0), Some(Label { level: 3, shops: 1 }));
     /// monitor.put_right();
-    /// assert_eq!(monitor.need_of_subject(0), Some(7));
+    /// assert_eq!(monitor.need_of_subject(0), Some(Label { level: 7, shops: 1 }));
     /// # Ok::<(), Refusal>(())
     /// ```
     pub fn put_right(&mut self) {
@@ -167,12 +195,20 @@ impl Monitor {
 
 /// The calls by name; [`Call`] says what each does.
 impl Monitor {
-    pub fn admit(&mut self, subject: u64, level: u64) -> Answer {
-        self.call(Call::Admit { subject, level })
+    /// ```
+    /// use gatekeeper::{Answer, Label, Monitor, Refusal};
+    ///
+    /// let mut monitor = Monitor::new();
+    /// assert_eq!(monitor.admit(0, 9, 0b101), Answer::Allowed(9)); // vouched for by shop groups 0 and 2
+    /// assert_eq!(monitor.subject(0), Some(Label { level: 9, shops: 5 }));
+    /// assert_eq!(monitor.admit(1, 9, 256), Answer::Refused(Refusal::LevelTooHigh)); // there are eight groups
+    /// ```
+    pub fn admit(&mut self, subject: u64, level: u64, shops: u64) -> Answer {
+        self.call(Call::Admit { subject, level, shops })
     }
 
-    pub fn register(&mut self, object: u64, level: u64) -> Answer {
-        self.call(Call::Register { object, level })
+    pub fn register(&mut self, object: u64, level: u64, shops: u64) -> Answer {
+        self.call(Call::Register { object, level, shops })
     }
 
     pub fn create(&mut self, subject: u64, object: u64) -> Answer {
@@ -223,9 +259,10 @@ impl Monitor {
     /// use gatekeeper::{Answer, Monitor, Refusal};
     ///
     /// let mut monitor = Monitor::new();
-    /// monitor.admit(0, 9).granted()?; // an importer of level 9
-    /// monitor.register(1, 2).granted()?; // an hours sheet that nobody has checked
-    /// assert_eq!(monitor.map(0, 1, 0), Answer::Lowered(2)); // the importer's level: it sees the sheet from now on
+    /// monitor.admit(0, 9, 3).granted()?; // an importer of level 9
+    /// monitor.register(1, 2, 1).granted()?; // an hours sheet that nobody has checked
+    /// // The importer's level, and how many shop marks it lost: it sees the sheet from now on.
+    /// assert_eq!(monitor.map(0, 1, 0), Answer::Lowered { level: 2, lost: 1 });
     /// # Ok::<(), Refusal>(())
     /// ```
     pub fn map(&mut self, subject: u64, object: u64, place: u64) -> Answer {
@@ -244,11 +281,12 @@ impl Monitor {
     /// use gatekeeper::{Answer, Monitor, Refusal};
     ///
     /// let mut monitor = Monitor::new();
-    /// monitor.admit(0, 9).granted()?; // the payslip step, of level 9
-    /// monitor.admit(1, 5).granted()?; // the print station, of level 5
+    /// monitor.admit(0, 9, 255).granted()?; // the payslip step, of level 9
+    /// monitor.admit(1, 5, 255).granted()?; // the print station, of level 5
     /// assert_eq!(monitor.connect(0, 1, 5, 6, 0, 1), Answer::Allowed(9)); // pipe 5 to the station, pipe 6 back
     /// monitor.write(1, 1).granted()?; // the station writes at its place 1,
-    /// assert_eq!(monitor.read(0, 0), Answer::Lowered(5)); // which the payslip step reads at its place 0
+    /// let lowered = Answer::Lowered { level: 5, lost: 0 };
+    /// assert_eq!(monitor.read(0, 0), lowered); // which the payslip step reads at its place 0
     /// # Ok::<(), Refusal>(())
     /// ```
     pub fn connect(
@@ -264,20 +302,21 @@ impl Monitor {
     }
 
     /// ```
-    /// use gatekeeper::{Answer, Monitor, Refusal};
+    /// use gatekeeper::{Answer, Label, Monitor, Refusal};
     ///
     /// let mut monitor = Monitor::new();
-    /// monitor.admit(0, 9).granted()?; // the tax step, of level 9
+    /// monitor.admit(0, 9, 3).granted()?; // the tax step, of level 9
     /// assert_eq!(monitor.thread(0, 1), Answer::Allowed(9)); // and a thread of it
-    /// monitor.register(0, 9).granted()?; // the pay book
-    /// monitor.register(1, 2).granted()?; // an hours sheet that nobody has checked
+    /// monitor.register(0, 9, 1).granted()?; // the pay book
+    /// monitor.register(1, 2, 1).granted()?; // an hours sheet that nobody has checked
     /// monitor.open_write(0, 0, 0).granted()?; // the one writes the pay book,
     /// assert_eq!(monitor.open_read(1, 1, 0), Answer::Refused(Refusal::Flow)); // so the other may not have the sheet
     ///
     /// monitor.close(0, 0).granted()?;
     /// monitor.open_read(1, 1, 0).granted()?;
-    /// assert_eq!(monitor.read(1, 0), Answer::Lowered(2));
-    /// assert_eq!(monitor.subject(0), Some(2)); // what one has read, both have read
+    /// assert_eq!(monitor.read(1, 0), Answer::Lowered { level: 2, lost: 1 });
+    /// let label = Label { level: 2, shops: 1 };
+    /// assert_eq!([0, 1].map(|s| monitor.subject(s)), [Some(label); 2]); // what one has read, both have read
     /// # Ok::<(), Refusal>(())
     /// ```
     pub fn thread(&mut self, subject: u64, member: u64) -> Answer {
@@ -304,10 +343,10 @@ impl fmt::Debug for Monitor {
 #[cfg(test)]
 mod tests {
     use super::*;
-    use crate::{Kind, Object, Refusal};
+    use crate::{Kind, Label, Object, Refusal, State};
 
     /// Where the freeze stands in a monitor's bytes.
-    const FREEZE_AT: usize = 1744;
+    const FREEZE_AT: usize = 1840;
 
     /// All bytes but the kept needs.
     fn tables(monitor: &Monitor) -> [&[u8]; 2] {
@@ -332,8 +371,8 @@ mod tests {
     #[test]
     fn every_call_by_name_has_its_effect() {
         let mut monitor = Monitor::new();
-        assert_eq!(monitor.admit(0, 9), Answer::Allowed(9));
-        assert_eq!(monitor.register(1, 2), Answer::Allowed(2));
+        assert_eq!(monitor.admit(0, 9, ALL_SHOPS), Answer::Allowed(9));
+        assert_eq!(monitor.register(1, 2, ALL_SHOPS), Answer::Allowed(2));
         assert_eq!(monitor.create(0, 2), Answer::Allowed(9));
         assert_eq!(monitor.pipe(0, 3, 0, 1), Answer::Allowed(9));
         assert_eq!(monitor.fork(0, 1), Answer::Allowed(9));
@@ -343,9 +382,9 @@ mod tests {
         assert_eq!(monitor.open_read(1, 1, 2), Answer::Refused(Refusal::Flow));
         assert_eq!(monitor.close(0, 2), Answer::Allowed(9));
         assert_eq!(monitor.open_read(1, 1, 2), Answer::Allowed(2));
-        assert_eq!(monitor.read(1, 2), Answer::Lowered(2));
-        assert_eq!(monitor.write(1, 1), Answer::Lowered(2));
-        assert_eq!(monitor.exec(0, 1), Answer::Lowered(2));
+        assert_eq!(monitor.read(1, 2), Answer::Lowered { level: 2, lost: 0 });
+        assert_eq!(monitor.write(1, 1), Answer::Lowered { level: 2, lost: 0 });
+        assert_eq!(monitor.exec(0, 1), Answer::Lowered { level: 2, lost: 0 });
         assert_eq!(monitor.retire(1), Answer::Refused(Refusal::StillOpen));
         assert_eq!(monitor.exit(1), Answer::Allowed(2));
         assert_eq!(monitor.retire(1), Answer::Allowed(2));
@@ -353,15 +392,15 @@ mod tests {
         assert_eq!(monitor.open_write(0, 2, 2), Answer::Refused(Refusal::Flow));
         assert_eq!(monitor.freeze(2), Answer::Allowed(2));
         assert_eq!(monitor.open_write(0, 2, 2), Answer::Refused(Refusal::Frozen));
-        assert_eq!(monitor.register(1, 2), Answer::Allowed(2));
+        assert_eq!(monitor.register(1, 2, ALL_SHOPS), Answer::Allowed(2));
         assert_eq!(monitor.open_write(0, 1, 2), Answer::Refused(Refusal::Frozen));
         assert_eq!((monitor.made(), monitor.gone(), monitor.open()), (6, 4, 2));
         assert_eq!(monitor.mark(0, 0), Answer::Allowed(2));
         assert_eq!(monitor.exec(0, 1), Answer::Allowed(2));
         assert_eq!(monitor.read(0, 0), Answer::Refused(Refusal::PlaceUnfit));
         assert_eq!((monitor.made(), monitor.gone(), monitor.open()), (6, 5, 1));
-        assert_eq!(monitor.admit(1, 9), Answer::Allowed(9));
-        assert_eq!(monitor.map(1, 1, 0), Answer::Lowered(2));
+        assert_eq!(monitor.admit(1, 9, ALL_SHOPS), Answer::Allowed(9));
+        assert_eq!(monitor.map(1, 1, 0), Answer::Lowered { level: 2, lost: 0 });
         assert_eq!(monitor.exec(1, 1), Answer::Allowed(2));
         assert_eq!((monitor.made(), monitor.gone(), monitor.open()), (7, 6, 1));
         assert_eq!(monitor.connect(0, 1, 4, 5, 2, 3), Answer::Allowed(2));
@@ -374,9 +413,9 @@ mod tests {
     /// Subject 0 at level 9; file 0 at level 9, which it has open for writing at place 0; file 1 at level 2.
     fn launcher() -> Monitor {
         let mut monitor = Monitor::new();
-        assert_eq!(monitor.admit(0, 9), Answer::Allowed(9));
-        assert_eq!(monitor.register(0, 9), Answer::Allowed(9));
-        assert_eq!(monitor.register(1, 2), Answer::Allowed(2));
+        assert_eq!(monitor.admit(0, 9, ALL_SHOPS), Answer::Allowed(9));
+        assert_eq!(monitor.register(0, 9, ALL_SHOPS), Answer::Allowed(9));
+        assert_eq!(monitor.register(1, 2, ALL_SHOPS), Answer::Allowed(2));
         assert_eq!(monitor.open_write(0, 0, 0), Answer::Allowed(9));
         monitor
     }
@@ -393,7 +432,7 @@ mod tests {
         assert_eq!(monitor.open_read(0, 1, 1), Answer::Refused(Refusal::Flow));
         assert_eq!((monitor.made(), monitor.gone()), (1, 0));
 
-        assert_eq!(monitor.exec(0, 1), Answer::Lowered(2));
+        assert_eq!(monitor.exec(0, 1), Answer::Lowered { level: 2, lost: 0 });
         assert_eq!((monitor.made(), monitor.gone(), monitor.open()), (1, 1, 0));
         assert_eq!(monitor.write(0, 0), Answer::Refused(Refusal::PlaceUnfit));
         assert_eq!(monitor.retire(0), Answer::Allowed(9));
@@ -417,7 +456,7 @@ mod tests {
 
         assert_eq!(monitor.fork(0, 1), Answer::Allowed(9));
         assert_eq!(monitor.close(1, 15), Answer::Allowed(9));
-        assert_eq!(monitor.exec(1, 1), Answer::Lowered(2));
+        assert_eq!(monitor.exec(1, 1), Answer::Lowered { level: 2, lost: 0 });
         assert_eq!((monitor.made(), monitor.gone(), monitor.open()), (4, 2, 2));
         assert_eq!(monitor.write(0, 0), Answer::Allowed(9));
     }
@@ -429,10 +468,10 @@ mod tests {
         for place in 0..3 {
             assert_eq!(monitor.mark(0, place), Answer::Allowed(9));
         }
-        assert_eq!(monitor.exec(0, 1), Answer::Lowered(2));
+        assert_eq!(monitor.exec(0, 1), Answer::Lowered { level: 2, lost: 0 });
         assert_eq!((monitor.made(), monitor.gone(), monitor.open()), (3, 3, 0));
         assert_eq!(monitor.open_read(0, 2, 0), Answer::Refused(Refusal::NoObject));
-        assert_eq!(monitor.register(2, 2), Answer::Allowed(2));
+        assert_eq!(monitor.register(2, 2, ALL_SHOPS), Answer::Allowed(2));
     }
 
     #[test]
@@ -449,8 +488,8 @@ mod tests {
     #[test]
     fn a_mark_is_a_byte_of_the_handle() {
         let mut monitor = Monitor::new();
-        assert_eq!(monitor.admit(31, 9), Answer::Allowed(9));
-        assert_eq!(monitor.register(63, 9), Answer::Allowed(9));
+        assert_eq!(monitor.admit(31, 9, ALL_SHOPS), Answer::Allowed(9));
+        assert_eq!(monitor.register(63, 9, ALL_SHOPS), Answer::Allowed(9));
         assert_eq!(monitor.open_write(31, 63, 15), Answer::Allowed(9));
         let handle = HANDLES_AT + 3 * (16 * 31 + 15);
         assert_eq!(monitor.as_bytes()[handle..handle + 3], [2, 63, 0]);
@@ -458,11 +497,15 @@ mod tests {
         assert_eq!(monitor.as_bytes()[handle..handle + 3], [2, 63, 1]);
 
         // Any other value of it is none.
-        assert_eq!(monitor.register(0, 2), Answer::Allowed(2));
+        assert_eq!(monitor.register(0, 2, ALL_SHOPS), Answer::Allowed(2));
         for byte in 0..=255 {
             let mut state = *monitor.as_bytes();
             state[handle + 2] = byte;
-            let answer = if byte == 1 { Answer::Lowered(2) } else { Answer::Refused(Refusal::Flow) };
+            let answer = if byte == 1 {
+                Answer::Lowered { level: 2, lost: 0 }
+            } else {
+                Answer::Refused(Refusal::Flow)
+            };
             assert_eq!(Monitor::from_bytes(state).exec(31, 0), answer, "a mark of {byte}");
         }
     }
@@ -470,14 +513,14 @@ mod tests {
     #[test]
     fn a_map_is_a_read_at_that_moment() {
         let mut monitor = Monitor::new();
-        assert_eq!(monitor.register(0, 9), Answer::Allowed(9));
-        assert_eq!(monitor.admit(0, 12), Answer::Allowed(12));
-        assert_eq!(monitor.map(0, 0, 0), Answer::Lowered(9));
+        assert_eq!(monitor.register(0, 9, ALL_SHOPS), Answer::Allowed(9));
+        assert_eq!(monitor.admit(0, 12, ALL_SHOPS), Answer::Allowed(12));
+        assert_eq!(monitor.map(0, 0, 0), Answer::Lowered { level: 9, lost: 0 });
         assert_eq!(monitor.map(0, 0, 1), Answer::Allowed(9));
         assert_eq!((monitor.made(), monitor.gone()), (2, 0));
 
         // The level is the subject's, not the file's.
-        assert_eq!(monitor.admit(1, 2), Answer::Allowed(2));
+        assert_eq!(monitor.admit(1, 2, ALL_SHOPS), Answer::Allowed(2));
         assert_eq!(monitor.map(1, 0, 0), Answer::Allowed(2));
 
         // In all else a mapping is a reading handle.
@@ -512,20 +555,20 @@ mod tests {
         assert_eq!(monitor.freeze(0), Answer::Allowed(0));
         assert_eq!(monitor.map(0, 0, 3), Answer::Allowed(9));
         assert_eq!(monitor.close(0, 0), Answer::Allowed(9));
-        assert_eq!(monitor.map(0, 1, 0), Answer::Lowered(2));
+        assert_eq!(monitor.map(0, 1, 0), Answer::Lowered { level: 2, lost: 0 });
     }
 
     #[test]
     fn who_has_a_file_mapped_reads_it_after_each_write() {
         // Subject 0 writes file 1; subjects 1 and 2 have it mapped, and 3 has it open for reading.
         let mut monitor = Monitor::new();
-        assert_eq!(monitor.register(1, 2), Answer::Allowed(2));
+        assert_eq!(monitor.register(1, 2, ALL_SHOPS), Answer::Allowed(2));
         for subject in 0..4 {
-            assert_eq!(monitor.admit(subject, 9), Answer::Allowed(9));
+            assert_eq!(monitor.admit(subject, 9, ALL_SHOPS), Answer::Allowed(9));
         }
         assert_eq!(monitor.open_write(0, 1, 0), Answer::Allowed(2));
-        assert_eq!(monitor.map(1, 1, 0), Answer::Lowered(2));
-        assert_eq!(monitor.map(2, 1, 0), Answer::Lowered(2));
+        assert_eq!(monitor.map(1, 1, 0), Answer::Lowered { level: 2, lost: 0 });
+        assert_eq!(monitor.map(2, 1, 0), Answer::Lowered { level: 2, lost: 0 });
         assert_eq!(monitor.open_read(3, 1, 0), Answer::Allowed(2));
 
         // They fell when they mapped it, so that the write changes nothing.
@@ -535,28 +578,28 @@ mod tests {
 
         // In bytes that no calls made one of them is higher. It falls, and the answer has the file's level.
         let mut state = *monitor.as_bytes();
-        state[2 * 2 + 1] = 12;
+        state[3 * 2 + 1] = 12;
         let mut monitor = Monitor::from_bytes(state);
-        assert_eq!(monitor.write(0, 0), Answer::Lowered(2));
+        assert_eq!(monitor.write(0, 0), Answer::Lowered { level: 2, lost: 0 });
         assert_eq!(tables(&monitor), tables(&before));
         assert_eq!(monitor.write(0, 0), Answer::Allowed(2));
 
         // The writer is one of them where it has the file mapped.
-        assert_eq!(monitor.map(0, 1, 1), Answer::Lowered(2));
+        assert_eq!(monitor.map(0, 1, 1), Answer::Lowered { level: 2, lost: 0 });
         let before = monitor.clone();
         let mut state = *monitor.as_bytes();
         state[1] = 12;
         let mut monitor = Monitor::from_bytes(state);
-        assert_eq!(monitor.write(0, 0), Answer::Lowered(2));
+        assert_eq!(monitor.write(0, 0), Answer::Lowered { level: 2, lost: 0 });
         assert_eq!(tables(&monitor), tables(&before));
     }
 
     #[test]
     fn mappings_go_with_a_fork_and_end_at_exec() {
         let mut monitor = Monitor::new();
-        assert_eq!(monitor.register(0, 9), Answer::Allowed(9));
-        assert_eq!(monitor.register(1, 2), Answer::Allowed(2));
-        assert_eq!(monitor.admit(0, 9), Answer::Allowed(9));
+        assert_eq!(monitor.register(0, 9, ALL_SHOPS), Answer::Allowed(9));
+        assert_eq!(monitor.register(1, 2, ALL_SHOPS), Answer::Allowed(2));
+        assert_eq!(monitor.admit(0, 9, ALL_SHOPS), Answer::Allowed(9));
         assert_eq!(monitor.map(0, 0, 0), Answer::Allowed(9));
         assert_eq!(monitor.map(0, 0, 1), Answer::Allowed(9));
         assert_eq!(monitor.open_read(0, 0, 2), Answer::Allowed(9));
@@ -571,7 +614,7 @@ mod tests {
         assert_eq!(monitor.fork(0, 1), Answer::Allowed(9));
         assert_eq!(monitor.close(1, 3), Answer::Allowed(9));
         assert_eq!((monitor.made(), monitor.gone()), (8, 1));
-        assert_eq!(monitor.exec(1, 1), Answer::Lowered(2));
+        assert_eq!(monitor.exec(1, 1), Answer::Lowered { level: 2, lost: 0 });
         assert_eq!((monitor.made(), monitor.gone()), (8, 3));
         assert_eq!(monitor.read(1, 0), Answer::Refused(Refusal::PlaceUnfit));
         assert_eq!(monitor.read(1, 1), Answer::Refused(Refusal::PlaceUnfit));
@@ -590,8 +633,8 @@ mod tests {
     #[test]
     fn a_mapping_is_a_first_byte_of_a_handle() {
         let mut monitor = Monitor::new();
-        assert_eq!(monitor.admit(31, 9), Answer::Allowed(9));
-        assert_eq!(monitor.register(63, 9), Answer::Allowed(9));
+        assert_eq!(monitor.admit(31, 9, ALL_SHOPS), Answer::Allowed(9));
+        assert_eq!(monitor.register(63, 9, ALL_SHOPS), Answer::Allowed(9));
         assert_eq!(monitor.map(31, 63, 15), Answer::Allowed(9));
         let handle = HANDLES_AT + 3 * (16 * 31 + 15);
         assert_eq!(monitor.as_bytes()[handle..handle + 3], [3, 63, 0]);
@@ -619,9 +662,9 @@ mod tests {
     #[test]
     fn a_freeze_is_for_opens_of_files_for_writing() {
         let mut monitor = Monitor::new();
-        assert_eq!(monitor.admit(0, 9), Answer::Allowed(9));
-        assert_eq!(monitor.register(0, 9), Answer::Allowed(9));
-        assert_eq!(monitor.register(1, 8), Answer::Allowed(8));
+        assert_eq!(monitor.admit(0, 9, ALL_SHOPS), Answer::Allowed(9));
+        assert_eq!(monitor.register(0, 9, ALL_SHOPS), Answer::Allowed(9));
+        assert_eq!(monitor.register(1, 8, ALL_SHOPS), Answer::Allowed(8));
         assert_eq!(monitor.open_write(0, 0, 0), Answer::Allowed(9));
         assert_eq!(monitor.freeze(9), Answer::Allowed(9));
         assert_eq!(monitor.open_write(0, 0, 1), Answer::Refused(Refusal::Frozen));
@@ -651,8 +694,8 @@ mod tests {
     #[test]
     fn an_open_that_offends_the_freeze_and_the_flow_is_frozen() {
         let mut monitor = Monitor::new();
-        assert_eq!(monitor.admit(0, 8), Answer::Allowed(8));
-        assert_eq!(monitor.register(0, 9), Answer::Allowed(9));
+        assert_eq!(monitor.admit(0, 8, ALL_SHOPS), Answer::Allowed(8));
+        assert_eq!(monitor.register(0, 9, ALL_SHOPS), Answer::Allowed(9));
         for (freeze, refusal) in
             [(9, Refusal::Frozen), (0, Refusal::Frozen), (10, Refusal::Flow), (16, Refusal::Flow)]
         {
@@ -672,9 +715,9 @@ mod tests {
     /// Subjects 0 at level 9 and 1 at level 5; file 0 at level 9; subject 0 has it open for writing at place 2.
     fn station() -> Monitor {
         let mut monitor = Monitor::new();
-        assert_eq!(monitor.admit(0, 9), Answer::Allowed(9));
-        assert_eq!(monitor.admit(1, 5), Answer::Allowed(5));
-        assert_eq!(monitor.register(0, 9), Answer::Allowed(9));
+        assert_eq!(monitor.admit(0, 9, ALL_SHOPS), Answer::Allowed(9));
+        assert_eq!(monitor.admit(1, 5, ALL_SHOPS), Answer::Allowed(5));
+        assert_eq!(monitor.register(0, 9, ALL_SHOPS), Answer::Allowed(9));
         assert_eq!(monitor.open_write(0, 0, 2), Answer::Allowed(9));
         monitor
     }
@@ -688,7 +731,7 @@ mod tests {
 
         // Two pipes, each at the level of the one that writes it, and handles that are not marked.
         let state = monitor.as_bytes();
-        assert_eq!(state[64 + 2 * 62..HANDLES_AT], [2, 9, 2, 5]);
+        assert_eq!(state[OBJECTS_AT + 3 * 62..HANDLES_AT], [2, 9, 255, 2, 5, 255]);
         assert_eq!(state[HANDLES_AT + 3 * 14..][..6], [1, 63, 0, 2, 62, 0]);
         assert_eq!(state[HANDLES_AT + 3 * (16 + 14)..][..6], [1, 62, 0, 2, 63, 0]);
 
@@ -696,18 +739,18 @@ mod tests {
         assert_eq!(monitor.write(0, 15), Answer::Allowed(9));
         assert_eq!(monitor.read(1, 14), Answer::Allowed(5));
         assert_eq!(monitor.write(1, 15), Answer::Allowed(5));
-        assert_eq!(monitor.read(0, 14), Answer::Lowered(5));
-        assert_eq!(monitor.write(0, 15), Answer::Lowered(5));
+        assert_eq!(monitor.read(0, 14), Answer::Lowered { level: 5, lost: 0 });
+        assert_eq!(monitor.write(0, 15), Answer::Lowered { level: 5, lost: 0 });
         assert_eq!(monitor.read(0, 15), Answer::Refused(Refusal::WrongDirection));
         assert_eq!(monitor.write(0, 14), Answer::Refused(Refusal::WrongDirection));
 
         // The answer has the level of the one that asks, the lower one too; a freeze asks nothing of a channel.
-        assert_eq!(monitor.admit(2, 12), Answer::Allowed(12));
+        assert_eq!(monitor.admit(2, 12, ALL_SHOPS), Answer::Allowed(12));
         assert_eq!(monitor.freeze(0), Answer::Allowed(0));
         assert_eq!(monitor.connect(1, 2, 0, 1, 0, 1), Answer::Refused(Refusal::NumberTaken));
         assert_eq!(monitor.connect(1, 2, 1, 2, 0, 1), Answer::Allowed(5));
         assert_eq!(monitor.read(1, 0), Answer::Allowed(5));
-        assert_eq!(monitor.read(2, 0), Answer::Lowered(5));
+        assert_eq!(monitor.read(2, 0), Answer::Lowered { level: 5, lost: 0 });
     }
 
     #[test]
@@ -759,10 +802,10 @@ mod tests {
 
         // Pipe 5 from subject 0 to 1: first its writing end goes, then its reading one. Pipe 6 stays.
         assert_eq!(monitor.close(0, 1), Answer::Allowed(9));
-        assert_eq!(monitor.register(5, 3), Answer::Refused(Refusal::NumberTaken));
+        assert_eq!(monitor.register(5, 3, ALL_SHOPS), Answer::Refused(Refusal::NumberTaken));
         assert_eq!(monitor.read(1, 0), Answer::Allowed(5));
         assert_eq!(monitor.close(1, 0), Answer::Allowed(5));
-        assert_eq!(monitor.register(5, 3), Answer::Allowed(3));
+        assert_eq!(monitor.register(5, 3, ALL_SHOPS), Answer::Allowed(3));
         assert_eq!(monitor.write(1, 1), Answer::Allowed(5));
 
         // A fork's handle holds pipe 6, and an exec closes the one that is marked.
@@ -770,9 +813,9 @@ mod tests {
         assert_eq!(monitor.exit(0), Answer::Allowed(9));
         assert_eq!(monitor.exit(1), Answer::Allowed(5));
         assert_eq!(monitor.mark(2, 0), Answer::Allowed(9));
-        assert_eq!(monitor.read(2, 0), Answer::Lowered(5));
+        assert_eq!(monitor.read(2, 0), Answer::Lowered { level: 5, lost: 0 });
         assert_eq!(monitor.exec(2, 0), Answer::Allowed(5));
-        assert_eq!(monitor.register(6, 3), Answer::Allowed(3));
+        assert_eq!(monitor.register(6, 3, ALL_SHOPS), Answer::Allowed(3));
         assert_eq!((monitor.made(), monitor.gone(), monitor.open()), (6, 6, 0));
     }
 
@@ -789,7 +832,7 @@ mod tests {
         kept[1216] = 5;
         kept[1224] = 2;
 
-        let (things, rest) = kept.split_at(HANDLES_AT);
+        let (things, rest) = kept.split_at(before::HANDLES_AT);
         let (handles, counts) = rest.split_at(2 * 512);
         let mut state = things.to_vec();
         for handle in handles.chunks_exact(2) {
@@ -801,7 +844,8 @@ mod tests {
 
         assert_eq!((monitor.made(), monitor.gone(), monitor.open()), (5, 2, 3));
         assert_eq!(monitor.frozen_from(), None);
-        assert_eq!((monitor.need_of_subject(1), monitor.need_of_object(63)), (Some(9), Some(9)));
+        let label = Some(Label { level: 9, shops: 255 });
+        assert_eq!((monitor.need_of_subject(1), monitor.need_of_object(63)), (label, label));
         assert_eq!(monitor.write(1, 0), Answer::Allowed(9));
         assert_eq!(monitor.exec(1, 2), Answer::Allowed(9));
         assert_eq!(monitor.read(1, 1), Answer::Allowed(9));
@@ -810,66 +854,200 @@ mod tests {
         assert_eq!((monitor.made(), monitor.gone(), monitor.open()), (5, 5, 0));
     }
 
+    /// The bytes that version 7.0.0 kept of such a monitor, whose sets it does not keep, with these kept needs.
+    fn as_version_7_kept(monitor: &Monitor, need: u8) -> Vec<u8> {
+        let state = monitor.as_bytes();
+        let things = state[..HANDLES_AT].chunks_exact(3).flat_map(|thing| [thing[0], thing[1]]);
+        let mut kept: Vec<u8> = things.collect();
+        kept.extend(&state[HANDLES_AT..NEEDS_AT]);
+        kept.extend([need; 96]);
+        kept.extend(&state[NUMBERS_AT..]);
+        kept
+    }
+
     #[test]
     fn kept_bytes_are_taken_up_by_their_length() {
         let mut monitor = station();
         assert_eq!(monitor.pipe(0, 63, 0, 1), Answer::Allowed(9));
         assert_eq!(monitor.mark(0, 2), Answer::Allowed(9));
         assert_eq!(monitor.freeze(12), Answer::Allowed(12));
-        let kept = monitor.as_bytes();
-        assert_eq!(Monitor::from_kept(kept).as_ref(), Some(&monitor));
+        assert_eq!(Monitor::from_kept(monitor.as_bytes()).as_ref(), Some(&monitor));
 
-        // Those of before are the same monitor, and right; and so they are with 96 bytes of any value, put right.
-        let [again, last, whole] =
-            [NEEDS_AT, NUMBERS_AT, GROUPS_AT].map(|len| Monitor::from_kept(&kept[..len]));
-        let (again, last) = (again.expect("bytes of 3.0.0"), last.expect("bytes of 5.0.0"));
-        let whole = whole.expect("bytes of 6.1.0");
-        assert_eq!(tables(&again), tables(&last));
-        assert_eq!(whole.as_bytes()[..GROUPS_AT], kept[..GROUPS_AT]);
-        assert!(whole.as_bytes()[GROUPS_AT..].iter().copied().eq(0..32));
-        for filled in [0, 7, 255] {
-            let mut bytes = *last.as_bytes();
-            bytes[NEEDS_AT..NUMBERS_AT].fill(filled);
-            let mut by_hand = Monitor::from_bytes(bytes);
-            by_hand.put_right();
-            for other in [&again, &last, &whole, &by_hand] {
-                assert_eq!((other.need_of_subject(0), other.need_of_subject(1)), (Some(9), Some(0)));
-                assert_eq!((other.need_of_object(0), other.need_of_object(63)), (Some(9), Some(9)));
-                assert_eq!(other.as_bytes()[..NEEDS_AT], kept[..NEEDS_AT]);
-                assert!(other.objects().eq(monitor.objects()));
-                assert_eq!([0, 1, 2].map(|s| other.group(s)), [Some(0), Some(1), None]);
+        // Those of before are the same monitor, and right, whatever their kept needs were.
+        let least = Some(Label::LEAST);
+        let upper = Some(Label { level: 9, shops: 255 });
+        for need in [0, 7, 255] {
+            let kept = as_version_7_kept(&monitor, need);
+            assert_eq!(kept.len(), before::STATE_BYTES);
+            let lengths = [before::STATE_BYTES, before::GROUPS_AT, before::NUMBERS_AT, before::NEEDS_AT];
+            for len in lengths {
+                let again = Monitor::from_kept(&kept[..len]).expect("bytes of a version before");
+                assert_eq!((again.need_of_subject(0), again.need_of_subject(1)), (upper, least), "{len}");
+                assert_eq!((again.need_of_object(0), again.need_of_object(63)), (upper, upper), "{len}");
+                // Free or not, each subject and slot has all shop marks.
+                let sets = |state: &[u8]| state[..HANDLES_AT].chunks_exact(3).all(|thing| thing[2] == 255);
+                assert!(sets(again.as_bytes()) && !sets(monitor.as_bytes()));
+                assert_eq!(
+                    again.as_bytes()[HANDLES_AT..NEEDS_AT],
+                    monitor.as_bytes()[HANDLES_AT..NEEDS_AT]
+                );
+                assert!(again.objects().eq(monitor.objects()));
+                assert_eq!([0, 1, 2].map(|s| again.subject(s)), [0, 1, 2].map(|s| monitor.subject(s)));
+                assert_eq!([0, 1, 2].map(|s| again.group(s)), [Some(0), Some(1), None]);
+                assert!(State::from(&again).is_sure());
             }
         }
+
+        // Numbers and groups stand as they were.
+        let mut monitor = station();
+        assert_eq!(monitor.register(1 << 40, 3, ALL_SHOPS), Answer::Allowed(3));
+        assert_eq!(monitor.thread(1, 7), Answer::Allowed(5));
+        let again = Monitor::from_kept(&as_version_7_kept(&monitor, 0)).expect("bytes of 7.0.0");
+        assert_eq!(again.as_bytes()[NUMBERS_AT..], monitor.as_bytes()[NUMBERS_AT..]);
+        assert!(again.objects().eq(monitor.objects()));
+        assert_eq!([0, 1, 7].map(|s| again.group(s)), [Some(0), Some(1), Some(1)]);
 
         // Bytes of this version are taken as they are, right or not.
         let wrong = [7; STATE_BYTES];
         assert_eq!(Monitor::from_kept(&wrong), Some(Monitor::from_bytes(wrong)));
 
         let long = [1; STATE_BYTES + 1];
-        for len in [
-            0,
-            1,
-            1232,
-            NEEDS_AT - 1,
-            NEEDS_AT + 1,
-            NUMBERS_AT - 1,
-            NUMBERS_AT + 1,
-            GROUPS_AT - 1,
-            GROUPS_AT + 1,
-        ] {
+        let lengths =
+            [before::NEEDS_AT, before::NUMBERS_AT, before::GROUPS_AT, before::STATE_BYTES, STATE_BYTES];
+        let others = lengths.into_iter().flat_map(|len| [len - 1, len + 1]);
+        for len in others.chain([0, 1, 1232]) {
             assert_eq!(Monitor::from_kept(&long[..len]), None, "{len} bytes");
         }
-        for len in [STATE_BYTES - 1, STATE_BYTES + 1] {
-            assert_eq!(Monitor::from_kept(&long[..len]), None, "{len} bytes");
+    }
+
+    /// Subject 0 of level 9 with the marks of shop groups 0 and 1; file 0 of level 9, for group 0; file 1 of level 9, for
+    /// group 1; file 2 of level 12, for group 0.
+    fn shops() -> Monitor {
+        let mut monitor = Monitor::new();
+        assert_eq!(monitor.admit(0, 9, 0b11), Answer::Allowed(9));
+        assert_eq!(monitor.register(0, 9, 0b01), Answer::Allowed(9));
+        assert_eq!(monitor.register(1, 9, 0b10), Answer::Allowed(9));
+        assert_eq!(monitor.register(2, 12, 0b01), Answer::Allowed(12));
+        monitor
+    }
+
+    #[test]
+    fn a_shop_mark_alone_is_lost() {
+        let mut monitor = shops();
+        assert_eq!(monitor.open_read(0, 2, 0), Answer::Allowed(12));
+        assert_eq!(monitor.open_read(0, 1, 1), Answer::Allowed(9));
+        let label = |level, shops| Some(Label { level, shops });
+        assert_eq!(monitor.subject(0), label(9, 0b11));
+        assert_eq!(monitor.read(0, 0), Answer::Lowered { level: 9, lost: 1 });
+        assert_eq!(monitor.subject(0), label(9, 0b01));
+        assert_eq!(monitor.read(0, 0), Answer::Allowed(9));
+        // What both have is left, which is nothing.
+        assert_eq!(monitor.read(0, 1), Answer::Lowered { level: 9, lost: 1 });
+        assert_eq!(monitor.subject(0), label(9, 0));
+
+        // A pipe loses them at a write, and a child has those of its parent.
+        assert_eq!(monitor.admit(1, 9, ALL_SHOPS), Answer::Allowed(9));
+        assert_eq!(monitor.pipe(1, 5, 0, 1), Answer::Allowed(9));
+        assert_eq!(monitor.open_write(0, 5, 2), Answer::Allowed(9));
+        assert_eq!(monitor.write(0, 2), Answer::Lowered { level: 9, lost: 8 });
+        assert_eq!(monitor.object(5).map(|pipe| pipe.label), label(9, 0));
+        assert_eq!(monitor.fork(1, 2), Answer::Allowed(9));
+        assert_eq!(monitor.subject(2), label(9, 255));
+        assert_eq!(monitor.read(2, 0), Answer::Lowered { level: 9, lost: 8 });
+        assert_eq!((monitor.subject(1), monitor.subject(2)), (label(9, 255), label(9, 0)));
+        // An exec and a map take them, too.
+        assert_eq!(monitor.admit(3, 15, 0b111), Answer::Allowed(15));
+        assert_eq!(monitor.exec(3, 2), Answer::Lowered { level: 12, lost: 2 });
+        assert_eq!(monitor.map(3, 1, 0), Answer::Lowered { level: 9, lost: 1 });
+        assert_eq!(monitor.subject(3), label(9, 0));
+    }
+
+    #[test]
+    fn each_of_two_labels_is_below_the_other() {
+        // File 0 lacks the mark of file 1, and file 1 that of file 0: a step that writes the one may not have the other.
+        for (written, read) in [(0, 1), (1, 0)] {
+            let mut monitor = shops();
+            assert_eq!(monitor.open_write(0, written, 0), Answer::Allowed(9));
+            assert_eq!(monitor.open_read(0, read, 1), Answer::Refused(Refusal::Flow));
+            assert_eq!(monitor.map(0, read, 1), Answer::Refused(Refusal::Flow));
+            assert_eq!(monitor.exec(0, read), Answer::Refused(Refusal::Flow));
+            assert_eq!(monitor.close(0, 0), Answer::Allowed(9));
+            assert_eq!(monitor.exec(0, read), Answer::Lowered { level: 9, lost: 1 });
+            assert_eq!(monitor.open_write(0, written, 0), Answer::Refused(Refusal::Flow));
         }
+        // A higher level is no help against a mark that is lacking, nor all marks against a lower level.
+        let mut monitor = shops();
+        assert_eq!(monitor.admit(1, 15, 0b10), Answer::Allowed(15));
+        assert_eq!(monitor.open_write(1, 0, 0), Answer::Refused(Refusal::Flow));
+        assert_eq!(monitor.admit(2, 8, ALL_SHOPS), Answer::Allowed(8));
+        assert_eq!(monitor.open_write(2, 0, 0), Answer::Refused(Refusal::Flow));
+        // Both files may be written by one that has both marks; its need has both.
+        assert_eq!(monitor.open_write(0, 0, 0), Answer::Allowed(9));
+        assert_eq!(monitor.open_write(0, 1, 1), Answer::Allowed(9));
+        assert_eq!(monitor.need_of_subject(0), Some(Label { level: 9, shops: 0b11 }));
+        assert_eq!(monitor.close(0, 0), Answer::Allowed(9));
+        assert_eq!(monitor.need_of_subject(0), Some(Label { level: 9, shops: 0b10 }));
+    }
+
+    #[test]
+    fn a_set_is_at_most_255() {
+        let mut monitor = shops();
+        let before = monitor.clone();
+        let refused = Answer::Refused(Refusal::LevelTooHigh);
+        for set in [256, 257, 511, 1 << 32, (1 << 32) + 255, u64::MAX] {
+            assert_eq!(monitor.admit(1, 9, set), refused, "{set}");
+            assert_eq!(monitor.register(3, 9, set), refused, "{set}");
+            assert_eq!(monitor.register(3, 16, set), refused, "{set}");
+            // A number that is in use is said first.
+            assert_eq!(monitor.admit(0, 16, set), Answer::Refused(Refusal::NumberTaken), "{set}");
+        }
+        assert_eq!(monitor.admit(1, 16, 0), refused);
+        assert_eq!(monitor, before);
+        for set in [0, 1, 128, 255] {
+            assert_eq!(monitor.admit(1, 9, set), Answer::Allowed(9), "{set}");
+            assert_eq!(monitor.subject(1), Some(Label { level: 9, shops: set as u8 }));
+            assert_eq!(monitor.register(3, 9, set), Answer::Allowed(9), "{set}");
+            assert_eq!(monitor.object(3).map(|file| file.label), monitor.subject(1));
+            monitor = before.clone();
+        }
+    }
+
+    #[test]
+    fn a_freeze_looks_at_levels_only() {
+        let mut monitor = Monitor::new();
+        assert_eq!(monitor.admit(0, 15, ALL_SHOPS), Answer::Allowed(15));
+        assert_eq!(monitor.freeze(9), Answer::Allowed(9));
+        for (file, set) in (0..).zip([0, 1, 254, 255]) {
+            assert_eq!(monitor.register(2 * file, 9, set), Answer::Allowed(9));
+            assert_eq!(monitor.open_write(0, 2 * file, file), Answer::Refused(Refusal::Frozen), "{set}");
+            assert_eq!(monitor.register(2 * file + 1, 8, set), Answer::Allowed(8));
+            assert_eq!(monitor.open_write(0, 2 * file + 1, file), Answer::Allowed(8), "{set}");
+        }
+        // It is said before the flow, which a lacking mark alone offends.
+        assert_eq!(monitor.admit(1, 15, 0), Answer::Allowed(15));
+        assert_eq!(monitor.open_write(1, 2, 0), Answer::Refused(Refusal::Frozen));
+        assert_eq!(monitor.open_write(1, 3, 0), Answer::Refused(Refusal::Flow));
+    }
+
+    #[test]
+    fn a_set_is_a_byte_of_a_thing_and_of_its_need() {
+        let mut monitor = Monitor::new();
+        assert_eq!(monitor.admit(31, 9, 0b1110), Answer::Allowed(9));
+        assert_eq!(monitor.register(63, 7, 0b0110), Answer::Allowed(7));
+        assert_eq!(monitor.open_write(31, 63, 15), Answer::Allowed(7));
+        let state = monitor.as_bytes();
+        assert_eq!(state[3 * 31..OBJECTS_AT], [1, 9, 0b1110]);
+        assert_eq!(state[OBJECTS_AT + 3 * 63..HANDLES_AT], [1, 7, 0b0110]);
+        assert_eq!(state[NEEDS_AT + 2 * 31..][..2], [0b0110, 7]);
+        assert_eq!(state[NUMBERS_AT - 2..NUMBERS_AT], [0b0110, 7]);
     }
 
     #[test]
     fn a_refused_call_changes_no_byte() {
         let mut monitor = Monitor::new();
-        assert_eq!(monitor.admit(0, 9), Answer::Allowed(9));
+        assert_eq!(monitor.admit(0, 9, ALL_SHOPS), Answer::Allowed(9));
         let before = monitor.clone();
-        assert_eq!(monitor.admit(0, 9), Answer::Refused(Refusal::NumberTaken));
+        assert_eq!(monitor.admit(0, 9, ALL_SHOPS), Answer::Refused(Refusal::NumberTaken));
         assert_eq!(monitor.freeze(17), Answer::Refused(Refusal::LevelTooHigh));
         assert_eq!(monitor.mark(0, 0), Answer::Refused(Refusal::PlaceUnfit));
         assert_eq!(monitor.map(0, 0, 0), Answer::Refused(Refusal::NoObject));
@@ -894,7 +1072,7 @@ mod tests {
     #[test]
     fn bytes_are_kept_and_taken_up_again() {
         let mut monitor = Monitor::new();
-        assert_eq!(monitor.admit(0, 9), Answer::Allowed(9));
+        assert_eq!(monitor.admit(0, 9, ALL_SHOPS), Answer::Allowed(9));
         assert_eq!(monitor.pipe(0, 0, 0, 1), Answer::Allowed(9));
         let mut again = Monitor::from_bytes(*monitor.as_bytes());
         assert_eq!(again, monitor);
@@ -906,7 +1084,7 @@ mod tests {
     fn any_bytes_are_a_monitor() {
         let mut monitor = Monitor::from_bytes([0xff; STATE_BYTES]);
         assert_eq!((monitor.made(), monitor.open()), (u64::MAX, 0));
-        assert_eq!(monitor.admit(31, 15), Answer::Allowed(15));
+        assert_eq!(monitor.admit(31, 15, ALL_SHOPS), Answer::Allowed(15));
         assert_eq!(monitor.pipe(31, 63, 0, 15), Answer::Allowed(15));
         assert_eq!((monitor.made(), monitor.open()), (1, 2));
         // A freeze above every level freezes nothing, and stays as it is.
@@ -917,18 +1095,18 @@ mod tests {
         // Nothing is live in bytes that are all 0, and every file is frozen.
         let mut monitor = Monitor::from_bytes([0; STATE_BYTES]);
         assert_eq!(monitor.frozen_from(), Some(0));
-        assert_eq!(monitor.admit(0, 15), Answer::Allowed(15));
-        assert_eq!(monitor.register(0, 0), Answer::Allowed(0));
+        assert_eq!(monitor.admit(0, 15, ALL_SHOPS), Answer::Allowed(15));
+        assert_eq!(monitor.register(0, 0, ALL_SHOPS), Answer::Allowed(0));
         assert_eq!(monitor.open_write(0, 0, 0), Answer::Refused(Refusal::Frozen));
 
         // In bytes that are all 1 every slot has the same number, so that the first alone counts, and no handle is on it.
         let monitor = Monitor::from_bytes([1; STATE_BYTES]);
-        let file = Object { kind: Kind::File, level: 1 };
+        let file = Object { kind: Kind::File, label: Label { level: 1, shops: 1 } };
         assert!(monitor.objects().eq([(0x0101_0101_0101_0101, file)]));
         assert_eq!(monitor.handle(0, 0), None);
 
         // With other numbers every handle is there and marked, but not one that is opened anew.
-        let mut monitor = Monitor::from_kept(&[1; NUMBERS_AT]).expect("bytes of 5.0.0");
+        let mut monitor = Monitor::from_kept(&[1; before::NUMBERS_AT]).expect("bytes of 5.0.0");
         let gone = monitor.gone();
         assert_eq!(monitor.close(0, 5), Answer::Allowed(1));
         assert_eq!(monitor.open_read(0, 2, 5), Answer::Allowed(1));
@@ -940,10 +1118,10 @@ mod tests {
 
         // In bytes that are all 3 every place has a mapping, but its subject and object are not live: it is none.
         let mut monitor = Monitor::from_bytes([3; STATE_BYTES]);
-        assert_eq!(monitor.register(3, 2), Answer::Allowed(2));
-        assert_eq!(monitor.admit(0, 9), Answer::Allowed(9));
+        assert_eq!(monitor.register(3, 2, ALL_SHOPS), Answer::Allowed(2));
+        assert_eq!(monitor.admit(0, 9, ALL_SHOPS), Answer::Allowed(9));
         assert_eq!(monitor.read(0, 0), Answer::Refused(Refusal::PlaceUnfit));
-        assert_eq!(monitor.map(0, 3, 0), Answer::Lowered(2));
+        assert_eq!(monitor.map(0, 3, 0), Answer::Lowered { level: 2, lost: 0 });
         assert_eq!(monitor.open(), 1);
     }
 }

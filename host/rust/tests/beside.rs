@@ -5,13 +5,13 @@
 //! has to tell every wrong variant of the independent program apart.
 
 use std::cell::Cell;
-use std::cmp::Ordering;
 use std::fmt;
 
-use gatekeeper::{Answer, Monitor, Refusal, Way, STATE_BYTES};
+use gatekeeper::{Answer, Monitor, Refusal, Way, ALL_SHOPS, STATE_BYTES};
 use gatekeeper_independent::bite;
 use gatekeeper_independent::calls::{filled, shape_of_code, Numbers, SHAPES};
 use gatekeeper_independent::generate::{self, Wish};
+use gatekeeper_independent::labels::Label;
 use gatekeeper_independent::monitor::{Answer as PlainAnswer, Monitor as PlainMonitor};
 use gatekeeper_independent::needs::{self, Needs, Thing};
 use gatekeeper_independent::random::Random;
@@ -27,13 +27,13 @@ const SEED: u64 = 1;
 
 /// Where the slots, the handles, the tally, the freeze, the kept needs, the numbers and the groups stand in a monitor's
 /// bytes.
-const OBJECTS_AT: usize = 64;
-const HANDLES_AT: usize = 192;
-const MADE_AT: usize = 1728;
-const FREEZE_AT: usize = 1744;
-const NEEDS_AT: usize = 1745;
-const NUMBERS_AT: usize = 1841;
-const GROUPS_AT: usize = 2353;
+const OBJECTS_AT: usize = 96;
+const HANDLES_AT: usize = 288;
+const MADE_AT: usize = 1824;
+const FREEZE_AT: usize = 1840;
+const NEEDS_AT: usize = 1841;
+const NUMBERS_AT: usize = 2033;
+const GROUPS_AT: usize = 2545;
 
 const REGISTER: u64 = 2;
 const OPEN_READ: u64 = 5;
@@ -133,7 +133,7 @@ impl Pair {
             let needs = Needs::of_tables(tables);
             for thing in needs::live_things(tables) {
                 let kept = need_in(self.proved.as_bytes(), thing);
-                alike(("the need of", thing), kept.map(u64::from), Some(needs.of(thing)))?;
+                alike(("the need of", thing), kept, Some(needs.of(thing)))?;
             }
             self.needs = Some(needs);
         }
@@ -152,7 +152,7 @@ impl Pair {
         let far = [64, 1 << 32, u64::MAX];
         alike("the freeze", proved.frozen_from().map(u64::from), tables.frozen_from())?;
         for s in (0..=LIMITS.subjects).chain(far) {
-            alike(("subject", s), proved.subject(s).map(subject_of), tables.subject(s))?;
+            alike(("subject", s), proved.subject(s).map(label_of).map(Subject::new), tables.subject(s))?;
             let group = tables.subject(s).and_then(|_| tables.members(s).next());
             alike(("the group of", s), proved.group(s), group)?;
             if tables.subject(s).is_some() || s % 8 == 0 {
@@ -173,11 +173,11 @@ impl Pair {
         };
         for s in (0..=LIMITS.subjects).chain(far) {
             let need = tables.subject(s).map(|_| needs.of(Thing::Subject(s)));
-            alike(("the need of subject", s), proved.need_of_subject(s).map(u64::from), need)?;
+            alike(("the need of subject", s), proved.need_of_subject(s).map(label_of), need)?;
         }
         for o in objects() {
             let need = tables.object(o).map(|_| needs.of(Thing::Object(o)));
-            alike(("the need of object", o), proved.need_of_object(o).map(u64::from), need)?;
+            alike(("the need of object", o), proved.need_of_object(o).map(label_of), need)?;
         }
         Ok(())
     }
@@ -209,18 +209,19 @@ fn alike<T: fmt::Debug + PartialEq>(what: impl fmt::Debug, proved: T, plain: T) 
 
 /// The kept need of a live thing, by the layout in `host/gatekeeper.h`: that of an object is at the first slot in use
 /// that has its number.
-fn need_in(state: &[u8; STATE_BYTES], thing: Thing) -> Option<u8> {
+fn need_in(state: &[u8; STATE_BYTES], thing: Thing) -> Option<Label> {
     let at = match thing {
         Thing::Subject(s) => usize::try_from(s).ok()?,
         Thing::Object(o) => {
             32 + (0..64).find(|&slot| is_used(state, slot) && number_at(state, slot) == o)?
         }
     };
-    Some(state[NEEDS_AT + at])
+    let [shops, level] = [0, 1].map(|byte| state[NEEDS_AT + 2 * at + byte].into());
+    Some(Label { level, shops })
 }
 
 fn is_used(state: &[u8; STATE_BYTES], slot: usize) -> bool {
-    matches!(state[OBJECTS_AT + 2 * slot], 1 | 2)
+    matches!(state[OBJECTS_AT + 3 * slot], 1 | 2)
 }
 
 fn number_at(state: &[u8; STATE_BYTES], slot: usize) -> u64 {
@@ -238,8 +239,8 @@ fn numbered(mut state: [u8; STATE_BYTES]) -> [u8; STATE_BYTES] {
     state
 }
 
-fn subject_of(level: u8) -> Subject {
-    Subject { level: level.into() }
+fn label_of(label: gatekeeper::Label) -> Label {
+    Label { level: label.level.into(), shops: label.shops.into() }
 }
 
 fn object_of(object: gatekeeper::Object) -> Object {
@@ -247,7 +248,7 @@ fn object_of(object: gatekeeper::Object) -> Object {
         gatekeeper::Kind::File => Kind::File,
         gatekeeper::Kind::Pipe => Kind::Pipe,
     };
-    Object { kind, level: object.level.into() }
+    Object::new(kind, label_of(object.label))
 }
 
 fn handle_of(handle: gatekeeper::Handle) -> Handle {
@@ -264,7 +265,7 @@ fn wrapped(answer: PlainAnswer) -> Answer {
     let refusal = |number| Refusal::from_number(number).expect("a refusal of the rules");
     match answer {
         PlainAnswer::Allowed(level) => Answer::Allowed(level as u8),
-        PlainAnswer::Lowered(level) => Answer::Lowered(level as u8),
+        PlainAnswer::Lowered(level, lost) => Answer::Lowered { level: level as u8, lost: lost as u8 },
         PlainAnswer::Refused(number) => Answer::Refused(refusal(number)),
     }
 }
@@ -273,18 +274,19 @@ fn wrapped(answer: PlainAnswer) -> Answer {
 fn tables_of(state: &[u8; STATE_BYTES]) -> Tables {
     let records = |from: usize, to: usize, bytes: usize| (0u64..).zip(state[from..to].chunks_exact(bytes));
     let mut tables = StoredTables::new();
-    for (s, record) in records(0, OBJECTS_AT, 2) {
-        let subject = Subject { level: record[1].into() };
+    let label = |record: &[u8]| Label { level: record[1].into(), shops: record[2].into() };
+    for (s, record) in records(0, OBJECTS_AT, 3) {
+        let subject = Subject::new(label(record));
         tables.set_subject(s, (record[0] == 1).then_some(subject));
         tables.set_group(s, state[GROUPS_AT + s as usize]);
     }
-    for (slot, record) in records(OBJECTS_AT, HANDLES_AT, 2) {
-        let (number, level) = (number_at(state, slot as usize), record[1].into());
+    for (slot, record) in records(OBJECTS_AT, HANDLES_AT, 3) {
+        let (number, label) = (number_at(state, slot as usize), label(record));
         tables.set_slot(
             slot,
             match record[0] {
-                1 => Some((number, Object { kind: Kind::File, level })),
-                2 => Some((number, Object { kind: Kind::Pipe, level })),
+                1 => Some((number, Object::new(Kind::File, label))),
+                2 => Some((number, Object::new(Kind::Pipe, label))),
                 _ => None,
             },
         );
@@ -323,9 +325,10 @@ fn calls_of(journal: &[u8]) -> Vec<(u64, Numbers)> {
 /// A state of any bytes. In most of them many records mean something: how many handles, how many of these are
 /// marked, and how far levels lie apart, differs from state to state. As many handles are mappings as read and as
 /// write. The freeze is any byte, and often one of the levels; so is the third byte of a handle, and often a mark or
-/// none. The kept needs are any levels. The numbers of the objects are small or far apart, in some states many slots have
-/// the same, and in some nearly every slot is in use. In some there are few groups, in some nearly every subject is by
-/// itself; the levels of a group's members differ.
+/// none. In some states all sets have all shop marks, in some they differ in one group or two, in some they are any. The
+/// kept needs are any labels. The numbers of the objects are small or far apart, in some states many slots have the same,
+/// and in some nearly every slot is in use. In some there are few groups, in some nearly every subject is by itself; the
+/// labels of a group's members differ.
 fn drawn_state(random: &mut Random) -> [u8; STATE_BYTES] {
     let mut state = [0; STATE_BYTES];
     for byte in &mut state {
@@ -335,24 +338,26 @@ fn drawn_state(random: &mut Random) -> [u8; STATE_BYTES] {
         return state;
     }
     let levels = random.pick(&[1, 2, 4, 16, 256]).unwrap_or(16);
+    let differing = random.pick(&[0, 1, 2, 8]).unwrap_or(0);
+    let set = |random: &mut Random| (ALL_SHOPS ^ random.below(1 << differing)) as u8;
     let handles = random.pick(&[4, 8, 40, 200]).unwrap_or(4);
     let marks = random.pick(&[1, 2, 3, 256]).unwrap_or(2);
     let is_full = random.once_in(4);
     let (things, rest) = state.split_at_mut(HANDLES_AT);
-    for (index, record) in things.chunks_exact_mut(2).enumerate() {
+    for (index, record) in things.chunks_exact_mut(3).enumerate() {
         let first = match index {
             0..32 => random.below(3),
             _ if is_full && !random.once_in(60) => 1 + random.below(2),
             _ => random.below(4),
         };
-        record.copy_from_slice(&[first as u8, random.below(levels) as u8]);
+        record.copy_from_slice(&[first as u8, random.below(levels) as u8, set(random)]);
     }
     for record in rest[..MADE_AT - HANDLES_AT].chunks_exact_mut(3) {
         let bytes = [random.below(handles), random.below(68), random.below(marks)];
         record.copy_from_slice(&bytes.map(|byte| byte as u8));
     }
-    for need in &mut rest[NEEDS_AT - HANDLES_AT..NUMBERS_AT - HANDLES_AT] {
-        *need = random.below(levels) as u8;
+    for need in rest[NEEDS_AT - HANDLES_AT..NUMBERS_AT - HANDLES_AT].chunks_exact_mut(2) {
+        need.copy_from_slice(&[set(random), random.below(levels) as u8]);
     }
     let repeats = !is_full && random.once_in(3);
     let numbers = &mut rest[NUMBERS_AT - HANDLES_AT..GROUPS_AT - HANDLES_AT];
@@ -420,6 +425,7 @@ fn drawn_call(random: &mut Random, tables: &Tables) -> (u64, Numbers) {
             *number = match *name {
                 "s" | "c" | "t" => random.pick(&subjects).unwrap_or(0),
                 "o" | "a" | "b" => random.pick(&objects).unwrap_or(0),
+                "set" => random.below(ALL_SHOPS + 3),
                 _ => random.below(18),
             };
         }
@@ -465,8 +471,8 @@ fn is_mapped_file(o: u64, tables: &Tables) -> bool {
 }
 
 /// Which outcomes and refusals were seen, of all calls, of maps, of writes to files that are mapped, of connects and of
-/// threads, how many handles execs closed and how many subjects they ended, how often several subjects fell at once, and
-/// how often needs moved; a comparison that saw few says little.
+/// threads, how many handles execs closed and how many subjects they ended, how often several subjects fell at once, how
+/// often shop marks were lost, and how often needs moved; a comparison that saw few says little.
 #[derive(Default)]
 struct Seen {
     all: Outcomes,
@@ -478,6 +484,9 @@ struct Seen {
     mates_at_exec: usize,
     /// Calls at which more than one subject fell.
     falls_together: usize,
+    /// Calls at which the thing whose level is given lost shop marks, and calls at which something did and no level fell.
+    marks_lost: usize,
+    marks_alone: usize,
     ended_at_exec: u64,
     /// How many of these were mappings.
     unmapped_at_exec: u64,
@@ -522,7 +531,7 @@ impl Outcomes {
     fn count(&mut self, answer: Answer) {
         match answer {
             Answer::Allowed(_) => self.allowed += 1,
-            Answer::Lowered(_) => self.lowered += 1,
+            Answer::Lowered { .. } => self.lowered += 1,
             Answer::Refused(refusal) => self.refused[refusal.number() as usize] += 1,
         }
     }
@@ -555,9 +564,9 @@ impl Seen {
         let to_mapped_file = written.is_some_and(|handle| is_mapped_file(handle.object, before));
         let gone = pair.proved.gone();
         let mates = before.mates(s).count();
-        let levels: Vec<(u64, u64)> =
-            before.live_subjects().filter_map(|s| Some((s, before.subject(s)?.level))).collect();
         let mut things: Vec<Thing> = needs::live_things(before).collect();
+        let labels: Vec<(Thing, Label)> =
+            things.iter().filter_map(|&thing| Some((thing, needs::label(before, thing)?))).collect();
         let needs_before = pair.needs.clone();
 
         let answer = pair.call(code, numbers)?;
@@ -565,10 +574,12 @@ impl Seen {
             .map_err(|difference| format!("after code {code}, numbers {numbers:?}: {difference}"))?;
         self.all.count(answer);
         if let (Some(before), Some(after), Ok(_)) = (needs_before, &pair.needs, answer.granted()) {
-            things.retain(|&thing| needs::level(pair.plain.tables(), thing).is_some());
-            let some = |way| things.iter().any(|&thing| after.of(thing).cmp(&before.of(thing)) == way);
-            self.rising.0[code as usize] += usize::from(some(Ordering::Greater));
-            self.sinking.0[code as usize] += usize::from(some(Ordering::Less));
+            things.retain(|&thing| needs::label(pair.plain.tables(), thing).is_some());
+            let some_rose = |from: &Needs, to: &Needs| {
+                things.iter().any(|&thing| !from.of(thing).is_at_least(to.of(thing)))
+            };
+            self.rising.0[code as usize] += usize::from(some_rose(&before, after));
+            self.sinking.0[code as usize] += usize::from(some_rose(after, &before));
         }
         if code == MAP {
             self.maps.count(answer);
@@ -583,8 +594,15 @@ impl Seen {
             self.threads.count(answer);
         }
         let tables = pair.plain.tables();
-        let fell = |&&(s, level): &&(u64, u64)| tables.subject(s).is_some_and(|now| now.level < level);
-        self.falls_together += usize::from(levels.iter().filter(fell).count() > 1);
+        let now = |&(thing, label): &(Thing, Label)| Some((thing, label, needs::label(tables, thing)?));
+        let fell: Vec<(Thing, Label, Label)> =
+            labels.iter().filter_map(now).filter(|(_, label, now)| !now.is_at_least(*label)).collect();
+        let subjects = fell.iter().filter(|(thing, ..)| matches!(thing, Thing::Subject(_)));
+        self.falls_together += usize::from(subjects.count() > 1);
+        self.marks_lost += usize::from(matches!(answer, Answer::Lowered { lost: 1.., .. }));
+        let by_marks = |(_, label, now): &(Thing, Label, Label)| now.level == label.level;
+        let is_by_marks = !fell.is_empty() && fell.iter().all(by_marks);
+        self.marks_alone += usize::from(matches!(answer, Answer::Lowered { .. }) && is_by_marks);
         if code == EXEC && answer.granted().is_ok() {
             self.mates_at_exec += mates;
             self.ended_at_exec += pair.proved.gone().wrapping_sub(gone);
@@ -616,6 +634,8 @@ impl Seen {
             threads,
             mates_at_exec,
             falls_together,
+            marks_lost,
+            marks_alone,
             ended_at_exec,
             unmapped_at_exec,
             rising,
@@ -631,6 +651,10 @@ impl Seen {
         println!(
             "beside: {what}: {ended_at_exec} handles and {mates_at_exec} mates ended at exec, {unmapped_at_exec} of the \
              handles mappings; at {falls_together} calls several subjects fell"
+        );
+        println!(
+            "beside: {what}: at {marks_lost} calls the thing whose level is given lost shop marks, at {marks_alone} marks \
+             were lost and no level fell"
         );
         println!("beside: {what}: needs rose at calls to {rising}, and sank at calls to {sinking}");
         assert!(all.allowed > calls / 10 && all.lowered > 100, "few calls were not refused");
@@ -652,6 +676,7 @@ impl Seen {
         );
         assert!(*mates_at_exec > 50, "few mates ended at exec");
         assert!(*falls_together > 50, "few calls lowered several subjects");
+        assert!(*marks_lost > 100 && *marks_alone > 50, "few calls took shop marks");
         // Those that answer a direct call.
         for number in (1..=10).chain([15, 16, 17]) {
             let words = refusals::meaning(number as u32);
@@ -723,10 +748,10 @@ fn opens_at_any_level_with_any_freeze_are_answered_alike() {
     let mut frozen = 0;
     for (freeze, level) in (0..=255).flat_map(|freeze| (0..=255u8).map(move |level| (freeze, level))) {
         let mut state = numbered([0; STATE_BYTES]);
-        state[..2].copy_from_slice(&[1, 255]); // subject 0
-        state[2..4].copy_from_slice(&[1, level.saturating_sub(1)]); // subject 1, below the file
-        state[64..66].copy_from_slice(&[1, level]); // file 0
-        state[66..68].copy_from_slice(&[2, level]); // pipe 1
+        let set = level ^ freeze; // of all things: a freeze does not ask for it
+                                  // Subjects 0, and 1 below the file; file 0 and pipe 1.
+        state[..6].copy_from_slice(&[1, 255, set, 1, level.saturating_sub(1), set]);
+        state[OBJECTS_AT..][..6].copy_from_slice(&[1, level, set, 2, level, set]);
         state[FREEZE_AT] = freeze;
         let mut pair = Pair::of_bytes(state);
         let mut open = |subject, object, place| {
@@ -751,10 +776,10 @@ fn execs_with_any_mark_are_answered_alike() {
     let mut closed = 0;
     for (mark, level) in (0..=255).flat_map(|mark| (0..16).map(move |level| (mark, level))) {
         let mut state = numbered([0; STATE_BYTES]);
-        state[..2].copy_from_slice(&[1, 12]); // subject 0
-        state[64..66].copy_from_slice(&[1, 9]); // file 0
-        state[66..68].copy_from_slice(&[1, level]); // file 1, the program
-        state[68..70].copy_from_slice(&[2, 12]); // pipe 2
+        state[..3].copy_from_slice(&[1, 12, 7]); // subject 0
+        state[OBJECTS_AT..][..3].copy_from_slice(&[1, 9, 3]); // file 0
+        state[OBJECTS_AT + 3..][..3].copy_from_slice(&[1, level, 7]); // file 1, the program
+        state[OBJECTS_AT + 6..][..3].copy_from_slice(&[2, 12, 7]); // pipe 2
         state[HANDLES_AT..][..6].copy_from_slice(&[2, 0, mark, 1, 2, 1]); // it writes file 0, and reads the pipe
         state[FREEZE_AT] = 16;
         let mut pair = Pair::of_bytes(state);
@@ -778,8 +803,9 @@ fn handles_with_any_first_byte_are_answered_alike() {
         for kind in [Kind::File, Kind::Pipe] {
             let first = if kind == Kind::File { 1 } else { 2 };
             let mut state = numbered([0; STATE_BYTES]);
-            state[..4].copy_from_slice(&[1, 9, 1, level]); // subjects 0 and 1
-            state[64..68].copy_from_slice(&[first, 9, 1, 15]); // object 0, a file or a pipe; file 1, a program
+            state[..6].copy_from_slice(&[1, 9, 7, 1, level, 7]); // subjects 0 and 1
+                                                                 // Object 0, a file or a pipe; file 1, a program.
+            state[OBJECTS_AT..][..6].copy_from_slice(&[first, 9, 7, 1, 15, 7]);
             state[HANDLES_AT..][..3].copy_from_slice(&[2, 0, 0]); // subject 0 writes object 0
             state[HANDLES_AT + 3 * 16..][..6].copy_from_slice(&[byte, 0, 0, byte, 0, 0]); // subject 1 has it twice
             state[FREEZE_AT] = 16;
@@ -790,7 +816,7 @@ fn handles_with_any_first_byte_are_answered_alike() {
             };
             // The write to a file lowers who has it mapped; one to a pipe is followed by nothing.
             let falls = byte == 3 && level > 9 && kind == Kind::File;
-            let answer = if falls { Answer::Lowered(9) } else { Answer::Allowed(9) };
+            let answer = if falls { Answer::Lowered { level: 9, lost: 0 } } else { Answer::Allowed(9) };
             assert_eq!(call(WRITE, &[0, 0]), answer, "byte {byte}, level {level}, {kind:?}");
             // An exec closes both mappings, a pipe's too, and no other handle.
             let reads = call(READ, &[1, 0]).granted().is_ok();
@@ -835,8 +861,8 @@ fn connects_at_any_levels_are_answered_alike() {
         |case: usize| [case % 16, case / 16 % 16, case / 256 % 16, case / 4096].map(|level| level as u8);
     for [one, other, book, list] in (0..16_usize.pow(4)).map(four) {
         let mut state = numbered([0; STATE_BYTES]);
-        state[..4].copy_from_slice(&[1, one, 1, other]); // subjects 0 and 1
-        state[64..68].copy_from_slice(&[1, book, 1, list]); // files 0 and 1
+        state[..6].copy_from_slice(&[1, one, 255, 1, other, 255]); // subjects 0 and 1
+        state[OBJECTS_AT..][..6].copy_from_slice(&[1, book, 255, 1, list, 255]); // files 0 and 1
         state[HANDLES_AT..][..3].copy_from_slice(&[2, 0, 0]); // subject 0 writes file 0 at its place 0
         state[HANDLES_AT + 3 * 16..][..3].copy_from_slice(&[2, 1, 0]); // subject 1 writes file 1, likewise
         state[FREEZE_AT] = 16;
@@ -853,11 +879,43 @@ fn connects_at_any_levels_are_answered_alike() {
         }
         assert_eq!(answer, Answer::Allowed(one), "{one}, {other}, {book}, {list}");
         // Each pipe is at the level of the one that writes it, and brings the one that reads it down to that.
-        let falls = |from, to| if to < from { Answer::Lowered(to) } else { Answer::Allowed(from) };
+        let falls = |from, to| {
+            if to < from {
+                Answer::Lowered { level: to, lost: 0 }
+            } else {
+                Answer::Allowed(from)
+            }
+        };
         assert_eq!(call(WRITE, &[0, 2]), Answer::Allowed(one));
         assert_eq!(call(WRITE, &[1, 2]), Answer::Allowed(other));
         assert_eq!(call(READ, &[1, 1]), falls(other, one));
         assert_eq!(call(READ, &[0, 1]), falls(one, other));
+    }
+}
+
+#[test]
+fn calls_at_any_two_sets_are_answered_alike() {
+    for (step, file) in (0..=255u8).flat_map(|step| (0..=255u8).map(move |file| (step, file))) {
+        let mut state = numbered([0; STATE_BYTES]);
+        state[..6].copy_from_slice(&[1, 9, step, 1, 9, step]); // subjects 0 and 1
+        state[OBJECTS_AT..][..6].copy_from_slice(&[1, 9, file, 1, 12, file]); // files 0 and 1
+        state[HANDLES_AT..][..3].copy_from_slice(&[1, 0, 0]); // subject 0 reads file 0
+        state[FREEZE_AT] = 16;
+        let mut pair = Pair::of_bytes(state);
+        let mut call = |code, numbers: &[u64]| {
+            let answer = pair.call(code, filled(numbers));
+            answer.unwrap_or_else(|difference| panic!("sets {step:#b} and {file:#b}: {difference}"))
+        };
+        // A fall takes the marks that the file lacks, and no more.
+        let lost = (step & !file).count_ones() as u8;
+        let falls = if lost > 0 { Answer::Lowered { level: 9, lost } } else { Answer::Allowed(9) };
+        assert_eq!(call(READ, &[0, 0]), falls, "sets {step:#b} and {file:#b}");
+        assert_eq!(call(READ, &[0, 0]), Answer::Allowed(9));
+        // The file is written by who has all of its marks; then a program with the same marks may be run.
+        let is_vouched = step | file == step;
+        let expected = if is_vouched { Answer::Allowed(9) } else { Answer::Refused(Refusal::Flow) };
+        assert_eq!(call(OPEN_WRITE, &[1, 0, 0]), expected, "sets {step:#b} and {file:#b}");
+        assert_eq!(call(EXEC, &[1, 1]), falls, "sets {step:#b} and {file:#b}");
     }
 }
 

@@ -5,7 +5,7 @@
 //! little out of theirs.
 
 use gatekeeper::{
-    Answer, Kind, Monitor, Object, Refusal, State, Way, NO_FREEZE, OBJECTS, PLACES, SUBJECTS,
+    Answer, Kind, Monitor, Object, Refusal, State, Way, ALL_SHOPS, NO_FREEZE, OBJECTS, PLACES, SUBJECTS,
 };
 use gatekeeper_independent::calls::{filled, Numbers, SHAPES};
 use gatekeeper_independent::generate::{self, Wish};
@@ -115,6 +115,8 @@ impl Pair {
 struct Seen {
     allowed: usize,
     lowered: usize,
+    /// Those of the lowered at which a shop mark was lost.
+    lost: usize,
     /// By number.
     refused: [usize; 18],
     /// The most handles that were open.
@@ -219,7 +221,10 @@ impl Seen {
         self.quick.call(pair, code, numbers);
         match pair.call(code, numbers) {
             Answer::Allowed(_) => self.allowed += 1,
-            Answer::Lowered(_) => self.lowered += 1,
+            Answer::Lowered { lost, .. } => {
+                self.lowered += 1;
+                self.lost += usize::from(lost > 0);
+            }
             Answer::Refused(refusal) => self.refused[refusal.number() as usize] += 1,
         }
         self.open = self.open.max(pair.state.open());
@@ -232,11 +237,12 @@ impl Seen {
     /// Every refusal that a call can have was met, and enough of the rest.
     fn report(&self, what: &str) {
         let (calls, allowed, lowered, open) = (self.calls(), self.allowed, self.lowered, self.open);
+        let lost = self.lost;
         println!(
-            "beside: {calls} {what} on the struct and on bytes: {allowed} allowed, {lowered} lowered, \
-             at most {open} handles open"
+            "beside: {calls} {what} on the struct and on bytes: {allowed} allowed, {lowered} lowered, {lost} of them with \
+             a shop mark lost, at most {open} handles open"
         );
-        assert!(allowed > calls / 10 && lowered > 100, "few calls were allowed or lowered");
+        assert!(allowed > calls / 10 && lowered > 100 && lost > 50, "few calls were allowed or lowered");
         for number in [1, 2, 3, 4, 5, 6, 7, 8, 9, 10, 15, 16, 17] {
             assert!(self.refused[number] > 0, "no call was refused with {number}");
         }
@@ -302,6 +308,9 @@ fn drawn_call(random: &mut Random, state: &State) -> (u64, Numbers) {
             }
             "level" if code == 16 => random.between(8, NO_FREEZE + 1),
             "level" => random.between(0, 16),
+            // Mostly nearly all shop marks, in places all of them; seldom one too many.
+            "set" if random.once_in(8) => random.between(0, ALL_SHOPS + 1),
+            "set" => ALL_SHOPS - random.pick(&[0, 0, 0, 1, 2, 3]).unwrap_or(0),
             _ => {
                 let names_a_handle = matches!(code, 7 | 8 | 11 | 15);
                 drawn(random, PLACES, |p| names_a_handle == state.handle(subject, p).is_some())

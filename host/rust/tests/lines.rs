@@ -6,11 +6,12 @@
 
 use std::fmt;
 
-use gatekeeper::{Answer, Counts, Handle, Kind, Monitor, Object, Refusal, State, Way};
+use gatekeeper::{Answer, Counts, Handle, Kind, Label, Monitor, Object, Refusal, State, Way};
 use gatekeeper::{PLACES, STATE_BYTES, SUBJECTS};
 use gatekeeper_independent::calls::Numbers;
 use gatekeeper_independent::cases::lines::{LineCase, LINE_CASES};
 use gatekeeper_independent::generate::lines::{trials, Trial};
+use gatekeeper_independent::labels::Label as PlainLabel;
 use gatekeeper_independent::lines::{self, Start, MOST_STAGES};
 use gatekeeper_independent::monitor::{Answer as PlainAnswer, Monitor as PlainMonitor};
 use gatekeeper_independent::needs::{Needs, Thing};
@@ -72,15 +73,15 @@ macro_rules! proved {
 proved!(Monitor);
 proved!(State);
 
-/// All that is shown: the tally, the freeze, each live thing with its level and need, a subject's with its group, and each
+/// All that is shown: the tally, the freeze, each live thing with its label and need, a subject's with its group, and each
 /// handle with its place.
 #[derive(Debug, PartialEq)]
 struct Shown {
     made: u64,
     gone: u64,
     frozen_from: Option<u8>,
-    subjects: Vec<(u64, u8, u8, u64)>,
-    objects: Vec<(u64, Object, u8)>,
+    subjects: Vec<(u64, Label, Label, u64)>,
+    objects: Vec<(u64, Object, Label)>,
     handles: Vec<(u64, u64, Handle)>,
 }
 
@@ -89,10 +90,10 @@ impl Shown {
         let (tables, tally) = (plain.tables(), plain.tally());
         let needs = Needs::of_tables(tables);
         let subject = |s| {
-            let (level, need) = (tables.subject(s)?.level as u8, needs.of(Thing::Subject(s)) as u8);
-            Some((s, level, need, tables.members(s).next()?))
+            let (label, need) = (tables.subject(s)?.label(), needs.of(Thing::Subject(s)));
+            Some((s, label_of(label), label_of(need), tables.members(s).next()?))
         };
-        let object = |o| Some((o, object_of(tables.object(o)?), needs.of(Thing::Object(o)) as u8));
+        let object = |o| Some((o, object_of(tables.object(o)?), label_of(needs.of(Thing::Object(o)))));
         Shown {
             made: tally.made,
             gone: tally.gone,
@@ -104,12 +105,16 @@ impl Shown {
     }
 }
 
+fn label_of(label: PlainLabel) -> Label {
+    Label { level: label.level as u8, shops: label.shops as u8 }
+}
+
 fn object_of(object: tables::Object) -> Object {
     let kind = match object.kind {
         tables::Kind::File => Kind::File,
         tables::Kind::Pipe => Kind::Pipe,
     };
-    Object { kind, level: object.level as u8 }
+    Object { kind, label: label_of(object.label()) }
 }
 
 fn handle_of(handle: tables::Handle) -> Handle {
@@ -209,7 +214,7 @@ type Ran = (Result<Counts, Refusal>, Shown);
 fn count(counts: &mut Counts, answer: Answer) {
     *match answer {
         Answer::Allowed(_) => &mut counts.allowed,
-        Answer::Lowered(_) => &mut counts.lowered,
+        Answer::Lowered { .. } => &mut counts.lowered,
         Answer::Refused(_) => &mut counts.refused,
     } += 1;
 }

@@ -1,8 +1,11 @@
 //! Objects of any number of 64 bits, 64 of them live at a time: each call is made on bytes and on the struct. And what
 //! version 5.0.0 kept, which goes on as before.
 
-use gatekeeper::{Answer, Call, Handle, Kind, Monitor, Object, Refusal, State, Way, NO_FREEZE};
+use gatekeeper::{Answer, Call, Handle, Kind, Label, Monitor, Object, Refusal, State, Way};
+use gatekeeper::{ALL_SHOPS, NO_FREEZE};
 use gatekeeper_independent::random::Random;
+
+mod kept;
 
 /// The first number that needs more than 32 bits.
 const WIDE: u64 = 1 << 32;
@@ -50,22 +53,27 @@ impl Both {
         shown
     }
 
-    fn need_of_object(&self, object: u64) -> Option<u8> {
+    fn need_of_object(&self, object: u64) -> Option<Label> {
         let need = self.monitor.need_of_object(object);
         assert_eq!(self.state.need_of_object(object), need, "the need of object {object}");
         need
     }
 }
 
+/// This level with all shop marks.
+fn label(level: u8) -> Label {
+    Label { level, shops: 255 }
+}
+
 fn register(object: u64) -> Call {
-    Call::Register { object, level: 9 }
+    Call::Register { object, level: 9, shops: ALL_SHOPS }
 }
 
 #[test]
 fn an_object_has_any_number() {
     let mut both = Both::default();
     let numbers = [0, 63, 64, WIDE, u64::MAX];
-    both.allowed(Call::Admit { subject: 0, level: 9 });
+    both.allowed(Call::Admit { subject: 0, level: 9, shops: ALL_SHOPS });
     for (place, object) in (0..).zip(numbers) {
         let open = Call::OpenRead { subject: 0, object, place };
         both.refused(open, Refusal::NoObject);
@@ -74,7 +82,7 @@ fn an_object_has_any_number() {
         both.refused(Call::Create { subject: 0, object }, Refusal::NumberTaken);
         both.allowed(open);
         assert_eq!(both.handle(0, place), Some(Handle { way: Way::Reads, object, marked: false }));
-        assert_eq!(both.object(object), Some(Object { kind: Kind::File, level: 9 }));
+        assert_eq!(both.object(object), Some(Object { kind: Kind::File, label: label(9) }));
     }
     assert_eq!(both.numbers(), numbers);
     both.refused(Call::Retire { object: u64::MAX }, Refusal::StillOpen);
@@ -107,8 +115,8 @@ fn an_object_has_any_number() {
 #[test]
 fn so_many_objects_are_live_at_a_time() {
     let mut both = Both::default();
-    both.allowed(Call::Admit { subject: 0, level: 9 });
-    both.allowed(Call::Admit { subject: 1, level: 5 });
+    both.allowed(Call::Admit { subject: 0, level: 9, shops: ALL_SHOPS });
+    both.allowed(Call::Admit { subject: 1, level: 5, shops: ALL_SHOPS });
     let connect = |subject, to, from, reading| {
         let writing = reading + 1;
         Call::Connect { subject, peer: 1, to, from, reading, writing }
@@ -132,7 +140,7 @@ fn so_many_objects_are_live_at_a_time() {
     both.refused(connect(0, 8, 8, 2), Refusal::NumberTaken);
     both.refused(connect(1, 8, 9, 2), Refusal::SameSubject);
     both.refused(Call::Create { subject: 2, object: 8 }, Refusal::NoSubject);
-    both.refused(Call::Register { object: 8, level: 16 }, full);
+    both.refused(Call::Register { object: 8, level: 16, shops: ALL_SHOPS }, full);
     both.refused(Call::Pipe { subject: 0, object: 8, reads: 16, writes: 16 }, full);
     both.refused(connect(0, 8, 9, 16), full);
 
@@ -153,12 +161,12 @@ fn so_many_objects_are_live_at_a_time() {
 #[test]
 fn what_has_a_range_keeps_it() {
     let mut both = Both::default();
-    both.allowed(Call::Admit { subject: 0, level: 9 });
+    both.allowed(Call::Admit { subject: 0, level: 9, shops: ALL_SHOPS });
     both.allowed(register(0));
     both.allowed(Call::OpenRead { subject: 0, object: 0, place: 0 });
     // Cut to 32 bits, each of these numbers would be one that is there, or fits.
     for far in [WIDE, WIDE << 31] {
-        both.refused(Call::Admit { subject: far + 1, level: 9 }, Refusal::NumberTaken);
+        both.refused(Call::Admit { subject: far + 1, level: 9, shops: ALL_SHOPS }, Refusal::NumberTaken);
         both.refused(Call::Fork { subject: 0, child: far + 1 }, Refusal::NumberTaken);
         both.refused(Call::OpenRead { subject: far, object: 0, place: 1 }, Refusal::NoSubject);
         both.refused(Call::Close { subject: far, place: 0 }, Refusal::NoSubject);
@@ -167,8 +175,11 @@ fn what_has_a_range_keeps_it() {
         both.refused(Call::Close { subject: 0, place: far }, Refusal::PlaceUnfit);
         both.refused(Call::OpenWrite { subject: 0, object: 0, place: far + 1 }, Refusal::PlaceUnfit);
         both.refused(Call::Mark { subject: 0, place: far }, Refusal::PlaceUnfit);
-        both.refused(Call::Admit { subject: 1, level: far + 9 }, Refusal::LevelTooHigh);
-        both.refused(Call::Register { object: 1, level: far + NO_FREEZE }, Refusal::LevelTooHigh);
+        both.refused(Call::Admit { subject: 1, level: far + 9, shops: ALL_SHOPS }, Refusal::LevelTooHigh);
+        both.refused(
+            Call::Register { object: 1, level: far + NO_FREEZE, shops: ALL_SHOPS },
+            Refusal::LevelTooHigh,
+        );
         both.refused(Call::Freeze { level: far + NO_FREEZE }, Refusal::LevelTooHigh);
         both.refused(Call::OpenRead { subject: 0, object: far, place: 1 }, Refusal::NoObject);
         for code in [far + 1, far + 5, far + 11] {
@@ -186,16 +197,17 @@ fn what_has_a_range_keeps_it() {
 #[test]
 fn a_slot_that_is_used_again_has_nothing_of_the_object_before() {
     let mut both = Both::default();
-    both.allowed(Call::Admit { subject: 0, level: 15 });
+    both.allowed(Call::Admit { subject: 0, level: 15, shops: ALL_SHOPS });
     // All slots but one are in use for good.
     for object in 0..63 {
-        both.allowed(Call::Register { object, level: 0 });
+        both.allowed(Call::Register { object, level: 0, shops: ALL_SHOPS });
     }
     both.allowed(register(WIDE));
     let open = |object| Call::OpenWrite { subject: 0, object, place: 0 };
     both.allowed(open(WIDE));
     both.allowed(Call::Mark { subject: 0, place: 0 });
-    assert_eq!((both.need_of_object(WIDE), both.state.need_of_subject(0)), (Some(9), Some(9)));
+    let nine = Some(label(9));
+    assert_eq!((both.need_of_object(WIDE), both.state.need_of_subject(0)), (nine, nine));
     both.allowed(Call::Close { subject: 0, place: 0 });
     both.allowed(Call::Freeze { level: 9 });
     both.refused(open(WIDE), Refusal::Frozen);
@@ -204,17 +216,18 @@ fn a_slot_that_is_used_again_has_nothing_of_the_object_before() {
     // A pipe in its slot: not frozen, with a level and a need of its own, and handles without a mark.
     both.allowed(Call::Pipe { subject: 0, object: u64::MAX, reads: 0, writes: 1 });
     assert_eq!((both.object(WIDE), both.need_of_object(WIDE)), (None, None));
-    assert_eq!(both.object(u64::MAX), Some(Object { kind: Kind::Pipe, level: 15 }));
-    assert_eq!((both.need_of_object(u64::MAX), both.state.need_of_subject(0)), (Some(0), Some(0)));
+    assert_eq!(both.object(u64::MAX), Some(Object { kind: Kind::Pipe, label: label(15) }));
+    let least = Some(Label::LEAST);
+    assert_eq!((both.need_of_object(u64::MAX), both.state.need_of_subject(0)), (least, least));
     assert_eq!(both.handle(0, 0), Some(Handle { way: Way::Reads, object: u64::MAX, marked: false }));
     both.refused(Call::OpenRead { subject: 0, object: WIDE, place: 2 }, Refusal::NoObject);
     both.allowed(Call::OpenWrite { subject: 0, object: u64::MAX, place: 2 });
     both.allowed(Call::Exit { subject: 0 });
 
     // And a file of level 2.
-    both.allowed(Call::Register { object: 63, level: 2 });
-    assert_eq!((both.object(u64::MAX), both.need_of_object(63)), (None, Some(2)));
-    both.allowed(Call::Admit { subject: 0, level: 2 });
+    both.allowed(Call::Register { object: 63, level: 2, shops: ALL_SHOPS });
+    assert_eq!((both.object(u64::MAX), both.need_of_object(63)), (None, Some(label(2))));
+    both.allowed(Call::Admit { subject: 0, level: 2, shops: ALL_SHOPS });
     both.allowed(open(63));
     assert_eq!(both.handle(0, 0), Some(Handle { way: Way::Writes, object: 63, marked: false }));
 }
@@ -225,8 +238,8 @@ fn drawn_call(random: &mut Random) -> Call {
     let [object, from] = [(); 2].map(|()| random.below(64));
     let [place, level] = [random.below(16), random.below(17)];
     match random.below(24) {
-        0 => Call::Admit { subject, level },
-        1..6 => Call::Register { object, level },
+        0 => Call::Admit { subject, level, shops: ALL_SHOPS },
+        1..6 => Call::Register { object, level, shops: ALL_SHOPS },
         6 => Call::Create { subject, object },
         7 | 8 => Call::Pipe { subject, object, reads: place, writes: random.below(16) },
         9 | 10 => Call::OpenRead { subject, object, place },
@@ -272,7 +285,8 @@ fn what_version_5_kept_goes_on_as_before() {
         for turn in 0..300 {
             if turn % 60 == 0 {
                 // Its bytes are those before the numbers.
-                again = Monitor::from_kept(&monitor.as_bytes()[..1841]).expect("bytes of version 5.0.0");
+                let kept = kept::by_version_7(&monitor);
+                again = Monitor::from_kept(&kept[..1841]).expect("bytes of version 5.0.0");
                 state = State::from(&again);
                 assert!(state.is_sure());
                 assert_shown_alike(&monitor, &again);

@@ -1,11 +1,14 @@
 //! Threads of one step: each call is made on bytes and on the struct. Who is in which group is followed here, by what the
 //! calls make and end, and compared after each. And what version 6.1.0 kept, which goes on as before.
 
-use gatekeeper::{Answer, Call, Handle, Monitor, Refusal, State, Way, PLACES, STATE_BYTES, SUBJECTS};
+use gatekeeper::{Answer, Call, Handle, Label, Monitor, Refusal, State, Way};
+use gatekeeper::{ALL_SHOPS, PLACES, STATE_BYTES, SUBJECTS};
 use gatekeeper_independent::random::Random;
 
-/// Where the groups stand in a monitor's bytes; so many bytes version 6.1.0 kept.
-const GROUPS_AT: usize = 2353;
+mod kept;
+
+/// Where the groups stand in a monitor's bytes.
+const GROUPS_AT: usize = 2545;
 
 /// A monitor of bytes, and one that is a struct.
 #[derive(Default)]
@@ -44,7 +47,7 @@ impl Both {
 
     #[track_caller]
     fn lowered(&mut self, call: Call, level: u8) {
-        assert_eq!(self.call(call), Answer::Lowered(level), "{call:?}");
+        assert_eq!(self.call(call), Answer::Lowered { level: level, lost: 0 }, "{call:?}");
     }
 
     #[track_caller]
@@ -53,17 +56,28 @@ impl Both {
     }
 
     #[track_caller]
-    fn levels<const N: usize>(&self, subjects: [u64; N]) -> [Option<u8>; N] {
+    fn labels<const N: usize>(&self, subjects: [u64; N]) -> [Option<Label>; N] {
         let shown = subjects.map(|s| self.monitor.subject(s));
         assert_eq!(subjects.map(|s| self.state.subject(s)), shown);
         shown
     }
 
     #[track_caller]
-    fn needs<const N: usize>(&self, subjects: [u64; N]) -> [Option<u8>; N] {
+    fn levels<const N: usize>(&self, subjects: [u64; N]) -> [Option<u8>; N] {
+        self.labels(subjects).map(level_of)
+    }
+
+    #[track_caller]
+    fn whole_needs<const N: usize>(&self, subjects: [u64; N]) -> [Option<Label>; N] {
         let shown = subjects.map(|s| self.monitor.need_of_subject(s));
         assert_eq!(subjects.map(|s| self.state.need_of_subject(s)), shown);
         shown
+    }
+
+    /// The levels of their needs.
+    #[track_caller]
+    fn needs<const N: usize>(&self, subjects: [u64; N]) -> [Option<u8>; N] {
+        self.whole_needs(subjects).map(level_of)
     }
 
     #[track_caller]
@@ -81,6 +95,10 @@ impl Both {
     }
 }
 
+fn level_of(label: Option<Label>) -> Option<u8> {
+    label.map(|label| label.level)
+}
+
 fn thread(subject: u64, member: u64) -> Call {
     Call::Thread { subject, member }
 }
@@ -93,13 +111,13 @@ fn read(subject: u64, place: u64) -> Call {
 /// and 2 at level 2.
 fn tax() -> Both {
     Both::after(&[
-        Call::Register { object: 0, level: 9 },
-        Call::Register { object: 1, level: 2 },
-        Call::Register { object: 2, level: 2 },
-        Call::Admit { subject: 0, level: 9 },
+        Call::Register { object: 0, level: 9, shops: ALL_SHOPS },
+        Call::Register { object: 1, level: 2, shops: ALL_SHOPS },
+        Call::Register { object: 2, level: 2, shops: ALL_SHOPS },
+        Call::Admit { subject: 0, level: 9, shops: ALL_SHOPS },
         thread(0, 1),
         thread(1, 2),
-        Call::Admit { subject: 3, level: 9 },
+        Call::Admit { subject: 3, level: 9, shops: ALL_SHOPS },
     ])
 }
 
@@ -109,7 +127,7 @@ const SHEET: Call = Call::OpenRead { subject: 2, object: 1, place: 5 };
 #[test]
 fn a_thread_is_a_new_member_without_handles() {
     let mut both = Both::after(&[
-        Call::Admit { subject: 5, level: 9 },
+        Call::Admit { subject: 5, level: 9, shops: ALL_SHOPS },
         Call::Pipe { subject: 5, object: 7, reads: 0, writes: 15 },
         Call::Mark { subject: 5, place: 0 },
     ]);
@@ -156,6 +174,29 @@ fn what_lowers_one_lowers_all() {
     // A thread that is made later starts where the others are, and what comes to them from a pipe comes to it.
     both.allowed(thread(0, 4), 2);
     assert_eq!(both.levels([4]), [Some(2)]);
+}
+
+#[test]
+fn a_shop_mark_that_one_loses_all_lose() {
+    let mut both = Both::after(&[
+        Call::Admit { subject: 0, level: 9, shops: 0b111 },
+        thread(0, 1),
+        Call::Register { object: 0, level: 9, shops: 0b011 },
+        Call::Register { object: 1, level: 9, shops: 0b110 },
+        Call::OpenRead { subject: 1, object: 1, place: 0 },
+    ]);
+    assert_eq!(both.call(read(1, 0)), Answer::Lowered { level: 9, lost: 1 });
+    assert_eq!(both.labels([0, 1]), [Some(Label { level: 9, shops: 0b110 }); 2]);
+    // The mark of group 0 is gone, and with it the way to the book for either.
+    both.refused(Call::OpenWrite { subject: 0, object: 0, place: 5 }, Refusal::Flow);
+    both.allowed(thread(1, 2), 9);
+    assert_eq!(both.labels([2]), [Some(Label { level: 9, shops: 0b110 })]);
+    // What one needs all need.
+    both.allowed(Call::Register { object: 2, level: 3, shops: 0b100 }, 3);
+    both.allowed(Call::OpenWrite { subject: 2, object: 2, place: 0 }, 3);
+    assert_eq!(both.whole_needs([0, 1, 2]), [Some(Label { level: 3, shops: 0b100 }); 3]);
+    both.allowed(Call::Register { object: 3, level: 15, shops: 0b011 }, 15);
+    both.refused(Call::OpenRead { subject: 0, object: 3, place: 0 }, Refusal::Flow);
 }
 
 #[test]
@@ -217,7 +258,7 @@ fn an_exit_ends_one_member() {
     both.allowed(Call::Exit { subject: 1 }, 9);
     both.allowed(read(2, 0), 9);
     // Its number may be another step's, or a thread of the same one again.
-    both.allowed(Call::Admit { subject: 0, level: 5 }, 5);
+    both.allowed(Call::Admit { subject: 0, level: 5, shops: ALL_SHOPS }, 5);
     both.allowed(thread(2, 1), 9);
     assert_eq!(both.groups([0, 1, 2]), [Some(0), Some(1), Some(1)]);
     both.allowed(Call::Exit { subject: 2 }, 9);
@@ -247,7 +288,7 @@ fn an_exec_ends_the_others() {
     both.allowed(Call::Close { subject: 1, place: 3 }, 2);
     both.allowed(Call::Retire { object: 0 }, 9);
     both.allowed(thread(1, 0), 2);
-    both.allowed(Call::Admit { subject: 2, level: 5 }, 5);
+    both.allowed(Call::Admit { subject: 2, level: 5, shops: ALL_SHOPS }, 5);
     assert_eq!(both.groups([0, 1, 2]), [Some(0), Some(0), Some(2)]);
 }
 
@@ -260,7 +301,7 @@ fn a_pipe_ends_with_its_last_handle_at_the_exec_of_a_mate() {
     both.allowed(Call::Exec { subject: 0, object: 0 }, 9);
     assert_eq!((both.monitor.object(8), both.state.object(8)), (None, None));
     assert_eq!(both.counts(), [3, 3, 0]);
-    both.allowed(Call::Register { object: 8, level: 3 }, 3);
+    both.allowed(Call::Register { object: 8, level: 3, shops: ALL_SHOPS }, 3);
 }
 
 #[test]
@@ -279,27 +320,27 @@ fn two_members_may_be_connected() {
 #[test]
 fn members_of_different_levels_have_each_their_own() {
     let mut state = *tax().monitor.as_bytes();
-    state[2 * 1 + 1] = 4; // the level of subject 1
-    state[2 * 2 + 1] = 12;
-    let shown = |monitor: &Monitor| [0, 1, 2, 3].map(|s| monitor.subject(s));
+    state[3 * 1 + 1] = 4; // the level of subject 1
+    state[3 * 2 + 1] = 12;
+    let shown = |monitor: &Monitor| [0, 1, 2, 3].map(|s| level_of(monitor.subject(s)));
     let mut monitor = Monitor::from_bytes(state);
     assert_eq!(shown(&monitor), [Some(9), Some(4), Some(12), Some(9)]);
-    assert_eq!(monitor.register(7, 5), Answer::Allowed(5));
+    assert_eq!(monitor.register(7, 5, ALL_SHOPS), Answer::Allowed(5));
     // Each takes the smaller of its own level and that of the file; the answer has that of the one that reads.
     assert_eq!(monitor.open_read(1, 7, 0), Answer::Allowed(5));
-    assert_eq!(monitor.read(1, 0), Answer::Lowered(4));
+    assert_eq!(monitor.read(1, 0), Answer::Lowered { level: 4, lost: 0 });
     assert_eq!(shown(&monitor), [Some(5), Some(4), Some(5), Some(9)]);
     assert_eq!(monitor.read(1, 0), Answer::Allowed(4));
     assert_eq!(monitor.thread(2, 8), Answer::Allowed(5));
     // Who has the file mapped reads it after a write, and with it its mates.
     let mut monitor = Monitor::from_bytes(state);
-    assert_eq!(monitor.register(7, 5), Answer::Allowed(5));
+    assert_eq!(monitor.register(7, 5, ALL_SHOPS), Answer::Allowed(5));
     assert_eq!(monitor.open_write(3, 7, 0), Answer::Allowed(5));
-    assert_eq!(monitor.map(1, 7, 0), Answer::Lowered(4));
+    assert_eq!(monitor.map(1, 7, 0), Answer::Lowered { level: 4, lost: 0 });
     let mut bytes = *monitor.as_bytes();
     bytes[1] = 9; // the level of subject 0, which has it not mapped
     let mut monitor = Monitor::from_bytes(bytes);
-    assert_eq!(monitor.write(3, 0), Answer::Lowered(5));
+    assert_eq!(monitor.write(3, 0), Answer::Lowered { level: 5, lost: 0 });
     assert_eq!(shown(&monitor), [Some(5), Some(4), Some(5), Some(9)]);
 }
 
@@ -325,7 +366,7 @@ fn any_bytes_are_groups() {
         let mut state = *tax().monitor.as_bytes();
         state[GROUPS_AT + 4..].fill(byte);
         for (mut monitor, call) in [
-            (Monitor::from_bytes(state), Call::Admit { subject: 4, level: 9 }),
+            (Monitor::from_bytes(state), Call::Admit { subject: 4, level: 9, shops: ALL_SHOPS }),
             (Monitor::from_bytes(state), Call::Fork { subject: 1, child: 4 }),
         ] {
             assert_eq!(monitor.call(call), Answer::Allowed(9));
@@ -335,11 +376,11 @@ fn any_bytes_are_groups() {
     // And where all others are there, each with a byte of its own.
     let mut state = [0; STATE_BYTES];
     for s in 0..31 {
-        state[2 * s..][..2].copy_from_slice(&[1, 9]);
+        state[3 * s..][..3].copy_from_slice(&[1, 9, 255]);
         state[GROUPS_AT + s] = s as u8 + u8::from(s >= 7);
     }
     let mut monitor = Monitor::from_bytes(state);
-    assert_eq!(monitor.admit(31, 9), Answer::Allowed(9));
+    assert_eq!(monitor.admit(31, 9, ALL_SHOPS), Answer::Allowed(9));
     assert!((0..SUBJECTS).all(|s| monitor.group(s) == Some(s)));
 }
 
@@ -378,14 +419,16 @@ impl Followed {
     }
 }
 
-/// A call, with threads or without, that is often allowed.
-fn drawn_call(random: &mut Random, has_threads: bool) -> Call {
+/// A call, with threads or without, and with sets that differ or with all shop marks, that is often allowed.
+fn drawn_call(random: &mut Random, has_threads: bool, has_shops: bool) -> Call {
     let [subject, peer, member] = [(); 3].map(|()| random.below(12));
     let [object, from] = [(); 2].map(|()| random.below(20));
     let [place, level] = [random.below(16), random.below(16)];
+    // Many with all shop marks: what version 6.1.0 kept has no other.
+    let shops = if has_shops { ALL_SHOPS - random.below(4) } else { ALL_SHOPS };
     match random.below(if has_threads { 26 } else { 22 }) {
-        0 | 1 => Call::Admit { subject, level },
-        2..5 => Call::Register { object, level },
+        0 | 1 => Call::Admit { subject, level, shops },
+        2..5 => Call::Register { object, level, shops },
         5 => Call::Create { subject, object },
         6 | 7 => Call::Pipe { subject, object, reads: place, writes: random.below(16) },
         8 | 9 => Call::OpenRead { subject, object, place },
@@ -408,29 +451,33 @@ fn drawn_call(random: &mut Random, has_threads: bool) -> Call {
 fn groups_are_those_that_calls_have_made() {
     let mut random = Random::new(1, 8);
     let (mut threads, mut ended, mut shared_falls) = (0, 0, 0);
-    for _ in 0..100 {
+    for list in 0..100 {
+        let has_shops = list % 2 == 0;
         let (mut both, mut followed) = (Both::default(), Followed::default());
         for _ in 0..400 {
-            let call = drawn_call(&mut random, true);
-            let before = both.levels([0, 1, 2, 3, 4, 5, 6, 7, 8, 9, 10, 11]);
+            let call = drawn_call(&mut random, true, has_shops);
+            let before = both.labels([0, 1, 2, 3, 4, 5, 6, 7, 8, 9, 10, 11]);
             let answer = both.call(call);
             if answer.granted().is_err() {
                 continue;
             }
             followed.follow(call);
-            let after = both.levels([0, 1, 2, 3, 4, 5, 6, 7, 8, 9, 10, 11]);
+            let after = both.labels([0, 1, 2, 3, 4, 5, 6, 7, 8, 9, 10, 11]);
             for s in 0..12 {
                 assert_eq!(both.groups([s]), [followed.group(s)], "subject {s} after {call:?}");
             }
-            // The members of a group have one level and one need.
+            // The members of a group have one label and one need.
             for s in 0..12 {
                 if let Some(first) = followed.group(s) {
-                    assert_eq!(both.levels([s]), both.levels([first]), "after {call:?}");
-                    assert_eq!(both.needs([s]), both.needs([first]), "after {call:?}");
+                    assert_eq!(both.labels([s]), both.labels([first]), "after {call:?}");
+                    assert_eq!(both.whole_needs([s]), both.whole_needs([first]), "after {call:?}");
                 }
             }
             let gone = before.iter().zip(after).filter(|(old, new)| old.is_some() && new.is_none()).count();
-            let fell = before.iter().zip(after).filter(|(old, new)| new.is_some() && **old > *new).count();
+            let is_fall = |(old, new): &(&Option<Label>, Option<Label>)| {
+                old.zip(*new).is_some_and(|(old, new)| !new.at_least(old))
+            };
+            let fell = before.iter().zip(after).filter(is_fall).count();
             threads += usize::from(matches!(call, Call::Thread { .. }));
             ended += if matches!(call, Call::Exec { .. }) { gone } else { 0 };
             shared_falls += usize::from(fell > 1);
@@ -447,12 +494,12 @@ fn what_version_6_kept_goes_on_as_before() {
         let (mut monitor, mut again, mut state) = (Monitor::new(), Monitor::new(), State::new());
         for turn in 0..300 {
             if turn % 60 == 0 {
-                again =
-                    Monitor::from_kept(&monitor.as_bytes()[..GROUPS_AT]).expect("bytes of version 6.1.0");
+                let kept = kept::by_version_7(&monitor);
+                again = Monitor::from_kept(&kept[..2353]).expect("bytes of version 6.1.0");
                 state = State::from(&again);
                 assert!(state.is_sure());
             }
-            let call = drawn_call(&mut random, turn % 60 > 30);
+            let call = drawn_call(&mut random, turn % 60 > 30, false);
             let answer = monitor.call(call);
             assert_eq!((again.call(call), state.call(call)), (answer, answer), "{call:?}");
             allowed += usize::from(answer.granted().is_ok());
@@ -463,7 +510,9 @@ fn what_version_6_kept_goes_on_as_before() {
             }
             if turn % 60 == 59 {
                 // Threads end before the bytes are cut: that version had none.
-                (0..12).for_each(|subject| drop(monitor.exit(subject)));
+                for subject in 0..12 {
+                    let _ = monitor.exit(subject);
+                }
             }
         }
     }

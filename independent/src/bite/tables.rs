@@ -1,18 +1,30 @@
 //! The same for variants that answer every journal as the rules do: tables that no calls made, with one call on them.
 //!
-//! From empty tables the members of a group have one level, and a mapper fell when it mapped the file (RULES T38, T48).
-//! Here members have levels of their own, above and below that of a file which some of them have mapped.
+//! From empty tables the members of a group have one label, a mapper fell when it mapped the file, and who writes to the
+//! file has its marks (RULES T38, T48, F8). Here members have labels of their own, above, below and beside that of a file
+//! which some of them have mapped, and its writer lacks a mark.
 
 use crate::calls::{filled, Numbers};
+use crate::labels::Label;
 use crate::monitor::Monitor;
 use crate::tables::{Direction, Handle, Kind, Object, Subject, Tables, LIMITS};
 use crate::variants::Rules;
 
-/// The level of the file.
-const FILE: u64 = 5;
+/// The label of the file.
+const FILE: Label = Label::new(5, 0b0011);
 
-/// The levels that a member may have.
-const LEVELS: [u64; 4] = [2, 4, 5, 9];
+/// The labels that a member may have: with the marks of the file and others, with fewer, with others alone.
+const LABELS: [Label; 6] = [
+    Label::new(2, 0b0011),
+    Label::new(4, 0b0111),
+    Label::new(5, 0b0011),
+    Label::new(9, 0b0011),
+    Label::new(9, 0b1111),
+    Label::new(5, 0b0110),
+];
+
+/// The label of the one who writes to the file, which lacks a mark of it.
+const WRITER: Label = Label::new(9, 0b1101);
 
 /// Who has the file mapped.
 const MAPPERS: [&[u64]; 7] = [&[], &[0], &[1], &[2], &[0, 1], &[1, 2], &[3]];
@@ -37,23 +49,23 @@ pub fn bite(rules: Rules) -> Option<u64> {
 
 /// Each of the tables with each of the calls.
 fn trials() -> impl Iterator<Item = (Tables, u64, Numbers)> {
-    let count = LEVELS.len();
+    let count = LABELS.len();
     (0..count * count * count).flat_map(move |index| {
-        let levels =
-            [index % count, index / count % count, index / count / count].map(|level| LEVELS[level]);
+        let labels =
+            [index % count, index / count % count, index / count / count].map(|label| LABELS[label]);
         MAPPERS.iter().flat_map(move |mappers| {
-            CALLS.iter().map(move |&(code, numbers)| (tables(levels, mappers), code, filled(numbers)))
+            CALLS.iter().map(move |&(code, numbers)| (tables(labels, mappers), code, filled(numbers)))
         })
     })
 }
 
-/// Subjects 0 to 2 of these levels are in one group, 3 and 4 in groups of their own. Subject 1 has the file open for
+/// Subjects 0 to 2 of these labels are in one group, 3 and 4 in groups of their own. Subject 1 has the file open for
 /// reading, and 4 for writing.
-fn tables(levels: [u64; 3], mappers: &[u64]) -> Tables {
+fn tables(labels: [Label; 3], mappers: &[u64]) -> Tables {
     let mut tables = Tables::new(LIMITS);
-    tables.set_object(0, Some(Object { kind: Kind::File, level: FILE }));
-    for (s, level) in (0..).zip(levels.into_iter().chain([9, 9])) {
-        tables.set_subject(s, Some(Subject { level }));
+    tables.set_object(0, Some(Object::new(Kind::File, FILE)));
+    for (s, label) in (0..).zip(labels.into_iter().chain([Label::full(9), WRITER])) {
+        tables.set_subject(s, Some(Subject::new(label)));
     }
     tables.join_groups(0, 1);
     tables.join_groups(0, 2);

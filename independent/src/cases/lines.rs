@@ -59,7 +59,7 @@ const fn start(shell: u64, child: u64, pipe: u64) -> Start {
 }
 
 /// RULES K0, and file 2 at level 9, a program.
-const PROGRAM: &str = "register 0 9; register 1 2; admit 0 9; register 2 9";
+const PROGRAM: &str = "register 0 9 255; register 1 2 255; admit 0 9 255; register 2 9 255";
 
 /// Every case of a line.
 pub const LINE_CASES: &[LineCase] = &[
@@ -91,7 +91,7 @@ pub const LINE_CASES: &[LineCase] = &[
     LineCase {
         name: "line-k7-held",
         what: "K7 with file 0 open for writing by the shell itself, which its children get: 9",
-        before: "register 0 9; register 1 2; admit 0 9; register 2 9; open-write 0 0 9",
+        before: "register 0 9 255; register 1 2 255; admit 0 9 255; register 2 9 255; open-write 0 0 9",
         line: "2 | 2<1",
         start: start(0, 1, 5),
         answers: "pipe 0 5 0 1: A 9; \
@@ -120,7 +120,7 @@ pub const LINE_CASES: &[LineCase] = &[
         before: PROGRAM,
         line: " 1 ; 1 >0 ; 2 >0 ",
         start: start(0, 1, 5),
-        answers: "fork 0 1: A 9; exec 1 1: L 2; exit 1: A 2; \
+        answers: "fork 0 1: A 9; exec 1 1: L 2 0; exit 1: A 2; \
                   fork 0 1: A 9; open-write 1 0 15: A 9; exec 1 1: R 9; exit 1: A 9; \
                   fork 0 1: A 9; open-write 1 0 15: A 9; exec 1 2: A 9; exit 1: A 9; counts 9 1 1",
     },
@@ -142,7 +142,7 @@ pub const LINE_CASES: &[LineCase] = &[
         name: "line-held",
         what: "the shell has a handle at place 0: the pipe is not made, and that handle is closed like an end of it; one \
                at place 14 is in the way of `<`, and stays",
-        before: "register 0 9; register 1 2; admit 0 9; register 2 9; open-read 0 0 0; open-read 0 0 14",
+        before: "register 0 9 255; register 1 2 255; admit 0 9 255; register 2 9 255; open-read 0 0 0; open-read 0 0 14",
         line: "2|2<0",
         start: start(0, 1, 5),
         answers: "pipe 0 5 0 1: R 7; \
@@ -153,7 +153,7 @@ pub const LINE_CASES: &[LineCase] = &[
     LineCase {
         name: "line-child-in-use",
         what: "a child's number that is in use is not forked, but the calls are made by whoever has it, who leaves",
-        before: "register 0 9; register 1 2; admit 0 9; register 2 9; admit 1 2",
+        before: "register 0 9 255; register 1 2 255; admit 0 9 255; register 2 9 255; admit 1 2 255",
         line: "2;2",
         start: start(0, 1, 5),
         answers: "fork 0 1: R 3; exec 1 2: A 2; exit 1: A 2; \
@@ -172,10 +172,10 @@ pub const LINE_CASES: &[LineCase] = &[
         name: "line-mates",
         what: "a mate of the shell has file 0 open for writing: the children have groups of their own, and read and run \
                file 1 all the same",
-        before: "register 0 9; register 1 2; admit 0 9; register 2 9; thread 0 1; open-write 1 0 0",
+        before: "register 0 9 255; register 1 2 255; admit 0 9 255; register 2 9 255; thread 0 1; open-write 1 0 0",
         line: "1<1;2|2<1",
         start: start(0, 2, 5),
-        answers: "fork 0 2: A 9; open-read 2 1 14: A 2; exec 2 1: L 2; exit 2: A 2; \
+        answers: "fork 0 2: A 9; open-read 2 1 14: A 2; exec 2 1: L 2 0; exit 2: A 2; \
                   pipe 0 5 0 1: A 9; \
                   fork 0 2: A 9; close 2 0: A 9; exec 2 2: A 9; \
                   fork 0 3: A 9; close 3 1: A 9; open-read 3 1 14: A 2; exec 3 2: A 9; \
@@ -184,7 +184,7 @@ pub const LINE_CASES: &[LineCase] = &[
     LineCase {
         name: "line-mate-as-child",
         what: "a mate's number for a child: its exec ends the shell, whose pipe ends with it, and the rest has no shell",
-        before: "register 0 9; register 1 2; admit 0 9; register 2 9; thread 0 1",
+        before: "register 0 9 255; register 1 2 255; admit 0 9 255; register 2 9 255; thread 0 1",
         line: "2|2",
         start: start(0, 1, 5),
         answers: "pipe 0 5 0 1: A 9; \
@@ -196,7 +196,7 @@ pub const LINE_CASES: &[LineCase] = &[
         name: "line-wraps",
         what: "after 18446744073709551615 comes 0, for pipes, of which 0 is a file's number, and for children, of which 0 \
                is free",
-        before: "register 0 9; register 1 2; admit 7 9; register 2 9",
+        before: "register 0 9 255; register 1 2 255; admit 7 9 255; register 2 9 255",
         line: "2|2|2",
         start: start(7, 18_446_744_073_709_551_615, 18_446_744_073_709_551_615),
         answers: "pipe 7 18446744073709551615 0 1: A 9; pipe 7 0 2 3: R 3; \
@@ -240,5 +240,16 @@ pub const LINE_CASES: &[LineCase] = &[
         line: "2|2|2|2|2|2|2|2|2;2>1<1",
         start: start(0, 1, 5),
         answers: "refusal 18",
+    },
+    LineCase {
+        name: "line-marks",
+        what: "a program that lacks marks takes them from the child alone, which is lowered at the same level; it is \
+               refused where the child writes to a file that has one of them",
+        before: "register 0 9 3; register 1 9 2; admit 0 9 255",
+        line: "0 > 1; 1 > 0; 1",
+        start: start(0, 1, 5),
+        answers: "fork 0 1: A 9; open-write 1 1 15: A 9; exec 1 0: L 9 6; exit 1: A 9; \
+                  fork 0 1: A 9; open-write 1 0 15: A 9; exec 1 1: R 9; exit 1: A 9; \
+                  fork 0 1: A 9; exec 1 1: L 9 7; exit 1: A 9; counts 8 2 1",
     },
 ];

@@ -26,7 +26,7 @@ impl Draft {
     pub(super) fn pipeline(&mut self, calls: u32) {
         let shell = self.free_subject();
         let top = self.levels.last().copied().unwrap_or(15);
-        self.record(1, &[shell, top]);
+        self.admit(shell, top);
         for _ in 0..self.random.between(2, 6) {
             let numbers = self.numbers_for(2);
             self.record(2, &numbers);
@@ -87,12 +87,12 @@ impl Draft {
         objects.truncate(LIMITS.objects as usize);
         self.random.shuffle(&mut objects);
         for (&file, level) in objects.iter().zip([top, top, low, low]) {
-            self.record(2, &[file, level]);
+            self.register(file, level);
         }
         let low_members = if self.random.once_in(2) { 12 } else { 0 };
         for &s in &members {
             let level = if self.random.once_in(low_members) { low } else { top };
-            self.record(1, &[s, level]);
+            self.admit(s, level);
         }
         let closed = self.random.once_in(2);
         let last = members.len() - 1;
@@ -128,14 +128,14 @@ impl Draft {
         let s = self.live_subject();
         let need = needs.of(Thing::Subject(s));
         let tables = self.picture.tables();
-        let files: Vec<(u64, u64)> = tables
+        let files: Vec<(u64, bool)> = tables
             .live_objects()
             .filter_map(|o| Some((o, tables.object(o)?)))
             .filter(|(_, object)| object.kind == Kind::File)
-            .map(|(o, object)| (o, object.level))
+            .map(|(o, object)| (o, object.label().is_at_least(need)))
             .collect();
-        let above: Vec<u64> = files.iter().filter(|file| file.1 >= need).map(|file| file.0).collect();
-        let below: Vec<u64> = files.iter().filter(|file| file.1 < need).map(|file| file.0).collect();
+        let above: Vec<u64> = files.iter().filter(|file| file.1).map(|file| file.0).collect();
+        let below: Vec<u64> = files.iter().filter(|file| !file.1).map(|file| file.0).collect();
         let p = self.free_place(s);
         let choice = self.random.below(6);
         let from = if choice < 3 { &above } else { &below };
@@ -206,7 +206,7 @@ impl Draft {
         let odd = std::mem::replace(&mut self.odd_numbers, 0);
         let top = self.levels.last().copied().unwrap_or(15);
         let first = self.random.below(LIMITS.subjects);
-        self.record(1, &[first, top]);
+        self.admit(first, top);
         // Places of the first subject: pipes, and files at its level.
         let pipes = self.random.between(0, 7);
         for _ in 0..pipes {
@@ -216,7 +216,7 @@ impl Draft {
         }
         for o in self.free_numbers().into_iter().take(self.space() as usize) {
             let level = if self.random.once_in(3) { self.level() } else { top };
-            self.record(2, &[o, level]);
+            self.register(o, level);
         }
         self.fill_places(first);
         // Now and then every second subject is a thread, which opens for itself.
@@ -230,10 +230,10 @@ impl Draft {
             }
         }
         // One more of each, with numbers in use and with others.
-        self.record(1, &[self.levels.len() as u64, top]);
+        self.admit(self.levels.len() as u64, top);
         self.record(9, &[first, LIMITS.subjects]);
         let (more, in_use) = (self.free_object(), self.live_object(None));
-        self.record(2, &[more, top]);
+        self.register(more, top);
         self.record(4, &[first, in_use, 0, 1]);
         self.odd_numbers = odd;
     }

@@ -157,7 +157,7 @@ impl Draft {
         }
         self.record(17, &tried.numbers());
         match self.random.below(4) {
-            0 => self.record(2, &[a, self.levels[0]]),
+            0 => self.register(a, self.levels[0]),
             1 => self.record(3, &[low, b]),
             2 => self.record(4, &[s, a, p, q]),
             _ => {
@@ -244,6 +244,6 @@ impl Draft {
     fn give_number_again(&mut self, Channel { a, b, .. }: Channel) {
         let o = if self.random.once_in(2) { a } else { b };
         let level = self.level();
-        self.record(2, &[o, level]);
+        self.register(o, level);
     }
 }

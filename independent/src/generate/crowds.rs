@@ -2,6 +2,7 @@
 //! is made by a retire or by the end of a pipe, and used again (RULES R3, R17).
 
 use super::Draft;
+use crate::labels::Label;
 use crate::tables::{Kind, LIMITS};
 
 /// Two steps: the first has a book of its own level open for writing, where the second is lower.
@@ -34,9 +35,9 @@ impl Draft {
     fn crowd(&mut self) -> Crowd {
         let (top, low) = (self.levels[self.levels.len() - 1], self.levels[0]);
         let s = self.free_subject();
-        self.record(1, &[s, top]);
+        self.admit(s, top);
         let t = self.free_subject();
-        self.record(1, &[t, low]);
+        self.admit(t, low);
         if self.random.once_in(2) {
             let book = self.file_at(top);
             let p = self.free_place(s);
@@ -56,7 +57,7 @@ impl Draft {
     fn new_object(&mut self, Crowd { s, t }: Crowd, code: u64) -> Vec<u64> {
         let caller = if self.random.once_in(2) { s } else { t };
         match code {
-            2 => vec![self.free_object(), self.level()],
+            2 => vec![self.free_object(), self.level(), self.fit_set()],
             3 => vec![caller, self.free_object()],
             4 => self.pipe_of(caller),
             _ => {
@@ -102,7 +103,7 @@ impl Draft {
         let in_use = self.live_object(None);
         let missing = self.free_subject();
         let faults: &[(usize, u64)] = match code {
-            2 => &[(0, in_use), (1, LIMITS.levels), (1, 1 << 32)],
+            2 => &[(0, in_use), (1, LIMITS.levels), (1, 1 << 32), (2, LIMITS.sets)],
             3 => &[(0, missing), (1, in_use)],
             4 => &[(0, missing), (1, in_use), (2, LIMITS.places), (3, numbers[2])],
             _ => &[
@@ -144,7 +145,7 @@ impl Draft {
                 self.ask_for_more(crowd);
             } else {
                 let level = self.level();
-                self.record(2, &[gone, level]);
+                self.register(gone, level);
             }
         }
     }
@@ -202,9 +203,10 @@ impl Draft {
     /// The highest of the files, which a step may run as a rule.
     fn program_of(&mut self, s: u64) -> u64 {
         let tables = self.picture.tables();
-        let level = tables.subject(s).map_or(0, |subject| subject.level);
+        let label = tables.subject(s).map_or(Label::LEAST, |subject| subject.label());
         let files = tables.live_objects().filter_map(|o| Some((o, tables.object(o)?)));
-        let fit = files.filter(|(_, object)| object.kind == Kind::File && object.level >= level);
+        let fit =
+            files.filter(|(_, object)| object.kind == Kind::File && object.label().is_at_least(label));
         let fit: Vec<u64> = fit.map(|(o, _)| o).collect();
         self.random.pick(&fit).unwrap_or(0)
     }

@@ -150,8 +150,8 @@ impl Draft {
 
     pub(super) fn numbers_for(&mut self, code: u64) -> Vec<u64> {
         match code {
-            1 => vec![self.free_subject(), self.level()],
-            2 => vec![self.free_object(), self.level()],
+            1 => vec![self.free_subject(), self.level(), self.set()],
+            2 => vec![self.free_object(), self.level(), self.set()],
             3 => vec![self.live_subject(), self.free_object()],
             4 => {
                 let s = self.live_subject();

@@ -41,7 +41,7 @@ impl Draft {
         let s = self.free_subject();
         let top = self.levels.last().copied().unwrap_or(15);
         let level = if self.random.once_in(4) { self.level() } else { top };
-        self.record(1, &[s, level]);
+        self.admit(s, level);
         s
     }
 
@@ -202,7 +202,7 @@ impl Draft {
     fn number_used_again(&mut self, Import { s, sheet, p }: Import) {
         self.record(12, &[s]);
         let level = self.level();
-        self.record(1, &[s, level]);
+        self.admit(s, level);
         self.record(5, &[s, sheet, p]);
         let program = self.file_at(level);
         self.record(10, &[s, program]);

@@ -30,7 +30,7 @@ impl Draft {
         let low = self.levels.first().copied().unwrap_or(0);
         let s = if self.random.once_in(2) { self.live_subject() } else { self.free_subject() };
         if self.picture.tables().subject(s).is_none() {
-            self.record(1, &[s, top]);
+            self.admit(s, top);
         }
         let level = self.picture.tables().subject(s).map_or(top, |subject| subject.level);
         let high = self.file_at(level);
@@ -47,7 +47,7 @@ impl Draft {
         let files: Vec<u64> = tables.live_objects().filter(is_fit).collect();
         self.random.pick(&files).unwrap_or_else(|| {
             let o = self.free_object();
-            self.record(2, &[o, level]);
+            self.register(o, level);
             o
         })
     }
@@ -115,7 +115,7 @@ impl Draft {
                 self.record(10, &[s, low]);
                 self.record(if code == 5 { 7 } else { 8 }, &[s, p]);
             }
-            4 => self.record(2, &[pipe, self.levels[0]]),
+            4 => self.register(pipe, self.levels[0]),
             5 => self.record(15, &[s, p]),
             6 => {
                 // Every handle is marked: nothing is in the way any more.

@@ -134,10 +134,14 @@ impl Draft {
     /// Files of a few levels and a shell; and what may be in a line's way, unless it is tidy.
     fn counting_house(&mut self, is_tidy: bool) -> u64 {
         let top = self.levels[self.levels.len() - 1];
+        // With one set for all, sets are in no line's way.
+        if is_tidy && !self.random.once_in(4) {
+            self.sets = vec![self.all_marks()];
+        }
         for level in self.levels.clone() {
             for _ in 0..self.random.between(1, 2) {
                 let o = self.free_object();
-                self.record(2, &[o, level]);
+                self.register(o, level);
             }
         }
         let shell = match self.random.below(8) {
@@ -147,7 +151,7 @@ impl Draft {
             _ => 0,
         };
         let level = if !is_tidy && self.random.once_in(5) { self.level() } else { top };
-        self.record(1, &[shell, level]);
+        self.admit(shell, level);
         if !is_tidy {
             self.obstacles(shell);
         }
@@ -157,7 +161,7 @@ impl Draft {
     /// Other steps, any calls, handles of the shell, tables without room, a freeze.
     fn obstacles(&mut self, shell: u64) {
         for _ in 0..self.random.pick(&[0, 0, 1, 3]).unwrap_or(0) {
-            let numbers = [self.free_subject(), self.level()];
+            let numbers = self.numbers_for(1);
             self.record(1, &numbers);
         }
         if self.random.once_in(3) {
@@ -174,14 +178,14 @@ impl Draft {
         if self.random.once_in(5) {
             let room = self.random.pick(&[0, 1, 1, 2, 2, 3, 5]).unwrap_or(0);
             while self.space() > room {
-                let numbers = [self.free_object(), self.level()];
+                let numbers = self.numbers_for(2);
                 self.record(2, &numbers);
             }
         }
         if self.random.once_in(10) {
             let room = self.random.below(6);
             while self.free_subjects().len() as u64 > room {
-                let numbers = [self.free_subject(), self.level()];
+                let numbers = self.numbers_for(1);
                 self.record(1, &numbers);
             }
         }

@@ -180,7 +180,7 @@ impl Draft {
         for _ in 0..self.random.between(1, 3) {
             match self.random.below(6) {
                 0 => self.record(8, &[other, w]),
-                1 => self.record(2, &[pipe, self.levels[0]]),
+                1 => self.register(pipe, self.levels[0]),
                 2 => self.record(13, &[book]),
                 3 => self.show(one),
                 _ => self.number_again(one, other),
@@ -283,7 +283,7 @@ impl Draft {
         let maker = if self.random.once_in(3) { self.new_step() } else { s };
         let top = self.levels.last().copied().unwrap_or(15);
         match self.random.below(5) {
-            0 | 1 => self.record(1, &[gone, top]),
+            0 | 1 => self.admit(gone, top),
             2 => self.record(9, &[maker, gone]),
             _ => self.record(18, &[maker, gone]),
         }

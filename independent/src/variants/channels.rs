@@ -4,6 +4,7 @@
 use super::marks::close;
 use super::Variant;
 use crate::calls::Call;
+use crate::labels::Label;
 use crate::monitor::{Answer, Monitor};
 use crate::needs::{Needs, Thing};
 use crate::refusals::Condition;
@@ -17,7 +18,7 @@ pub fn bend_connected(variant: Variant, tables: &Tables, call: Call, needs: &Nee
     let above = |place: u64| place >= tables.limits().places;
     let taken = |holder, place| tables.handle(holder, place).is_some();
     let is_unfit = |o: u64| tables.object(o).is_some();
-    let levels = tables.subject(s).zip(tables.subject(t)).map(|(from, to)| (from.level, to.level));
+    let ends = tables.subject(s).zip(tables.subject(t));
     let short = |tested: &[u64]| {
         needs.unmet(tables).any(|thing| tested.iter().any(|&s| thing == Thing::Subject(s)))
     };
@@ -25,7 +26,7 @@ pub fn bend_connected(variant: Variant, tables: &Tables, call: Call, needs: &Nee
         Variant::ConnectUntested => Some((9, false)),
         Variant::ConnectCallerOnly => Some((9, short(&[s]))),
         Variant::ConnectEndsOnly => Some((9, short(&[s, t]))),
-        Variant::ConnectEqualOnly => levels.filter(|(from, to)| from != to).map(|_| (9, true)),
+        Variant::ConnectEqualOnly => ends.filter(|(from, to)| from != to).map(|_| (9, true)),
         Variant::ConnectToItself => Some((16, false)),
         Variant::PartnerUntested => Some((2, tables.subject(s).is_none())),
         Variant::SamePipeAllowed if a == b => Some((3, is_unfit(a))),
@@ -46,7 +47,7 @@ pub fn bend_connected(variant: Variant, tables: &Tables, call: Call, needs: &Nee
         }
         Variant::FreezeConnects => {
             let freeze = tables.frozen_from()?;
-            levels.filter(|&(from, _)| from >= freeze).map(|_| (15, true))
+            ends.filter(|&(from, _)| from.level >= freeze).map(|_| (15, true))
         }
         _ => None,
     }
@@ -97,20 +98,21 @@ fn bend_connect(variant: Variant, old: &Tables, after: &mut Monitor, call: Call)
     let Call::Connect { s, t, a, b, p, q } = call else {
         return;
     };
-    let level = |s| old.subject(s).map_or(0, |subject| subject.level);
-    let (from, to) = (level(s), level(t));
+    let label = |s| old.subject(s).map_or(Label::LEAST, |subject| subject.label());
+    let (from, to) = (label(s), label(t));
+    let lower = from.fallen_to(to);
     let tables = &mut after.tables;
-    let mut set_levels = |first: u64, second: u64| {
-        for (o, level) in [(a, first), (b, second)] {
-            tables.set_object(o, Some(Object { kind: Kind::Pipe, level }));
+    let mut set_labels = |first: Label, second: Label| {
+        for (o, label) in [(a, first), (b, second)] {
+            tables.set_object(o, Some(Object::new(Kind::Pipe, label)));
         }
     };
     match variant {
-        Variant::ConnectAtCaller => set_levels(from, from),
-        Variant::ConnectAtPartner => set_levels(to, to),
-        Variant::ConnectLevelsSwapped => set_levels(to, from),
-        Variant::ConnectAtLower => set_levels(from.min(to), from.min(to)),
-        Variant::ConnectAtFifteen => set_levels(15, 15),
+        Variant::ConnectAtCaller => set_labels(from, from),
+        Variant::ConnectAtPartner => set_labels(to, to),
+        Variant::ConnectLevelsSwapped => set_labels(to, from),
+        Variant::ConnectAtLower => set_labels(lower, lower),
+        Variant::ConnectAtFifteen => set_labels(Label { level: 15, ..from }, Label { level: 15, ..to }),
         Variant::ConnectPlacesSwapped => {
             swap_places(tables, s, p, q);
             swap_places(tables, t, p, q);
@@ -135,12 +137,12 @@ fn bend_connect(variant: Variant, old: &Tables, after: &mut Monitor, call: Call)
         }
         Variant::ConnectLowers => {
             for end in [s, t] {
-                tables.set_subject(end, Some(Subject { level: from.min(to) }));
+                tables.set_subject(end, Some(Subject::new(lower)));
             }
         }
         Variant::ConnectMakesFiles => {
-            for (o, level) in [(a, from), (b, to)] {
-                tables.set_object(o, Some(Object { kind: Kind::File, level }));
+            for (o, label) in [(a, from), (b, to)] {
+                tables.set_object(o, Some(Object::new(Kind::File, label)));
             }
         }
         Variant::ConnectCountedTwo => after.tally.made = after.tally.made.wrapping_sub(2),
@@ -199,15 +201,15 @@ pub fn bend_connect_answer(variant: Variant, before: &Monitor, call: Call, answe
     match variant {
         Variant::ConnectAnswersPartner => Answer::Allowed(other),
         Variant::ConnectAnswersLower => Answer::Allowed(own.min(other)),
-        Variant::ConnectAsLowered if other < own => Answer::Lowered(own),
+        Variant::ConnectAsLowered if other < own => Answer::Lowered(own, 0),
         _ => answer,
     }
 }
 
-/// A pipe at the level of a subject.
+/// A pipe under the label of a subject.
 fn make_pipe(tables: &mut Tables, s: u64, o: u64) {
-    let level = tables.subject(s).map_or(0, |subject| subject.level);
-    tables.set_object(o, Some(Object { kind: Kind::Pipe, level }));
+    let label = tables.subject(s).map_or(Label::LEAST, |subject| subject.label());
+    tables.set_object(o, Some(Object::new(Kind::Pipe, label)));
 }
 
 fn place_ends(tables: &mut Tables, call: Call, which: impl Fn(Handle) -> bool) {

@@ -5,6 +5,7 @@ use super::marks::close;
 use super::threads::{bend_thread, note_floor};
 use super::Variant;
 use crate::calls::Call;
+use crate::labels::Label;
 use crate::monitor::{Answer, Monitor};
 use crate::tables::{Handle, Kind, Subject, Tables};
 
@@ -71,7 +72,7 @@ fn bend_falls(variant: Variant, before: &Monitor, after: &mut Monitor, call: Cal
         }
         match (variant, object.and_then(|o| old.object(o))) {
             (Variant::MatesTakeLevel, Some(object)) => {
-                after.tables.set_subject(mate, Some(Subject { level: object.level }));
+                after.tables.set_subject(mate, Some(Subject::new(object.label())));
             }
             (Variant::FallEvens, _) => after.tables.set_subject(mate, after.tables.subject(s)),
             _ => {}
@@ -121,12 +122,12 @@ pub fn bend_fall_answer(
     let (old, new) = (&before.tables, &after.tables);
     let fell = |s: u64| old.subject(s) != new.subject(s);
     match (variant, call, answer) {
-        (Variant::MateFallUnsaid, Call::Read { s, .. } | Call::Map { s, .. }, Answer::Lowered(level))
-            if !fell(s) =>
-        {
-            Answer::Allowed(level)
-        }
-        (Variant::RereadOfMateUnsaid, Call::Write { .. }, Answer::Lowered(level)) => {
+        (
+            Variant::MateFallUnsaid,
+            Call::Read { s, .. } | Call::Map { s, .. },
+            Answer::Lowered(level, _),
+        ) if !fell(s) => Answer::Allowed(level),
+        (Variant::RereadOfMateUnsaid, Call::Write { .. }, Answer::Lowered(level, _)) => {
             let mappers = mappers_at(old, call);
             let is_said = mappers.is_empty() || mappers.into_iter().any(fell);
             if is_said {
@@ -139,7 +140,7 @@ pub fn bend_fall_answer(
             let lowest = new.members(s).filter_map(|t| new.subject(t)).map(|subject| subject.level).min();
             match (answer, lowest) {
                 (Answer::Allowed(_), Some(lowest)) => Answer::Allowed(lowest),
-                (Answer::Lowered(_), Some(lowest)) => Answer::Lowered(lowest),
+                (Answer::Lowered(_, lost), Some(lowest)) => Answer::Lowered(lowest, lost),
                 _ => answer,
             }
         }
@@ -247,7 +248,10 @@ fn bend_exit(variant: Variant, before: &Monitor, after: &mut Monitor, call: Call
         Variant::FirstExitEndsGroup if is_first => each(after, Monitor::end_subject),
         Variant::LowestExitEndsGroup if is_lowest => each(after, Monitor::end_subject),
         Variant::FirstExitLevel0 if is_first => {
-            each(after, |after, mate| after.tables.set_subject(mate, Some(Subject { level: 0 })));
+            each(after, |after, mate| {
+                let lowest = after.tables.subject(mate).map(|subject| Subject { level: 0, ..subject });
+                after.tables.set_subject(mate, lowest);
+            });
         }
         Variant::FirstExitSplits if is_first => each(after, |after, mate| after.tables.leave_group(mate)),
         Variant::LowestExitSplits if is_lowest => each(after, |after, mate| after.tables.leave_group(mate)),
@@ -282,9 +286,9 @@ fn bend_numbers_again(variant: Variant, before: &Monitor, after: &mut Monitor, c
 /// the caller.
 fn revive(before: &Monitor, after: &mut Monitor, s: u64, which: impl Fn(u64) -> bool) {
     let old = &before.tables;
-    let level = after.tables.subject(s).map_or(0, |subject| subject.level);
+    let label = after.tables.subject(s).map_or(Label::LEAST, |subject| subject.label());
     for mate in old.mates(s).filter(|&mate| which(mate)) {
-        let fallen = old.subject(mate).map(|subject| Subject { level: subject.level.min(level) });
+        let fallen = old.subject(mate).map(|subject| Subject::new(subject.label().fallen_to(label)));
         after.tables.set_subject(mate, fallen);
         after.tables.join_groups(s, mate);
         for (p, handle) in old.handles_of(mate) {

@@ -96,6 +96,8 @@ variants! {
     OneCount "one-count" "each of the three counts is that of all calls";
     LoweredWithAllowed "lowered-with-allowed" "counts lowered calls as allowed";
     LoweredTwice "lowered-twice" "counts lowered calls as allowed, too";
+    LostWithAllowed "lost-with-allowed" "counts lowered calls that took marks away as allowed";
+    MarksCounted "marks-counted" "counts the marks lost, not the lowered calls";
     RefusedUncounted "refused-uncounted" "does not count refused calls";
     CountsSwapped "counts-swapped" "gives the lowered ones before the allowed ones";
     LastPipelineCounted "last-pipeline-counted" "counts the calls of the last pipeline only";
@@ -270,6 +272,14 @@ impl LineRules {
                 Counts { allowed: allowed + lowered, lowered: 0, refused }
             }
             Some(LineVariant::LoweredTwice) => Counts { allowed: allowed + lowered, lowered, refused },
+            Some(LineVariant::LostWithAllowed) => {
+                let took = made.iter().filter(|call| call.answer.marks_lost() > Some(0)).count() as u64;
+                Counts { allowed: allowed + took, lowered: lowered - took, refused }
+            }
+            Some(LineVariant::MarksCounted) => {
+                let lost = made.iter().filter_map(|call| call.answer.marks_lost()).sum();
+                Counts { lowered: lost, ..counts }
+            }
             Some(LineVariant::RefusedUncounted) => Counts { refused: 0, ..counts },
             Some(LineVariant::CountsSwapped) => Counts { allowed: lowered, lowered: allowed, refused },
             Some(LineVariant::LastPipelineCounted) => {

@@ -4,6 +4,7 @@
 use super::marks::{close, reopen};
 use super::{Rules, Variant};
 use crate::calls::Call;
+use crate::labels::Label;
 use crate::monitor::{Answer, Monitor};
 use crate::needs::{Flow, Needs, Thing};
 use crate::refusals::{sought_flow, Condition};
@@ -57,8 +58,8 @@ pub fn bend_mapped(variant: Variant, tables: &Tables, call: Call, needs: &Needs)
 pub fn bend_refused_map(variant: Variant, after: &mut Monitor, call: Call, number: u32) {
     match (variant, call, number) {
         (Variant::RefusedMapLowers, Call::Map { s, o, .. }, 9) => {
-            let level = after.tables.object(o).map_or(0, |object| object.level);
-            lower(&mut after.tables, s, level);
+            let label = after.tables.object(o).map_or(Label::LEAST, |object| object.label());
+            lower(&mut after.tables, s, label);
         }
         (Variant::RefusedMapCounted, Call::Map { .. }, _) => after.tally.count_made(1),
         (Variant::RefusedExecClosesMapped, Call::Exec { s, .. }, 9) => close_mappings(after, s),
@@ -77,8 +78,7 @@ pub fn bend_maps(variant: Variant, before: &Monitor, after: &mut Monitor, call: 
     match (variant, call) {
         (Variant::MapKeepsLevel, Call::Map { s, .. }) => tables.set_subject(s, old.subject(s)),
         (Variant::MapTakesLevel, Call::Map { s, o, .. }) => {
-            let level = old.object(o).map_or(0, |object| object.level);
-            tables.set_subject(s, Some(Subject { level }));
+            tables.set_subject(s, old.object(o).map(|object| Subject::new(object.label())));
         }
         (Variant::MapPlacesNone, Call::Map { s, p, .. }) => {
             tables.set_handle(s, p, None);
@@ -137,15 +137,15 @@ fn bend_rereads(variant: Variant, old: &Tables, after: &mut Monitor, call: Call)
     let Call::Write { s, p } = call else {
         return;
     };
-    let Some((o, level)) = written_file(old, s, p) else {
+    let Some((o, label)) = written_file(old, s, p) else {
         return;
     };
     match variant {
         Variant::WriteUnmaps => close_mappings_of(after, Some(o), |_| true),
-        Variant::WriteLowersWriter if old.mappers(o).next().is_some() => lower(&mut after.tables, s, level),
+        Variant::WriteLowersWriter if old.mappers(o).next().is_some() => lower(&mut after.tables, s, label),
         Variant::WriteLowersReaders => {
             for (reader, _, _) in old.handles().filter(|&(_, _, held)| held.object == o && reads(held)) {
-                lower(&mut after.tables, reader, level);
+                lower(&mut after.tables, reader, label);
             }
         }
         Variant::RereadCounted => after.tally.count_made(old.mappers(o).count() as u64),
@@ -210,17 +210,19 @@ pub fn bend_mapped_answer(variant: Variant, before: &Monitor, call: Call, answer
         (Variant::MapAnswersFile, Call::Map { o, .. }, Answer::Allowed(_)) => {
             Answer::Allowed(object_level(o))
         }
-        (Variant::MapAnswersOld, Call::Map { s, .. }, Answer::Lowered(_)) => {
-            Answer::Lowered(subject_level(s))
+        (Variant::MapAnswersOld, Call::Map { s, .. }, Answer::Lowered(_, lost)) => {
+            Answer::Lowered(subject_level(s), lost)
         }
-        (Variant::MapLoweredAsAllowed, Call::Map { .. }, Answer::Lowered(level)) => Answer::Allowed(level),
+        (Variant::MapLoweredAsAllowed, Call::Map { .. }, Answer::Lowered(level, _)) => {
+            Answer::Allowed(level)
+        }
         (Variant::MapEqualAsLowered, Call::Map { o, .. }, Answer::Allowed(level))
             if level == object_level(o) =>
         {
-            Answer::Lowered(level)
+            Answer::Lowered(level, 0)
         }
         (Variant::RereadAsLowered, Call::Write { s, p }, Answer::Allowed(level)) => {
-            mapper(s, p).map_or(answer, |_| Answer::Lowered(level))
+            mapper(s, p).map_or(answer, |_| Answer::Lowered(level, 0))
         }
         (Variant::RereadAnswersMapper, Call::Write { s, p }, Answer::Allowed(_)) => {
             mapper(s, p).map_or(answer, |last| Answer::Allowed(subject_level(last)))
@@ -246,15 +248,15 @@ fn mapped_places(tables: &Tables, s: u64) -> Vec<u64> {
     tables.handles_of(s).filter(|(_, handle)| handle.mapped).map(|(p, _)| p).collect()
 }
 
-/// The file that a write at this place is to, with its level.
-fn written_file(tables: &Tables, s: u64, p: u64) -> Option<(u64, u64)> {
+/// The file that a write at this place is to, with its label.
+fn written_file(tables: &Tables, s: u64, p: u64) -> Option<(u64, Label)> {
     let handle = tables.handle(s, p).filter(|&handle| !reads(handle))?;
     let file = tables.object(handle.object).filter(|object| object.kind == Kind::File)?;
-    Some((handle.object, file.level))
+    Some((handle.object, file.label()))
 }
 
-fn lower(tables: &mut Tables, s: u64, level: u64) {
-    let lowered = tables.subject(s).map(|subject| Subject { level: subject.level.min(level) });
+fn lower(tables: &mut Tables, s: u64, label: Label) {
+    let lowered = tables.subject(s).map(|subject| Subject::new(subject.label().fallen_to(label)));
     tables.set_subject(s, lowered);
 }
 

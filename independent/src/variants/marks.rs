@@ -108,7 +108,7 @@ pub fn bend_marks(variant: Variant, before: &Monitor, after: &mut Monitor, call:
         (Variant::MarkLowers, Call::Mark { s, p }) => {
             let object = old.handle(s, p).and_then(|handle| old.object(handle.object));
             if let (Some(subject), Some(object)) = (old.subject(s), object) {
-                tables.set_subject(s, Some(Subject { level: subject.level.min(object.level) }));
+                tables.set_subject(s, Some(Subject::new(subject.label().fallen_to(object.label()))));
             }
         }
         (Variant::MarkCloses, Call::Mark { s, p }) => close(after, s, &[p]),
@@ -209,7 +209,7 @@ pub fn bend_marked_answer(variant: Variant, before: &Monitor, call: Call, answer
         (Variant::MarkAnswersPlace, Call::Mark { p, .. }, Answer::Allowed(_)) => Answer::Allowed(p),
         (Variant::ClosingAsLowered, Call::Exec { s, .. }, Answer::Allowed(level)) => {
             match old.places_ending_at_exec(s).next() {
-                Some(_) => Answer::Lowered(level),
+                Some(_) => Answer::Lowered(level, 0),
                 None => answer,
             }
         }

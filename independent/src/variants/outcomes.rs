@@ -2,6 +2,7 @@
 
 use super::channels::{bend_channels, bend_connect_answer, bend_refused_connect};
 use super::groups::{bend_groups, bend_mates_of_refused};
+use super::labels::bend_labels;
 use super::maps::{bend_map_counts, bend_mapped_answer, bend_maps, bend_refused_map};
 use super::marks::{bend_counts, bend_marked_answer, bend_marks, bend_refused_exec};
 use super::Variant;
@@ -27,8 +28,8 @@ pub fn bend_refused(variant: Variant, after: &mut Monitor, call: Call, number: u
         (Variant::RefusedFreezeLifts, Call::Freeze { .. }) => after.tables.set_freeze(NO_FREEZE),
         (Variant::RefusedFreezeSets, Call::Freeze { .. }) => after.tables.set_freeze(15),
         (Variant::RefusedExecLowers, Call::Exec { s, o }) if number == 9 => {
-            let level = after.tables.object(o).map(|object| object.level);
-            after.tables.set_subject(s, level.map(|level| Subject { level }));
+            let label = after.tables.object(o).map(|object| object.label());
+            after.tables.set_subject(s, label.map(Subject::new));
         }
         (Variant::RefusedCounted, Call::OpenRead { .. } | Call::OpenWrite { .. }) => {
             after.tally.count_made(1);
@@ -55,6 +56,7 @@ pub fn bend_effect(variant: Variant, before: &Monitor, after: &mut Monitor, call
     bend_map_counts(variant, before, after, call);
     bend_channels(variant, before, after, call);
     bend_groups(variant, before, after, call);
+    bend_labels(variant, before, after, call);
     let made = after.tally.made.wrapping_sub(before.tally.made);
     let gone = after.tally.gone.wrapping_sub(before.tally.gone);
     let old = &before.tables;
@@ -66,22 +68,22 @@ pub fn bend_effect(variant: Variant, before: &Monitor, after: &mut Monitor, call
     match (variant, call) {
         (Variant::LowerAtOpen, Call::OpenRead { s, o, .. }) => {
             if let (Some(subject), Some(object)) = (old.subject(s), old.object(o)) {
-                let level = subject.level.min(object.level);
-                tables.set_subject(s, Some(Subject { level }));
+                let label = subject.label().fallen_to(object.label());
+                tables.set_subject(s, Some(Subject::new(label)));
             }
         }
         (Variant::LowerPipeAtOpen, Call::OpenWrite { s, o, .. }) => {
             if let (Some(subject), Some(object)) = (old.subject(s), old.object(o)) {
                 if object.kind == Kind::Pipe {
-                    let level = subject.level.min(object.level);
-                    tables.set_object(o, Some(Object { level, ..object }));
+                    let label = subject.label().fallen_to(object.label());
+                    tables.set_object(o, Some(Object::new(Kind::Pipe, label)));
                 }
             }
         }
         (Variant::ReaderKeepsLevel, Call::Read { s, .. }) => tables.set_subject(s, old.subject(s)),
         (Variant::ReadTakesLevel, Call::Read { s, p }) => {
-            if let Some((_, Object { level, .. })) = object_at(s, p) {
-                tables.set_subject(s, Some(Subject { level }));
+            if let Some((_, object)) = object_at(s, p) {
+                tables.set_subject(s, Some(Subject::new(object.label())));
             }
         }
         (Variant::PipeKeepsLevel, Call::Write { s, p }) => {
@@ -92,15 +94,13 @@ pub fn bend_effect(variant: Variant, before: &Monitor, after: &mut Monitor, call
         (Variant::PipeTakesLevel, Call::Write { s, p }) => {
             if let (Some((o, object)), Some(subject)) = (object_at(s, p), old.subject(s)) {
                 if object.kind == Kind::Pipe {
-                    let level = subject.level;
-                    tables.set_object(o, Some(Object { level, ..object }));
+                    tables.set_object(o, Some(Object::new(Kind::Pipe, subject.label())));
                 }
             }
         }
         (Variant::ExecKeepsLevel, Call::Exec { s, .. }) => tables.set_subject(s, old.subject(s)),
         (Variant::ExecTakesLevel, Call::Exec { s, o }) => {
-            let level = old.object(o).map_or(0, |object| object.level);
-            tables.set_subject(s, Some(Subject { level }));
+            tables.set_subject(s, old.object(o).map(|object| Subject::new(object.label())));
         }
         (Variant::ExecCloses, Call::Exec { s, .. }) => {
             for (p, _) in old.handles_of(s).filter(|(_, handle)| !handle.ends_at_exec()) {
@@ -122,7 +122,7 @@ pub fn bend_effect(variant: Variant, before: &Monitor, after: &mut Monitor, call
             }
         }
         (Variant::ForkTopLevel, Call::Fork { c, .. }) => {
-            tables.set_subject(c, Some(Subject { level: 15 }));
+            tables.set_subject(c, tables.subject(c).map(|subject| Subject { level: 15, ..subject }));
         }
         (Variant::PipeNeverEnds, Call::Close { .. } | Call::Exit { .. } | Call::Exec { .. }) => {
             restore_pipes(old, tables);
@@ -137,12 +137,10 @@ pub fn bend_effect(variant: Variant, before: &Monitor, after: &mut Monitor, call
         (Variant::ExitKeepsNumber, Call::Exit { s }) => tables.set_subject(s, old.subject(s)),
         (Variant::RetireKeepsNumber, Call::Retire { o }) => tables.set_object(o, old.object(o)),
         (Variant::CreateAtZero, Call::Create { o, .. }) => {
-            let (kind, level) = (Kind::File, 0);
-            tables.set_object(o, Some(Object { kind, level }));
+            tables.set_object(o, tables.object(o).map(|object| Object { level: 0, ..object }));
         }
         (Variant::PipeAtFifteen, Call::Pipe { o, .. }) => {
-            let (kind, level) = (Kind::Pipe, 15);
-            tables.set_object(o, Some(Object { kind, level }));
+            tables.set_object(o, tables.object(o).map(|object| Object { level: 15, ..object }));
         }
         (Variant::PipeEndsSwapped, Call::Pipe { s, r, w, .. }) => {
             let (reading, writing) = (tables.handle(s, r), tables.handle(s, w));
@@ -213,7 +211,7 @@ fn end_pipes_without(tables: &mut Tables, direction: Direction) {
 pub fn bend_answer(variant: Variant, before: &Monitor, call: Call, answer: Answer) -> Answer {
     let with = |level: Option<u64>| match (answer, level) {
         (Answer::Allowed(_), Some(level)) => Answer::Allowed(level),
-        (Answer::Lowered(_), Some(level)) => Answer::Lowered(level),
+        (Answer::Lowered(_, lost), Some(level)) => Answer::Lowered(level, lost),
         _ => answer,
     };
     let old = &before.tables;
@@ -235,20 +233,20 @@ pub fn bend_answer(variant: Variant, before: &Monitor, call: Call, answer: Answe
         (Variant::FreezeAnswersOld, Call::Freeze { .. }) => with(Some(old.freeze())),
         (Variant::Freeze16Answers15, Call::Freeze { level: NO_FREEZE }) => with(Some(15)),
         (Variant::FreezeAsLowered, Call::Freeze { level }) if level < old.freeze() => {
-            Answer::Lowered(level)
+            Answer::Lowered(level, 0)
         }
         (Variant::LoweredAsAllowed, _) => match answer {
-            Answer::Lowered(level) => Answer::Allowed(level),
+            Answer::Lowered(level, _) => Answer::Allowed(level),
             _ => answer,
         },
         (Variant::PipeLoweredAsAllowed, Call::Write { .. }) => match answer {
-            Answer::Lowered(level) => Answer::Allowed(level),
+            Answer::Lowered(level, _) => Answer::Allowed(level),
             _ => answer,
         },
         (Variant::EqualAsLowered, Call::Read { s, p }) => {
             let level = old.handle(s, p).and_then(|handle| object_level(handle.object));
             match answer {
-                Answer::Allowed(own) if level == Some(own) => Answer::Lowered(own),
+                Answer::Allowed(own) if level == Some(own) => Answer::Lowered(own, 0),
                 _ => answer,
             }
         }

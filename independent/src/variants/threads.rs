@@ -3,6 +3,7 @@
 
 use super::Variant;
 use crate::calls::Call;
+use crate::labels::Label;
 use crate::monitor::{Answer, Monitor};
 use crate::needs::{Needs, Thing};
 use crate::refusals::Condition;
@@ -123,11 +124,15 @@ pub fn bend_thread(variant: Variant, before: &Monitor, after: &mut Monitor, call
             tables.set_subject(c, lowest);
         }
         Variant::ThreadEvens => old.mates(s).for_each(|mate| tables.set_subject(mate, old.subject(s))),
-        Variant::ThreadTopLevel => tables.set_subject(c, Some(Subject { level: 15 })),
-        Variant::ThreadAtZero => tables.set_subject(c, Some(Subject { level: 0 })),
+        Variant::ThreadTopLevel => set_level(tables, c, 15),
+        Variant::ThreadAtZero => set_level(tables, c, 0),
         Variant::ThreadCounted => after.tally.count_made(held.len() as u64),
         _ => {}
     }
+}
+
+fn set_level(tables: &mut Tables, s: u64, level: u64) {
+    tables.set_subject(s, tables.subject(s).map(|subject| Subject { level, ..subject }));
 }
 
 /// What a thread is answered with, and other calls where the variant refuses them for their group.
@@ -173,6 +178,6 @@ pub fn note_floor(variant: Variant, before: &Monitor, after: &mut Monitor, call:
 
 /// Whether the object is below what the subject is held to need.
 fn is_below_floor(before: &Monitor, s: u64, o: u64) -> bool {
-    let level = before.tables.object(o).map_or(0, |object| object.level);
-    before.floors.iter().any(|&(c, need)| c == s && level < need)
+    let label = before.tables.object(o).map_or(Label::LEAST, |object| object.label());
+    before.floors.iter().any(|&(c, need)| c == s && !label.is_at_least(need))
 }

@@ -13,8 +13,8 @@ use Rattle.flows.proofs.Nodes.{needed}
 use Rattle.flows.proofs.figures.Statement.{statement}
 use Rattle.flows.proofs.figures.Tie as tie
 
-marks-requires : tie.Need-marks-requires
-marks-requires c κs = search needs
+starts-requires : tie.Need-starts-requires
+starts-requires c κs = search needs
 
 leads-requires : tie.Need-leads-requires
 leads-requires c κs = search needs
@@ -36,8 +36,8 @@ returns c =
     let e = c2 .worked .ensures in
     let l = c2 .before .listed .ensures in
     λ rest q w. needed rest _ _ _ w (search (c5 .before .good, needs, unmapped)) (c4 .leads .result)
-    (subst (λ (k : ℕ → ℕ → Bool). Leads k (c4 .leads .result)) (sym q) (c4 .leads .ensures)) _ _ (search needs) (c5 .marks .ensures)
+    (subst (λ (k : ℕ → ℕ → Bool). Leads k (c4 .leads .result)) (sym q) (c4 .leads .ensures)) _ _ (c5 .starts .ensures)
     (between-handles l _ _ (e .0)) (all-handles l (figure (c2 .worked .result .figures)) (e .1 .0 (never-stopped _ (λ z. e .1 .1 z .0)))) _ (c .spread .ensures)
 
 pub figures-spec : {M : Type 1} → statement M
-figures-spec = tie.close (tie.spec marks-requires leads-requires listed-requires worked-requires spread-requires returns)
+figures-spec = tie.close (tie.spec starts-requires leads-requires listed-requires worked-requires spread-requires returns)

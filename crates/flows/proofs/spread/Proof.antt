@@ -24,8 +24,14 @@ array-read-lead c = search needs
 cast-lead : tie.Need-cast-lead Inv-loop μ-loop
 cast-lead c = search needs
 
+mul-r : tie.Need-mul-r Inv-loop μ-loop
+mul-r c = search needs
+
 array-read-r : tie.Need-array-read-r Inv-loop μ-loop
 array-read-r c = search needs
+
+mul-r-2 : tie.Need-mul-r-2 Inv-loop μ-loop
+mul-r-2 c = search needs
 
 array-write-r : tie.Need-array-write-r Inv-loop μ-loop
 array-write-r c = search needs
@@ -55,7 +61,9 @@ spread-spec =
     loop-holds
     array-read-lead
     cast-lead
+    mul-r
     array-read-r
+    mul-r-2
     array-write-r
     add-s
     loop-less

@@ -11,10 +11,10 @@ use Rattle.groups.proofs.lowered.Statement.{statement}
 use Rattle.groups.proofs.lowered.Tie as tie
 
 abbrev Inv-loop : tie.InvT-loop
-Inv-loop level takes r₀ a₀ r a = (a ≤ 32) × Mapped no-subject (λ j x. taken-by x (getD takes j false) level) r₀ r a
+Inv-loop level shops takes r₀ a₀ r a = (a ≤ 32) × Mapped no-subject (λ j x. taken-by x (getD takes j false) level shops) r₀ r a
 
 abbrev μ-loop : tie.MeasureT-loop
-μ-loop level takes r₀ a₀ r a = 32 - a
+μ-loop level shops takes r₀ a₀ r a = 32 - a
 
 loop-holds : tie.Need-loop-holds Inv-loop μ-loop
 loop-holds c = (omega arith, mapped-none no-subject _ _)

@@ -85,8 +85,8 @@ module _ (rest : Tables) (ss : List Subject) (os : List Object) (hs : List Handl
       there : (a : ℕ) → T (stands ss a) → T (live (tables-of (with-kin rest (kin-of ss gs)) ss os hs) (subject a))
       there a h = both (in-range (subject a)) (is-some (entries ss os (subject a))) (housed-range (subject a) (within rest ss os hs ls lo (subject a) _ is)) (subst (λ (o : Option Entry). T (is-some o)) (sym is) tt)
         where
-          is : entries ss os (subject a) ≡ some (entry running (label (getD ss a no-subject .level)))
-          is = cond-no (eqb (getD ss a no-subject .live) 0) none (some (entry running (label (getD ss a no-subject .level)))) h
+          is : entries ss os (subject a) ≡ some (entry running (label (getD ss a no-subject .level) (getD ss a no-subject .shops)))
+          is = cond-no (eqb (getD ss a no-subject .live) 0) none (some (entry running (label (getD ss a no-subject .level) (getD ss a no-subject .shops)))) h
 
 -- ── leads ──
 -- the members of a group have one lead, and no others have it

@@ -11,6 +11,9 @@ letter-requires c κs = search needs
 value-requires : tie.Need-value-requires
 value-requires c κs = search needs
 
+lost-requires : tie.Need-lost-requires
+lost-requires c κs = search needs
+
 cast-result : tie.Need-cast-result
 cast-result c = search needs
 
@@ -23,8 +26,17 @@ cast-result-2 c = search needs
 add-result : tie.Need-add-result
 add-result c = search needs
 
+mul-result-2 : tie.Need-mul-result-2
+mul-result-2 c = search needs
+
+cast-result-3 : tie.Need-cast-result-3
+cast-result-3 c = search needs
+
+add-result-2 : tie.Need-add-result-2
+add-result-2 c = search needs
+
 returns : tie.Need-returns
-returns c = call-numbered _ _ _ (c .before .letter .ensures) (c .value .ensures) (omega arith)
+returns c = call-numbered _ _ _ _ (c .before .before .letter .ensures) (c .before .value .ensures) (c .lost .ensures) (omega arith)
 
 pub to-number-spec : {M : Type 1} → statement M
 to-number-spec =
@@ -32,8 +44,12 @@ to-number-spec =
     (tie.spec
     letter-requires
     value-requires
+    lost-requires
     cast-result
     mul-result
     cast-result-2
+    mul-result-2
     add-result
+    cast-result-3
+    add-result-2
     returns)

@@ -1,5 +1,5 @@
 -- Laws of answers as numbers: what a host reads off each, and that 0 is no answer's. Assumes nothing.
-use mathlib.Core.Path.{_≡_, refl, sym, ap₂, _∙_, subst}
+use mathlib.Core.Path.{_≡_, refl, sym, _∙_, subst}
 use mathlib.Core.Bool.{Bool, true, false, cond}
 use mathlib.Core.List.{List, [], _∷_, _++_}
 use Prim.Native.Nat.{ℕ, _+_, _*_, _<_}
@@ -13,29 +13,39 @@ use Rattle.number.specs.Leb.{Reading, good, largest, number}
 use Rattle.number.specs.Leb.Laws.{number-bytes}
 use Rattle.text.specs.Reply.{end-word, space, newline, field, ending}
 use Rattle.replay.specs.Replay.{Replied, replied, replies, calls-of, records-of, lines, last-line, text, largest-journal, reply}
-use Rattle.answers.specs.Telling.{letter-of, value-of}
-use Rattle.host.specs.Numbers.{answer-number, letter-in, value-in, answer-by, answer-in, reading-used}
+use Rattle.answers.specs.Telling.{letter-of, value-of, lost-of}
+use Rattle.host.specs.Numbers.{answer-number, letter-in, value-in, lost-in, answer-by, answer-in, reading-used}
 
 -- ── calls ──
 -- an answer whose level or refusal number is a byte is read back
 pub answer-back : (a : Answer) → value-of a < 256 → answer-in (answer-number a) ≡ a
-answer-back a h = ap₂ answer-by (letter-back (letter-of a) (value-of a) h) (value-back (letter-of a) (value-of a) h) ∙ by a
+answer-back a h = (λ i. answer-by (letter-back (lost-of a) (letter-of a) (value-of a) (small a) h i) (value-back (lost-of a) (letter-of a) (value-of a) h i)
+    (lost-back (lost-of a) (letter-of a) (value-of a) (small a) h i)) ∙ by a
   where
-    letter-back : (l v : ℕ) → v < 256 → letter-in (256 * l + v) ≡ l
-    letter-back l v h = omega arith
+    -- a letter is a byte
+    small : (a : Answer) → letter-of a < 256
+    small (allowed l) = omega arith
+    small (lowered l k) = omega arith
+    small (refused n) = omega arith
 
-    value-back : (l v : ℕ) → v < 256 → value-in (256 * l + v) ≡ v
-    value-back l v h = omega arith
+    letter-back : (k l v : ℕ) → l < 256 → v < 256 → letter-in (65536 * k + 256 * l + v) ≡ l
+    letter-back k l v g h = omega arith
 
-    by : (a : Answer) → answer-by (letter-of a) (value-of a) ≡ a
+    value-back : (k l v : ℕ) → v < 256 → value-in (65536 * k + 256 * l + v) ≡ v
+    value-back k l v h = omega arith
+
+    lost-back : (k l v : ℕ) → l < 256 → v < 256 → lost-in (65536 * k + 256 * l + v) ≡ k
+    lost-back k l v g h = omega arith
+
+    by : (a : Answer) → answer-by (letter-of a) (value-of a) (lost-of a) ≡ a
     by (allowed l) = refl
-    by (lowered l) = refl
+    by (lowered l k) = refl
     by (refused n) = refl
 
 -- 0 is none's
 pub answer-some : (a : Answer) → 0 < answer-number a
 answer-some (allowed l) = omega arith
-answer-some (lowered l) = omega arith
+answer-some (lowered l k) = omega arith
 answer-some (refused n) = omega arith
 
 -- ── numbers ──

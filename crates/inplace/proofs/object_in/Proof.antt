@@ -21,11 +21,17 @@ add-next c = search needs
 shared-slice-read-level : tie.Need-shared-slice-read-level
 shared-slice-read-level c = search needs
 
+add-last : tie.Need-add-last
+add-last c = search needs
+
+shared-slice-read-shops : tie.Need-shared-slice-read-shops
+shared-slice-read-shops c = search needs
+
 object-at-requires : tie.Need-object-at-requires
 object-at-requires c κs = search needs
 
 returns : tie.Need-returns
-returns c = let a = c .before .before .before .before .args in (c .object-at .ensures ∙ ap (object-at (a .o)) (sym (object-there (now (a .objects)) (a .o % 64) (omega arith))), omega arith)
+returns c = let a = c .before .before .before .before .before .args in (c .object-at .ensures ∙ ap (object-at (a .o)) (sym (object-there (now (a .objects)) (a .o % 64) (omega arith))), omega arith)
 
 pub object-in-spec : {M : Type 1} → statement M
 object-in-spec =
@@ -35,5 +41,7 @@ object-in-spec =
     shared-slice-read-kind
     add-next
     shared-slice-read-level
+    add-last
+    shared-slice-read-shops
     object-at-requires
     returns)

@@ -21,11 +21,17 @@ add-next c = search needs
 shared-slice-read-level : tie.Need-shared-slice-read-level
 shared-slice-read-level c = search needs
 
+add-last : tie.Need-add-last
+add-last c = search needs
+
+shared-slice-read-shops : tie.Need-shared-slice-read-shops
+shared-slice-read-shops c = search needs
+
 subject-at-requires : tie.Need-subject-at-requires
 subject-at-requires c κs = search needs
 
 returns : tie.Need-returns
-returns c = let a = c .before .before .before .before .args in (c .subject-at .ensures ∙ ap (subject-at (a .s)) (sym (subject-there (now (a .subjects)) (a .s % 32) (omega arith))), omega arith)
+returns c = let a = c .before .before .before .before .before .args in (c .subject-at .ensures ∙ ap (subject-at (a .s)) (sym (subject-there (now (a .subjects)) (a .s % 32) (omega arith))), omega arith)
 
 pub subject-in-spec : {M : Type 1} → statement M
 subject-in-spec =
@@ -35,5 +41,7 @@ subject-in-spec =
     shared-slice-read-live
     add-next
     shared-slice-read-level
+    add-last
+    shared-slice-read-shops
     subject-at-requires
     returns)

@@ -34,7 +34,7 @@ returns-2 c =
           (search (needs, unmapped, c6 .good .0)) (search (needs, unmapped))
           (λ s l. c1 .led .ensures s l ∙ readers-lead rest (a .subjects) os (a .handles) (a .o) (a .groups) (c3 .leads .result) k (c3 .leads .ensures) (c2 .readers .result)
           (c2 .readers .ensures) s l) (c .lowered .ensures),
-      taken-live (a .subjects) (c .lowered .result) (c1 .led .result) (a .y .level) (search (needs, unmapped, c6 .good .0)) (search (needs, unmapped)) (c .lowered .ensures),
+      taken-live (a .subjects) (c .lowered .result) (c1 .led .result) (a .y .level) (a .y .shops) (search (needs, unmapped, c6 .good .0)) (search (needs, unmapped)) (c .lowered .ensures),
     )
 
 pub reread-spec : {M : Type 1} → statement M

@@ -19,11 +19,11 @@ returns c =
     let c1 = c .before in
     let c2 = c1 .before in
     let a = c2 .before .args in (
-      λ rest os hs d low k e. group-read rest (a .subjects) os hs (a .groups) (a .s) (a .level) d (c1 .lowered .result) (c2 .members .result) low k e
+      λ rest os hs d low k e. group-read rest (a .subjects) os hs (a .groups) (a .s) (a .level) (a .shops) d (c1 .lowered .result) (c2 .members .result) low k e
           (search (needs, unmapped)) (search (needs, unmapped)) (c2 .members .ensures) (c1 .lowered .ensures),
       (
         c .is-lower .ensures,
-        taken-live (a .subjects) (c1 .lowered .result) (c2 .members .result) (a .level) (search (needs, unmapped)) (search (needs, unmapped)) (c1 .lowered .ensures),
+        taken-live (a .subjects) (c1 .lowered .result) (c2 .members .result) (a .level) (a .shops) (search (needs, unmapped)) (search (needs, unmapped)) (c1 .lowered .ensures),
       ),
     )
 

@@ -6,7 +6,6 @@ use mathlib.Core.Option.{Option, none, some}
 use mathlib.Core.List.{[], _∷_}
 use Prim.Native.Nat.{ℕ}
 use lib.Dec.{T, T-not, not-T, eqb, eqb→eq}
-use Rattle.model.specs.Label.{label}
 use Rattle.model.specs.Flow.{Thing, subject, object, same}
 use Rattle.model.specs.Tables.{running, file, pipe, Dir, reading, writing, Entry, entry, Handle, handle, mapping, with-mark, Tables, in-range, live}
 use Rattle.model.specs.Tables.{label-of, cell, handles, open-on}
@@ -198,8 +197,8 @@ module _ (t : Tables) (w : Wf t) where
       w₃ = wf-hold u₂ r p (handle reading a) w₂ (beyond r p (handle reading a) (ends′ r p (handle reading a) in-r at-a (m (vacant r p) (inr (inr (inr (inr (inr (inr (inr (inr (inl refl))))))))) tt)))
 
   pub call-wf : (c : Call) → Passed t c → Wf (applies (steps t c) t)
-  call-wf (admit s n) m = wf-enter t (subject s) (entry running (label n)) outside (is-new t (subject s) (m (new (subject s)) (inl refl)) .0) w
-  call-wf (register o n) m = wf-enter t (object o) (entry file (label n)) outside (is-new t (object o) (m (new (object o)) (inl refl)) .0) w
+  call-wf (admit s n) m = wf-enter t (subject s) (entry running n) outside (is-new t (subject s) (m (new (subject s)) (inl refl)) .0) w
+  call-wf (register o n) m = wf-enter t (object o) (entry file n) outside (is-new t (object o) (m (new (object o)) (inl refl)) .0) w
   call-wf (create s o) m = wf-enter t (object o) (entry file (label-of (t .at (cell t s)))) blank
       (is-new t (object o) (m (new (object o)) (inr (inl refl))) .0) w
   call-wf (make-pipe s o r p) m = pipe-wf s o r p m

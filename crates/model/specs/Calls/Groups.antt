@@ -7,7 +7,7 @@ use mathlib.Core.List.{List, [], _∷_}
 use Prim.Native.Nat.{ℕ}
 use lib.Dec.{T, eqb, eqb→eq}
 use Rattle.model.specs.Bools.{test, cond-no}
-use Rattle.model.specs.Label.{Label, label, meet}
+use Rattle.model.specs.Label.{Label, meet}
 use Rattle.model.specs.Flow.{Thing, subject, object, same}
 use Rattle.model.specs.Tables.{running, file, Dir, reading, writing, Entry, entry, Handle, mapping, Tables, empty, in-range, live, label-of, cell, whole, handles}
 use Rattle.model.specs.Tables.Laws.{cell-self, step-entry, whole-kin, whole-apart}
@@ -128,8 +128,8 @@ module _ (t : Tables) (w : Wf t) (v : Even t) where
       own = step-entry t s (is-alive t s (m (alive s) (inl refl)))
 
   pub call-even : (c : Call) → Passed t c → Even (applies (steps t c) t)
-  call-even (admit s n) m = new-even (subject s) (entry running (label n)) outside (m (new (subject s)) (inl refl))
-  call-even (register o n) m = new-even (object o) (entry file (label n)) outside (m (new (object o)) (inl refl))
+  call-even (admit s n) m = new-even (subject s) (entry running n) outside (m (new (subject s)) (inl refl))
+  call-even (register o n) m = new-even (object o) (entry file n) outside (m (new (object o)) (inl refl))
   call-even (create s o) m = new-even (object o) (entry file (label-of (t .at (cell t s)))) blank (m (new (object o)) (inr (inl refl)))
   call-even (make-pipe s o r p) m = even-same (λ a. refl) refl v
   call-even (opens d s o p) m = even-same (λ a. refl) refl v

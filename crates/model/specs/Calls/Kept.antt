@@ -10,7 +10,7 @@ use mathlib.Core.List.{List, [], _∷_}
 use Prim.Native.Nat.{ℕ}
 use lib.Dec.{T, T-not, not-T, eqb, eqb→eq, eqb-refl}
 use Rattle.model.specs.Bools.{test}
-use Rattle.model.specs.Label.{label, _⊑_}
+use Rattle.model.specs.Label.{in-scale, _⊑_}
 use Rattle.model.specs.Flow.{Thing, subject, object, same}
 use Rattle.model.specs.Tables.{running, file, pipe, Dir, reading, writing, Entry, entry, Handle, handle, mapping, Tables, empty, label-of, is-pipe, cell, handles, open-on, safe, with-numbers, needs}
 use Rattle.model.specs.Tables.Laws.{handles-at, open-here, cell-same, handles-by}
@@ -18,7 +18,7 @@ use Rattle.model.specs.Steps.{Origin, outside, blank, Access, reads, wri
 use Rattle.model.specs.Steps.Laws.{put-cases, sink-cases, place-same, place-other, applies-append, ended-last}
 use Rattle.model.specs.Invariant.{Wf, Piped, Kept}
 use Rattle.model.specs.Invariant.Laws.{pot-safe, row-below, less-quits, empty-wf, wf-reap, empty-pot, needs-pot, less-numbers, less-wf, less-pot}
-use Rattle.model.specs.Invariant.Laws.{empty-scaled, empty-frozen, scaled-without}
+use Rattle.model.specs.Invariant.Laws.{empty-scaled, empty-frozen, labelled-without}
 use Rattle.model.specs.Calls.{Call, admit, register, create, make-pipe, opens, access, fork, thread, exec, close, exit, retire, maps, mark, freeze, connect, unknown, Raw, decode}
 use Rattle.model.specs.Calls.{target, sheds, channel, steps, stepped, effect, next, after, apart, refusal}
 use Rattle.model.specs.Calls.Refusals.{allowed-iff}
@@ -154,8 +154,8 @@ module _ (t : Tables) (v : Piped t) where
       open-at-place z j k h = let g = w .ends z j k h in open-here u z j k (row-below g) (g .place) h
 
   call-pipes : Wf t → (c : Call) → Passed t c → Pipes t (applies (steps t c) t)
-  call-pipes w (admit s n) m = enter-pipes (subject s) (entry running (label n)) outside (λ o. tt)
-  call-pipes w (register o n) m = enter-pipes (object o) (entry file (label n)) outside (λ o. tt)
+  call-pipes w (admit s n) m = enter-pipes (subject s) (entry running n) outside (λ o. tt)
+  call-pipes w (register o n) m = enter-pipes (object o) (entry file n) outside (λ o. tt)
   call-pipes w (create s o) m = enter-pipes (object o) (entry file (label-of (t .at (cell t s)))) blank (λ o. tt)
   call-pipes w (make-pipe s o r v) m = pipe-pipes w s o r v m
   call-pipes w (opens d s o p) m = same-pipes (apply (hold s p (some (handle d o))) t) (λ o. refl)
@@ -220,7 +220,7 @@ effect-kept t c v q = let m = allowed-iff t c .0 q in let u = applies (steps t c
       wf = wf-reap (handles t) u w;
       safe = pot-safe (stepped-pot t c (kept-sound v) q);
       piped = reap-piped t u (call-pipes t (v .piped) (v .wf) c m);
-      scaled = scaled-without (λ x. ended (handles t) (handles u) x (u .at x)) u (call-scaled t (v .scaled) c m);
+      scaled = labelled-without (λ a. T (in-scale a)) (λ x. ended (handles t) (handles u) x (u .at x)) u (call-scaled t (v .scaled) c m);
       frozen = record { bounded = call-frozen t (v .frozen) c m .bounded };
       mapped = mapped-reap (handles t) u w (call-mapped t (v .wf) (v .mapped) c m);
       even = even-reap (handles t) u (call-even t (v .wf) (v .even) c m);

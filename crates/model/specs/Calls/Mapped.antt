@@ -8,7 +8,7 @@ use mathlib.Core.List.{List, [], _∷_}
 use Prim.Native.Nat.{ℕ}
 use lib.Dec.{T, T-not, not-T, eqb, eqb→eq}
 use Rattle.model.specs.Bools.{cond-yes, cond-no}
-use Rattle.model.specs.Label.{Label, label, _⊑_, meet}
+use Rattle.model.specs.Label.{Label, _⊑_, meet}
 use Rattle.model.specs.Label.Laws.{⊑-refl, ⊑-trans, meet-right, meet-glb, bot-least}
 use Rattle.model.specs.Flow.{Thing, subject, object, same}
 use Rattle.model.specs.Tables.{Kind, running, file, pipe, Dir, reading, writing, Entry, entry, Handle, handle, mapping, with-mark, Tables, empty, with-hand}
@@ -243,8 +243,8 @@ module _ (t : Tables) (w : Wf t) (v : Mapped t) where
       }
 
   pub call-mapped : (c : Call) → Passed t c → Mapped (applies (steps t c) t)
-  call-mapped (admit s n) m = new-mapped (subject s) (entry running (label n)) outside (m (new (subject s)) (inl refl))
-  call-mapped (register o n) m = new-mapped (object o) (entry file (label n)) outside (m (new (object o)) (inl refl))
+  call-mapped (admit s n) m = new-mapped (subject s) (entry running n) outside (m (new (subject s)) (inl refl))
+  call-mapped (register o n) m = new-mapped (object o) (entry file n) outside (m (new (object o)) (inl refl))
   call-mapped (create s o) m = new-mapped (object o) (entry file (label-of (t .at (cell t s)))) blank (m (new (object o)) (inr (inl refl)))
   call-mapped (make-pipe s o r p) m = mapped-hold (apply (hold s r (some (handle reading o))) u) s p (handle writing o) tt
       (mapped-hold u s r (handle reading o) tt (new-mapped (object o) e blank (m (new (object o)) (inr (inl refl)))))

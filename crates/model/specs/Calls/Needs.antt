@@ -18,14 +18,14 @@ use Rattle.model.specs.Label.{Label, _⊑_, bot}
 use Rattle.model.specs.Label.Laws.{⊑-antisym, ⊑-refl, ⊑-trans, bot-least}
 use Rattle.model.specs.Flow.{Thing, subject, object, same, Edge, Reaches, need, joins}
 use Rattle.model.specs.Flow.Laws.{same→eq, same-refl, need-flow, joins-upper, joins-least}
-use Rattle.model.specs.Flow.Changes.{Sub, Adds, Spare, spare-below, Total, Fresh, but, need-alone, need-agree, need-others, need-pipe, remove-below, remove-thing, remove-thing-far, remove-thing-spare, add-quiet, adds-same, need-more, but-here, need-fresh}
+use Rattle.model.specs.Flow.Changes.{Sub, Adds, Fresh, but, need-alone, need-agree, need-others, need-pipe, remove-thing, remove-thing-far, add-quiet, adds-same, need-more, but-here, need-fresh}
 use Rattle.model.specs.Tables.{Kind, running, file, pipe, Dir, reading, writing, Entry, entry, Handle, handle, mapping, with-mark, Tables, with-at, subjects, places, label-of, is-pipe, cell, handles, open-on, arc, flow, speaks, flows-of, edges, demand, needs, with-numbers, live, mates, share, shares-of}
 use Rattle.model.specs.Tables.Laws.{open-here, speaks-at, speaks-cell, cell-self, object-entry, flow-edge, edge-flow, edges-numbers, live-of, step-entry, share-edge, Shares}
 use Rattle.model.specs.Steps.{Origin, Access, reads, writes, runs, enter, leave, hold, holds, mix, put, place, sink, apply, applies, ended, reap, quits, binds, stand-in}
 use Rattle.model.specs.Steps.Laws.{put-same, sink-by, row-cases, place-cases, place-same, fall-demand}
 use Rattle.model.specs.Invariant.{Wf}
-use Rattle.model.specs.Invariant.Laws.{row-below, Less, less-close, less-quits, unlike-back, mates-kin, mates-live, parted-cases, parted-stays, stand-in-cases}
-use Rattle.model.specs.Calls.{Call, make-pipe, opens, maps, access, fork, thread, exec, close, exit, retire, mark, freeze, target, marking, sheds, steps, effect}
+use Rattle.model.specs.Invariant.Laws.{row-below, Less, less-close, less-quits, mates-kin, mates-live, parted-cases, parted-stays, stand-in-cases}
+use Rattle.model.specs.Calls.{Call, make-pipe, opens, maps, access, fork, thread, exec, exit, retire, mark, freeze, target, marking, sheds, steps, effect}
 use Rattle.model.specs.Calls.Moving.{rereads-keep}
 
 -- ── entries change, demands do not ──
@@ -258,11 +258,6 @@ mapping-needs t s o p w ls lp n = adds-same (λ y. demand y (t .at y)) (hold-add
 pub maps-open-needs : (t : Tables) (s o p : ℕ) → Wf t → s < subjects → p < places → t .hand s p ≡ none → (x : Thing)
     → needs (effect t (maps s o p)) x ≡ needs (apply (hold s p (some (handle reading o))) t) x
 maps-open-needs t s o p w ls lp n x = maps-needs t s o p x ∙ mapping-needs t s o p w ls lp n x
-
--- a close where the two needs differ, where no two labels are apart; the other laws of a flow that goes are used in the same way
-pub close-below : Total → (t : Tables) (s p : ℕ) (k : Handle) → Wf t → t .hand s p ≡ some k
-    → (needs t (flow (subject s) k .dst) ≡ needs t (flow (subject s) k .src) → ⊥) → (x : Thing) → needs (effect t (close s p)) x ≡ needs t x
-close-below l t s p k w q n x = effect-needs t (close s p) x ∙ remove-below (λ y. demand y (t .at y)) (close-adds t s p k w q) l n x
 
 -- ── a mark ──
 marked-flow : (x : Thing) (o : Option Handle) (k : Handle) → marking o ≡ some k → (j : Handle) × (o ≡ some j) × (flow x j ≡ flow x k)
@@ -610,31 +605,6 @@ module _ (t : Tables) (s : ℕ) (w : Wf t) where
       touched e i h = elim (in-edge left e i) [
         | inl r ↦ never (r .k .dir) (r .k .to) e (r .s) (r .p) (r .k) (r .is) (r .holds) h
         | inr r ↦ (let m = mates-kin left (r .a) (r .b) (r .linked) in apart (r .a) (r .b) e (r .is) (m .0) (parted-cases (same (subject s)) (t .kin) (r .a) (r .b) (m .1)) h)
-      ]
-
-  -- no other need changes if s is by itself and that of each thing read differs from the subject's, where no two labels are apart
-  pub exit-below : Total → Alone t s → ((p : ℕ) (k : Handle) → t .hand s p ≡ some k → k .dir ≡ reading → needs t (subject s) ≡ needs t (object (k .to)) → ⊥) → (x : Thing)
-      → (x ≡ subject s → ⊥) → needs (effect t (exit s)) x ≡ needs t x
-  exit-below l own h x ne = exit-needs x ∙ gone-demand x ∙ remove-thing-spare (λ y. demand y (t .at y)) left-sub (subject s) left-fresh left-only spare x ne
-    where
-      apart : (d : Dir) (s′ p : ℕ) (k : Handle) (e : Edge) → k .dir ≡ d → arc d (subject s′) (object (k .to)) ≡ e → t .hand s′ p ≡ some k → e .dst ≡ subject s
-          → needs t (subject s) ≡ needs t (e .src) → ⊥
-      apart reading s′ p k e d q g z m = let y : subject s′ ≡ subject s = ap (λ (y : Edge). y .dst) q ∙ z in let v : s′ ≡ s = cc in
-          h p k (ap (λ (y : ℕ). t .hand y p) (sym v) ∙ g) d (m ∙ ap (λ (y : Edge). needs t (y .src)) (sym q))
-      apart writing s′ p k e d q g z m = subject-object s (k .to) (sym z ∙ sym (ap (λ (y : Edge). y .dst) q))
-
-      -- nobody shares with s
-      unshared : (a b : ℕ) (e : Edge) → share a b ≡ e → T (mates t a (subject b)) → e .dst ≡ subject s → ⊥
-      unshared a b e q m z = let y : subject b ≡ subject s = ap (λ (y : Edge). y .dst) q ∙ z in let v : b ≡ s = cc in
-          let c = mates-kin t a b m in
-          own .no-mate a (subst (λ (d : ℕ). T (mates t d (subject a))) v (both (not (eqb b a)) (t .kin b a) (unlike-back a b (c .0)) (w .teams .both-ways a b (c .1))))
-
-      spare : (e : Edge) → In e (edges t) → e .dst ≡ subject s → Spare (needs t (e .src)) (needs t (subject s))
-      spare e i q = elim (in-edge t e i) [
-        | inl r ↦ spare-below l
-            (subst (λ (y : Thing). needs t y ⊑ needs t (e .src)) q (need-flow (edges t) (λ y. demand y (t .at y)) e i))
-            (apart (r .k .dir) (r .s) (r .p) (r .k) e refl (r .is) (r .holds) q)
-        | inr r ↦ absurd (unshared (r .a) (r .b) e (r .is) (r .linked) q)
       ]
 
 -- ── a thing comes, or goes ──

@@ -13,7 +13,7 @@ use Rattle.model.specs.Lists.{In, any}
 use Rattle.model.specs.Lists.Laws.{any-at}
 use Rattle.model.specs.Label.{level}
 use Rattle.model.specs.Tables.{Tables}
-use Rattle.model.specs.Calls.{Call, Test, known, alive, present, no-pipe, leveled, freezable, new, vacant, taken, apart, unlike, others, facing, enough, suits, idle, thawed, roomy, number, broken, tests, order, breaks, first, earlier, In-order, refusal, effect, next, Shown, level-at, given, shown, Answer, refused, lowers, last-label, outcome, said, answer}
+use Rattle.model.specs.Calls.{Call, Test, known, alive, present, no-pipe, leveled, freezable, new, vacant, taken, apart, unlike, others, facing, enough, suits, idle, thawed, roomy, number, broken, tests, order, breaks, first, earlier, In-order, refusal, effect, next, Shown, level-at, given, shown, Answer, refused, lowers, last-label, fewer, outcome, said, answer}
 
 -- ── breaks ──
 breaks-of : (t : Tables) (n : ℕ) (ds : List Test) (d : Test) → In d ds → number d ≡ n → T (broken t d) → T (breaks t n ds)
@@ -192,12 +192,12 @@ pub answered-refused : (t : Tables) (c : Call) (n : ℕ) → (answer t c ≡ ref
 unfolding answer
 answered-refused t c n = go (refusal t c)
   where
-    made : (b : Bool) (l : ℕ) → outcome b l ≡ refused n → ⊥
-    made true l e = let z : _≡_ {A = ℕ} 0 1 = cc in omega arith
-    made false l e = let z : _≡_ {A = ℕ} 0 1 = cc in omega arith
+    made : (b : Bool) (l k : ℕ) → outcome b l k ≡ refused n → ⊥
+    made true l k e = let z : _≡_ {A = ℕ} 0 1 = cc in omega arith
+    made false l k e = let z : _≡_ {A = ℕ} 0 1 = cc in omega arith
 
     allows : (x : Shown) → said t (effect t c) x ≡ refused n → ⊥
-    allows (level-at x) e = made (lowers t (effect t c)) (level (last-label (t .at x) (effect t c .at x))) e
+    allows (level-at x) e = made (lowers t (effect t c)) (level (last-label (t .at x) (effect t c .at x))) (fewer (t .at x) (effect t c .at x)) e
     allows (given k) e = let z : _≡_ {A = ℕ} 0 1 = cc in omega arith
 
     go : (o : Option ℕ) → ((elim o as (λ _. Answer) [ none ↦ said t (effect t c) (shown t c) | some m ↦ refused m ]) ≡ refused n) ↔ (o ≡ some n)

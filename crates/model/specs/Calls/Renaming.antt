@@ -13,7 +13,7 @@ use Rattle.model.specs.Flow.{Thing, subject, object, same, Edge, has, ta
 use Rattle.model.specs.Tables.{Kind, running, file, pipe, Dir, reading, writing, Entry, entry, Handle, Tables, with-at, with-hand, with-numbers, with-kin, subjects, objects, places, is-some, used, label-of, is-file, cell, whole, mates, share, shares-of, named, live-objects, live-subjects, things, one, handles-of, handles, open-on, arc, speaks, flows-of, edges, demand, needs, safe}
 use Rattle.model.specs.Label.{level}
 use Rattle.model.specs.Tables.{in-range, live, a-file, is-pipe, counted, clean}
-use Rattle.model.specs.Calls.{Call, admit, register, create, make-pipe, opens, maps, access, connect, fork, thread, exec, close, mark, exit, retire, freeze, unknown, target, has-mapped, rereads, marking, ends-at-exec, lasting, sheds, steps, effect, Test, known, alive, present, no-pipe, leveled, freezable, new, vacant, taken, apart, unlike, others as differ, facing, enough, suits, idle, thawed, roomy, number, turned, frozen, shut, broken, tests, order, breaks, first, refusal, Shown, level-at, given, shown, Answer, refused, smaller, lowers, last-label, outcome, said, answer}
+use Rattle.model.specs.Calls.{Call, admit, register, create, make-pipe, opens, maps, access, connect, fork, thread, exec, close, mark, exit, retire, freeze, unknown, target, has-mapped, rereads, marking, ends-at-exec, lasting, sheds, steps, effect, Test, known, alive, present, no-pipe, leveled, freezable, new, vacant, taken, apart, unlike, others as differ, facing, enough, suits, idle, thawed, roomy, number, turned, frozen, shut, broken, tests, order, breaks, first, refusal, Shown, level-at, given, shown, Answer, refused, smaller, lowers, last-label, fewer, outcome, said, answer}
 use Rattle.model.specs.Steps.{Origin, outside, blank, copied, reads, writes, runs, Step, enter, leave, hold, holds, mix, quits, binds, parted, freezes, put, without, fall, apply, applies, ended, reap}
 
 -- ── tests that come to the same ──
@@ -559,7 +559,8 @@ module _ (ρ σ : ℕ → ℕ) (v : Renumbers ρ σ) (l : List ℕ) where
   shown-ren t unknown = refl
 
   said-ren : (t u : Tables) (x : Shown) → said (ren t) (ren u) (show x) ≡ said t u x
-  said-ren t u (level-at x) = ap₂ outcome (lowers-ren t u) (ap₂ (λ (a b : Option Entry). level (last-label a b)) (at-there t x) (at-there u x))
+  said-ren t u (level-at x) = ap₂ (λ (b : Bool) (v : Option Entry × Option Entry). outcome b (level (last-label (v .0) (v .1))) (fewer (v .0) (v .1))) (lowers-ren t u)
+      (ap₂ (λ (a b : Option Entry). (a, b)) (at-there t x) (at-there u x))
   said-ren t u (given n) = refl
 
   said-numbers : (t u : Tables) (n : List ℕ) (x : Shown) → said t (with-numbers u n) x ≡ said t u x

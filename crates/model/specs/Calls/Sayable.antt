@@ -10,18 +10,19 @@ use borrow.Author.Tests.{ltb-false}
 use lib.Dec.{T, ltb}
 use Rattle.model.specs.Bools.{is-false}
 use Rattle.model.specs.Label.{highest, level, in-scale, bot}
-use Rattle.model.specs.Label.Laws.{bot-in-scale, level-in-scale}
+use Rattle.model.specs.Label.Laws.{bot-in-scale, level-in-scale, lost-in-scale}
 use Rattle.model.specs.Flow.{Thing, subject, object}
 use Rattle.model.specs.Tables.{reading, writing, Entry, Tables, empty, no-freeze, cell}
 use Rattle.model.specs.Invariant.{Kept, topmost, Sayable, All-sayable}
 use Rattle.model.specs.Calls.{Call, admit, register, create, make-pipe, opens, access, fork, thread, exec, close, exit, retire, maps, mark, freeze, connect, unknown, Raw, decode}
-use Rattle.model.specs.Calls.{target, effect, next, freezable, refusal, level-at, shown, Answer, refused, lowers, last-label, outcome, said, answer, answers}
+use Rattle.model.specs.Calls.{target, effect, next, freezable, refusal, level-at, shown, Answer, refused, lowers, last-label, fewer, outcome, said, answer, answers}
 use Rattle.model.specs.Calls.Refusals.{allowed-iff, refused-listed}
 use Rattle.model.specs.Calls.Kept.{effect-kept, next-kept, empty-kept}
 
 -- the level of a thing
 level-sayable : (t u : Tables) (c : Call) (x : Thing) → highest ≤ topmost c → Kept t → Kept u → Sayable c (said t u (level-at x))
-level-sayable t u c x h v w = made (lowers t u) (level (last-label (t .at x) (u .at x))) (low (t .at x) (u .at x) (v .scaled .within x) (w .scaled .within x))
+level-sayable t u c x h v w = made (lowers t u) (level (last-label (t .at x) (u .at x))) (fewer (t .at x) (u .at x)) (low (t .at x) (u .at x) (v .scaled .within x) (w .scaled .within x))
+    (few (t .at x) (u .at x) (v .scaled .within x))
   where
     Low : Option Entry → Type 0
     Low o = (e : Entry) → o ≡ some e → T (in-scale (e .label))
@@ -31,9 +32,14 @@ level-sayable t u c x h v w = made (lowers t u) (level (last-label (t .at x) (u 
     low (some b) none lb la = level-in-scale (b .label) (lb b refl)
     low b (some a) lb la = level-in-scale (a .label) (la a refl)
 
-    made : (f : Bool) (n : ℕ) → n ≤ highest → Sayable c (outcome f n)
-    made true n l = l
-    made false n l = omega arith
+    few : (b a : Option Entry) → Low b → fewer b a ≤ 8
+    few none a lb = omega arith
+    few (some b) none lb = omega arith
+    few (some b) (some a) lb = lost-in-scale (b .label) (a .label) (lb b refl)
+
+    made : (f : Bool) (n k : ℕ) → n ≤ highest → k ≤ 8 → Sayable c (outcome f n k)
+    made true n k l j = (l, j)
+    made false n k l j = omega (arith, h)
 
 answer-sayable : (t : Tables) (c : Call) → Kept t → Sayable c (answer t c)
 unfolding answer

@@ -8,7 +8,7 @@ use mathlib.Core.List.{[], _∷_}
 use Prim.Native.Nat.{ℕ}
 use lib.Dec.{T, T-not, eqb}
 use Rattle.model.specs.Bools.{test, not-not}
-use Rattle.model.specs.Label.{Label, label, leq, _⊑_}
+use Rattle.model.specs.Label.{Label, leq, _⊑_}
 use Rattle.model.specs.Label.Laws.{⊑-refl, bot-least}
 use Rattle.model.specs.Lists.{In}
 use Rattle.model.specs.Flow.{Thing, subject, object, same, Edge, Reaches, here, step}
@@ -360,8 +360,8 @@ module _ (t : Tables) (v : Sound t) where
       u = applies (channel t s r a b p q) t
 
   call-safe : (c : Call) → Passed t c → Safe (applies (steps t c) t)
-  call-safe (admit s n) m = enter-safe t v (subject s) (entry running (label n)) outside (m (new (subject s)) (inl refl))
-  call-safe (register o n) m = enter-safe t v (object o) (entry file (label n)) outside (m (new (object o)) (inl refl))
+  call-safe (admit s n) m = enter-safe t v (subject s) (entry running n) outside (m (new (subject s)) (inl refl))
+  call-safe (register o n) m = enter-safe t v (object o) (entry file n) outside (m (new (object o)) (inl refl))
   call-safe (create s o) m = enter-safe t v (object o) (entry file (label-of (t .at (cell t s)))) blank (m (new (object o)) (inr (inl refl)))
   call-safe (make-pipe s o r w) m = pipe-safe s (m (alive s) (inl refl)) o r w m
   call-safe (opens d s o p) m = open-safe t v d s o p m

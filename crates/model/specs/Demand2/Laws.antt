@@ -170,7 +170,7 @@ module _ (t : Tables) (c : Call) (k : ℕ) where
     λ r. refused-is t c (roomy k) i (lt→ltb 64 (length (t .numbers) + k) (r .1)) (r .0),
   )
 
-pub register-crowded-iff : (t : Tables) (o n : ℕ) → (refusal t (register o n) ≡ some 17) ↔ (In-order t (register o n) 17 × (64 < length (t .numbers) + 1))
+pub register-crowded-iff : (t : Tables) (o : ℕ) (n : Label) → (refusal t (register o n) ≡ some 17) ↔ (In-order t (register o n) 17 × (64 < length (t .numbers) + 1))
 register-crowded-iff t o n = roomy-iff t (register o n) 1 (inr (inr (inl refl))) (only t (roomy 1) (tests (register o n)) (inl tt, (inl tt, (inr refl, tt))))
 
 pub create-crowded-iff : (t : Tables) (s o : ℕ) → (refusal t (create s o) ≡ some 17) ↔ (In-order t (create s o) 17 × (64 < length (t .numbers) + 1))

@@ -6,8 +6,9 @@ use mathlib.Core.Logic.{inl, inr}
 use mathlib.Core.Option.{Option, none, some, Option·none-ne-some, Option·some-injective}
 use Prim.Native.Nat.{ℕ}
 use lib.Dec.{T}
-use Rattle.model.specs.Label.{Label, _⊑_, label, highest}
-use Rattle.model.specs.Label.Laws.{⊑-refl, ⊑-trans, le→⊑, level-label, level-in-scale}
+use Rattle.model.specs.Label.{Label, _⊑_, label, highest, every-shop, shops}
+use Rattle.model.specs.Sets.Laws.{within-all}
+use Rattle.model.specs.Label.Laws.{⊑-refl, ⊑-trans, ⊑-of, level-label, shops-label, level-in-scale, shops-in-scale}
 use Rattle.model.specs.Flow.{Thing, subject, object}
 use Rattle.model.specs.Tables.{reading, Entry, Handle, Tables, live, is-file, cell, handles, needs}
 use Rattle.model.specs.Tables.Laws.{cell-entry, cell-self}
@@ -23,11 +24,12 @@ pub record Topmost (t : Tables) (o : ℕ) : Type 0 where
   pub its : Entry
   pub there : t .at (object o) ≡ some its
   pub a-file : T (is-file (object o) (its .kind))
-  pub top : its .label ≡ label highest
+  pub top : its .label ≡ label highest every-shop
 
 -- no label that a call may name is above it
-under-top : {t : Tables} → Scaled t → (x : Thing) (e : Entry) → t .at x ≡ some e → e .label ⊑ label highest
-under-top v x e q = le→⊑ (e .label) (label highest) (rw (level-label highest) (level-in-scale (e .label) (v .within x e q)))
+under-top : {t : Tables} → Scaled t → (x : Thing) (e : Entry) → t .at x ≡ some e → e .label ⊑ label highest every-shop
+under-top v x e q = ⊑-of (e .label) (label highest every-shop) (rw (level-label highest every-shop) (level-in-scale (e .label) (v .within x e q)))
+    (rw (shops-label highest every-shop) (within-all (shops (e .label)) (shops-in-scale (e .label) (v .within x e q))))
 
 module _ (t : Tables) (v : Kept t) where
   pub top-open-harmless : (s o p : ℕ) → T (live t (subject s)) → Topmost t o → T (not (broken t (enough (opens reading s o p))))

@@ -10,7 +10,7 @@ use Prim.Native.Nat.{ℕ, _<_}
 use lib.Dec.{T, T-not, eqb, eqb-refl, ltb→lt}
 use Rattle.model.specs.Bools.{both}
 use Rattle.model.specs.Lists.{In}
-use Rattle.model.specs.Label.{Label, label, bot}
+use Rattle.model.specs.Label.{Label, bot}
 use Rattle.model.specs.Flow.{Thing, subject, object, same}
 use Rattle.model.specs.Flow.Laws.{same→eq, same-refl}
 use Rattle.model.specs.Flow.Changes.{but, need-alone}
@@ -166,11 +166,11 @@ module _ (t : Tables) (φ : Thing → Label) (w : Wf t) (r : Ready t φ) where
   new-free : (c : Call) (z : Thing) → refusal t c ≡ none → In (new z) (tests c) → t .at z ≡ none
   new-free c z e i = is-new t z (allowed-iff t c .0 e (new z) i) .1
 
-  pub admit-ready : (s n : ℕ) → refusal t (admit s n) ≡ none → Ready (effect t (admit s n)) (but φ (subject s) bot)
+  pub admit-ready : (s : ℕ) (n : Label) → refusal t (admit s n) ≡ none → Ready (effect t (admit s n)) (but φ (subject s) bot)
   admit-ready s n e = enters (admit s n) (subject s) _ outside bot refl (new-free (admit s n) (subject s) e (inl refl)) refl
 
-  pub register-ready : (o n : ℕ) → refusal t (register o n) ≡ none → Ready (effect t (register o n)) (but φ (object o) (label n))
-  register-ready o n e = enters (register o n) (object o) _ outside (label n) refl (new-free (register o n) (object o) e (inl refl)) refl
+  pub register-ready : (o : ℕ) (n : Label) → refusal t (register o n) ≡ none → Ready (effect t (register o n)) (but φ (object o) n)
+  register-ready o n e = enters (register o n) (object o) _ outside n refl (new-free (register o n) (object o) e (inl refl)) refl
 
   pub create-ready : (s o : ℕ) → refusal t (create s o) ≡ none → Ready (effect t (create s o)) (but φ (object o) (label-of (t .at (cell t s))))
   create-ready s o e = enters (create s o) (object o) _ blank _ refl (new-free (create s o) (object o) e (inr (inl refl))) refl

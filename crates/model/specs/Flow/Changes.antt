@@ -3,20 +3,22 @@
 -- Over any list of flows and any demand f. A change is `Adds e es ds`: ds is es with the flow e, at any place. Coming reads it from es to ds, going
 -- from ds to es. In order: changes; figures that are the need; figures between the demand and the need, for passes that raise them; more and fewer
 -- flows; one flow that comes; one that goes; new things; a ring of pipes, computed.
--- Labels are known by the laws of `Label.Laws`; a law that needs any two labels to compare says so (`Total`). Assumes nothing.
-use mathlib.Core.Path.{_≡_, refl, sym, _∙_, subst, subst₂}
+-- Labels are known by the laws of `Label.Laws`, and by their parts in `remove-parts` alone. Assumes nothing.
+use mathlib.Core.Path.{_≡_, refl, sym, _∙_, ap, subst, subst₂}
 use mathlib.Core.Bool.{Bool, true, false, cond}
 use mathlib.Core.Logic.{_⊎_, inl, inr}
 use mathlib.Core.List.{List, [], _∷_, _++_, map}
-use Prim.Native.Nat.{ℕ}
+use Prim.Native.Nat.{ℕ, _≤_, _<_, max}
 use native.Mathlib.Omega.{arith}
 use lib.ListN.{drop}
 use lib.Dec.{T, not-T}
-use Rattle.model.specs.Bools.{test, cond-yes, cond-no}
+use Rattle.model.specs.Bools.{cond-yes, cond-no}
 use Rattle.model.specs.Lists.{In}
 use Rattle.model.specs.Lists.Laws.{in-left, in-right, in-cases}
-use Rattle.model.specs.Label.{Label, label, level, leq, _⊑_, join, bot}
-use Rattle.model.specs.Label.Laws.{⊑-refl, ⊑-trans, ⊑-antisym, join-left, join-right, join-lub, bot-least, le→⊑, not-least-is-below}
+use Rattle.model.specs.Label.{Label, label, level, shops, leq, _⊑_, join, bot}
+use Rattle.model.specs.Sets.{within}
+use Rattle.model.specs.Sets.Laws.{within-trans}
+use Rattle.model.specs.Label.Laws.{⊑-refl, ⊑-trans, ⊑-antisym, join-left, join-right, join-lub, bot-least, ⊑-of, ⊑→le, ⊑→within, level-join}
 use Rattle.model.specs.Flow.{Thing, subject, object, same, Edge, Reaches, here, step, need}
 use Rattle.model.specs.Flow.Laws.{same→eq, same-refl, reaches-in, need-upper, need-least, need-self, need-flow, need-below}
 
@@ -100,24 +102,6 @@ between-need {f} {es} {g} b = need-is (record { low = λ x. ⊑-trans (b .low x)
 pub record Spare (a b : Label) : Type 0 where
   pub covered : (c : Label) → a ⊑ join c b → b ⊑ c
 
--- no two labels are apart
-pub record Total : Type 0 where
-  pub ordered : (a b : Label) → (a ⊑ b) ⊎ (b ⊑ a)
-
--- levels are not
-pub levels-total : Total
-levels-total = record {
-  ordered = λ a b. elim (test (leq a b))
-      [ inl t ↦ inl (record { tested = t }) | inr t ↦ inr (le→⊑ b a (omega (arith, not-least-is-below a b .0 t))) ];
-}
-
--- where no two labels are apart, one below another is spare in it
-pub spare-below : {a b : Label} → Total → b ⊑ a → (b ≡ a → ⊥) → Spare a b
-spare-below {a} {b} t le ne = record {
-  covered = λ c h. elim (t .ordered b c)
-      [ inl p ↦ p | inr q ↦ absurd (ne (⊑-antisym le (⊑-trans h (join-lub q ⊑-refl)))) ];
-}
-
 -- ── helpers ──
 reaches-on : {es : List Edge} {x y : Thing} (e : Edge) → In e es → Reaches es x y → e .src ≡ y → Reaches es x (e .dst)
 reaches-on e i (here q) s = step e i (s ∙ sym q) (here refl)
@@ -197,9 +181,25 @@ module _ (f : Thing → Label) {es ds : List Edge} where
     remove-spare s = remove-quiet (need f ds (e .dst)) ⊑-refl
         (s .covered (need f es (e .src)) (⊑-trans (add-within (e .src)) (join-mono ⊑-refl (need-more (a .more) (e .dst)))))
 
-    -- the two needs differ, where no two labels are apart. In a ring they never do
-    pub remove-below : Total → (need f ds (e .dst) ≡ need f ds (e .src) → ⊥) → (x : Thing) → need f es x ≡ need f ds x
-    remove-below t n = remove-spare (spare-below t (need-flow ds f e (a .new)) n)
+    -- part by part: the source needs without the flow the label b (what it demands itself, what files beside demand). Of the need of the flow's end, the marks are
+    -- in b, and the level is in b or below that of the source
+    pub remove-parts : (b : Label) → b ⊑ need f es (e .src) → T (within (shops (need f ds (e .dst))) (shops b))
+        → (level (need f ds (e .dst)) < level (need f ds (e .src))) ⊎ (level (need f ds (e .dst)) ≤ level b) → (x : Thing) → need f es x ≡ need f ds x
+    remove-parts b h m l = remove-quiet (need f ds (e .dst)) ⊑-refl (⊑-of v w (levels l) (within-trans (shops v) (shops b) (shops w) m (⊑→within b w h)))
+      where
+        v : Label
+        v = need f ds (e .dst)
+
+        w : Label
+        w = need f es (e .src)
+
+        most : level (need f ds (e .src)) ≤ max (level w) (level v)
+        most = subst (λ (n : ℕ). level (need f ds (e .src)) ≤ n) (level-join w v)
+            (⊑→le _ _ (⊑-trans (add-within (e .src)) (join-mono ⊑-refl (need-more (a .more) (e .dst)))))
+
+        levels : (level v < level (need f ds (e .src))) ⊎ (level v ≤ level b) → level v ≤ level w
+        levels (inl k) = omega (arith, most, k)
+        levels (inr k) = omega (arith, k, ⊑→le b w h)
 
     -- a second handle makes the same flow
     pub remove-twin : In e es → (x : Thing) → need f es x ≡ need f ds x
@@ -408,12 +408,12 @@ abbrev ring : List Edge
 ring = flow-to (subject 0) (object 0) ∷ flow-to (object 0) (subject 1) ∷ flow-to (subject 1) (object 1) ∷ flow-to (object 1) (subject 0) ∷ []
 
 abbrev files : Thing → Label
-files x = cond (same x (object 5)) (label 5) (cond (same x (object 9)) (label 9) bot)
+files x = cond (same x (object 5)) (label 5 0) (cond (same x (object 9)) (label 9 0) bot)
 
 abbrev figures : List Edge → List ℕ
 figures es = map (λ x. level (need files es x)) (subject 0 ∷ object 0 ∷ subject 1 ∷ object 1 ∷ [])
 
--- both files; without file 5, which `remove-below` finds quiet; without file 9, the ring sinks to 5; without both, to 0; without the
+-- both files; without file 5, which changes no need; without file 9, the ring sinks to 5; without both, to 0; without the
 -- flow into pipe 0, which `remove-beside` finds quiet by file 9
 pub ring-figures : (figures (flow-to (subject 0) (object 9) ∷ flow-to (subject 0) (object 5) ∷ ring) ≡ 9 ∷ 9 ∷ 9 ∷ 9 ∷ [])
     × (figures (flow-to (subject 0) (object 9) ∷ ring) ≡ 9 ∷ 9 ∷ 9 ∷ 9 ∷ [])
@@ -427,4 +427,4 @@ ring-figures = (refl, refl, refl, refl, refl)
 pub ring-stale : (need files (flow-to (subject 0) (object 9) ∷ ring) (subject 0) ≡ need files ring (subject 0)
     → ⊥) × Potential files ring (need files (flow-to (subject 0) (object 9) ∷ ring))
 unfolding Label label level leq join bot need
-ring-stale = (λ q. let z : _≡_ {A = ℕ} 9 0 = q in omega arith, sub-potential files (adds-at (flow-to (subject 0) (object 9)) [] ring .more))
+ring-stale = (λ q. let z : _≡_ {A = ℕ} 9 0 = ap level q in omega arith, sub-potential files (adds-at (flow-to (subject 0) (object 9)) [] ring .more))

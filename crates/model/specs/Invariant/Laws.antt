@@ -11,8 +11,8 @@ use native.Mathlib.Omega.{arith}
 use lib.Dec.{T, T-not, not-T, eqb, eqb→eq, eqb-refl, ltb, ltb→lt, lt→ltb}
 use Rattle.model.specs.Bools.{test, or-cases, or-left, or-right, both, both-of, cond-yes, cond-no, cond-cases}
 use Rattle.model.specs.Lists.{In}
-use Rattle.model.specs.Label.{Label, in-scale, _⊑_, bot}
-use Rattle.model.specs.Label.Laws.{⊑-refl, ⊑-trans, bot-least, below-in-scale}
+use Rattle.model.specs.Label.{Label, _⊑_, meet, bot}
+use Rattle.model.specs.Label.Laws.{⊑-refl, ⊑-trans, bot-least}
 use Rattle.model.specs.Flow.{Thing, subject, object, same, Edge}
 use Rattle.model.specs.Flow.Laws.{same→eq, need-self, need-flow, need-below}
 use Rattle.model.specs.Flow.Changes.{but}
@@ -20,8 +20,8 @@ use Rattle.model.specs.Tables.{Dir, reading, writing, Entry, Handle, Tab
 use Rattle.model.specs.Tables.Laws.{some-of, some-is, live-of, speaks-at, speaks-hand, speaks-freeze, speaks-cell, cell-entry, object-entry, open-here, flow-edge, edge-flow, speaks-numbers, speaks-kin, whole-cases, step-entry, share-edge}
 use Rattle.model.specs.Steps.{Origin, Access, enter, hold, holds, mix, quits, put, row, place, without, vacated, sink, apply, ended, reap, parted, stand-in, bound, binds}
 use Rattle.model.specs.Steps.Laws.{put-cases, sink-cases, sink-by, row-cases, place-cases, live-hand, live-freeze, live-at, ended-open, ended-subject, live-numbers, live-kin}
-use Rattle.model.specs.Steps.Laws.{fall-some, some-fall, fall-demand, fall-under, fell}
-use Rattle.model.specs.Invariant.{Ends, Teams, Wf, Safe, Scaled, Frozen}
+use Rattle.model.specs.Steps.Laws.{fall-some, some-fall, fall-demand, fall-is, fell}
+use Rattle.model.specs.Invariant.{Ends, Teams, Wf, Safe, Labelled, Scaled, Frozen}
 
 pub record Pot (t : Tables) (φ : Thing → Label) : Type 0 where
   pub low : (x : Thing) → demand x (t .at x) ⊑ φ x
@@ -215,10 +215,10 @@ wf-enter t x e g r w = record {
         go true = tt
         go false = h
 
-pub scaled-enter : (t : Tables) (x : Thing) (e : Entry) (g : Origin) → T (in-scale (e .label)) → Scaled t → Scaled (apply (enter x e g) t)
-scaled-enter t x e g h v = record {
+pub labelled-enter : (P : Label → Type 0) (t : Tables) (x : Thing) (e : Entry) (g : Origin) → P (e .label) → Labelled P t → Labelled P (apply (enter x e g) t)
+labelled-enter P t x e g h v = record {
   within = λ y d q. elim (put-cases (t .at) x (some e) y (some d) q) [
-    | inl c ↦ subst (λ (z : Entry). T (in-scale (z .label))) (Option·some-injective e d (c .1)) h
+    | inl c ↦ subst (λ (z : Entry). P (z .label)) (Option·some-injective e d (c .1)) h
     | inr c ↦ v .within y d (c .1)
   ];
 }
@@ -284,8 +284,8 @@ pot-hand t φ h i f = record {
   shares = i .shares;
 }
 
-pub scaled-same : {t u : Tables} → ((x : Thing) → u .at x ≡ t .at x) → Scaled t → Scaled u
-scaled-same e v = record { within = λ x d q. v .within x d (sym (e x) ∙ q) }
+pub labelled-same : (P : Label → Type 0) {t u : Tables} → ((x : Thing) → u .at x ≡ t .at x) → Labelled P t → Labelled P u
+labelled-same P e v = record { within = λ x d q. v .within x d (sym (e x) ∙ q) }
 
 -- place p of s takes the handle k
 pub wf-hold : (t : Tables) (s p : ℕ) (k : Handle) → Wf t → Ends t s p k → Wf (apply (hold s p (some k)) t)
@@ -382,8 +382,8 @@ less-pot {t} {u} φ l i = record {
     low′ x none f = bot-least
     low′ x (some e) f = subst (λ (o : Option Entry). demand x o ⊑ φ x) (f e refl) (i .low x)
 
-pub less-scaled : {t u : Tables} → Less t u → Scaled t → Scaled u
-less-scaled l v = record { within = λ x e q. v .within x e (l .was-at x e q) }
+pub less-labelled : (P : Label → Type 0) {t u : Tables} → Less t u → Labelled P t → Labelled P u
+less-labelled P l v = record { within = λ x e q. v .within x e (l .was-at x e q) }
 
 -- ── subjects end ──
 pub less-quits : (t : Tables) (g : Thing → Bool) → ((o : ℕ) → T (not (g (object o)))) → Less t (apply (quits g) t)
@@ -464,8 +464,8 @@ pot-without gone t φ i = record {
     cap′ true y d q = absurd (Option·none-ne-some d q)
     cap′ false y d q = i .cap y d q
 
-pub scaled-without : (gone : Thing → Bool) (t : Tables) → Scaled t → Scaled (without gone t)
-scaled-without gone t v = record { within = λ x e q. v .within x e (left (gone x) (t .at x) e q) }
+pub labelled-without : (P : Label → Type 0) (gone : Thing → Bool) (t : Tables) → Labelled P t → Labelled P (without gone t)
+labelled-without P gone t v = record { within = λ x e q. v .within x e (left (gone x) (t .at x) e q) }
 
 pub wf-reap : (before : List Handle) (t : Tables) → Wf t → Wf (reap before t)
 wf-reap before t w = wf-without (λ x. ended before (handles t) x (t .at x)) t w (λ s p k q. (
@@ -498,10 +498,11 @@ wf-mix t m a b y x w = record {
     more : (z : Thing) → T (is-some (t .at z)) → T (is-some (c z))
     more z h = sink-by (λ v o. T (is-some o)) t y (t .at x) z h (λ b. fall-some z (t .at z) (t .at x) h)
 
-pub scaled-mix : (t : Tables) (m : Access) (a b y x : Thing) → Scaled t → Scaled (apply (mix m a b y x) t)
-scaled-mix t m a b y x v = record {
+-- where two labels are P, what falls from the one to the other is
+pub labelled-mix : (P : Label → Type 0) → ((a b : Label) → P a → P b → P (meet a b)) → (t : Tables) (m : Access) (a b y x : Thing) → Labelled P t → Labelled P (apply (mix m a b y x) t)
+labelled-mix P f t m a b y x v = record {
   within = λ z e q. elim (sink-cases t y (t .at x) z (some e) q) [
-    | inl c ↦ (let f = fall-under z (t .at z) (t .at x) e (c .1) in below-in-scale (f .2) (v .within z (f .0) (f .1)))
+    | inl c ↦ fall-is P f z (t .at z) (t .at x) e (v .within z) (v .within x) (c .1)
     | inr c ↦ v .within z e (c .1)
   ];
 }

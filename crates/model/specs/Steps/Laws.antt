@@ -196,6 +196,16 @@ fall-under x (some e) (some d) r q = (e, refl, subst (λ (z : Entry). z .label �
     go true = meet-left (e .label) (d .label)
     go false = ⊑-refl
 
+pub fall-is : (P : Label → Type 0) → ((a b : Label) → P a → P b → P (meet a b)) → (x : Thing) (a b : Option Entry) (r : Entry) → ((e : Entry) → a ≡ some e → P (e .label))
+    → ((e : Entry) → b ≡ some e → P (e .label)) → fall x a b ≡ some r → P (r .label)
+fall-is P f x none b r p q h = absurd (Option·none-ne-some r h)
+fall-is P f x (some e) none r p q h = p r h
+fall-is P f x (some e) (some d) r p q h = subst (λ (z : Entry). P (z .label)) (Option·some-injective _ r h) (go (falls x (e .kind)))
+  where
+    go : (k : Bool) → P (cond k (meet (e .label) (d .label)) (e .label))
+    go true = f (e .label) (d .label) (p e refl) (q d refl)
+    go false = p e refl
+
 pub fall-label : (x : Thing) (a b : Option Entry) → label-of (fall x a b) ⊑ label-of a
 unfolding fall-under
 fall-label x none b = ⊑-refl

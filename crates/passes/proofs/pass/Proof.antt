@@ -4,20 +4,22 @@ use mathlib.Core.Logic.{⊎-elim}
 use Prim.Native.Nat.{ℕ, _-_, _≤_, _<_}
 use native.Mathlib.Omega.{arith}
 use borrow.Author.Needs.{needs}
+use borrow.Author.Tests.{not-true, not-false}
 use lib.ListN.{length}
-use Rattle.passes.specs.Least.{figure, Passed, Before}
-use Rattle.passes.proofs.Raising.{start, keep-on, grow-at, next-before, split-before, settled-more}
+use Rattle.model.specs.Label.{_⊑_}
+use Rattle.passes.specs.Least.{figure, end-at, Passed, Before}
+use Rattle.passes.proofs.Raising.{start, keep-on, grow-at, next-before, split-before, settled-more, holds, fails}
 use Rattle.passes.proofs.pass.Statement.{statement}
 use Rattle.passes.proofs.pass.Tie as tie
 
 abbrev Inv-loop2 : tie.InvT-loop2
-Inv-loop2 e next grew i₀ i = (i₀ ≤ i) × (i ≤ e .count) × ((j : ℕ) → i₀ ≤ j → j < i → figure next (figure (e .to) j) ≤ figure next (figure (e .from) j))
+Inv-loop2 e next grew i₀ i = (i₀ ≤ i) × (i ≤ e .count) × ((j : ℕ) → i₀ ≤ j → j < i → figure next (end-at (e .to) j) ⊑ figure next (end-at (e .from) j))
 
 abbrev μ-loop2 : tie.MeasureT-loop2
 μ-loop2 e next grew i₀ i = e .count - i
 
 abbrev Inv-loop : tie.InvT-loop
-Inv-loop e next₀ grew₀ i₀ next grew i = (i ≤ e .count) × Passed (e .count) (figure (e .from)) (figure (e .to)) next₀ next (Before i) grew
+Inv-loop e next₀ grew₀ i₀ next grew i = (i ≤ e .count) × Passed (e .count) (end-at (e .from)) (end-at (e .to)) next₀ next (Before i) grew
 
 abbrev μ-loop : tie.MeasureT-loop
 μ-loop e next₀ grew₀ i₀ next grew i = e .count - i
@@ -40,23 +42,32 @@ element-copy-out-b c = omega (arith, c .before .loop2-test .taken, c .before .be
 cast-b : tie.Need-cast-b Inv-loop2 μ-loop2 Inv-loop μ-loop
 cast-b c = search needs
 
-array-read-if1 : tie.Need-array-read-if1 Inv-loop2 μ-loop2 Inv-loop μ-loop
-array-read-if1 c = c .before .before .before .before .before .pre .starts _ (c .before .before .loop2-test .taken)
+mul-mine : tie.Need-mul-mine Inv-loop2 μ-loop2 Inv-loop μ-loop
+mul-mine c = record { fits = omega (arith, c .before .before .before .before .before .pre .starts _ (c .before .before .loop2-test .taken)) }
 
-array-read-if1-2 : tie.Need-array-read-if1-2 Inv-loop2 μ-loop2 Inv-loop μ-loop
-array-read-if1-2 c = c .before .before .before .before .before .pre .ends _ (c .before .before .loop2-test .taken)
+array-read-mine : tie.Need-array-read-mine Inv-loop2 μ-loop2 Inv-loop μ-loop
+array-read-mine c = c .before .before .before .before .before .pre .starts _ (c .before .before .loop2-test .taken)
+
+mul-its : tie.Need-mul-its Inv-loop2 μ-loop2 Inv-loop μ-loop
+mul-its c = record { fits = omega (arith, c .before .before .before .before .before .pre .ends _ (c .before .before .loop2-test .taken)) }
+
+array-read-its : tie.Need-array-read-its Inv-loop2 μ-loop2 Inv-loop μ-loop
+array-read-its c = c .before .before .before .before .before .pre .ends _ (c .before .before .loop2-test .taken)
+
+is-at-most-requires : tie.Need-is-at-most-requires Inv-loop2 μ-loop2 Inv-loop μ-loop
+is-at-most-requires c κs = tt
 
 add-i : tie.Need-add-i Inv-loop2 μ-loop2 Inv-loop μ-loop
 add-i c = search needs
 
 loop2-less : tie.Need-loop2-less Inv-loop2 μ-loop2 Inv-loop μ-loop
-loop2-less c = omega (arith, c .before .before .before .loop2-test .taken)
+loop2-less c = omega (arith, c .before .before .before .before .loop2-test .taken)
 
 loop2-again : tie.Need-loop2-again Inv-loop2 μ-loop2 Inv-loop μ-loop
 loop2-again c =
-    let c4 = c .before .before .before .before in
-    let v = c4 .loop2 .inv in
-    (omega (arith, v .0), omega (arith, c .before .before .before .loop2-test .taken), settled-more _ _ _ (v .2) (c .if1 .left))
+    let c5 = c .before .before .before .before .before in
+    let v = c5 .loop2 .inv in
+    (omega (arith, v .0), omega (arith, c .before .before .before .before .loop2-test .taken), settled-more _ _ _ (v .2) (holds (c .before .is-at-most .ensures) (not-false _ (c .if1 .left))))
 
 returns : tie.Need-returns Inv-loop2 μ-loop2 Inv-loop μ-loop
 returns c =
@@ -76,30 +87,46 @@ element-copy-out-end c = omega (arith, c .before .if2 .left, c .before .before .
 cast-end : tie.Need-cast-end Inv-loop2 μ-loop2 Inv-loop μ-loop
 cast-end c = search needs
 
-array-read-next : tie.Need-array-read-next Inv-loop2 μ-loop2 Inv-loop μ-loop
-array-read-next c = c .before .before .before .before .before .before .pre .ends _ (c .before .before .if2 .left)
+mul-had : tie.Need-mul-had Inv-loop2 μ-loop2 Inv-loop μ-loop
+mul-had c = record { fits = omega (arith, c .before .before .before .before .before .before .pre .starts _ (c .before .before .if2 .left)) }
+
+array-read-had : tie.Need-array-read-had Inv-loop2 μ-loop2 Inv-loop μ-loop
+array-read-had c = c .before .before .before .before .before .before .pre .starts _ (c .before .before .if2 .left)
+
+mul-takes : tie.Need-mul-takes Inv-loop2 μ-loop2 Inv-loop μ-loop
+mul-takes c = record { fits = omega (arith, c .before .before .before .before .before .before .pre .ends _ (c .before .before .if2 .left)) }
+
+array-read-takes : tie.Need-array-read-takes Inv-loop2 μ-loop2 Inv-loop μ-loop
+array-read-takes c = c .before .before .before .before .before .before .pre .ends _ (c .before .before .if2 .left)
+
+joined-requires : tie.Need-joined-requires Inv-loop2 μ-loop2 Inv-loop μ-loop
+joined-requires c κs = tt
+
+mul-next : tie.Need-mul-next Inv-loop2 μ-loop2 Inv-loop μ-loop
+mul-next c = record { fits = omega (arith, c .before .before .before .before .before .before .before .pre .starts _ (c .before .before .before .if2 .left)) }
 
 array-write-next : tie.Need-array-write-next Inv-loop2 μ-loop2 Inv-loop μ-loop
-array-write-next c = c .before .before .before .before .before .before .pre .starts _ (c .before .before .if2 .left)
+array-write-next c = c .before .before .before .before .before .before .before .pre .starts _ (c .before .before .before .if2 .left)
 
 add-i-2 : tie.Need-add-i-2 Inv-loop2 μ-loop2 Inv-loop μ-loop
 add-i-2 c = search needs
 
 loop-less : tie.Need-loop-less Inv-loop2 μ-loop2 Inv-loop μ-loop
-loop-less c = omega (arith, c .before .before .if2 .left, c .before .before .before .before .loop2 .inv .0)
+loop-less c = omega (arith, c .before .before .before .if2 .left, c .before .before .before .before .before .loop2 .inv .0)
 
 loop-again : tie.Need-loop-again Inv-loop2 μ-loop2 Inv-loop μ-loop
 loop-again c =
-    let c2 = c .before .before in
-    let c4 = c2 .before .before in
-    let c6 = c4 .before .before in
-    let i = c4 .loop2 .i in
-    let p = c4 .before .loop .inv .1 in
-    let l : length (c6 .args .figures) ≡ 96 = search needs in
-    let q = keep-on (Before i) p (λ j h. split-before _ _ i j h (c4 .loop2 .inv .2)) in (
-      omega (arith, c2 .if2 .left),
-      grow-at _ _ _ _ _ i _ _ _ q (next-before i) (figure (c6 .args .t1 .from) i) (figure (c6 .args .t1 .to) i) refl refl (c2 .if2 .left)
-          (omega (arith, l, p .between .long, c6 .pre .starts i (c2 .if2 .left))) (⊎-elim (λ w. absurd (omega (arith, c2 .if2 .left, w .left))) (λ w. w .3 .taken) (c2 .before .loop2-test .came)),
+    let c3 = c .before .before .before in
+    let c5 = c3 .before .before in
+    let c7 = c5 .before .before in
+    let i = c5 .loop2 .i in
+    let p = c5 .before .loop .inv .1 in
+    let l : length (c7 .args .figures) ≡ 96 = search needs in
+    let q = keep-on (Before i) p (λ j h. split-before _ _ i j h (c5 .loop2 .inv .2)) in (
+      omega (arith, c3 .if2 .left),
+      grow-at _ _ _ _ _ i _ _ _ q (next-before i) (end-at (c7 .args .t1 .from) i) (end-at (c7 .args .t1 .to) i) _ refl refl (c .joined .ensures) (c3 .if2 .left)
+          (omega (arith, l, p .between .long, c7 .pre .starts i (c3 .if2 .left)))
+          (⊎-elim (λ w. absurd (omega (arith, c3 .if2 .left, w .left))) (λ w. fails (w .3 .ensures) (not-true _ (w .4 .taken))) (c3 .before .loop2-test .came)),
     )
 
 pub pass-spec : {M : Type 1} → statement M
@@ -116,8 +143,11 @@ pass-spec =
     cast-a
     element-copy-out-b
     cast-b
-    array-read-if1
-    array-read-if1-2
+    mul-mine
+    array-read-mine
+    mul-its
+    array-read-its
+    is-at-most-requires
     add-i
     loop2-less
     loop2-again
@@ -126,7 +156,12 @@ pass-spec =
     cast-start
     element-copy-out-end
     cast-end
-    array-read-next
+    mul-had
+    array-read-had
+    mul-takes
+    array-read-takes
+    joined-requires
+    mul-next
     array-write-next
     add-i-2
     loop-less

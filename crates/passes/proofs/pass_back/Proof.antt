@@ -4,20 +4,22 @@ use mathlib.Core.Logic.{⊎-elim}
 use Prim.Native.Nat.{ℕ, _-_, _≤_, _<_}
 use native.Mathlib.Omega.{arith}
 use borrow.Author.Needs.{needs}
+use borrow.Author.Tests.{not-true, not-false}
 use lib.ListN.{length}
-use Rattle.passes.specs.Least.{figure, Passed, Behind}
-use Rattle.passes.proofs.Raising.{start, keep-on, grow-at, next-behind, split-behind, settled-less, all-done}
+use Rattle.model.specs.Label.{_⊑_}
+use Rattle.passes.specs.Least.{figure, end-at, Passed, Behind}
+use Rattle.passes.proofs.Raising.{start, keep-on, grow-at, next-behind, split-behind, settled-less, all-done, holds, fails}
 use Rattle.passes.proofs.pass_back.Statement.{statement}
 use Rattle.passes.proofs.pass_back.Tie as tie
 
 abbrev Inv-loop2 : tie.InvT-loop2
-Inv-loop2 e next moved left₀ left = (left ≤ left₀) × ((j : ℕ) → left ≤ j → j < left₀ → figure next (figure (e .to) j) ≤ figure next (figure (e .from) j))
+Inv-loop2 e next moved left₀ left = (left ≤ left₀) × ((j : ℕ) → left ≤ j → j < left₀ → figure next (end-at (e .to) j) ⊑ figure next (end-at (e .from) j))
 
 abbrev μ-loop2 : tie.MeasureT-loop2
 μ-loop2 e next moved left₀ left = left
 
 abbrev Inv-loop : tie.InvT-loop
-Inv-loop e next₀ moved₀ left₀ next moved left = (left ≤ e .count) × Passed (e .count) (figure (e .from)) (figure (e .to)) next₀ next (Behind (e .count) left) moved
+Inv-loop e next₀ moved₀ left₀ next moved left = (left ≤ e .count) × Passed (e .count) (end-at (e .from)) (end-at (e .to)) next₀ next (Behind (e .count) left) moved
 
 abbrev μ-loop : tie.MeasureT-loop
 μ-loop e next₀ moved₀ left₀ next moved left = left
@@ -43,19 +45,28 @@ element-copy-out-b c = omega (arith, c .before .loop2-test .taken, c .before .be
 cast-b : tie.Need-cast-b Inv-loop2 μ-loop2 Inv-loop μ-loop
 cast-b c = search needs
 
-array-read-if1 : tie.Need-array-read-if1 Inv-loop2 μ-loop2 Inv-loop μ-loop
-array-read-if1 c = c .before .before .before .before .before .pre .starts _ (omega (arith, c .before .before .loop2-test .taken, c .before .before .before .loop2 .inv .0, c .before .before .before .before .loop .inv .0))
+mul-mine : tie.Need-mul-mine Inv-loop2 μ-loop2 Inv-loop μ-loop
+mul-mine c = record { fits = omega (arith, c .before .before .before .before .before .pre .starts (c .before .before .before .loop2 .left - 1) (omega (arith, c .before .before .loop2-test .taken, c .before .before .before .loop2 .inv .0, c .before .before .before .before .loop .inv .0))) }
 
-array-read-if1-2 : tie.Need-array-read-if1-2 Inv-loop2 μ-loop2 Inv-loop μ-loop
-array-read-if1-2 c = c .before .before .before .before .before .pre .ends _ (omega (arith, c .before .before .loop2-test .taken, c .before .before .before .loop2 .inv .0, c .before .before .before .before .loop .inv .0))
+array-read-mine : tie.Need-array-read-mine Inv-loop2 μ-loop2 Inv-loop μ-loop
+array-read-mine c = c .before .before .before .before .before .pre .starts _ (omega (arith, c .before .before .loop2-test .taken, c .before .before .before .loop2 .inv .0, c .before .before .before .before .loop .inv .0))
+
+mul-its : tie.Need-mul-its Inv-loop2 μ-loop2 Inv-loop μ-loop
+mul-its c = record { fits = omega (arith, c .before .before .before .before .before .pre .ends (c .before .before .before .loop2 .left - 1) (omega (arith, c .before .before .loop2-test .taken, c .before .before .before .loop2 .inv .0, c .before .before .before .before .loop .inv .0))) }
+
+array-read-its : tie.Need-array-read-its Inv-loop2 μ-loop2 Inv-loop μ-loop
+array-read-its c = c .before .before .before .before .before .pre .ends _ (omega (arith, c .before .before .loop2-test .taken, c .before .before .before .loop2 .inv .0, c .before .before .before .before .loop .inv .0))
+
+is-at-most-requires : tie.Need-is-at-most-requires Inv-loop2 μ-loop2 Inv-loop μ-loop
+is-at-most-requires c κs = tt
 
 loop2-less : tie.Need-loop2-less Inv-loop2 μ-loop2 Inv-loop μ-loop
-loop2-less c = omega (arith, c .before .before .before .loop2-test .taken)
+loop2-less c = omega (arith, c .before .before .before .before .loop2-test .taken)
 
 loop2-again : tie.Need-loop2-again Inv-loop2 μ-loop2 Inv-loop μ-loop
 loop2-again c =
-    let c4 = c .before .before .before .before in
-    (omega (arith, c4 .loop2 .inv .0), settled-less _ _ _ (c4 .loop2 .inv .1) (c .if1 .left))
+    let c5 = c .before .before .before .before .before in
+    (omega (arith, c5 .loop2 .inv .0), settled-less _ _ _ (c5 .loop2 .inv .1) (holds (c .before .is-at-most .ensures) (not-false _ (c .if1 .left))))
 
 returns : tie.Need-returns Inv-loop2 μ-loop2 Inv-loop μ-loop
 returns c =
@@ -78,29 +89,44 @@ element-copy-out-end c = omega (arith, c .before .if2 .left, c .before .before .
 cast-end : tie.Need-cast-end Inv-loop2 μ-loop2 Inv-loop μ-loop
 cast-end c = search needs
 
-array-read-next : tie.Need-array-read-next Inv-loop2 μ-loop2 Inv-loop μ-loop
-array-read-next c = c .before .before .before .before .before .before .pre .ends _ (omega (arith, c .before .before .if2 .left, c .before .before .before .before .loop2 .inv .0, c .before .before .before .before .before .loop .inv .0))
+mul-had : tie.Need-mul-had Inv-loop2 μ-loop2 Inv-loop μ-loop
+mul-had c = record { fits = omega (arith, c .before .before .before .before .before .before .pre .starts (c .before .before .before .before .loop2 .left - 1) (omega (arith, c .before .before .if2 .left, c .before .before .before .before .loop2 .inv .0, c .before .before .before .before .before .loop .inv .0))) }
+
+array-read-had : tie.Need-array-read-had Inv-loop2 μ-loop2 Inv-loop μ-loop
+array-read-had c = c .before .before .before .before .before .before .pre .starts _ (omega (arith, c .before .before .if2 .left, c .before .before .before .before .loop2 .inv .0, c .before .before .before .before .before .loop .inv .0))
+
+mul-takes : tie.Need-mul-takes Inv-loop2 μ-loop2 Inv-loop μ-loop
+mul-takes c = record { fits = omega (arith, c .before .before .before .before .before .before .pre .ends (c .before .before .before .before .loop2 .left - 1) (omega (arith, c .before .before .if2 .left, c .before .before .before .before .loop2 .inv .0, c .before .before .before .before .before .loop .inv .0))) }
+
+array-read-takes : tie.Need-array-read-takes Inv-loop2 μ-loop2 Inv-loop μ-loop
+array-read-takes c = c .before .before .before .before .before .before .pre .ends _ (omega (arith, c .before .before .if2 .left, c .before .before .before .before .loop2 .inv .0, c .before .before .before .before .before .loop .inv .0))
+
+joined-requires : tie.Need-joined-requires Inv-loop2 μ-loop2 Inv-loop μ-loop
+joined-requires c κs = tt
+
+mul-next : tie.Need-mul-next Inv-loop2 μ-loop2 Inv-loop μ-loop
+mul-next c = record { fits = omega (arith, c .before .before .before .before .before .before .before .pre .starts (c .before .before .before .before .before .loop2 .left - 1) (omega (arith, c .before .before .before .if2 .left, c .before .before .before .before .before .loop2 .inv .0, c .before .before .before .before .before .before .loop .inv .0))) }
 
 array-write-next : tie.Need-array-write-next Inv-loop2 μ-loop2 Inv-loop μ-loop
-array-write-next c = c .before .before .before .before .before .before .pre .starts _ (omega (arith, c .before .before .if2 .left, c .before .before .before .before .loop2 .inv .0, c .before .before .before .before .before .loop .inv .0))
+array-write-next c = c .before .before .before .before .before .before .before .pre .starts _ (omega (arith, c .before .before .before .if2 .left, c .before .before .before .before .before .loop2 .inv .0, c .before .before .before .before .before .before .loop .inv .0))
 
 loop-less : tie.Need-loop-less Inv-loop2 μ-loop2 Inv-loop μ-loop
-loop-less c = omega (arith, c .before .before .if2 .left, c .before .before .before .before .loop2 .inv .0)
+loop-less c = omega (arith, c .before .before .before .if2 .left, c .before .before .before .before .before .loop2 .inv .0)
 
 loop-again : tie.Need-loop-again Inv-loop2 μ-loop2 Inv-loop μ-loop
 loop-again c =
-    let c2 = c .before .before in
-    let c4 = c2 .before .before in
-    let c6 = c4 .before .before in
-    let left = c4 .loop2 .left in
-    let p = c4 .before .loop .inv .1 in
-    let l : length (c6 .args .figures) ≡ 96 = search needs in
-    let in-list : left - 1 < c6 .args .t1 .count = omega (arith, c2 .if2 .left, c4 .loop2 .inv .0, c4 .before .loop .inv .0) in
-    let q = keep-on (Behind _ left) p (λ j h. split-behind _ _ _ left j h (c4 .loop2 .inv .1)) in (
+    let c3 = c .before .before .before in
+    let c5 = c3 .before .before in
+    let c7 = c5 .before .before in
+    let left = c5 .loop2 .left in
+    let p = c5 .before .loop .inv .1 in
+    let l : length (c7 .args .figures) ≡ 96 = search needs in
+    let in-list : left - 1 < c7 .args .t1 .count = omega (arith, c3 .if2 .left, c5 .loop2 .inv .0, c5 .before .loop .inv .0) in
+    let q = keep-on (Behind _ left) p (λ j h. split-behind _ _ _ left j h (c5 .loop2 .inv .1)) in (
       omega (arith, in-list),
-      grow-at _ _ _ _ _ (left - 1) _ _ _ q (λ i h. next-behind _ left i (omega (arith, c2 .if2 .left)) h) (figure (c6 .args .t1 .from) (left - 1))
-          (figure (c6 .args .t1 .to) (left - 1)) refl refl in-list (omega (arith, l, p .between .long, c6 .pre .starts (left - 1) in-list))
-          (⊎-elim (λ w. absurd (omega (arith, c2 .if2 .left, w .left))) (λ w. w .3 .taken) (c2 .before .loop2-test .came)),
+      grow-at _ _ _ _ _ (left - 1) _ _ _ q (λ i h. next-behind _ left i (omega (arith, c3 .if2 .left)) h) (end-at (c7 .args .t1 .from) (left - 1))
+          (end-at (c7 .args .t1 .to) (left - 1)) _ refl refl (c .joined .ensures) in-list (omega (arith, l, p .between .long, c7 .pre .starts (left - 1) in-list))
+          (⊎-elim (λ w. absurd (omega (arith, c3 .if2 .left, w .left))) (λ w. fails (w .3 .ensures) (not-true _ (w .4 .taken))) (c3 .before .loop2-test .came)),
     )
 
 pub pass-back-spec : {M : Type 1} → statement M
@@ -118,8 +144,11 @@ pass-back-spec =
     cast-a
     element-copy-out-b
     cast-b
-    array-read-if1
-    array-read-if1-2
+    mul-mine
+    array-read-mine
+    mul-its
+    array-read-its
+    is-at-most-requires
     loop2-less
     loop2-again
     returns
@@ -128,7 +157,12 @@ pass-back-spec =
     cast-start
     element-copy-out-end
     cast-end
-    array-read-next
+    mul-had
+    array-read-had
+    mul-takes
+    array-read-takes
+    joined-requires
+    mul-next
     array-write-next
     loop-less
     loop-again)

@@ -1,22 +1,22 @@
 -- `passes::worked` meets its contract. Assumes nothing.
 use mathlib.Core.Path.{sym}
-use Prim.Native.Nat.{ℕ, _-_, _<_}
+use Prim.Native.Nat.{ℕ, _-_, _≤_}
 use native.Mathlib.Omega.{arith}
 use borrow.Author.Needs.{needs}
 use borrow.Author.Tests.{not-true, not-false}
 use lib.ListN.{getD}
 use mir.Val.{Fits}
-use mir.Syntax.{w8}
-use Rattle.passes.specs.Least.{figure, Between, sum}
-use Rattle.passes.proofs.Raising.{none-yet, then, stop, falls, true-false}
+use mir.Syntax.{w16}
+use Rattle.passes.specs.Least.{end-at, Between, sum}
+use Rattle.passes.proofs.Raising.{none-yet, then, stop, falls, holds, true-false}
 use Rattle.passes.proofs.worked.Statement.{statement}
 use Rattle.passes.proofs.worked.Tie as tie
 
 abbrev Inv-loop : tie.InvT-loop
-Inv-loop e stops at enough figures₀ figures = Between (e .count) (figure (e .from)) (figure (e .to)) figures₀ figures
+Inv-loop e stops at enough figures₀ figures = Between (e .count) (end-at (e .from)) (end-at (e .to)) figures₀ figures
 
 abbrev μ-loop : tie.MeasureT-loop
-μ-loop e stops at enough figures₀ figures = 24480 - sum figures
+μ-loop e stops at enough figures₀ figures = 6291360 - sum figures
 
 loop-holds : tie.Need-loop-holds Inv-loop μ-loop
 loop-holds c = none-yet _ _ _ _
@@ -30,14 +30,20 @@ returns c =
     let l = stop _ _ _ _ _ _ _ (c .before .before .before .before .loop .inv) p (not-true _ (c .if1 .taken)) in
     (l .between, (λ e. l .settled, λ e. true-false e))
 
-array-read-if3 : tie.Need-array-read-if3 Inv-loop μ-loop
-array-read-if3 c = search needs
+mul-there : tie.Need-mul-there Inv-loop μ-loop
+mul-there c = search needs
+
+array-read-there : tie.Need-array-read-there Inv-loop μ-loop
+array-read-there c = search needs
+
+is-at-most-requires : tie.Need-is-at-most-requires Inv-loop μ-loop
+is-at-most-requires c κs = tt
 
 returns-2 : tie.Need-returns-2 Inv-loop μ-loop
 returns-2 c =
-    let c1 = c .before in
-    let c5 = c1 .before .before .before .before in
-    (then _ _ _ _ _ _ _ (c5 .before .loop .inv) (c5 .pass .ensures), (λ e. true-false (sym e), λ e. (c1 .if2 .taken, c .if3 .taken)))
+    let c2 = c .before .before in
+    let c6 = c2 .before .before .before .before in
+    (then _ _ _ _ _ _ _ (c6 .before .loop .inv) (c6 .pass .ensures), (λ e. true-false (sym e), λ e. (c2 .if2 .taken, holds (c .before .is-at-most .ensures) (c .if3 .taken))))
 
 pass-back-requires : tie.Need-pass-back-requires Inv-loop μ-loop
 pass-back-requires c κs = search needs
@@ -54,8 +60,8 @@ loop-less : tie.Need-loop-less Inv-loop μ-loop
 loop-less c =
     let c5 = c .before .before .before .before .before in
     let c9 = c5 .before .before .before .before in
-    let low : ((x : ℕ) → getD (c9 .before .args .start) x 0 < 256) =
-    (λ x. let f : Fits w8 (getD (c9 .before .args .start) x 0) = search needs in omega arith) in
+    let low : ((x : ℕ) → getD (c9 .before .args .start) x 0 ≤ 65535) =
+    (λ x. let f : Fits w16 (getD (c9 .before .args .start) x 0) = search needs in omega arith) in
     falls _ _ _ _ _ _ _ _ _ (c9 .loop .inv) (c5 .before .before .before .pass .ensures) (c .before .before .before .pass-back .ensures) (search needs) low
     (not-false _ (c5 .if1 .left))
 
@@ -74,7 +80,9 @@ worked-spec =
     loop-holds
     pass-requires
     returns
-    array-read-if3
+    mul-there
+    array-read-there
+    is-at-most-requires
     returns-2
     pass-back-requires
     returns-3

@@ -1,20 +1,27 @@
 -- `quick::closed` meets its contract. Assumes nothing.
-use mathlib.Core.Path.{refl, sym, _∙_, ap₂}
-use mathlib.Core.Bool.{not, _&&_, _||_}
+use mathlib.Core.Path.{_≡_, refl, sym, _∙_}
+use mathlib.Core.Bool.{Bool, cond}
 use Prim.Native.Nat.{ℕ}
 use native.Mathlib.Omega.{arith}
 use borrow.Author.Needs.{needs}
 use borrow.Author.Tests.{not-true, not-false}
 use denote.Ref.{now}
-use lib.Dec.{eqb}
+use Rattle.labels.specs.Codes.{coded}
+use Rattle.tables.specs.declared.Object.{Object}
+use Rattle.tables.specs.declared.Handle.{Handle}
 use Rattle.tables.specs.Records.{reads-by}
-use Rattle.passes.specs.Working.{demands}
+use Rattle.passes.specs.Working.{spare-by, backed-by}
 use Rattle.passes.proofs.Raising.{true-false}
 use Rattle.quick.specs.Parts.{Whole, monitor-in}
 use Rattle.quick.proofs.Doing.{whole-long, done-settles}
 use Rattle.quick.proofs.Closing.{close-refused, close-loud, close-ended, close-done}
 use Rattle.quick.proofs.closed.Statement.{statement}
 use Rattle.quick.proofs.closed.Tie as tie
+
+-- what is said of the needs that were read, of those that stand there
+told : (h : Handle) (y : Object) {i j a b : ℕ} {r v : Bool} → r ≡ spare-by (coded (cond (reads-by (h .way)) i j)) (coded (cond (reads-by (h .way)) j i)) (backed-by h y)
+    → i ≡ a → j ≡ b → r ≡ v → spare-by (coded (cond (reads-by (h .way)) a b)) (coded (cond (reads-by (h .way)) b a)) (backed-by h y) ≡ v
+told h y t e f q = rw (sym e, sym f) (sym t ∙ q)
 
 are-whole-requires : tie.Need-are-whole-requires
 are-whole-requires c κs = search needs
@@ -85,8 +92,7 @@ returns-4 c =
     let c2 = c1 .before in
     let c3 = c2 .before in
     let c4 = c3 .before in
-    let loud = sym (c1 .is-quiet .ensures ∙ ap₂ (λ (i j : ℕ). not (eqb i j) || (eqb i 0 || (reads-by (o2 .handle-in .result .way) && demands (c4 .object-in .result) i)))
-    (c3 .subject-need .ensures) (c2 .object-need .ensures)) ∙ not-true _ (c .if4 .taken) in λ ns ln gs lg. (
+    let loud = told (o2 .handle-in .result) (c4 .object-in .result) (c1 .is-quiet .ensures) (c3 .subject-need .ensures) (c2 .object-need .ensures) (not-true _ (c .if4 .taken)) in λ ns ln gs lg. (
       λ l. absurd (omega arith),
       λ e. (refl, refl),
       λ i w one h. close-loud gs lg ns (now (a .subjects)) (now (a .objects)) (now (a .handles)) (now (a .needs)) (now (a .counts)) (a .freeze) (a .sure) (a .s) (a .p) w one (o4 .subject-in .result) (o2 .handle-in .result) (o1 .of-held .result) (o4 .subject-in .ensures .0) (o2 .handle-in .ensures) (o1 .of-held .ensures) (c4 .before .before .if3 .left) (c4 .object-in .result) (c4 .object-in .ensures .0) h loud,
@@ -154,8 +160,7 @@ returns-6 c =
     let c15 = c14 .before in
     let c16 = c15 .before in
     let c17 = c16 .before in
-    let quiet = sym (c14 .is-quiet .ensures ∙ ap₂ (λ (i j : ℕ). not (eqb i j) || (eqb i 0 || (reads-by (o2 .handle-in .result .way) && demands (c17 .object-in .result) i)))
-    (c16 .subject-need .ensures) (c15 .object-need .ensures)) ∙ not-false _ (c13 .if4 .left) in
+    let quiet = told (o2 .handle-in .result) (c17 .object-in .result) (c14 .is-quiet .ensures) (c16 .subject-need .ensures) (c15 .object-need .ensures) (not-false _ (c13 .if4 .left)) in
     let done = close-done gs lg ns (now (a .subjects)) (now (a .objects)) (now (a .handles)) (now (a .needs)) (now (a .counts)) (a .freeze) (a .sure) (a .s) (a .p) w (o5 .if2 .left) (o4 .subject-in .result) (o2 .handle-in .result) (o1 .of-held .result) (o4 .subject-in .ensures .0) (o2 .handle-in .ensures) (o1 .of-held .ensures) (c17 .before .before .if3 .left) (c17 .object-in .result) (c17 .object-in .ensures .0) quiet (c12 .slot-of .result) (c12 .slot-of .ensures)
     (c10 .is-outlived .ensures .0 (not-false _ (c9 .if5 .left))) (c7 .put .last .0) (c3 .count .last .0) (c7 .put .ensures .0) (c3 .count .ensures) _ refl (o4 .subject-in .ensures .1) in
     (λ l. (w, done), λ e. absurd (omega arith), λ i w′ one h. done-settles (monitor-in gs ns (now (a .subjects)) (now (a .objects)) (now (a .handles)) (now (a .needs)) (a .freeze) (a .sure)) (whole-long gs lg ns (now (a .subjects)) (now (a .objects)) (now (a .handles)) (now (a .needs)) (now (a .counts)) (a .freeze) (a .sure) w) h (omega arith) done)

@@ -7,6 +7,7 @@ use borrow.Author.Tests.{not-true, not-false}
 use denote.Ref.{now}
 use lib.Dec.{eqb}
 use Rattle.tables.specs.Working.{joining}
+use Rattle.labels.specs.Codes.{coded}
 use Rattle.passes.specs.Working.{falls-by}
 use Rattle.passes.proofs.Raising.{true-false}
 use Rattle.quick.specs.Parts.{Whole, monitor-in}
@@ -138,7 +139,7 @@ returns-7 c =
     let c2 = c1 .before in
     let c3 = c2 .before in
     let c5 = c3 .before .before in
-    let up = sym (c1 .falls .ensures ∙ ap₂ (falls-by (eqb (a .code) 5)) (c3 .subject-need .ensures) (c2 .object-need .ensures)) ∙ not-true _ (c .if7 .taken) in λ gs lg. (
+    let up = sym (c1 .falls .ensures ∙ ap₂ (λ (i j : ℕ). falls-by (eqb (a .code) 5) (coded i) (coded j)) (c3 .subject-need .ensures) (c2 .object-need .ensures)) ∙ not-true _ (c .if7 .taken) in λ gs lg. (
       λ l. absurd (omega arith),
       λ e. (refl, refl),
       λ i w one. open-left gs lg (now (a .numbers)) (now (a .subjects)) (now (a .objects)) (now (a .handles)) (now (a .needs)) (now (a .counts)) (a .freeze) (a .sure) (a .code) (a .s) (a .o) (o5 .slot-in .result) (a .p) w one (o5 .slot-in .ensures) d (o6 .subject-in .result) (o4 .object-in .result) (o2 .handle-in .result) (o1 .of-open .result) (o6 .subject-in .ensures .0) (o4 .object-in .ensures .0) (o2 .handle-in .ensures) (o1 .of-open .ensures) (c5 .before .if5 .left) (c5 .is-frozen .result) (c5 .is-frozen .ensures) (c3 .before .if6 .left) up,
@@ -195,7 +196,7 @@ returns-8 c =
     let c14 = c13 .before in
     let c15 = c14 .before in
     let c16 = c15 .before in
-    let down = sym (c12 .falls .ensures ∙ ap₂ (falls-by (eqb (a .code) 5)) (c14 .subject-need .ensures) (c13 .object-need .ensures)) ∙ not-false _ (c11 .if7 .left) in
+    let down = sym (c12 .falls .ensures ∙ ap₂ (λ (i j : ℕ). falls-by (eqb (a .code) 5) (coded i) (coded j)) (c14 .subject-need .ensures) (c13 .object-need .ensures)) ∙ not-false _ (c11 .if7 .left) in
     let done = open-done gs lg (now (a .numbers)) (now (a .subjects)) (now (a .objects)) (now (a .handles)) (now (a .needs)) (now (a .counts)) (a .freeze) (a .sure) (a .code) (a .s) (a .o) (o5 .slot-in .result) (a .p) w (o9 .if3 .left) (o5 .slot-in .ensures) d (o6 .subject-in .result) (o4 .object-in .result) (o2 .handle-in .result) (o1 .of-open .result) (o6 .subject-in .ensures .0) (o4 .object-in .ensures .0) (o2 .handle-in .ensures) (o1 .of-open .ensures) (c16 .before .if5 .left) (c16 .is-frozen .result) (c16 .is-frozen .ensures) (c15 .if6 .left) (c9 .joining .result)
     (c9 .joining .ensures ∙ ap (λ (i : ℕ). joining i (o5 .slot-in .result)) (c10 .way-of .ensures)) down (c7 .put .last .0) (c3 .count .last .0) (c7 .put .ensures .0) (c3 .count .ensures) _ refl (o4 .object-in .ensures .1) in
     (λ l. (w, done), λ e. absurd (omega arith), λ i w′ one h. done-settles (monitor-in gs (now (a .numbers)) (now (a .subjects)) (now (a .objects)) (now (a .handles)) (now (a .needs)) (a .freeze) (a .sure)) (whole-long gs lg (now (a .numbers)) (now (a .subjects)) (now (a .objects)) (now (a .handles)) (now (a .needs)) (now (a .counts)) (a .freeze) (a .sure) w) h (omega arith) done)

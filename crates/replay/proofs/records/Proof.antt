@@ -1,7 +1,7 @@
 -- `replay::records` meets its contract. Assumes nothing.
 use mathlib.Core.Path.{_≡_, sym, _∙_, ap, ap₂, subst}
 use Rattle.text.specs.Parts.Laws.{put-after, none-after}
-use Rattle.replay.specs.Replay.{last-line, largest-journal}
+use Rattle.replay.specs.Replay.{answer-line, last-line, largest-journal}
 use Rattle.replay.specs.Replay.Laws.{bad-inside, right-more, honest-more, sure-more, one-turned}
 use mathlib.Core.Bool.{Bool, cond}
 use mathlib.Core.Option.{Option·none-ne-some}
@@ -9,6 +9,7 @@ use Prim.Native.Nat.{ℕ, _+_, _-_, _≤_}
 use native.Mathlib.Omega.{arith}
 use borrow.Author.Needs.{needs}
 use lib.ListN.{length, take, drop}
+use Rattle.model.specs.Calls.{Answer}
 use Rattle.number.specs.Put.{put, fitted}
 use Rattle.number.specs.Answers.{writing}
 use Rattle.text.specs.Reply.{line, ending, longest-line, longest-end}
@@ -17,7 +18,7 @@ use Rattle.journal.specs.Answers.{answers as reads, refused as bad}
 use Rattle.journal.specs.Journal.{entry-at, body-in}
 use Rattle.replay.specs.One.{One}
 use Rattle.journal.specs.Journal.Laws.{entry-next}
-use Rattle.answers.specs.Telling.{told, letter-of, value-of}
+use Rattle.answers.specs.Telling.{told, letter-of, value-of, lost-of}
 use Rattle.gatekeeper.specs.View.{view, Honest, Right}
 use Rattle.tally.specs.Counting.{counts-of}
 use Rattle.replay.specs.Demand3.Laws.{run-ended}
@@ -31,6 +32,12 @@ Inv-loop journal out₀ m₀ tally₀ at₀ position₀ used₀ going₀ out m t
 
 abbrev μ-loop : tie.MeasureT-loop
 μ-loop journal out₀ m₀ tally₀ at₀ position₀ used₀ going₀ out m tally at position used going = (length journal - at) + cond going 1 0
+
+-- the line that is written is that of the answer
+same-line : (p code : ℕ) (x : Answer) {letter value lost : ℕ} → letter ≡ letter-of x → value ≡ value-of x → lost ≡ lost-of x
+    → line p code letter value lost ≡ answer-line p code x
+same-line p code x {letter} {value} {lost} e f g =
+    ap₂ (λ u v. line p code u v lost) e f ∙ ap (λ w. line p code (letter-of x) (value-of x) w) g
 
 empty-requires : tie.Need-empty-requires Inv-loop μ-loop
 empty-requires c κs = search needs
@@ -58,11 +65,14 @@ letter-requires c κs = search needs
 value-requires : tie.Need-value-requires Inv-loop μ-loop
 value-requires c κs = search needs
 
+lost-requires : tie.Need-lost-requires Inv-loop μ-loop
+lost-requires c κs = search needs
+
 sub-write-line : tie.Need-sub-write-line Inv-loop μ-loop
-sub-write-line c = let o = c .before .before .before .before .before .before .before .before .before .loop .inv .1 .stage .over in omega (arith, o .within, o .size)
+sub-write-line c = let o = c .before .before .before .before .before .before .before .before .before .before .loop .inv .1 .stage .over in omega (arith, o .within, o .size)
 
 part-write-line-start : tie.Need-part-write-line-start Inv-loop μ-loop
-part-write-line-start c = let o = c .before .before .before .before .before .before .before .before .before .loop .inv .1 .stage .over in omega (arith, o .within, o .size)
+part-write-line-start c = let o = c .before .before .before .before .before .before .before .before .before .before .loop .inv .1 .stage .over in omega (arith, o .within, o .size)
 
 part-write-line-end : tie.Need-part-write-line-end Inv-loop μ-loop
 part-write-line-end c = search needs
@@ -76,43 +86,43 @@ enum-known-n c = search needs
 add-used : tie.Need-add-used Inv-loop μ-loop
 add-used c =
     let c5 = c .before .before .before .before .before in
-    let c15 = c5 .before .before .before .before .before .before .before .before .before .before in
-    let c16 = c15 .before in
-    let c20 = c16 .before .before .before .before in
-    let l = c16 .loop in
-    let a = c20 .args in
-    let g = at-test (c15 .loop-test .taken) (l .inv .1) in
+    let c16 = c5 .before .before .before .before .before .before .before .before .before .before .before in
+    let c17 = c16 .before in
+    let c21 = c17 .before .before .before .before in
+    let l = c17 .loop in
+    let a = c21 .args in
+    let g = at-test (c16 .loop-test .taken) (l .inv .1) in
     let w = c5 .write-line in
     omega (
       arith,
       put-after (g .stage .over) _ (w .last .0) (c .before .n .given .0 .0) (ap writing (sym (c .before .n .given .1)) ∙ w .ensures .0)
           (w .ensures .1 .0) .within,
-      c20 .good,
+      c21 .good,
     )
 
 add-position : tie.Need-add-position Inv-loop μ-loop
 add-position c =
-    let c15 = c .before .before .before .before .before .before .before .before .before .before .before .before .before .before .before in
-    let c16 = c15 .before in
-    let c20 = c16 .before .before .before .before in
-    let l = c16 .loop in
-    let a = c20 .args in
-    let g = at-test (c15 .loop-test .taken) (l .inv .1) in
+    let c16 = c .before .before .before .before .before .before .before .before .before .before .before .before .before .before .before .before in
+    let c17 = c16 .before in
+    let c21 = c17 .before .before .before .before in
+    let l = c17 .loop in
+    let a = c21 .args in
+    let g = at-test (c16 .loop-test .taken) (l .inv .1) in
     omega (arith, g .early, g .inside, l .inv .0)
 
 loop-less : tie.Need-loop-less Inv-loop μ-loop
 loop-less c =
-    let c14 = c .before .before .before .before .before .before .before .before .before .before .before .before .before .before in
-    let c16 = c14 .before .before in
-    let c17 = c16 .before in
+    let c15 = c .before .before .before .before .before .before .before .before .before .before .before .before .before .before .before in
+    let c17 = c15 .before .before in
     let c18 = c17 .before in
-    let c22 = c18 .before .before .before .before in
-    let l = c18 .loop in
-    let a = c22 .args in
-    let g = at-test (c17 .loop-test .taken) (l .inv .1) in
-    let q = c14 .start .given in
+    let c19 = c18 .before in
+    let c23 = c19 .before .before .before .before in
+    let l = c19 .loop in
+    let a = c23 .args in
+    let g = at-test (c18 .loop-test .taken) (l .inv .1) in
+    let q = c15 .start .given in
     let e : entry-at (a .journal .now) (l .at) ≡ reads (body (q .0 .0) (q .0 .1 .0)
-    (q .0 .1 .1 .0)) = sym (c16 .entry-at .ensures) ∙ ap entry-answer (q .1) in
+    (q .0 .1 .1 .0)) = sym (c17 .entry-at .ensures) ∙ ap entry-answer (q .1) in
     omega (arith, entry-next _ _ _ _ _ e .0, entry-next _ _ _ _ _ e .1)
 
 loop-again : tie.Need-loop-again Inv-loop μ-loop
@@ -123,27 +133,24 @@ loop-again c =
     let c10 = c9 .before in
     let c11 = c10 .before in
     let c12 = c11 .before in
-    let c14 = c12 .before .before in
-    let c16 = c14 .before .before in
-    let c17 = c16 .before in
+    let c13 = c12 .before in
+    let c15 = c13 .before .before in
+    let c17 = c15 .before .before in
     let c18 = c17 .before in
-    let c22 = c18 .before .before .before .before in
-    let l = c18 .loop in
-    let a = c22 .args in
-    let g = at-test (c17 .loop-test .taken) (l .inv .1) in
-    let q = c14 .start .given in
+    let c19 = c18 .before in
+    let c23 = c19 .before .before .before .before in
+    let l = c19 .loop in
+    let a = c23 .args in
+    let g = at-test (c18 .loop-test .taken) (l .inv .1) in
+    let q = c15 .start .given in
     let e : entry-at (a .journal .now) (l .at) ≡ reads (body (q .0 .0) (q .0 .1 .0)
-    (q .0 .1 .1 .0)) = sym (c16 .entry-at .ensures) ∙ ap entry-answer (q .1) in
-    let k = c11 .one in
+    (q .0 .1 .1 .0)) = sym (c17 .entry-at .ensures) ∙ ap entry-answer (q .1) in
+    let k = c12 .one in
     let w = c7 .write-line in
     let x = told (k .result .answer) in
-    let is : line (l .position) (k .result .code) (c10 .letter .result)
-    (c9 .value .result) ≡ line (l .position) (k .result .code)
-    (letter-of x) (value-of x) = ap₂ (λ u v. line (l .position) (k .result .code) u v)
-    (c10 .letter .ensures)
-    (c9 .value .ensures) in
+    let is = same-line (l .position) (k .result .code) x (c11 .letter .ensures) (c10 .value .ensures) (c9 .lost .ensures) in
     let o = one-turned (l .m) (k .result .monitor) (l .tally) (k .result .tally) (k .result .code) x (body-in (take (q .0 .1 .0) (drop (q .0 .0) (a .journal .now)))) (l .inv .0 .2)
-    (subst (λ bs. One (l .m) (l .tally) (body-in bs) (k .result .code) x (k .result .monitor) (k .result .tally)) (c12 .body-at .ensures .bytes) (k .ensures)) in
+    (subst (λ bs. One (l .m) (l .tally) (body-in bs) (k .result .code) x (k .result .monitor) (k .result .tally)) (c13 .body-at .ensures .bytes) (k .ensures)) in
     let thin = subst (λ y. length y ≤ longest-line) is (w .ensures .1 .1) in
     let rest = take (length (l .out) - l .used) (drop (l .used) (l .out)) in (
       (
@@ -155,7 +162,7 @@ loop-again c =
         sure-more (l .m) (k .result .monitor) (counts-of (l .tally)) (counts-of (k .result .tally)) (k .result .code) x
             (body-in (take (q .0 .1 .0) (drop (q .0 .0) (a .journal .now)))) o (l .inv .0 .3),
       ),
-      at-test (sym (c17 .loop-test .taken)) (record-turn (a .journal .now) (a .out .now) (l .out) (l .at) (l .position) (l .used) (l .m)
+      at-test (sym (c18 .loop-test .taken)) (record-turn (a .journal .now) (a .out .now) (l .out) (l .at) (l .position) (l .used) (l .m)
           (counts-of (l .tally)) g (q .0 .0) (q .0 .1 .0) (q .0 .1 .1 .0) e (k .result .monitor) (counts-of (k .result .tally))
           (k .result .code) x o thin (w .last .0) (c3 .n .given .0 .0)
           (ap writing (sym (c3 .n .given .1)) ∙ w .ensures .0 ∙ ap (λ y. fitted y rest) is) (w .ensures .1 .0 ∙ ap (λ y. put y rest) is)),
@@ -167,12 +174,12 @@ enum-told c = search needs
 same-length : tie.Need-same-length Inv-loop μ-loop
 same-length c =
     let c4 = c .before .before .before .before in
-    let c14 = c4 .before .before .before .before .before .before .before .before .before .before in
-    let c15 = c14 .before in
-    let c19 = c15 .before .before .before .before in
-    let l = c15 .loop in
-    let a = c19 .args in
-    let g = at-test (c14 .loop-test .taken) (l .inv .1) in
+    let c15 = c4 .before .before .before .before .before .before .before .before .before .before .before in
+    let c16 = c15 .before in
+    let c20 = c16 .before .before .before .before in
+    let l = c16 .loop in
+    let a = c20 .args in
+    let g = at-test (c15 .loop-test .taken) (l .inv .1) in
     let w = c4 .write-line in
     ap length (none-after (g .stage .over) _ (w .last .0) (ap writing (sym (c .enum-told .given .1)) ∙ w .ensures .0)
     (w .ensures .1 .0)) ∙ g .stage .over .size
@@ -184,28 +191,25 @@ returns c =
     let c7 = c6 .before in
     let c8 = c7 .before in
     let c9 = c8 .before in
-    let c11 = c9 .before .before in
-    let c13 = c11 .before .before in
-    let c14 = c13 .before in
+    let c10 = c9 .before in
+    let c12 = c10 .before .before in
+    let c14 = c12 .before .before in
     let c15 = c14 .before in
-    let c19 = c15 .before .before .before .before in
-    let l = c15 .loop in
-    let a = c19 .args in
-    let g = at-test (c14 .loop-test .taken) (l .inv .1) in
-    let q = c11 .start .given in
+    let c16 = c15 .before in
+    let c20 = c16 .before .before .before .before in
+    let l = c16 .loop in
+    let a = c20 .args in
+    let g = at-test (c15 .loop-test .taken) (l .inv .1) in
+    let q = c12 .start .given in
     let e : entry-at (a .journal .now) (l .at) ≡ reads (body (q .0 .0) (q .0 .1 .0)
-    (q .0 .1 .1 .0)) = sym (c13 .entry-at .ensures) ∙ ap entry-answer (q .1) in
-    let k = c8 .one in
+    (q .0 .1 .1 .0)) = sym (c14 .entry-at .ensures) ∙ ap entry-answer (q .1) in
+    let k = c9 .one in
     let w = c4 .write-line in
     let x = told (k .result .answer) in
-    let is : line (l .position) (k .result .code) (c7 .letter .result)
-    (c6 .value .result) ≡ line (l .position) (k .result .code) (letter-of x)
-    (value-of x) = ap₂ (λ u v. line (l .position) (k .result .code) u v)
-    (c7 .letter .ensures)
-    (c6 .value .ensures) in
+    let is = same-line (l .position) (k .result .code) x (c8 .letter .ensures) (c7 .value .ensures) (c6 .lost .ensures) in
     let rest = take (length (l .out) - l .used) (drop (l .used) (l .out)) in
     let o = one-turned (l .m) (k .result .monitor) (l .tally) (k .result .tally) (k .result .code) x (body-in (take (q .0 .1 .0) (drop (q .0 .0) (a .journal .now)))) (l .inv .0 .2)
-    (subst (λ bs. One (l .m) (l .tally) (body-in bs) (k .result .code) x (k .result .monitor) (k .result .tally)) (c9 .body-at .ensures .bytes) (k .ensures)) in
+    (subst (λ bs. One (l .m) (l .tally) (body-in bs) (k .result .code) x (k .result .monitor) (k .result .tally)) (c10 .body-at .ensures .bytes) (k .ensures)) in
     let thin = subst (λ y. length y ≤ longest-line) is (w .ensures .1 .1) in (
       record-ends (a .journal .now) (a .out .now) (l .out) (l .at) (l .position) (l .used) (l .m) (counts-of (l .tally)) g (q .0 .0) (q .0 .1 .0)
           (q .0 .1 .1 .0) e (k .result .monitor) (counts-of (k .result .tally)) (k .result .code) x o thin (l .inv .0 .0) (w .last .0)
@@ -429,6 +433,7 @@ records-spec =
     one-requires
     letter-requires
     value-requires
+    lost-requires
     sub-write-line
     part-write-line-start
     part-write-line-end

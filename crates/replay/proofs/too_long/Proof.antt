@@ -18,14 +18,14 @@ sub-write-end : tie.Need-sub-write-end
 sub-write-end c =
     let f = c .before .before .before .before .before .before .before .before .args .out .now in
     let v = c .before .before .before .before .before .write-line in
-    begun-inside (line 1 0 82 14) (ending 0 0 0) f refusal-thin (v .last .0) (c .before .n .given .0 .0)
+    begun-inside (line 1 0 82 14 0) (ending 0 0 0) f refusal-thin (v .last .0) (c .before .n .given .0 .0)
     (ap writing (sym (c .before .n .given .1)) ∙ v .ensures .0) (v .ensures .1 .0)
 
 part-write-end-start : tie.Need-part-write-end-start
 part-write-end-start c =
     let f = c .before .before .before .before .before .before .before .before .args .out .now in
     let v = c .before .before .before .before .before .write-line in
-    begun-inside (line 1 0 82 14) (ending 0 0 0) f refusal-thin (v .last .0) (c .before .n .given .0 .0)
+    begun-inside (line 1 0 82 14 0) (ending 0 0 0) f refusal-thin (v .last .0) (c .before .n .given .0 .0)
     (ap writing (sym (c .before .n .given .1)) ∙ v .ensures .0) (v .ensures .1 .0)
 
 part-write-end-end : tie.Need-part-write-end-end
@@ -48,7 +48,7 @@ add-t14 c =
     let w = c5 .write-end in
     omega (
       arith,
-      both-over (line 1 0 82 14) (ending 0 0 0) f refusal-thin (v .last .0)
+      both-over (line 1 0 82 14 0) (ending 0 0 0) f refusal-thin (v .last .0)
           (c8 .n .given .0 .0)
           (ap writing (sym (c8 .n .given .1)) ∙ v .ensures .0) (v .ensures .1 .0)
           (w .last .0) (c .before .k .given .0 .0) (ap writing (sym (c .before .k .given .1)) ∙ w .ensures .0)
@@ -74,7 +74,7 @@ returns c =
     let f = c15 .args .out .now in
     let v = c12 .write-line in
     let w = c5 .write-end in
-    all-ends _ f _ _ (both-over (line 1 0 82 14) (ending 0 0 0) f refusal-thin (v .last .0)
+    all-ends _ f _ _ (both-over (line 1 0 82 14 0) (ending 0 0 0) f refusal-thin (v .last .0)
     (c8 .n .given .0 .0)
     (ap writing (sym (c8 .n .given .1)) ∙ v .ensures .0) (v .ensures .1 .0)
     (w .last .0) (c .before .k .given .0 .0) (ap writing (sym (c .before .k .given .1)) ∙ w .ensures .0) (w .ensures .1 .0))
@@ -91,7 +91,7 @@ returns-2 c =
     let f = c14 .args .out .now in
     let v = c11 .write-line in
     let w = c4 .write-end in
-    second-short (line 1 0 82 14) (ending 0 0 0) f refusal-thin (v .last .0)
+    second-short (line 1 0 82 14 0) (ending 0 0 0) f refusal-thin (v .last .0)
     (c7 .n .given .0 .0)
     (ap writing (sym (c7 .n .given .1)) ∙ v .ensures .0) (v .ensures .1 .0) (w .last .0)
     (ap writing (sym (c .enum-told .given .1)) ∙ w .ensures .0) (w .ensures .1 .0)
@@ -103,7 +103,7 @@ returns-3 : tie.Need-returns-3
 returns-3 c =
     let f = c .before .before .before .before .before .before .before .args .out .now in
     let v = c .before .before .before .before .write-line in
-    first-short (line 1 0 82 14) (ending 0 0 0) f refusal-thin (v .last .0) (ap writing (sym (c .enum-told2 .given .1)) ∙ v .ensures .0)
+    first-short (line 1 0 82 14 0) (ending 0 0 0) f refusal-thin (v .last .0) (ap writing (sym (c .enum-told2 .given .1)) ∙ v .ensures .0)
     (v .ensures .1 .0)
 
 pub too-long-spec : {M : Type 1} → statement M

@@ -23,13 +23,11 @@ use Rattle.journal.specs.Answers.{Answer as Read, answers as reads, refused as 
 use Rattle.journal.specs.Calls.{arity-of, known}
 use Rattle.journal.specs.Journal.{sized, entry-at, arguments-in, call-with, coded, body-in}
 use Rattle.gatekeeper.specs.declared.Monitor.{Monitor}
-use Rattle.answers.specs.Telling.{letter-of, value-of}
 use Rattle.gatekeeper.specs.View.{view, Honest, Right, monitors}
 use Rattle.gatekeeper.specs.View.Laws.{honest-tidy}
 use Rattle.tally.specs.declared.Tally.{Tally as Lent}
 use Rattle.tally.specs.Counting.{counts-of}
-use Rattle.text.specs.Reply.{line}
-use Rattle.replay.specs.Replay.{followed, records, raw, unknown-call, calls-of, replies, lines, last-line}
+use Rattle.replay.specs.Replay.{followed, records, raw, unknown-call, calls-of, replies, answer-line, lines, last-line}
 use Rattle.replay.specs.One.{One, Turned}
 
 -- ── the records ──
@@ -143,7 +141,7 @@ left p t y l = lines p (replies t l) ++ last-line (tally t y (calls-of l))
 
 -- a line, and what is left after it
 abbrev pub line-and-left : ℕ → List Said → ℕ → Answer → Tables → Tally → List ℕ
-line-and-left p l code a t y = line p code (letter-of a) (value-of a) ++ left (suc p) t y l
+line-and-left p l code a t y = answer-line p code a ++ left (suc p) t y l
 
 same-all : (p : ℕ) (l : List Said) {c code : ℕ} {a b : Answer} {t u : Tables} {y z : Tally} → code ≡ c → b ≡ a → u ≡ t → z ≡ y
     → line-and-left p l c a t y ≡ line-and-left p l code b u z
@@ -158,7 +156,7 @@ module _ (m n : Monitor) (y z : Tally) (code : ℕ) (a : Answer) (k : Kept (view
 
   -- one record more
   pub left-more : (p : ℕ) (s : Said) (l : List Said) → Plain s → Turned m y s code a n z → left p (view m) y (s ∷ l) ≡ line-and-left p l code a (view n) z
-  left-more p (said c (reads ns)) l v o = append-assoc (line p c (letter-of b) (value-of b)) (lines (suc p) (replies u l)) (last-line (tally u x (calls-of l)))
+  left-more p (said c (reads ns)) l v o = append-assoc (answer-line p c b) (lines (suc p) (replies u l)) (last-line (tally u x (calls-of l)))
       ∙ same-all p l (o .0) (f .0) (f .1) (o .2 ∙ ap (λ (w : Tables). tallied w d y) cleaned)
     where
       d : Call
@@ -177,7 +175,7 @@ module _ (m n : Monitor) (y z : Tally) (code : ℕ) (a : Answer) (k : Kept (view
       f = meets-next monitors m d a n (view m) refl k (o .1 .0) (o .1 .1)
   left-more p (said c (bad j)) l v o =
       ap (λ (x : Tally). lines p (replies (view m) (said c (bad j) ∷ l)) ++ last-line x) (quiet (view m) y c j (calls-of l) v .1)
-      ∙ append-assoc (line p c 82 j) (lines (suc p) (replies (view m) l)) (last-line (tally (view m) y (calls-of l)))
+      ∙ append-assoc (answer-line p c (refused j)) (lines (suc p) (replies (view m) l)) (last-line (tally (view m) y (calls-of l)))
       ∙ same-all p l (o .0) (o .1) (ap view (o .2)) (o .3)
 
   pub kept-more : (s : Said) → Turned m y s code a n z → Kept (view n)

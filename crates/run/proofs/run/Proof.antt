@@ -1,5 +1,5 @@
 -- `run::run` meets its contract. Assumes nothing.
-use mathlib.Core.Path.{_≡_, refl, sym, _∙_, subst, subst₂}
+use mathlib.Core.Path.{_≡_, refl, _∙_, subst}
 use Prim.Native.Nat.{ℕ, _+_, _*_, _-_, _/_, _≤_}
 use native.Mathlib.Omega.{arith}
 use borrow.Author.Needs.{needs}
@@ -13,7 +13,7 @@ use Rattle.run.proofs.run.Statement.{statement}
 use Rattle.run.proofs.run.Tie as tie
 
 abbrev Inv-loop : tie.InvT-loop
-Inv-loop calls out₀ n m₀ i₀ out m i = (i ≤ n) × (n * 7 ≤ length calls) × (n * 2 ≤ length out₀) × (length out ≡ length out₀) × So-far calls out₀ out i (view m) × Right m × Honest m × (m .sure ≡ 1)
+Inv-loop calls out₀ n m₀ i₀ out m i = (i ≤ n) × (n * 7 ≤ length calls) × (n * 3 ≤ length out₀) × (length out ≡ length out₀) × So-far calls out₀ out i (view m) × Right m × Honest m × (m .sure ≡ 1)
 
 abbrev μ-loop : tie.MeasureT-loop
 μ-loop calls out₀ n m₀ i₀ out m i = n - i
@@ -27,8 +27,8 @@ empty-requires c κs = search needs
 loop-holds : tie.Need-loop-holds Inv-loop μ-loop
 loop-holds c =
     let a = c .before .before .before .before .args in
-    let fits : c .before .fewer .result ≡ lesser (length (a .calls .now) / 7) (length (a .out .now) / 2) = c .before .fewer .ensures in
-    (omega arith, omega (arith, lesser-left (length (a .calls .now) / 7) (length (a .out .now) / 2)), omega (arith, lesser-right (length (a .calls .now) / 7) (length (a .out .now) / 2)), refl, so-far-none (a .calls .now) (a .out .now) (view (c .empty .result)) (c .empty .ensures .0), c .empty .ensures .1 .0, c .empty .ensures .1 .1 .0, c .empty .ensures .1 .1 .1)
+    let fits : c .before .fewer .result ≡ lesser (length (a .calls .now) / 7) (length (a .out .now) / 3) = c .before .fewer .ensures in
+    (omega arith, omega (arith, lesser-left (length (a .calls .now) / 7) (length (a .out .now) / 3)), omega (arith, lesser-right (length (a .calls .now) / 7) (length (a .out .now) / 3)), refl, so-far-none (a .calls .now) (a .out .now) (view (c .empty .result)) (c .empty .ensures .0), c .empty .ensures .1 .0, c .empty .ensures .1 .1 .0, c .empty .ensures .1 .1 .1)
 
 mul-at : tie.Need-mul-at Inv-loop μ-loop
 mul-at c = search needs
@@ -112,7 +112,19 @@ add-out : tie.Need-add-out Inv-loop μ-loop
 add-out c = let g = c .before .before .before .before .before .before .before .before .before .before .before .before .before .before .before .before .good in search (g, needs)
 
 slice-write-out-2 : tie.Need-slice-write-out-2 Inv-loop μ-loop
-slice-write-out-2 c = let l = c .before .before .before .before .before .before .before .before .before .before .before .loop in omega (arith, length-set (l .out) (l .i * 2) (c .before .letter .result), l .inv .2, l .inv .3)
+slice-write-out-2 c = let l = c .before .before .before .before .before .before .before .before .before .before .before .loop in omega (arith, length-set (l .out) (l .i * 3) (c .before .letter .result), l .inv .2, l .inv .3)
+
+lost-requires : tie.Need-lost-requires Inv-loop μ-loop
+lost-requires c κs = search needs
+
+add-out-2 : tie.Need-add-out-2 Inv-loop μ-loop
+add-out-2 c = let g = c .before .before .before .before .before .before .before .before .before .before .before .before .before .before .before .before .before .good in search (g, needs)
+
+slice-write-out-3 : tie.Need-slice-write-out-3 Inv-loop μ-loop
+slice-write-out-3 c =
+    let l = c .before .before .before .before .before .before .before .before .before .before .before .before .loop in
+    let first = set (l .out) (l .i * 3) (c .before .before .letter .result) in
+    omega (arith, length-set first (l .i * 3 + 1) (c .before .value .result), length-set (l .out) (l .i * 3) (c .before .before .letter .result), l .inv .2, l .inv .3)
 
 add-i : tie.Need-add-i Inv-loop μ-loop
 add-i c = search needs
@@ -122,17 +134,23 @@ loop-less c = search needs
 
 loop-again : tie.Need-loop-again Inv-loop μ-loop
 loop-again c =
-    let l = c .before .before .before .before .before .before .before .before .before .before .before .before .loop in
-    let a = c .before .before .before .before .before .before .before .before .before .before .before .before .before .before .before .before .before .args in
-    let k = c .before .before .before .call in
-    let t = c .before .before .before .before .before .before .before .before .before .before .before .loop-test .taken in
-    let h = l .inv .6 in (
+    let l = c .before .before .before .before .before .before .before .before .before .before .before .before .before .loop in
+    let a = c .before .before .before .before .before .before .before .before .before .before .before .before .before .before .before .before .before .before .args in
+    let k = c .before .before .before .before .call in
+    let t = c .before .before .before .before .before .before .before .before .before .before .before .before .loop-test .taken in
+    let h = l .inv .6 in
+    let letter = c .before .before .before .letter in
+    let value = c .before .before .value in
+    let lost = c .before .lost in (
       omega (arith, t),
       l .inv .1,
       l .inv .2,
-      length-set (set (l .out) (l .i * 2) (c .before .before .letter .result)) (l .i * 2 + 1) (c .before .value .result) ∙ length-set (l .out) (l .i * 2) (c .before .before .letter .result) ∙ l .inv .3,
-      subst₂ (λ (x y : ℕ). So-far (a .calls .now) (a .out .now) (set (set (l .out) (l .i * 2) x) (l .i * 2 + 1) y) (l .i + 1) (view (k .result .monitor))) (sym (c .before .before .letter .ensures)) (sym (c .before .value .ensures))
-          (so-far-more (a .calls .now) (a .out .now) (l .out) (l .i) (l .m) (k .result .monitor) (told (k .result .answer)) (omega (arith, t, l .inv .2)) (l .inv .4) h (k .ensures)),
+      length-set (set (set (l .out) (l .i * 3) (letter .result)) (l .i * 3 + 1) (value .result)) (l .i * 3 + 2) (lost .result)
+          ∙ length-set (set (l .out) (l .i * 3) (letter .result)) (l .i * 3 + 1) (value .result)
+          ∙ length-set (l .out) (l .i * 3) (letter .result)
+          ∙ l .inv .3,
+      so-far-more (a .calls .now) (a .out .now) (l .out) (l .i) (l .m) (k .result .monitor) (told (k .result .answer)) (omega (arith, t, l .inv .2)) (l .inv .4) h (k .ensures)
+          (letter .result) (value .result) (lost .result) (letter .ensures) (value .ensures) (lost .ensures),
       k .ensures .kept (honest-tidy (l .m) h) (l .inv .5),
       k .ensures .stays h,
       k .ensures .says (honest-tidy (l .m) h) ∙ l .inv .7,
@@ -187,6 +205,9 @@ run-spec =
     value-requires
     add-out
     slice-write-out-2
+    lost-requires
+    add-out-2
+    slice-write-out-3
     add-i
     loop-less
     loop-again

@@ -1,10 +1,10 @@
 -- `stored::load_numbers` meets its contract. Assumes nothing.
-use mathlib.Core.Path.{refl, ap, _∙_}
-use Prim.Native.Nat.{_+_, _*_, _-_}
+use mathlib.Core.Path.{refl}
+use Prim.Native.Nat.{_-_}
 use native.Mathlib.Omega.{arith}
 use borrow.Author.Needs.{needs}
 use Rattle.stored.specs.State.{number-width, whole, numbers-at, numbers-of}
-use Rattle.stored.proofs.Loading.{bytes-taken, Loaded, loaded-none, loaded-more, loaded-all}
+use Rattle.stored.proofs.Loading.{Loaded, loaded-none, loaded-part, loaded-all}
 use Rattle.stored.proofs.load_numbers.Statement.{statement}
 use Rattle.stored.proofs.load_numbers.Tie as tie
 
@@ -39,11 +39,7 @@ loop-less : tie.Need-loop-less Inv-loop μ-loop
 loop-less c = search needs
 
 loop-again : tie.Need-loop-again Inv-loop μ-loop
-loop-again c =
-    let t = c .before .loop-test .taken in
-    let l = c .before .before .loop in
-    let start = c .before .before .before .before in
-    loaded-more (l .inv) _ t (c .load-number .ensures ∙ ap whole (bytes-taken 8 (numbers-at + number-width * l .i) (start .args .state .now) (omega (arith, t, start .pre))))
+loop-again c = loaded-part (c .before .before .loop .inv) _ (c .before .loop-test .taken) (c .load-number .ensures)
 
 returns : tie.Need-returns Inv-loop μ-loop
 unfolding numbers-of

@@ -36,6 +36,12 @@ add-next c = search needs
 shared-slice-read-level : tie.Need-shared-slice-read-level Inv-loop μ-loop
 shared-slice-read-level c = search needs
 
+add-last : tie.Need-add-last Inv-loop μ-loop
+add-last c = search needs
+
+shared-slice-read-shops : tie.Need-shared-slice-read-shops Inv-loop μ-loop
+shared-slice-read-shops c = search needs
+
 mul-r : tie.Need-mul-r Inv-loop μ-loop
 mul-r c = search needs
 
@@ -50,8 +56,8 @@ loop-less c = search needs
 
 loop-again : tie.Need-loop-again Inv-loop μ-loop
 loop-again c =
-    let turn = c .before .before .before in
-    loaded-more (turn .before .loop .inv) _ (turn .loop-test .taken) (rw (c .before .to-live .ensures))
+    let turn = c .before .before .before .before in
+    loaded-more (turn .before .loop .inv) _ (turn .loop-test .taken) (rw (c .before .before .to-live .ensures))
 
 returns : tie.Need-returns Inv-loop μ-loop
 unfolding subjects-of
@@ -70,6 +76,8 @@ load-subjects-spec =
     to-live-requires
     add-next
     shared-slice-read-level
+    add-last
+    shared-slice-read-shops
     mul-r
     array-set-from-r
     add-i

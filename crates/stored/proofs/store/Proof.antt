@@ -6,7 +6,7 @@ use lib.ListN.{length, length-set}
 use borrow.Author.Needs.{needs}
 use Rattle.gatekeeper.specs.View.{view, Right, Whole}
 use Rattle.stored.specs.State.{monitor-of, tally-of, bytes-of}
-use Rattle.stored.specs.State.Laws.{bytes-length, view-back, right-back, whole-back, tally-back, bytes-again}
+use Rattle.stored.specs.State.Laws.{Slim, bytes-length, view-back, right-back, whole-back, tally-back, bytes-again}
 use Rattle.stored.proofs.Owned.{monitor-long, tally-fits}
 use Rattle.stored.proofs.Storing.{laid-whole}
 use Rattle.stored.proofs.store.Statement.{statement}
@@ -92,7 +92,7 @@ returns c =
     let y = start .args .tally in
     let long = monitor-long m (start .good .1 .0) in
     let fits = tally-fits y (start .good .1 .1 .0) in
-    let narrow = numbers .store-numbers .ensures .1 in
+    let slim : Slim m = record { needs = kept .store-needs .ensures .1 .1; numbers = numbers .store-numbers .ensures .1 } in
     let is =
     laid-whole m y long (start .args .state .now) (start .pre) _ _ _ _ _ _ _ _ _
     (subjects .store-subjects .ensures)
@@ -107,10 +107,10 @@ returns c =
     record {
       size = ap length is ∙ bytes-length m y long;
       bytes = is;
-      again = is ∙ bytes-again m y long narrow fits ∙ ap₂ bytes-of (ap monitor-of (sym is)) (ap tally-of (sym is));
-      tables = ap (λ (s : List ℕ). view (monitor-of s)) is ∙ view-back m y long narrow;
-      right = λ r. subst (λ (s : List ℕ). Right (monitor-of s)) (sym is) (right-back m y long narrow r);
-      whole = λ w. subst (λ (s : List ℕ). Whole (monitor-of s)) (sym is) (whole-back m y long narrow w);
+      again = is ∙ bytes-again m y long slim fits ∙ ap₂ bytes-of (ap monitor-of (sym is)) (ap tally-of (sym is));
+      tables = ap (λ (s : List ℕ). view (monitor-of s)) is ∙ view-back m y long slim;
+      right = λ r. subst (λ (s : List ℕ). Right (monitor-of s)) (sym is) (right-back m y long slim r);
+      whole = λ w. subst (λ (s : List ℕ). Whole (monitor-of s)) (sym is) (whole-back m y long slim w);
       tally = ap tally-of is ∙ tally-back m y long fits;
     }
 

@@ -1,26 +1,22 @@
 -- `stored::store_numbers` meets its contract. Assumes nothing.
-use mathlib.Core.Path.{_≡_, refl, sym, subst}
-use Prim.Native.Nat.{ℕ, _-_, _^_, _<_}
+use mathlib.Core.Path.{_≡_}
+use Prim.Native.Nat.{_-_}
 use native.Mathlib.Omega.{arith}
-use native.Mathlib.Decide.{ℕ-discrete}
-use lib.ListN.{length, getD}
+use lib.ListN.{length}
 use borrow.Author.Needs.{needs}
-use Rattle.stored.specs.State.{number-width, digits, numbers-at, number-bytes}
-use Rattle.stored.specs.State.Laws.{length-digits, narrow-of}
-use Rattle.stored.proofs.Storing.{Laid, laid-none, laid-long, laid-over, laid-all}
+use Rattle.stored.specs.State.{number-width, numbers-at, number-bytes}
+use Rattle.stored.proofs.Storing.{Listed, listed-none, listed-long, listed-more, listed-all, listed-narrow}
 use Rattle.stored.proofs.store_numbers.Statement.{statement}
 use Rattle.stored.proofs.store_numbers.Tie as tie
 
 abbrev Inv-loop : tie.InvT-loop
-Inv-loop state₀ numbers i₀ state i = Laid (digits 8) number-width numbers-at 64 numbers state₀ state i × ((j : ℕ) → j < i → getD numbers j 0 < 2 ^ 64)
+Inv-loop state₀ l i₀ state i = Listed number-width 64 numbers-at 64 l state₀ state i
 
 abbrev μ-loop : tie.MeasureT-loop
-μ-loop state₀ numbers i₀ state i = 64 - i
+μ-loop state₀ l i₀ state i = 64 - i
 
 loop-holds : tie.Need-loop-holds Inv-loop μ-loop
-loop-holds c =
-    let long : length (c .before .args .t2) ≡ 64 = search needs in
-    (laid-none (digits 8) number-width numbers-at 64 _ _ (length-digits 8) long (omega (arith, c .before .pre)), λ j h. absurd (omega arith))
+loop-holds c = let long : length (c .before .args .t2) ≡ 64 = search needs in listed-none number-width 64 numbers-at 64 _ _ long (omega (arith, c .before .pre))
 
 mul-n : tie.Need-mul-n Inv-loop μ-loop
 mul-n c = search needs
@@ -35,7 +31,7 @@ add-place : tie.Need-add-place Inv-loop μ-loop
 add-place c = search needs
 
 store-number-requires : tie.Need-store-number-requires Inv-loop μ-loop
-store-number-requires c κs = omega (arith, c .before .loop-test .taken, laid-long (c .before .before .loop .inv .0), c .before .before .before .before .pre)
+store-number-requires c κs = omega (arith, c .before .loop-test .taken, listed-long (c .before .before .loop .inv), c .before .before .before .before .pre)
 
 add-i : tie.Need-add-i Inv-loop μ-loop
 add-i c = search needs
@@ -45,24 +41,19 @@ loop-less c = search needs
 
 loop-again : tie.Need-loop-again Inv-loop μ-loop
 loop-again c =
-    let t = c .before .before .before .before .loop-test .taken in
-    let l = c .before .before .before .before .before .loop in
-    let start = c .before .before .before .before .before .before .before in
-    let k = c .before .before .store-number .ensures in (
-      laid-over (l .inv .0) _ _ 0 _ t (omega arith) refl (k .0),
-      λ j h. elim (ℕ-discrete j (l .i)) [ yes q ↦ subst (λ (k : ℕ). getD (start .args .t2) k 0 < 2 ^ 64) (sym q) (k .1) | no q ↦ l .inv .1 j (omega arith) ],
-    )
+    let t = c .before .before .before .before in
+    let k = c .before .before .store-number .ensures in
+    listed-more (t .before .loop .inv) _ _ (t .loop-test .taken) (omega arith) (k .0) (k .1)
 
 same-length : tie.Need-same-length Inv-loop μ-loop
-same-length c = laid-long (c .before .loop .inv .0)
+same-length c = listed-long (c .before .loop .inv)
 
 returns : tie.Need-returns Inv-loop μ-loop
 unfolding number-bytes
 returns c =
-    let l = c .before .loop in
-    let a = c .before .before .before .args in
-    let long : length (a .t2) ≡ 64 = search needs in
-    (laid-all (l .inv .0) (c .loop-test .left), narrow-of (a .t2) (λ j h. l .inv .1 j (omega (arith, h, long, c .loop-test .left))))
+    let p = c .before .loop .inv in
+    let h = c .loop-test .left in
+    (listed-all p h, listed-narrow p h)
 
 pub store-numbers-spec : {M : Type 1} → statement M
 store-numbers-spec =

@@ -38,6 +38,9 @@ add-place c = search needs
 add-next : tie.Need-add-next Inv-loop μ-loop
 add-next c = search needs
 
+add-last : tie.Need-add-last Inv-loop μ-loop
+add-last c = search needs
+
 from-sort-requires : tie.Need-from-sort-requires Inv-loop μ-loop
 from-sort-requires c κs = search needs
 
@@ -46,6 +49,9 @@ slice-write-state c = omega (arith, laid-long (c .before .before .before .loop .
 
 slice-write-state-2 : tie.Need-slice-write-state-2 Inv-loop μ-loop
 slice-write-state-2 c = let l = c .before .before .before in simp length-set (omega (arith, laid-long (l .loop .inv), l .before .before .pre))
+
+slice-write-state-3 : tie.Need-slice-write-state-3 Inv-loop μ-loop
+slice-write-state-3 c = let l = c .before .before .before in simp length-set (omega (arith, laid-long (l .loop .inv), l .before .before .pre))
 
 add-i : tie.Need-add-i Inv-loop μ-loop
 add-i c = search needs
@@ -56,7 +62,7 @@ loop-less c = search needs
 loop-again : tie.Need-loop-again Inv-loop μ-loop
 loop-again c =
     let turn = c .before .before in
-    laid-more (turn .before .loop .inv) _ (_ ∷ _ ∷ []) no-object (turn .loop-test .taken) refl (rw (c .from-sort .ensures))
+    laid-more (turn .before .loop .inv) _ (_ ∷ _ ∷ _ ∷ []) no-object (turn .loop-test .taken) refl (rw (c .from-sort .ensures))
 
 same-length : tie.Need-same-length Inv-loop μ-loop
 same-length c = laid-long (c .before .loop .inv)
@@ -77,9 +83,11 @@ store-objects-spec =
     mul-place
     add-place
     add-next
+    add-last
     from-sort-requires
     slice-write-state
     slice-write-state-2
+    slice-write-state-3
     add-i
     loop-less
     loop-again

@@ -37,7 +37,7 @@ use Rattle.groups.specs.Groups.{stands, kin-of}
 use Rattle.groups.specs.Groups.Laws.{kin-live}
 use Rattle.gatekeeper.proofs.Numbered.{empty-view}
 use Rattle.tally.specs.Counting.{counts-of}
-use Rattle.stored.specs.State.{state-bytes, subject-width, object-width, handle-width, objects-at, handles-at, made-at, gone-at, freeze-at, needs-at, numbers-at, groups-at, byte-width, number-width}
+use Rattle.stored.specs.State.{state-bytes, subject-width, object-width, handle-width, objects-at, handles-at, made-at, gone-at, freeze-at, needs-at, numbers-at, groups-at, byte-width, need-width, number-width}
 use Rattle.stored.specs.State.{records, flat, live-of, sort-of, kinds, ways, live-byte, sort-byte, subject-of, subject-record, object-of, object-record}
 use Rattle.stored.specs.State.{handle-of, handle-record, byte-of, byte-record, whole, digits}
 use Rattle.stored.specs.State.{subjects-of, objects-of, handles-of, made-of, gone-of, freeze-of, needs-of, numbers-of, groups-of, monitor-of, tally-of}
@@ -108,9 +108,14 @@ pub record Long (m : Monitor) : Type 0 where
   pub numbers : length (m .numbers) ≡ 64
   pub groups : length (m .groups) ≡ 32
 
-pub narrow-of : (l : List ℕ) → ((j : ℕ) → j < length l → getD l j 0 < 2 ^ 64) → Narrow l
-narrow-of [] h = tt
-narrow-of (n ∷ l) h = (h 0 (omega arith), narrow-of l (λ j k. h (suc j) (omega arith)))
+-- its labels and its numbers fit into the bytes of each
+pub record Slim (m : Monitor) : Type 0 where
+  pub needs : Narrow 16 (m .needs)
+  pub numbers : Narrow 64 (m .numbers)
+
+pub narrow-of : (w : ℕ) (l : List ℕ) → ((j : ℕ) → j < length l → getD l j 0 < 2 ^ w) → Narrow w l
+narrow-of w [] h = tt
+narrow-of w (n ∷ l) h = (h 0 (omega arith), narrow-of w l (λ j k. h (suc j) (omega arith)))
 
 -- both counts are 64 bits wide
 pub record Fits (y : Tally) : Type 0 where
@@ -262,10 +267,10 @@ pub as-they-are : (l : List ℕ) → map (λ n. byte-of (byte-record n)) l ≡ l
 as-they-are [] = refl
 as-they-are (n ∷ l) = ap (λ (t : List ℕ). n ∷ t) (as-they-are l)
 
--- and a number as eight
-pub numbers-as-they-are : (l : List ℕ) → Narrow l → map (λ n. whole (digits 8 n)) l ≡ l
-numbers-as-they-are [] h = refl
-numbers-as-they-are (n ∷ l) h = ap₂ (λ (k : ℕ) (t : List ℕ). k ∷ t) (whole-digits 8 n (h .0)) (numbers-as-they-are l (h .1))
+-- and a number of w bits as k bytes
+numbers-as-they-are : (k w : ℕ) → 2 ^ w ≡ 256 ^ k → (l : List ℕ) → Narrow w l → map (λ n. whole (digits k n)) l ≡ l
+numbers-as-they-are k w e [] h = refl
+numbers-as-they-are k w e (n ∷ l) h = ap₂ (λ (j : ℕ) (t : List ℕ). j ∷ t) (whole-digits k n (subst (λ (j : ℕ). n < j) e (h .0))) (numbers-as-they-are k w e l (h .1))
 
 -- p stands at index n, and t after it
 module _ (n m : ℕ) (s p t : List ℕ) (e : drop n s ≡ p ++ t) (h : length p ≡ m) where
@@ -281,6 +286,13 @@ bytes-count l n h = length-flat byte-record byte-width (λ x. refl) l ∙ ap (λ
 
 pub bytes-back : (l : List ℕ) (n : ℕ) (t : List ℕ) → length l ≡ n → records byte-of byte-width n (flat byte-record l ++ t) ≡ l
 bytes-back l n t h = ap (λ (k : ℕ). records byte-of byte-width k (flat byte-record l ++ t)) (sym h) ∙ records-flat byte-record byte-width (λ x. refl) byte-of l t ∙ as-they-are l
+
+-- and numbers of w bits that are stored as k bytes each
+pub numbers-stored : (k : ℕ) (l : List ℕ) (n : ℕ) → length l ≡ n → length (flat (digits k) l) ≡ k * n
+numbers-stored k l n h = length-flat (digits k) k (length-digits k) l ∙ ap (λ (j : ℕ). k * j) h
+
+pub numbers-loaded : (k w : ℕ) → 2 ^ w ≡ 256 ^ k → (l : List ℕ) (n : ℕ) (t : List ℕ) → length l ≡ n → Narrow w l → records whole k n (flat (digits k) l ++ t) ≡ l
+numbers-loaded k w e l n t h f = ap (λ (j : ℕ). records whole k j (flat (digits k) l ++ t)) (sym h) ∙ records-flat (digits k) k (length-digits k) whole l t ∙ numbers-as-they-are k w e l f
 
 module _ (m : Monitor) (y : Tally) (long : Long m) where
   abbrev s : List ℕ
@@ -313,13 +325,13 @@ module _ (m : Monitor) (y : Tally) (long : Long m) where
   unfolding handle-bytes
   handles-count = omega (arith, length-flat handle-record handle-width (λ x. refl) (m .handles), long .handles)
 
-  pub needs-count : length (need-bytes (m .needs)) ≡ byte-width * (subjects + objects)
+  pub needs-count : length (need-bytes (m .needs)) ≡ need-width * (subjects + objects)
   unfolding need-bytes
-  needs-count = bytes-count (m .needs) (subjects + objects) (long .needs)
+  needs-count = numbers-stored need-width (m .needs) (subjects + objects) (long .needs)
 
   pub numbers-count : length (number-bytes (m .numbers)) ≡ number-width * objects
   unfolding number-bytes
-  numbers-count = omega (arith, length-flat (digits 8) number-width (length-digits 8) (m .numbers), long .numbers)
+  numbers-count = numbers-stored number-width (m .numbers) objects (long .numbers)
 
   pub groups-count : length (group-bytes (m .groups)) ≡ byte-width * subjects
   unfolding group-bytes
@@ -348,7 +360,7 @@ module _ (m : Monitor) (y : Tally) (long : Long m) where
   from-needs = behind freeze-at 1 s (m .freeze ∷ []) (need-bytes (m .needs) ++ after-needs) from-freeze refl
 
   from-numbers : drop numbers-at s ≡ after-needs
-  from-numbers = behind needs-at (byte-width * (subjects + objects)) s (need-bytes (m .needs)) after-needs from-needs needs-count
+  from-numbers = behind needs-at (need-width * (subjects + objects)) s (need-bytes (m .needs)) after-needs from-needs needs-count
 
   from-groups : drop groups-at s ≡ group-bytes (m .groups)
   from-groups = behind numbers-at (number-width * objects) s (number-bytes (m .numbers)) (group-bytes (m .groups)) from-numbers numbers-count
@@ -394,41 +406,40 @@ module _ (m : Monitor) (y : Tally) (long : Long m) where
   unfolding freeze-of
   freeze-back = sym (getD-drop freeze-at s 0 0) ∙ ap (λ (l : List ℕ). getD l 0 0) from-freeze
 
-  -- and the kept needs, as they are
-  pub needs-back : needs-of (bytes-of m y) ≡ m .needs
+  -- and the kept needs and the numbers, as they are
+  needs-back : Narrow 16 (m .needs) → needs-of (bytes-of m y) ≡ m .needs
   unfolding needs-of need-bytes
-  needs-back = ap (records byte-of byte-width (subjects + objects)) from-needs ∙ bytes-back (m .needs) (subjects + objects) after-needs (long .needs)
+  needs-back h = ap (records whole need-width (subjects + objects)) from-needs ∙ numbers-loaded need-width 16 refl (m .needs) (subjects + objects) after-needs (long .needs) h
 
-  numbers-back : Narrow (m .numbers) → numbers-of (bytes-of m y) ≡ m .numbers
+  numbers-back : Narrow 64 (m .numbers) → numbers-of (bytes-of m y) ≡ m .numbers
   unfolding numbers-of number-bytes
-  numbers-back h = ap₂ (records whole number-width) (sym (long .numbers)) from-numbers
-      ∙ records-flat (digits 8) number-width (length-digits 8) whole (m .numbers) (group-bytes (m .groups)) ∙ numbers-as-they-are (m .numbers) h
+  numbers-back h = ap (records whole number-width objects) from-numbers ∙ numbers-loaded number-width 64 refl (m .numbers) objects (group-bytes (m .groups)) (long .numbers) h
 
   -- and the groups
   groups-back : groups-of (bytes-of m y) ≡ m .groups
   unfolding groups-of group-bytes
   groups-back = ap (records byte-of byte-width subjects) (from-groups ∙ sym (append-nil (group-bytes (m .groups)))) ∙ bytes-back (m .groups) subjects [] (long .groups)
 
-  monitor-back : Narrow (m .numbers) → monitor-of (bytes-of m y) ≡ plain m
+  monitor-back : Slim m → monitor-of (bytes-of m y) ≡ plain m
   monitor-back h = λ i. record {
-    numbers = numbers-back h i;
+    numbers = numbers-back (h .numbers) i;
     subjects = subjects-back i;
     objects = objects-back i;
     handles = handles-back i;
     freeze = freeze-back i;
-    needs = needs-back i;
+    needs = needs-back (h .needs) i;
     groups = groups-back i;
     sure = 0;
   }
 
   -- a monitor's bytes stand for its tables, and keep needs that are right where it did
-  pub view-back : Narrow (m .numbers) → view (monitor-of (bytes-of m y)) ≡ view m
+  pub view-back : Slim m → view (monitor-of (bytes-of m y)) ≡ view m
   view-back h = ap view (monitor-back h) ∙ plain-view m
 
-  pub right-back : Narrow (m .numbers) → Right m → Right (monitor-of (bytes-of m y))
+  pub right-back : Slim m → Right m → Right (monitor-of (bytes-of m y))
   right-back h r = subst Right (sym (monitor-back h)) (plain-right m r)
 
-  pub whole-back : Narrow (m .numbers) → Whole m → Whole (monitor-of (bytes-of m y))
+  pub whole-back : Slim m → Whole m → Whole (monitor-of (bytes-of m y))
   whole-back h w = subst Whole (sym (monitor-back h)) (plain-whole m w)
 
   made-back : y .made < 2 ^ 64 → made-of s ≡ y .made
@@ -446,7 +457,7 @@ module _ (m : Monitor) (y : Tally) (long : Long m) where
   tally-back h = ap₂ (λ (a b : ℕ). record { made = a; gone = b }) (made-back (h .made)) (gone-back (h .gone))
 
   -- and are those of what is read back
-  pub bytes-again : Narrow (m .numbers) → Fits y → bytes-of m y ≡ bytes-of (monitor-of (bytes-of m y)) (tally-of (bytes-of m y))
+  pub bytes-again : Slim m → Fits y → bytes-of m y ≡ bytes-of (monitor-of (bytes-of m y)) (tally-of (bytes-of m y))
   bytes-again k h = sym (ap₂ bytes-of (monitor-back k) (tally-back h) ∙ plain-bytes m y)
 
 -- ── the empty state ──
@@ -454,7 +465,7 @@ module _ (m : Monitor) (y : Tally) (long : Long m) where
 pub zeros-set : (s : List ℕ) → s ≡ replicate state-bytes 0 → set s freeze-at no-freeze ≡ blank-bytes
 unfolding blank-bytes
 zeros-set s z = ap (λ (l : List ℕ). set l freeze-at no-freeze) z
-    ∙ set-at (replicate freeze-at 0) 0 (replicate (subjects + objects + number-width * objects + subjects) 0) no-freeze freeze-at (length-replicate {A = ℕ} freeze-at 0)
+    ∙ set-at (replicate freeze-at 0) 0 (replicate (need-width * (subjects + objects) + number-width * objects + subjects) 0) no-freeze freeze-at (length-replicate {A = ℕ} freeze-at 0)
 
 -- where no subject is live, each is by itself
 kin-none : (gs : List ℕ) → kin-of (replicate 32 no-subject) gs ≡ eqb
@@ -504,8 +515,8 @@ module _ (s : List ℕ) (z : s ≡ blank-bytes) where
 
   blank-length : length s ≡ state-bytes
   unfolding blank-bytes
-  blank-length = ap length z ∙ length-append (replicate freeze-at 0) (no-freeze ∷ replicate (subjects + objects + number-width * objects + subjects) 0)
-      ∙ ap (λ (k : ℕ). k + (1 + (subjects + objects + number-width * objects + subjects))) (length-replicate {A = ℕ} freeze-at 0)
+  blank-length = ap length z ∙ length-append (replicate freeze-at 0) (no-freeze ∷ replicate (need-width * (subjects + objects) + number-width * objects + subjects) 0)
+      ∙ ap (λ (k : ℕ). k + (1 + (need-width * (subjects + objects) + number-width * objects + subjects))) (length-replicate {A = ℕ} freeze-at 0)
 
   pub bytes-blank : Blank s
   bytes-blank = record { size = blank-length; tables = blank-view; right = blank-right; counts = blank-tally }

@@ -7,7 +7,8 @@ use native.Mathlib.Omega.{arith}
 use lib.ListN.{length, set}
 use lib.Seq.{getD-set-same, getD-set-other}
 use lib.Dec.{T, ltb→lt}
-use Rattle.model.specs.Label.{Label, label}
+use Rattle.model.specs.Label.{Label}
+use Rattle.labels.specs.Codes.{coded}
 use Rattle.model.specs.Flow.{Thing, subject, object, same}
 use Rattle.model.specs.Flow.Laws.{same→eq, same-refl}
 use Rattle.model.specs.Flow.Changes.{but}
@@ -32,15 +33,15 @@ node-apart (object a) (subject b) g h n q = let l : b < 32 = ltb→lt b 32 h in 
 node-apart (object a) (object b) g h n q = n (ap object (omega arith))
 
 module _ (r : List ℕ) (z : Thing) (v : ℕ) (l : length r ≡ 96) (g : T (housed z)) where
-  figure-set : (x : Thing) → T (in-range x) → figure-of (set r (node z) v) x ≡ but (figure-of r) z (label v) x
+  figure-set : (x : Thing) → T (in-range x) → figure-of (set r (node z) v) x ≡ but (figure-of r) z (coded v) x
   figure-set x h = go (same z x) (same→eq z x) (λ p. subst (λ (y : Thing). T (same z y)) p (same-refl z))
     where
-      go : (b : Bool) → (T b → z ≡ x) → (z ≡ x → T b) → figure-of (set r (node z) v) x ≡ cond b (label v) (figure-of r x)
-      go true p q = subst (λ (y : Thing). figure-of (set r (node z) v) y ≡ label v) (p tt)
-          (ap label (getD-set-same r (node z) v 0 (omega (arith, node-low z g))))
-      go false p q = ap label (getD-set-other r (node z) (node x) v 0 (node-apart z x (housed-range z g) h q))
+      go : (b : Bool) → (T b → z ≡ x) → (z ≡ x → T b) → figure-of (set r (node z) v) x ≡ cond b (coded v) (figure-of r x)
+      go true p q = subst (λ (y : Thing). figure-of (set r (node z) v) y ≡ coded v) (p tt)
+          (ap coded (getD-set-same r (node z) v 0 (omega (arith, node-low z g))))
+      go false p q = ap coded (getD-set-other r (node z) (node x) v 0 (node-apart z x (housed-range z g) h q))
 
   -- the figures with that of one thing set
-  pub set-ready : (t : Tables) (w : Label) → label v ≡ w → Ready t (but (figure-of r) z w) → Ready t (figure-of (set r (node z) v))
+  pub set-ready : (t : Tables) (w : Label) → coded v ≡ w → Ready t (but (figure-of r) z w) → Ready t (figure-of (set r (node z) v))
   set-ready t w e k = ready-by t (but (figure-of r) z w) (figure-of (set r (node z) v))
       (λ x h. figure-set x h ∙ ap (λ (y : Label). but (figure-of r) z y x) e) k

@@ -1,5 +1,5 @@
 -- `text::write_line` meets its contract. The four parts of the line are written one after the other: a number, a number, the letter,
--- a number. Assumes nothing.
+-- the last fields. Assumes nothing.
 use Prim.Native.Nat.{_+_, _≤_}
 use mathlib.Core.Path.{_≡_, sym, _∙_}
 use native.Mathlib.Omega.{arith}
@@ -7,7 +7,7 @@ use mathlib.Core.List.{[], _∷_, _++_}
 use lib.ListN.{length}
 use borrow.Author.Needs.{needs}
 use Rattle.number.specs.Put.Laws.{put-fits}
-use Rattle.text.specs.Reply.{space, newline, field, line, longest-line}
+use Rattle.text.specs.Reply.{space, field, last-fields, line, longest-line}
 use Rattle.text.specs.Reply.Laws.{line-length, line-bytes}
 use Rattle.text.specs.Parts.{Over}
 use Rattle.text.specs.Parts.Laws.{put-over, rest-room, part-after}
@@ -18,31 +18,32 @@ use Rattle.text.proofs.write_line.Tie as tie
 -- ---- the size and the four parts
 
 size-is :
-    (c : tie.After-decimal-len3) →
+    (c : tie.After-last-len) →
     let a = c .before .before .before .before .args in
-    c .before .before .decimal-len .result + c .before .decimal-len2 .result + c .decimal-len3 .result + 5 ≡ length (line (a .position) (a .code)
-    (a .letter) (a .value))
+    c .before .before .decimal-len .result + c .before .decimal-len2 .result + c .last-len .result + 4 ≡ length (line (a .position) (a .code)
+    (a .letter) (a .value) (a .lost))
 size-is c =
     let a = c .before .before .before .before .args in
     omega (
       arith,
       line-length (a .position) (a .code) (a .letter)
-          (a .value),
+          (a .value)
+          (a .lost),
       c .before .before .decimal-len .ensures .0,
       c .before .decimal-len2 .ensures .0,
-      c .decimal-len3 .ensures .0,
+      c .last-len .ensures .0,
     )
 
 room :
     (c : tie.Else1) →
     let a = c .before .before .before .before .before .args in
-    Fit (field (a .position) space) (field (a .code) space) (a .letter ∷ space ∷ []) (field (a .value) newline) (a .out .now)
+    Fit (field (a .position) space) (field (a .code) space) (a .letter ∷ space ∷ []) (last-fields (a .letter) (a .value) (a .lost)) (a .out .now)
 unfolding line
 room c =
     let a = c .before .before .before .before .before .args in
-    let all : length (line (a .position) (a .code) (a .letter) (a .value)) ≤ length (a .out .now) =
+    let all : length (line (a .position) (a .code) (a .letter) (a .value) (a .lost)) ≤ length (a .out .now) =
     omega (arith, size-is (c .before), c .if1 .left) in
-    fit (field (a .position) space) (field (a .code) space) (a .letter ∷ space ∷ []) (field (a .value) newline) (a .out .now) all
+    fit (field (a .position) space) (field (a .code) space) (a .letter ∷ space ∷ []) (last-fields (a .letter) (a .value) (a .lost)) (a .out .now) all
 
 first :
     (c : tie.After-write-field) →
@@ -83,18 +84,18 @@ third c =
     part-after o letter _ _ (w .ensures .0) fits (w .ensures .1 ∙ sym (put-fits letter _ (rest-room o letter fits)))
 
 fourth :
-    (c : tie.After-write-field3) →
+    (c : tie.After-write-last) →
     let a = c .before .before .before .before .before .before .before .before .before .before .before .before .before .before .before .before .before .before .before .before .args in
     let t = c .before .before .before .before .before .before .before .before .before .before .before .before .before .write-field in
     let u = c .before .before .before .before .before .before .before .before .before .write-field2 in
     let v = c .before .before .before .before .copy in
-    let w = c .write-field3 in
-    Over (a .out .now) (line (a .position) (a .code) (a .letter) (a .value)) (t .result + u .result + v .result + w .result)
+    let w = c .write-last in
+    Over (a .out .now) (line (a .position) (a .code) (a .letter) (a .value) (a .lost)) (t .result + u .result + v .result + w .result)
     (joined (t .result + u .result + v .result) (joined (t .result + u .result) (joined (t .result) (t .last .0) (u .last .0)) (v .last .1 .0))
     (w .last .0))
 unfolding line
 fourth c =
-    let w = c .write-field3 in
+    let w = c .write-last in
     part-after (third (c .before .before .before .before)) _ _ _ (w .ensures .0)
     (room (c .before .before .before .before .before .before .before .before .before .before .before .before .before .before .before) .four)
     (w .ensures .1)
@@ -110,8 +111,8 @@ decimal-len-requires-2 c κs = search needs
 add-size : tie.Need-add-size
 add-size c = search needs
 
-decimal-len-requires-3 : tie.Need-decimal-len-requires-3
-decimal-len-requires-3 c κs = search needs
+last-len-requires : tie.Need-last-len-requires
+last-len-requires c κs = search needs
 
 add-size-2 : tie.Need-add-size-2
 add-size-2 c = search needs
@@ -122,8 +123,8 @@ add-size-3 c = search needs
 returns : tie.Need-returns
 returns c =
     let a = c .before .before .before .before .before .args in
-    no-room (line (a .position) (a .code) (a .letter) (a .value))
-    (a .out .now) longest-line (line-bytes (a .position) (a .code) (a .letter) (a .value) (omega arith) (omega arith) (omega arith))
+    no-room (line (a .position) (a .code) (a .letter) (a .value) (a .lost))
+    (a .out .now) longest-line (line-bytes (a .position) (a .code) (a .letter) (a .value) (a .lost) (omega arith) (omega arith) (omega arith) (omega arith))
     (omega (arith, size-is (c .before), c .if1 .taken))
 
 write-field-requires : tie.Need-write-field-requires
@@ -173,17 +174,17 @@ add-at-2 c = omega (
   c .before .before .before .before .before .before .before .before .before .before .before .before .before .before .before .before .before .before .good,
 )
 
-sub-write-field-2 : tie.Need-sub-write-field-2
-sub-write-field-2 c = let o = third (c .before .before) in omega (arith, o .within, o .size)
+sub-write-last : tie.Need-sub-write-last
+sub-write-last c = let o = third (c .before .before) in omega (arith, o .within, o .size)
 
-part-write-field-start-2 : tie.Need-part-write-field-start-2
-part-write-field-start-2 c = let o = third (c .before .before) in omega (arith, o .within, o .size)
+part-write-last-start : tie.Need-part-write-last-start
+part-write-last-start c = let o = third (c .before .before) in omega (arith, o .within, o .size)
 
-part-write-field-end-2 : tie.Need-part-write-field-end-2
-part-write-field-end-2 c = search needs
+part-write-last-end : tie.Need-part-write-last-end
+part-write-last-end c = search needs
 
-write-field-requires-3 : tie.Need-write-field-requires-3
-write-field-requires-3 c κs = rest-room (third (c .before .before .before)) _
+write-last-requires : tie.Need-write-last-requires
+write-last-requires c κs = rest-room (third (c .before .before .before)) _
     (room (c .before .before .before .before .before .before .before .before .before .before .before .before .before .before) .four)
 
 add-at-3 : tie.Need-add-at-3
@@ -201,7 +202,7 @@ returns-2 : tie.Need-returns-2
 returns-2 c =
     let start = c .before .before .before .before .before .before .before .before .before .before .before .before .before .before .before .before .before .before .before .before .before .before in
     let a = start .args in
-    all-written _ _ longest-line (line-bytes (a .position) (a .code) (a .letter) (a .value) (omega arith) (omega arith)
+    all-written _ _ longest-line (line-bytes (a .position) (a .code) (a .letter) (a .value) (a .lost) (omega arith) (omega arith) (omega arith)
     (omega arith)) _ _ (fourth (c .before .before))
 
 pub write-line-spec : {M : Type 1} → statement M
@@ -211,7 +212,7 @@ write-line-spec =
     decimal-len-requires
     decimal-len-requires-2
     add-size
-    decimal-len-requires-3
+    last-len-requires
     add-size-2
     add-size-3
     returns
@@ -227,10 +228,10 @@ write-line-spec =
     part-copy-end
     copy-requires
     add-at-2
-    sub-write-field-2
-    part-write-field-start-2
-    part-write-field-end-2
-    write-field-requires-3
+    sub-write-last
+    part-write-last-start
+    part-write-last-end
+    write-last-requires
     add-at-3
     same-length
     returns-2)

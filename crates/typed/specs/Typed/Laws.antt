@@ -85,12 +85,12 @@ made-tables {m} {n} w h k (then {n = x} {r = r} {rs = rest} {a = a} {l = l} p t 
 -- ── where all are refused, and where one is not ──
 told-refused : (a : Answer) → refuses a ≡ true → (j : ℕ) × (a ≡ refused j)
 told-refused (allowed n) e = absurd (false≢true e)
-told-refused (lowered n) e = absurd (false≢true e)
+told-refused (lowered n k) e = absurd (false≢true e)
 told-refused (refused n) e = (n, refl)
 
 none-moves : (a : Answer) (l : List Answer) → moves (a ∷ l) ≡ false → (refuses a ≡ true) × (moves l ≡ false)
 none-moves (allowed n) l e = absurd (true≢false e)
-none-moves (lowered n) l e = absurd (true≢false e)
+none-moves (lowered n k) l e = absurd (true≢false e)
 none-moves (refused n) l e = (refl, e)
 
 -- RULES R102, R103
@@ -109,7 +109,7 @@ stays-whole {m} h w (go {n = x} {a = a} p q) = stays-whole (p .neat h) (by a ref
   where
     by : (b : Answer) → a ≡ b → Whole x
     by (allowed k) e = p .emptied h (λ j z. false≢true (ap refuses (sym e ∙ z)))
-    by (lowered k) e = p .emptied h (λ j z. false≢true (ap refuses (sym e ∙ z)))
+    by (lowered k i) e = p .emptied h (λ j z. false≢true (ap refuses (sym e ∙ z)))
     by (refused k) e = subst Whole (sym (p .unchanged k e)) w
 
 pub made-whole : {m n : Monitor} {y z : Tally} {rs : List Raw} {l : List Answer} → Tidy m → moves l ≡ true → Made m y rs l n z → Whole n
@@ -133,7 +133,7 @@ made-length (then p t q) = ap suc (made-length q)
 three-kinds : (l : List Answer) → how-many is-allowed l + how-many is-lowered l + how-many refuses l ≡ length l
 three-kinds [] = refl
 three-kinds (allowed n ∷ l) = let z = three-kinds l in omega (arith, z)
-three-kinds (lowered n ∷ l) = let z = three-kinds l in omega (arith, z)
+three-kinds (lowered n k ∷ l) = let z = three-kinds l in omega (arith, z)
 three-kinds (refused n ∷ l) = let z = three-kinds l in omega (arith, z)
 
 wrapped-sum : (a b c : ℕ) → wrapped (wrapped a + wrapped b + wrapped c) ≡ wrapped (a + b + c)

@@ -1,17 +1,17 @@
 //! Which handles to close so that the flow rule no longer refuses a call: a least cut, found by a greatest flow.
 //!
 //! A call that is refused with 9 joins two sides: data that could come to it, and files that it could go on to. It is
-//! let through once there is a level that nothing on the first side is below and no file on the second side is above.
-//! For each such level the fewest handles are sought that keep everything lower away from the one side, and that keep
-//! the other side away from every higher file. A handle of a mate costs more than all of the caller's own, and one of
+//! let through once there is a label that everything on the first side is at least, and that is at least every file's on
+//! the second side. For each such label the fewest handles are sought that keep everything below it away from the one side,
+//! and that keep the other side away from every file that it is below. A handle of a mate costs more than all of the caller's own, and one of
 //! another step more than all of these, so that the caller's are taken where they are enough. Between the threads of a step
 //! nothing can be closed. What is found here is tried by the caller of these functions.
 
-use gatekeeper::{Call, State as Monitor};
+use gatekeeper::{Call, Label, State as Monitor};
 
 use gk_chain::{shared, Things};
 
-use crate::things::{handles, is_file, level, mates, objects, steps, Held, Thing};
+use crate::things::{handles, is_file, label, mates, objects, steps, Held, Thing, ALL_SHOPS};
 
 /// Whose handles may be closed.
 #[derive(Clone, Copy, Debug, PartialEq, Eq)]
@@ -57,7 +57,7 @@ const SINK: usize = 1;
 /// The two sides that a call would join.
 struct Sides {
     caller: u64,
-    /// Where data comes in; for an exec nothing upstream is asked, and only the file's level counts.
+    /// Where data comes in; for an exec nothing upstream is asked, and only the file's label counts.
     entries: Vec<Thing>,
     exits: Vec<Thing>,
     is_exec: bool,
@@ -112,31 +112,36 @@ pub fn closes(call: Call, monitor: &Monitor, whose: Whose, kept: &[Held]) -> Opt
             .filter(|&(one, other)| is_left(one) && is_left(other))
             .collect(),
     };
-    let things: Vec<(Thing, u8)> = steps(monitor)
+    let things: Vec<(Thing, Label)> = steps(monitor)
         .map(Thing::Step)
         .chain(objects(monitor).map(Thing::Object))
-        .filter_map(|thing| level(monitor, thing).map(|level| (thing, level)))
+        .filter_map(|thing| label(monitor, thing).map(|label| (thing, label)))
         .collect();
-    let of = |thing: Thing| things.iter().find(|(other, _)| *other == thing).map_or(0, |&(_, level)| level);
-    let is_level_of_file = |thing: Thing| matches!(thing, Thing::Object(o) if is_file(monitor, o));
+    let of =
+        |thing: Thing| things.iter().find(|(other, _)| *other == thing).map_or(Label::LEAST, |it| it.1);
+    let is_label_of_file = |thing: Thing| matches!(thing, Thing::Object(o) if is_file(monitor, o));
     // Between two levels that occur, none is worth more than the lower one of them.
-    let mut levels: Vec<u8> = things.iter().map(|&(_, level)| level).collect();
+    let mut levels: Vec<u8> = things.iter().map(|&(_, label)| label.level).collect();
     levels.sort_unstable();
     levels.dedup();
+    let files = things.iter().filter(|&&(thing, _)| is_label_of_file(thing));
+    let sets =
+        sets(files.map(|&(_, label)| label.shops), sides.entries.iter().map(|&thing| of(thing).shops));
     let mut best: Option<(u64, Vec<Held>)> = None;
-    for between in levels {
-        let is_high = |thing: Thing, level: u8| is_level_of_file(thing) && level > between;
-        if sides.entries.iter().any(|&thing| of(thing) < between)
+    let labels = levels.iter().flat_map(|&level| sets.iter().map(move |&shops| Label { level, shops }));
+    for between in labels {
+        let is_high = |thing: Thing, label: Label| is_label_of_file(thing) && !between.at_least(label);
+        if sides.entries.iter().any(|&thing| !of(thing).at_least(between))
             || sides.exits.iter().any(|&thing| is_high(thing, of(thing)))
         {
             continue;
         }
-        let those = |is_one: &dyn Fn(Thing, u8) -> bool| -> Vec<Thing> {
-            things.iter().filter(|&&(thing, level)| is_one(thing, level)).map(|&(thing, _)| thing).collect()
+        let those = |is_one: &dyn Fn(Thing, Label) -> bool| -> Vec<Thing> {
+            things.iter().filter(|&&(thing, label)| is_one(thing, label)).map(|&(thing, _)| thing).collect()
         };
         let coming = match sides.is_exec {
             true => Some((0, Vec::new())),
-            false => graph.least_cut(&those(&|_, level| level < between), &sides.entries),
+            false => graph.least_cut(&those(&|_, label| !label.at_least(between)), &sides.entries),
         };
         let going = graph.least_cut(&sides.exits, &those(&is_high));
         let (Some((one, mut cut)), Some((other, more))) = (coming, going) else {
@@ -148,6 +153,33 @@ pub fn closes(call: Call, monitor: &Monitor, whose: Whose, kept: &[Held]) -> Opt
         }
     }
     best.map(|(_, cut)| cut)
+}
+
+/// Sets of shop marks that are looked at, at most: where there are more, some are left out, and what is found may close more
+/// than it need.
+const MOST_SETS: usize = 24;
+
+/// The sets that some files have together, as far as all entries have them, the largest first. Any other set is worth no
+/// more than one of these.
+fn sets(files: impl Iterator<Item = u8>, entries: impl Iterator<Item = u8>) -> Vec<u8> {
+    let common = entries.fold(ALL_SHOPS, |common, set| common & set);
+    let mut single: Vec<u8> = files.filter(|set| set & !common == 0).chain([0]).collect();
+    single.sort_unstable();
+    single.dedup();
+    let mut all = single.clone();
+    let mut at = 0;
+    while at < all.len() && all.len() < MOST_SETS {
+        let here = all[at];
+        for &set in &single {
+            if !all.contains(&(here | set)) {
+                all.push(here | set);
+            }
+        }
+        at += 1;
+    }
+    all.truncate(MOST_SETS);
+    all.sort_unstable_by_key(|set| (std::cmp::Reverse(set.count_ones()), *set));
+    all
 }
 
 /// A flow network: edges with what room is left on them, each beside its own way back, and the edges out of each node.

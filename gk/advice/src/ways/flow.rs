@@ -1,7 +1,8 @@
 //! Ways out of a refusal 9: close what leads up, mark it, let another step do it, or another thread of the same step, have
 //! the file looked over, or go one way where two were asked for.
 
-use gatekeeper::{Call, State as Monitor};
+use gatekeeper::{Call, Label, State as Monitor};
+use gk_chain::Lack;
 
 use super::closing::{closed_for_good, ended_words, enough, handle_words};
 use super::cut::Whose;
@@ -73,18 +74,24 @@ fn no_closing(call: Call, scene: Scene) -> String {
     let low = match call {
         Call::OpenWrite { subject, object, .. } if is_file(monitor, object) => {
             match (monitor.subject(subject), monitor.object(object)) {
-                (Some(level), Some(file)) if level < file.level => Some((subject, level, object)),
+                (Some(label), Some(file)) => Some((subject, label, object, Lack::of(label, file.label)))
+                    .filter(|low| !low.3.is_nothing()),
                 _ => None,
             }
         }
         _ => None,
     };
     match low {
-        Some((subject, level, object)) => format!(
-            "No closing of handles helps: {} has level {level} itself, which is too low for {}.",
-            scene.step(subject),
-            scene.object(object)
-        ),
+        Some((subject, label, object, lack)) => {
+            let (step, file) = (scene.step(subject), scene.object(object));
+            let why = match lack {
+                Lack { level: true, .. } => {
+                    format!("has level {} itself, which is too low for {file}", label.level)
+                }
+                Lack { shops, .. } => format!("itself lacks {}, which {file} has", scene.marks(shops)),
+            };
+            format!("No closing of handles helps: {step} {why}.")
+        }
         None => "No closing of handles helps.".to_string(),
     }
 }
@@ -195,28 +202,29 @@ fn forked_step(call: Call, scene: Scene, counsel: &mut Counsel) {
     );
 }
 
-/// A step from outside, at a level that is high enough.
+/// A step from outside, at a level that is high enough and with the shop marks that it needs.
 fn admitted_step(call: Call, scene: Scene, counsel: &mut Counsel) {
     let Some(number) = (0..STEPS).find(|&s| scene.monitor.subject(s).is_none()) else {
         return;
     };
-    let calls_at = |level: u64| {
-        let admit = Call::Admit { subject: number, level };
+    let calls_at = |label: Label| {
+        let admit = Call::admit(number, label);
         aim_after(scene.monitor, &[admit], with_number(with_number(call, "s", number), "p", 0))
     };
-    if let Some((least, calls)) = from_level(calls_at) {
+    if let Some((least, marks, calls)) = from_level(calls_at) {
         let when = once_open(&calls);
         counsel.way(
             format!(
-                "admit a step at level {}, number {number} is free, and let it open it{when}.",
-                or_above(least)
+                "admit a step at level {}{}, number {number} is free, and let it open it{when}.",
+                or_above(least),
+                marks.words(scene)
             ),
             calls,
         );
     }
 }
 
-/// The file comes in again at a higher level, after a clerk has looked it over.
+/// The file comes in again with a better label, after a clerk has looked it over.
 fn looked_over(call: Call, scene: Scene, counsel: &mut Counsel) {
     let object = match call {
         Call::OpenRead { object, .. } | Call::Map { object, .. } | Call::Exec { object, .. } => object,
@@ -225,15 +233,16 @@ fn looked_over(call: Call, scene: Scene, counsel: &mut Counsel) {
     if !is_file(scene.monitor, object) || handles_on(scene.monitor, object).next().is_some() {
         return;
     }
-    let calls_at = |level: u64| {
-        aim_after(scene.monitor, &[Call::Retire { object }, Call::Register { object, level }], call)
+    let calls_at = |label: Label| {
+        aim_after(scene.monitor, &[Call::Retire { object }, Call::register(object, label)], call)
     };
-    if let Some((least, calls)) = from_level(calls_at) {
+    if let Some((least, marks, calls)) = from_level(calls_at) {
         let file = scene.object(object);
         counsel.way(
             format!(
-                "when a clerk has looked {file} over, retire it, register it at level {}, and {} then.",
+                "when a clerk has looked {file} over, retire it, register it at level {}{}, and {} then.",
                 or_above(least),
+                marks.words(scene),
                 again(call)
             ),
             calls,

@@ -1,16 +1,19 @@
 //! Ways out of refusals 2 to 6 and 16: another number, or the thing that is missing. Those of 17 are in `room`.
 
-use gatekeeper::{Call, Refusal, NO_FREEZE};
+use gatekeeper::{Call, Label, Refusal, NO_FREEZE};
 
 use super::room::{self, freeing};
 use super::{
-    aim_after, between_levels, level_words, once_open, refusal_of, refused_here, refused_words, some_of,
-    tried, Counsel, NO_HIGHER,
+    aim_after, between_levels, level_words, no_higher, once_open, refusal_of, refused_here, refused_words,
+    some_of, tried, Counsel,
 };
 use crate::calls::{number_of, with_number};
 use crate::scene::Scene;
-use crate::things::{free_objects, is_file, objects, steps, too_many, HIGHEST, STEPS};
+use crate::things::{free_objects, is_file, objects, steps, too_many, ALL_SHOPS, HIGHEST, STEPS};
 use gk_names::number::shown;
+
+/// The highest level with all shop marks.
+const BEST: Label = Label { level: HIGHEST as u8, shops: ALL_SHOPS };
 
 /// The same call with each of some numbers in the place of the one that is called so: those that are let through, and
 /// the calls of the first.
@@ -44,21 +47,22 @@ pub fn missing_step(call: Call, scene: Scene) -> Counsel {
         named.into_iter().filter(|&(_, s)| monitor.subject(s).is_none()).collect();
     missing.dedup_by_key(|&mut (_, s)| s);
     if missing.iter().all(|&(_, s)| s < STEPS) {
-        let admits = |level: u64| -> Vec<Call> {
-            missing.iter().map(|&(_, subject)| Call::Admit { subject, level }).collect()
+        let admits = |label: Label| -> Vec<Call> {
+            missing.iter().map(|&(_, subject)| Call::admit(subject, label)).collect()
         };
         let words: Vec<String> = missing.iter().map(|&(_, s)| format!("step {s}")).collect();
         let words = words.join(" and ");
-        match between_levels(|level| aim_after(monitor, &admits(level), call)) {
-            Some((low, high, calls)) => {
-                let (at, when) = (level_words(low, high), once_open(&calls));
+        match between_levels(|label| aim_after(monitor, &admits(label), call)) {
+            Some(between) => {
+                let (at, when) = (level_words(&between, scene), once_open(&between.calls));
+                let mind = no_higher(&between, scene);
                 counsel.way(
-                    format!("admit {words} first, {at}; then the call is allowed{when}. {NO_HIGHER}"),
-                    calls,
+                    format!("admit {words} first, {at}; then the call is allowed{when}. {mind}"),
+                    between.calls,
                 );
             }
             None => {
-                let after = tried(monitor, &admits(HIGHEST)).ok();
+                let after = tried(monitor, &admits(BEST)).ok();
                 if let Some(refused) = after.and_then(|after| refused_here(&after, call)) {
                     counsel.note(format!("With {words} there, at level {HIGHEST}, it would be {refused}."));
                 }
@@ -185,17 +189,18 @@ fn register_first(call: Call, object: u64, scene: Scene, counsel: &mut Counsel) 
             None => return,
         },
     };
-    let register = |level: u64| [&first[..], &[Call::Register { object, level }]].concat();
-    match between_levels(|level| aim_after(monitor, &register(level), call)) {
-        Some((low, high, calls)) => {
-            let (at, when) = (level_words(low, high), once_open(&calls));
+    let register = |label: Label| [&first[..], &[Call::register(object, label)]].concat();
+    match between_levels(|label| aim_after(monitor, &register(label), call)) {
+        Some(between) => {
+            let (at, when) = (level_words(&between, scene), once_open(&between.calls));
+            let mind = no_higher(&between, scene);
             counsel.way(
-                format!("{room}register {file} first, {at}; then the call is allowed{when}. {NO_HIGHER}"),
-                calls,
+                format!("{room}register {file} first, {at}; then the call is allowed{when}. {mind}"),
+                between.calls,
             );
         }
         None => {
-            let after = tried(monitor, &register(HIGHEST)).ok();
+            let after = tried(monitor, &register(BEST)).ok();
             if let Some(refused) = after.and_then(|after| refused_here(&after, call)) {
                 counsel.note(format!("With a {file} there, at level {HIGHEST}, it would be {refused}."));
             }
@@ -243,13 +248,23 @@ pub fn named_pipe(call: Call, scene: Scene) -> Counsel {
 pub fn high_level(call: Call, scene: Scene) -> Counsel {
     let mut counsel = Counsel::default();
     let most = if matches!(call, Call::Freeze { .. }) { NO_FREEZE } else { HIGHEST };
+    let is_level_fit = number_of(call, "level").is_some_and(|level| level <= most);
+    let is_set_fit = number_of(call, "set").is_none_or(|set| set <= ALL_SHOPS.into());
+    let call = if is_set_fit { call } else { with_number(call, "set", ALL_SHOPS.into()) };
     let is_fit = |level: u64| refusal_of(scene.monitor, with_number(call, "level", level)).is_none();
     if (0..=most).all(is_fit) {
-        let text = match most {
-            NO_FREEZE => format!("give a level from 0 to {HIGHEST}, or {NO_FREEZE} to open the books."),
-            _ => format!("give a level from 0 to {HIGHEST}."),
+        let text = match (most, is_level_fit, is_set_fit) {
+            (NO_FREEZE, ..) => {
+                format!("give a level from 0 to {HIGHEST}, or {NO_FREEZE} to open the books.")
+            }
+            (_, false, true) => format!("give a level from 0 to {HIGHEST}."),
+            (_, true, _) => format!("give a set of shop marks from 0 to {ALL_SHOPS}."),
+            (_, false, false) => {
+                format!("give a level from 0 to {HIGHEST} and a set of shop marks from 0 to {ALL_SHOPS}.")
+            }
         };
-        counsel.way(text, vec![with_number(call, "level", most)]);
+        let call = if is_level_fit { call } else { with_number(call, "level", most) };
+        counsel.way(text, vec![call]);
     }
     counsel
 }

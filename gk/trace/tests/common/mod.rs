@@ -4,7 +4,8 @@ use std::collections::BTreeMap;
 
 use gk_trace::{journal_of, Failure, Levels, Options, Written};
 
-/// The calls of a journal, a line each, as `gk disassemble` has them.
+/// The calls of a journal, a line each, as `gk disassemble` has them; but that the set of an admit or register is left out
+/// where it has all shop marks.
 pub fn words(journal: &[u8]) -> Vec<String> {
     const NAMES: [&str; 19] = [
         "?",
@@ -42,7 +43,11 @@ pub fn words(journal: &[u8]) -> Vec<String> {
         while !body.is_empty() {
             line.push_str(&format!(" {}", number(&mut body)));
         }
-        lines.push(line);
+        let is_labelled = line.starts_with("admit") || line.starts_with("register");
+        lines.push(match line.strip_suffix(" 255") {
+            Some(front) if is_labelled => front.to_string(),
+            _ => line,
+        });
     }
     lines
 }

@@ -2,6 +2,7 @@
 
 use super::super::stores::wide_number;
 use super::Draft;
+use crate::labels::Label;
 use crate::lines::{Stage, Start, MOST_STAGES};
 use crate::random::Random;
 use crate::tables::{Kind, Object};
@@ -32,12 +33,12 @@ pub(super) struct Clerk<'a> {
 impl Clerk<'_> {
     pub(super) fn new(draft: &mut Draft, start: Start, is_tidy: bool) -> Clerk<'_> {
         let tables = draft.picture.tables();
-        let level = tables.subject(start.shell).map_or(0, |shell| shell.level);
+        let label = tables.subject(start.shell).map_or(Label::LEAST, |shell| shell.label());
         let all = |is_fit: &dyn Fn(Object) -> bool| -> Vec<u64> {
             let fit = |o: &u64| tables.object(*o).is_some_and(is_fit);
             tables.live_objects().filter(fit).collect()
         };
-        let programs = all(&|object| object.kind == Kind::File && object.level >= level);
+        let programs = all(&|object| object.kind == Kind::File && object.label().is_at_least(label));
         let files = all(&|object| object.kind == Kind::File);
         let pipes = all(&|object| object.kind == Kind::Pipe);
         let own = (0..7).map(|i| start.pipe.wrapping_add(i)).collect();
@@ -79,6 +80,7 @@ impl Clerk<'_> {
     fn stages(&mut self, most: u64) -> Vec<Stage> {
         let count = match self.random.below(8) {
             0 => MOST_STAGES as u64,
+            2 | 3 if self.is_tidy => MOST_STAGES as u64,
             1 => self.random.between(1, MOST_STAGES as u64),
             _ => self.random.between(1, 3),
         };

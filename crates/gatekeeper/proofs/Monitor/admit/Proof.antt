@@ -1,4 +1,5 @@
 -- `gatekeeper::Monitor::admit` meets its contract. Assumes nothing.
+use Rattle.model.specs.Label.{label}
 use Rattle.model.specs.Calls.{admit}
 use Rattle.gatekeeper.specs.View.{slots}
 use Rattle.gatekeeper.proofs.Acting.{stops, goes}
@@ -26,12 +27,15 @@ returns c =
     let a = c5 .args in
     let g = owned-long (a .self) (c5 .good .0) in
     λ w.
-    stops (a .self) (admit (a .s) (a .level)) (c2 .of-admit .result) (c .refuse .result)
+    stops (a .self) (admit (a .s) (label (a .level) (a .shops))) (c2 .of-admit .result) (c .refuse .result)
     (c2 .of-admit .ensures (slots (a .self)) w (subject-got (a .self) g (a .s) (c3 .subject-of .result) (c3 .subject-of .ensures)))
     (c1 .if1 .taken) (c .refuse .ensures)
 
 cast-l : tie.Need-cast-l
 cast-l c = search needs
+
+cast-z : tie.Need-cast-z
+cast-z c = search needs
 
 with-subject-requires : tie.Need-with-subject-requires
 with-subject-requires c κs = search needs
@@ -59,7 +63,7 @@ returns-2 c =
     λ w.
     let z = goes (c7 .of-admit .ensures (slots (a .self)) w
     (subject-got (a .self) g (a .s) (c8 .subject-of .result) (c8 .subject-of .ensures))) (c6 .if1 .left) in
-    admits (a .self) g (a .s) (a .level) (c5 .with-subject .result) (c2 .with .result) (c3 .fresh .result) (c .with-subject2 .result) w z (c5 .with-subject .ensures)
+    admits (a .self) g (a .s) (a .level) (a .shops) (c5 .with-subject .result) (c2 .with .result) (c3 .fresh .result) (c .with-subject2 .result) w z (c5 .with-subject .ensures)
     (c3 .fresh .ensures) (c2 .with .ensures) (c .with-subject2 .ensures)
 
 pub admit-spec : {M : Type 1} → statement M
@@ -71,6 +75,7 @@ admit-spec =
     refuse-requires
     returns
     cast-l
+    cast-z
     with-subject-requires
     fresh-requires
     with-requires

@@ -37,12 +37,16 @@ returns c =
 with-object-requires : tie.Need-with-object-requires
 with-object-requires c κs = search needs
 
+subject-label-requires : tie.Need-subject-label-requires
+subject-label-requires c κs = search needs
+
 with-object-requires-2 : tie.Need-with-object-requires-2
 with-object-requires-2 c κs = search needs
 
 returns-2 : tie.Need-returns-2
 returns-2 c =
-    let c2 = c .before .before in
+    let c1 = c .before in
+    let c2 = c1 .before .before in
     let c3 = c2 .before in
     let c4 = c3 .before in
     let c5 = c4 .before in
@@ -54,8 +58,8 @@ returns-2 c =
     let x = subject-got (a .self) g (a .s) (c6 .subject-of .result) (c6 .subject-of .ensures) in
     let z = goes (c4 .of-create .ensures (slots (a .self)) (a .s) w x
     (object-got (a .self) g (a .o) (c5 .object-of .result) (c5 .object-of .ensures)) room) (c3 .if1 .left) in
-    creates (a .self) g (a .s) (a .o) (c6 .subject-of .result) (c2 .with-object .result) (c .with-object2 .result) w z room x (c2 .with-object .ensures)
-    (c .with-object2 .ensures)
+    creates (a .self) g (a .s) (a .o) (c6 .subject-of .result) (c1 .subject-label .result) (c2 .with-object .result) (c .with-object2 .result) w z room x (c2 .with-object .ensures)
+    (c1 .subject-label .ensures) (c .with-object2 .ensures)
 
 pub create-spec : {M : Type 1} → statement M
 create-spec =
@@ -67,5 +71,6 @@ create-spec =
     refuse-requires
     returns
     with-object-requires
+    subject-label-requires
     with-object-requires-2
     returns-2)

@@ -1,5 +1,9 @@
 -- `gatekeeper::Monitor::exec` meets its contract. Assumes nothing.
-use Rattle.model.specs.Calls.{exec}
+use mathlib.Core.Path.{_∙_, ap₂}
+use mathlib.Core.Bool.{Bool, not}
+use Prim.Native.Nat.{ℕ}
+use Rattle.model.specs.Label.{Label, leq}
+use Rattle.model.specs.Calls.{exec, outcome}
 use Rattle.gatekeeper.specs.View.{slots}
 use Rattle.gatekeeper.proofs.Acting.{stops, ends, waits, frees}
 use Rattle.gatekeeper.proofs.Owned.{owned-long, remains-long}
@@ -43,6 +47,12 @@ figures-requires c κs = search needs
 of-subject-requires : tie.Need-of-subject-requires
 of-subject-requires c κs = search needs
 
+object-label-requires : tie.Need-object-label-requires
+object-label-requires c κs = search needs
+
+is-less-requires : tie.Need-is-less-requires
+is-less-requires c κs = search needs
+
 last-requires : tie.Need-last-requires
 last-requires c κs = search needs
 
@@ -53,7 +63,9 @@ returns-2 : tie.Need-returns-2
 returns-2 c =
     let c1 = c .before in
     let c2 = c1 .before in
-    let c4 = c2 .before .before in
+    let d1 = c2 .before in
+    let d2 = d1 .before in
+    let c4 = d2 .before in
     let c5 = c4 .before in
     let c8 = c5 .before .before .before in
     let c11 = c8 .before .before .before in
@@ -69,7 +81,7 @@ returns-2 c =
     let z = waits (c12 .of-exec .ensures (slots (a .self)) (a .s) (a .o) w x y) (c11 .if1 .left) in
     let e = c2 .last .ensures (slots (a .self)) (exec (a .s) (a .o)) z
     (exec-late (a .self) g (a .s) (a .o) (c13 .object-of .result) (c8 .alone .result .subjects) (c8 .alone .result .handles) (c5 .figures .result) w z y (c8 .alone .ensures .0)
-    (c5 .figures .ensures) (c4 .of-subject .result) (c4 .of-subject .ensures)) in
+    (c5 .figures .ensures) (c4 .of-subject .result) (d2 .object-label .result) (d1 .is-less .result) (c4 .of-subject .ensures) (d2 .object-label .ensures) (d1 .is-less .ensures)) in
     ends (a .self) (exec (a .s) (a .o)) (c2 .last .result) (c .refuse2 .result) e (c1 .if2 .taken) (c .refuse2 .ensures)
 
 fallen-requires : tie.Need-fallen-requires
@@ -81,17 +93,35 @@ with-subject-requires c κs = search needs
 reaped-requires : tie.Need-reaped-requires
 reaped-requires c κs = search needs
 
+subject-label-requires : tie.Need-subject-label-requires
+subject-label-requires c κs = search needs
+
+subject-label-requires-2 : tie.Need-subject-label-requires-2
+subject-label-requires-2 c κs = search needs
+
+is-less-requires-2 : tie.Need-is-less-requires-2
+is-less-requires-2 c κs = search needs
+
+lost-requires : tie.Need-lost-requires
+lost-requires c κs = search needs
+
 not-refused-requires : tie.Need-not-refused-requires
 not-refused-requires c κs = search needs
 
 returns-3 : tie.Need-returns-3
 returns-3 c =
-    let c3 = c .before .before .before in
+    let e1 = c .before in
+    let e2 = e1 .before in
+    let e3 = e2 .before in
+    let e4 = e3 .before in
+    let c3 = e4 .before in
     let c4 = c3 .before in
     let c5 = c4 .before in
     let c6 = c5 .before in
     let c7 = c6 .before in
-    let c9 = c7 .before .before in
+    let d1 = c7 .before in
+    let d2 = d1 .before in
+    let c9 = d2 .before in
     let c10 = c9 .before in
     let c13 = c10 .before .before .before in
     let c16 = c13 .before .before .before in
@@ -107,10 +137,11 @@ returns-3 c =
     let z = waits (c17 .of-exec .ensures (slots (a .self)) (a .s) (a .o) w x y) (c16 .if1 .left) in
     let e = c7 .last .ensures (slots (a .self)) (exec (a .s) (a .o)) z
     (exec-late (a .self) g (a .s) (a .o) (c18 .object-of .result) (c13 .alone .result .subjects) (c13 .alone .result .handles) (c10 .figures .result) w z y (c13 .alone .ensures .0)
-    (c10 .figures .ensures) (c9 .of-subject .result) (c9 .of-subject .ensures)) in
+    (c10 .figures .ensures) (c9 .of-subject .result) (d2 .object-label .result) (d1 .is-less .result) (c9 .of-subject .ensures) (d2 .object-label .ensures) (d1 .is-less .ensures)) in
+    let sank = e2 .is-less2 .ensures ∙ ap₂ (λ (i j : Label). not (leq i j)) (e3 .subject-label2 .ensures) (e4 .subject-label .ensures) in
     execs (a .self) g (a .s) (a .o) (c18 .object-of .result) (c13 .alone .result .subjects) (c13 .alone .result .handles) (c10 .figures .result) w z y (c13 .alone .ensures .0)
     (c10 .figures .ensures) (c19 .subject-of .result) (c5 .fallen .result) (c4 .with-subject .result) (c3 .reaped .result) _ (remains-long (c13 .alone .result) (c13 .alone .ok)) (c13 .alone .ensures .1) x
-    (frees e (c6 .if2 .left)) (c5 .fallen .ensures) (c4 .with-subject .ensures) (c .not-refused .ensures) (c3 .reaped .ensures)
+    (frees e (c6 .if2 .left)) (c5 .fallen .ensures) (c4 .with-subject .ensures) (c .not-refused .ensures ∙ ap₂ (λ (b : Bool) (k : ℕ). outcome b (c5 .fallen .result .level) k) sank (e1 .lost .ensures)) (c3 .reaped .ensures)
 
 pub exec-spec : {M : Type 1} → statement M
 exec-spec =
@@ -124,11 +155,17 @@ exec-spec =
     alone-requires
     figures-requires
     of-subject-requires
+    object-label-requires
+    is-less-requires
     last-requires
     refuse-requires-2
     returns-2
     fallen-requires
     with-subject-requires
     reaped-requires
+    subject-label-requires
+    subject-label-requires-2
+    is-less-requires-2
+    lost-requires
     not-refused-requires
     returns-3)

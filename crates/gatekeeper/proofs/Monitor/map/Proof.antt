@@ -2,7 +2,7 @@
 use mathlib.Core.Path.{_∙_, ap}
 use Prim.Native.Nat.{_+_, _*_, _%_}
 use lib.ListN.{set}
-use Rattle.model.specs.Calls.{maps}
+use Rattle.model.specs.Calls.{maps, outcome}
 use Rattle.model.specs.Invariant.{Wf}
 use Rattle.refusals.specs.Refusing.{Refuses}
 use Rattle.gatekeeper.specs.View.{slots}
@@ -100,12 +100,16 @@ joining-requires-2 c κs = search needs
 with-handle-requires-2 : tie.Need-with-handle-requires-2
 with-handle-requires-2 c κs = search needs
 
+lost-requires : tie.Need-lost-requires
+lost-requires c κs = search needs
+
 not-refused-requires : tie.Need-not-refused-requires
 not-refused-requires c κs = search needs
 
 returns-3 : tie.Need-returns-3
 returns-3 c =
-    let c1 = c .before in
+    let c0 = c .before in
+    let c1 = c0 .before in
     let c2 = c1 .before in
     let c4 = c2 .before .before in
     let c5 = c4 .before in
@@ -136,7 +140,7 @@ returns-3 c =
           maps-acts (a .self) g (a .s) (a .o) (a .p) (c18 .object-of .result) (c14 .joining .result) (c13 .with-handle .result) (c9 .opened .result .needs)
           (c9 .opened .result .short) w z y (c14 .joining .ensures) (c13 .with-handle .ensures) (c9 .opened .ensures)
           (c19 .subject-of .result) (c5 .fallen .result) (c4 .taken .result .subjects) (c1 .with-handle2 .result) (c4 .taken .result .lower) _ x (frees e (c7 .if2 .left)) (c5 .fallen .ensures)
-          (c4 .taken .ensures) all (c .not-refused .ensures),
+          (c4 .taken .ensures) all (c .not-refused .ensures ∙ ap (outcome (c4 .taken .result .lower) (c5 .fallen .result .level)) (c0 .lost .ensures)),
       λ w. maps-keeps (a .self) g (a .s) (a .o) (a .p) (c18 .object-of .result) (c14 .joining .result) (c13 .with-handle .result) (c9 .opened .result .needs)
           (c9 .opened .result .short) w (waited w) y (c14 .joining .ensures) (c13 .with-handle .ensures) (c9 .opened .ensures)
           (c4 .taken .result .subjects) (c1 .with-handle2 .result) (c4 .taken .result .lower) (c4 .taken .ensures) all,
@@ -162,5 +166,6 @@ map-spec =
     taken-requires
     joining-requires-2
     with-handle-requires-2
+    lost-requires
     not-refused-requires
     returns-3)

@@ -1,6 +1,7 @@
 -- `gatekeeper::Monitor::read` meets its contract. Assumes nothing.
+use mathlib.Core.Path.{_∙_, ap}
 use Rattle.model.specs.Tables.{reading}
-use Rattle.model.specs.Calls.{access}
+use Rattle.model.specs.Calls.{access, outcome}
 use Rattle.gatekeeper.specs.View.{slots}
 use Rattle.gatekeeper.proofs.Acting.{stops, goes}
 use Rattle.gatekeeper.proofs.Owned.{owned-long}
@@ -47,12 +48,16 @@ fallen-requires c κs = search needs
 taken-requires : tie.Need-taken-requires
 taken-requires c κs = search needs
 
+lost-requires : tie.Need-lost-requires
+lost-requires c κs = search needs
+
 not-refused-requires : tie.Need-not-refused-requires
 not-refused-requires c κs = search needs
 
 returns-2 : tie.Need-returns-2
 returns-2 c =
-    let c2 = c .before .before in
+    let c1 = c .before in
+    let c2 = c1 .before .before in
     let c4 = c2 .before .before in
     let c5 = c4 .before in
     let c8 = c5 .before .before .before in
@@ -68,7 +73,7 @@ returns-2 c =
     let z = goes (c9 .of-read .ensures (slots (a .self)) (a .s) (a .p) w x h) (c8 .if1 .left) in
     reads (a .self) g (a .s) (a .p) (c11 .subject-of .result) (c4 .fallen .result) (c10 .handle-of .result) (c5 .object-of .result) (c2 .taken .result .subjects)
     (c2 .taken .result .lower) _ w z x h (object-got (a .self) g (c10 .handle-of .result .object) (c5 .object-of .result) (c5 .object-of .ensures)) (c4 .fallen .ensures)
-    (c2 .taken .ensures) (c .not-refused .ensures)
+    (c2 .taken .ensures) (c .not-refused .ensures ∙ ap (outcome (c2 .taken .result .lower) (c4 .fallen .result .level)) (c1 .lost .ensures))
 
 pub read-spec : {M : Type 1} → statement M
 read-spec =
@@ -83,5 +88,6 @@ read-spec =
     object-of-requires
     fallen-requires
     taken-requires
+    lost-requires
     not-refused-requires
     returns-2)

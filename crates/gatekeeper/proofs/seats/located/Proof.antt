@@ -4,6 +4,7 @@ use mathlib.Core.Logic.{_⊎_, inl, inr}
 use Prim.Native.Nat.{ℕ}
 use lib.ListN.{length}
 use Rattle.model.specs.Tables.{reading, writing}
+use Rattle.model.specs.Label.{label}
 use Rattle.model.specs.Calls.{Call, admit, register, create, make-pipe, opens, maps, access, connect, fork, thread, exec, close, mark, exit, retire, freeze, unknown, decode, sheds}
 use Rattle.model.specs.Calls.Codes.{decode-unknown}
 use Rattle.tables.proofs.Maps.{unmapped}
@@ -83,7 +84,7 @@ returns c =
     let a = c .before .before .args in
     let lo : length (a .objects) ≡ 64 = search (needs, unmapped) in
     let ln : length (a .numbers) ≡ 64 = search needs in
-    rw (c .before .match .keys1) (λ e f dd. subst (λ (r : Seats). Lift (a .objects) (a .numbers) (admit (a .a) (a .b)) (admit (r .a) (r .b)) (r .numbers)) (sym (c .names-none .ensures)) (lift-none (a .objects) (a .numbers) lo ln dd (admit (a .a) (a .b)) (λ ρ σ v l. refl) (λ t i h. h) (λ t. tt)))
+    rw (c .before .match .keys1) (λ e f dd. subst (λ (r : Seats). Lift (a .objects) (a .numbers) (admit (a .a) (label (a .b) (a .c))) (admit (r .a) (label (r .b) (r .c))) (r .numbers)) (sym (c .names-none .ensures)) (lift-none (a .objects) (a .numbers) lo ln dd (admit (a .a) (label (a .b) (a .c))) (λ ρ σ v l. refl) (λ t i h. h) (λ t. tt)))
 
 returns-2 : tie.Need-returns-2
 unfolding decode
@@ -91,7 +92,7 @@ returns-2 c =
     let a = c .before .before .args in
     let lo : length (a .objects) ≡ 64 = search (needs, unmapped) in
     let ln : length (a .numbers) ≡ 64 = search needs in
-    rw (c .before .match .keys2) (λ e f dd. let h = c .makes-first .ensures in subst (λ (r : Seats). Lift (a .objects) (a .numbers) (register (a .a) (a .b)) (register (r .a) (r .b)) (r .numbers)) (sym (h .2)) (lift-made (a .objects) (a .numbers) lo ln dd (λ (o : ℕ). register o (a .b)) (a .a) (h .0) (h .1) (λ ρ σ v l j. refl) (λ t i h. only-one _ _ h) (λ t r. r)))
+    rw (c .before .match .keys2) (λ e f dd. let h = c .makes-first .ensures in subst (λ (r : Seats). Lift (a .objects) (a .numbers) (register (a .a) (label (a .b) (a .c))) (register (r .a) (label (r .b) (r .c))) (r .numbers)) (sym (h .2)) (lift-made (a .objects) (a .numbers) lo ln dd (λ (o : ℕ). register o (label (a .b) (a .c))) (a .a) (h .0) (h .1) (λ ρ σ v l j. refl) (λ t i h. only-one _ _ h) (λ t r. r)))
 
 returns-3 : tie.Need-returns-3
 unfolding decode

@@ -36,7 +36,7 @@ returns-2 c =
       sym (eq-eqb (length s) state-bytes (c8 .if1 .left)),
       (
         (λ h. put-right s _ (c6 .load-monitor .result) n h (c6 .load-monitor .ensures) (c5 .righted .ensures)
-            (c2 .store-needs .ensures .1) (c2 .store-needs .ensures .0)),
+            (c2 .store-needs .ensures .1 .0) (c2 .store-needs .ensures .1 .1) (c2 .store-needs .ensures .0)),
         λ h. absurd (h (c8 .if1 .left)),
       ),
     )

@@ -1,7 +1,7 @@
 -- `host::seen::gatekeeper_subject` meets its contract. Assumes nothing.
 use mathlib.Core.Path.{sym, _∙_, ap}
 use mathlib.Core.Bool.{Bool, cond}
-use Prim.Native.Nat.{_+_}
+use Prim.Native.Nat.{_+_, _*_}
 use borrow.Author.Tests.{eq-eqb, ne-eqb}
 use Rattle.host.specs.Numbers.{seen-entry}
 use Rattle.host.proofs.Seeing.{sized-is, unsized-is, subject-seen, seen-subject}
@@ -23,23 +23,32 @@ returns-2 c =
     let a = c3 .before .before .args in
     let x = c2 .subject-in .result in
     sized-is (a .state .now) 0 _ (c3 .if1 .left) (sym (ap seen-entry (subject-seen (a .state .now) (c3 .if1 .left) (a .s) x (c2 .subject-in .ensures)) ∙ seen-subject x
-    ∙ ap (λ (b : Bool). cond b 0 (256 + x .level)) (eq-eqb (x .live) 0 (c .if2 .taken))))
+    ∙ ap (λ (b : Bool). cond b 0 (65536 * x .shops + 256 + x .level)) (eq-eqb (x .live) 0 (c .if2 .taken))))
 
 cast-result : tie.Need-cast-result
 cast-result c = search needs
 
+mul-result : tie.Need-mul-result
+mul-result c = search needs
+
 add-result : tie.Need-add-result
 add-result c = search needs
 
+cast-result-2 : tie.Need-cast-result-2
+cast-result-2 c = search needs
+
+add-result-2 : tie.Need-add-result-2
+add-result-2 c = search needs
+
 returns-3 : tie.Need-returns-3
 returns-3 c =
-    let c3 = c .before .before .before in
-    let c4 = c3 .before in
-    let a = c4 .before .before .args in
-    let x = c3 .subject-in .result in
-    sized-is (a .state .now) _ _ (c4 .if1 .left) (sym (ap seen-entry (subject-seen (a .state .now) (c4 .if1 .left) (a .s) x (c3 .subject-in .ensures)) ∙ seen-subject x
-    ∙ ap (λ (b : Bool). cond b 0 (256 + x .level)) (ne-eqb (x .live) 0 (c .before .if2 .left))))
+    let c4 = c .before .before .before .before in
+    let c5 = c4 .before in
+    let a = c5 .before .before .args in
+    let x = c4 .subject-in .result in
+    sized-is (a .state .now) _ _ (c5 .if1 .left) (sym (ap seen-entry (subject-seen (a .state .now) (c5 .if1 .left) (a .s) x (c4 .subject-in .ensures)) ∙ seen-subject x
+    ∙ ap (λ (b : Bool). cond b 0 (65536 * x .shops + 256 + x .level)) (ne-eqb (x .live) 0 (c .before .before .if2 .left))))
 
 pub gatekeeper-subject-spec : {M : Type 1} → statement M
 gatekeeper-subject-spec =
-    tie.close (tie.spec returns subject-in-requires returns-2 cast-result add-result returns-3)
+    tie.close (tie.spec returns subject-in-requires returns-2 cast-result mul-result add-result cast-result-2 add-result-2 returns-3)

@@ -23,13 +23,19 @@ add-next c = search needs
 shared-slice-read-level : tie.Need-shared-slice-read-level
 shared-slice-read-level c = search needs
 
+add-last : tie.Need-add-last
+add-last c = search needs
+
+shared-slice-read-shops : tie.Need-shared-slice-read-shops
+shared-slice-read-shops c = search needs
+
 subject-at-requires : tie.Need-subject-at-requires
 subject-at-requires c κs = search needs
 
 returns : tie.Need-returns
 returns c =
-    let c5 = c .before .before .before .before .before in
-    c .subject-at .ensures ∙ subject-read (c5 .args .state .now) (c5 .pre) (c5 .args .s) _ (c .before .before .to-live .ensures)
+    let c6 = c .before .before .before .before .before .before in
+    c .subject-at .ensures ∙ subject-read (c6 .args .state .now) (c6 .pre) (c6 .args .s) _ (c .before .before .before .to-live .ensures)
 
 pub subject-in-spec : {M : Type 1} → statement M
 subject-in-spec =
@@ -41,5 +47,7 @@ subject-in-spec =
     to-live-requires
     add-next
     shared-slice-read-level
+    add-last
+    shared-slice-read-shops
     subject-at-requires
     returns)

@@ -1,0 +1,2 @@
+-- Labels as numbers (Codes). Assumes nothing.
+pub mod Codes
