@@ -1,10 +1,12 @@
 // The answer to a call, and what is read off it.
+#![tactic(auto)]
+
 ghost use Rattle.std.specs.Prelude.{◌≡◌};
 ghost use Rattle.model.specs.Calls.{outcome};
 ghost use Rattle.answers.specs.Telling.{told, letter_of, level_of, value_of, lost_of, refuses};
 
 // The outcome of a call with the level, or the number of its refusal.
-#[derive(Drop)]
+#[derive(Clone, Copy)]
 pub enum Answer {
     Allowed(u8),
     Lowered(u8, u8),

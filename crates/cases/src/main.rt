@@ -1,5 +1,7 @@
 // The worked cases that are left to a program (RULES K10 to K17, G7), and DWARF's examples of numbers, read and written: each journal's
 // replies, one after the other, then each number with its bytes. Over each journal stands the name that the independent program has for it.
+#![tactic(auto)]
+
 use number::{Number, Written};
 
 // Longer than any reply here.

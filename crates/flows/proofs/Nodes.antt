@@ -4,13 +4,13 @@
 use mathlib.Core.Path.{◌≡◌, refl, sym, ◌∙◌, ap, subst, subst₂}
 use mathlib.Core.Bool.{Bool, true, false, not, cond}
 use mathlib.Core.Logic.{inl, inr}
-use mathlib.Core.Option.{Option, none, some, none_ne_some, some_injective}
+use mathlib.Core.Option.{Option, none, some, none-ne-some, some-injective}
 use mathlib.Core.List.{List}
 use Prim.Native.Nat.{ℕ, ◌+◌, ◌*◌, ◌-◌, ◌/◌, ◌%◌, ◌≤◌, ◌<◌}
 use native.Mathlib.Omega.{arith}
 use native.Mathlib.Decide.{ℕ_discrete, dec_lt}
 use borrow.Author.Tests.{lt-ltb, le-ltb, ne_eqb}
-use lib.ListN.{length, get_or, get_or_eq_default}
+use lib.ListN.{length, get_or, get_or-eq_default}
 use lib.Dec.{T, ltb, ltb→lt, lt→ltb, eqb}
 use Rattle.model.specs.Lists.{In}
 use Rattle.model.specs.Label.{Label, ◌⊑◌}
@@ -90,8 +90,8 @@ edge_node start h k s q l ls = go (eqb h.way 0) (reads_by h.way) q
 
     go : (b w : Bool) → cond b none (some (of w)) ≡ some k
         → cond b 0 (cond (alike w start) (32 + h.object % 64) s) ≡ node (tip start (flow (subject s) k))
-    go true w q = absurd (none_ne_some k q)
-    go false w q = let e = some_injective _ k q in let lo : h.object < 64 = subst (λ (z : Held). z.to < 64) (sym e) l in
+    go true w q = absurd (none-ne-some k q)
+    go false w q = let e = some-injective _ k q in let lo : h.object < 64 = subst (λ (z : Held). z.to < 64) (sym e) l in
         at w start lo ∙ ap (λ (z : Held). node (tip start (flow (subject s) z))) e
 
 -- a record that holds nothing has both ends at 0
@@ -100,7 +100,7 @@ no_edge start h s q = go (eqb h.way 0) _ _ q
   where
     go : (b : Bool) (k : Held) (n : ℕ) → cond b none (some k) ≡ none → cond b 0 n ≡ 0
     go true k n q = refl
-    go false k n q = absurd (none_ne_some k (sym q))
+    go false k n q = absurd (none-ne-some k (sym q))
 
 -- ── leads ──
 module _ {t : Tables} (w : Wf t) {ld : List ℕ} (led : Leads t.kin ld) where
@@ -175,7 +175,7 @@ module _ (rest : Tables) (ss : List Subject) (os : List Object) (hs : List Handl
           subst (λ (z : ℕ). figure base z ⊑ needs t (thing z)) e
           (rw (thing_object o) (subst (λ (l : Label). l ⊑ needs t (object o)) (demands_as o (get_or os o no_object) ∙ sym (k.objects o (omega arith)))
           (need_self (edges t) f (object o))))
-      go (no a) (no b) = subst (λ (z : ℕ). coded z ⊑ needs t (thing n)) (sym (get_or_eq_default base 0 {n = n} (omega (arith, k.long)))) zero_least
+      go (no a) (no b) = subst (λ (z : ℕ). coded z ⊑ needs t (thing n)) (sym (get_or-eq_default base 0 {n = n} (omega (arith, k.long)))) zero_least
 
   -- a flow of a subject, taken for one of its lead, falls
   lead_falls : (s : ℕ) (j : Held) → s < 32 → needs t (flow (subject s) j).dst ⊑ needs t (flow (subject s) j).src
@@ -232,7 +232,7 @@ module _ (rest : Tables) (ss : List Subject) (os : List Object) (hs : List Handl
       where
         go : Dec (n < 64) → demand (object n) (object_entry (get_or os n no_object)) ⊑ fig (object n)
         go (yes l) = subst₂ ◌⊑◌ (k.objects n l ∙ sym (demands_as n (get_or os n no_object))) (ap coded (sym (sp.objects n))) (p.above (32 + n))
-        go (no nl) = subst (λ (x : Object). demand (object n) (object_entry x) ⊑ fig (object n)) (sym (get_or_eq_default os no_object {n = n} (omega arith))) bot_least
+        go (no nl) = subst (λ (x : Object). demand (object n) (object_entry x) ⊑ fig (object n)) (sym (get_or-eq_default os no_object {n = n} (omega arith))) bot_least
 
     -- an end of a flow has the figure that it has as one of the lead's
     spread_tip : (start : Bool) (s : ℕ) (j : Held) → s < 32 → figure v (node (tip start (flow (subject s) j))) ≡ figure r (node (tip start (flow (subject (lead s)) j)))

@@ -2,7 +2,7 @@
 use mathlib.Core.Path.{◌≡◌, refl, sym, ◌∙◌, ap, subst}
 use mathlib.Core.Bool.{Bool, true, false, not, ◌||◌, cond}
 use mathlib.Core.Logic.{◌⊎◌, inl, inr}
-use mathlib.Core.Option.{Option, none, some, none_ne_some, some_injective}
+use mathlib.Core.Option.{Option, none, some, none-ne-some, some-injective}
 use mathlib.Core.List.{List}
 use Prim.Native.Nat.{ℕ, ◌+◌}
 use lib.ListN.{length, get_or}
@@ -37,10 +37,10 @@ abbrev As : Bool → Type 0 → Type 0
 As b P = (T b → P) × (P → T b)
 
 low_as : (free : Bool) (k : Kind) (l v : Label) → As (low_by (not free) l v) (Low v (cond free none (some (entry k l))))
-low_as true k l v = (λ h. absurd h, λ r. absurd (none_ne_some r.0 r.1))
+low_as true k l v = (λ h. absurd h, λ r. absurd (none-ne-some r.0 r.1))
 low_as false k l v = (
   λ h. (_, refl, h),
-  λ r. subst (λ (z : Entry). T (not (leq v z.label))) (sym (some_injective _ r.0 r.1)) r.2,
+  λ r. subst (λ (z : Entry). T (not (leq v z.label))) (sym (some-injective _ r.0 r.1)) r.2,
 )
 
 subject_as : (x : Subject) (v : Label) → As (short_subject x v) (Low v (subject_entry x))

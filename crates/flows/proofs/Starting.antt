@@ -5,7 +5,7 @@ use Prim.Native.Nat.{ℕ, ◌+◌, ◌<◌}
 use native.Mathlib.Omega.{arith}
 use native.Mathlib.Decide.{ℕ_discrete}
 use lib.ListN.{length, get_or, set, replicate, length-set, get_or-replicate}
-use lib.Seq.{get_or_set_same, get_or-set_other}
+use lib.Seq.{get_or-set_same, get_or-set_other}
 use Rattle.labels.specs.Codes.{coded}
 use Rattle.tables.specs.declared.Object.{Object}
 use Rattle.tables.specs.Records.{no_object}
@@ -26,5 +26,5 @@ one_started os r k v p l e = record {
 }
   where
     at : (i : ℕ) → i < k + 1 → Dec (i ≡ k) → coded (get_or (set r (32 + k) v) (32 + i) 0) ≡ demanded_by (get_or os i no_object)
-    at i h (yes q) = rw (q, get_or_set_same r (32 + k) v 0 (omega (arith, p.long))) e
+    at i h (yes q) = rw (q, get_or-set_same r (32 + k) v 0 (omega (arith, p.long))) e
     at i h (no n) = ap coded (get_or-set_other r (32 + k) (32 + i) v 0 (λ q. n (omega arith))) ∙ p.objects i (omega arith)

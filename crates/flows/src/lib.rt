@@ -1,5 +1,7 @@
 // Needs, from whole arrays: what each thing demands, the need of each, and whether some label is below one. Passes over
 // the flows are in the crate `passes`, needs that are kept in `keeping`.
+#![tactic(auto)]
+
 ghost use Rattle.std.specs.Prelude.{◌≡◌, not, List, ◌+◌, ◌<◌, get_or};
 ghost use Rattle.model.specs.Tables.{Tables, safe};
 ghost use Rattle.model.specs.Invariant.{Wf};

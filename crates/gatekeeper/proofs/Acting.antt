@@ -2,7 +2,7 @@
 use mathlib.Core.Path.{◌≡◌, refl, sym, ◌∙◌, ap, subst, subst₂}
 use mathlib.Core.Bool.{Bool, true, false, not, ◌||◌, cond}
 use mathlib.Core.Logic.{◌⊎◌, inl, inr}
-use mathlib.Core.Option.{Option, none, some, none_ne_some, some_injective}
+use mathlib.Core.Option.{Option, none, some, none-ne-some, some-injective}
 use mathlib.Core.List.{List}
 use Prim.Native.Nat.{ℕ, ◌+◌, ◌*◌, ◌<◌}
 use native.Mathlib.Omega.{arith}
@@ -19,7 +19,7 @@ use Rattle.tables.specs.declared.Object.{Object}
 use Rattle.tables.specs.Records.{joins, held, object_entry, no_object, tables_of, no_handle}
 use Rattle.tables.specs.Slots.{slot_used}
 use lib.Dec.{T, eqb, ltb}
-use lib.ListN.{length, get_or, get_or_eq_default}
+use lib.ListN.{length, get_or, get_or-eq_default}
 use Rattle.model.specs.Calls.{Call, made, steps, stepped, tests, first, refusal, effect, refused, allowed, lowered, answer}
 use Rattle.model.specs.Calls.Listed.{Listed, listed_same, made_or, stepped_left, effect_listed, effect_is, effect_at}
 use Rattle.model.specs.Calls.{Answer as Told}
@@ -45,7 +45,7 @@ pub halts : (m : Monitor) (c : Call) (n : ℕ) (r : Reply) → refusal (slots m)
 halts m c n r e q = record {
   answered = ap (λ (z : Reply). told z.answer) q ∙ sym ((answered_refused (slots m) c n).1 e);
   unchanged = λ k z. ap (λ (z : Reply). z.monitor) q;
-  moved = λ z. absurd (none_ne_some n (sym z ∙ e));
+  moved = λ z. absurd (none-ne-some n (sym z ∙ e));
   kept = λ h. subst (λ (z : Reply). Ready (slots z.monitor) (figure_of z.monitor.needs)) (sym q) h;
   says = ap (λ (z : Reply). z.monitor.sure) q;
   numbered = ap (λ (z : Reply). z.monitor.numbers) q;
@@ -91,7 +91,7 @@ entry_low os i h = go (dec_lt i (length os))
   where
     go : Dec (i < length os) → i < length os
     go (yes l) = l
-    go (no l) = absurd (subst (λ (y : Object). T (is_some (object_entry y))) (get_or_eq_default os no_object {n = i} (omega arith)) h)
+    go (no l) = absurd (subst (λ (y : Object). T (is_some (object_entry y))) (get_or-eq_default os no_object {n = i} (omega arith)) h)
 
 -- the slots in use are listed
 pub slots_listed : (m : Monitor) → Listed (slots m)
@@ -117,7 +117,7 @@ pub acts : (m : Monitor) (c : Call) (a : Told) (n : Monitor) (u : Tables) → n.
     → (Ready (slots m) (figure_of m.needs) → Ready (effect (slots m) c) (figure_of n.needs)) → Acts m c a n
 acts m c a n u s b d v k = record {
   answered = d.answered;
-  unchanged = λ k z. absurd (none_ne_some k (sym d.free ∙ z));
+  unchanged = λ k z. absurd (none-ne-some k (sym d.free ∙ z));
   moved = λ z. is;
   kept = λ r. subst (λ (t : Tables). Ready t (figure_of n.needs)) (sym is) (k r);
   says = s;
@@ -168,7 +168,7 @@ back_keeps m c n r q w = subst (λ (x : Reply). Keeps m c x.monitor) (sym q) (re
 -- ── steady tables ──
 -- a mapping is a reading handle, whatever the bytes are
 held_reads : (b : Bool) (h : Handle) (k : Held) → cond b (held h) none ≡ some k → T k.mapped → k.dir ≡ reading
-held_reads false h k q t = absurd (none_ne_some k q)
+held_reads false h k q t = absurd (none-ne-some k q)
 held_reads true h k q t = inner (eqb h.way 0) q
   where
     dirs : (a b : Bool) → T a → cond (b || a) reading writing ≡ reading
@@ -177,8 +177,8 @@ held_reads true h k q t = inner (eqb h.way 0) q
     dirs false b x = absurd x
 
     inner : (b : Bool) → cond b none (some (joins h)) ≡ some k → k.dir ≡ reading
-    inner true q = absurd (none_ne_some k q)
-    inner false q = let e = some_injective (joins h) k q in
+    inner true q = absurd (none-ne-some k q)
+    inner false q = let e = some-injective (joins h) k q in
         sym (ap (λ (z : Held). z.dir) e) ∙ dirs (eqb h.way 3) (eqb h.way 1) (subst (λ (z : Held). T z.mapped) (sym e) t)
 
 slots_reads : (m : Monitor) (s p : ℕ) (k : Held) → (slots m).hand s p ≡ some k → T k.mapped → k.dir ≡ reading
@@ -228,7 +228,7 @@ module _ (m t : Monitor) (c : Call) (r a : Reply) (w : Wf (clean (slots m))) (ti
     allowed_is : refusal (clean (slots m)) c ≡ none → (b : Told) → told r.answer ≡ b → cond (refuses b) m r.monitor ≡ r.monitor
     allowed_is q (allowed l) p = refl
     allowed_is q (lowered l lost) p = refl
-    allowed_is q (refused n) p = absurd (none_ne_some n (sym q ∙ (answered_refused (clean (slots m)) c n).0 (sym is ∙ p)))
+    allowed_is q (refused n) p = absurd (none-ne-some n (sym q ∙ (answered_refused (clean (slots m)) c n).0 (sym is ∙ p)))
 
     refused_is : (k : ℕ) → refusal (clean (slots m)) c ≡ some k → (settled m r).monitor ≡ m
     refused_is k q = ap (λ (b : Told). cond (refuses b) m r.monitor) (is ∙ (answered_refused (clean (slots m)) c k).1 q)

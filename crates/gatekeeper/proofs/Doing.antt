@@ -3,7 +3,7 @@
 use mathlib.Core.Path.{◌≡◌, refl, sym, ◌∙◌, ap, ap₂, subst, subst₂, fun_ext}
 use mathlib.Core.Bool.{Bool, true, false, not, ◌||◌, cond}
 use mathlib.Core.Logic.{◌⊎◌, inl, inr}
-use mathlib.Core.Option.{Option, none, some, none_ne_some, some_injective}
+use mathlib.Core.Option.{Option, none, some, none-ne-some, some-injective}
 use mathlib.Core.List.{List, [], ◌∷◌}
 use Prim.Native.Nat.{ℕ, ◌<◌, min}
 use lib.Bits.{bit_and}
@@ -75,7 +75,7 @@ pub full_held : (h : Handle) (k : Held) → held h ≡ some k → held h ≡ som
 full_held h k q = go (eqb h.way 0) q
   where
     go : (b : Bool) → cond b none (some (joins h)) ≡ some k → cond b none (some (joins h)) ≡ some (joins h)
-    go true z = absurd (none_ne_some k z)
+    go true z = absurd (none-ne-some k z)
     go false z = refl
 
 pub not_leb : (a b : ℕ) → T (not (leb a b)) → b < a
@@ -155,8 +155,8 @@ module _ (t : Tables) (c : Call) (e : refusal t c ≡ none) where
 -- entries that are as they were, that are gone, or that are new
 none_smaller : (t u : Tables) → ((x : Thing) (d : Entry) → u.at x ≡ some d → (t.at x ≡ some d) ⊎ (t.at x ≡ none)) → NoneLower t u
 none_smaller t u f x e d p q = elim (f x d q) [
-  | inl z ↦ subst (λ (k : Entry). e.label ⊑ k.label) (some_injective e d (sym p ∙ z)) ⊑_refl
-  | inr z ↦ absurd (none_ne_some e (sym z ∙ p))
+  | inl z ↦ subst (λ (k : Entry). e.label ⊑ k.label) (some-injective e d (sym p ∙ z)) ⊑_refl
+  | inr z ↦ absurd (none-ne-some e (sym z ∙ p))
 ]
 
 new_one : (t : Tables) (x : Thing) (v : Option Entry) → t.at x ≡ none → (y : Thing) (d : Entry) → put t.at x v y ≡ some d
@@ -165,7 +165,7 @@ new_one t x v n y d q = elim (put_cases t.at x v y (some d) q) [ inl c ↦ inr (
 
 -- what is left was there
 left_over : (b : Bool) (o : Option Entry) (d : Entry) → cond b none o ≡ some d → o ≡ some d
-left_over true o d q = absurd (none_ne_some d q)
+left_over true o d q = absurd (none-ne-some d q)
 left_over false o d q = q
 
 -- x shows level l, and u is what the call makes
@@ -227,7 +227,7 @@ place_more h s p v e s' p' k q = go (eqb s s') (eqb→eq s s') (eqb p p') (eqb�
     go : (a : Bool) → (T a → s ≡ s') → (b : Bool) → (T b → p ≡ p') → cond a (cond b v (h s p')) (h s' p') ≡ some k
     go false f b g = q
     go true f false g = ap (λ (z : ℕ). h z p') (f tt) ∙ q
-    go true f true g = absurd (none_ne_some k (sym e ∙ ap (λ (z : ℕ). h z p) (f tt) ∙ ap (h s') (g tt) ∙ q))
+    go true f true g = absurd (none-ne-some k (sym e ∙ ap (λ (z : ℕ). h z p) (f tt) ∙ ap (h s') (g tt) ∙ q))
 
 row_more : (h : ℕ → ℕ → Option Held) (c : ℕ) (r : ℕ → Option Held) → ((p : ℕ) (k : Held) → h c p ≡ some k → ⊥) → (s p : ℕ) (k : Held) → h s p ≡ some k
     → row h c r s p ≡ some k
@@ -368,7 +368,7 @@ connect_does t s u a b p q x z e i j = plain t c (cell t s) x.level x.shops n e 
     ]
       where
         was_free : put t.at (object a) ea y ≡ none → t.at y ≡ none
-        was_free f = elim (put_cases t.at (object a) ea y none f) [ inl l ↦ absurd (none_ne_some _ (sym l.1)) | inr l ↦ l.1 ]
+        was_free f = elim (put_cases t.at (object a) ea y none f) [ inl l ↦ absurd (none-ne-some _ (sym l.1)) | inr l ↦ l.1 ]
 
     pq : T (not (eqb p q))
     pq = passed t c e (apart p q) (inr (inr (inr (inr (inr (inr (inr (inr (inr (inr (inl refl)))))))))))
@@ -398,8 +398,8 @@ mark_does t s p x e q = plain t (mark s p) (cell t s) x.level x.shops u e is ref
     u = with_hand t (place t.hand s p (marking (t.hand s p)))
 
     marked_to : (o : Option Held) (k : Held) → o ≡ some k → (j : Held) × (marking o ≡ some j) × (j.to ≡ k.to)
-    marked_to none k q = absurd (none_ne_some k q)
-    marked_to (some j) k q = (with_mark j, refl, ap (λ (z : Held). z.to) (some_injective j k q))
+    marked_to none k q = absurd (none-ne-some k q)
+    marked_to (some j) k q = (with_mark j, refl, ap (λ (z : Held). z.to) (some-injective j k q))
 
     still : (s' p' : ℕ) (k : Held) → t.hand s' p' ≡ some k → (j : Held) × (u.hand s' p' ≡ some j) × (j.to ≡ k.to)
     still s' p' k q = go (eqb s s') (eqb→eq s s') (eqb p p') (eqb→eq p p')
@@ -439,7 +439,7 @@ exit_does t s x e q = plain t (exit s) (cell t s) x.level x.shops (reap (handles
     u = with_kin (with_at (with_hand t (row t.hand s (λ p. none))) (put t.at (subject s) none)) (parted (same (subject s)) t.kin)
 
     without : (x y : Thing) (d : Entry) → put t.at x none y ≡ some d → t.at y ≡ some d
-    without x y d z = elim (put_cases t.at x none y (some d) z) [ inl c ↦ absurd (none_ne_some d c.1) | inr c ↦ c.1 ]
+    without x y d z = elim (put_cases t.at x none y (some d) z) [ inl c ↦ absurd (none-ne-some d c.1) | inr c ↦ c.1 ]
 
     gone : (reap (handles t) u).at (subject s) ≡ none
     gone = cond_no (ended (handles t) (handles u) (subject s) (u.at (subject s))) none (u.at (subject s))
@@ -448,7 +448,7 @@ exit_does t s x e q = plain t (exit s) (cell t s) x.level x.shops (reap (handles
 pub retire_does : (t : Tables) (o : ℕ) (y : Object) → refusal t (retire o) ≡ none → t.at (object o) ≡ object_entry y
     → Does t (retire o) (allowed y.level) (with_at t (put t.at (object o) none))
 retire_does t o y e q = plain t (retire o) (object o) y.level y.shops _ e (effect_at t (retire o) (put t.at (object o) none) refl) refl
-    (λ x d z. elim (put_cases t.at (object o) none x (some d) z) [ inl c ↦ absurd (none_ne_some d c.1) | inr c ↦ inl c.1 ])
+    (λ x d z. elim (put_cases t.at (object o) none x (some d) z) [ inl c ↦ absurd (none-ne-some d c.1) | inr c ↦ inl c.1 ])
     (ap₂ last_label (thing_is t (retire o) e o (present_live t (retire o) e o (inl refl)) y q) (put_same t.at (object o) none))
 
 -- ── data moves: read, write, exec, map ──
@@ -473,7 +473,7 @@ module _ (t : Tables) (c : Call) (y z : Thing) (kd kz : Kind) (k l : Label) (e :
 
       -- any other thing is as it was, or gone
       others : (x : Thing) (a b : Entry) → T (not (same y x)) → t.at x ≡ some a → after.at x ≡ some b → a.label ⊑ b.label
-      others x a b n p h = subst (λ (j : Entry). a.label ⊑ j.label) (some_injective a b (sym p
+      others x a b n p h = subst (λ (j : Entry). a.label ⊑ j.label) (some-injective a b (sym p
           ∙ w (some d) x b n (left_over (ended (handles t) (handles (u (some d))) x ((u (some d)).at x)) ((u (some d)).at x) b h))) ⊑_refl
 
       shows : said t (reap (handles t) (applies (steps t c) t)) (shown t c) ≡ outcome (not (leq k n)) (level n) (marks_lost k n)
@@ -499,8 +499,8 @@ held_to : (h : Handle) (k : Held) → held h ≡ some k → k.to ≡ h.object
 held_to h k q = go (eqb h.way 0) (joins h) refl q
   where
     go : (b : Bool) (a : Held) → a.to ≡ h.object → cond b none (some a) ≡ some k → k.to ≡ h.object
-    go true a e q = absurd (none_ne_some k q)
-    go false a e q = sym (ap (λ (w : Held). w.to) (some_injective a k q)) ∙ e
+    go true a e q = absurd (none-ne-some k q)
+    go false a e q = sym (ap (λ (w : Held). w.to) (some-injective a k q)) ∙ e
 
 module _ (t : Tables) (w : Wf t) (c : Call) (s p : ℕ) (h : Handle) (e : refusal t c ≡ none) (i : In (taken s p) (tests c)) (q : t.hand s p ≡ held h) where
   pub found : (k : Held) × (t.hand s p ≡ some k)

@@ -2,14 +2,14 @@
 use mathlib.Core.Path.{◌≡◌, refl, sym, ◌∙◌, ap, ap₂, subst}
 use mathlib.Core.Bool.{Bool, true, false, not, ◌||◌, cond}
 use mathlib.Core.Logic.{◌⊎◌, inl, inr}
-use mathlib.Core.Option.{none, some, none_ne_some}
+use mathlib.Core.Option.{none, some, none-ne-some}
 use mathlib.Core.List.{List}
 use Prim.Native.Nat.{ℕ, ◌+◌, ◌%◌, ◌≤◌, ◌<◌}
 use native.Mathlib.Omega.{arith}
 use native.Mathlib.Decide.{ℕ_discrete, dec_lt}
 use borrow.Author.Tests.{lt-ltb, le-ltb, le-leb, lt-leb, eq-eqb, ne_eqb}
 use lib.ListN.{length, get_or, set, length-set}
-use lib.Seq.{get_or_set_same, get_or-set_other}
+use lib.Seq.{get_or-set_same, get_or-set_other}
 use lib.Dec.{T, T_not, eqb, leb, ltb}
 use Rattle.model.specs.Lists.{In, insert}
 use Rattle.model.specs.Lists.Rising.{Rising, insert_in, insert_new, insert_old, insert_rising, insert_length, one_missing, at_least, each_rising, each_of, each_has}
@@ -52,7 +52,7 @@ pub noted_at : (ns : List ℕ) (i x j : ℕ) → length ns ≡ 64 → j < 64 →
 noted_at ns i x j l lj = go (dec_lt i 64) (ℕ_discrete i j)
   where
     go : Dec (i < 64) → Dec (i ≡ j) → get_or (noted ns i x) j 0 ≡ cond (eqb i j) x (get_or ns j 0)
-    go (yes a) (yes e) = let m : i % 64 ≡ i = omega arith in rw (lt-ltb i 64 a, m, eq-eqb i j e, ← e) (get_or_set_same ns i x 0 (omega arith))
+    go (yes a) (yes e) = let m : i % 64 ≡ i = omega arith in rw (lt-ltb i 64 a, m, eq-eqb i j e, ← e) (get_or-set_same ns i x 0 (omega arith))
     go (yes a) (no n) = let m : i % 64 ≡ i = omega arith in rw (lt-ltb i 64 a, m, ne_eqb i j n) (get_or-set_other ns i j x 0 (λ q. n (sym q)))
     go (no a) (yes e) = absurd (a (subst (λ (z : ℕ). z < 64) (sym e) lj))
     go (no a) (no n) = rw (le-ltb i 64 (omega arith), ne_eqb i j n)
@@ -70,7 +70,7 @@ used_some os i u q = go (eqb (get_or os i no_object).kind 0) u q
   where
     go : (b : Bool) → T (not b) → cond b none (some (entry (cond (eqb (get_or os i no_object).kind 1) file pipe) (label (get_or os i no_object).level (get_or os i no_object).shops))) ≡ none → ⊥
     go true u q = u
-    go false u q = none_ne_some _ (sym q)
+    go false u q = none-ne-some _ (sym q)
 
 or_true : (a : Bool) → true ≡ (a || true)
 or_true true = refl

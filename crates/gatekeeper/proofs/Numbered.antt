@@ -2,12 +2,12 @@
 use mathlib.Core.Path.{◌≡◌, refl, sym, ◌∙◌, ap, ap₂, subst, subst₂}
 use mathlib.Core.Bool.{Bool, true, false, not, ◌&&◌, cond}
 use mathlib.Core.Logic.{◌⊎◌, inl, inr}
-use mathlib.Core.Option.{Option, none, none_ne_some}
+use mathlib.Core.Option.{Option, none, none-ne-some}
 use mathlib.Core.List.{List, [], ◌∷◌, map}
 use Prim.Native.Nat.{ℕ, suc, ◌+◌, ◌<◌}
 use native.Mathlib.Omega.{arith}
 use native.Mathlib.Decide.{dec_lt}
-use lib.ListN.{length, get_or, replicate, length-replicate, get_or-replicate, get_or_eq_default}
+use lib.ListN.{length, get_or, replicate, length-replicate, get_or-replicate, get_or-eq_default}
 use lib.Dec.{T, T_not, eqb, eqb_refl}
 use Rattle.model.specs.Lists.{In, inserts}
 use Rattle.model.specs.Lists.Rising.{Rising, insert_length, inserts_in, inserts_new, inserts_rising, each_rising, each_of, each_has}
@@ -252,7 +252,7 @@ all_same n i a = go (dec_lt i n)
   where
     go : Dec (i < n) → get_or (replicate n a) i a ≡ a
     go (yes l) = get_or-replicate n i a a l
-    go (no h) = get_or_eq_default (replicate n a) a {n = i} (omega (arith, length-replicate n a))
+    go (no h) = get_or-eq_default (replicate n a) a {n = i} (omega (arith, length-replicate n a))
 
 none_used : (i : ℕ) → T (slot_used (replicate 64 no_object) i) → ⊥
 none_used i u = subst (λ (y : Object). T (not (eqb y.kind 0))) (all_same 64 i no_object) u
@@ -324,7 +324,7 @@ module _ (m t : Monitor) (c k : Call) (r : Reply) (lo : length m.objects ≡ 64)
       go : (v : Told) → told r.answer ≡ v → refuses v ≡ false
       go (allowed l) i = refl
       go (lowered l lost) i = refl
-      go (refused j) i = absurd (none_ne_some j (sym s ∙ (answered_refused (clean (view m)) c j).0 (sym (full_answer h) ∙ i)))
+      go (refused j) i = absurd (none-ne-some j (sym s ∙ (answered_refused (clean (view m)) c j).0 (sym (full_answer h) ∙ i)))
 
   wholes : (v : Told) → told r.answer ≡ v → ((j : ℕ) → told r.answer ≡ refused j → ⊥) → Whole (cond (refuses v) (once m) r.monitor) → Whole (cond (refuses v) m r.monitor)
   wholes (allowed l) p f x = x

@@ -2,7 +2,7 @@
 use mathlib.Core.Path.{◌≡◌, sym, ◌∙◌}
 use mathlib.Core.List.{List, map}
 use Prim.Native.Nat.{ℕ}
-use lib.ListN.{length, length_map}
+use lib.ListN.{length, length-map}
 use denote.Laws.{Is}
 use denote.Struct.Declared.{row}
 use denote.Struct.Laws as S
@@ -18,7 +18,7 @@ use Rattle.gatekeeper.specs.contracts.Monitor as K
 use Rattle.gatekeeper.proofs.Monitor.TheLaws as K'
 
 unmapped : (X Y : Type 0) (f : X → Y) (l : List X) (n : ℕ) → length (map f l) ≡ n → length l ≡ n
-unmapped X Y f l n p = sym (length_map l f) ∙ p
+unmapped X Y f l n p = sym (length-map l f) ∙ p
 
 abbrev pub Owned : Monitor → Type 0
 Owned m = Is (row K.the_type) m (S.vals K.the_type K'.the_laws m)
@@ -43,7 +43,7 @@ pub record Long (m : Monitor) : Type 0 where
   pub subjects : length m.subjects ≡ 32
   pub objects : length m.objects ≡ 64
   pub handles : length m.handles ≡ 512
-  pub rules : length m.needs ≡ 96
+  pub needs : length m.needs ≡ 96
   pub groups : length m.groups ≡ 32
 
 pub owned_long : (m : Monitor) → Owned m → Long m

@@ -2,14 +2,14 @@
 use mathlib.Core.Path.{◌≡◌, refl, sym, ◌∙◌, ap, ap₂, subst, subst₂, fun_ext}
 use mathlib.Core.Bool.{Bool, true, false, not, ◌||◌, ◌&&◌, cond}
 use mathlib.Core.Logic.{inl, inr}
-use mathlib.Core.Option.{Option, none, some, none_ne_some, some_injective}
+use mathlib.Core.Option.{Option, none, some, none-ne-some, some-injective}
 use mathlib.Core.List.{List}
 use Prim.Native.Nat.{ℕ, ◌+◌, ◌*◌, ◌%◌, ◌≤◌, ◌<◌}
 use native.Mathlib.Omega.{arith}
 use native.Mathlib.Decide.{ℕ_discrete}
-use borrow.Author.Tests.{lt-ltb, ltb_false, eq-eqb, ne_eqb}
+use borrow.Author.Tests.{lt-ltb, ltb-false, eq-eqb, ne_eqb}
 use lib.ListN.{length, get_or, set, length-set}
-use lib.Seq.{get_or_set_same, get_or-set_other}
+use lib.Seq.{get_or-set_same, get_or-set_other}
 use lib.Dec.{T, T_not, eqb, eqb→eq, eqb_refl, leb, ltb, ltb→lt, lt→ltb}
 use Rattle.model.specs.Bools.{is_false, not_not, neither}
 use Rattle.model.specs.Lists.{In}
@@ -115,10 +115,10 @@ early_passed t c z d i h = go (refusal t c) refl
     b = before_late d h
 
     before : (b15 b9 b10 : Bool) (n : ℕ) → then b15 15 (then b9 9 (then b10 10 none)) ≡ some n → T (earlier (number d) n order)
-    before true b9 b10 n q = subst (λ (k : ℕ). T (earlier (number d) k order)) (some_injective 15 n q) h
-    before false true b10 n q = subst (λ (k : ℕ). T (earlier (number d) k order)) (some_injective 9 n q) b.0
-    before false false true n q = subst (λ (k : ℕ). T (earlier (number d) k order)) (some_injective 10 n q) b.1
-    before false false false n q = absurd (none_ne_some n q)
+    before true b9 b10 n q = subst (λ (k : ℕ). T (earlier (number d) k order)) (some-injective 15 n q) h
+    before false true b10 n q = subst (λ (k : ℕ). T (earlier (number d) k order)) (some-injective 9 n q) b.0
+    before false false true n q = subst (λ (k : ℕ). T (earlier (number d) k order)) (some-injective 10 n q) b.1
+    before false false false n q = absurd (none-ne-some n q)
 
     go : (o : Option ℕ) → refusal t c ≡ o → T (not (broken t d))
     go none q = passed t c q d i
@@ -217,7 +217,7 @@ module _ (m : Monitor) (g : Long m) where
     where
       go : (b : Bool) → cond b none (some (entry running (label (get_or m.subjects (c % 32) no_subject).level (get_or m.subjects (c % 32) no_subject).shops))) ≡ none → T (not (not b))
       go true z = tt
-      go false z = absurd (none_ne_some _ (sym z))
+      go false z = absurd (none-ne-some _ (sym z))
 
   standing : (s : ℕ) → s < 32 → T (live (slots m) (subject s)) → T (stands m.subjects (s % 32))
   unfolding tables_of
@@ -524,7 +524,7 @@ module _ (m : Monitor) (g : Long m) where
         where
           gone : (i : ℕ) → Dec (i ≡ s % 32) → stands (set m.subjects (s % 32) no_subject) i ≡ (not (eqb s i) && stands m.subjects i)
           gone i (yes z) = ap (λ (y : Subject). not (eqb y.live 0)) (ap (λ (j : ℕ). get_or (set m.subjects (s % 32) no_subject) j no_subject) z
-              ∙ get_or_set_same m.subjects (s % 32) no_subject no_subject (omega (arith, g.subjects)))
+              ∙ get_or-set_same m.subjects (s % 32) no_subject no_subject (omega (arith, g.subjects)))
               ∙ sym (ap (λ (b : Bool). not b && stands m.subjects i) (eq-eqb s i (sym same_s ∙ sym z)))
           gone i (no z) = ap (λ (y : Subject). not (eqb y.live 0)) (get_or-set_other m.subjects (s % 32) i no_subject no_subject z)
               ∙ sym (ap (λ (b : Bool). not b && stands m.subjects i) (ne_eqb s i (λ k. z (sym k ∙ sym same_s))))
@@ -839,7 +839,7 @@ module _ (m : Monitor) (g : Long m) where
         lives_still : (j : ℕ) → stands ss j ≡ stands own_ss j
         lives_still j = ap (λ (l : List Subject). stands l j) n ∙ elim (ℕ_discrete j (s % 32)) [
           | yes k ↦ ap (λ (y : Subject). not (eqb y.live 0)) (ap (λ (t : ℕ). get_or (set own_ss (s % 32) v) t no_subject) k
-              ∙ get_or_set_same own_ss (s % 32) v no_subject (omega arith)) ∙ ap (λ (y : Subject). not (eqb y.live 0)) d
+              ∙ get_or-set_same own_ss (s % 32) v no_subject (omega arith)) ∙ ap (λ (y : Subject). not (eqb y.live 0)) d
               ∙ own_live ∙ ap (stands own_ss) (sym k)
           | no k ↦ ap (λ (y : Subject). not (eqb y.live 0)) (get_or-set_other own_ss (s % 32) j v no_subject k)
         ]
@@ -902,4 +902,4 @@ module _ (m : Monitor) (g : Long m) where
   freezes n w e = rw low (acts m (freeze n) (allowed n) _ _ refl refl (freeze_does (slots m) n e) refl (λ k. freeze_ready (slots m) (figure_of m.needs) w k n))
     where
       low : n % 256 ≡ n
-      low = let h : n ≤ 16 = ltb_false 16 n (is_false (ltb 16 n) (passed (slots m) (freeze n) e (freezable n) (inl refl))) in omega arith
+      low = let h : n ≤ 16 = ltb-false 16 n (is_false (ltb 16 n) (passed (slots m) (freeze n) e (freezable n) (inl refl))) in omega arith

@@ -3,6 +3,8 @@
 // Every promise of a public function goes through `view`, which reads the arrays as the tables of the rules (crate `model`), objects by number. Each call is written
 // once, in `made`, `moved`, `gone`, `frozen` and `connected`, for tables in which nothing dangles, and by slot; `seats` finds the slots of the objects that a call
 // names, also for crate `why`, which goes by slot, too; `direct` has the direct call, for every monitor value; `kept` the needs that are kept beside the tables.
+#![tactic(auto)]
+
 ghost use Rattle.std.specs.Prelude.{◌≡◌};
 ghost use Rattle.model.specs.Tables.{empty};
 ghost use Rattle.gatekeeper.specs.View.{view, Honest, Right};
@@ -29,7 +31,7 @@ pub mod seats;
 // tables make, and of what `assured` does: then calls go by the kept needs, and look for no dangling handle. Any other byte says nothing, and calls work out what
 // they go by.
 #[repr(C)]
-#[derive(Drop)]
+#[derive(Clone, Copy)]
 pub struct Monitor {
     pub numbers: [u64; OBJECTS],
     pub needs: [u16; THINGS],
@@ -44,7 +46,7 @@ pub struct Monitor {
 // What `sure` is in the empty tables and in all that calls make of them, and what `assured` sets where it is earned.
 pub const SURE: u8 = 1;
 
-#[derive(Drop)]
+#[derive(Clone, Copy)]
 pub struct Reply {
     pub monitor: Monitor,
     pub answer: Answer,

@@ -9,7 +9,7 @@ ghost use Rattle.gatekeeper.specs.Numbering.{noted, seats, Both, Lift};
 use tables::{OBJECT_NUMBERS, OBJECTS, Object, slots};
 
 // The slots in place of the numbers, where numbers are of objects; and the objects' numbers with those of new objects beside their slots.
-#[derive(Drop)]
+#[derive(Clone, Copy)]
 pub struct Seats {
     pub numbers: [u64; OBJECTS],
     pub a: u64,

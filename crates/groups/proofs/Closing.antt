@@ -7,7 +7,7 @@ use Prim.Native.Nat.{ℕ, ◌+◌, ◌*◌, ◌/◌, ◌≤◌, ◌<◌}
 use native.Mathlib.Omega.{arith}
 use native.Mathlib.Decide.{dec_lt}
 use borrow.Author.Tests.{ltb-true}
-use lib.ListN.{length, get_or, get_or_eq_default}
+use lib.ListN.{length, get_or, get_or-eq_default}
 use lib.Dec.{ltb}
 use Rattle.model.specs.Tables.{Tables, with_hand}
 use Rattle.model.specs.Tables.{Handle as Held}
@@ -35,7 +35,7 @@ closed_tables rest ss os hs r i gone full m lh = ap (with_hand (tables_of rest s
     inside s p l (yes h) = let q : (s * 16 + p) / 16 ≡ s = omega arith in
         ap held (m.done (s * 16 + p) (omega arith)) ∙ ap (λ (z : ℕ). held (cond (get_or gone z false) no_handle (get_or hs (s * 16 + p) no_handle))) q
         ∙ emptied (get_or gone s false) (get_or hs (s * 16 + p) no_handle)
-    inside s p l (no h) = rw (get_or_eq_default r no_handle {n = s * 16 + p} (omega (arith, m.long)), get_or_eq_default hs no_handle {n = s * 16 + p} (omega arith))
+    inside s p l (no h) = rw (get_or-eq_default r no_handle {n = s * 16 + p} (omega (arith, m.long)), get_or-eq_default hs no_handle {n = s * 16 + p} (omega arith))
         (none_either (get_or gone s false))
 
     at : (s p : ℕ) (b : Bool) → ltb p 16 ≡ b → cond b (held (get_or r (s * 16 + p) no_handle)) none ≡ cond (get_or gone s false) none (cond b (held (get_or hs (s * 16 + p) no_handle)) none)

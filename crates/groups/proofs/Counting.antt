@@ -7,8 +7,8 @@ use Prim.Native.Nat.{ℕ, ◌<◌}
 use native.Mathlib.Omega.{arith}
 use native.Mathlib.Decide.{ℕ_discrete, dec_lt}
 use borrow.Author.Tests.{eq-eqb, ne_eqb}
-use lib.ListN.{length, get_or, set, get_or_eq_default}
-use lib.Seq.{get_or_set_same, get_or-set_other}
+use lib.ListN.{length, get_or, set, get_or-eq_default}
+use lib.Seq.{get_or-set_same, get_or-set_other}
 use lib.Dec.{T, eqb, eqb→eq, eqb_refl}
 use Rattle.model.specs.Bools.{is_false}
 use Rattle.model.specs.Lists.{In, each}
@@ -37,7 +37,7 @@ live_byte ss gs a h = rw (is_false (eqb (get_or ss a no_subject).live 0) h)
 
 module _ (ss : List Subject) (gs : List ℕ) (r : List Bool) (m : Hits (byte_of ss gs) 257 r 32) (long : length ss ≡ 32) where
   low : (a : ℕ) → T (stands ss a) → a < 32
-  low a h = elim (dec_lt a 32) [ yes l ↦ l | no n ↦ absurd (subst (λ (x : Subject). T (not (eqb x.live 0))) (get_or_eq_default ss no_subject {n = a} (omega arith)) h) ]
+  low a h = elim (dec_lt a 32) [ yes l ↦ l | no n ↦ absurd (subst (λ (x : Subject). T (not (eqb x.live 0))) (get_or-eq_default ss no_subject {n = a} (omega arith)) h) ]
 
   pub not_taken : (v : ℕ) → v < 257 → get_or r v false ≡ false → Fresh ss gs v
   not_taken v l q a h e = subst T (sym (m.at v l) ∙ q) (below_some 32 (λ j. eqb (byte_of ss gs j) v) a (low a h)
@@ -57,6 +57,6 @@ module _ (ss : List Subject) (gs : List ℕ) (r : List Bool) (m : Hits (byte_of 
 pub but_own : (ss : List Subject) (gs : List ℕ) (r : List Bool) (i a : ℕ) → ((a : ℕ) → a < 32 → get_or r a false ≡ kin_of ss gs i a) → length r ≡ 32 → i < 32 → a < 32
     → get_or (set r i false) a false ≡ mate_of ss gs i a
 but_own ss gs r i a h l li la = elim (ℕ_discrete a i) [
-  | yes e ↦ rw (e, get_or_set_same r i false false (omega arith), eq-eqb i i refl)
+  | yes e ↦ rw (e, get_or-set_same r i false false (omega arith), eq-eqb i i refl)
   | no ne ↦ get_or-set_other r i a false false ne ∙ h a la ∙ rw (ne_eqb i a (λ q. ne (sym q)))
 ]

@@ -8,7 +8,7 @@ use native.Mathlib.Omega.{arith}
 use native.Mathlib.Decide.{ℕ_discrete}
 use borrow.Author.Tests.{ne_eqb}
 use lib.ListN.{length, get_or, set, length-set, replicate, length-replicate, get_or-replicate}
-use lib.Seq.{get_or_set_same, get_or-set_other}
+use lib.Seq.{get_or-set_same, get_or-set_other}
 use lib.Dec.{T, eqb, eqb→eq, eqb_refl}
 use Rattle.model.specs.Bools.{test, is_true, is_false}
 use Rattle.tables.specs.declared.Subject.{Subject}
@@ -56,7 +56,7 @@ module _ (ss : List Subject) (gs : List ℕ) (low : (a : ℕ) → get_or gs a 0 
   }
     where
       at_g : get_or (set first (get_or gs i 0) n) (get_or gs i 0) 0 ≡ n
-      at_g = get_or_set_same first (get_or gs i 0) n 0 (omega (arith, low i, p.first_long))
+      at_g = get_or-set_same first (get_or gs i 0) n 0 (omega (arith, low i, p.first_long))
 
       off_g : (v : ℕ) → (v ≡ get_or gs i 0 → ⊥) → get_or (set first (get_or gs i 0) n) v 0 ≡ get_or first v 0
       off_g v ne = get_or-set_other first (get_or gs i 0) v n 0 ne
@@ -93,7 +93,7 @@ module _ (ss : List Subject) (gs : List ℕ) (low : (a : ℕ) → get_or gs a 0 
       ]
 
       own : (a : ℕ) → a ≡ i → get_or (set r i l) a 0 ≡ cond (stands ss a) (get_or (set first (get_or gs i 0) n) (get_or gs a 0) 0) a
-      own a e = rw (e, get_or_set_same r i l 0 (omega (arith, p.leads_long)), at_g) el
+      own a e = rw (e, get_or-set_same r i l 0 (omega (arith, p.leads_long)), at_g) el
 
       other : (a : ℕ) → (a ≡ i → ⊥) → a < i → get_or (set r i l) a 0 ≡ cond (stands ss a) (get_or (set first (get_or gs i 0) n) (get_or gs a 0) 0) a
       other a ne la = get_or-set_other r i a l 0 ne ∙ p.lead a la ∙ elim (test (stands ss a)) [

@@ -7,7 +7,7 @@ use Prim.Native.Nat.{ℕ, ◌%◌, ◌<◌}
 use native.Mathlib.Omega.{arith}
 use native.Mathlib.Decide.{dec_lt}
 use borrow.Author.Tests.{eq-eqb, ne_eqb}
-use lib.ListN.{length, get_or, get_or_eq_default}
+use lib.ListN.{length, get_or, get_or-eq_default}
 use lib.Dec.{eqb}
 use Rattle.model.specs.Flow.{Thing, subject, object}
 use Rattle.model.specs.Tables.{Tables, with_hand, with_kin, mates}
@@ -48,8 +48,8 @@ module _ (ss left : List Subject) (gs : List ℕ) (hs kept after : List Handle) 
   goes : (a : ℕ) → get_or gone a false ≡ mate_of ss gs s a
   goes a = elim (dec_lt a 32) [
     | yes l ↦ g a l ∙ ap (λ (i : ℕ). mate_of ss gs i a) same_s
-    | no n ↦ get_or_eq_default gone false {n = a} (omega arith) ∙ sym (ap₂ (λ (b : Bool) (x : Subject). not b && (b || (stands ss s && (not (eqb x.live 0) && eqb (get_or gs s 0) (get_or gs a 0)))))
-        (ne_eqb s a (λ q. omega arith)) (get_or_eq_default ss no_subject {n = a} (omega arith)) ∙ none_right (stands ss s))
+    | no n ↦ get_or-eq_default gone false {n = a} (omega arith) ∙ sym (ap₂ (λ (b : Bool) (x : Subject). not b && (b || (stands ss s && (not (eqb x.live 0) && eqb (get_or gs s 0) (get_or gs a 0)))))
+        (ne_eqb s a (λ q. omega arith)) (get_or-eq_default ss no_subject {n = a} (omega arith)) ∙ none_right (stands ss s))
   ]
     where
       none_right : (b : Bool) → (b && false) ≡ false
@@ -59,8 +59,8 @@ module _ (ss left : List Subject) (gs : List ℕ) (hs kept after : List Handle) 
   left_at : (a : ℕ) → get_or left a no_subject ≡ ousted_by (get_or ss a no_subject) (mate_of ss gs s a)
   left_at a = elim (dec_lt a 32) [
     | yes l ↦ o a l ∙ ap (ousted_by (get_or ss a no_subject)) (goes a)
-    | no n ↦ get_or_eq_default left no_subject {n = a} (omega arith)
-        ∙ sym (ap (λ (x : Subject). ousted_by x (mate_of ss gs s a)) (get_or_eq_default ss no_subject {n = a} (omega arith)) ∙ either (mate_of ss gs s a))
+    | no n ↦ get_or-eq_default left no_subject {n = a} (omega arith)
+        ∙ sym (ap (λ (x : Subject). ousted_by x (mate_of ss gs s a)) (get_or-eq_default ss no_subject {n = a} (omega arith)) ∙ either (mate_of ss gs s a))
   ]
     where
       either : (b : Bool) → ousted_by no_subject b ≡ no_subject

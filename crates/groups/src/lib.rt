@@ -1,5 +1,7 @@
 // Groups of subjects: a byte beside each subject, and two live subjects are in one group where their bytes are equal. Who is in a group, the lowest number in
 // it, a byte that no group has, and what its members become when one of them takes something in or runs a program.
+#![tactic(auto)]
+
 ghost use Rattle.std.specs.Prelude.{◌≡◌, false, not, ◌&&◌, ◌||◌, cond, List, ℕ, ◌%◌, ◌<◌, get_or, set, eqb};
 ghost use Rattle.std.proofs.Math.Option.{none};
 ghost use Rattle.model.specs.Tables.{Tables, with_hand, with_kin};
@@ -261,7 +263,7 @@ pub fn closed(handles: [Handle; HANDLES], gone: [bool; SUBJECTS]) -> [Handle; HA
 // ---- a program is run
 
 // The subjects and the handles that are left.
-#[derive(Drop)]
+#[derive(Clone, Copy)]
 pub struct Remains {
     pub subjects: [Subject; SUBJECTS],
     pub handles: [Handle; HANDLES],

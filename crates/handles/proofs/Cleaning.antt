@@ -6,8 +6,8 @@ use mathlib.Core.List.{List}
 use Prim.Native.Nat.{ℕ, ◌+◌, ◌*◌, ◌/◌, ◌%◌, ◌≤◌, ◌<◌}
 use native.Mathlib.Omega.{arith}
 use native.Mathlib.Decide.{dec_lt}
-use borrow.Author.Tests.{lt-ltb, le-ltb, ltb-true, ltb_false}
-use lib.ListN.{length, get_or, get_or_eq_default}
+use borrow.Author.Tests.{lt-ltb, le-ltb, ltb-true, ltb-false}
+use lib.ListN.{length, get_or, get_or-eq_default}
 use lib.Dec.{ltb, eqb}
 use Rattle.model.specs.Flow.{subject, object}
 use Rattle.model.specs.Tables.{Tables, with_hand, places, is_some, used, live, counted, clean}
@@ -62,7 +62,7 @@ module _ (rest : Tables) (ss : List Subject) (os : List Object) (hs r : List Han
           (b && not (eqb (get_or os (h.object % 64) no_object).kind 0))
       go true q = let e : h.object % 64 ≡ h.object = omega (arith, ltb-true h.object 64 q) in rw (used_is (tables_of rest ss os hs) (object h.object), e)
           (some_cond (eqb (get_or os h.object no_object).kind 0) _)
-      go false q = rw (used_is (tables_of rest ss os hs) (object h.object), get_or_eq_default os no_object {n = h.object} (omega (arith, ltb_false h.object 64 q)))
+      go false q = rw (used_is (tables_of rest ss os hs) (object h.object), get_or-eq_default os no_object {n = h.object} (omega (arith, ltb-false h.object 64 q)))
 
   at_place : (s q : ℕ) → q < 16 → Dec (s < 32) → held (get_or r (s * 16 + q) no_handle) ≡ counted (live (tables_of rest ss os hs) (subject s)) f
       (held (get_or hs (s * 16 + q) no_handle))
@@ -74,7 +74,7 @@ module _ (rest : Tables) (ss : List Subject) (os : List Object) (hs r : List Han
     where
       k : Handle
       k = get_or hs (s * 16 + q) no_handle
-  at_place s q lq (no n) = rw (le-ltb s 32 (omega arith), get_or_eq_default r no_handle {n = s * 16 + q} (omega (arith, m.long)))
+  at_place s q lq (no n) = rw (le-ltb s 32 (omega arith), get_or-eq_default r no_handle {n = s * 16 + q} (omega (arith, m.long)))
       (sym (counted_held (get_or hs (s * 16 + q) no_handle) false _ f refl))
 
   hand_is : (s q : ℕ) (b : Bool) → ltb q 16 ≡ b → hands r s q ≡ counted (ltb q places && live (tables_of rest ss os hs) (subject s)) f (hands hs s q)

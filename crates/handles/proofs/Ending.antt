@@ -7,8 +7,8 @@ use mathlib.Core.List.{List}
 use Prim.Native.Nat.{ℕ, zero, suc, ◌≤◌, ◌<◌}
 use native.Mathlib.Omega.{arith}
 use native.Mathlib.Decide.{dec_lt}
-use borrow.Author.Tests.{le-ltb, ne_eqb, ltb-true, ltb_false}
-use lib.ListN.{length, get_or, get_or_eq_default}
+use borrow.Author.Tests.{le-ltb, ne_eqb, ltb-true, ltb-false}
+use lib.ListN.{length, get_or, get_or-eq_default}
 use lib.Dec.{ltb, eqb}
 use Rattle.model.specs.Label.{label}
 use Rattle.model.specs.Flow.{Thing, subject, object}
@@ -31,7 +31,7 @@ slot_on h o l = go (eqb h.way 0) (ltb h.object 64) refl
     go : (v b : Bool) → ltb h.object 64 ≡ b → eqb (cond v 64 (cond b h.object 64)) o ≡ cond v false (eqb h.object o)
     go true b q = ne_eqb 64 o (λ e. omega arith)
     go false true q = refl
-    go false false q = ne_eqb 64 o (λ e. omega arith) ∙ sym (ne_eqb h.object o (λ e. omega (arith, ltb_false h.object 64 q)))
+    go false false q = ne_eqb 64 o (λ e. omega arith) ∙ sym (ne_eqb h.object o (λ e. omega (arith, ltb-false h.object 64 q)))
 
 pub slot_low : (h : Handle) → slot_of h < 65
 slot_low h = go (eqb h.way 0) (ltb h.object 64) refl
@@ -98,4 +98,4 @@ reaped_tables rest ss os r hs₀ hs before was is i full m lo pw pi eb = ap (wit
             (object_entry (get_or os n no_object))
         go (yes l) = ap object_entry (m.done n (omega arith)) ∙ ended_entry before after n (get_or os n no_object) (get_or was n false) (get_or is n false)
             (open_before n l) (open_hits hs is pi n l)
-        go (no nl) = rw (get_or_eq_default r no_object {n = n} (omega (arith, m.long)), get_or_eq_default os no_object {n = n} (omega arith))
+        go (no nl) = rw (get_or-eq_default r no_object {n = n} (omega (arith, m.long)), get_or-eq_default os no_object {n = n} (omega arith))

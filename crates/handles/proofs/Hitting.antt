@@ -8,7 +8,7 @@ use native.Mathlib.Decide.{ℕ_discrete}
 use native.Mathlib.Numerals.{add-one}
 use borrow.Author.Tests.{eq-eqb, ne_eqb}
 use lib.ListN.{get_or, set, length-set, replicate, length-replicate, get_or-replicate}
-use lib.Seq.{get_or_set_same, get_or-set_other}
+use lib.Seq.{get_or-set_same, get_or-set_other}
 use lib.Dec.{eqb}
 use Rattle.tables.specs.Working.{some_below}
 use Rattle.handles.specs.Working.{Hits}
@@ -28,7 +28,7 @@ hits_more g n r i low p = record { long = simp length-set p.long; at = λ x l. r
     or_none false b q = sym q
 
     at : (x : ℕ) → x < n → Dec (x ≡ g i) → get_or (set r (g i) true) x false ≡ (some_below i (λ j. eqb (g j) x) || eqb (g i) x)
-    at x l (yes e) = ap (λ (z : ℕ). get_or (set r (g i) true) z false) e ∙ get_or_set_same r (g i) true false (omega (arith, p.long))
+    at x l (yes e) = ap (λ (z : ℕ). get_or (set r (g i) true) z false) e ∙ get_or-set_same r (g i) true false (omega (arith, p.long))
         ∙ or_same (some_below i (λ j. eqb (g j) x)) (eqb (g i) x) (eq-eqb (g i) x (sym e))
     at x l (no ne) = get_or-set_other r (g i) x true false ne ∙ p.at x l
         ∙ or_none (some_below i (λ j. eqb (g j) x)) (eqb (g i) x) (ne_eqb (g i) x (λ z. ne (sym z)))

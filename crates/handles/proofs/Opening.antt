@@ -1,7 +1,7 @@
 -- Open handles: what a scan of the handle records finds is what the rules ask. Assumes nothing.
 use mathlib.Core.Path.{◌≡◌, refl, sym, ◌∙◌, ap, subst}
 use mathlib.Core.Bool.{Bool, true, false, cond}
-use mathlib.Core.Option.{none, some, none_ne_some, some_injective}
+use mathlib.Core.Option.{none, some, none-ne-some, some-injective}
 use mathlib.Core.List.{List}
 use Prim.Native.Nat.{ℕ, ◌+◌, ◌*◌, ◌/◌, ◌%◌, ◌<◌}
 use native.Mathlib.Omega.{arith}
@@ -28,8 +28,8 @@ module _ (hs : List Handle) (o : ℕ) where
   held_on h k e z = go (eqb h.way 0) e
     where
       go : (b : Bool) → cond b none (some (joins h)) ≡ some k → T (cond b false (eqb h.object o))
-      go true q = absurd (none_ne_some k q)
-      go false q = subst T (sym (eq-eqb h.object o (ap (λ (w : Held). w.to) (some_injective _ k q) ∙ z))) tt
+      go true q = absurd (none-ne-some k q)
+      go false q = subst T (sym (eq-eqb h.object o (ap (λ (w : Held). w.to) (some-injective _ k q) ∙ z))) tt
 
   pub open_is : open_by hs 512 o ≡ open_on (handles (with_hand empty (hands hs))) o
   open_is = same_test _ _ (λ t. there (some_of_below 512 (λ i. on (get_or hs i no_handle) o) t))

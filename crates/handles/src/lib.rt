@@ -1,4 +1,6 @@
 // Whole arrays of handles: those that dangle, those on one object, the ends of a pipe, the row of one subject, the pipes that end.
+#![tactic(auto)]
+
 ghost use Rattle.std.specs.Prelude.{◌≡◌, List, ℕ, ◌%◌, ◌<◌, get_or};
 ghost use Rattle.std.proofs.Math.Option.{none, some};
 ghost use Rattle.model.specs.Tables.{Tables, reading, writing, handle, clean, empty, with_hand, open_on};

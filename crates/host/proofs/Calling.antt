@@ -1,6 +1,6 @@
 -- What a call leaves in the state's bytes, and what it is answered. Assumes nothing.
 use mathlib.Core.Path.{◌≡◌, refl, sym, ap, ap₂, ◌∙◌, subst}
-use mathlib.Core.Option.{some, none_ne_some}
+use mathlib.Core.Option.{some, none-ne-some}
 use mathlib.Core.List.{List}
 use Prim.Native.Nat.{ℕ}
 use native.Mathlib.Omega.{arith}
@@ -67,9 +67,9 @@ module _ {s : List ℕ} {c : Call} {m : Monitor} {y : Tally} {a : Answer} {n : M
       let q : refusal t c ≡ some k = (answered_refused t c k).0 (sym answered ∙ r) in
       record {
         size = size;
-        meets = record { unchanged = λ j w. refl; answered = λ u. refl; moved = λ u w. absurd (none_ne_some k (sym w ∙ q)); emptied = λ u f. absurd (f k (sym answered ∙ r)); stays = λ u. u; neat = λ u. u; says = λ u. refl; kept = λ u r. r };
+        meets = record { unchanged = λ j w. refl; answered = λ u. refl; moved = λ u w. absurd (none-ne-some k (sym w ∙ q)); emptied = λ u f. absurd (f k (sym answered ∙ r)); stays = λ u. u; neat = λ u. u; says = λ u. refl; kept = λ u r. r };
         counts = rw (q, tallied);
-        exact = λ w. absurd (none_ne_some k (sym w ∙ q));
+        exact = λ w. absurd (none-ne-some k (sym w ∙ q));
       }
 
   -- any other leaves the bytes of what was handed back

@@ -10,7 +10,7 @@ use stored::STATE_BYTES;
 use why::Chain;
 
 // What is left in the place of a lent chain, and how many steps it has; 0 where it is the one that stood there.
-#[derive(Drop)]
+#[derive(Clone, Copy)]
 struct Behind {
     chain: Chain,
     number: u32,

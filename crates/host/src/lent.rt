@@ -12,14 +12,14 @@ use typed::Outcome;
 
 // A monitor and its tally, as a host keeps them.
 #[repr(C)]
-#[derive(Drop)]
+#[derive(Clone, Copy)]
 pub struct State {
     pub monitor: Monitor,
     pub tally: Tally,
 }
 
 // What a call hands back: the next state, and the answer as a number.
-#[derive(Drop)]
+#[derive(Clone, Copy)]
 struct Stepped {
     state: State,
     number: u32,
@@ -48,7 +48,7 @@ fn step(state: State, code: u64, a: u64, b: u64, c: u64, d: u64, e: u64, f: u64)
 }
 
 // What a typed line hands back: the next state, and what the line came to.
-#[derive(Drop)]
+#[derive(Clone, Copy)]
 struct Lined {
     state: State,
     outcome: Outcome,

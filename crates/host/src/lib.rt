@@ -3,6 +3,8 @@
 // (specs/Numbers.antt). The monitor with its tally crosses as lent bytes, laid out as in crate `stored`. Every byte string of that length is a
 // monitor, so that a host can hand in nothing wrong but the length, and then nothing is touched. As a struct that
 // is lent it crosses in `lent`.
+#![tactic(auto)]
+
 ghost use Rattle.std.specs.Prelude.{◌≡◌, ◌∷◌, [], ◌≤◌, ◌<◌, eqb, length};
 ghost use Rattle.std.proofs.Math.Option.{get_or};
 ghost use Rattle.number.specs.Leb.{largest, number};

@@ -2,6 +2,8 @@
 // (crate `quick`).
 //
 // The parts are those of the monitor (`gatekeeper::Monitor`) as they lie in memory, and the two counts. What their bytes stand for is in specs/Bytes.antt.
+#![tactic(auto)]
+
 ghost use Rattle.std.specs.Prelude.{◌≡◌, ◌+◌, ◌*◌, ◌%◌, ◌<◌, true, ◌&&◌, ◌⊎◌, ◌↔◌, length, if◌then◌else◌, ◌==◌, slice_index, slice_index_or, slice_set};
 ghost use Rattle.model.specs.Tally.{wrapped};
 ghost use Rattle.tables.specs.Records.{reads_by, no_subject, no_object, no_handle};

@@ -6,7 +6,7 @@ use native.Mathlib.Omega.{arith}
 use mathlib.Core.List.{List, ◌∷◌, ◌++◌, append_assoc}
 use mathlib.Core.Option
 use mathlib.Core.Option.{Option}
-use lib.ListN.{length, take, drop, get_or, length_append, length-drop}
+use lib.ListN.{length, take, drop, get_or, length-append, length-drop}
 use lib.Seq.{take_at, drop_at, drop-drop}
 use borrow.Author.Tests.{lt-ltb, le-ltb}
 use borrow.Rule.Slice.PartMut.{put_mid}
@@ -41,7 +41,7 @@ module _ {ns b : List ℕ} {i : ℕ} {out : List ℕ} {at : ℕ} (g : Going ns b
 
   fits : at + length one ≤ length b
   unfolding so_far
-  fits = omega (arith, encodes_take ns (i + 1), ap length next_is, length_append so_far one, g.room, g.count)
+  fits = omega (arith, encodes_take ns (i + 1), ap length next_is, length-append so_far one, g.room, g.count)
 
   out_is : out ≡ so_far ++ drop at b
   unfolding so_far
@@ -63,7 +63,7 @@ module _ {ns b : List ℕ} {i : ℕ} {out : List ℕ} {at : ℕ} (g : Going ns b
   next_count w q =
       let answer = q ∙ ap (fitted one) (rest_is at out) ∙ fitted_fits one (drop at out) room_left in
       let k : Option.get_or w 0 ≡ length one = ap (λ (x : Option ℕ). Option.get_or x 0) answer in
-      omega (arith, k, ap length next_is, length_append so_far one, g.count)
+      omega (arith, k, ap length next_is, length-append so_far one, g.count)
 
   pub next_out : (ys : List ℕ) → ys ≡ put (encode (get_or ns i 0)) (take (length out - at) (drop at out))
       → put_mid at (length out - at) out ys ≡ put (encodes (take (i + 1) ns)) b
@@ -71,7 +71,7 @@ module _ {ns b : List ℕ} {i : ℕ} {out : List ℕ} {at : ℕ} (g : Going ns b
   next_out ys q =
       let front : take at out ≡ so_far = ap (take at) out_is ∙ take_at so_far (drop at b) at (sym g.count) in
       let others : drop at out ≡ drop at b = ap (drop at) out_is ∙ drop_at so_far (drop at b) at (sym g.count) in
-      let both : length (so_far ++ one) ≡ at + length one = omega (arith, length_append so_far one, g.count) in
+      let both : length (so_far ++ one) ≡ at + length one = omega (arith, length-append so_far one, g.count) in
       back at out ys at_within
       ∙ ap (λ (t : List ℕ). t ++ ys) front
       ∙ ap (λ (t : List ℕ). so_far ++ t) (q ∙ ap (put one) (rest_is at out) ∙ put_fits one (drop at out) room_left)

@@ -1,5 +1,7 @@
 // The journal's records (RULES J8 to J24, G11): what stands at an offset, what a body says, and the writer.
 // What the bytes mean is in specs/Calls.antt, Record.antt and Journal.antt, and what each answer means in specs/Answers.antt.
+#![tactic(auto)]
+
 ghost use Rattle.std.specs.Prelude.{◌≡◌, ◌+◌, ◌≤◌, length};
 ghost use Rattle.std.proofs.Math.Option.{get_or};
 ghost use Rattle.number.specs.Put.{put};
@@ -51,7 +53,7 @@ fn arity(code: u64) -> usize
 // ---- reading
 
 // What stands at an offset of a journal.
-#[derive(Drop)]
+#[derive(Clone, Copy)]
 pub enum Entry {
     // A record: its body starts at `start` and has `len` bytes, and the next record is at `next`.
     Record {
@@ -100,7 +102,7 @@ pub fn body_at(journal: &[u8], start: usize, len: usize) -> &[u8]
 }
 
 // A journal and the offset of the next record.
-#[derive(Drop)]
+#[derive(Clone, Copy)]
 pub struct Reader<'a> {
     pub journal: &'a [u8],
     pub at: usize,
@@ -147,7 +149,7 @@ pub fn entry_at(journal: &[u8], at: usize) -> Entry
 }
 
 // The numbers of a call, 0 for those that its code does not use.
-#[derive(Drop)]
+#[derive(Clone, Copy)]
 pub struct Numbers {
     pub a: u64,
     pub b: u64,
@@ -158,14 +160,14 @@ pub struct Numbers {
 }
 
 // A call, as it stands in a record and as a direct call takes it.
-#[derive(Drop)]
+#[derive(Clone, Copy)]
 pub struct Call {
     pub code: u64,
     pub numbers: Numbers,
 }
 
 // What a body says.
-#[derive(Drop)]
+#[derive(Clone, Copy)]
 pub enum Body {
     // A call, with exactly its numbers.
     Whole(Call),
@@ -176,7 +178,7 @@ pub enum Body {
 }
 
 // The numbers of a call, or that one is malformed, missing or left over.
-#[derive(Drop)]
+#[derive(Clone, Copy)]
 enum Args {
     All(Numbers),
     Bad,
@@ -240,7 +242,7 @@ pub fn read_body(body: &[u8]) -> Body
 // ---- writing
 
 // What writing a record answers.
-#[derive(Drop)]
+#[derive(Clone, Copy)]
 pub enum Recorded {
     // The record's length in bytes.
     Length(usize),

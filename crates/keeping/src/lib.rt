@@ -1,6 +1,8 @@
 // Needs that are kept: one figure for each subject and then one for each object. What stands there, one figure stored, and the figures
 // after a handle came and after handles have gone. Where a quick test tells that no need changes, the figures are those that were; else they are worked
 // out anew.
+#![tactic(auto)]
+
 ghost use Rattle.std.specs.Prelude.{◌≡◌, true, not, ◌&&◌, cond, List, ℕ, ◌+◌, ◌%◌, ◌<◌, length, get_or, set, T};
 ghost use Rattle.std.proofs.Math.Option.{none, some};
 ghost use Rattle.model.specs.Flow.{subject, same};
@@ -80,7 +82,7 @@ fn is_quiet(sure: bool, n: [u16; THINGS], s: u64, h: Handle) -> bool
 }
 
 // Figures, and whether some live thing's label is below its own.
-#[derive(Drop)]
+#[derive(Clone, Copy)]
 pub struct Opening {
     pub needs: [u16; THINGS],
     pub short: bool,

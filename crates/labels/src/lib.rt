@@ -1,5 +1,7 @@
 // Labels as numbers: a level and a set of shop marks are one number of 16 bits, 256 times the level and the set. What a call names and what a record holds
 // are the two bytes apart; a need is one number.
+#![tactic(auto)]
+
 ghost use Rattle.std.specs.Prelude.{◌≡◌};
 ghost use Rattle.model.specs.Label.{label, leq, join};
 ghost use Rattle.model.specs.Sets.{lost};

@@ -2,7 +2,7 @@
 use mathlib.Core.Path.{◌≡◌, refl, sym, ◌∙◌, ap, subst}
 use mathlib.Core.Bool.{Bool, true, false}
 use mathlib.Core.Logic.{◌⊎◌, inl, inr, ⊎_elim}
-use mathlib.Core.Option.{Option, none, some, none_ne_some, some_injective}
+use mathlib.Core.Option.{Option, none, some, none-ne-some, some-injective}
 use mathlib.Core.List.{List}
 use Prim.Native.Nat.{ℕ, ◌+◌, ◌≤◌}
 use native.Mathlib.Omega.{arith}
@@ -29,7 +29,7 @@ module _ (line : List ℕ) (r : Stage) where
 
 -- two ways to say what is staged
 same_end : (bs : List ℕ) (s t : Stage-read) (e f : End) → staged bs ≡ ended s e → staged bs ≡ ended t f → e ≡ f
-same_end bs s t e f p q = ap (λ (x : Staged). x.end) (some_injective _ _ (sym p ∙ q))
+same_end bs s t e f p q = ap (λ (x : Staged). x.end) (some-injective _ _ (sym p ∙ q))
 
 two_or_three : (n : ℕ) → (n ≡ 0 → ⊥) → (n ≡ 1 → ⊥) → n ≤ 3 → (n ≡ 2) ⊎ (n ≡ 3)
 two_or_three n z o m = go (eqb n 2) refl
@@ -56,9 +56,9 @@ module _ (line : List ℕ) (at n i : ℕ) (r : Stage) (k : Taken line at n i) (t
       nought = sym (told_by line r 0 z) ∙ t
 
       stuck : (q : Stages) (e : Option (List ℕ)) → Pipelined (drop i line) q e → ⊥
-      stuck q e (closes w) = none_ne_some _ (nought ∙ w)
-      stuck q e (parts w) = none_ne_some _ (nought ∙ w)
-      stuck q e (joined w v) = none_ne_some _ (nought ∙ w)
+      stuck q e (closes w) = none-ne-some _ (nought ∙ w)
+      stuck q e (parts w) = none-ne-some _ (nought ∙ w)
+      stuck q e (joined w v) = none-ne-some _ (nought ∙ w)
 
   module _ (z : r.end ≡ 1) where
     bar : staged (drop i line) ≡ ended (stage_of r) (at_bar (drop r.at line))

@@ -1,7 +1,7 @@
 -- The pipelines of a line, looked at one by one: whether it is a line, and whether one of them is too long. Assumes nothing.
 use mathlib.Core.Path.{◌≡◌, refl, sym, ◌∙◌, ap, subst}
 use mathlib.Core.Bool.{Bool, true, false, not, ◌&&◌, cond}
-use mathlib.Core.Option.{Option, none, some, none_ne_some, some_injective}
+use mathlib.Core.Option.{Option, none, some, none-ne-some, some-injective}
 use mathlib.Core.List.{List}
 use Prim.Native.Nat.{ℕ, ◌≤◌, ◌<◌}
 use native.Mathlib.Omega.{arith}
@@ -93,5 +93,5 @@ module _ (line : List ℕ) (long : Bool) (i : ℕ) (j : Judged line long i) (r :
           long_p = f.2
 
           back : ((k : Reading) → Lined (drop r.at line) k → ⊥) → (k : Reading) → Lined (drop i line) k → ⊥
-          back h k (last w) = none_ne_some _ (pipelined_one w has).1
-          back h k (then {rest = b} {l = l} w v) = h l (subst (λ (bs : List ℕ). Lined bs l) (some_injective _ _ (pipelined_one w has).1) v)
+          back h k (last w) = none-ne-some _ (pipelined_one w has).1
+          back h k (then {rest = b} {l = l} w v) = h l (subst (λ (bs : List ℕ). Lined bs l) (some-injective _ _ (pipelined_one w has).1) v)

@@ -1,5 +1,7 @@
 // What clerks type: a line of pipelines, read from left to right (RULES L1 to L5, R18, R19, R125). Nothing is kept of it: a stage is read where it stands, as often as it is
 // asked for. What is read is in specs/Line.antt, how in specs/Reading.antt.
+#![tactic(auto)]
+
 ghost use Rattle.std.specs.Prelude.{◌≡◌, true, not, ◌&&◌, ◌≤◌, ◌<◌, leb, length, drop};
 ghost use Rattle.lines.specs.Line.{most_stages, Judges};
 ghost use Rattle.lines.specs.Reading.{is_digit, grows, skip, digits, numeral, signed, ended_at, staged};
@@ -23,7 +25,7 @@ pub const SEMICOLON: u8 = 2;
 pub const END: u8 = 3;
 
 // A number and the place behind it; `good` is false where there is none.
-#[derive(Drop)]
+#[derive(Clone, Copy)]
 struct Numeral {
     good: bool,
     value: u64,
@@ -31,7 +33,7 @@ struct Numeral {
 }
 
 // A number behind a sign, where that is there.
-#[derive(Drop)]
+#[derive(Clone, Copy)]
 struct Signed {
     good: bool,
     given: bool,
@@ -40,7 +42,7 @@ struct Signed {
 }
 
 // What stands behind a stage, and the place behind that.
-#[derive(Drop)]
+#[derive(Clone, Copy)]
 struct Ended {
     end: u8,
     at: usize,
@@ -48,7 +50,7 @@ struct Ended {
 
 // A stage, what stands behind it, and the place behind that. Free is what `from` and `into` have where `reads` and `writes` are false, the place where the end is END, and all
 // else where it is WRONG.
-#[derive(Drop)]
+#[derive(Clone, Copy)]
 pub struct Stage {
     pub end: u8,
     pub program: u64,
@@ -60,7 +62,7 @@ pub struct Stage {
 }
 
 // How many stages a pipeline has, what stands behind it, and the place behind that. Free is the place where the end is END, and all else where it is WRONG.
-#[derive(Drop)]
+#[derive(Clone, Copy)]
 pub struct Pipeline {
     pub end: u8,
     pub stages: usize,

@@ -3,13 +3,13 @@
 use mathlib.Core.Path.{◌≡◌, refl, sym, ◌∙◌, ap, subst, subst₂, fun_ext}
 use mathlib.Core.Bool.{Bool, true, false, not, ◌||◌, ◌&&◌, cond}
 use mathlib.Core.Logic.{inl}
-use mathlib.Core.Option.{Option, none, some, none_ne_some, some_injective}
+use mathlib.Core.Option.{Option, none, some, none-ne-some, some-injective}
 use mathlib.Core.List.{List}
 use Prim.Native.Nat.{ℕ, zero, suc, ◌+◌, ◌*◌, ◌/◌, ◌%◌, ◌<◌, min}
 use native.Mathlib.Omega.{arith}
 use native.Mathlib.Decide.{dec_lt}
 use borrow.Author.Tests.{lt-ltb, eq-eqb, ne_eqb}
-use lib.ListN.{length, get_or, get_or_eq_default}
+use lib.ListN.{length, get_or, get_or-eq_default}
 use lib.Bits.{bit_and}
 use lib.Dec.{T, eqb, eqb→eq, eqb_refl, lt→ltb}
 use Rattle.model.specs.Bools.{both, both_of, is_true, not_not}
@@ -82,8 +82,8 @@ module _ (rest : Tables) (ss : List Subject) (os : List Object) (hs : List Handl
       h = get_or hs (s * 16 + p) no_handle
 
       go : (b : Bool) → cond b none (some (joins h)) ≡ some k → T (eqb (reader_slot h o n) n)
-      go true z = absurd (none_ne_some k z)
-      go false z = let j = some_injective (joins h) k z in
+      go true z = absurd (none-ne-some k z)
+      go false z = let j = some-injective (joins h) k z in
           rw (
             is_true (eqb h.way 3) (subst (λ (i : Held). T i.mapped) (sym j) m),
             eq-eqb h.object o (ap (λ (i : Held). i.to) j ∙ e),
@@ -153,7 +153,7 @@ pub taken_live : (ss r : List Subject) (takes : List Bool) (l m : ℕ) → lengt
     → ((a : ℕ) → a < 32 → get_or r a no_subject ≡ taken_by (get_or ss a no_subject) (get_or takes a false) l m) → (a : ℕ) → stands r a ≡ stands ss a
 taken_live ss r takes l m ls lr g a = elim (dec_lt a 32) [
   | yes h ↦ ap (λ (x : Subject). not (eqb x.live 0)) (g a h) ∙ still (get_or ss a no_subject) (get_or takes a false)
-  | no n ↦ ap (λ (x : Subject). not (eqb x.live 0)) (get_or_eq_default r no_subject {n = a} (omega arith) ∙ sym (get_or_eq_default ss no_subject {n = a} (omega arith)))
+  | no n ↦ ap (λ (x : Subject). not (eqb x.live 0)) (get_or-eq_default r no_subject {n = a} (omega arith) ∙ sym (get_or-eq_default ss no_subject {n = a} (omega arith)))
 ]
   where
     still : (x : Subject) (b : Bool) → not (eqb (taken_by x b l m).live 0) ≡ not (eqb x.live 0)
@@ -194,9 +194,9 @@ group_read rest ss os hs gs s l m d r takes low k e ls lr f g = ap (with_at (tab
         go (yes h) = ap subject_entry (g n h) ∙ by n (get_or takes n false)
             ∙ ap (λ (b : Bool). cond b (fall (subject n) (subject_entry (get_or ss n no_subject)) (some d)) (subject_entry (get_or ss n no_subject)))
             (f n h ∙ ap (λ (i : ℕ). kin_of ss gs i n) same_s ∙ ap (λ (z : ℕ → ℕ → Bool). z s n) (sym k))
-        go (no h) = ap subject_entry (get_or_eq_default r no_subject {n = n} (omega arith))
+        go (no h) = ap subject_entry (get_or-eq_default r no_subject {n = n} (omega arith))
             ∙ beyond (subject n) (subject_entry (get_or ss n no_subject)) (some d) (rest.kin s n)
-            (ap subject_entry (get_or_eq_default ss no_subject {n = n} (omega arith)))
+            (ap subject_entry (get_or-eq_default ss no_subject {n = n} (omega arith)))
 
 module _ (rest : Tables) (ss : List Subject) (os : List Object) (hs : List Handle) (o : ℕ) (y : Object) (q : get_or os o no_object ≡ y) where
   -- a pipe is not read
@@ -240,9 +240,9 @@ module _ (rest : Tables) (ss : List Subject) (os : List Object) (hs : List Handl
           go : Dec (n < 32) → subject_entry (get_or r n no_subject) ≡ reread_by (tables_of rest ss os hs) o 32 (subject n)
           go (yes l) = ap subject_entry (g n l) ∙ by n (get_or takes n false)
               ∙ ap (λ (b : Bool). cond b (fall (subject n) (subject_entry (get_or ss n no_subject)) (object_entry (get_or os o no_object))) (subject_entry (get_or ss n no_subject))) (f n l)
-          go (no h) = ap subject_entry (get_or_eq_default r no_subject {n = n} (omega arith))
+          go (no h) = ap subject_entry (get_or-eq_default r no_subject {n = n} (omega arith))
               ∙ beyond (subject n) (subject_entry (get_or ss n no_subject)) (object_entry (get_or os o no_object)) (took (tables_of rest ss os hs) o 32 (subject n))
-              (ap subject_entry (get_or_eq_default ss no_subject {n = n} (omega arith)))
+              (ap subject_entry (get_or-eq_default ss no_subject {n = n} (omega arith)))
 
 -- ── a label that fell ──
 module _ (rest : Tables) (before after : List Subject) (os : List Object) (hs : List Handle) where
@@ -281,15 +281,15 @@ module _ (rest : Tables) (before after : List Subject) (os : List Object) (hs : 
         where
           go : (a b : Bool) → cond a false (cond b false (not (leq (label x.level x.shops) (label y.level y.shops)))) ≡ false → cond a none (some (entry running (label x.level x.shops))) ≡ some e
               → cond b none (some (entry running (label y.level y.shops))) ≡ some d → e.label ⊑ d.label
-          go true b z p r = absurd (none_ne_some e p)
-          go false true z p r = absurd (none_ne_some d r)
-          go false false z p r = subst₂ (λ (i j : Entry). i.label ⊑ j.label) (some_injective _ e p) (some_injective _ d r)
+          go true b z p r = absurd (none-ne-some e p)
+          go false true z p r = absurd (none-ne-some d r)
+          go false false z p r = subst₂ (λ (i j : Entry). i.label ⊑ j.label) (some-injective _ e p) (some-injective _ d r)
               (record { tested = not_not (leq (label x.level x.shops) (label y.level y.shops)) (subst (λ (w : Bool). T (not w)) (sym z) tt) })
 
       at : (x : Thing) (e d : Entry) → entries before os x ≡ some e → entries after os x ≡ some d → e.label ⊑ d.label
-      at (object n) e d p r = subst (λ (i : Entry). e.label ⊑ i.label) (some_injective e d (sym p ∙ r)) ⊑_refl
+      at (object n) e d p r = subst (λ (i : Entry). e.label ⊑ i.label) (some-injective e d (sym p ∙ r)) ⊑_refl
       at (subject n) e d p r = go (dec_lt n 32)
         where
           go : Dec (n < 32) → e.label ⊑ d.label
           go (yes l) = kept (get_or before n no_subject) (get_or after n no_subject) e d (f n l) p r
-          go (no h) = absurd (none_ne_some e (sym (ap subject_entry (get_or_eq_default before no_subject {n = n} (omega arith))) ∙ p))
+          go (no h) = absurd (none-ne-some e (sym (ap subject_entry (get_or-eq_default before no_subject {n = n} (omega arith))) ∙ p))

@@ -1,4 +1,6 @@
 // Mappings on one file: who has it mapped, what these subjects become when it is written to, and whether a label fell by that.
+#![tactic(auto)]
+
 ghost use Rattle.std.specs.Prelude.{◌≡◌, false, List, ℕ, ◌/◌, ◌%◌, ◌<◌, get_or};
 ghost use Rattle.std.proofs.Math.Option.{some};
 ghost use Rattle.model.specs.Label.{label};
@@ -116,7 +118,7 @@ pub fn is_lower(before: [Subject; SUBJECTS], after: [Subject; SUBJECTS]) -> bool
 // ---- what one takes in, its mates do
 
 // The subjects once one of them has taken something in, and whether some label is smaller by that.
-#[derive(Drop)]
+#[derive(Clone, Copy)]
 pub struct Taking {
     pub subjects: [Subject; SUBJECTS],
     pub lower: bool,

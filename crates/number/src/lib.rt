@@ -1,5 +1,7 @@
 // The journal's numbers: unsigned LEB128 (RULES J1 to J7, G10), read from a slice and written into a lent one.
 // What the bytes mean is in specs/Leb.antt, and what each answer means in specs/Answers.antt.
+#![tactic(auto)]
+
 ghost use Rattle.std.specs.Prelude.{◌≡◌, length, take};
 ghost use Rattle.number.specs.Leb.{largest, longest, encode, number};
 ghost use Rattle.number.specs.Put.{put, fitted};
@@ -12,7 +14,7 @@ pub const LARGEST: u64 = 18446744073709551615;
 pub const LONGEST: usize = 10;
 
 // What reading a number at the front of a slice finds.
-#[derive(Drop)]
+#[derive(Clone, Copy)]
 pub enum Number {
     // The number, and how many bytes it takes.
     Good { value: u64, used: usize },
@@ -78,7 +80,7 @@ pub fn read_number(from: &[u8]) -> Number
 }
 
 // What writing a number answers.
-#[derive(Drop)]
+#[derive(Clone, Copy)]
 pub enum Written {
     // How many bytes it takes.
     Bytes(usize),

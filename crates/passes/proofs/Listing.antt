@@ -9,7 +9,7 @@ use native.Mathlib.Decide.{ℕ_discrete}
 use native.Mathlib.Nat.{le_refl}
 use borrow.Author.Tests.{eq-eqb, ne_eqb}
 use lib.ListN.{length, get_or, set, length-set}
-use lib.Seq.{get_or_set_same, get_or-set_other}
+use lib.Seq.{get_or-set_same, get_or-set_other}
 use lib.Dec.{eqb}
 use Rattle.model.specs.Label.{Label, ◌⊑◌}
 use Rattle.model.specs.Label.Laws.{⊑_refl}
@@ -86,8 +86,8 @@ module _ (ld : List ℕ) (hs : List Handle) (from to : List ℕ) (count i : ℕ)
 
     here : Flow ld hs (set from count a) (set to count b) i count
     here = record {
-      start = get_or_set_same from count a 0 (omega (arith, p.few, p.starts_long)) ∙ ea;
-      end = get_or_set_same to count b 0 (omega (arith, p.few, p.ends_long)) ∙ eb;
+      start = get_or-set_same from count a 0 (omega (arith, p.few, p.starts_long)) ∙ ea;
+      end = get_or-set_same to count b 0 (omega (arith, p.few, p.ends_long)) ∙ eb;
     }
 
     pub put : Listed ld hs (set from count a) (set to count b) (count + 1) (i + 1)

@@ -9,7 +9,7 @@ use native.Mathlib.Omega.{arith}
 use native.Mathlib.Decide.{ℕ_discrete, dec_lt}
 use native.Mathlib.Nat.{le_refl}
 use lib.ListN.{length, get_or, set, length-set}
-use lib.Seq.{get_or_set_same, get_or-set_other}
+use lib.Seq.{get_or-set_same, get_or-set_other}
 use lib.Dec.{T}
 use Rattle.model.specs.Sets.Laws.{within_all}
 use Rattle.model.specs.Sets.{within}
@@ -42,7 +42,7 @@ set_cases : (P : ℕ → ℕ → Type 0) (l : List ℕ) (i v x : ℕ) → i < le
 set_cases P l i v x h p q = go (ℕ_discrete x i)
   where
     go : Dec (x ≡ i) → P x (get_or (set l i v) x 0)
-    go (yes e) = subst (λ (y : ℕ). P y (get_or (set l i v) y 0)) (sym e) (subst (λ (w : ℕ). P i w) (sym (get_or_set_same l i v 0 h)) p)
+    go (yes e) = subst (λ (y : ℕ). P y (get_or (set l i v) y 0)) (sym e) (subst (λ (w : ℕ). P i w) (sym (get_or-set_same l i v 0 h)) p)
     go (no ne) = subst (λ (w : ℕ). P x w) (sym (get_or-set_other l i x v 0 ne)) q
 
 -- ── one pass ──

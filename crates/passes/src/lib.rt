@@ -1,5 +1,7 @@
 // Flows as a list of edges between things, and figures, each a label, that are raised along them in passes over the list until they fall along every one:
 // from any figures, the least ones that do. A thing is a number below 96.
+#![tactic(auto)]
+
 ghost use Rattle.std.specs.Prelude.{◌≡◌, true, false, ◌<◌};
 ghost use Rattle.model.specs.Label.{◌⊑◌};
 ghost use Rattle.labels.specs.Codes.{coded};
@@ -9,7 +11,7 @@ ghost use Rattle.passes.specs.Listing.{Bounded, Listed};
 use tables::{EMPTY, HANDLES, Handle, OBJECTS, PLACES, SUBJECTS, THINGS, looks};
 
 // The first `count` edges are listed: each leads from a thing to a thing.
-#[derive(Drop)]
+#[derive(Clone, Copy)]
 pub struct Edges {
     pub from: [u8; HANDLES],
     pub to: [u8; HANDLES],
@@ -17,14 +19,14 @@ pub struct Edges {
 }
 
 // Figures after a pass, and whether one of them grew.
-#[derive(Drop)]
+#[derive(Clone, Copy)]
 pub struct Round {
     pub figures: [u16; THINGS],
     pub grew: bool,
 }
 
 // Figures, and whether they fall along every flow.
-#[derive(Drop)]
+#[derive(Clone, Copy)]
 pub struct Raised {
     pub figures: [u16; THINGS],
     pub still: bool,

@@ -2,12 +2,14 @@
 // can say that a read or a write was made. Three lines of this file make them, one in `more`, one in `send` and one in
 // `say`, and have to be believed. `Intake`, `Sent` and `Said` have private fields: only this file makes one, and who hands
 // one on has called these functions. What was read, sent or said with it is in their contracts.
+#![tactic(auto)]
+
 ghost use Rattle.std.specs.Prelude.{◌≡◌, ◌≤◌, length};
 ghost use Rattle.replay.specs.Replay.{reply};
 ghost use Rattle.ports.specs.Ports.{number_of, step, brought_by, begun, Advanced, goes, filled};
 ghost use Rattle.ports.specs.Ports.{words, Sending, Saying};
 
-#[derive(Drop)]
+#[derive(Clone, Copy)]
 pub enum Port {
     Input,
     Output,
@@ -15,7 +17,7 @@ pub enum Port {
 }
 
 // What a read came to.
-#[derive(Drop)]
+#[derive(Clone, Copy)]
 pub enum Step {
     // It failed.
     Failed,
@@ -27,7 +29,7 @@ pub enum Step {
 
 // How far reading has come: from which port, how many bytes stand at the start of the buffer, and what the last read
 // came to.
-#[derive(Drop)]
+#[derive(Clone, Copy)]
 pub struct Intake {
     from: Port,
     done: usize,
@@ -35,7 +37,7 @@ pub struct Intake {
 }
 
 // What reading came to, once it is over.
-#[derive(Drop)]
+#[derive(Clone, Copy)]
 pub enum Filled {
     // So many bytes stand at the start of the buffer, and then the input ended.
     Ended(usize),
@@ -47,7 +49,7 @@ pub enum Filled {
 
 // A reply that was handed to a port: to which one, to how many bytes of a journal it replies, how many bytes it has, and
 // whether all of them were taken.
-#[derive(Drop)]
+#[derive(Clone, Copy)]
 pub struct Sent {
     to: Port,
     read: usize,
@@ -56,7 +58,7 @@ pub struct Sent {
 }
 
 // What is said where something fails.
-#[derive(Drop)]
+#[derive(Clone, Copy)]
 pub enum Message {
     Unread,
     Unended,
@@ -65,7 +67,7 @@ pub enum Message {
 }
 
 // A message that was handed to a port. Where that fails too, nothing is left to say it to.
-#[derive(Drop)]
+#[derive(Clone, Copy)]
 pub struct Said {
     to: Port,
     message: Message,

@@ -2,14 +2,14 @@
 use mathlib.Core.Path.{◌≡◌, refl, sym, ◌∙◌, ap, subst, subst₂}
 use mathlib.Core.Bool.{Bool, true, false, cond}
 use mathlib.Core.Logic.{◌⊎◌, inl, inr}
-use mathlib.Core.Option.{none, some, none_ne_some, some_injective}
+use mathlib.Core.Option.{none, some, none-ne-some, some-injective}
 use mathlib.Core.List.{List}
 use Prim.Native.Nat.{ℕ, ◌+◌, ◌*◌, ◌%◌, ◌≤◌, ◌<◌}
 use native.Mathlib.Omega.{arith}
 use native.Mathlib.Decide.{ℕ_discrete, dec_lt}
 use borrow.Author.Tests.{lt-ltb, le-ltb}
 use lib.ListN.{length, get_or, set, length-set}
-use lib.Seq.{get_or_set_same, get_or-set_other, ext_get_or}
+use lib.Seq.{get_or-set_same, get_or-set_other, ext_get_or}
 use lib.Dec.{T, ltb, ltb→lt}
 use Rattle.model.specs.Bools.{is_true}
 use Rattle.model.specs.Label.{Label, bot}
@@ -62,7 +62,7 @@ same_set : {A : Type 0} (l : List A) (i : ℕ) (d x : A) → i < length l → x 
 same_set l i d x h e = ext_get_or d l (set l i x) (sym (length-set l i x)) (λ j k. go j (ℕ_discrete j i))
   where
     go : (j : ℕ) → Dec (j ≡ i) → get_or l j d ≡ get_or (set l i x) j d
-    go j (yes q) = ap (λ (n : ℕ). get_or l n d) q ∙ sym e ∙ sym (ap (λ (n : ℕ). get_or (set l i x) n d) q ∙ get_or_set_same l i x d h)
+    go j (yes q) = ap (λ (n : ℕ). get_or l n d) q ∙ sym e ∙ sym (ap (λ (n : ℕ). get_or (set l i x) n d) q ∙ get_or-set_same l i x d h)
     go j (no n) = sym (get_or-set_other l i j x d n)
 
 module _ (gs : List ℕ) (lg : length gs ≡ 32) (ns sb ob hb nb cs : List ℕ) (fz su s p : ℕ) (w : Whole ns sb ob hb nb cs) (one : su ≡ 1) (x : Subject) (h : Handle) (n : ℕ)
@@ -99,7 +99,7 @@ module _ (gs : List ℕ) (lg : length gs ≡ 32) (ns sb ob hb nb cs : List ℕ) 
     left : ((k : Held) → (slots m).hand s p ≡ some k → Loose (slots m) s k → (effect (slots m) c).at (object k.to) ≡ (slots m).at (object k.to) → ⊥)
         → Settles (view m) (decode (direct 11 s p 0 0 0 0)) 0
     left f = settles_by gs lg ns sb ob hb nb cs fz su w one (direct 11 s p 0 0 0 0) c c (close_is s p) lift i 0 (λ ρ σ v l long. close_ren ρ σ v l (slots m) long s p 0 (record {
-      refusing = λ k q l. absurd (none_ne_some k (sym none_refuses ∙ q));
+      refusing = λ k q l. absurd (none-ne-some k (sym none_refuses ∙ q));
       opening = λ d s' o p' e. let q : ◌≡◌ {A = ℕ} 0 1 = cc in absurd (omega arith);
       closing = λ s' p' k e q there loose stays. (let a : s' ≡ s = cc in let b : p' ≡ p = cc in
           absurd (f k (subst₂ (λ (x v : ℕ). (slots m).hand x v ≡ some k) a b there) (subst (λ (x : ℕ). Loose (slots m) x k) a loose) stays));
@@ -111,7 +111,7 @@ module _ (gs : List ℕ) (lg : length gs ≡ 32) (ns sb ob hb nb cs : List ℕ) 
       standing = at_place ∙ full_held h k (sym at_place ∙ there)
 
       same_handle : k ≡ joins h
-      same_handle = some_injective k (joins h) (sym there ∙ standing)
+      same_handle = some-injective k (joins h) (sym there ∙ standing)
 
       its_ends : Ends (slots m) s p (joins h)
       its_ends = (i one).1.wf.ends s p (joins h) standing
@@ -171,7 +171,7 @@ module _ (gs : List ℕ) (lg : length gs ≡ 32) (ns sb ob hb nb cs : List ℕ) 
 
           go : Dec (j ≡ s % 32 * 16 + p % 16) → on (get_or (set (handles_in hb) (s % 32 * 16 + p % 16) no_handle) j no_handle) h.object ≡ false
           go (yes q) = ap (λ (f : Handle). on f h.object) (ap (λ (i : ℕ). get_or (set (handles_in hb) (s % 32 * 16 + p % 16) no_handle) i no_handle) q
-              ∙ get_or_set_same (handles_in hb) (s % 32 * 16 + p % 16) no_handle no_handle (omega (arith, length_handles hb)))
+              ∙ get_or-set_same (handles_in hb) (s % 32 * 16 + p % 16) no_handle no_handle (omega (arith, length_handles hb)))
           go (no q) = ap (λ (f : Handle). on f h.object) (get_or-set_other (handles_in hb) (s % 32 * 16 + p % 16) j no_handle no_handle q)
               ∙ off (on (get_or (handles_in hb) j no_handle) h.object) refl (λ r. q (r ∙ ea))
 
@@ -192,7 +192,7 @@ module _ (gs : List ℕ) (lg : length gs ≡ 32) (ns sb ob hb nb cs : List ℕ) 
           (ltb→lt s 32 (live_of (slots m) (subject s) (its_ends k there).from).0) (its_ends k there).place (low_o k there) (standing k there) refl
           (subst (λ (o : Object). Outlives hs_after o h.object no_object) record_is gone)))
           ∙ object_there (beside m) m.subjects (set m.objects (h.object % 64) no_object) hs_after h.object (length-set m.objects (h.object % 64) no_object ∙ g.objects)
-          ∙ ap (λ (o : Object). object_entry (object_at h.object o)) (get_or_set_same m.objects (h.object % 64) no_object no_object (omega (arith, g.objects)))
+          ∙ ap (λ (o : Object). object_entry (object_at h.object o)) (get_or-set_same m.objects (h.object % 64) no_object no_object (omega (arith, g.objects)))
           ∙ none_there (ltb h.object 64)
         where
           none_there : (b : Bool) → object_entry (cond b no_object no_object) ≡ none
@@ -201,7 +201,7 @@ module _ (gs : List ℕ) (lg : length gs ≡ 32) (ns sb ob hb nb cs : List ℕ) 
 
       ended_not : (effect (slots m) c).at (object k.to) ≡ (slots m).at (object k.to) → ⊥
       ended_not stays = let q = subst (λ (j : Held). (effect (slots m) c).at (object j.to) ≡ (slots m).at (object j.to)) (same_handle k there) stays in
-          let v = live_entry (slots m) h.object (its_ends k there).to in none_ne_some v.0 (sym ends_it ∙ q ∙ v.1)
+          let v = live_entry (slots m) h.object (its_ends k there).to in none-ne-some v.0 (sym ends_it ∙ q ∙ v.1)
 
     pub close_ended : (at : ℕ) → at ≡ s % 32 * 16 + p % 16 → ((y.kind < 2) ⊎ Beside (handles_in hb) h.object at → ⊥)
         → Settles (view (monitor_in gs ns sb ob hb nb fz su)) (decode (direct 11 s p 0 0 0 0)) 0

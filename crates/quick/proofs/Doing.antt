@@ -5,7 +5,7 @@ use mathlib.Core.List.{List}
 use Prim.Native.Nat.{ℕ, ◌+◌, ◌*◌, ◌<◌}
 use native.Mathlib.Omega.{arith}
 use lib.ListN.{length, get_or, set, length-set}
-use lib.Seq.{get_or_set_same, get_or-set_other}
+use lib.Seq.{get_or-set_same, get_or-set_other}
 use Rattle.model.specs.Tables.{Tables, clean}
 use Rattle.model.specs.Calls.{Call, Raw, decode, refused, allowed, answer}
 use Rattle.model.specs.Calls.{Answer as Told}
@@ -136,7 +136,7 @@ done_settles m {r = r} g h l d = record {
 -- ── the counts ──
 module _ (cs : List ℕ) (long : length cs ≡ 2) (v u : ℕ) where
   pub counted_made : get_or (set (set cs 0 v) 1 u) 0 0 ≡ v
-  counted_made = get_or-set_other (set cs 0 v) 1 0 u 0 (λ e. omega arith) ∙ get_or_set_same cs 0 v 0 (omega (arith, long))
+  counted_made = get_or-set_other (set cs 0 v) 1 0 u 0 (λ e. omega arith) ∙ get_or-set_same cs 0 v 0 (omega (arith, long))
 
   pub counted_gone : get_or (set (set cs 0 v) 1 u) 1 0 ≡ u
-  counted_gone = get_or_set_same (set cs 0 v) 1 u 0 (omega (arith, long, length-set cs 0 v))
+  counted_gone = get_or-set_same (set cs 0 v) 1 u 0 (omega (arith, long, length-set cs 0 v))

@@ -3,7 +3,7 @@
 use mathlib.Core.Path.{◌≡◌, refl, sym, ◌∙◌, ap, ap₂, subst, subst₂}
 use mathlib.Core.Bool.{Bool, true, false, not, ◌||◌}
 use mathlib.Core.Logic.{inl, inr}
-use mathlib.Core.Option.{Option, none, some, none_ne_some, some_injective}
+use mathlib.Core.Option.{Option, none, some, none-ne-some, some-injective}
 use mathlib.Core.List.{List, [], ◌∷◌}
 use Prim.Native.Nat.{ℕ, ◌+◌, ◌*◌, ◌%◌, ◌<◌}
 use native.Mathlib.Omega.{arith}
@@ -76,8 +76,8 @@ nine_left t d s o p k warm = go (breaks t 15 (tests (opens d s o p))) (breaks t 
 
     go : (b15 b9 : Bool) → b15 ≡ false → then b15 15 (then b9 9 none) ≡ some k → k ≡ 9
     go true b9 q e = true_false q
-    go false true q e = sym (some_injective 9 k e)
-    go false false q e = absurd (none_ne_some k e)
+    go false true q e = sym (some-injective 9 k e)
+    go false false q e = absurd (none-ne-some k e)
 
 -- where an open changes no need, its flow falls by the kept ones
 module _ (nb : List ℕ) (t : Tables) (r : Bool) (s o p : ℕ) (low : o < 64) (w : Wf t) (k : Ready t (figure_of nb)) (free : refusal t (opens (direction r) s o p) ≡ none)

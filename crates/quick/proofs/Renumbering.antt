@@ -1,6 +1,6 @@
 -- What is settled of an open or a close goes by no number that an object has: settled on some tables, it is settled on them renumbered. Assumes nothing.
 use mathlib.Core.Path.{◌≡◌, refl, sym, ◌∙◌, ap, subst, subst₂}
-use mathlib.Core.Option.{Option, none, some, none_ne_some, some_injective}
+use mathlib.Core.Option.{Option, none, some, none-ne-some, some-injective}
 use mathlib.Core.List.{List}
 use Prim.Native.Nat.{ℕ, ◌<◌}
 use native.Mathlib.Omega.{arith}
@@ -69,7 +69,7 @@ module _ (ρ σ : ℕ → ℕ) (v : Renumbers ρ σ) (l : List ℕ) (t : Tables)
     where
       go : (o : Option Handle) → t.hand s p ≡ o → (k : Handle) → held ρ σ v l (t.hand s p) ≡ some k → Loose u s k
           → (effect u (by (close s p))).at (object k.to) ≡ u.at (object k.to) → refusal t (close s p) ≡ none → 0 < n
-      go none e k at loose stays q = absurd (none_ne_some k (sym (ap (held ρ σ v l) e) ∙ at))
-      go (some j) e k at loose stays q = let f = some_injective k (joined ρ σ v l j) (sym at ∙ ap (held ρ σ v l) e) in
+      go none e k at loose stays q = absurd (none-ne-some k (sym (ap (held ρ σ v l) e) ∙ at))
+      go (some j) e k at loose stays q = let f = some-injective k (joined ρ σ v l j) (sym at ∙ ap (held ρ σ v l) e) in
           z.closing s p j refl q e (loose_ren s j (subst (Loose u s) f loose))
           (sym (at_after (close s p) (object j.to)) ∙ subst (λ (k : Handle). (effect u (by (close s p))).at (object k.to) ≡ u.at (object k.to)) f stays ∙ at_there ρ σ v l t (object j.to))

@@ -3,6 +3,8 @@
 //
 // The parts are those of the monitor (`gatekeeper::Monitor`) as they lie in memory, and the two counts. What they stand for is in specs/Parts.antt;
 // a record among them is read and stored by the functions of `inplace`.
+#![tactic(auto)]
+
 ghost use Rattle.std.specs.Prelude.{◌≡◌, List, [], ◌∷◌, ℕ, length};
 ghost use Rattle.gatekeeper.specs.View.{direct};
 ghost use Rattle.gatekeeper.specs.Acting.{way_by};

@@ -52,9 +52,9 @@ new_is t x b false e i q = rw i
 pub new_subject_is : (t : Tables) (s : ℕ) (x : Subject) → t.at (subject s) ≡ subject_entry x → broken t (new (subject s)) ≡ used_subject s x
 new_subject_is t s x q = new_is t (subject s) (eqb x.live 0) (ltb s 32) _ refl q
 
-pub or_false : (a b : Bool) → (a || b) ≡ false → (a ≡ false) × (b ≡ false)
-or_false true b h = absurd (subst T h tt)
-or_false false b h = (refl, h)
+pub or-false : (a b : Bool) → (a || b) ≡ false → (a ≡ false) × (b ≡ false)
+or-false true b h = absurd (subst T h tt)
+or-false false b h = (refl, h)
 
 pub new_object_is : (t : Tables) (o : ℕ) (y : Object) → t.at (object o) ≡ object_entry y → broken t (new (object o)) ≡ used_object y
 new_object_is t o y q = new_is t (object o) (eqb y.kind 0) true _ refl q

@@ -4,6 +4,8 @@
 //
 // The records are those at the numbers that the call names, empty ones where a number is out of range (`looks`); of an object the number is that of its slot. That
 // there is no room for a new object is told by a slot that is none of the OBJECTS, which is what `Room` in specs/Refusing.antt asks of the caller.
+#![tactic(auto)]
+
 ghost use Rattle.std.specs.Prelude.{◌≡◌, not, ◌||◌, ℕ};
 ghost use Rattle.model.specs.Label.{label, in_scale};
 ghost use Rattle.model.specs.Flow.{subject, object};

@@ -1,7 +1,7 @@
 -- How far a reply has come: what has been written, and what is left. The inner loop of the replay keeps it; no caller needs it. Assumes nothing.
 use Rattle.std.specs.Prelude.{◌≡◌, refl, Bool, true, false, cond, List, [], ◌∷◌, ◌++◌, ℕ, zero, suc, ◌+◌, ◌*◌, ◌-◌, ◌≤◌, ◌<◌, length, take, drop}
-use Rattle.std.proofs.Common.{sym, ◌∙◌, ap, subst, append_assoc, append-nil, arith, add-one, lt-ltb, le-ltb, length_append, take_at}
-use Rattle.std.proofs.Math.Option.{Option, none, some, none_ne_some}
+use Rattle.std.proofs.Common.{sym, ◌∙◌, ap, subst, append_assoc, append-nil, arith, add-one, lt-ltb, le-ltb, length-append, take_at}
+use Rattle.std.proofs.Math.Option.{Option, none, some, none-ne-some}
 use borrow.Rule.Slice.PartMut.{put_mid}
 use Rattle.model.specs.Tables.{Tables, empty}
 use Rattle.model.specs.Invariant.{Kept}
@@ -69,7 +69,7 @@ all_ends text first out n v =
 -- there is no room for all of it, and what stands there is its front
 pub none_ends : (text first out : List ℕ) → none ≡ fitted text first → Begun text first out → (reply_room ≤ length first → ⊥)
     → Ends text first out none
-none_ends text first out short begun full = (short, (λ k z. absurd (none_ne_some k z), (begun, λ room. absurd (full room))))
+none_ends text first out short begun full = (short, (λ k z. absurd (none-ne-some k z), (begun, λ room. absurd (full room))))
 
 -- there is room for what is no longer than `most`, where that much is left
 room_left : (first done out e : List ℕ) (used most : ℕ) → Over first done used out → length e ≤ most → used + most ≤ length first
@@ -101,7 +101,7 @@ module _ (j first out : List ℕ) (p used : ℕ) where
 
     -- there is no room for it, and so none for the whole
     pub no_more : none ≡ fitted e (take (length out - used) (drop used out)) → none ≡ fitted (whole j) first
-    no_more answer = sym (fitted_none (whole j) first (omega (arith, length_append g.done (e ++ left (suc p) (view n) z l), length_append e (left (suc p) (view n) z l), ap length rejoined, over_count g.over, rest_length g.over, fits_not e (take (length out - used) (drop used out)) (sym answer), g.over.within)))
+    no_more answer = sym (fitted_none (whole j) first (omega (arith, length-append g.done (e ++ left (suc p) (view n) z l), length-append e (left (suc p) (view n) z l), ap length rejoined, over_count g.over, rest_length g.over, fits_not e (take (length out - used) (drop used out)) (sym answer), g.over.within)))
 
   -- what comes next, of at most `most` bytes, has no room: the buffer stays as it is, and was shorter than any reply needs
   pub short_ends : (t : Tables) (y : Tally) (rest : List Said) (g : Stage j first out t y p used rest) (e : List ℕ) (most : ℕ) → length e ≤ most
@@ -123,7 +123,7 @@ module _ (j first out : List ℕ) (p used : ℕ) where
         (put_after g.over (last_line y) ys k answer wrote))
 
     not_ended : none ≡ fitted (last_line y) (take (length out - used) (drop used out)) → none ≡ fitted (whole j) first
-    not_ended answer = sym (fitted_none (whole j) first (omega (arith, length_append g.done (last_line y), ap length g.sum, over_count g.over, rest_length g.over, fits_not (last_line y) (take (length out - used) (drop used out)) (sym answer), g.over.within)))
+    not_ended answer = sym (fitted_none (whole j) first (omega (arith, length-append g.done (last_line y), ap length g.sum, over_count g.over, rest_length g.over, fits_not (last_line y) (take (length out - used) (drop used out)) (sym answer), g.over.within)))
 
 -- ── the loop ──
 -- the next record is looked for at `at`, or the run has stopped
@@ -246,7 +246,7 @@ module _ (d e first : List ℕ) (thin : length (d ++ e) ≤ reply_room) where
 
   pub first_short : (out : List ℕ) → none ≡ fitted d first → out ≡ put d first → Ends (d ++ e) first out none
   first_short out answer wrote =
-      let short = sym (fitted_none (d ++ e) first (omega (arith, length_append d e, fits_not d first (sym answer)))) in
+      let short = sym (fitted_none (d ++ e) first (omega (arith, length-append d e, fits_not d first (sym answer)))) in
       none_ends (d ++ e) first out short
       (subst (λ (b : List ℕ). Begun (d ++ e) first b) (sym (wrote ∙ put_none d first (fits_not d first (sym answer)))) (same_begun (d ++ e) first))
       (no_room short)
@@ -261,7 +261,7 @@ module _ (d e first : List ℕ) (thin : length (d ++ e) ≤ reply_room) where
     pub second_short : (ys : List ℕ) → none ≡ fitted e (take (length out - n) (drop n out)) → ys ≡ put e (take (length out - n) (drop n out))
         → Ends (d ++ e) first (put_mid n (length out - n) out ys) none
     second_short ys q w =
-        let short = sym (fitted_none (d ++ e) first (omega (arith, length_append d e, over_count written, rest_length written, fits_not e (take (length out - n) (drop n out)) (sym q), written.within))) in
+        let short = sym (fitted_none (d ++ e) first (omega (arith, length-append d e, over_count written, rest_length written, fits_not e (take (length out - n) (drop n out)) (sym q), written.within))) in
         none_ends (d ++ e) first (put_mid n (length out - n) out ys) short
         (subst (λ (b : List ℕ). Begun (d ++ e) first b) (sym (none_after written e ys q w)) (over_begun (d ++ e) first d e out n written refl))
         (no_room short)

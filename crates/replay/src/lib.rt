@@ -1,5 +1,7 @@
 // Journals, replayed on the monitor (RULES P2 to P23). The reply to a whole journal is a definition in specs/Replay.antt; what one record
 // does is in specs/One.antt.
+#![tactic(auto)]
+
 ghost use Rattle.std.specs.Prelude.{◌≡◌, ℕ, ◌≤◌, length};
 ghost use Rattle.std.proofs.Math.Option.{some};
 ghost use Rattle.model.specs.Tally.{difference};
@@ -32,7 +34,7 @@ const LONGEST_END: usize = 67;
 pub const REPLY_ROOM: usize = LONGEST_LINE * LARGEST_JOURNAL + LONGEST_END;
 
 // A record's reply: the code as it was read and the answer; and what the record leaves, the next monitor and tally.
-#[derive(Drop)]
+#[derive(Clone, Copy)]
 pub struct Replied {
     pub monitor: Monitor,
     pub tally: Tally,
@@ -86,7 +88,7 @@ fn open_now(tally: Tally) -> u64
 }
 
 // A journal that was run: how many bytes its reply has, or that there is no room for it; and the monitor and the tally at the end.
-#[derive(Drop)]
+#[derive(Clone, Copy)]
 pub struct Ran {
     pub monitor: Monitor,
     pub tally: Tally,

@@ -1,5 +1,7 @@
 // A list of direct calls, run from empty tables (RULES H1 to H3, B24).
 // What stands in the two buffers is in specs/Buffers.antt.
+#![tactic(auto)]
+
 ghost use Rattle.std.specs.Prelude.{◌≡◌, ◌++◌, ◌*◌, ◌/◌, length, take, drop};
 ghost use Rattle.model.specs.Tables.{empty};
 ghost use Rattle.model.specs.Calls.{answers};
@@ -10,7 +12,7 @@ ghost use Rattle.run.specs.Buffers.{lesser, calls_in, bytes, answers_in};
 use gatekeeper::Monitor;
 
 // The monitor at the end, and how many calls were made.
-#[derive(Drop)]
+#[derive(Clone, Copy)]
 pub struct Ran {
     pub monitor: Monitor,
     pub made: usize,

@@ -1,6 +1,8 @@
 // The program over standard input (RULES S1, P1, P15, P16): a journal in, the replies out. Which bytes come in, and which
 // of the bytes handed to a write it takes, is the host's. What is made of the bytes that came, and what is handed to which
 // port, is promised here.
+#![tactic(auto)]
+
 ghost use Rattle.std.specs.Prelude.{◌≤◌, length};
 ghost use Rattle.replay.specs.Replay.{reply_room};
 ghost use Rattle.serve.specs.Serving.{Finished, journal_room, Sized, Replying, Answering, Serving, Ran, Roomy};
@@ -13,7 +15,7 @@ use replay::LARGEST_JOURNAL;
 const JOURNAL_ROOM: usize = LARGEST_JOURNAL + 1;
 
 // What came of what was read.
-#[derive(Drop)]
+#[derive(Clone, Copy)]
 pub enum Served {
     // The reply to it was written.
     Replied(Sent),
@@ -29,7 +31,7 @@ pub enum Served {
 }
 
 // What came of a run: how far reading came, and what was made of what was read.
-#[derive(Drop)]
+#[derive(Clone, Copy)]
 pub struct Run {
     read: Intake,
     came: Served,

@@ -8,7 +8,7 @@ use native.Mathlib.Nat.{mul-suc, mul-le-mul_left, pow-le-pow_right}
 use native.Mathlib.Numerals.{add-one}
 use native.Mathlib.Decide.{ℕ_discrete}
 use lib.ListN.{length, take, drop, get_or, set, length-set}
-use lib.Seq.{get_or_set_same, get_or-set_other, drop_cons, drop-drop, ext_get_or}
+use lib.Seq.{get_or-set_same, get_or-set_other, drop_cons, drop-drop, ext_get_or}
 use Rattle.stored.specs.State.{byte_width, records, byte_of, whole}
 use Rattle.stored.specs.State.Laws.{length_records, getD_records}
 
@@ -45,7 +45,7 @@ module _ {A : Type 0} {f : List ℕ → A} {d : A} {w b n : ℕ} {s : List ℕ} 
   }
     where
       go : (j : ℕ) → j < i + 1 → Dec (j ≡ i) → get_or (set r i v) j d ≡ f (take w (drop (b + w * j) s))
-      go j lj (yes q) = rw (q, get_or_set_same r i v d (omega (arith, p.long))) e
+      go j lj (yes q) = rw (q, get_or-set_same r i v d (omega (arith, p.long))) e
       go j lj (no nq) = get_or-set_other r i j v d nq ∙ p.done j (omega arith)
 
   -- or from these one by one

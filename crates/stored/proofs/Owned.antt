@@ -2,7 +2,7 @@
 use mathlib.Core.Path.{◌≡◌, sym, ◌∙◌}
 use mathlib.Core.List.{List, map}
 use Prim.Native.Nat.{ℕ}
-use lib.ListN.{length, length_map}
+use lib.ListN.{length, length-map}
 use denote.Laws.{Is}
 use denote.Struct.Declared.{row}
 use denote.Struct.Laws as S
@@ -16,7 +16,7 @@ use Rattle.tally.proofs.Tally.TheLaws as Y'
 use Rattle.stored.specs.State.Laws.{Long, Fits}
 
 pub unmapped : (X Y : Type 0) (f : X → Y) (l : List X) (n : ℕ) → length (map f l) ≡ n → length l ≡ n
-unmapped X Y f l n p = sym (length_map l f) ∙ p
+unmapped X Y f l n p = sym (length-map l f) ∙ p
 
 pub monitor_long : (m : Monitor) → Is (row K.the_type) m (S.vals K.the_type K'.the_laws m) → Long m
 monitor_long m g = record { subjects = search (rules, unmapped); objects = search (rules, unmapped); handles = search (rules, unmapped); needs = search rules; numbers = search rules; groups = search rules }

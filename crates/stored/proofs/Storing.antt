@@ -7,7 +7,7 @@ use native.Mathlib.Omega.{arith}
 use native.Mathlib.Nat.{mul-suc, mul-le-mul_left}
 use native.Mathlib.Numerals.{add-one}
 use native.Mathlib.Decide.{ℕ_discrete}
-use lib.ListN.{length, take, drop, get_or, set, replicate, length_append, length-replicate, get_or-replicate}
+use lib.ListN.{length, take, drop, get_or, set, replicate, length-append, length-replicate, get_or-replicate}
 use lib.Seq.{length-take-le, take-suc, take_all, drop_cons, sets, sets-eq}
 use Rattle.gatekeeper.specs.declared.Monitor.{Monitor}
 use Rattle.tally.specs.declared.Tally.{Tally}
@@ -134,10 +134,10 @@ module _ (m : Monitor) (y : Tally) (long : Long m) (o : List ℕ) (size : length
       let e = digits 8 y.gone in
       let f = m.freeze ∷ [] in
       let la : length a ≡ objects_at = subjects_count m y long in
-      let lb : length (a ++ b) ≡ handles_at = omega (arith, length_append a b, objects_count m y long) in
-      let lc : length (a ++ b ++ c) ≡ made_at = omega (arith, length_append (a ++ b) c, handles_count m y long) in
-      let ld : length (a ++ b ++ c ++ d) ≡ gone_at = omega (arith, length_append (a ++ b ++ c) d, length_digits 8 y.made) in
-      let le : length (a ++ b ++ c ++ d ++ e) ≡ freeze_at = omega (arith, length_append (a ++ b ++ c ++ d) e, length_digits 8 y.gone) in
+      let lb : length (a ++ b) ≡ handles_at = omega (arith, length-append a b, objects_count m y long) in
+      let lc : length (a ++ b ++ c) ≡ made_at = omega (arith, length-append (a ++ b) c, handles_count m y long) in
+      let ld : length (a ++ b ++ c ++ d) ≡ gone_at = omega (arith, length-append (a ++ b ++ c) d, length_digits 8 y.made) in
+      let le : length (a ++ b ++ c ++ d ++ e) ≡ freeze_at = omega (arith, length-append (a ++ b ++ c ++ d) e, length_digits 8 y.gone) in
       let q₂ : s₂ ≡ over 0 (a ++ b) o = e₂ ∙ over_next 0 objects_at a b o s₁ (omega arith) (omega arith) e₁ in
       let q₃ : s₃ ≡ over 0 (a ++ b ++ c) o = e₃ ∙ over_next 0 handles_at (a ++ b) c o s₂ (omega arith) (omega arith) q₂ in
       let q₄ : s₄ ≡ over 0 (a ++ b ++ c ++ d) o = e₄ ∙ over_next 0 made_at (a ++ b ++ c) d o s₃ (omega arith) (omega arith) q₃ in
@@ -145,13 +145,13 @@ module _ (m : Monitor) (y : Tally) (long : Long m) (o : List ℕ) (size : length
       let room : freeze_at + 1 ≤ length s₅ = omega (arith, ap length q₅, over_length 0 (a ++ b ++ c ++ d ++ e) o (omega arith)) in
       let q₆ : s₆ ≡ over 0 (a ++ b ++ c ++ d ++ e ++ f) o = e₆ ∙ stores_over s₅ freeze_at f room
       ∙ over_next 0 freeze_at (a ++ b ++ c ++ d ++ e) f o s₅ (omega arith) (omega arith) q₅ in
-      let lf : length (a ++ b ++ c ++ d ++ e ++ f) ≡ needs_at = omega (arith, length_append (a ++ b ++ c ++ d ++ e) f) in
+      let lf : length (a ++ b ++ c ++ d ++ e ++ f) ≡ needs_at = omega (arith, length-append (a ++ b ++ c ++ d ++ e) f) in
       let g = need_bytes m.needs in
       let q₇ : s₇ ≡ over 0 (a ++ b ++ c ++ d ++ e ++ f ++ g) o = e₇ ∙ over_next 0 needs_at (a ++ b ++ c ++ d ++ e ++ f) g o s₆ (omega arith) (omega arith) q₆ in
-      let lg : length (a ++ b ++ c ++ d ++ e ++ f ++ g) ≡ numbers_at = omega (arith, length_append (a ++ b ++ c ++ d ++ e ++ f) g, needs_count m y long) in
+      let lg : length (a ++ b ++ c ++ d ++ e ++ f ++ g) ≡ numbers_at = omega (arith, length-append (a ++ b ++ c ++ d ++ e ++ f) g, needs_count m y long) in
       let h = number_bytes m.numbers in
       let q₈ : s₈ ≡ over 0 (a ++ b ++ c ++ d ++ e ++ f ++ g ++ h) o = e₈ ∙ over_next 0 numbers_at (a ++ b ++ c ++ d ++ e ++ f ++ g) h o s₇ (omega arith) (omega arith) q₇ in
-      let lh : length (a ++ b ++ c ++ d ++ e ++ f ++ g ++ h) ≡ groups_at = omega (arith, length_append (a ++ b ++ c ++ d ++ e ++ f ++ g) h, numbers_count m y long) in
+      let lh : length (a ++ b ++ c ++ d ++ e ++ f ++ g ++ h) ≡ groups_at = omega (arith, length-append (a ++ b ++ c ++ d ++ e ++ f ++ g) h, numbers_count m y long) in
       e₉
       ∙ over_next 0 groups_at (a ++ b ++ c ++ d ++ e ++ f ++ g ++ h) (group_bytes m.groups) o s₈ (omega arith) (omega arith) q₈
       ∙ over_all (a ++ b ++ c ++ d ++ e ++ f ++ g ++ h ++ group_bytes m.groups) o (bytes_length m y long ∙ sym size)

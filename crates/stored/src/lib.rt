@@ -1,5 +1,7 @@
 // A monitor and its tally as bytes that a host keeps (RULES H4 to H10, H15, H16, H26, H30): loaded from them and stored into them. They are laid out as in specs/State.antt. Every byte
 // string of the length is a monitor. That the bytes have that length is what a caller owes: whoever is handed bytes tests it once (crate `host`).
+#![tactic(auto)]
+
 ghost use Rattle.std.specs.Prelude.{◌≡◌, ◌+◌, ◌^◌, ◌≤◌, ◌<◌, length, take, drop};
 ghost use Rattle.stored.specs.State.{objects_at, handles_at, needs_at, numbers_at, groups_at, Sized, live_of, sort_of, live_byte, sort_byte, whole, digits};
 ghost use Rattle.stored.specs.State.{subjects_of, objects_of, handles_of, needs_of, numbers_of, groups_of, monitor_of, tally_of};

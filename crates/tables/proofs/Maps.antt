@@ -6,8 +6,8 @@ use mathlib.Core.List.{List, map}
 use Prim.Native.Nat.{ℕ, ◌+◌, ◌≤◌, ◌<◌}
 use native.Mathlib.Omega.{arith}
 use native.Mathlib.Decide.{ℕ_discrete}
-use lib.ListN.{length, get_or, set, length-set, length_map}
-use lib.Seq.{get_or_set_same, get_or-set_other}
+use lib.ListN.{length, get_or, set, length-set, length-map}
+use lib.Seq.{get_or-set_same, get_or-set_other}
 
 -- l' is l with each of its first i elements x made f j x
 pub record Mapped {A : Type 0} (d : A) (f : ℕ → A → A) (l l' : List A) (i : ℕ) : Type 0 where
@@ -34,7 +34,7 @@ module _ {A : Type 0} (d : A) where
   }
     where
       at : (j : ℕ) → j < i + 1 → Dec (j ≡ i) → get_or (set l' i v) j d ≡ f j (get_or l j d)
-      at j lj (yes q) = rw (q, get_or_set_same l' i v d (omega (arith, p.long))) (e ∙ ap (f i) (p.ahead i (omega arith)))
+      at j lj (yes q) = rw (q, get_or-set_same l' i v d (omega (arith, p.long))) (e ∙ ap (f i) (p.ahead i (omega arith)))
       at j lj (no nq) = get_or-set_other l' i j v d nq ∙ p.done j (omega arith)
 
   pub rowed_none : (g : ℕ → A) (l : List A) (b : ℕ) → Rowed d g l l b 0
@@ -50,7 +50,7 @@ module _ {A : Type 0} (d : A) where
   }
     where
       at : (q : ℕ) → q < i + 1 → Dec (q ≡ i) → get_or (set l' (b + i) v) (b + q) d ≡ g q
-      at q lq (yes z) = rw (z, get_or_set_same l' (b + i) v d (omega (arith, p.long))) e
+      at q lq (yes z) = rw (z, get_or-set_same l' (b + i) v d (omega (arith, p.long))) e
       at q lq (no nz) = get_or-set_other l' (b + i) (b + q) v d (λ z. nz (omega arith)) ∙ p.inside q (omega arith)
 
   -- an array filled from the front
@@ -59,9 +59,9 @@ module _ {A : Type 0} (d : A) where
   stored f r i v l h e j lj = go (ℕ_discrete j i)
     where
       go : Dec (j ≡ i) → get_or (set r i v) j d ≡ f j
-      go (yes q) = rw (q, get_or_set_same r i v d l) e
+      go (yes q) = rw (q, get_or-set_same r i v d l) e
       go (no nq) = get_or-set_other r i j v d nq ∙ h j (omega arith)
 
 -- the length of an array of structs, from what owning it tells
 pub unmapped : (X Y : Type 0) (f : X → Y) (l : List X) (n : ℕ) → length (map f l) ≡ n → length l ≡ n
-unmapped X Y f l n p = sym (length_map l f) ∙ p
+unmapped X Y f l n p = sym (length-map l f) ∙ p

@@ -3,6 +3,8 @@
 //
 // Every byte is a value: no record is malformed. Promises go through `tables_of`, which reads the three arrays as the tables of the
 // rules (crate `model`).
+#![tactic(auto)]
+
 pub mod looks;
 pub mod slots;
 
@@ -43,7 +45,7 @@ pub const MAPS: u8 = 3;
 // of eight shop groups. A handle's `object` is the slot of its object, whose number stands
 // beside the slot.
 #[repr(C)]
-#[derive(Drop)]
+#[derive(Clone, Copy)]
 pub struct Subject {
     pub live: u8,
     pub level: u8,
@@ -51,7 +53,7 @@ pub struct Subject {
 }
 
 #[repr(C)]
-#[derive(Drop)]
+#[derive(Clone, Copy)]
 pub struct Object {
     pub kind: u8,
     pub level: u8,
@@ -59,7 +61,7 @@ pub struct Object {
 }
 
 #[repr(C)]
-#[derive(Drop)]
+#[derive(Clone, Copy)]
 pub struct Handle {
     pub way: u8,
     pub object: u8,

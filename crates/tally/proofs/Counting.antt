@@ -1,5 +1,5 @@
 -- The tally: what a call of a code makes and removes, by its code and by how many handles its first subject and the mates of that one hold. Assumes nothing.
-use Rattle.std.proofs.Common.{◌≡◌, ℕ, zero, suc, ◌+◌, ◌-◌, ◌*◌, ◌/◌, ◌<◌, ◌≤◌, Bool, true, false, cond, not, ◌&&◌, T, eqb, List, [], ◌++◌, length, get_or, sym, refl, ap, ◌∙◌, subst, ap₂, add-one, arith, ltb→lt, length_append, lt-ltb, ne_eqb}
+use Rattle.std.proofs.Common.{◌≡◌, ℕ, zero, suc, ◌+◌, ◌-◌, ◌*◌, ◌/◌, ◌<◌, ◌≤◌, Bool, true, false, cond, not, ◌&&◌, T, eqb, List, [], ◌++◌, length, get_or, sym, refl, ap, ◌∙◌, subst, ap₂, add-one, arith, ltb→lt, length-append, lt-ltb, ne_eqb}
 use mathlib.Core.Path.{fun_ext}
 use mathlib.Core.Option.{Option, none, some}
 use Rattle.tally.proofs.Pick.{past}
@@ -45,7 +45,7 @@ abbrev pub held_below : (ℕ → Option Held) → ℕ → ℕ
 held_below f p = length (each p (λ q. one (f q)))
 
 pub held_more : (f : ℕ → Option Held) (p n k : ℕ) → n ≡ held_below f p → k ≡ length (one (f p)) → n + k ≡ held_below f (p + 1)
-held_more f p n k e g = omega (arith, length_append (each p (λ q. one (f q))) (one (f p))) ∙ ap (held_below f) (sym (add-one p))
+held_more f p n k e g = omega (arith, length-append (each p (λ q. one (f q))) (one (f p))) ∙ ap (held_below f) (sym (add-one p))
 
 pub one_short : (o : Option Held) → length (one o) ≤ 1
 one_short none = omega arith
@@ -53,7 +53,7 @@ one_short (some k) = omega arith
 
 held_few : (f : ℕ → Option Held) (p : ℕ) → held_below f p ≤ p
 held_few f zero = omega arith
-held_few f (suc p) = omega (arith, length_append (each p (λ q. one (f q))) (one (f p)), held_few f p, one_short (f p))
+held_few f (suc p) = omega (arith, length-append (each p (λ q. one (f q))) (one (f p)), held_few f p, one_short (f p))
 
 -- a subject out of range holds none
 pub none_held : (t : Tables) → Wf t → (s : ℕ) → 32 ≤ s → (p : ℕ) → t.hand s p ≡ none
@@ -91,7 +91,7 @@ module _ {A : Type 0} where
 
   each_long : (n : ℕ) (f g : ℕ → List A) → ((j : ℕ) → length (f j) ≡ length (g j)) → length (each n f) ≡ length (each n g)
   each_long zero f g h = refl
-  each_long (suc n) f g h = omega (arith, each_long n f g h, h n, length_append (each n f) (f n), length_append (each n g) (g n))
+  each_long (suc n) f g h = omega (arith, each_long n f g h, h n, length-append (each n f) (f n), length-append (each n g) (g n))
 
   -- sixteen by sixteen
   row_long : (f : ℕ → List A) (s p : ℕ) → length (each (s * 16 + p) f) ≡ length (each (s * 16) f) + length (each p (λ q. f (s * 16 + q)))
@@ -100,8 +100,8 @@ module _ {A : Type 0} where
       ap (λ (n : ℕ). length (each n f)) e ∙ omega (
         arith,
         row_long f s p,
-        length_append (each (s * 16 + p) f) (f (s * 16 + p)),
-        length_append (each p (λ q. f (s * 16 + q))) (f (s * 16 + p)),
+        length-append (each (s * 16 + p) f) (f (s * 16 + p)),
+        length-append (each p (λ q. f (s * 16 + q))) (f (s * 16 + p)),
       )
 
   rows_long : (f : ℕ → List A) (s : ℕ) → length (each (s * 16) f) ≡ length (each s (λ i. each 16 (λ p. f (i * 16 + p))))
@@ -111,7 +111,7 @@ module _ {A : Type 0} where
         arith,
         row_long f s 16,
         rows_long f s,
-        length_append (each s (λ i. each 16 (λ p. f (i * 16 + p)))) (each 16 (λ p. f (s * 16 + p))),
+        length-append (each s (λ i. each 16 (λ p. f (i * 16 + p)))) (each 16 (λ p. f (s * 16 + p))),
       )
 
 -- the handle at a place of a subject that goes

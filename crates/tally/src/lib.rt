@@ -1,4 +1,6 @@
 // The counted call: handles made and handles gone, over the history of calls (RULES Y1 to Y14).
+#![tactic(auto)]
+
 ghost use Rattle.std.specs.Prelude.{◌≡◌, ℕ, ◌+◌, ◌≤◌, false, [], length, if◌then◌else◌, slice_index_or};
 ghost use Rattle.std.proofs.Math.Option.{none};
 ghost use Rattle.model.specs.Lists.{each};
@@ -14,14 +16,14 @@ use tables::{EMPTY, HANDLES, Handle, PLACES, SUBJECTS, slots};
 
 // Handles made and handles gone, over the history of calls.
 #[repr(C)]
-#[derive(Drop)]
+#[derive(Clone, Copy)]
 pub struct Tally {
     pub made: u64,
     pub gone: u64,
 }
 
 // What a counted call hands back.
-#[derive(Drop)]
+#[derive(Clone, Copy)]
 pub struct Counted {
     pub reply: Reply,
     pub tally: Tally,

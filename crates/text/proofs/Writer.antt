@@ -5,7 +5,7 @@ use Prim.Native.Nat.{ℕ, ◌-◌, ◌≤◌, ◌<◌}
 use native.Mathlib.Omega.{arith}
 use mathlib.Core.List.{List, ◌++◌}
 use mathlib.Core.Option.{none, some}
-use lib.ListN.{length, length_append}
+use lib.ListN.{length, length-append}
 use borrow.Rule.Slice.PartMut.{put_mid}
 use Rattle.number.specs.Put.{put, fitted}
 use Rattle.number.specs.Put.Laws.{put_none, fitted_fits, fitted_none}
@@ -22,9 +22,9 @@ pub record Fit (d e f g b : List ℕ) : Type 0 where
 
 pub fit : (d e f g b : List ℕ) → length (d ++ e ++ f ++ g) ≤ length b → Fit d e f g b
 fit d e f g b all =
-    let three : length (d ++ e ++ f) ≤ length b = omega (arith, length_append (d ++ e ++ f) g) in
-    let two : length (d ++ e) ≤ length b = omega (arith, length_append (d ++ e) f) in
-    record { one = omega (arith, length_append d e); two = two; three = three; four = all }
+    let three : length (d ++ e ++ f) ≤ length b = omega (arith, length-append (d ++ e ++ f) g) in
+    let two : length (d ++ e) ≤ length b = omega (arith, length-append (d ++ e) f) in
+    record { one = omega (arith, length-append d e); two = two; three = three; four = all }
 
 -- ---- `out`, once its rest from `at` on, which was lent, is back as ys
 

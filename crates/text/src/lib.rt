@@ -1,5 +1,7 @@
 // The lines of the reply (RULES P4 to P13, P23), written into a lent slice.
 // What stands in them is in specs/Reply.antt, and a number's digits are in specs/Decimal.antt.
+#![tactic(auto)]
+
 ghost use Rattle.std.specs.Prelude.{◌≡◌, ◌+◌, ◌*◌, ◌≤◌, length};
 ghost use Rattle.number.specs.Put.{put, fitted};
 ghost use Rattle.number.specs.Answers.{writing};

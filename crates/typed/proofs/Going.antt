@@ -1,7 +1,7 @@
 -- The pipelines of a good line, made one after the other; and what the line comes to. Assumes nothing.
 use Rattle.std.proofs.Common.{◌≡◌, ℕ, ◌-◌, ◌*◌, ◌≤◌, Bool, true, false, cond, leb, List, [], ◌++◌, length, get_or, drop, sym, refl, ap, ◌∙◌, subst, true≢false, append_assoc, arith, leb-true}
 use mathlib.Core.Bool.{and-eq-true_iff}
-use mathlib.Core.Option.{Option, none, some, none_ne_some, some_injective}
+use mathlib.Core.Option.{Option, none, some, none-ne-some, some-injective}
 use Rattle.model.specs.Lists.{each}
 use Rattle.model.specs.Calls.{Raw}
 use Rattle.gatekeeper.specs.declared.Monitor.{Monitor}
@@ -54,11 +54,11 @@ module _ (line : List ℕ) (i : ℕ) (r : Pipeline) where
   pub first_of : (l : Reading) → Lined (drop i line) l → Counts line i r → First l
   first_of l (last {p = p} w) (wrong e h) = absurd (h p none w)
   first_of l (last {p = p} w) (closed q e v n) = only p refl w e (same_stages p q w v n)
-  first_of l (last {p = p} w) (parted q e v n) = absurd (none_ne_some _ (pipelined_one w v).1)
+  first_of l (last {p = p} w) (parted q e v n) = absurd (none-ne-some _ (pipelined_one w v).1)
   first_of l (then {rest = b} {p = p} w u) (wrong e h) = absurd (h p (some b) w)
-  first_of l (then {p = p} w u) (closed q e v n) = absurd (none_ne_some _ (pipelined_one v w).1)
+  first_of l (then {p = p} w u) (closed q e v n) = absurd (none-ne-some _ (pipelined_one v w).1)
   first_of l (then {rest = b} {p = p} {l = k} w u) (parted q e v n) =
-      let z = some_injective _ _ (pipelined_one w v).1 in
+      let z = some-injective _ _ (pipelined_one w v).1 in
       leads p k refl (subst (λ (bs : List ℕ). Pipelined (drop i line) p (some bs)) z w) (subst (λ (bs : List ℕ). Lined bs k) z u) e (same_stages p q w v n)
 
 -- ── the line ──

@@ -1,6 +1,6 @@
 -- The places that a child uses, the opens of a stage, and the stages of a pipeline that are left to be read. Assumes nothing.
-use Rattle.std.proofs.Common.{◌≡◌, ℕ, ◌+◌, ◌*◌, ◌<◌, Bool, true, false, cond, not, ◌||◌, eqb, ◌⊎◌, List, [], ◌∷◌, ◌++◌, length, get_or, drop, sym, refl, ap, ◌∙◌, subst, inl, inr, append_assoc, arith, length_append, eq-eqb, ne_eqb}
-use mathlib.Core.Option.{Option, none, some, none_ne_some, some_injective}
+use Rattle.std.proofs.Common.{◌≡◌, ℕ, ◌+◌, ◌*◌, ◌<◌, Bool, true, false, cond, not, ◌||◌, eqb, ◌⊎◌, List, [], ◌∷◌, ◌++◌, length, get_or, drop, sym, refl, ap, ◌∙◌, subst, inl, inr, append_assoc, arith, length-append, eq-eqb, ne_eqb}
+use mathlib.Core.Option.{Option, none, some, none-ne-some, some-injective}
 use Rattle.model.specs.Calls.{Answer}
 use Rattle.answers.specs.Telling.{refuses}
 use Rattle.gatekeeper.specs.View.{direct}
@@ -50,14 +50,14 @@ opens_as h k code c o place (inr e) w = subst (λ (n : ℕ). Works h (open_call 
 -- ── what is left of a pipeline ──
 -- a stage that was read, and what stands behind it
 staged_is : (s : Stage-read) (o : Option End) (x : Staged) → with_end s o ≡ some x → (s ≡ x.stage) × (o ≡ some x.end)
-staged_is s none x e = absurd (none_ne_some x e)
-staged_is s (some f) x e = let q = some_injective _ _ e in (ap (λ (y : Staged). y.stage) q, ap (λ (y : Staged). some y.end) q)
+staged_is s none x e = absurd (none-ne-some x e)
+staged_is s (some f) x e = let q = some-injective _ _ e in (ap (λ (y : Staged). y.stage) q, ap (λ (y : Staged). some y.end) q)
 
 bar_only : (a b c : Bool) (bs rest : List ℕ) → cond a (some (at_bar bs)) (cond b (some (at_semicolon bs)) (cond c (some at_end) none)) ≡ some (at_bar rest) → bs ≡ rest
-bar_only true b c bs rest e = ap behind (some_injective _ _ e)
-bar_only false true c bs rest e = absurd (let z : ◌≡◌ {A = ℕ} 2 1 = ap kind (some_injective _ _ e) in omega (arith, z))
-bar_only false false true bs rest e = absurd (let z : ◌≡◌ {A = ℕ} 3 1 = ap kind (some_injective _ _ e) in omega (arith, z))
-bar_only false false false bs rest e = absurd (none_ne_some _ e)
+bar_only true b c bs rest e = ap behind (some-injective _ _ e)
+bar_only false true c bs rest e = absurd (let z : ◌≡◌ {A = ℕ} 2 1 = ap kind (some-injective _ _ e) in omega (arith, z))
+bar_only false false true bs rest e = absurd (let z : ◌≡◌ {A = ℕ} 3 1 = ap kind (some-injective _ _ e) in omega (arith, z))
+bar_only false false false bs rest e = absurd (none-ne-some _ e)
 
 at_seam : (l k : List Stage-read) (s : Stage-read) → get_or (l ++ s ∷ k) (length l) no_stage ≡ s
 at_seam [] k s = refl
@@ -78,7 +78,7 @@ module _ (line : List ℕ) (p : Pipeline) (e : Option (List ℕ)) (i from : ℕ)
   told_is x v = staged_is (stage_of r) (end_by r.end (drop r.at line)) x (t ∙ v)
 
   last_next : (l : List Stage-read) (s : Stage-read) (f : End) → all p ≡ l ++ s ∷ [] → length l ≡ i → staged (drop from line) ≡ some (record { stage = s; end = f }) → Next
-  last_next l s f a n v = (is_next l [] s a n (told_is _ v).0, none_left (sym (ap length a ∙ length_append l (s ∷ []) ∙ ap (λ (m : ℕ). m + 1) n)))
+  last_next l s f a n v = (is_next l [] s a n (told_is _ v).0, none_left (sym (ap length a ∙ length-append l (s ∷ []) ∙ ap (λ (m : ℕ). m + 1) n)))
 
   pub left_next : Left p e i (drop from line) → i < length (all p) → Next
   left_next (none_left z) h = absurd (omega (arith, z, h))
@@ -90,7 +90,7 @@ module _ (line : List ℕ) (p : Pipeline) (e : Option (List ℕ)) (i from : ℕ)
       go q f z a (joined {rest = b} {s = s} {p = k} v u) =
           let x = told_is _ v in (
             is_next l (all k) s a n x.0,
-            some_left (l ++ s ∷ []) k (a ∙ sym (append_assoc l (s ∷ []) (all k))) (length_append l (s ∷ []) ∙ ap (λ (m : ℕ). m + 1) n)
+            some_left (l ++ s ∷ []) k (a ∙ sym (append_assoc l (s ∷ []) (all k))) (length-append l (s ∷ []) ∙ ap (λ (m : ℕ). m + 1) n)
                 (subst (λ (bs : List ℕ). Pipelined bs k e) (sym (bar_only (eqb r.end 1) (eqb r.end 2) (eqb r.end 3) (drop r.at line) b x.1))
                 (subst (λ (g : Option (List ℕ)). Pipelined b k g) (sym z) u)),
           )

@@ -1,5 +1,7 @@
 // A typed line: its calls, made and counted one after the other on a monitor whose tally is lent (RULES L7 to L14, R18, R19, R125). Of the monitor this crate sees
 // what a counted call promises, and nothing else. Which calls a line stands for is in specs/Calls.antt of crate `lines`.
+#![tactic(auto)]
+
 ghost use Rattle.std.specs.Prelude.{◌≡◌, ℕ, ◌-◌, ◌≤◌, ◌⊎◌, List, [], ◌∷◌, length, drop, slice_index_or};
 ghost use Rattle.std.proofs.Math.Option.{Option};
 ghost use Rattle.model.specs.Lists.{each};
@@ -20,7 +22,7 @@ use tally::Tally;
 
 // What a line comes to: how many of its calls were allowed, lowered and refused; or the number of its own refusal, 0 where it has none.
 #[repr(C)]
-#[derive(Drop)]
+#[derive(Clone, Copy)]
 pub struct Outcome {
     pub allowed: u64,
     pub lowered: u64,
@@ -29,14 +31,14 @@ pub struct Outcome {
 }
 
 // What a line hands back: the next monitor, and what it came to.
-#[derive(Drop)]
+#[derive(Clone, Copy)]
 pub struct Replied {
     pub monitor: Monitor,
     pub outcome: Outcome,
 }
 
 // A monitor with its tally, what the calls so far came to, and whether one of them was not refused.
-#[derive(Drop)]
+#[derive(Clone, Copy)]
 pub struct Hand {
     pub monitor: Monitor,
     pub tally: Tally,

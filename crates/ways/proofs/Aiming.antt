@@ -2,14 +2,14 @@
 use mathlib.Core.Path.{◌≡◌, refl, sym, ◌∙◌, ap, subst}
 use mathlib.Core.Bool.{Bool, true, false, not, cond}
 use mathlib.Core.Logic.{◌⊎◌, inl, inr}
-use mathlib.Core.Option.{none, some, none_ne_some, some_injective}
+use mathlib.Core.Option.{none, some, none-ne-some, some-injective}
 use mathlib.Core.List.{List}
 use Prim.Native.Nat.{ℕ, ◌+◌, ◌-◌, ◌<◌}
 use native.Mathlib.Omega.{arith}
 use native.Mathlib.Decide.{ℕ_discrete, dec_lt}
 use borrow.Author.Tests.{eqb-true, le-ltb}
 use lib.ListN.{length, get_or, set, replicate, length-set, get_or-replicate}
-use lib.Seq.{get_or_set_same, get_or-set_other}
+use lib.Seq.{get_or-set_same, get_or-set_other}
 use lib.Dec.{T, T_not, eqb, ltb}
 use Rattle.model.specs.Bools.{is_false}
 use Rattle.model.specs.Label.{Label, label, leq}
@@ -36,7 +36,7 @@ one_aimed os a r k v p l e = record {
 }
   where
     at : (i : ℕ) → i < k + 1 → Dec (i ≡ k) → figure (set r (32 + k) v) (32 + i) ≡ goal_by (get_or os i no_object) a
-    at i h (yes q) = rw (q, get_or_set_same r (32 + k) v 0 (omega (arith, p.long))) e
+    at i h (yes q) = rw (q, get_or-set_same r (32 + k) v 0 (omega (arith, p.long))) e
     at i h (no n) = get_or-set_other r (32 + k) (32 + i) v 0 (λ q. n (omega arith)) ∙ p.objects i (omega arith)
 
 -- ── a goal ──
@@ -51,9 +51,9 @@ goal_figure o a n e q f h = go (eqb o.kind 0) (eqb o.kind 1) q
     l = label o.level o.shops
 
     go : (z w : Bool) → cond z none (some (entry (cond w file pipe) l)) ≡ some e → ◌≡◌ {A = ℕ} (cond w (cond (leq l a) 255 0) 255) 0
-    go true w c = absurd (none_ne_some e c)
-    go false false c = absurd (subst (λ (d : Entry). T (is_file (object n) d.kind)) (sym (some_injective _ e c)) f)
-    go false true c = ap {B = ℕ} (λ (b : Bool). cond b 255 0) (is_false (leq l a) (subst (λ (d : Entry). T (not (leq d.label a))) (sym (some_injective _ e c)) h))
+    go true w c = absurd (none-ne-some e c)
+    go false false c = absurd (subst (λ (d : Entry). T (is_file (object n) d.kind)) (sym (some-injective _ e c)) f)
+    go false true c = ap {B = ℕ} (λ (b : Bool). cond b 255 0) (is_false (leq l a) (subst (λ (d : Entry). T (not (leq d.label a))) (sym (some-injective _ e c)) h))
 
 -- the figure of an object says which it is
 record Aim (o : Object) (a : Label) : Type 0 where
@@ -103,8 +103,8 @@ subject_no_goal os a s l q = omega (arith, q.is)
 -- ── what is live ──
 -- an entry by whether it is in use
 entry_of : (z : Bool) (e d : Entry) → cond z none (some e) ≡ some d → (not z ≡ true) × (e.label ≡ d.label)
-entry_of true e d q = absurd (none_ne_some d q)
-entry_of false e d q = (refl, ap (λ (c : Entry). c.label) (some_injective e d q))
+entry_of true e d q = absurd (none-ne-some d q)
+entry_of false e d q = (refl, ap (λ (c : Entry). c.label) (some-injective e d q))
 
 of_entry : (z : Bool) (e : Entry) → not z ≡ true → cond z none (some e) ≡ some e
 of_entry true e q = true_false (sym q)

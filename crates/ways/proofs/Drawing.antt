@@ -7,7 +7,7 @@ use native.Mathlib.Omega.{arith}
 use native.Mathlib.Decide.{ℕ_discrete}
 use borrow.Author.Tests.{eq-eqb, ne_eqb}
 use lib.ListN.{length, get_or, set, length-set}
-use lib.Seq.{get_or_set_same, get_or-set_other}
+use lib.Seq.{get_or-set_same, get_or-set_other}
 use lib.Dec.{eqb}
 use Rattle.tables.specs.declared.Handle.{Handle}
 use Rattle.tables.specs.Records.{reads_by, no_handle}
@@ -40,7 +40,7 @@ stored : (f : ℕ → ℕ) (l : List ℕ) (k v : ℕ) → length l ≡ 512 → k
 stored f l k v e h p q i b = go (ℕ_discrete i k)
   where
     go : Dec (i ≡ k) → figure (set l k v) i ≡ f i
-    go (yes z) = ap (figure (set l k v)) z ∙ get_or_set_same l k v 0 (omega (arith, e)) ∙ q ∙ ap f (sym z)
+    go (yes z) = ap (figure (set l k v)) z ∙ get_or-set_same l k v 0 (omega (arith, e)) ∙ q ∙ ap f (sym z)
     go (no n) = get_or-set_other l k i v 0 n ∙ p i (omega arith)
 
 pub one_drawn : (ld : List ℕ) (hs : List Handle) (from to : List ℕ) (k a b : ℕ) → Drawn ld hs from to k → k < 512 → a ≡ source ld hs k → b ≡ target ld hs k

@@ -7,7 +7,7 @@ use mathlib.Core.List.{List}
 use Prim.Native.Nat.{ℕ, suc, ◌+◌, ◌≤◌, ◌<◌}
 use native.Mathlib.Omega.{arith}
 use native.Mathlib.Decide.{ℕ_discrete}
-use borrow.Author.Tests.{eq-eqb, ne_eqb, ltb-true, ltb_false}
+use borrow.Author.Tests.{eq-eqb, ne_eqb, ltb-true, ltb-false}
 use lib.ListN.{length, get_or, take}
 use lib.Dec.{T, not_T, eqb, ltb, eqb→eq}
 use Rattle.model.specs.Label.{Label}
@@ -161,7 +161,7 @@ shorter_no n m q = go (ℕ_discrete n 0) (ℕ_discrete m 0)
       where
         at_first : shorter_by n m ≡ true
         at_first = rw (ne_eqb n 0 e, eq-eqb m 0 z) refl
-    go (no e) (no z) = inr (omega arith, ltb_false n m (sym at_both ∙ q))
+    go (no e) (no z) = inr (omega arith, ltb-false n m (sym at_both ∙ q))
       where
         at_both : shorter_by n m ≡ ltb n m
         at_both = rw (ne_eqb n 0 e, ne_eqb m 0 z) refl

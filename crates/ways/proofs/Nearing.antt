@@ -8,9 +8,9 @@ use Prim.Native.Nat.{ℕ, zero, suc, ◌+◌, ◌-◌, ◌≤◌, ◌<◌}
 use native.Mathlib.Omega.{arith}
 use native.Mathlib.Decide.{ℕ_discrete, dec_lt}
 use native.Mathlib.Nat.{le_refl, le_trans}
-use borrow.Author.Tests.{lt-ltb, le-ltb, ltb-true, ltb_false}
+use borrow.Author.Tests.{lt-ltb, le-ltb, ltb-true, ltb-false}
 use lib.ListN.{length, get_or, set, length-set}
-use lib.Seq.{get_or_set_same, get_or-set_other}
+use lib.Seq.{get_or-set_same, get_or-set_other}
 use lib.Dec.{ltb}
 use Rattle.ways.specs.Near.{figure, Step, Falls, sum, Neared}
 
@@ -27,7 +27,7 @@ set_cases : (P : ℕ → ℕ → Type 0) (l : List ℕ) (i v x : ℕ) → i < le
 set_cases P l i v x h p q = go (ℕ_discrete x i)
   where
     go : Dec (x ≡ i) → P x (get_or (set l i v) x 0)
-    go (yes e) = subst (λ (y : ℕ). P y (get_or (set l i v) y 0)) (sym e) (subst (λ (w : ℕ). P i w) (sym (get_or_set_same l i v 0 h)) p)
+    go (yes e) = subst (λ (y : ℕ). P y (get_or (set l i v) y 0)) (sym e) (subst (λ (w : ℕ). P i w) (sym (get_or-set_same l i v 0 h)) p)
     go (no ne) = subst (λ (w : ℕ). P x w) (sym (get_or-set_other l i x v 0 ne)) q
 
 -- ── the test ──
@@ -39,7 +39,7 @@ nearer_test n f h = go (dec_lt (n + 1) f)
     go (no l) = rw (le-ltb n (f - 1) (omega (arith, l, h)), le-ltb (n + 1) f (omega (arith, l))) refl
 
 pub no_nearer : {b : Bool} (n f : ℕ) → b ≡ false → b ≡ ltb (n + 1) f → f ≤ n + 1
-no_nearer n f e q = ltb_false (n + 1) f (sym q ∙ e)
+no_nearer n f e q = ltb-false (n + 1) f (sym q ∙ e)
 
 pub yes_nearer : {b : Bool} (n f : ℕ) → b ≡ true → b ≡ ltb (n + 1) f → n + 1 < f
 yes_nearer n f e q = ltb-true (n + 1) f (sym q ∙ e)
@@ -87,7 +87,7 @@ module _ (from to : ℕ → ℕ) (v m : List ℕ) (k : ℕ) (b : Bool) (p : Near
       steps x = go (ℕ_discrete x (from k))
         where
           here : figure (set m (from k) w) (from k) ≡ w
-          here = get_or_set_same m (from k) w 0 ha
+          here = get_or-set_same m (from k) w 0 ha
 
           other : (x ≡ from k → ⊥) → figure (set m (from k) w) x ≡ figure m x
           other ne = get_or-set_other m (from k) x w 0 ne

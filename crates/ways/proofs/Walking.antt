@@ -7,9 +7,9 @@ use native.Mathlib.Omega.{arith}
 use native.Mathlib.Numerals.{add-one}
 use native.Mathlib.Decide.{ℕ_discrete}
 use native.Mathlib.Nat.{le_refl}
-use borrow.Author.Tests.{eq-eqb, ne_eqb, ltb-true, ltb_false}
+use borrow.Author.Tests.{eq-eqb, ne_eqb, ltb-true, ltb-false}
 use lib.ListN.{length, set, take, length-set}
-use lib.Seq.{get_or_set_same, take-suc, take-set-le}
+use lib.Seq.{get_or-set_same, take-suc, take-set-le}
 use lib.Dec.{ltb, eqb}
 use Rattle.ways.specs.Near.{Step, First, Walk, there, along}
 use Rattle.ways.proofs.Nearing.{true_false}
@@ -27,7 +27,7 @@ is_one from a near far e q = go (ℕ_discrete from a)
     go (no z) = true_false (sym e ∙ q ∙ ap (λ (x : Bool). x && ltb near far) (ne_eqb from a z))
 
 pub is_none : {b : Bool} (from a near far : ℕ) → b ≡ false → b ≡ (eqb from a && ltb near far) → from ≡ a → far ≤ near
-is_none from a near far e q z = ltb_false near far (sym (ap (λ (x : Bool). x && ltb near far) (eq-eqb from a z)) ∙ sym q ∙ e)
+is_none from a near far e q z = ltb-false near far (sym (ap (λ (x : Bool). x && ltb near far) (eq-eqb from a z)) ∙ sym q ∙ e)
 
 pub scan_more : (from to d : ℕ → ℕ) (a i : ℕ) → NoneBelow from to d a i → (from i ≡ a → d a ≤ d (to i)) → NoneBelow from to d a (i + 1)
 scan_more from to d a i f h j l = go (ℕ_discrete j i)
@@ -47,7 +47,7 @@ walk_on from to d i (along j g w) f = along j g (walk_on from to d i w f)
 
 take_put : (l : List ℕ) (k i : ℕ) → k < length l → take (k + 1) (set l k i) ≡ take k l ++ (i ∷ [])
 take_put l k i h = ap (λ (n : ℕ). take n (set l k i)) (add-one k) ∙ take-suc (set l k i) k 0 (simp length-set h)
-    ∙ ap (λ (v : ℕ). take k (set l k i) ++ (v ∷ [])) (get_or_set_same l k i 0 h) ∙ ap (λ (m : List ℕ). m ++ (i ∷ [])) (take-set-le k l k i (le_refl k))
+    ∙ ap (λ (v : ℕ). take k (set l k i) ++ (v ∷ [])) (get_or-set_same l k i 0 h) ∙ ap (λ (m : List ℕ). m ++ (i ∷ [])) (take-set-le k l k i (le_refl k))
 
 pub walk_more : (from to d : ℕ → ℕ) (l : List ℕ) (x y k i : ℕ) → Walk from to d x (take k l) y → k < length l → First from to d y i
     → Walk from to d x (take (k + 1) (set l k i)) (to i)

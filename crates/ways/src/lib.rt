@@ -1,6 +1,8 @@
 // A shortest chain of handles by which something live reaches a file that it must not reach: what is behind a refusal for it. Things are numbers below THINGS,
 // a group being its lead, and the arc of a handle leads from where its flow starts to where it ends. Each thing gets its distance to such a file, and a walk
 // down the distances is the chain.
+#![tactic(auto)]
+
 ghost use Rattle.std.specs.Prelude.{◌≡◌, true, false, ◌&&◌, cond, ◌+◌, ◌%◌, ◌≤◌, ◌<◌, eqb, ltb};
 ghost use Rattle.labels.specs.Codes.{coded};
 ghost use Rattle.passes.specs.Working.{alike, end_by};
@@ -19,7 +21,7 @@ pub const STEPS: usize = THINGS - 1;
 const FAR: u8 = 255;
 
 // The first `count` of the steps are the slots of the handles of a chain, which leads from thing `start` to thing `end`. A count of 0 says that there is none.
-#[derive(Drop)]
+#[derive(Clone, Copy)]
 pub struct Way {
     pub start: usize,
     pub end: usize,
@@ -28,14 +30,14 @@ pub struct Way {
 }
 
 // Where the arc of each handle starts, and where it ends.
-#[derive(Drop)]
+#[derive(Clone, Copy)]
 struct Arcs {
     pub from: [u8; HANDLES],
     pub to: [u8; HANDLES],
 }
 
 // Distances after a pass, and whether one of them fell.
-#[derive(Drop)]
+#[derive(Clone, Copy)]
 struct Round {
     pub dist: [u8; THINGS],
     pub fell: bool,

@@ -2,7 +2,7 @@
 use mathlib.Core.Path.{◌≡◌, refl, sym, ◌∙◌, ap, subst}
 use mathlib.Core.Bool.{Bool, true, false, not, cond}
 use mathlib.Core.Logic.{inl, inr}
-use mathlib.Core.Option.{Option, none, some, none_ne_some, some_injective}
+use mathlib.Core.Option.{Option, none, some, none-ne-some, some-injective}
 use mathlib.Core.List.{List, ◌∷◌}
 use Prim.Native.Nat.{ℕ, ◌+◌, ◌*◌, ◌-◌, ◌/◌, ◌%◌, ◌<◌}
 use native.Mathlib.Omega.{arith}
@@ -29,7 +29,7 @@ some_way : (h : Handle) (k : Held) → held h ≡ some k → T (not (eqb h.way 0
 some_way h k q = go (eqb h.way 0) q
   where
     go : (b : Bool) → cond b none (some (joins h)) ≡ some k → T (not b)
-    go true q = absurd (none_ne_some k q)
+    go true q = absurd (none-ne-some k q)
     go false q = tt
 
 -- the start of a flow, or its end
@@ -101,8 +101,8 @@ module _ {u : Tables} (w : Wf u) (hs : List Handle) (ld : List ℕ) (at : u.hand
       ends false false lo = omega arith
 
       go : (b r : Bool) → cond b none (some (of r)) ≡ some k → cond b 0 (cond (alike r start) (32 + h.object % 64) (lead_of ld s)) ≡ number (tip start (flow (subject s) k))
-      go true r q = absurd (none_ne_some k q)
-      go false r q = let e = some_injective _ k q in let m : h.object < 64 = subst (λ (z : Held). z.to < 64) (sym e) l in
+      go true r q = absurd (none-ne-some k q)
+      go false r q = let e = some-injective _ k q in let m : h.object < 64 = subst (λ (z : Held). z.to < 64) (sym e) l in
           ends r start m ∙ ap (λ (z : Held). number (tip start (flow (subject s) z))) e
 
   tip_in_range : (start : Bool) (s : ℕ) (k : Held) → s < 32 → T (in_range (tip start (flow (subject s) k)))

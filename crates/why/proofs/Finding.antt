@@ -3,7 +3,7 @@
 use mathlib.Core.Path.{◌≡◌, refl, sym, ◌∙◌, ap, subst}
 use mathlib.Core.Bool.{not, cond}
 use mathlib.Core.Logic.{inl, inr}
-use mathlib.Core.Option.{none, some, some_injective}
+use mathlib.Core.Option.{none, some, some-injective}
 use mathlib.Core.List.{List, [], ◌∷◌}
 use Prim.Native.Nat.{ℕ, zero, suc, ◌+◌, ◌-◌, ◌/◌, ◌≤◌, ◌<◌}
 use native.Mathlib.Omega.{arith}
@@ -68,7 +68,7 @@ module _ (t : Tables) (w : Wf t) (ev : Even t) where
 module _ (os : List Object) (y : ℕ) (a : Label) (g : Goal os a y) where
   not_own : (e : Entry) → object_entry (get_or os g.slot no_object) ≡ some e → e.label ≡ a → ⊥
   not_own e q z = T_not (leq g.entry.label a) g.higher
-      (subst (λ (b : Label). T (leq g.entry.label b)) (ap (λ (d : Entry). d.label) (some_injective g.entry e (sym g.there ∙ q)) ∙ z) ⊑_refl.tested)
+      (subst (λ (b : Label). T (leq g.entry.label b)) (ap (λ (d : Entry). d.label) (some-injective g.entry e (sym g.there ∙ q)) ∙ z) ⊑_refl.tested)
 
 path_empty : (ld : List ℕ) (hs : List Handle) {x y : ℕ} {l : List ℕ} → Path ld hs x l y → length l ≡ 0 → x ≡ y
 path_empty ld hs (end q) e = q
@@ -235,7 +235,7 @@ module _ (t : Tables) (c : Call) (wt : Wf t) (ss : List Subject) (os : List Obje
         h = aim a high k.barred
 
         same : k.barred.low_entry ≡ e
-        same = some_injective k.barred.low_entry e (sym k.barred.low_live ∙ ap t.at (started a k.start k.begins).0 ∙ there)
+        same = some-injective k.barred.low_entry e (sym k.barred.low_live ∙ ap t.at (started a k.start k.begins).0 ∙ there)
 
     -- w starts at the program instead
     pub run_tells : (w : Way) (a : ℕ) → Found (Is s e.label) os ld hs a w.steps w.count w.end → w.start ≡ 32 + o → Tells t c w

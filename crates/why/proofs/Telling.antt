@@ -1,7 +1,7 @@
 -- A chain by slot, told by number: it is one behind the call on the monitor's tables, with the fewest handles, and its reads and writes are an attack. Assumes nothing.
 use mathlib.Core.Path.{◌≡◌, refl, sym, ◌∙◌, ap, subst, subst₂}
 use mathlib.Core.Bool.{Bool, true, false, cond}
-use mathlib.Core.Option.{Option, none, some, none_ne_some, some_injective}
+use mathlib.Core.Option.{Option, none, some, none-ne-some, some-injective}
 use mathlib.Core.List.{List}
 use Prim.Native.Nat.{ℕ, ◌+◌, ◌-◌, ◌/◌, ◌%◌, ◌≤◌, ◌<◌}
 use native.Mathlib.Omega.{arith}
@@ -50,8 +50,8 @@ module _ (ρ σ : ℕ → ℕ) (v : Renumbers ρ σ) (l : List ℕ) (t : Tables)
   }
     where
       was_held : (o : Option Handle) (k : Handle) → held ρ σ v l o ≡ some k → (j : Handle) × (o ≡ some j) × (joined ρ σ v l j ≡ k)
-      was_held none k q = absurd (none_ne_some k q)
-      was_held (some j) k q = (j, refl, some_injective (joined ρ σ v l j) k q)
+      was_held none k q = absurd (none-ne-some k q)
+      was_held (some j) k q = (j, refl, some-injective (joined ρ σ v l j) k q)
 
       ranged : (x : Thing) (e : Entry) → now.at x ≡ some e → T (in_range x)
       ranged (subject n) e q = w.ranged (subject n) e q

@@ -1,5 +1,7 @@
 // The chain behind a refusal 9: how what a thing of an insufficient label holds could get into a file that it must not reach, had the call been let through. The search
 // itself is crate `ways`'s, on arrays by slot as the call would leave them; `why` finds the slots of what a call names, and tells objects by their numbers.
+#![tactic(auto)]
+
 ghost use Rattle.std.specs.Prelude.{◌≡◌, ◌≤◌};
 ghost use Rattle.model.specs.Tables.{clean};
 ghost use Rattle.model.specs.Calls.{connect, exec, decode};
@@ -23,7 +25,7 @@ pub const AN_OBJECT: u8 = 2;
 
 // The thing at the front and its kind, the number of the file at the end, and the places of the first `count` handles: place p of subject s is 16 s + p.
 #[repr(C)]
-#[derive(Drop)]
+#[derive(Clone, Copy)]
 pub struct Chain {
     pub low: u64,
     pub high: u64,

@@ -2,7 +2,7 @@
 -- tables whose objects are named by number. Assumes nothing.
 use Rattle.std.specs.Prelude.{◌≡◌, refl, List, ◌∷◌, ℕ, ◌/◌, ◌%◌, T}
 use Rattle.std.proofs.Common.{sym, ◌∙◌, ap, subst}
-use Rattle.std.proofs.Math.Option.{Option, none, some, none_ne_some, some_injective}
+use Rattle.std.proofs.Math.Option.{Option, none, some, none-ne-some, some-injective}
 use Rattle.model.specs.Flow.{Thing, subject, object, Edge}
 use Rattle.model.specs.Tables.{Dir, reading, writing, Handle, Tables, with_numbers, is_file, whole, arc, flow}
 use Rattle.model.specs.Tables.Laws.{whole_by}
@@ -113,8 +113,8 @@ module _ (ρ σ : ℕ → ℕ) (v : Renumbers ρ σ) (l : List ℕ) where
 
   -- which handle stood there
   held_back : (o : Option Handle) (k : Handle) → held ρ σ v l o ≡ some k → (j : Handle) × (o ≡ some j) × (joined ρ σ v l j ≡ k)
-  held_back none k q = absurd (none_ne_some k q)
-  held_back (some j) k q = (j, refl, some_injective (joined ρ σ v l j) k q)
+  held_back none k q = absurd (none-ne-some k q)
+  held_back (some j) k q = (j, refl, some-injective (joined ρ σ v l j) k q)
 
   way_back : (u : Tables) (n : List ℕ) {x y : Thing} {m : List ℕ} → Way (with_numbers (as_now u) n) x m y → Way u (was x) m (was y)
   way_back u n (end q) = end (ap was q)

@@ -3,7 +3,7 @@ use Rattle.std.specs.Prelude.{◌≡◌, not, ◌⊎◌, ℕ, ◌≤◌, length,
 use Rattle.std.proofs.Math.Path.{refl, ap}
 use Rattle.std.proofs.Common.{sym, ◌∙◌, subst, subst₂, le_refl, arith, T_not, eqb→eq}
 use Rattle.std.proofs.Math.Logic.{inl, inr}
-use Rattle.std.proofs.Math.Option.{Option, some, some_injective}
+use Rattle.std.proofs.Math.Option.{Option, some, some-injective}
 use mathlib.Core.List.{List}
 use Rattle.model.specs.Bools.{test, both}
 use Rattle.model.specs.Lists.{In}
@@ -168,8 +168,8 @@ module _ (t : Tables) (w : Wf t) (v : Even t) (listed : Listed t) (h : length t.
       -- an entry of these tables is that of pipe b, of pipe a, or one that was
       was : (x : Thing) (e : Entry) → u.at x ≡ some e → ((object b ≡ x) × (eb ≡ e)) ⊎ (((object a ≡ x) × (ea ≡ e)) ⊎ (t.at x ≡ some e))
       was x e g = elim (put_cases (put t.at (object a) (some ea)) (object b) (some eb) x (some e) g) [
-        | inl c ↦ inl (c.0, some_injective eb e c.1)
-        | inr c ↦ elim (put_cases t.at (object a) (some ea) x (some e) c.1) [ inl d ↦ inr (inl (d.0, some_injective ea e d.1)) | inr d ↦ inr (inr d.1) ]
+        | inl c ↦ inl (c.0, some-injective eb e c.1)
+        | inr c ↦ elim (put_cases t.at (object a) (some ea) x (some e) c.1) [ inl d ↦ inr (inl (d.0, some-injective ea e d.1)) | inr d ↦ inr (inr d.1) ]
       ]
 
       high_was : t.at l.high ≡ some l.high_entry

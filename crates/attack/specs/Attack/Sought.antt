@@ -2,7 +2,7 @@
 -- ask of them. Assumes nothing.
 use Rattle.std.specs.Prelude.{◌≡◌, refl, Bool, not, cond, ◌⊎◌, List, ℕ, T, eqb}
 use Rattle.std.proofs.Common.{sym, ◌∙◌, ap, subst, inl, inr, T_not, ltb→lt}
-use Rattle.std.proofs.Math.Option.{Option, none, some, none_ne_some}
+use Rattle.std.proofs.Math.Option.{Option, none, some, none-ne-some}
 use Rattle.std.proofs.Math.Dec.{not_T, eqb_refl}
 use Rattle.model.specs.Bools.{cond_no}
 use Rattle.model.specs.Lists.{In, any}
@@ -91,7 +91,7 @@ exec_edges t s o = effect_edges t (exec s o) ∙ edges_at (applies (sheds t s) t
 -- ── files stand ──
 -- what had no entry is not what has one
 pub apart : (t : Tables) (x y : Thing) (e : Entry) → t.at x ≡ none → t.at y ≡ some e → T (not (same x y))
-apart t x y e n q = not_T (same x y) (λ z. none_ne_some e (sym n ∙ ap t.at (same→eq x y z) ∙ q))
+apart t x y e n q = not_T (same x y) (λ z. none-ne-some e (sym n ∙ ap t.at (same→eq x y z) ∙ q))
 
 -- a file that stands stands after the call
 kept_file : (t : Tables) (c : Call) (o : ℕ) (e : Entry) → (applies (steps t c) t).at (object o) ≡ some e → T (is_file (object o) e.kind) → T (live (effect t c) (object o))

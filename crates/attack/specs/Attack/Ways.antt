@@ -117,15 +117,15 @@ in_map [] n i = absurd i
 in_map (m ∷ l) n (inl q) = inl (ap object q)
 in_map (m ∷ l) n (inr i) = inr (in_map l n i)
 
-length_map : (l : List ℕ) → length (map object l) ≡ length l
-length_map [] = refl
-length_map (n ∷ l) = ap suc (length_map l)
+length-map : (l : List ℕ) → length (map object l) ≡ length l
+length-map [] = refl
+length-map (n ∷ l) = ap suc (length-map l)
 
 subject_in : (t : Tables) (n : ℕ) → n < subjects → In (subject n) (everything t)
 subject_in t n h = in_left (subject n) (each subjects (λ n. subject n ∷ [])) (map object t.numbers) (in_each subjects (λ n. subject n ∷ []) (subject n) n h (inl refl))
 
 most : (t : Tables) → length t.numbers ≤ 64 → length (everything t) ≤ 96
-most t h = let e = length_map t.numbers in omega (arith, e, h)
+most t h = let e = length-map t.numbers in omega (arith, e, h)
 
 object_in : {t : Tables} → Listed t → (n : ℕ) → T (live t (object n)) → In (object n) (everything t)
 object_in {t} k n h = in_right (object n) (each subjects (λ n. subject n ∷ [])) (map object t.numbers)

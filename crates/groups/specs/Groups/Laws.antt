@@ -1,6 +1,6 @@
 -- The laws of groups as bytes: whatever the bytes are, each live subject is in one group; its members have one lead; and a byte that no live subject has. Assumes nothing.
 use Rattle.std.specs.Prelude.{◌≡◌, refl, Bool, true, false, not, ◌||◌, ◌&&◌, cond, ◌⊎◌, List, [], ◌∷◌, ℕ, zero, suc, ◌<◌, ◌≤◌, length, get_or, set, eqb}
-use Rattle.std.proofs.Common.{sym, ◌∙◌, ap, ap₂, subst, subst₂, arith, eq-eqb, ne_eqb, get_or_set_same, get_or-set_other, T_not, eqb→eq}
+use Rattle.std.proofs.Common.{sym, ◌∙◌, ap, ap₂, subst, subst₂, arith, eq-eqb, ne_eqb, get_or-set_same, get_or-set_other, T_not, eqb→eq}
 use Rattle.std.proofs.Math.Path.{fun_ext}
 use Rattle.std.proofs.Math.Option.{Option, none, some}
 use Rattle.std.proofs.Math.Logic.{inl, inr}
@@ -155,13 +155,13 @@ kin_live ss ss' gs f = fun_ext (λ a. fun_ext (λ b. ap₂ (λ (p q : Bool). eqb
 -- a record stored at c, and a byte
 module _ (ss : List Subject) (gs : List ℕ) (c : ℕ) (x : Subject) (ls : length ss ≡ 32) (lg : length gs ≡ 32) (low : c < 32) where
   stands_here : stands (set ss c x) c ≡ not (eqb x.live 0)
-  stands_here = ap (λ (y : Subject). not (eqb y.live 0)) (get_or_set_same ss c x no_subject (omega arith))
+  stands_here = ap (λ (y : Subject). not (eqb y.live 0)) (get_or-set_same ss c x no_subject (omega arith))
 
   stands_there : (a : ℕ) → (a ≡ c → ⊥) → stands (set ss c x) a ≡ stands ss a
   stands_there a n = ap (λ (y : Subject). not (eqb y.live 0)) (get_or-set_other ss c a x no_subject n)
 
   byte_here : (v : ℕ) → get_or (set gs c v) c 0 ≡ v
-  byte_here v = get_or_set_same gs c v 0 (omega arith)
+  byte_here v = get_or-set_same gs c v 0 (omega arith)
 
   byte_there : (v a : ℕ) → (a ≡ c → ⊥) → get_or (set gs c v) a 0 ≡ get_or gs a 0
   byte_there v a n = get_or-set_other gs c a v 0 n

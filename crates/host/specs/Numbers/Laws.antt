@@ -1,6 +1,6 @@
 -- Laws of answers as numbers: what a host reads off each, and that 0 is no answer's. Assumes nothing.
 use Rattle.std.specs.Prelude.{◌≡◌, refl, Bool, true, false, cond, List, [], ◌∷◌, ◌++◌, ℕ, ◌+◌, ◌*◌, ◌<◌, ltb, length}
-use Rattle.std.proofs.Common.{sym, ◌∙◌, subst, arith, length_append}
+use Rattle.std.proofs.Common.{sym, ◌∙◌, subst, arith, length-append}
 use Rattle.model.specs.Tables.{empty}
 use Rattle.model.specs.Calls.{Answer, allowed, lowered, refused}
 use Rattle.model.specs.Tally.{Tally, zeroed, tally, difference}
@@ -57,10 +57,10 @@ text_some l y =
     let gone = field y.gone space in
     omega (
       arith,
-      length_append (lines 1 l) (last_line y),
-      length_append (end_word ++ made ++ gone) (field (difference y) newline),
-      length_append (end_word ++ made) gone,
-      length_append end_word made,
+      length-append (lines 1 l) (last_line y),
+      length-append (end_word ++ made ++ gone) (field (difference y) newline),
+      length-append (end_word ++ made) gone,
+      length-append end_word made,
     )
 
 pub reply_some : (journal : List ℕ) → 0 < length (reply journal)

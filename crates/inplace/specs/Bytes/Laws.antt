@@ -1,7 +1,7 @@
 -- What stands at an index of a part, and what a store of one handle's bytes makes of them. Assumes nothing.
 use Rattle.std.specs.Prelude.{◌≡◌, ℕ, zero, suc, ◌+◌, ◌*◌, ◌<◌, List, length, get_or, ◌≢◌, slice_index, slice_index_or, slice_set}
 use Rattle.std.proofs.Math.Path.{refl, ap}
-use Rattle.std.proofs.Common.{sym, ◌∙◌, length-set, get_or_set_same, get_or-set_other, ext_get_or}
+use Rattle.std.proofs.Common.{sym, ◌∙◌, length-set, get_or-set_same, get_or-set_other, ext_get_or}
 use native.Mathlib.Omega.{arith}
 use Rattle.std.proofs.Math.Decide.{ℕ_discrete}
 use Rattle.tables.specs.declared.Handle.{Handle}
@@ -68,13 +68,13 @@ module _ (b : List ℕ) (i : ℕ) (h : Handle) (long : length b ≡ 1536) (low :
 
   same_way : get_or (slice_set b₂ (3 * i + 1 + 1) h.mark) (3 * i) 0 ≡ h.way
   same_way = get_or-set_other b₂ (3 * i + 1 + 1) (3 * i) h.mark 0 (λ e. omega arith) ∙ get_or-set_other b₁ (3 * i + 1) (3 * i) h.object 0 (λ e. omega arith)
-      ∙ get_or_set_same b (3 * i) h.way 0 (omega (arith, long))
+      ∙ get_or-set_same b (3 * i) h.way 0 (omega (arith, long))
 
   same_object : get_or (slice_set b₂ (3 * i + 1 + 1) h.mark) (3 * i + 1) 0 ≡ h.object
-  same_object = get_or-set_other b₂ (3 * i + 1 + 1) (3 * i + 1) h.mark 0 (λ e. omega arith) ∙ get_or_set_same b₁ (3 * i + 1) h.object 0 (omega (arith, long₁))
+  same_object = get_or-set_other b₂ (3 * i + 1 + 1) (3 * i + 1) h.mark 0 (λ e. omega arith) ∙ get_or-set_same b₁ (3 * i + 1) h.object 0 (omega (arith, long₁))
 
   same_mark : get_or (slice_set b₂ (3 * i + 1 + 1) h.mark) (3 * i + 1 + 1) 0 ≡ h.mark
-  same_mark = get_or_set_same b₂ (3 * i + 1 + 1) h.mark 0 (omega (arith, long₂))
+  same_mark = get_or-set_same b₂ (3 * i + 1 + 1) h.mark 0 (omega (arith, long₂))
 
   pub handles_stored : handles_in (slice_set b₂ (3 * i + 1 + 1) h.mark) ≡ slice_set (handles_in b) i h
   handles_stored = ext_get_or no_handle _ _ (length_handles _ ∙ sym (length-set (handles_in b) i h ∙ length_handles b)) (λ j l. at j (omega (arith, length_handles (slice_set b₂ (3 * i + 1 + 1) h.mark))))
@@ -84,7 +84,7 @@ module _ (b : List ℕ) (i : ℕ) (h : Handle) (long : length b ≡ 1536) (low :
         where
           go : Dec (j ≡ i) → handle_of (slice_set b₂ (3 * i + 1 + 1) h.mark) j ≡ slice_index_or (slice_set (handles_in b) i h) j no_handle
           go (yes e) = rw e (λ k. record { way = same_way k; object = same_object k; mark = same_mark k })
-              ∙ sym (ap (λ (k : ℕ). get_or (slice_set (handles_in b) i h) k no_handle) e ∙ get_or_set_same (handles_in b) i h no_handle (omega (arith, length_handles b)))
+              ∙ sym (ap (λ (k : ℕ). get_or (slice_set (handles_in b) i h) k no_handle) e ∙ get_or-set_same (handles_in b) i h no_handle (omega (arith, length_handles b)))
           go (no n) = (λ k. record {
             way = else (3 * j) (λ e. n (omega arith)) (λ e. omega arith) (λ e. omega arith) k;
             object = else (3 * j + 1) (λ e. omega arith) (λ e. n (omega arith)) (λ e. omega arith) k;

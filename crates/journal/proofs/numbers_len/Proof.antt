@@ -4,7 +4,7 @@ use mathlib.Core.Path.{◌≡◌, refl, ap, ◌∙◌}
 use Prim.Native.Nat.{ℕ, ◌-◌, ◌*◌, ◌≤◌}
 use native.Mathlib.Omega.{arith}
 use mathlib.Core.List.{List}
-use lib.ListN.{length, take, get_or, length_append}
+use lib.ListN.{length, take, get_or, length-append}
 use lib.Seq.{take_all}
 use borrow.Author.Rules.{rules}
 use Rattle.number.specs.Leb.{longest, encode}
@@ -64,7 +64,7 @@ loop-again c =
     let a = c5.args.numbers.now in
     let i = c3.loop.i in
     let more = encodes_suc a i c2.loop-test.true in
-    let next = ap length more ∙ length_append (encodes (take i a)) (encode (get_or a i 0)) in
+    let next = ap length more ∙ length-append (encodes (take i a)) (encode (get_or a i 0)) in
     (omega arith, omega (arith, next, c.number-len.ensures), omega (arith, bytes c, c.number-len.ensures))
 
 returns : tie.Need-returns invariant-loop decreases-loop

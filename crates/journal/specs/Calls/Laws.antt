@@ -3,7 +3,7 @@
 use Rattle.std.specs.Prelude.{◌≡◌, refl, ℕ, zero, suc, ◌≤◌, ◌<◌, Bool, true, false, ◌&&◌, List, [], ◌∷◌, leb, length, take, get_or}
 use Rattle.std.proofs.Common.{sym, ap, ⊎_elim, arith, ltb-true, leb-true, lt-ltb, le-ltb}
 use Rattle.std.proofs.Math.Bool.{and-eq-true_iff}
-use Rattle.std.proofs.Math.ListN.{get_or_eq_default}
+use Rattle.std.proofs.Math.ListN.{get_or-eq_default}
 use Rattle.number.specs.Leb.Laws.{split}
 use Rattle.journal.specs.Calls.{arities, most_numbers, arity_of, known, filled}
 
@@ -20,11 +20,11 @@ every_at f (x ∷ xs) e (suc i) h = every_at f xs ((and-eq-true_iff (f x) (every
 
 pub arity_over : (code : ℕ) → length arities < code → arity_of code ≡ 0
 unfolding arity_of
-arity_over code h = get_or_eq_default (0 ∷ arities) 0 h
+arity_over code h = get_or-eq_default (0 ∷ arities) 0 h
 
 pub arity_most : (code : ℕ) → arity_of code ≤ most_numbers
 unfolding arity_of
-arity_most code = ⊎_elim inside (λ h. omega (arith, get_or_eq_default (0 ∷ arities) 0 {n = code} h)) (split code (length (0 ∷ arities)))
+arity_most code = ⊎_elim inside (λ h. omega (arith, get_or-eq_default (0 ∷ arities) 0 {n = code} h)) (split code (length (0 ∷ arities)))
   where
     inside : code < length (0 ∷ arities) → get_or (0 ∷ arities) code 0 ≤ most_numbers
     inside h = leb-true (get_or (0 ∷ arities) code 0) most_numbers (every_at (λ n. leb n most_numbers) (0 ∷ arities) refl code h)

@@ -2,10 +2,10 @@
 -- and nothing else reads as they do; then the two laws to quote, that a record written is read as its call, at any offset
 -- and with anything after it, and that only one record stands for a call. Assumes nothing.
 use Rattle.std.specs.Prelude.{◌≡◌, refl, ℕ, zero, suc, ◌+◌, ◌-◌, ◌≤◌, ◌<◌, Bool, true, false, cond, ltb, take, drop}
-use Rattle.std.proofs.Common.{sym, ap, ◌∙◌, subst, arith, length-drop, take-append-drop, take-add, drop-drop, length-take-le, ltb_false, lt-ltb, le-ltb}
+use Rattle.std.proofs.Common.{sym, ap, ◌∙◌, subst, arith, length-drop, take-append-drop, take-add, drop-drop, length-take-le, ltb-false, lt-ltb, le-ltb}
 use mathlib.Core.List.{List, [], ◌∷◌, ◌++◌, append_assoc}
 use Rattle.std.proofs.Math.Option.{Option, none, some, map}
-use Rattle.std.proofs.Math.ListN.{length, length_append}
+use Rattle.std.proofs.Math.ListN.{length, length-append}
 use Rattle.std.proofs.Math.Seq.{take-append_seam, drop-append_seam}
 use Rattle.number.specs.Leb.{AtMost, AreBytes, largest, encode, Reading, good, malformed, number}
 use Rattle.number.specs.Leb.Laws.{clash, at_most_take, at_most_drop, encode_some, number_encode, number_only, number_within}
@@ -45,7 +45,7 @@ entry_stands journal at start len next = by_end (ltb at (length journal))
             length_read = g ∙ ap (λ (x : ℕ). good x k) m;
             starts = s;
             ends = omega arith;
-            within = omega (arith, ltb_false (length journal) (at + k + l) q);
+            within = omega (arith, ltb-false (length journal) (at + k + l) q);
           },
         )
 
@@ -162,7 +162,7 @@ module _ (before bs after : List ℕ) (fits : length bs ≤ largest) where
 
   measured : length whole ≡ length before + length (encode (length bs)) + length bs + length after
   unfolding whole
-  measured = simp length_append (omega arith)
+  measured = simp length-append (omega arith)
 
   entry_back : entry_at whole (length before)
       ≡ answers (body (length before + length (encode (length bs))) (length bs) (length before + length (encode (length bs)) + length bs))
@@ -190,7 +190,7 @@ record_back before after code ns k enough are =
       len = length bs;
       entry =
           entry_back before bs after small
-          ∙ ap (λ (n : ℕ). answers (body (length before + length (encode (length bs))) (length bs) n)) (omega (arith, length_append (encode (length bs)) bs));
+          ∙ ap (λ (n : ℕ). answers (body (length before + length (encode (length bs))) (length bs) n)) (omega (arith, length-append (encode (length bs)) bs));
       says = ap body_in (body_there before bs after small) ∙ body_back code ns k (omega (arith, known_code code k)) enough are;
     }
 

@@ -1,7 +1,7 @@
 -- Laws of the bytes of records. In order: numbers one after the other, and how many bytes they take; the longest record; what
 -- the writer answers, and leaves in the buffer. Assumes nothing.
 use Rattle.std.specs.Prelude.{◌≡◌, refl, ℕ, suc, ◌+◌, ◌*◌, ◌≤◌, ◌<◌, Bool, true, false, cond, List, [], ◌∷◌, ◌++◌, ltb, length, take, drop, get_or}
-use Rattle.std.proofs.Common.{sym, ap, ◌∙◌, arith, add-one, append_assoc, append-nil, length_append, length-take, take-append-drop, take-suc, ltb_false}
+use Rattle.std.proofs.Common.{sym, ap, ◌∙◌, arith, add-one, append_assoc, append-nil, length-append, length-take, take-append-drop, take-suc, ltb-false}
 use Rattle.number.specs.Leb.{AtMost, largest, longest, encode}
 use Rattle.number.specs.Leb.Laws.{clash, at_most_take, encode_length, encode_bytes}
 use Rattle.number.specs.Put.Laws.{put_fits}
@@ -26,14 +26,14 @@ encodes_suc ns i h = rw (add-one i, take-suc ns i 0 h, encodes_append (take i ns
 pub encodes_take : (ns : List ℕ) (i : ℕ) → length (encodes (take i ns)) ≤ length (encodes ns)
 encodes_take ns i =
     let whole = ap (λ (t : List ℕ). length (encodes t)) (take-append-drop i ns) in
-    omega (arith, whole, ap length (encodes_append (take i ns) (drop i ns)), length_append (encodes (take i ns)) (encodes (drop i ns)))
+    omega (arith, whole, ap length (encodes_append (take i ns) (drop i ns)), length-append (encodes (take i ns)) (encodes (drop i ns)))
 
 encodes_length : (ns : List ℕ) → AtMost largest ns → length (encodes ns) ≤ longest * length ns
 unfolding encodes
 encodes_length [] are = omega arith
 encodes_length (n ∷ ns) are =
     let rest = encodes_length ns (λ i. are (suc i)) in
-    omega (arith, length_append (encode n) (encodes ns), encode_bytes n (are 0), rest)
+    omega (arith, length-append (encode n) (encodes ns), encode_bytes n (are 0), rest)
 
 -- ---- the longest record
 
@@ -44,7 +44,7 @@ body_length code ns k are =
     let few : length numbers ≤ most_numbers = omega (arith, length-take (arity_of code) ns, arity_most code) in
     let one : length (encode code) ≤ 1 = encode_length 1 code (omega arith) (omega (arith, known_code code k)) in
     let rest = encodes_length numbers (at_most_take largest (arity_of code) ns are) in
-    omega (arith, length_append (encode code) (encodes numbers), one, rest, few)
+    omega (arith, length-append (encode code) (encodes numbers), one, rest, few)
 
 -- RULES J22: a record has at most 62 bytes
 pub record_length : (code : ℕ) (ns : List ℕ) → known code ≡ true → AtMost largest ns → length (record_of code ns) ≤ longest_record
@@ -52,7 +52,7 @@ unfolding record_of
 record_length code ns k are =
     let len = body_length code ns k are in
     let one : length (encode (length (body_of code ns))) ≤ 1 = encode_length 1 (length (body_of code ns)) (omega arith) (omega (arith, len)) in
-    omega (arith, length_append (encode (length (body_of code ns))) (body_of code ns), one, len)
+    omega (arith, length-append (encode (length (body_of code ns))) (body_of code ns), one, len)
 
 -- ---- what the writer answers
 
@@ -68,7 +68,7 @@ recording_made code ns out n = by_code (known code) refl
     by_size : (t : Bool) → ltb (length out) (length (record_of code ns)) ≡ t → known code ≡ true
         → cond t (refused 13) (answers (length (record_of code ns))) ≡ answers n → Made
     by_size true q k e = clash (cc)
-    by_size false q k e = (k, ltb_false (length out) (length (record_of code ns)) q, cc)
+    by_size false q k e = (k, ltb-false (length out) (length (record_of code ns)) q, cc)
 
     by_code : (t : Bool) → known code ≡ t → cond t (fitting (record_of code ns) out) (refused 1) ≡ answers n → Made
     by_code true k e = by_size (ltb (length out) (length (record_of code ns))) refl k e

@@ -1,7 +1,7 @@
 -- How many calls a pipeline stands for, and a line. States RULES L15. Assumes nothing.
 use Rattle.std.specs.Prelude.{◌≡◌, Bool, true, false, ◌||◌, cond, ℕ, zero, suc, ◌+◌, ◌-◌, ◌*◌, ◌≤◌, ◌<◌, T, eqb, leb, length, get_or, replicate}
 use Rattle.std.proofs.Math.Path.{refl}
-use Rattle.std.proofs.Common.{ap, inl, inr, arith, mul-le-mul, leb→le, length_append, eq-eqb, ne_eqb, eqb-true}
+use Rattle.std.proofs.Common.{ap, inl, inr, arith, mul-le-mul, leb→le, length-append, eq-eqb, ne_eqb, eqb-true}
 use Rattle.std.proofs.Math.Option.{Option, none, some}
 use mathlib.Core.List.{List, [], ◌∷◌, ◌++◌, map}
 use Rattle.std.proofs.lemmas.Bool.{eqb-false}
@@ -37,11 +37,11 @@ total_front (suc n) f = omega (arith, total_front n f)
 
 total_length : {A : Type 0} (n : ℕ) (f : ℕ → List A) → length (each n f) ≡ total n (λ i. length (f i))
 total_length zero f = refl
-total_length (suc n) f = omega (arith, length_append (each n f) (f n), total_length n f)
+total_length (suc n) f = omega (arith, length-append (each n f) (f n), total_length n f)
 
 ones_length : {A : Type 0} (n : ℕ) (f : ℕ → List A) → ((i : ℕ) → length (f i) ≡ 1) → length (each n f) ≡ n
 ones_length zero f h = refl
-ones_length (suc n) f h = omega (arith, length_append (each n f) (f n), ones_length n f h, h n)
+ones_length (suc n) f h = omega (arith, length-append (each n f) (f n), ones_length n f h, h n)
 
 -- ---- the ends that a child uses
 
@@ -106,7 +106,7 @@ unused_length c i zero = refl
 unused_length c i (suc j) =
     let e : 2 * suc j ≡ suc (suc (2 * j)) = omega arith in
     let reading = unused_one c i (2 * j) in let writing = unused_one c i (suc (2 * j)) in
-    rw e (simp length_append (omega (arith, unused_length c i j, ap bit (uses_reading i j), ap bit (uses_writing i j))))
+    rw e (simp length-append (omega (arith, unused_length c i j, ap bit (uses_reading i j), ap bit (uses_writing i j))))
 
 -- ---- a stage
 
@@ -115,7 +115,7 @@ open_length code c place none = refl
 open_length code c place (some o) = refl
 
 stage_length : (shell j i c : ℕ) (s : Stage) → length (stage_calls shell j i c s) + used i j ≡ (2 + 2 * j) + signs_of s
-stage_length shell j i c s = simp length_append (omega (arith, unused_length c i j, open_length 5 c 14 s.from, open_length 6 c 15 s.into))
+stage_length shell j i c s = simp length-append (omega (arith, unused_length c i j, open_length 5 c 14 s.from, open_length 6 c 15 s.into))
 
 signs_total : (p : List Stage) → total (length p) (λ i. signs_of (get_or p i no_stage)) ≡ signs p
 signs_total [] = refl
@@ -165,7 +165,7 @@ module _ (shell child pipe : ℕ) where
       let pipes = ones_length j (pipe_call shell pipe) (λ i. refl) in
       let closes = ones_length (2 * j) (close_call shell) (λ i. refl) in
       let exits = ones_length n (exit_call child) (λ i. refl) in
-      simp length_append (omega (arith, ap (λ (m : ℕ). m * j) e))
+      simp length-append (omega (arith, ap (λ (m : ℕ). m * j) e))
 
   -- RULES L15
   pub calls_counted : (p : List Stage) → length (pipeline_calls shell child pipe p) ≡ pipeline_count p
@@ -197,12 +197,12 @@ module _ (shell child pipe : ℕ) where
 
   pub line_calls_counted : (l : Reading) → length (calls_of shell child pipe l) ≡ line_count l
   line_calls_counted (one p) = calls_counted (all p)
-  line_calls_counted (more p l) = simp length_append (omega (arith, calls_counted (all p), line_calls_counted l))
+  line_calls_counted (more p l) = simp length-append (omega (arith, calls_counted (all p), line_calls_counted l))
 
   pub line_calls_most : (l : Reading) → T (short l) → length (calls_of shell child pipe l) ≤ 159 * length (all l)
   line_calls_most (one p) h = eight (all p) (leb→le (length (all p)) 8 h)
   line_calls_most (more p l) h = let k = both_of (leb (length (all p)) 8) (short l) h in
-      simp length_append (omega (arith, eight (all p) (leb→le (length (all p)) 8 k.0), line_calls_most l k.1))
+      simp length-append (omega (arith, eight (all p) (leb→le (length (all p)) 8 k.0), line_calls_most l k.1))
 
 -- ---- computed
 

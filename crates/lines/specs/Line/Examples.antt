@@ -2,7 +2,7 @@
 -- left to right (Reading). Assumes nothing.
 use Rattle.std.specs.Prelude.{◌≡◌, refl, List, [], ◌∷◌, ℕ}
 use Rattle.std.proofs.Common.{sym, ◌∙◌, ap, subst}
-use Rattle.std.proofs.Math.Option.{Option, none, some, some_injective}
+use Rattle.std.proofs.Math.Option.{Option, none, some, some-injective}
 use Rattle.text.specs.Decimal.{digits, decimal}
 use Rattle.lines.specs.Line.{one, more, Reading, Line, written}
 use Rattle.lines.specs.Reading.{End, at_bar, at_semicolon, at_end, Staged, staged, closed, parted, joined, Lined, last, then}
@@ -32,26 +32,26 @@ begins (last (joined {rest = x} {s = s} {p = p} q r)) =
     record {
       first = record { stage = s; end = at_bar x };
       read = q;
-      goes_on = λ rest h. (one p, subst (λ (y : List ℕ). Lined y (one p)) (some_injective x rest h) (last r));
+      goes_on = λ rest h. (one p, subst (λ (y : List ℕ). Lined y (one p)) (some-injective x rest h) (last r));
     }
 begins (then {l = l} (parted {rest = x} {s = s} q) d) =
     record {
       first = record { stage = s; end = at_semicolon x };
       read = q;
-      goes_on = λ rest h. (l, subst (λ (y : List ℕ). Lined y l) (some_injective x rest h) d);
+      goes_on = λ rest h. (l, subst (λ (y : List ℕ). Lined y l) (some-injective x rest h) d);
     }
 begins (then {l = l} (joined {rest = x} {s = s} {p = p} q r) d) =
     record {
       first = record { stage = s; end = at_bar x };
       read = q;
-      goes_on = λ rest h. (more p l, subst (λ (y : List ℕ). Lined y (more p l)) (some_injective x rest h) (then r d));
+      goes_on = λ rest h. (more p l, subst (λ (y : List ℕ). Lined y (more p l)) (some-injective x rest h) (then r d));
     }
 
 stuck : {bs : List ℕ} → Stuck bs → (l : Reading) → Lined bs l → ⊥
 stuck (here q) l d = let b = begins d in clash (cc (q, b.read))
 stuck (later {rest = rest} {x = x} q h s) l d =
     let b = begins d in
-    let same = some_injective b.first x (sym b.read ∙ q) in
+    let same = some-injective b.first x (sym b.read ∙ q) in
     let (k, e) = b.goes_on rest (ap (λ (y : Staged). rest_of y.end) same ∙ h) in
     stuck s k e
 

@@ -2,7 +2,7 @@
 -- What they stand on is in Numbers, Tokens and Stages. Assumes nothing.
 use Rattle.std.specs.Prelude.{◌≡◌, refl, List, [], ◌∷◌, ◌++◌, ℕ}
 use Rattle.std.proofs.Common.{sym, ◌∙◌, ap, ap₂, subst, append_assoc, append-nil}
-use Rattle.std.proofs.Math.Option.{Option, none, some, some_injective}
+use Rattle.std.proofs.Math.Option.{Option, none, some, some-injective}
 use Rattle.lines.specs.Line.{one, more, Stage, Pipeline, Reading, Token, bar, semicolon, stage_tokens, pipeline_tokens, tokens, Spaced, Line}
 use Rattle.lines.specs.Reading.{End, at_bar, at_semicolon, at_end, Staged, staged, Pipelined, closed, parted, joined, Lined, last, then}
 use Rattle.lines.specs.Reading.Numbers.{clash}
@@ -69,7 +69,7 @@ line_lined bs (more p l) d = let (e, r, h) = spaced_pipelined p bs by_semicolon 
 staged_one : {o : Option Staged} {s t : Stage} {e f : End} → o ≡ some (record { stage = s; end = e })
     → o ≡ some (record { stage = t; end = f }) → (s ≡ t) × (e ≡ f)
 staged_one {s = s} {t = t} {e = e} {f = f} q r =
-    let same = some_injective (record { stage = s; end = e }) (record { stage = t; end = f }) (sym q ∙ r) in
+    let same = some-injective (record { stage = s; end = e }) (record { stage = t; end = f }) (sym q ∙ r) in
     (ap (λ (x : Staged). x.stage) same, ap (λ (x : Staged). x.end) same)
 
 pub pipelined_one : {bs : List ℕ} {p q : Pipeline} {e f : Option (List ℕ)} → Pipelined bs p e → Pipelined bs q f → (p ≡ q) × (e ≡ f)

@@ -1,7 +1,7 @@
 -- A number, read and written. In order: the tests; the digits by the last one; bytes that are read as a number are its digits and what stands behind
 -- them; the digits of a number are read, where no digit stands behind them. Assumes nothing.
 use Rattle.std.specs.Prelude.{◌≡◌, refl, ◌≢◌, Bool, true, false, not, ◌&&◌, List, [], ◌∷◌, ◌++◌, ℕ, zero, suc, ◌+◌, ◌-◌, ◌*◌, ◌/◌, ◌%◌, ◌≤◌, ◌<◌, eqb, leb, ltb}
-use Rattle.std.proofs.Common.{sym, ◌∙◌, ap, ap₂, append_assoc, arith, leb-true, ltb-true, ltb_false, le-leb, ne_eqb}
+use Rattle.std.proofs.Common.{sym, ◌∙◌, ap, ap₂, append_assoc, arith, leb-true, ltb-true, ltb-false, le-leb, ne_eqb}
 use Rattle.std.proofs.Math.Option.{Option, none, some}
 use Rattle.std.proofs.lemmas.Bool.{eqb-false, not-true}
 use Rattle.text.specs.Decimal.{digit, decimal}
@@ -122,7 +122,7 @@ decimal_on (suc fuel) n h k bs = by_size (decimal_on fuel (n / 10)) (ltb n 10) r
         → numeral (decimal n ++ bs) ≡ digits n bs
     by_size ih true q = let l : n < 10 = ltb-true n 10 q in rw (decimal_one n l) (first_digit n bs l)
     by_size ih false q =
-        let l : 10 ≤ n = ltb_false n 10 q in
+        let l : 10 ≤ n = ltb-false n 10 q in
         let whole : n / 10 * 10 + n % 10 ≡ n = omega arith in
         ap (λ (cs : List ℕ). numeral (cs ++ bs)) (decimal_more n l)
         ∙ ap numeral (append_assoc (decimal (n / 10)) (digit (n % 10)) bs)

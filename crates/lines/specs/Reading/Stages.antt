@@ -2,7 +2,7 @@
 -- what stands there is read so (spaced-…). Assumes nothing.
 use Rattle.std.specs.Prelude.{◌≡◌, refl, Bool, true, false, cond, List, [], ◌∷◌, ◌++◌, ℕ, eqb}
 use Rattle.std.proofs.Common.{sym, ◌∙◌, ap, subst, subst₂, append_assoc}
-use Rattle.std.proofs.Math.Option.{Option, none, some, some_injective}
+use Rattle.std.proofs.Math.Option.{Option, none, some, some-injective}
 use Rattle.lines.specs.Line.{Stage, Token, number, less, greater, bar, semicolon, given, stage_tokens, Spaced, ends}
 use Rattle.lines.specs.Reading.{Got, got, skip, is_digit, numeral, signed, End, at_bar, at_semicolon, at_end, Staged, ended_at}
 use Rattle.lines.specs.Reading.{with_end, with_into, with_from, with_program, staged}
@@ -96,7 +96,7 @@ staged_parts bs s e q = by_program (numeral (skip bs)) refl q
     by_end p f t is-p is_f is-t none is_x q = clash (cc)
     by_end p f t is-p is_f is-t (some x) is_x q =
         let made : Stage = record { program = p.value; from = f.value; into = t.value } in
-        let same = some_injective (record { stage = made; end = x }) (record { stage = s; end = e }) q in
+        let same = some-injective (record { stage = made; end = x }) (record { stage = s; end = e }) q in
         subst₂ (Parts bs) (ap (λ (r : Staged). r.stage) same) (ap (λ (r : Staged). r.end) same)
         (record {
           after_program = p.rest;

@@ -2,7 +2,7 @@
 use Rattle.std.specs.Prelude.{◌≡◌, Bool, not, cond, List, [], ◌∷◌, ◌++◌, ℕ, suc, T, eqb}
 use Rattle.std.proofs.Math.Path.{refl}
 use Rattle.std.proofs.Common.{sym, ◌∙◌, ap, subst, inl, inr, eqb→eq}
-use Rattle.std.proofs.Math.Option.{Option, none, some, none_ne_some}
+use Rattle.std.proofs.Math.Option.{Option, none, some, none-ne-some}
 use Rattle.std.proofs.Math.Dec.{not_T}
 use Rattle.model.specs.Bools.{test, cond_no, cond_yes}
 use Rattle.model.specs.Lists.{In}
@@ -91,7 +91,7 @@ module _ (h : Handling) (i o : ℕ) where
     new_fits x n a b q d = let l = mates_live w.teams a b q d in (apart a (step_entry t a l.0), apart b (step_entry t b l.1))
       where
         apart : (a : ℕ) → (e : Entry) × (t.at (subject a) ≡ some e) → T (not (same x (subject a)))
-        apart a r = not_T (same x (subject a)) (λ s. none_ne_some r.0 (sym (is_new t x n).1 ∙ ap t.at (same→eq x (subject a) s) ∙ r.1))
+        apart a r = not_T (same x (subject a)) (λ s. none-ne-some r.0 (sym (is_new t x n).1 ∙ ap t.at (same→eq x (subject a) s) ∙ r.1))
 
     thread_fits : (s d : ℕ) (e : Entry) → Passed t (thread s d) → AllFit t c (enter (subject d) e (copied (cell t s)) ∷ binds d s ∷ [])
     thread_fits s d e m = (new_fits (subject d) fresh, (here ∙ sym there, tt))
@@ -107,7 +107,7 @@ module _ (h : Handling) (i o : ℕ) where
 
         there : store c (subject d) (c (cell t s)) (subject s) ≡ c (subject s)
         there = cond_no (same (subject d) (subject s)) (c (cell t s)) (c (subject s)) (not_T (same (subject d) (subject s))
-            (λ q. none_ne_some own.0 (sym (is_new t (subject d) fresh).1 ∙ ap t.at (same→eq (subject d) (subject s) q) ∙ own.1)))
+            (λ q. none-ne-some own.0 (sym (is_new t (subject d) fresh).1 ∙ ap t.at (same→eq (subject d) (subject s) q) ∙ own.1)))
 
     access_fits : (d : Dir) (s p : ℕ) → AllFit t c (steps t (access d s p))
     access_fits reading s p = (w.teams, tt)

@@ -3,7 +3,7 @@
 use Rattle.std.specs.Prelude.{◌≡◌, Bool, true, false, not, cond, List, [], ◌∷◌, ◌++◌, ℕ, suc, T}
 use Rattle.std.proofs.Math.Path.{refl, ap}
 use Rattle.std.proofs.Common.{sym, ◌∙◌, ap₂, subst, subst₂, inl, inr}
-use Rattle.std.proofs.Math.Option.{Option, none, some, none_ne_some, some_injective}
+use Rattle.std.proofs.Math.Option.{Option, none, some, none-ne-some, some-injective}
 use Rattle.model.specs.Lists.{In}
 use Rattle.model.specs.Label.{Label, ◌⊑◌}
 use Rattle.model.specs.Label.Laws.{⊑_refl, ⊑_trans}
@@ -97,16 +97,16 @@ module _ (ℓ : Label) (h : Handling) (i o₁ o₂ : ℕ) where
   step_agree : (t : Tables) (c d : Contents) (k : Step) → Guard ℓ o₁ o₂ t k → Agree ℓ t c d → Agree ℓ (apply k t) (carry h i o₁ t k c) (carry h i o₂ t k d)
   step_agree t c d (enter x e outside) g a = record {
     same_at = store_agree ℓ t c d x (some e) o₁ o₂ a
-        (λ f q l. g (subst (λ (z : Entry). ℓ ⊑ z.label) (sym (some_injective e f q)) l));
+        (λ f q l. g (subst (λ (z : Entry). ℓ ⊑ z.label) (sym (some-injective e f q)) l));
   }
   step_agree t c d (enter x e blank) g a = record { same_at = store_agree ℓ t c d x (some e) 0 0 a (λ f q l. refl) }
   step_agree t c d (enter x e (copied y)) g a = record {
     same_at = store_agree ℓ t c d x (some e) (c y) (d y) a
-        (λ f q l. a.same_at y g.0 g.1 (⊑_trans (subst (λ (z : Entry). ℓ ⊑ z.label) (sym (some_injective e f q)) l) g.2));
+        (λ f q l. a.same_at y g.0 g.1 (⊑_trans (subst (λ (z : Entry). ℓ ⊑ z.label) (sym (some-injective e f q)) l) g.2));
   }
   step_agree t c d (leave x) g a = record {
     same_at = λ y e q l. elim
-        (put_cases t.at x none y (some e) q) [ inl p ↦ absurd (none_ne_some e p.1) | inr p ↦ a.same_at y e p.1 l ];
+        (put_cases t.at x none y (some e) q) [ inl p ↦ absurd (none-ne-some e p.1) | inr p ↦ a.same_at y e p.1 l ];
   }
   step_agree t c d (hold s p v) g a = record { same_at = a.same_at }
   step_agree t c d (holds s r) g a = record { same_at = a.same_at }
@@ -115,7 +115,7 @@ module _ (ℓ : Label) (h : Handling) (i o₁ o₂ : ℕ) where
   step_agree t c d (quits g) r a = record { same_at = λ y e q l. left (g y) y e q l }
     where
       left : (b : Bool) (y : Thing) (e : Entry) → cond b none (t.at y) ≡ some e → ℓ ⊑ e.label → c y ≡ d y
-      left true y e q l = absurd (none_ne_some e q)
+      left true y e q l = absurd (none-ne-some e q)
       left false y e q l = a.same_at y e q l
   step_agree t c d (mix m n o y x) g a = record { same_at = λ z r q l. poured z r l (whole t y z) (pot_whole g.1 y z) q }
     where
@@ -143,7 +143,7 @@ reap_agree : (ℓ : Label) (before : List Handle) (t : Tables) (c d : Contents) 
 reap_agree ℓ before t c d a = record { same_at = λ y e q l. go (ended before (handles t) y (t.at y)) y e q l }
   where
     go : (b : Bool) (y : Thing) (e : Entry) → cond b none (t.at y) ≡ some e → ℓ ⊑ e.label → c y ≡ d y
-    go true y e q l = absurd (none_ne_some e q)
+    go true y e q l = absurd (none-ne-some e q)
     go false y e q l = a.same_at y e q l
 
 numbers_agree : (ℓ : Label) (t : Tables) (n : List ℕ) (c d : Contents) → Agree ℓ t c d → Agree ℓ (with_numbers t n) c d

@@ -2,7 +2,7 @@
 -- refused as without the test for room. States RULES R124. Assumes nothing.
 use Rattle.std.specs.Prelude.{◌≡◌, refl, Bool, true, false, not, ◌||◌, List, [], ◌∷◌, ℕ, ◌+◌, ◌<◌, length, T, eqb}
 use Rattle.std.proofs.Common.{sym, ◌∙◌, ap, ap₂, subst, inl, inr, arith, T_not, eqb→eq, ltb→lt}
-use Rattle.std.proofs.Math.Option.{Option, none, some, none_ne_some}
+use Rattle.std.proofs.Math.Option.{Option, none, some, none-ne-some}
 use Rattle.std.proofs.Math.Dec.{eqb_refl}
 use Rattle.model.specs.Bools.{or_left, or_right}
 use Rattle.model.specs.Lists.{In, keep, insert}
@@ -75,6 +75,7 @@ small_made t (retire o) h n i = absurd i
 small_made t (maps s o p) h n i = absurd i
 small_made t (admit s k) h n i = absurd i
 small_made t (fork s c) h n i = absurd i
+small_made t (thread s c) h n i = absurd i
 small_made t (close s p) h n i = absurd i
 small_made t (exit s) h n i = absurd i
 small_made t (mark s p) h n i = absurd i
@@ -104,7 +105,7 @@ next_low t c l h = go (refusal t c)
 -- a number that is not in use leaves room for it, and two that differ for both
 module _ (t : Tables) (l : Low t) where
   unused : (o : ℕ) → T (not (broken t (new (object o)))) → In o t.numbers → ⊥
-  unused o h i = none_ne_some r.0 (sym (is_new t (object o) h).1 ∙ r.1)
+  unused o h i = none-ne-some r.0 (sym (is_new t (object o) h).1 ∙ r.1)
     where
       r : (e : Entry) × (t.at (object o) ≡ some e)
       r = some_of (t.at (object o)) (l.listed.sound o i)
@@ -187,6 +188,7 @@ crowded_taken t (admit s n) l h z = absurd z
 crowded_taken t (opens d s o p) l h z = absurd z
 crowded_taken t (access d s p) l h z = absurd z
 crowded_taken t (fork s c) l h z = absurd z
+crowded_taken t (thread s c) l h z = absurd z
 crowded_taken t (exec s o) l h z = absurd z
 crowded_taken t (close s p) l h z = absurd z
 crowded_taken t (exit s) l h z = absurd z

@@ -2,7 +2,7 @@
 -- it mapped it, a file keeps its label, and no subject's rises. One law for each step, then call by call. Assumes nothing.
 use Rattle.std.specs.Prelude.{◌≡◌, refl, Bool, true, false, not, cond, List, [], ◌∷◌, ℕ, T, eqb}
 use Rattle.std.proofs.Common.{sym, ◌∙◌, ap, subst, subst₂, inl, inr, T_not, eqb→eq}
-use Rattle.std.proofs.Math.Option.{Option, none, some, none_ne_some, some_injective}
+use Rattle.std.proofs.Math.Option.{Option, none, some, none-ne-some, some-injective}
 use Rattle.std.proofs.Math.Dec.{not_T}
 use Rattle.model.specs.Bools.{cond_yes, cond_no}
 use Rattle.model.specs.Label.{Label, ◌⊑◌, meet}
@@ -21,7 +21,7 @@ use Rattle.model.specs.Calls.Moving.{rereads_keep, lowers_none}
 use Rattle.model.specs.Calls.Passed.{is_alive, is_present, is_new, is_taken, Passed, sheds_less}
 
 pub empty_mapped : Mapped empty
-empty_mapped = record { each = λ s p k q m. absurd (none_ne_some k q) }
+empty_mapped = record { each = λ s p k q m. absurd (none-ne-some k q) }
 
 -- a mapping of t is one of u, where the object stayed as it is and the subject did not rise
 maps_from : (t u : Tables) (r s : ℕ) (j k : Handle) → Maps t r j → j.dir ≡ k.dir → j.to ≡ k.to
@@ -66,7 +66,7 @@ mapped_hand t h v f = record {
 -- a handle that is no mapping is placed
 mapped_hold : (t : Tables) (s p : ℕ) (k : Handle) → T (not k.mapped) → Mapped t → Mapped (apply (hold s p (some k)) t)
 mapped_hold t s p k n v = mapped_hand t (place t.hand s p (some k)) v (λ s' p' j q m. elim (place_cases t.hand s p (some k) s' p' (some j) q) [
-  | inl c ↦ absurd (T_not k.mapped n (subst (λ (z : Handle). T z.mapped) (sym (some_injective k j c.2)) m))
+  | inl c ↦ absurd (T_not k.mapped n (subst (λ (z : Handle). T z.mapped) (sym (some-injective k j c.2)) m))
   | inr c ↦ (p', j, c, m, refl, refl)
 ])
 
@@ -161,7 +161,7 @@ module _ (t : Tables) (w : Wf t) (v : Mapped t) where
   mark_mapped s p h = let r = is_taken t s p h in subst (λ (o : Option Handle). Mapped (apply (hold s p (marking o)) t)) (sym r.1)
       (mapped_hand t (place t.hand s p (some (with_mark r.0))) v (λ s' p' k q m. elim
       (place_cases t.hand s p (some (with_mark r.0)) s' p' (some k) q) [
-        | inl c ↦ (let e = some_injective (with_mark r.0) k c.2 in (
+        | inl c ↦ (let e = some-injective (with_mark r.0) k c.2 in (
           p,
           r.0,
           subst (λ (z : ℕ). t.hand z p ≡ some r.0) c.0 r.1,
@@ -202,7 +202,7 @@ module _ (t : Tables) (w : Wf t) (v : Mapped t) where
   map_mapped : (s o p : ℕ) → Passed t (maps s o p) → Mapped (applies (steps t (maps s o p)) t)
   map_mapped s o p m = record {
     each = λ s' p' k q h. elim (place_cases t.hand s p (some (mapping o)) s' p' (some k) q) [
-      | inl c ↦ subst₂ (λ (z : ℕ) (j : Handle). Maps u z j) c.0 (some_injective (mapping o) k c.2) new
+      | inl c ↦ subst₂ (λ (z : ℕ) (j : Handle). Maps u z j) c.0 (some-injective (mapping o) k c.2) new
       | inr c ↦ (let r = v.each s' p' k c h in maps_from t u s' s' k k r refl refl
           (subst (λ (z : Thing). label_of (u.at z) ⊑ label_of (t.at (cell t s'))) (cell_same t u s') (sink_label u' (cell t s) (object o) (cell t s')))
           (sink_file u' (cell t s) (object o) (object k.to) r.on_file))
@@ -328,7 +328,7 @@ pub write_lowers_none : (t : Tables) → Wf t → Mapped t → Even t → (s p o
     → lowers t (effect t (access writing s p)) ≡ false
 unfolding effect
 write_lowers_none t w v g s p o i f = lowers_none t (effect t (access writing s p)) (λ y e d q z. let (c, r, l) = all.at_least y e q in
-    subst (λ (k : Entry). e.label ⊑ k.label) (some_injective c d (sym r ∙ left (ended (handles t) (handles u) y (u.at y)) y d z)) l)
+    subst (λ (k : Entry). e.label ⊑ k.label) (some-injective c d (sym r ∙ left (ended (handles t) (handles u) y (u.at y)) y d z)) l)
   where
     x : Thing
     x = target (t.hand s p)
@@ -337,7 +337,7 @@ write_lowers_none t w v g s p o i f = lowers_none t (effect t (access writing s 
     u = applies (steps t (access writing s p)) t
 
     left : (b : Bool) (y : Thing) (d : Entry) → cond b none (u.at y) ≡ some d → u.at y ≡ some d
-    left true y d z = absurd (none_ne_some d z)
+    left true y d z = absurd (none-ne-some d z)
     left false y d z = z
 
     is_x : T (a_file x (t.at x))

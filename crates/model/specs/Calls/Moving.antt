@@ -3,7 +3,7 @@
 use Rattle.std.specs.Prelude.{◌≡◌, refl, Bool, true, false, not, ◌||◌, ◌&&◌, cond, ◌⊎◌, List, [], ℕ, zero, suc, ◌<◌, T}
 use Rattle.std.proofs.Common.{sym, ◌∙◌, ap, ap₂, subst, inl, inr, T_not}
 use Rattle.std.proofs.Math.Path.{fun_ext}
-use Rattle.std.proofs.Math.Option.{Option, none, some, some_injective}
+use Rattle.std.proofs.Math.Option.{Option, none, some, some-injective}
 use Rattle.std.proofs.Math.Dec.{not_T}
 use Rattle.model.specs.Bools.{test, both_of, not_not, is_true, is_false}
 use Rattle.model.specs.Lists.{In, each, keep}
@@ -173,5 +173,5 @@ lowers_one t u x e d r p q h = lowers_is t u (not (leq e.label d.label))
     (λ n y a b s z. elim (test (same x y)) [ inl i ↦ own y a b n (same→eq x y i) s z | inr i ↦ h y a b i s z ])
   where
     own : (y : Thing) (a b : Entry) → T (not (not (leq e.label d.label))) → x ≡ y → t.at y ≡ some a → u.at y ≡ some b → a.label ⊑ b.label
-    own y a b n i s z = subst (λ (f : Entry). f.label ⊑ b.label) (some_injective e a (sym p ∙ ap t.at i ∙ s))
-        (subst (λ (f : Entry). e.label ⊑ f.label) (some_injective d b (sym q ∙ ap u.at i ∙ z)) (record { tested = not_not (leq e.label d.label) n }))
+    own y a b n i s z = subst (λ (f : Entry). f.label ⊑ b.label) (some-injective e a (sym p ∙ ap t.at i ∙ s))
+        (subst (λ (f : Entry). e.label ⊑ f.label) (some-injective d b (sym q ∙ ap u.at i ∙ z)) (record { tested = not_not (leq e.label d.label) n }))

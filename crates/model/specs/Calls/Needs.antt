@@ -7,7 +7,7 @@ use Rattle.std.specs.Prelude.{◌≡◌, refl, Bool, true, false, not, ◌&&◌,
 use Rattle.std.proofs.Common.{sym, ◌∙◌, ap, ap₂, subst, subst₂, arith, T_not, eqb→eq, ltb→lt}
 use Rattle.std.proofs.Math.Path.{fun_ext}
 use Rattle.std.proofs.Math.Logic.{inl, inr}
-use Rattle.std.proofs.Math.Option.{Option, none, some, none_ne_some, some_injective}
+use Rattle.std.proofs.Math.Option.{Option, none, some, none-ne-some, some-injective}
 use Rattle.std.proofs.Math.Dec.{T, not_T, eqb_refl}
 use Rattle.model.specs.Bools.{test, both, cond_yes, cond_no}
 use Rattle.model.specs.Lists.{In, each}
@@ -182,7 +182,7 @@ in_edge t e i = elim (edge_flow t e i) [
     k = r.k;
     holds = r.holds;
     is = ap (λ (x : Thing). flow x r.k)
-        (some_injective _ _ (sym (speaks_self t r.s) ∙ r.speaker)) ∙ r.is;
+        (some-injective _ _ (sym (speaks_self t r.s) ∙ r.speaker)) ∙ r.is;
   })
   | inr r ↦ inr r
 ]
@@ -218,8 +218,8 @@ hold_opened t s p k n = record {
   at_place = p;
   held = place_same t.hand s p (some k);
   more = λ s' p' j q. elim (place_cases t.hand s p (some k) s' p' (place t.hand s p (some k) s' p') refl)
-      [ inl c ↦ absurd (none_ne_some j (sym n ∙ ap₂ t.hand c.0 c.1 ∙ q)) | inr c ↦ sym c ∙ q ];
-  only = λ s' p' j q. elim (place_cases t.hand s p (some k) s' p' (some j) q) [ inl c ↦ inr (c.0, some_injective k j c.2) | inr c ↦ inl c ];
+      [ inl c ↦ absurd (none-ne-some j (sym n ∙ ap₂ t.hand c.0 c.1 ∙ q)) | inr c ↦ sym c ∙ q ];
+  only = λ s' p' j q. elim (place_cases t.hand s p (some k) s' p' (some j) q) [ inl c ↦ inr (c.0, some-injective k j c.2) | inr c ↦ inl c ];
 }
 
 -- an open, a map: one flow comes
@@ -235,7 +235,7 @@ close_adds t s p k w q = opened_adds (wf_ranged w) (record {
   held = q;
   more = (less_close t s p).hands;
   only = λ s' p' j h. elim (place_cases t.hand s p none s' p' (place t.hand s p none s' p') refl)
-      [ inl c ↦ inr (c.0, some_injective k j (sym q ∙ ap₂ t.hand c.0 c.1 ∙ h)) | inr c ↦ inl (sym c ∙ h) ];
+      [ inl c ↦ inr (c.0, some-injective k j (sym q ∙ ap₂ t.hand c.0 c.1 ∙ h)) | inr c ↦ inl (sym c ∙ h) ];
 })
 
 -- an open that falls by the needs of before changes none
@@ -259,8 +259,8 @@ maps_open_needs t s o p w ls lp n x = maps_needs t s o p x ∙ mapping_needs t s
 
 -- ── a mark ──
 marked_flow : (x : Thing) (o : Option Handle) (k : Handle) → marking o ≡ some k → (j : Handle) × (o ≡ some j) × (flow x j ≡ flow x k)
-marked_flow x none k q = absurd (none_ne_some k q)
-marked_flow x (some j) k q = (j, refl, ap (flow x) (some_injective (with_mark j) k q))
+marked_flow x none k q = absurd (none-ne-some k q)
+marked_flow x (some j) k q = (j, refl, ap (flow x) (some-injective (with_mark j) k q))
 
 -- a mark changes no flow
 pub mark_needs : (t : Tables) (s p : ℕ) → Wf t → (x : Thing) → needs (effect t (mark s p)) x ≡ needs t x
@@ -304,7 +304,7 @@ pub fresh_none : (t : Tables) (z : Thing) → Wf t → t.at z ≡ none → Fresh
 fresh_none t z w n = record { leaves = λ e i q. never e.src (ends e i).0 q; enters = λ e i q. never e.dst (ends e i).1 q }
   where
     never : (y : Thing) → (e : Entry) × (t.at y ≡ some e) → y ≡ z → ⊥
-    never y r q = none_ne_some r.0 (sym n ∙ ap t.at (sym q) ∙ r.1)
+    never y r q = none-ne-some r.0 (sym n ∙ ap t.at (sym q) ∙ r.1)
 
     ends : (e : Edge) → In e (edges t) → ((d : Entry) × (t.at e.src ≡ some d)) × ((d : Entry) × (t.at e.dst ≡ some d))
     ends e i = elim (in_edge t e i) [
@@ -388,7 +388,7 @@ fork_needs t s c w lc n x = relisted_needs t (fork s c) x ∙ needs_reap (handle
     row_same p = cond_yes (eqb c c) (t.hand s p) (t.hand c p) (eqb_refl c)
 
     empty_row : (p : ℕ) (k : Handle) → t.hand c p ≡ some k → ⊥
-    empty_row p k q = let r = step_entry t c (w.ends c p k q).from in none_ne_some r.0 (sym n ∙ r.1)
+    empty_row p k q = let r = step_entry t c (w.ends c p k q).from in none-ne-some r.0 (sym n ∙ r.1)
 
     more : (e : Edge) → In e (edges t) → In e (edges u)
     more e i = elim (in_edge t e i) [
@@ -497,7 +497,7 @@ thread_needs t s c w ls lc n ne x = relisted_needs t (thread s c) x ∙ needs_re
     ]
       where
         there : (a : ℕ) → T (live t (subject a)) → c ≡ a → ⊥
-        there a l q = let r = step_entry t a l in none_ne_some r.0 (sym n ∙ ap (λ (z : ℕ). t.at (subject z)) q ∙ r.1)
+        there a l q = let r = step_entry t a l in none-ne-some r.0 (sym n ∙ ap (λ (z : ℕ). t.at (subject z)) q ∙ r.1)
 
     -- the figure of whom a subject stands for
     figure : (a : ℕ) → φ (subject a) ≡ needs t (subject (stand_in c s a))
@@ -581,7 +581,7 @@ module _ (t : Tables) (s : ℕ) (w : Wf t) where
     where
       gone : (s' p : ℕ) (k : Handle) → left.hand s' p ≡ some k → subject s' ≡ subject s → ⊥
       gone s' p k h q = let z : s ≡ s' = cc in
-          none_ne_some k (sym (cond_yes (eqb s s') none (t.hand s' p) (subst (λ (y : ℕ). T (eqb s y)) z (eqb_refl s))) ∙ h)
+          none-ne-some k (sym (cond_yes (eqb s s') none (t.hand s' p) (subst (λ (y : ℕ). T (eqb s y)) z (eqb_refl s))) ∙ h)
 
       never : (d : Dir) (o : ℕ) (e : Edge) (s' p : ℕ) (k : Handle) → arc d (subject s') (object o) ≡ e → left.hand s' p ≡ some k
           → (e.src ≡ subject s) ⊎ (e.dst ≡ subject s) → ⊥

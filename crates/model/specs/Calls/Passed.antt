@@ -1,7 +1,7 @@
 -- What the passed tests of an allowed call give, and what is live once a thing has entered or an exec has dropped what it drops. Assumes nothing.
 use Rattle.std.specs.Prelude.{◌≡◌, refl, Bool, true, false, not, ◌&&◌, cond, ℕ, ◌<◌, T, eqb, ltb}
 use Rattle.std.proofs.Common.{sym, ◌∙◌, subst, inl, inr, ltb→lt}
-use Rattle.std.proofs.Math.Option.{Option, none, some, none_ne_some}
+use Rattle.std.proofs.Math.Option.{Option, none, some, none-ne-some}
 use Rattle.std.proofs.Math.Dec.{eqb_refl}
 use Rattle.model.specs.Bools.{neither, both, not_not, cond_no}
 use Rattle.model.specs.Lists.{In}
@@ -72,11 +72,11 @@ old_live t x e g y l = live_at t (put t.at x (some e)) y (go (same x y)) l
 
 -- what an exec drops before it runs: handles alone
 pub lasting_was : (o : Option Handle) (k : Handle) → lasting o ≡ some k → o ≡ some k
-lasting_was none k q = absurd (none_ne_some k q)
+lasting_was none k q = absurd (none-ne-some k q)
 lasting_was (some j) k q = go (ends_at_exec j) q
   where
     go : (b : Bool) → cond b none (some j) ≡ some k → some j ≡ some k
-    go true z = absurd (none_ne_some k z)
+    go true z = absurd (none-ne-some k z)
     go false z = z
 
 -- nobody is another member beside itself

@@ -2,7 +2,7 @@
 -- that comes earlier in the order. Assumes nothing.
 use Rattle.std.specs.Prelude.{◌≡◌, refl, Bool, true, false, not, ◌||◌, ◌⊎◌, ◌↔◌, List, [], ◌∷◌, ℕ, T, eqb}
 use Rattle.std.proofs.Common.{sym, ◌∙◌, ap, ap₂, subst, inl, inr, arith, T_not, eqb→eq}
-use Rattle.std.proofs.Math.Option.{Option, none, some, none_ne_some, some-ne-none, some_injective}
+use Rattle.std.proofs.Math.Option.{Option, none, some, none-ne-some, some-ne-none, some-injective}
 use Rattle.std.proofs.Math.Dec.{eqb_refl}
 use Rattle.model.specs.Bools.{test, or_cases, or_left, or_right, both, both_of}
 use Rattle.model.specs.Lists.{In, any}
@@ -67,16 +67,16 @@ first_is t ds (k ∷ ks) n j b h = go (test (eqb k n)) (first_is t ds ks n)
         (λ c m q. h c m (both (not (eqb k n)) (eqb k (number c) || earlier (number c) n ks) e (or_right (eqb k (number c)) (earlier (number c) n ks) q)))
 
 first_hit : (t : Tables) (ds : List Test) (ns : List ℕ) (n : ℕ) → first t ds ns ≡ some n → T (breaks t n ds) × Passed t ds n ns
-first_hit t ds [] n q = absurd (none_ne_some n q)
+first_hit t ds [] n q = absurd (none-ne-some n q)
 first_hit t ds (k ∷ ks) n q = go (breaks t k ds) refl q (first_hit t ds ks n)
   where
     go : (z : Bool) → breaks t k ds ≡ z → ◌≡◌ {A = Option ℕ} (elim z as (λ _. Option ℕ) [ true ↦ some k | false ↦ first t ds ks ]) (some n)
         → (first t ds ks ≡ some n → T (breaks t n ds) × ((e : Test) → In e ds → T (earlier (number e) n ks) → T (not (broken t e)))) → T
         (breaks t n ds) × ((e : Test) → In e ds → T (earlier (number e) n (k ∷ ks)) → T (not (broken t e)))
     go true e r ih = (
-      subst (λ (z : ℕ). T (breaks t z ds)) (some_injective k n r) (subst T (sym e) tt),
+      subst (λ (z : ℕ). T (breaks t z ds)) (some-injective k n r) (subst T (sym e) tt),
       λ c m l. absurd (T_not (eqb k n) (both_of (not (eqb k n)) (eqb k (number c) || earlier (number c) n ks) l).0
-          (subst (λ (z : ℕ). T (eqb k z)) (some_injective k n r) (eqb_refl k))),
+          (subst (λ (z : ℕ). T (eqb k z)) (some-injective k n r) (eqb_refl k))),
     )
     go false e r ih = (
       (ih r).0,
@@ -214,5 +214,5 @@ answered_refused t c n = go (refusal t c)
     allows (given k) e = let z : ◌≡◌ {A = ℕ} 0 1 = cc in omega arith
 
     go : (o : Option ℕ) → ((elim o as (λ _. Answer) [ none ↦ said t (effect t c) (shown t c) | some m ↦ refused m ]) ≡ refused n) ↔ (o ≡ some n)
-    go none = (λ e. absurd (allows (shown t c) e), λ e. absurd (none_ne_some n e))
+    go none = (λ e. absurd (allows (shown t c) e), λ e. absurd (none-ne-some n e))
     go (some m) = (λ e. cc, λ e. cc)

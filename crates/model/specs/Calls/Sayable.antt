@@ -1,6 +1,6 @@
 -- Every answer from empty tables gives a level of 0 to 15, that to a freeze 0 to 16, or the number of a refusal that calls have. Assumes nothing.
 use Rattle.std.specs.Prelude.{◌≡◌, refl, Bool, true, false, List, [], ◌∷◌, ℕ, ◌≤◌, T, ltb}
-use Rattle.std.proofs.Common.{inl, arith, ltb_false}
+use Rattle.std.proofs.Common.{inl, arith, ltb-false}
 use Rattle.std.proofs.Math.Option.{Option, none, some}
 use Rattle.model.specs.Bools.{is_false}
 use Rattle.model.specs.Label.{highest, level, in_scale, bot}
@@ -58,7 +58,7 @@ answer_sayable t c v = go (refusal t c) refl
     shows (retire o) q = thing (retire o) (object o) (omega arith) q
     shows (maps s o p) q = thing (maps s o p) (cell t s) (omega arith) q
     shows (mark s p) q = thing (mark s p) (cell t s) (omega arith) q
-    shows (freeze n) q = ltb_false no_freeze n (is_false (ltb no_freeze n) ((allowed_iff t (freeze n)).0 q (freezable n) (inl refl)))
+    shows (freeze n) q = ltb-false no_freeze n (is_false (ltb no_freeze n) ((allowed_iff t (freeze n)).0 q (freezable n) (inl refl)))
     shows (connect s u a b p r) q = thing (connect s u a b p r) (cell t s) (omega arith) q
     shows unknown q = omega arith
 

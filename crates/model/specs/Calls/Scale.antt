@@ -1,6 +1,6 @@
 -- Labels stay those that a call may name (RULES T27): what an allowed call enters is in scale, and nothing rises. What is so of every label that calls name stays so of all. The freeze stays 0 to 16 (RULES T34). Assumes nothing.
 use Rattle.std.specs.Prelude.{◌≡◌, refl, not, [], ◌∷◌, ℕ, T, ltb}
-use Rattle.std.proofs.Common.{sym, subst, inl, inr, ltb_false}
+use Rattle.std.proofs.Common.{sym, subst, inl, inr, ltb-false}
 use Rattle.std.proofs.Math.Option.{Option, none, some}
 use Rattle.model.specs.Bools.{is_false, not_not}
 use Rattle.model.specs.Lists.{In}
@@ -85,6 +85,6 @@ module _ (t : Tables) (v : Frozen t) where
   call_frozen (retire o) m = record { bounded = v.bounded }
   call_frozen (maps s o p) m = record { bounded = v.bounded }
   call_frozen (mark s p) m = record { bounded = v.bounded }
-  call_frozen (freeze n) m = record { bounded = ltb_false no_freeze n (is_false (ltb no_freeze n) (m (freezable n) (inl refl))) }
+  call_frozen (freeze n) m = record { bounded = ltb-false no_freeze n (is_false (ltb no_freeze n) (m (freezable n) (inl refl))) }
   call_frozen (connect s u a b p q) m = record { bounded = v.bounded }
   call_frozen unknown m = v

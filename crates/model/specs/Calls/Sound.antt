@@ -3,7 +3,7 @@
 use Rattle.std.specs.Prelude.{◌≡◌, refl, Bool, true, false, not, cond, ◌⊎◌, [], ◌∷◌, ℕ, eqb}
 use Rattle.std.proofs.Common.{sym, ◌∙◌, ap, subst₂, inl, inr, T_not}
 use Rattle.std.proofs.Math.Path.{subst}
-use Rattle.std.proofs.Math.Option.{Option, none, some, some_injective}
+use Rattle.std.proofs.Math.Option.{Option, none, some, some-injective}
 use Rattle.std.proofs.Math.Dec.{T}
 use Rattle.model.specs.Bools.{test, not_not}
 use Rattle.model.specs.Label.{Label, leq, ◌⊑◌}
@@ -57,7 +57,7 @@ idle_need u o e q n = need_least (edges u) (λ y. demand y (u.at y)) (object o) 
         stuck r reading g = T_not (open_on (handles u) o) n (subst (λ (m : ℕ). T (open_on (handles u) m))
             (object_same r.k.to o (sym (ap (λ (v : Dir). (arc v r.x (object r.k.to)).src) g) ∙ ap (λ (v : Edge). v.src) r.is ∙ z))
             (open_here u r.s r.p r.k r.low_s r.low_p r.holds))
-        stuck r writing g = subject_object r.s o (sym (cell_self u r.s) ∙ some_injective (cell u r.s) r.x (sym (speaks_cell u r.s) ∙ r.speaker) ∙
+        stuck r writing g = subject_object r.s o (sym (cell_self u r.s) ∙ some-injective (cell u r.s) r.x (sym (speaks_cell u r.s) ∙ r.speaker) ∙
             sym (ap (λ (v : Dir). (arc v r.x (object r.k.to)).src) g) ∙ ap (λ (v : Edge). v.src) r.is ∙ z)
 
     only : (y : Thing) → Reaches (edges u) (object o) y → demand y (u.at y) ⊑ e.label
@@ -156,7 +156,7 @@ pot_swap t φ s p j k d o i = record {
         → (i : Handle) × (cond a (cond b (some j) f) g ≡ some i) × (i.dir ≡ l.dir) × (i.to ≡ l.to)
     was false b f g l q = (l, q, refl, refl)
     was true false f g l q = (l, q, refl, refl)
-    was true true f g l q = let e = some_injective k l q in (j, refl, d ∙ ap (λ (z : Handle). z.dir) e, o ∙ ap (λ (z : Handle). z.to) e)
+    was true true f g l q = let e = some-injective k l q in (j, refl, d ∙ ap (λ (z : Handle). z.dir) e, o ∙ ap (λ (z : Handle). z.to) e)
 
 -- the tables with the new mapping, before s falls, have a potential, and along the mapping data may move
 pub record MapMoves (t : Tables) (s o p : ℕ) : Type 0 where
@@ -280,7 +280,7 @@ module _ (t : Tables) (v : Sound t) where
         ψ = but (needs t) (subject c) (needs t (cell t s))
 
         child : (x : Thing) → speaks u c ≡ some x → subject c ≡ x
-        child x z = sym (cell_self u c) ∙ some_injective (cell u c) x (sym (speaks_cell u c) ∙ z)
+        child x z = sym (cell_self u c) ∙ some-injective (cell u c) x (sym (speaks_cell u c) ∙ z)
 
         same_need : needs t (cell t s) ≡ ψ (subject c)
         same_need = sym (but_here (needs t) (subject c) (needs t (cell t s)))
@@ -342,7 +342,7 @@ module _ (t : Tables) (v : Sound t) where
 
         mine : (x : Thing) → speaks u s ≡ some x → ψ (object o) ≡ ψ x
         mine x z = but_here (needs t) (object o) (needs t (cell t s)) ∙ sym (but_other t (needs t) (object o) (needs t (cell t s)) (cell t s) n.1 own)
-            ∙ ap ψ (some_injective (cell t s) x (sym (speaks_cell t s) ∙ sym (speaks_at t (put t.at (object o) (some e)) s) ∙ z))
+            ∙ ap ψ (some-injective (cell t s) x (sym (speaks_cell t s) ∙ sym (speaks_at t (put t.at (object o) (some e)) s) ∙ z))
 
         rises : (x : Thing) → speaks u s ≡ some x → ψ x ⊑ ψ (object o)
         rises x z = subst (λ (a : Label). a ⊑ ψ (object o)) (mine x z) ⊑_refl

@@ -3,7 +3,7 @@
 -- added to its admits and registers, is answered as it was by levels. Assumes nothing.
 use Rattle.std.specs.Prelude.{◌≡◌, refl, Bool, true, false, ◌&&◌, cond, List, [], ◌∷◌, ℕ, ◌≤◌, T, leb}
 use Rattle.std.proofs.Common.{sym, ◌∙◌, ap, ap₂, subst}
-use Rattle.std.proofs.Math.Option.{Option, none, some, none_ne_some}
+use Rattle.std.proofs.Math.Option.{Option, none, some, none-ne-some}
 use Rattle.std.specs.Int.Bits.{bit_and}
 use Rattle.std.specs.Int.Count.{ones, ones_in}
 use Rattle.model.specs.Bools.{is_true}
@@ -54,7 +54,7 @@ always_vouched [] t v n = v
 always_vouched (r ∷ rs) t v n = always_vouched rs (next t (decode r)) (next_vouched t v (decode r) n.0) n.1
 
 pub empty_vouched : Vouched empty
-empty_vouched = record { within = λ x e q. absurd (none_ne_some e q) }
+empty_vouched = record { within = λ x e q. absurd (none-ne-some e q) }
 
 -- ── then all goes by levels ──
 -- two labels compare as their levels do

@@ -4,7 +4,7 @@
 use Rattle.std.specs.Prelude.{◌≡◌, refl, Bool, true, false, not, ◌&&◌, cond, ◌⊎◌, ◌↔◌, List, ℕ, ◌<◌, T, eqb, ltb}
 use Rattle.std.proofs.Common.{sym, ◌∙◌, ap, ap₂, subst₂, inl, inr, T_not}
 use Rattle.std.proofs.Math.Path.{subst, fun_ext}
-use Rattle.std.proofs.Math.Option.{Option, none, some, none_ne_some}
+use Rattle.std.proofs.Math.Option.{Option, none, some, none-ne-some}
 use Rattle.std.proofs.Math.Dec.{eqb_refl}
 use Rattle.model.specs.Bools.{not_not, yes_not_not, neither, nor, cond_yes, cond_no}
 use Rattle.model.specs.Lists.{In}
@@ -128,7 +128,7 @@ fewer_shed {t} {u} f g s = fewer_holds (fewer_quits f g) s (λ p. lasting (t.han
     (λ p k q. lasts (u.hand s p) (t.hand s p) k (f.hands s p) q)
   where
     lasts : (v o : Option Handle) (k : Handle) → ((k : Handle) → v ≡ some k → o ≡ some k) → lasting v ≡ some k → lasting o ≡ some k
-    lasts none o k h q = absurd (none_ne_some k q)
+    lasts none o k h q = absurd (none-ne-some k q)
     lasts (some j) o k h q = ap lasting (h j refl) ∙ q
 
 fewer_sheds : {t u : Tables} → Fewer t u → (s : ℕ) → Fewer (applies (sheds t s) t) (applies (sheds u s) u)
@@ -211,7 +211,7 @@ fewer_close t s p = go (refusal t (close s p))
     r = reap (handles t) u
 
     left : (b : Bool) (o : Option Entry) (e : Entry) → cond b none o ≡ some e → o ≡ some e
-    left true o e q = absurd (none_ne_some e q)
+    left true o e q = absurd (none-ne-some e q)
     left false o e q = q
 
     closed : Fewer t (effect t (close s p))
@@ -282,7 +282,7 @@ module _ (t : Tables) (w : Wf t) (s p q : ℕ) (j k : Handle) (held : t.hand s q
         where
           less_spare : (n r : ℕ) (i : Handle) → t.hand n r ≡ some i → place t.hand s p (some k) n r ≡ some i
           less_spare n r i z = elim (place_cases t.hand s p (some k) n r (place t.hand s p (some k) n r) refl)
-              [ inl c ↦ absurd (none_ne_some i (sym free ∙ ap₂ t.hand c.0 c.1 ∙ z)) | inr c ↦ sym c ∙ z ]
+              [ inl c ↦ absurd (none-ne-some i (sym free ∙ ap₂ t.hand c.0 c.1 ∙ z)) | inr c ↦ sym c ∙ z ]
 
       at_row : (r : ℕ) (i : Handle) → lasting (t.hand s r) ≡ some i → v.hand s r ≡ some i
       at_row r i z = cond_yes (eqb s s) (lasting (t.hand s r)) (vacated (mates t s) t.hand s r) (eqb_refl s) ∙ z

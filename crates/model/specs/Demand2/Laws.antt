@@ -200,6 +200,7 @@ frozen_said_iff t d s o p = (
     passed n e (inr (inr (inl z))) h = subst (λ (k : Test). T (not (broken t k))) z n.place
     passed n e (inr (inr (inr (inl z)))) h = absurd (subst (λ (k : Test). T (earlier (number k) 15 order)) (sym z) h)
     passed n e (inr (inr (inr (inr (inl z))))) h = absurd (subst (λ (k : Test). T (earlier (number k) 15 order)) (sym z) h)
+    passed n e (inr (inr (inr (inr (inr z))))) h = absurd z
 
 -- RULES R9, R117: and with 9 if and only if no number of it is wrong, it is for reading or the file is not frozen, and some thing would have a level below its need
 pub flow_said_iff : (t : Tables) (d : Dir) (s o p : ℕ) → (refusal t (opens d s o p) ≡ some 9) ↔
@@ -222,3 +223,4 @@ flow_said_iff t d s o p = (
     passed n f e (inr (inr (inr (inl z)))) h = absurd (subst (λ (k : Test). T (earlier (number k) 9 order)) (sym z) h)
     passed n f e (inr (inr (inr (inr (inl z))))) h =
         subst (λ (k : Test). T (not (broken t k))) z (not_T (broken t (thawed d o)) (λ b. f ((shut_iff t d o).0 b)))
+    passed n f e (inr (inr (inr (inr (inr z))))) h = absurd z

@@ -2,7 +2,7 @@
 -- a map is tested before the caller falls or after (RULES R119). Assumes nothing.
 use Rattle.std.specs.Prelude.{◌≡◌, refl, Bool, true, false, not, ◌||◌, cond, ◌⊎◌, ◌↔◌, ℕ, T, eqb}
 use Rattle.std.proofs.Common.{sym, ◌∙◌, ap, subst, subst₂, inl, inr, eqb→eq}
-use Rattle.std.proofs.Math.Option.{Option, none, some, none_ne_some, some_injective}
+use Rattle.std.proofs.Math.Option.{Option, none, some, none-ne-some, some-injective}
 use Rattle.model.specs.Bools.{yes_not_not, is_false}
 use Rattle.model.specs.Lists.{In}
 use Rattle.model.specs.Label.{Label, ◌⊑◌}
@@ -74,7 +74,7 @@ shed_either t s h₀ v = ⊑-antisym (needs_under u m (cell t s) refl fewer) (ne
       where
         go : (a b : Bool) → cond (a || b) none (some j) ≡ some k → cond a none (some j) ≡ some k
         go true b q = q
-        go false true q = absurd (none_ne_some k q)
+        go false true q = absurd (none-ne-some k q)
         go false false q = q
 
     -- what is not marked lasts, but for mappings
@@ -83,8 +83,8 @@ shed_either t s h₀ v = ⊑-antisym (needs_under u m (cell t s) refl fewer) (ne
     lasts (some j) k q = go j.marked j.mapped refl q
       where
         go : (a b : Bool) → j.mapped ≡ b → cond a none (some j) ≡ some k → (cond (a || b) none (some j) ≡ some k) ⊎ ((some j ≡ some k) × T k.mapped)
-        go true b e q = absurd (none_ne_some k q)
-        go false true e q = inr (q, subst (λ (z : Handle). T z.mapped) (some_injective j k q) (subst T (sym e) tt))
+        go true b e q = absurd (none-ne-some k q)
+        go false true e q = inr (q, subst (λ (z : Handle). T z.mapped) (some-injective j k q) (subst T (sym e) tt))
         go false false e q = inl q
 
     hu : ℕ → ℕ → Option Handle
@@ -120,7 +120,7 @@ shed_either t s h₀ v = ⊑-antisym (needs_under u m (cell t s) refl fewer) (ne
         go true s' j p x k z d f q = elim (lasts (h₀ p) k q) [
           | inl h ↦ inl (subst (λ (y : Edge). In y (edges u)) d (f h))
           | inr h ↦ inr (sym (ap (λ (y : Edge). y.dst) d) ∙ ap (λ (w : Dir). (arc w x (object k.to)).dst) (v p k h.0 h.1)
-              ∙ some_injective x (cell t s) (sym z ∙ sym (ap (speaks t) (j tt)) ∙ speaks_cell t s))
+              ∙ some-injective x (cell t s) (sym z ∙ sym (ap (speaks t) (j tt)) ∙ speaks_cell t s))
         ]
 
 -- RULES R110: where the mappings of s are for reading, its need without them, the other members of its group gone, is its need with them

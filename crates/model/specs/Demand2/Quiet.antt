@@ -3,7 +3,7 @@
 use Rattle.std.specs.Prelude.{◌≡◌, refl, Bool, true, false, cond, ◌⊎◌, ℕ, T}
 use Rattle.std.proofs.Common.{sym, ◌∙◌, ap, ap₂, subst, subst₂, inl, inr}
 use Rattle.std.proofs.Math.Path.{fun_ext}
-use Rattle.std.proofs.Math.Option.{Option, none, some, some_injective}
+use Rattle.std.proofs.Math.Option.{Option, none, some, some-injective}
 use Rattle.model.specs.Label.{Label, ◌⊑◌, meet}
 use Rattle.model.specs.Label.Laws.{⊑_refl, meet_stays}
 use Rattle.model.specs.Flow.{Thing, subject, object}
@@ -89,4 +89,4 @@ module _ (t : Tables) (v : Kept t) (l : Listed t) (s p : ℕ) (k : Handle) (held
       go (some n) = refl
 
   pub quiet_allowed : (d : Dir) → Quiet t d s k → lowers t (effect t (access d s p)) ≡ false
-  quiet_allowed d h = ap (lowers t) (quiet_same d h) ∙ lowers_none t t (λ x e f a b. subst (λ (z : Entry). e.label ⊑ z.label) (some_injective e f (sym a ∙ b)) ⊑_refl)
+  quiet_allowed d h = ap (lowers t) (quiet_same d h) ∙ lowers_none t t (λ x e f a b. subst (λ (z : Entry). e.label ⊑ z.label) (some-injective e f (sym a ∙ b)) ⊑_refl)

@@ -2,7 +2,7 @@
 -- which calls lead from empty ones. Assumes nothing.
 use Rattle.std.specs.Prelude.{◌≡◌, not, ℕ, ◌<◌, T}
 use Rattle.std.proofs.Common.{sym, ◌∙◌, ap, subst, ltb→lt}
-use Rattle.std.proofs.Math.Option.{none, some, some_injective}
+use Rattle.std.proofs.Math.Option.{none, some, some-injective}
 use Rattle.model.specs.Bools.{cond_yes, yes_not_not, not_not, both}
 use Rattle.model.specs.Label.{Label, ◌⊑◌, bot}
 use Rattle.model.specs.Label.Laws.{⊑_trans}
@@ -32,7 +32,7 @@ module _ (t : Tables) (v : Kept t) (s o p : ℕ) (e : Entry) (f : File t o e) wh
   reads_above h = yes_not_not (safe u) (safe_complete u
       (pot_safe (pot_hold t (needs t) s p (handle reading o) (needs_pot v.wf v.safe)
       (λ x z. subst (λ (y : Thing). needs t y ⊑ needs t (object o))
-      (sym (cell_self t s) ∙ some_injective (cell t s) x (sym (speaks_cell t s) ∙ z)) falls))))
+      (sym (cell_self t s) ∙ some-injective (cell t s) x (sym (speaks_cell t s) ∙ z)) falls))))
     where
       demands : demand (object o) (t.at (object o)) ≡ e.label
       demands = ap (demand (object o)) f.there ∙ cond_yes (is_file (object o) e.kind) e.label bot f.a_file

@@ -2,7 +2,7 @@
 -- nobody (RULES C7, C104). Of all tables to which calls lead from empty ones. Assumes nothing.
 use Rattle.std.specs.Prelude.{◌≡◌, Bool, true, false, not, cond, ℕ, T}
 use Rattle.std.proofs.Common.{sym, ◌∙◌, ap, subst, subst₂, inl, inr}
-use Rattle.std.proofs.Math.Option.{Option, none, some, none_ne_some, some_injective}
+use Rattle.std.proofs.Math.Option.{Option, none, some, none-ne-some, some-injective}
 use Rattle.model.specs.Label.{Label, ◌⊑◌, label, highest, every_shop, shops}
 use Rattle.model.specs.Sets.Laws.{within_all}
 use Rattle.model.specs.Label.Laws.{⊑_refl, ⊑_trans, ⊑-of, level_label, shops_label, level_in_scale, shops_in_scale}
@@ -50,11 +50,11 @@ module _ (t : Tables) (v : Kept t) where
       w = apply (mix reads (subject s) x (cell t s) x) t
 
       left_over : (b : Bool) (o : Option Entry) (d : Entry) → cond b none o ≡ some d → o ≡ some d
-      left_over true o d z = absurd (none_ne_some d z)
+      left_over true o d z = absurd (none-ne-some d z)
       left_over false o d z = z
 
       same_label : (y : Thing) (e d : Entry) → t.at y ≡ some e → t.at y ≡ some d → e.label ⊑ d.label
-      same_label y e d a b = subst (λ (z : Entry). e.label ⊑ z.label) (some_injective e d (sym a ∙ b)) ⊑_refl
+      same_label y e d a b = subst (λ (z : Entry). e.label ⊑ z.label) (some-injective e d (sym a ∙ b)) ⊑_refl
 
       none_lower : NoneLower t (effect t (access reading s p))
       none_lower y e d a b = elim (sink_cases t (cell t s) (t.at x) y (some d) (left_over (ended (handles t) (handles w) y (w.at y)) (w.at y) d b)) [

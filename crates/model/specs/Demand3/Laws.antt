@@ -2,7 +2,7 @@
 -- which is any type with a view of it as tables, and calls that are answered and that move it as `Meets` says. Assumes nothing.
 use Rattle.std.specs.Prelude.{◌≡◌, refl, not, List, [], ◌∷◌, ◌++◌, ℕ, length, T, ltb}
 use Rattle.std.proofs.Common.{sym, ◌∙◌, ap, ap₂, subst, subst₂, inl, inr, lt→ltb}
-use Rattle.std.proofs.Math.Option.{Option, none, some, none_ne_some, some_injective}
+use Rattle.std.proofs.Math.Option.{Option, none, some, none-ne-some, some-injective}
 use Rattle.std.proofs.Math.ListN.{get_elem?}
 use Rattle.model.specs.Bools.{nor, yes_not_not}
 use Rattle.model.specs.Lists.{In}
@@ -41,7 +41,7 @@ held_allowed t w s p k q = (allowed_iff t (access k.dir s p)).1 each
     each e (inr (inr (inr z))) = absurd z
 
 not_refused : (t : Tables) (c : Call) (n : ℕ) → refusal t c ≡ none → answer t c ≡ refused n → ⊥
-not_refused t c n q e = none_ne_some n (sym q ∙ (answered_refused t c n).0 e)
+not_refused t c n q e = none-ne-some n (sym q ∙ (answered_refused t c n).0 e)
 
 -- ── the rules ──
 -- the answer at a position is the answer to the call there, in the tables just before
@@ -66,7 +66,7 @@ rules_demand3 rs = record {
   answers_are_the_book's = λ h out. sym (book_answered h out rs);
   end_is_the_book's = λ h out. sym (book_tables h out rs);
   none_cut_off = λ h out before r rest q w n e. none_cut h out before r w n
-      (some_injective _ _ (sym (answer_at empty before r rest) ∙ ap (λ (l : List Raw). get_elem? (answers empty l) (length before))
+      (some-injective _ _ (sym (answer_at empty before r rest) ∙ ap (λ (l : List Raw). get_elem? (answers empty l) (length before))
       (sym q) ∙ e));
   contents_unmoved = λ ℓ h p q w. (unmoved ℓ h p q rs w).same_at;
 }

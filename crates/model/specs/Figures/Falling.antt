@@ -3,7 +3,7 @@ use Rattle.std.specs.Prelude.{◌≡◌, refl, Bool, true, false, cond, not, ◌
 use Rattle.std.proofs.Common.{sym, ◌∙◌, ap, ap₂, subst₂, arith, T_not, eqb→eq, ltb→lt}
 use Rattle.std.proofs.Math.Path.{subst}
 use Rattle.std.proofs.Math.Logic.{inl, inr}
-use Rattle.std.proofs.Math.Option.{Option, none, some, none_ne_some}
+use Rattle.std.proofs.Math.Option.{Option, none, some, none-ne-some}
 use Rattle.std.proofs.Math.Dec.{T}
 use Rattle.model.specs.Bools.{test, both, cond_no}
 use Rattle.model.specs.Lists.{In}
@@ -154,7 +154,7 @@ step_together t m k c u f a b h n i j = go k c (was k c a l.0 i) (was k c b l.1 
     l = mates_live m a b h n
 
     there : (z : Thing) (d : ℕ) → t.at z ≡ none → T (live t (subject d)) → z ≡ subject d → ⊥
-    there z d q y e = let r = step_entry t d y in none_ne_some r.0 (sym q ∙ ap t.at e ∙ r.1)
+    there z d q y e = let r = step_entry t d y in none-ne-some r.0 (sym q ∙ ap t.at e ∙ r.1)
 
     was : (k : Step) → Calm t k → (d : ℕ) → T (live t (subject d)) → T (live (apply k u) (subject d)) → T (live u (subject d))
     was k c d y z = elim (step_lived k u (subject d) z) [ inl v ↦ v | inr v ↦ absurd (made k c v) ]

@@ -4,7 +4,7 @@
 use Rattle.std.specs.Prelude.{◌≡◌, refl, Bool, true, false, not, ◌&&◌, cond, ◌⊎◌, List, ℕ, ◌<◌, T, eqb, ltb}
 use Rattle.std.proofs.Common.{sym, ◌∙◌, ap, subst, subst₂, inl, inr, arith, T_not, eqb→eq, ltb→lt, lt→ltb}
 use Rattle.std.proofs.Math.Path.{fun_ext}
-use Rattle.std.proofs.Math.Option.{Option, none, some, none_ne_some, some_injective}
+use Rattle.std.proofs.Math.Option.{Option, none, some, none-ne-some, some-injective}
 use Rattle.std.proofs.Math.Dec.{not_T, eqb_refl}
 use Rattle.model.specs.Bools.{test, or_cases, or_left, or_right, both, both_of, cond_yes, cond_no, cond_cases}
 use Rattle.model.specs.Lists.{In}
@@ -47,7 +47,7 @@ mates_live g a b h n = (g.only a b h n, g.only b a (g.both_ways a b h) (unlike_b
 pub lone : {t : Tables} → Teams t → (c b : ℕ) → t.at (subject c) ≡ none → T (t.kin c b) → c ≡ b
 lone {t} g c b n h = elim (test (eqb c b)) [
   | inl e ↦ eqb→eq c b e
-  | inr u ↦ (let r = step_entry t c (g.only c b h u) in absurd (none_ne_some r.0 (sym n ∙ r.1)))
+  | inr u ↦ (let r = step_entry t c (g.only c b h u) in absurd (none-ne-some r.0 (sym n ∙ r.1)))
 ]
 
 pub teams_same : {t u : Tables} → t.kin ≡ u.kin → ((a : ℕ) → T (live t (subject a)) → T (live u (subject a))) → Teams t → Teams u
@@ -138,17 +138,17 @@ needs_pot {t} w v = record {
 -- what a flow leads from and to has an entry
 speaker_entry : {t : Tables} {s p : ℕ} {x : Thing} {k : Handle} → Ends t s p k → speaks t s ≡ some x → (e : Entry) × (t.at x ≡ some e)
 speaker_entry {t} {s} {x = x} f z = subst (λ (y : Thing). (e : Entry) × (t.at y ≡ some e))
-    (some_injective (cell t s) x (sym (speaks_cell t s) ∙ z)) (cell_entry t s f.from)
+    (some-injective (cell t s) x (sym (speaks_cell t s) ∙ z)) (cell_entry t s f.from)
 
 -- ── empty tables ──
 pub empty_wf : Wf empty
-empty_wf = record { ends = λ s p k q. absurd (none_ne_some k q); ranged = λ x e q. absurd (none_ne_some e q); teams = empty_teams }
+empty_wf = record { ends = λ s p k q. absurd (none-ne-some k q); ranged = λ x e q. absurd (none-ne-some e q); teams = empty_teams }
 
 pub empty_pot : Pot empty (λ x. bot)
-empty_pot = record { low = λ x. bot_least; cap = λ x e q. bot_least; falls = λ s p x k z q. absurd (none_ne_some k q); shares = λ a b h. ⊑_refl }
+empty_pot = record { low = λ x. bot_least; cap = λ x e q. bot_least; falls = λ s p x k z q. absurd (none-ne-some k q); shares = λ a b h. ⊑_refl }
 
 pub empty_scaled : Scaled empty
-empty_scaled = record { within = λ x e q. absurd (none_ne_some e q) }
+empty_scaled = record { within = λ x e q. absurd (none-ne-some e q) }
 
 pub empty_frozen : Frozen empty
 empty_frozen = record { bounded = omega arith }
@@ -164,18 +164,18 @@ clean_wf t r g = record { ends = λ s p k q. joins s p (t.hand s p) k q; ranged 
 
     joins : (s p : ℕ) (o : Option Handle) (k : Handle) → counted (ltb p places && live t (subject s)) (λ o. live t (object o)) o ≡ some k
         → Ends (with_hand t h) s p k
-    joins s p none k q = absurd (none_ne_some k q)
+    joins s p none k q = absurd (none-ne-some k q)
     joins s p (some j) k q = elim (cond_cases ((ltb p places && live t (subject s)) && live t (object j.to)) (some j) none (some k) q) [
       | inl c ↦ (let a = both_of (ltb p places && live t (subject s)) (live t (object j.to)) c.0 in let b = both_of (ltb p places)
           (live t (subject s)) a.0 in
           record {
             from = live_hand t h (subject s) b.1;
             to = live_hand t h (object k.to)
-                (subst (λ (z : Handle). T (live t (object z.to))) (some_injective j k c.1) a.1);
+                (subst (λ (z : Handle). T (live t (object z.to))) (some-injective j k c.1) a.1);
             place = ltb→lt p places
                 b.0;
           })
-      | inr c ↦ absurd (none_ne_some k c.1)
+      | inr c ↦ absurd (none-ne-some k c.1)
     ]
 
 -- and where nothing dangles, cleaning changes nothing
@@ -215,14 +215,14 @@ wf_enter t x e g r w = record {
 pub labelled_enter : (P : Label → Type 0) (t : Tables) (x : Thing) (e : Entry) (g : Origin) → P e.label → Labelled P t → Labelled P (apply (enter x e g) t)
 labelled_enter P t x e g h v = record {
   within = λ y d q. elim (put_cases t.at x (some e) y (some d) q) [
-    | inl c ↦ subst (λ (z : Entry). P z.label) (some_injective e d c.1) h
+    | inl c ↦ subst (λ (z : Entry). P z.label) (some-injective e d c.1) h
     | inr c ↦ v.within y d c.1
   ];
 }
 
 -- what has an entry is not the thing without one
 apart : (t : Tables) (x y : Thing) (e : Entry) → t.at x ≡ none → t.at y ≡ some e → T (not (same x y))
-apart t x y e n q = not_T (same x y) (λ s. none_ne_some e (sym n ∙ ap t.at (same→eq x y s) ∙ q))
+apart t x y e n q = not_T (same x y) (λ s. none-ne-some e (sym n ∙ ap t.at (same→eq x y s) ∙ q))
 
 pub but_other : (t : Tables) (φ : Thing → Label) (x : Thing) (v : Label) (y : Thing) → t.at x ≡ none → (e : Entry) × (t.at y ≡ some e) → but φ x v y ≡ φ y
 but_other t φ x v y n r = cond_no (same x y) v (φ y) (apart t x y r.0 n r.1)
@@ -248,7 +248,7 @@ pot_enter t φ x e g v w i n lo hi = record { low = λ y. low' y (same x y) (sam
     low' y false s = i.low y
 
     cap' : (b : Bool) (y : Thing) (d : Entry) → cond b (some e) (t.at y) ≡ some d → cond b v (φ y) ⊑ d.label
-    cap' true y d q = subst (λ (z : Entry). v ⊑ z.label) (some_injective e d q) hi
+    cap' true y d q = subst (λ (z : Entry). v ⊑ z.label) (some-injective e d q) hi
     cap' false y d q = i.cap y d q
 
     kept : (y : Thing) → (d : Entry) × (t.at y ≡ some d) → φ y ≡ but φ x v y
@@ -287,14 +287,14 @@ labelled_same P e v = record { within = λ x d q. v.within x d (sym (e x) ∙ q)
 -- place p of s takes the handle k
 pub wf_hold : (t : Tables) (s p : ℕ) (k : Handle) → Wf t → Ends t s p k → Wf (apply (hold s p (some k)) t)
 wf_hold t s p k w f = wf_hand t (place t.hand s p (some k)) w (λ s' p' k' q. elim (place_cases t.hand s p (some k) s' p' (some k') q) [
-  | inl c ↦ inr (subst (λ (z : Handle). Ends t s' p' z) (some_injective k k' c.2) (subst₂ (λ a b. Ends t a b k) c.0 c.1 f))
+  | inl c ↦ inr (subst (λ (z : Handle). Ends t s' p' z) (some-injective k k' c.2) (subst₂ (λ a b. Ends t a b k) c.0 c.1 f))
   | inr c ↦ inl c
 ])
 
 pub pot_hold : (t : Tables) (φ : Thing → Label) (s p : ℕ) (k : Handle) → Pot t φ →
     ((x : Thing) → speaks t s ≡ some x → φ (flow x k).dst ⊑ φ (flow x k).src) → Pot (apply (hold s p (some k)) t) φ
 pot_hold t φ s p k i f = pot_hand t φ (place t.hand s p (some k)) i (λ s' p' x k' z q. elim (place_cases t.hand s p (some k) s' p' (some k') q) [
-  | inl c ↦ inr (subst (λ (m : Handle). φ (flow x m).dst ⊑ φ (flow x m).src) (some_injective k k' c.2) (f x (ap (speaks t) c.0 ∙ z)))
+  | inl c ↦ inr (subst (λ (m : Handle). φ (flow x m).dst ⊑ φ (flow x m).src) (some-injective k k' c.2) (f x (ap (speaks t) c.0 ∙ z)))
   | inr c ↦ inl c
 ])
 
@@ -321,11 +321,11 @@ less_hand t h f = record {
 
 pub less_close : (t : Tables) (s p : ℕ) → Less t (apply (hold s p none) t)
 less_close t s p = less_hand t (place t.hand s p none) (λ s' p' k q. elim
-    (place_cases t.hand s p none s' p' (some k) q) [ inl c ↦ absurd (none_ne_some k c.2) | inr c ↦ c ])
+    (place_cases t.hand s p none s' p' (some k) q) [ inl c ↦ absurd (none-ne-some k c.2) | inr c ↦ c ])
 
 pub less_row : (t : Tables) (s : ℕ) → Less t (apply (holds s (λ p. none)) t)
 less_row t s = less_hand t (row t.hand s (λ p. none)) (λ s' p k q. elim
-    (row_cases t.hand s (λ p. none) s' p (some k) q) [ inl c ↦ absurd (none_ne_some k c.1) | inr c ↦ c.1 ])
+    (row_cases t.hand s (λ p. none) s' p (some k) q) [ inl c ↦ absurd (none-ne-some k c.1) | inr c ↦ c.1 ])
 
 -- another freeze takes no handle away
 pub less_freeze : (t : Tables) (f : ℕ) → Less t (with_freeze t f)
@@ -407,11 +407,11 @@ less_quits t g n = record {
     a x = cond (g x) none (t.at x)
 
     kept : (b : Bool) (o : Option Entry) (e : Entry) → cond b none o ≡ some e → o ≡ some e
-    kept true o e q = absurd (none_ne_some e q)
+    kept true o e q = absurd (none-ne-some e q)
     kept false o e q = q
 
     holds : (b : Bool) (o : Option Handle) (k : Handle) → cond b none o ≡ some k → T (not b) × (o ≡ some k)
-    holds true o k q = absurd (none_ne_some k q)
+    holds true o k q = absurd (none-ne-some k q)
     holds false o k q = (tt, q)
 
     stays : (x : Thing) → T (not (g x)) → T (is_some (t.at x)) → T (is_some (a x))
@@ -420,7 +420,7 @@ less_quits t g n = record {
 -- ── fewer things, same handles: leave, and the end of a pipe ──
 -- what is left was there
 left : (gone : Bool) (o : Option Entry) (e : Entry) → cond gone none o ≡ some e → o ≡ some e
-left true o e q = absurd (none_ne_some e q)
+left true o e q = absurd (none-ne-some e q)
 left false o e q = q
 
 -- no handle joins a thing that goes
@@ -458,7 +458,7 @@ pot_without gone t φ i = record {
     low' false y = i.low y
 
     cap' : (b : Bool) (y : Thing) (d : Entry) → cond b none (t.at y) ≡ some d → φ y ⊑ d.label
-    cap' true y d q = absurd (none_ne_some d q)
+    cap' true y d q = absurd (none-ne-some d q)
     cap' false y d q = i.cap y d q
 
 pub labelled_without : (P : Label → Type 0) (gone : Thing → Bool) (t : Tables) → Labelled P t → Labelled P (without gone t)

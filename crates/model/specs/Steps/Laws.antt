@@ -3,7 +3,7 @@
 use Rattle.std.specs.Prelude.{◌≡◌, refl, Bool, true, false, not, ◌&&◌, cond, ◌⊎◌, List, [], ◌∷◌, ◌++◌, ℕ, T, eqb}
 use Rattle.std.proofs.Common.{sym, ◌∙◌, ap, subst, inl, inr, T_not, eqb→eq}
 use Rattle.std.proofs.Math.Path.{fun_ext}
-use Rattle.std.proofs.Math.Option.{Option, none, some, none_ne_some, some_injective}
+use Rattle.std.proofs.Math.Option.{Option, none, some, none-ne-some, some-injective}
 use Rattle.std.proofs.Math.Dec.{not_T, eqb_refl}
 use Rattle.model.specs.Bools.{test, both, both_of, cond_yes, cond_no, cond_cases}
 use Rattle.model.specs.Lists.{In}
@@ -75,7 +75,7 @@ place_apart h s p v s' p' n = cond_no (eqb s s') (cond (eqb p p') v (h s p')) (h
 
 -- what had an entry is not the thing that had none
 pub put_apart : (a : Thing → Option Entry) (x y : Thing) (v : Option Entry) (e : Entry) → a x ≡ none → a y ≡ some e → put a x v y ≡ a y
-put_apart a x y v e n q = cond_no (same x y) v (a y) (not_T (same x y) (λ s. none_ne_some e (sym n ∙ ap a (same→eq x y s) ∙ q)))
+put_apart a x y v e n q = cond_no (same x y) v (a y) (not_T (same x y) (λ s. none-ne-some e (sym n ∙ ap a (same→eq x y s) ∙ q)))
 
 -- ── used and live after a change ──
 pub live_hand : (t : Tables) (h : ℕ → ℕ → Option Handle) (x : Thing) → T (live t x) → T (live (with_hand t h) x)
@@ -186,9 +186,9 @@ fall_demand x (some e) (some d) = go (is_file x e.kind) (λ f. cond_no (falls x 
 
 -- nothing rises
 pub fall_under : (x : Thing) (a b : Option Entry) (r : Entry) → fall x a b ≡ some r → (e : Entry) × (a ≡ some e) × (r.label ⊑ e.label)
-fall_under x none b r q = absurd (none_ne_some r q)
-fall_under x (some e) none r q = (e, refl, subst (λ (z : Entry). z.label ⊑ e.label) (some_injective e r q) ⊑_refl)
-fall_under x (some e) (some d) r q = (e, refl, subst (λ (z : Entry). z.label ⊑ e.label) (some_injective _ r q) (go (falls x e.kind)))
+fall_under x none b r q = absurd (none-ne-some r q)
+fall_under x (some e) none r q = (e, refl, subst (λ (z : Entry). z.label ⊑ e.label) (some-injective e r q) ⊑_refl)
+fall_under x (some e) (some d) r q = (e, refl, subst (λ (z : Entry). z.label ⊑ e.label) (some-injective _ r q) (go (falls x e.kind)))
   where
     go : (f : Bool) → cond f (meet e.label d.label) e.label ⊑ e.label
     go true = meet_left e.label d.label
@@ -196,9 +196,9 @@ fall_under x (some e) (some d) r q = (e, refl, subst (λ (z : Entry). z.label �
 
 pub fall_is : (P : Label → Type 0) → ((a b : Label) → P a → P b → P (meet a b)) → (x : Thing) (a b : Option Entry) (r : Entry) → ((e : Entry) → a ≡ some e → P e.label)
     → ((e : Entry) → b ≡ some e → P e.label) → fall x a b ≡ some r → P r.label
-fall_is P f x none b r p q h = absurd (none_ne_some r h)
+fall_is P f x none b r p q h = absurd (none-ne-some r h)
 fall_is P f x (some e) none r p q h = p r h
-fall_is P f x (some e) (some d) r p q h = subst (λ (z : Entry). P z.label) (some_injective _ r h) (go (falls x e.kind))
+fall_is P f x (some e) (some d) r p q h = subst (λ (z : Entry). P z.label) (some-injective _ r h) (go (falls x e.kind))
   where
     go : (k : Bool) → P (cond k (meet e.label d.label) e.label)
     go true = f e.label d.label (p e refl) (q d refl)
@@ -209,7 +209,7 @@ unfolding fall_under
 fall_label x none b = ⊑_refl
 fall_label x (some e) none = ⊑_refl
 fall_label x (some e) (some d) = let r = fall_under x (some e) (some d) _ refl in
-    subst (λ (z : Entry). sunk x e.kind e.label d.label ⊑ z.label) (sym (some_injective e r.0 r.1)) r.2
+    subst (λ (z : Entry). sunk x e.kind e.label d.label ⊑ z.label) (sym (some-injective e r.0 r.1)) r.2
 
 -- a file keeps its entry
 pub file_keeps : (x : Thing) (a b : Option Entry) → T (a_file x a) → fall x a b ≡ a
@@ -240,8 +240,8 @@ pub record Fell (x : Thing) (a : Option Entry) (d r : Entry) : Type 0 where
 
 pub fell : (x : Thing) (a b : Option Entry) (d r : Entry) → b ≡ some d → fall x a b ≡ some r → Fell x a d r
 unfolding fall_under
-fell x none b d r q f = absurd (none_ne_some r f)
-fell x (some e) none d r q f = absurd (none_ne_some d q)
+fell x none b d r q f = absurd (none-ne-some r f)
+fell x (some e) none d r q f = absurd (none-ne-some d q)
 fell x (some e) (some d') d r q f = record {
   was = e;
   was_is = refl;
@@ -252,8 +252,8 @@ fell x (some e) (some d') d r q f = record {
 }
   where
     l : cond (falls x e.kind) (meet e.label d.label) e.label ≡ r.label
-    l = subst (λ (z : Entry). sunk x e.kind e.label z.label ≡ r.label) (some_injective d' d q)
-        (ap (λ (z : Entry). z.label) (some_injective _ r f))
+    l = subst (λ (z : Entry). sunk x e.kind e.label z.label ≡ r.label) (some-injective d' d q)
+        (ap (λ (z : Entry). z.label) (some-injective _ r f))
 
     right : (f : Bool) → (T (not f) → e.label ⊑ d.label) → cond f (meet e.label d.label) e.label ⊑ d.label
     right true h = meet_right e.label d.label

@@ -3,7 +3,7 @@
 -- the list. Assumes nothing.
 use Rattle.std.specs.Prelude.{◌≡◌, Bool, true, false, not, cond, ◌⊎◌, List, [], ◌∷◌, ◌++◌, ℕ, zero, suc, ◌+◌, ◌*◌, ◌/◌, ◌^◌, ◌<◌, length, T, eqb, ltb}
 use Rattle.std.proofs.Math.Path.{refl}
-use Rattle.std.proofs.Common.{◌∙◌, ap, subst, inl, inr, mod-lt, arith, length_append, T_not, eqb→eq, ltb→lt, lit<}
+use Rattle.std.proofs.Common.{◌∙◌, ap, subst, inl, inr, mod-lt, arith, length-append, T_not, eqb→eq, ltb→lt, lit<}
 use Rattle.std.proofs.Math.Option.{Option, none, some}
 use Rattle.std.proofs.Math.Dec.{not_T, eqb_refl}
 use Rattle.model.specs.Bools.{test, neither, not_not, cond_yes, cond_no, is_true, is_false}
@@ -29,7 +29,7 @@ module _ {A : Type 0} where
   each_same zero f g h = refl
   each_same (suc n) f g h = let a : length (each n g) ≡ length (each n f) = each_same n f g (λ j l. h j (omega arith)) in let b : length
       (g n) ≡ length (f n) = h n (omega arith) in
-      omega (arith, length_append (each n g) (g n), length_append (each n f) (f n))
+      omega (arith, length-append (each n g) (g n), length-append (each n f) (f n))
 
   -- one of them changed
   each_swap : (n i : ℕ) (f g : ℕ → List A) → i < n → ((j : ℕ) → T (not (eqb i j)) → length (g j) ≡ length (f j)) → length
@@ -38,10 +38,10 @@ module _ {A : Type 0} where
   each_swap (suc n) i f g lt h = go (test (eqb i n)) (each_swap n i f g)
     where
       ga : length (each n g ++ g n) ≡ length (each n g) + length (g n)
-      ga = length_append (each n g) (g n)
+      ga = length-append (each n g) (g n)
 
       fa : length (each n f ++ f n) ≡ length (each n f) + length (f n)
-      fa = length_append (each n f) (f n)
+      fa = length-append (each n f) (f n)
 
       go : T (eqb i n) ⊎ T (not (eqb i n)) → (i < n → ((j : ℕ) → T (not (eqb i j)) → length (g j) ≡ length (f j)) → length
           (each n g) + length (f i) ≡ length (each n f) + length (g i))
@@ -98,9 +98,9 @@ pub each_parts : (n : ℕ) (h : ℕ → Option Handle) → length (each n (λ p.
 each_parts zero h = refl
 each_parts (suc n) h = let a = each_parts n h in let b = parts (h n) in omega (
   arith,
-  length_append (each n (λ p. one (h p))) (one (h n)),
-  length_append (each n (λ p. one (dropped (h p)))) (one (dropped (h n))),
-  length_append (each n (λ p. one (lasting (h p)))) (one (lasting (h n))),
+  length-append (each n (λ p. one (h p))) (one (h n)),
+  length-append (each n (λ p. one (dropped (h p)))) (one (dropped (h n))),
+  length-append (each n (λ p. one (lasting (h p)))) (one (lasting (h n))),
 )
   where
     parts : (o : Option Handle) → length (one o) ≡ length (one (dropped o)) + length (one (lasting o))
@@ -113,7 +113,7 @@ each_parts (suc n) h = let a = each_parts n h in let b = parts (h n) in omega (
 
 pub each_none : (n : ℕ) (f : ℕ → List Handle) → ((j : ℕ) → length (f j) ≡ 0) → length (each n f) ≡ 0
 each_none zero f h = refl
-each_none (suc n) f h = let a : length (each n f) ≡ 0 = each_none n f h in let b : length (f n) ≡ 0 = h n in omega (arith, length_append (each n f) (f n))
+each_none (suc n) f h = let a : length (each n f) ≡ 0 = each_none n f h in let b : length (f n) ≡ 0 = h n in omega (arith, length-append (each n f) (f n))
 
 -- subjects end
 count_quits : (t : Tables) (g : Thing → Bool) → count (apply (quits g) t) + length (each subjects (λ m. cond (g (subject m)) (handles_of t m) [])) ≡ count t
@@ -132,9 +132,9 @@ count_quits t g = all subjects
     all (suc n) = let a = all n in let b : length (handles_of u n) + length (cond (g (subject n)) (handles_of t n) []) ≡ length (handles_of t n) = one_by n (g (subject n)) in
         omega (
           arith,
-          length_append (each n (handles_of u)) (handles_of u n),
-          length_append (each n (λ m. cond (g (subject m)) (handles_of t m) [])) (cond (g (subject n)) (handles_of t n) []),
-          length_append (each n (handles_of t)) (handles_of t n),
+          length-append (each n (handles_of u)) (handles_of u n),
+          length-append (each n (λ m. cond (g (subject m)) (handles_of t m) [])) (cond (g (subject n)) (handles_of t n) []),
+          length-append (each n (handles_of t)) (handles_of t n),
         )
 
 -- what an exec drops

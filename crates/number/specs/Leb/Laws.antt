@@ -3,7 +3,7 @@
 -- that read as a number are its one coding; no byte past the longest good number matters; the bounds of the format.
 -- Assumes nothing.
 use Rattle.std.specs.Prelude.{◌≡◌, refl, ◌⊎◌, ℕ, zero, suc, ◌+◌, ◌*◌, ◌/◌, ◌%◌, ◌^◌, ◌≤◌, ◌<◌, Bool, true, false, cond, ◌||◌, List, [], ◌∷◌, ◌++◌, leb, ltb, length, take, drop}
-use Rattle.std.proofs.Common.{sym, ap, ◌∙◌, subst, inl, inr, ⊎_elim, arith, div-lt_iff_lt-mul, pow-suc, get_or-drop, ltb-true, ltb_false, leb-false, lt-ltb, le-ltb, le-leb}
+use Rattle.std.proofs.Common.{sym, ap, ◌∙◌, subst, inl, inr, ⊎_elim, arith, div-lt_iff_lt-mul, pow-suc, get_or-drop, ltb-true, ltb-false, leb-false, lt-ltb, le-ltb, le-leb}
 use Rattle.std.proofs.Math.Option.{Option, none, some, map}
 use Rattle.std.proofs.Math.Dec.{leb-suc-suc}
 use Rattle.std.proofs.lemmas.Bool.{lt-leb}
@@ -16,7 +16,7 @@ split a b = by_test (ltb a b) refl
   where
     by_test : (t : Bool) → ltb a b ≡ t → (a < b) ⊎ (b ≤ a)
     by_test true e = inl (ltb-true a b e)
-    by_test false e = inr (ltb_false a b e)
+    by_test false e = inr (ltb-false a b e)
 
 -- what `cc` makes of two constructors that are said to be equal
 pub clash : {A : Type 0} → ◌≡◌ {A = ℕ} 0 1 → A
@@ -106,7 +106,7 @@ numeral_front (b ∷ s) bs e = by_test (λ ns q. numeral_front s ns q) (ltb b 12
     by_test : ((ns : List ℕ) → numeral s ≡ some ns → Front s ns) → (t : Bool) → ltb b 128 ≡ t
         → cond t (some (b ∷ [])) (map (λ (t : List ℕ). b ∷ t) (numeral s)) ≡ some bs → Front (b ∷ s) bs
     by_test ih true q e = let p : b ∷ [] ≡ bs = cc in subst (Front (b ∷ s)) p (last (ltb-true b 128 q))
-    by_test ih false q e = by_rest ih (ltb_false b 128 q) (numeral s) refl e
+    by_test ih false q e = by_rest ih (ltb-false b 128 q) (numeral s) refl e
 
 front_some : {s bs : List ℕ} → Front s bs → 0 < length bs
 front_some (last l) = omega arith
@@ -172,8 +172,8 @@ number_good most s n k = by_numeral (numeral s) refl
             front = q;
             worth = v;
             bytes = u;
-            fits = omega (arith, ltb_false most (value bs) o);
-            short = omega (arith, ltb_false (length (encode (value bs))) (length bs) l, ap (λ (x : ℕ). length (encode x)) v);
+            fits = omega (arith, ltb-false most (value bs) o);
+            short = omega (arith, ltb-false (length (encode (value bs))) (length bs) l, ap (λ (x : ℕ). length (encode x)) v);
           },
         )
 

@@ -6,7 +6,7 @@ use Rattle.std.proofs.Common.{sym, ap, ◌∙◌, arith, append-nil, length-take
 use Rattle.std.proofs.Math.Bool.{true, false, cond}
 use Rattle.std.proofs.Math.Option.{none, some}
 use Rattle.std.proofs.Math.Dec.{leb}
-use Rattle.std.proofs.Math.ListN.{length, drop, length-drop, length_append}
+use Rattle.std.proofs.Math.ListN.{length, drop, length-drop, length-append}
 use Rattle.std.proofs.Math.Seq.{drop-length}
 use borrow.Author.Tests.{leb-true, leb-false, le-leb, lt-leb}
 use borrow.Rule.Slice.PartMut.{put_mid, Post-is}
@@ -65,7 +65,7 @@ module _ (e b : List ℕ) where
   length_put = by_test (leb (length e) (length b)) refl
     where
       by_test : (t : Bool) → leb (length e) (length b) ≡ t → length (cond t (e ++ drop (length e) b) b) ≡ length b
-      by_test true q = omega (arith, length_append e (drop (length e) b), length-drop (length e) b, leb-true (length e) (length b) q)
+      by_test true q = omega (arith, length-append e (drop (length e) b), length-drop (length e) b, leb-true (length e) (length b) q)
       by_test false q = refl
 
 -- what was written lies inside, and `&out[..k]` has its bytes

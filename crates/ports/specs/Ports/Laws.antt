@@ -1,6 +1,6 @@
 -- Laws of the ports. In order: what a read's number means, by tests of it; how far reading has come. Assumes nothing.
 use Rattle.std.specs.Prelude.{ℕ, zero, suc, ◌+◌, ◌-◌, ◌≤◌, ◌<◌, ◌≡◌, refl, true, false, List, ℤ, pos, negsuc, nat_abs, length, take, drop}
-use Rattle.std.proofs.Common.{zero-le, arith, sym, subst, ltb-true, ltb_false, length-take, length-drop}
+use Rattle.std.proofs.Common.{zero-le, arith, sym, subst, ltb-true, ltb-false, length-take, length-drop}
 use Rattle.std.specs.Int.Signed.{lt_z}
 use Rattle.libc.specs.Io.{Moved}
 use Rattle.ports.specs.declared.Intake.{Intake}
@@ -20,7 +20,7 @@ step_above (negsuc n) e = absurd (let q : ◌≡◌ {A = ℕ} 0 1 = cc in omega 
 
 pub step_between : (z : ℤ) → lt_z z (pos 0) ≡ false → lt_z (pos 0) z ≡ false → Ended ≡ step z
 step_between (pos zero) e f = refl
-step_between (pos (suc n)) e f = absurd (omega (arith, ltb_false 0 (suc n) f))
+step_between (pos (suc n)) e f = absurd (omega (arith, ltb-false 0 (suc n) f))
 step_between (negsuc n) e f = absurd (let q : ◌≡◌ {A = ℕ} 0 1 = cc in omega arith)
 
 -- a read that is lent m bytes brings at most as many

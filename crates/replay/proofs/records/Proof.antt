@@ -4,7 +4,7 @@ use Rattle.text.specs.Parts.Laws.{put_after, none_after}
 use Rattle.replay.specs.Replay.{answer_line, last_line, largest_journal}
 use Rattle.replay.specs.Replay.Laws.{bad_inside, right_more, honest_more, sure_more, one_turned}
 use mathlib.Core.Bool.{Bool, cond}
-use mathlib.Core.Option.{none_ne_some}
+use mathlib.Core.Option.{none-ne-some}
 use Prim.Native.Nat.{ℕ, ◌+◌, ◌-◌, ◌≤◌}
 use native.Mathlib.Omega.{arith}
 use borrow.Author.Rules.{rules}
@@ -214,7 +214,7 @@ returns c =
       record_ends a.journal.now a.out.now l.out l.at l.position l.used l.m (counts_of l.tally) g q.0.0 q.0.1.0
           q.0.1.1.0 e k.result.monitor (counts_of k.result.tally) k.result.code x o thin l.invariant.0.0 w.new.0
           (ap writing (sym c.enum_told.given.1) ∙ w.ensures.0 ∙ ap (λ y. fitted y rest) is) (w.ensures.1.0 ∙ ap (λ y. put y rest) is),
-      (λ k z. absurd (none_ne_some k z), (l.invariant.0.1, (l.invariant.0.2, l.invariant.0.3))),
+      (λ k z. absurd (none-ne-some k z), (l.invariant.0.1, (l.invariant.0.2, l.invariant.0.3))),
     )
 
 enum-told-2 : tie.Need-enum-told-2 invariant-loop decreases-loop
@@ -304,7 +304,7 @@ returns-2 c =
     let w = c4.write-line2 in (
       broken_ends a.journal.now a.out.now l.out l.at l.position l.used l.m (counts_of l.tally) g e (bad_inside _ _ _ e)
           w.ensures.1.1 l.invariant.0.0 w.new.0 (ap writing (sym c.enum-told3.given.1) ∙ w.ensures.0) w.ensures.1.0,
-      (λ k z. absurd (none_ne_some k z), (l.invariant.0.1, (l.invariant.0.2, l.invariant.0.3))),
+      (λ k z. absurd (none-ne-some k z), (l.invariant.0.1, (l.invariant.0.2, l.invariant.0.3))),
     )
 
 enum-told-4 : tie.Need-enum-told-4 invariant-loop decreases-loop
@@ -416,7 +416,7 @@ returns-4 c =
       end_short a.journal.now a.out.now l.out (view l.m) (counts_of l.tally) l.at l.position l.used g thin l.invariant.0.0
           w.new.0 (ap writing (sym c.enum-told5.given.1) ∙ w.ensures.0 ∙ ap (λ y. fitted y rest) is)
           (w.ensures.1.0 ∙ ap (λ y. put y rest) is),
-      (λ k z. absurd (none_ne_some k z), (l.invariant.0.1, (l.invariant.0.2, l.invariant.0.3))),
+      (λ k z. absurd (none-ne-some k z), (l.invariant.0.1, (l.invariant.0.2, l.invariant.0.3))),
     )
 
 pub records-spec : {M : Type 1} → statement M

@@ -1,6 +1,6 @@
 -- One more call and its answer in the buffers. Assumes nothing.
 use Rattle.std.specs.Prelude.{◌≡◌, refl, List, [], ◌∷◌, ◌++◌, Bool, true, false, cond, ℕ, zero, suc, ◌+◌, ◌*◌, ◌≤◌, ◌<◌, length, take, drop, set, ltb}
-use Rattle.std.proofs.Common.{sym, ◌∙◌, ap, ap₂, subst, arith, add-one, length_append, length-drop, drop-drop, take_at, ltb-true, ltb_false}
+use Rattle.std.proofs.Common.{sym, ◌∙◌, ap, ap₂, subst, arith, add-one, length-append, length-drop, drop-drop, take_at, ltb-true, ltb-false}
 use Rattle.model.specs.Tables.{Tables, empty}
 use Rattle.model.specs.Calls.{Raw, decode, Answer, allowed, lowered, refused, answer, next, answers, after}
 use Rattle.model.specs.Calls.Kept.{always_kept}
@@ -17,7 +17,7 @@ lesser_left a b = go (ltb a b) refl
   where
     go : (x : Bool) → ltb a b ≡ x → cond x a b ≤ a
     go true q = omega arith
-    go false q = ltb_false a b q
+    go false q = ltb-false a b q
 
 pub lesser_right : (a b : ℕ) → lesser a b ≤ b
 lesser_right a b = go (ltb a b) refl
@@ -40,7 +40,7 @@ length_answers t (r ∷ rs) = ap suc (length_answers (next t (decode r)) rs)
 
 length_calls : (l : List ℕ) (n : ℕ) → length (calls_in l n) ≡ n
 length_calls l zero = refl
-length_calls l (suc n) = let h : length (calls_in l n) ≡ n = length_calls l n in omega (arith, length_append (calls_in l n) (call_at l n ∷ []))
+length_calls l (suc n) = let h : length (calls_in l n) ≡ n = length_calls l n in omega (arith, length-append (calls_in l n) (call_at l n ∷ []))
 
 set_three : (w d : List ℕ) (x y z : ℕ) → 3 ≤ length d
     → set (set (set (w ++ d) (length w) x) (suc (length w)) y) (suc (suc (length w))) z ≡ w ++ x ∷ y ∷ z ∷ drop 3 d

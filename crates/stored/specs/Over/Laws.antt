@@ -1,6 +1,6 @@
 -- Laws of `over`. Assumes nothing.
 use Rattle.std.specs.Prelude.{◌≡◌, List, [], ◌++◌, ℕ, ◌+◌, ◌≤◌, length, take, drop}
-use Rattle.std.proofs.Common.{sym, ap, ap₂, ◌∙◌, append_assoc, append-nil, arith, length_append, length-take, length-drop, take-append-drop, drop_of_length-le, take_at, drop_at, drop-drop}
+use Rattle.std.proofs.Common.{sym, ap, ap₂, ◌∙◌, append_assoc, append-nil, arith, length-append, length-take, length-drop, take-append-drop, drop_of_length-le, take_at, drop_at, drop-drop}
 use Rattle.stored.specs.Over.{over}
 
 pub over_none : (at : ℕ) (o : List ℕ) → over at [] o ≡ o
@@ -11,8 +11,8 @@ pub over_length : (at : ℕ) (e o : List ℕ) → at + length e ≤ length o →
 unfolding over
 over_length at e o h = omega (
   arith,
-  length_append (take at o) (e ++ drop (at + length e) o),
-  length_append e (drop (at + length e) o),
+  length-append (take at o) (e ++ drop (at + length e) o),
+  length-append e (drop (at + length e) o),
   length-take at o,
   length-drop (at + length e) o,
 )
@@ -23,9 +23,9 @@ unfolding over
 over_next b at e e' o s h ha hs =
     let p = take b o ++ e in
     let t = drop (b + length e) o in
-    let size : length p ≡ at = omega (arith, length_append (take b o) e, length-take b o) in
+    let size : length p ≡ at = omega (arith, length-append (take b o) e, length-take b o) in
     let is : s ≡ p ++ t = hs ∙ sym (append_assoc (take b o) e t) in
-    let end : b + length e + length e' ≡ b + length (e ++ e') = omega (arith, length_append e e') in
+    let end : b + length e + length e' ≡ b + length (e ++ e') = omega (arith, length-append e e') in
     let rest : drop (at + length e') s ≡ drop (b + length (e ++ e')) o =
     ap (λ (q : List ℕ). drop (at + length e') q) is
     ∙ sym (drop-drop (length e') at (p ++ t))

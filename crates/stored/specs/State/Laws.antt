@@ -2,15 +2,15 @@
 -- nothing.
 use Rattle.std.specs.Prelude.{◌≡◌, Bool, true, false, not, ◌&&◌, ◌||◌, cond, T, ltb, eqb, take, set}
 use Rattle.std.proofs.Math.Path.{refl, sym, ap, ap₂, fun_ext}
-use Rattle.std.proofs.Common.{◌∙◌, subst, arith, lt-ltb, ne_eqb, ltb_false, take_at, drop_at, drop-drop, get_or-drop}
-use Rattle.std.proofs.Math.Bool.{or_false}
+use Rattle.std.proofs.Common.{◌∙◌, subst, arith, lt-ltb, ne_eqb, ltb-false, take_at, drop_at, drop-drop, get_or-drop}
+use Rattle.std.proofs.Math.Bool.{or-false}
 use Rattle.std.proofs.Math.Option.{Option, none}
 use mathlib.Core.List.{List, [], ◌∷◌, ◌++◌, map, append_assoc, append-nil}
 use Prim.Native.Nat.{ℕ, zero, suc, ◌+◌, ◌*◌, ◌/◌, ◌^◌, ◌<◌}
 use Rattle.std.proofs.Math.Decide.{dec_lt}
 use Rattle.std.proofs.Math.Nat.{mul-zero, mul-suc}
-use Rattle.std.proofs.Math.ListN.{length, drop, get_or, replicate, length_append, get_or-map, get_or_eq_default}
-use Rattle.std.proofs.lemmas.List.{length-replicate, get_or-replicate, length_map, set_at}
+use Rattle.std.proofs.Math.ListN.{length, drop, get_or, replicate, length-append, get_or-map, get_or-eq_default}
+use Rattle.std.proofs.lemmas.List.{length-replicate, get_or-replicate, length-map, set_at}
 use Rattle.model.specs.Flow.{Thing, subject, object}
 use Rattle.model.specs.Tables.{Tables, no_freeze, empty, clean, with_at, with_hand, with_freeze, with_numbers, with_kin, subjects, objects, places}
 use Rattle.model.specs.Invariant.{Wf}
@@ -74,7 +74,7 @@ module _ {A : Type 0} (g : A → List ℕ) where
     pub length_flat : (l : List A) → length (flat g l) ≡ w * length l
     unfolding flat
     length_flat [] = sym (mul-zero w)
-    length_flat (x ∷ l) = omega (arith, length_append (g x) (flat g l), wide x, length_flat l, mul-suc w (length l))
+    length_flat (x ∷ l) = omega (arith, length-append (g x) (flat g l), wide x, length_flat l, mul-suc w (length l))
 
     -- what was stored is loaded, as the record that its bytes stand for
     pub records_flat : (f : List ℕ → A) (l : List A) (t : List ℕ) → records f w (length l) (flat g l ++ t) ≡ map (λ x. f (g x)) l
@@ -159,7 +159,7 @@ sort_tested k v n l lv ne = go (ltb n k) refl
   where
     go : (b : Bool) → ltb n k ≡ b → eqb (sort_of k (cond b n 2)) v ≡ eqb n v
     go true q = rw q
-    go false q = rw (lt-ltb 2 k l, ne_eqb 2 v (λ e. ne (sym e)), ne_eqb n v (λ e. omega (arith, ltb_false n k q)))
+    go false q = rw (lt-ltb 2 k l, ne_eqb 2 v (λ e. ne (sym e)), ne_eqb n v (λ e. omega (arith, ltb-false n k q)))
 
 subject_same : (x : Subject) → subject_entry (plain_subject x) ≡ subject_entry x
 subject_same x = rw (live_tested x.live)
@@ -191,7 +191,7 @@ used_same os i = ap (λ (y : Object). not (eqb y.kind 0)) (get_or-map plain_obje
     ∙ ap not (sort_tested kinds 0 (get_or os i no_object).kind (omega arith) (omega arith) (λ e. omega arith))
 
 used_slots_same : (os : List Object) → used_slots (map plain_object os) ≡ used_slots os
-used_slots_same os = ap₂ (λ (n : ℕ) (f : ℕ → Bool). each n (λ i. keep (f i) i [])) (length_map os plain_object) (fun_ext (used_same os))
+used_slots_same os = ap₂ (λ (n : ℕ) (f : ℕ → Bool). each n (λ i. keep (f i) i [])) (length-map os plain_object) (fun_ext (used_same os))
 
 -- and so it is the same slots that count
 singled_map : (f : ℕ → Bool) (i : ℕ) (os : List Object) → singled f i (map plain_object os) ≡ map plain_object (singled f i os)
@@ -369,16 +369,16 @@ module _ (m : Monitor) (y : Tally) (long : Long m) where
   bytes_length = omega (
     arith,
     ap length from_0,
-    length_append (subject_bytes m.subjects) (object_bytes m.objects ++ after_objects),
-    length_append (object_bytes m.objects) after_objects,
-    length_append (handle_bytes m.handles) numbers,
-    length_append (digits 8 y.made) after_made,
-    length_append (digits 8 y.gone) last,
+    length-append (subject_bytes m.subjects) (object_bytes m.objects ++ after_objects),
+    length-append (object_bytes m.objects) after_objects,
+    length-append (handle_bytes m.handles) numbers,
+    length-append (digits 8 y.made) after_made,
+    length-append (digits 8 y.gone) last,
     subjects_count,
     objects_count,
     handles_count,
-    length_append (need_bytes m.needs) after_needs,
-    length_append (number_bytes m.numbers) (group_bytes m.groups),
+    length-append (need_bytes m.needs) after_needs,
+    length-append (number_bytes m.numbers) (group_bytes m.groups),
     needs_count,
     numbers_count,
     groups_count,
@@ -468,14 +468,14 @@ zeros_set s z = ap (λ (l : List ℕ). set l freeze_at no_freeze) z
 
 -- where no subject is live, each is by itself
 kin_none : (gs : List ℕ) → kin_of (replicate 32 no_subject) gs ≡ eqb
-kin_none gs = fun_ext (λ a. fun_ext (λ b. ap (λ (p : Bool). eqb a b || (p && (stands (replicate 32 no_subject) b && eqb (get_or gs a 0) (get_or gs b 0)))) (gone a) ∙ or_false (eqb a b)))
+kin_none gs = fun_ext (λ a. fun_ext (λ b. ap (λ (p : Bool). eqb a b || (p && (stands (replicate 32 no_subject) b && eqb (get_or gs a 0) (get_or gs b 0)))) (gone a) ∙ or-false (eqb a b)))
   where
     gone : (a : ℕ) → stands (replicate 32 no_subject) a ≡ false
     gone a = ap (λ (x : Subject). not (eqb x.live 0)) (go (dec_lt a 32))
       where
         go : Dec (a < 32) → get_or (replicate 32 no_subject) a no_subject ≡ no_subject
         go (yes l) = get_or-replicate 32 a no_subject no_subject l
-        go (no h) = get_or_eq_default (replicate 32 no_subject) no_subject {n = a} (omega (arith, length-replicate 32 no_subject))
+        go (no h) = get_or-eq_default (replicate 32 no_subject) no_subject {n = a} (omega (arith, length-replicate 32 no_subject))
 
 module _ (s : List ℕ) (z : s ≡ blank_bytes) where
   no_subjects : subjects_of s ≡ replicate 32 no_subject
@@ -514,7 +514,7 @@ module _ (s : List ℕ) (z : s ≡ blank_bytes) where
 
   blank_length : length s ≡ state_bytes
   unfolding blank_bytes
-  blank_length = ap length z ∙ length_append (replicate freeze_at 0) (no_freeze ∷ replicate (need_width * (subjects + objects) + number_width * objects + subjects) 0)
+  blank_length = ap length z ∙ length-append (replicate freeze_at 0) (no_freeze ∷ replicate (need_width * (subjects + objects) + number_width * objects + subjects) 0)
       ∙ ap (λ (k : ℕ). k + (1 + (need_width * (subjects + objects) + number_width * objects + subjects))) (length-replicate {A = ℕ} freeze_at 0)
 
   pub bytes_blank : Blank s

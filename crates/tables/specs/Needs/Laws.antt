@@ -1,6 +1,6 @@
 -- A figure that is stored is that of one thing, and of no other. Assumes nothing.
 use Rattle.std.specs.Prelude.{◌≡◌, Bool, true, false, cond, List, ℕ, ◌<◌, length, set, T}
-use Rattle.std.proofs.Common.{sym, ◌∙◌, ap, subst, arith, get_or_set_same, get_or-set_other, ltb→lt}
+use Rattle.std.proofs.Common.{sym, ◌∙◌, ap, subst, arith, get_or-set_same, get_or-set_other, ltb→lt}
 use Rattle.model.specs.Label.{Label}
 use Rattle.labels.specs.Codes.{coded}
 use Rattle.model.specs.Flow.{Thing, subject, object, same}
@@ -32,7 +32,7 @@ module _ (r : List ℕ) (z : Thing) (v : ℕ) (l : length r ≡ 96) (g : T (hous
     where
       go : (b : Bool) → (T b → z ≡ x) → (z ≡ x → T b) → figure_of (set r (node z) v) x ≡ cond b (coded v) (figure_of r x)
       go true p q = subst (λ (y : Thing). figure_of (set r (node z) v) y ≡ coded v) (p tt)
-          (ap coded (get_or_set_same r (node z) v 0 (omega (arith, node_low z g))))
+          (ap coded (get_or-set_same r (node z) v 0 (omega (arith, node_low z g))))
       go false p q = ap coded (get_or-set_other r (node z) (node x) v 0 (node_apart z x (housed_range z g) h q))
 
   -- the figures with that of one thing set

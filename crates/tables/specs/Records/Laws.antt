@@ -4,13 +4,13 @@ use Rattle.std.specs.Prelude.{◌≡◌, Bool, not, ◌&&◌, List, ℕ, ◌+◌
 use Rattle.std.proofs.Math.Path.{refl, sym, ap, subst, fun_ext}
 use Rattle.std.proofs.Common.{◌∙◌, ap₂, T_not, eqb→eq, lt→ltb}
 use Rattle.std.proofs.Math.Bool.{true, false, cond}
-use Rattle.std.proofs.Math.Option.{Option, none, some, none_ne_some, some_injective}
+use Rattle.std.proofs.Math.Option.{Option, none, some, none-ne-some, some-injective}
 use native.Mathlib.Omega.{arith}
 use Rattle.std.proofs.Math.Decide.{ℕ_discrete, dec_lt}
-use borrow.Author.Tests.{lt-ltb, le-ltb, eq-eqb, ne_eqb, ltb-true, ltb_false}
+use borrow.Author.Tests.{lt-ltb, le-ltb, eq-eqb, ne_eqb, ltb-true, ltb-false}
 use Rattle.std.proofs.lemmas.List.{length-replicate, get_or-replicate}
-use Rattle.std.proofs.Math.ListN.{get_or_eq_default}
-use Rattle.std.proofs.Math.Seq.{get_or_set_same, get_or-set_other}
+use Rattle.std.proofs.Math.ListN.{get_or-eq_default}
+use Rattle.std.proofs.Math.Seq.{get_or-set_same, get_or-set_other}
 use Rattle.std.proofs.Math.Dec.{T, not_T, ltb}
 use Rattle.model.specs.Bools.{is_true, cond_no}
 use Rattle.model.specs.Flow.{Thing, subject, object}
@@ -37,7 +37,7 @@ module _ (rest : Tables) (ss : List Subject) (os : List Object) (hs : List Handl
     where
       go : (b : Bool) → ltb s 32 ≡ b → subject_entry (get_or ss s no_subject) ≡ subject_entry (cond b (get_or ss (s % 32) no_subject) no_subject)
       go true q = let e : s % 32 ≡ s = omega (arith, ltb-true s 32 q) in rw e
-      go false q = ap subject_entry (get_or_eq_default ss no_subject {n = s} (omega (arith, ltb_false s 32 q)))
+      go false q = ap subject_entry (get_or-eq_default ss no_subject {n = s} (omega (arith, ltb-false s 32 q)))
 
   pub object_there : (o : ℕ) → length os ≡ 64 → (tables_of rest ss os hs).at (object o) ≡ object_entry (object_at o (get_or os (o % 64) no_object))
   unfolding tables_of
@@ -45,7 +45,7 @@ module _ (rest : Tables) (ss : List Subject) (os : List Object) (hs : List Handl
     where
       go : (b : Bool) → ltb o 64 ≡ b → object_entry (get_or os o no_object) ≡ object_entry (cond b (get_or os (o % 64) no_object) no_object)
       go true q = let e : o % 64 ≡ o = omega (arith, ltb-true o 64 q) in rw e
-      go false q = ap object_entry (get_or_eq_default os no_object {n = o} (omega (arith, ltb_false o 64 q)))
+      go false q = ap object_entry (get_or-eq_default os no_object {n = o} (omega (arith, ltb-false o 64 q)))
 
   pub handle_there : (s p : ℕ) → length hs ≡ 512 → (tables_of rest ss os hs).hand s p ≡ held (handle_at s p (get_or hs (s % 32 * 16 + p % 16) no_handle))
   unfolding tables_of
@@ -55,7 +55,7 @@ module _ (rest : Tables) (ss : List Subject) (os : List Object) (hs : List Handl
           (cond a (cond b (get_or hs (s % 32 * 16 + p % 16) no_handle) no_handle) no_handle)
       go true x true y = let e : s % 32 ≡ s = omega (arith, ltb-true s 32 x) in let f : p % 16 ≡ p = omega (arith, ltb-true p 16 y) in rw (e, f)
       go true x false y = refl
-      go false x true y = ap held (get_or_eq_default hs no_handle {n = s * 16 + p} (omega (arith, ltb_false s 32 x)))
+      go false x true y = ap held (get_or-eq_default hs no_handle {n = s * 16 + p} (omega (arith, ltb-false s 32 x)))
       go false x false y = refl
 
   -- ── cleaned tables ──
@@ -64,12 +64,12 @@ module _ (rest : Tables) (ss : List Subject) (os : List Object) (hs : List Handl
     where
       go : Dec (n < 32) → T (ltb n 32)
       go (yes l) = lt→ltb n 32 l
-      go (no h) = absurd (none_ne_some a (sym (ap subject_entry (get_or_eq_default ss no_subject {n = n} (omega arith))) ∙ q))
+      go (no h) = absurd (none-ne-some a (sym (ap subject_entry (get_or-eq_default ss no_subject {n = n} (omega arith))) ∙ q))
   within ls lo (object n) a q = go (dec_lt n 64)
     where
       go : Dec (n < 64) → T (ltb n 64)
       go (yes l) = lt→ltb n 64 l
-      go (no h) = absurd (none_ne_some a (sym (ap object_entry (get_or_eq_default os no_object {n = n} (omega arith))) ∙ q))
+      go (no h) = absurd (none-ne-some a (sym (ap object_entry (get_or-eq_default os no_object {n = n} (omega arith))) ∙ q))
 
   -- an object that stands in the array is one of its slots
   pub slot_low : length os ≡ 64 → (t : Tables) (o : ℕ) → (tables_of rest ss os hs).at (object o) ≡ t.at (object o) → T (live t (object o)) → o < 64
@@ -78,7 +78,7 @@ module _ (rest : Tables) (ss : List Subject) (os : List Object) (hs : List Handl
     where
       go : Dec (o < 64) → o < 64
       go (yes h) = h
-      go (no h) = absurd (subst (λ (e : Option Entry). T (is_some e)) (sym q ∙ ap object_entry (get_or_eq_default os no_object {n = o} (omega arith)))
+      go (no h) = absurd (subst (λ (e : Option Entry). T (is_some e)) (sym q ∙ ap object_entry (get_or-eq_default os no_object {n = o} (omega arith)))
           (subst T (used_is t (object o)) (live_of t (object o) l).1))
 
   pub cleaned_wf : (t : Tables) → length ss ≡ 32 → length os ≡ 64 → Teams (tables_of rest ss os hs) → t ≡ clean (tables_of rest ss os hs) → Wf t
@@ -96,7 +96,7 @@ empty_tables = ap₂ (λ (a : Thing → Option Entry) (h : ℕ → ℕ → Optio
       where
         go : Dec (i < n) → get_or (replicate n a) i a ≡ a
         go (yes l) = get_or-replicate n i a a l
-        go (no h) = get_or_eq_default (replicate n a) a {n = i} (omega (arith, length-replicate n a))
+        go (no h) = get_or-eq_default (replicate n a) a {n = i} (omega (arith, length-replicate n a))
 
     at : (x : Thing) → entries (replicate 32 no_subject) (replicate 64 no_object) x ≡ none
     at (subject n) = ap subject_entry (any 32 n no_subject)
@@ -113,7 +113,7 @@ look_set : {A B : Type 0} (f : A → B) (l : List A) (d : A) (i : ℕ) (v : A) �
 look_set f l d i v h j = go (ℕ_discrete i j)
   where
     go : Dec (i ≡ j) → f (get_or (set l i v) j d) ≡ cond (eqb i j) (f v) (f (get_or l j d))
-    go (yes e) = rw (eq-eqb i j e, ← e, get_or_set_same l i v d h)
+    go (yes e) = rw (eq-eqb i j e, ← e, get_or-set_same l i v d h)
     go (no ne) = rw (ne_eqb i j ne, get_or-set_other l i j v d (λ q. ne (sym q)))
 
 module _ (rest : Tables) (ss : List Subject) (os : List Object) (hs : List Handle) where
@@ -148,7 +148,7 @@ module _ (rest : Tables) (ss : List Subject) (os : List Object) (hs : List Handl
         eq-eqb s s refl,
         eq-eqb p p refl,
         lt-ltb p 16 (omega arith),
-        get_or_set_same hs (s * 16 + p) v no_handle (omega arith),
+        get_or-set_same hs (s * 16 + p) v no_handle (omega arith),
       )
       at s' p' true e (yes es) (no np) = rw (
         ← es,
@@ -197,7 +197,7 @@ others_open t s p k v a n ne h = go (open_at t n h)
         still false f c g = r.5
         still true f false g = ap (λ (z : ℕ). t.hand z r.1) (f tt) ∙ r.5
         still true f true g = absurd (ne (sym r.6 ∙ ap (λ (w : Held). w.to)
-            (some_injective r.2 k (sym r.5 ∙ ap (λ (z : ℕ). t.hand z r.1) (sym (f tt)) ∙ ap (t.hand s) (sym (g tt)) ∙ a))))
+            (some-injective r.2 k (sym r.5 ∙ ap (λ (z : ℕ). t.hand z r.1) (sym (f tt)) ∙ ap (t.hand s) (sym (g tt)) ∙ a))))
 
 pipe_of : (o : ℕ) (y : Object) → is_pipe (object o) (object_entry y) ≡ not (ltb y.kind 2)
 pipe_of o y = go (ℕ_discrete y.kind 0) (ℕ_discrete y.kind 1)

@@ -3,7 +3,7 @@
 use mathlib.Core.Path.{ap, ◌∙◌}
 use native.Mathlib.Omega.{arith}
 use mathlib.Core.List.{[], ◌∷◌}
-use lib.ListN.{length, length_append}
+use lib.ListN.{length, length-append}
 use borrow.Author.Rules.{rules}
 use Rattle.text.specs.Decimal.{decimal}
 use Rattle.text.specs.Reply.{newline}
@@ -38,7 +38,7 @@ returns-2 : tie.Need-returns-2
 returns-2 c =
     let a = c.before.before.args in
     let v = c.before.decimal-len.ensures in
-    let is = ap length (last_other a.letter a.value a.lost c.if1.false) ∙ length_append (decimal a.value) (newline ∷ []) in
+    let is = ap length (last_other a.letter a.value a.lost c.if1.false) ∙ length-append (decimal a.value) (newline ∷ []) in
     (omega (arith, is, v.0), omega (arith, v.1))
 
 pub last-len-spec : {M : Type 1} → statement M

@@ -2,7 +2,7 @@
 use Prim.Native.Nat.{◌<◌}
 use native.Mathlib.Omega.{arith}
 use mathlib.Core.List.{[], ◌∷◌}
-use lib.ListN.{length, length_append}
+use lib.ListN.{length, length-append}
 use borrow.Author.Rules.{rules}
 use Rattle.text.specs.Decimal.{decimal}
 use Rattle.text.specs.Parts.{Over}
@@ -23,13 +23,13 @@ begun c =
     let start = c.before.before.before in
     let w = c.write-decimal in
     let room : w.result < length start.args.out.now =
-    omega (arith, w.ensures.0, length_append (decimal start.args.n) (start.args.mark ∷ []), start.requires) in
+    omega (arith, w.ensures.0, length-append (decimal start.args.n) (start.args.mark ∷ []), start.requires) in
     (put_over _ _ _ _ w.ensures.0 (omega arith) w.ensures.1, room)
 
 write-decimal-requires : tie.Need-write-decimal-requires
 write-decimal-requires c κs =
     let start = c.before.before in
-    omega (arith, length_append (decimal start.args.n) (start.args.mark ∷ []), start.requires)
+    omega (arith, length-append (decimal start.args.n) (start.args.mark ∷ []), start.requires)
 
 slice-write-out : tie.Need-slice-write-out
 slice-write-out c = let (o, room) = begun c.before.before in omega (arith, o.size)

@@ -3,7 +3,7 @@ use Prim.Native.Nat.{◌+◌, ◌≤◌}
 use mathlib.Core.Path.{sym, ap, ◌∙◌}
 use native.Mathlib.Omega.{arith}
 use mathlib.Core.List.{◌++◌}
-use lib.ListN.{length, length_append}
+use lib.ListN.{length, length-append}
 use borrow.Author.Rules.{rules}
 use Rattle.number.specs.Put.{put}
 use Rattle.text.specs.Reply.{space, newline, field}
@@ -33,7 +33,7 @@ first c =
     let a = c.before.before.before.before.args in
     let w = c.write-field2 in
     let fits : w.result ≤ length a.out.now =
-    omega (arith, w.ensures.0, length_append (field a.value space) (field a.lost newline), room c.before.before) in
+    omega (arith, w.ensures.0, length-append (field a.value space) (field a.lost newline), room c.before.before) in
     put_over _ _ _ _ w.ensures.0 fits w.ensures.1
 
 second :
@@ -67,7 +67,7 @@ returns c =
 write-field-requires-2 : tie.Need-write-field-requires-2
 write-field-requires-2 c κs =
     let a = c.before.before.before.args in
-    omega (arith, length_append (field a.value space) (field a.lost newline), room c.before)
+    omega (arith, length-append (field a.value space) (field a.lost newline), room c.before)
 
 sub-write-field : tie.Need-overflow-sub-write-field
 sub-write-field c = let o = first c.before.before in omega (arith, o.within, o.size)

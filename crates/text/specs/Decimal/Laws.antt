@@ -1,7 +1,7 @@
 -- Laws of a number in decimal. In order: the digits by the last one; how many there are; they are the number's, the highest
 -- first, with no zero in front. Assumes nothing.
 use Rattle.std.specs.Prelude.{◌≡◌, refl, ℕ, zero, suc, ◌+◌, ◌-◌, ◌*◌, ◌/◌, ◌%◌, ◌^◌, ◌≤◌, ◌<◌, List, [], ◌∷◌, ◌++◌, length, get_or}
-use Rattle.std.proofs.Common.{ap, ⊎_elim, arith, div-lt_iff_lt-mul, pow-suc, length_append, lt-ltb, le-ltb}
+use Rattle.std.proofs.Common.{ap, ⊎_elim, arith, div-lt_iff_lt-mul, pow-suc, length-append, lt-ltb, le-ltb}
 use Rattle.std.proofs.Math.ListN.{get_or-append}
 use Rattle.number.specs.Leb.Laws.{split}
 use Rattle.text.specs.Decimal.{digit, digits, decimal}
@@ -34,7 +34,7 @@ decimal_more (suc n) h =
 -- ---- how many digits there are
 
 pub length_more : (n : ℕ) → 10 ≤ n → length (decimal n) ≡ length (decimal (n / 10)) + 1
-length_more n h = omega (arith, ap length (decimal_more n h), length_append (decimal (n / 10)) (digit (n % 10)))
+length_more n h = omega (arith, ap length (decimal_more n h), length-append (decimal (n / 10)) (digit (n % 10)))
 
 pub decimal_some : (n : ℕ) → 0 < length (decimal n)
 decimal_some n = ⊎_elim (λ l. omega (arith, ap length (decimal_one n l))) (λ l. omega (arith, length_more n l)) (split n 10)

@@ -1,7 +1,7 @@
 -- Laws of writing some bytes after others. In order: before anything is written, and what was put over the front; how much was
 -- written, that it is one put, and one byte more; one part more, put into the rest of the buffer that was lent. Assumes nothing.
 use Rattle.std.specs.Prelude.{◌≡◌, refl, ℕ, ◌+◌, ◌-◌, ◌≤◌, ◌<◌, List, [], ◌∷◌, ◌++◌, length, take, drop, set}
-use Rattle.std.proofs.Common.{sym, ap, ◌∙◌, arith, add-one, length_append, length-take, length-drop, length-set, take-append-drop, take_at, drop_at, take-add, drop-drop, take-suc-set, drop-set-lt}
+use Rattle.std.proofs.Common.{sym, ap, ◌∙◌, arith, add-one, length-append, length-take, length-drop, length-set, take-append-drop, take_at, drop_at, take-add, drop-drop, take-suc-set, drop-set-lt}
 use Rattle.std.proofs.Math.Option.{none, some}
 use borrow.Rule.Slice.PartMut.{put_mid}
 use Rattle.number.specs.Put.{put, fitted}
@@ -55,7 +55,7 @@ module _ {b done : List ℕ} {at : ℕ} {out : List ℕ} (o : Over b done at out
   module _ (e : List ℕ) where
     -- there is room for e in the rest
     pub rest_room : length (done ++ e) ≤ length b → length e ≤ length (take (length out - at) (drop at out))
-    rest_room room = omega (arith, length_append done e, over_count, rest_length)
+    rest_room room = omega (arith, length-append done e, over_count, rest_length)
 
     pub part_after : (ys : List ℕ) (k : ℕ) → k ≡ length e → length (done ++ e) ≤ length b → ys ≡ put e (take (length out - at) (drop at out))
         → Over b (done ++ e) (at + k) (put_mid at (length out - at) out ys)
@@ -67,7 +67,7 @@ module _ {b done : List ℕ} {at : ℕ} {out : List ℕ} (o : Over b done at out
         let rest = ap (drop at) whole ∙ drop_at (take at out) ys at front_length in
         record {
           within = omega (arith, rest_length);
-          size = ap length whole ∙ omega (arith, length_append (take at out) ys, front_length, length-drop at out, part.size, o.size, o.within);
+          size = ap length whole ∙ omega (arith, length-append (take at out) ys, front_length, length-drop at out, part.size, o.size, o.within);
           front =
               take-add at k next
               ∙ ap (λ (t : List ℕ). take at next ++ t) (ap (take k) rest ∙ part.front)
@@ -80,7 +80,7 @@ module _ {b done : List ℕ} {at : ℕ} {out : List ℕ} (o : Over b done at out
         → Over b (done ++ e) (at + k) (put_mid at (length out - at) out ys)
     put_after ys k answer =
         let (count, room) = fits e (take (length out - at) (drop at out)) k (sym answer) in
-        part_after ys k count (omega (arith, length_append done e, over_count, rest_length, o.within))
+        part_after ys k count (omega (arith, length-append done e, over_count, rest_length, o.within))
 
     pub none_after : (ys : List ℕ) → none ≡ fitted e (take (length out - at) (drop at out)) → ys ≡ put e (take (length out - at) (drop at out))
         → put_mid at (length out - at) out ys ≡ out

@@ -1,6 +1,6 @@
 -- Laws of the lines of the reply. In order: the fields after the letter; how long the lines are; the example of RULES K17. Assumes nothing.
 use Rattle.std.specs.Prelude.{◌≡◌, refl, ℕ, ◌+◌, ◌^◌, ◌≤◌, ◌<◌, Bool, true, false, cond, [], ◌∷◌, ◌++◌, eqb, length}
-use Rattle.std.proofs.Common.{arith, length_append, eq-eqb, ne_eqb}
+use Rattle.std.proofs.Common.{arith, length-append, eq-eqb, ne_eqb}
 use Rattle.text.specs.Decimal.{digits, decimal, most_digits}
 use Rattle.text.specs.Decimal.Laws.{decimal_length}
 use Rattle.text.specs.Reply.{space, newline, field, last_fields, line, ending, longest_line, longest_end}
@@ -18,7 +18,7 @@ last_other letter value lost h = rw (ne_eqb letter 76 h) refl
 
 pub lowered_length : (value lost : ℕ)
     → length (field value space ++ field lost newline) ≡ length (decimal value) + 1 + length (decimal lost) + 1
-lowered_length value lost = simp length_append (omega arith)
+lowered_length value lost = simp length-append (omega arith)
 
 pub last_bytes : (k l letter value lost : ℕ) → length (decimal value) ≤ k → length (decimal lost) ≤ l
     → length (last_fields letter value lost) ≤ k + l + 2
@@ -27,18 +27,18 @@ last_bytes k l letter value lost v m = go (eqb letter 76)
   where
     go : (b : Bool) → length (cond b (field value space ++ field lost newline) (field value newline)) ≤ k + l + 2
     go true = omega (arith, lowered_length value lost, v, m)
-    go false = omega (arith, length_append (decimal value) (newline ∷ []), v)
+    go false = omega (arith, length-append (decimal value) (newline ∷ []), v)
 
 pub line_length : (position code letter value lost : ℕ)
     → length (line position code letter value lost)
     ≡ length (decimal position) + length (decimal code) + length (last_fields letter value lost) + 4
 unfolding line
-line_length position code letter value lost = simp length_append (omega arith)
+line_length position code letter value lost = simp length-append (omega arith)
 
 pub ending_length : (made gone held : ℕ)
     → length (ending made gone held) ≡ length (decimal made) + length (decimal gone) + length (decimal held) + 7
 unfolding ending
-ending_length made gone held = simp length_append (omega arith)
+ending_length made gone held = simp length-append (omega arith)
 
 pub line_bytes : (position code letter value lost : ℕ) → position < 2 ^ 32 → code < 2 ^ 64 → value < 2 ^ 8 → lost < 2 ^ 8
     → length (line position code letter value lost) ≤ longest_line

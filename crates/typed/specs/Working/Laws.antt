@@ -2,7 +2,7 @@
 use Rattle.std.specs.Prelude.{◌≡◌, ℕ, ◌+◌, Bool, true, false, cond, not, ◌||◌, List, [], ◌∷◌, ◌++◌}
 use Rattle.std.proofs.Math.Path.{refl}
 use Rattle.std.proofs.Common.{sym, ◌∙◌, ap, subst, arith, add-one}
-use Rattle.std.proofs.Math.Bool.{or_false, or_assoc}
+use Rattle.std.proofs.Math.Bool.{or-false, or_assoc}
 use Rattle.model.specs.Lists.{each}
 use Rattle.model.specs.Calls.{Call, Raw, decode, Answer}
 use Rattle.model.specs.Promise.{Meets}
@@ -31,7 +31,7 @@ moves_then [] k = refl
 moves_then (a ∷ l) k = ap (λ (b : Bool). not (refuses a) || b) (moves_then l k) ∙ sym (or_assoc (not (refuses a)) (moves l) (moves k))
 
 pub works_none : (h : Hand) → Works h [] h
-works_none h = record { answers = []; made = done; tallied = refl; stirred = sym (or_false h.moved) }
+works_none h = record { answers = []; made = done; tallied = refl; stirred = sym (or-false h.moved) }
 
 pub works_then : {h k o : Hand} {rs ss : List Raw} → Works h rs k → Works k ss o → Works h (rs ++ ss) o
 works_then {h} p q = record {
@@ -49,7 +49,7 @@ works_more {h} {o = o} {n = n} f p q = subst (λ (i : ℕ). Works h (each i f) o
 -- ── one ──
 pub works_one : (h k : Hand) (r : Raw) (a : Answer) → Meets monitors h.monitor (decode r) a k.monitor → Tallies h.monitor h.tally (decode r) a k.tally
     → k.outcome ≡ counting h.outcome a → k.moved ≡ stirring h.moved a → Works h (r ∷ []) k
-works_one h k r a m t e s = record { answers = a ∷ []; made = then m t done; tallied = e; stirred = s ∙ ap (λ (b : Bool). h.moved || b) (sym (or_false (not (refuses a)))) }
+works_one h k r a m t e s = record { answers = a ∷ []; made = then m t done; tallied = e; stirred = s ∙ ap (λ (b : Bool). h.moved || b) (sym (or-false (not (refuses a)))) }
 
 -- by another spelling of the call
 made_as : {m n : Monitor} {y z : Tally} {l : List Answer} (r s : Raw) → decode r ≡ decode s → Made m y (r ∷ []) l n z → Made m y (s ∷ []) l n z

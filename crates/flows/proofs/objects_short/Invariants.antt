@@ -1,0 +1,20 @@
+-- `flows::objects_short` meets its contract. Assumes nothing.
+use mathlib.Core.Path.{◌≡◌, refl, sym, ◌∙◌, ap, ap₂}
+use mathlib.Core.Bool.{not, ◌||◌}
+use Prim.Native.Nat.{◌+◌, ◌-◌, ◌≤◌}
+use native.Mathlib.Omega.{arith}
+use native.Mathlib.Numerals.{add-one}
+use borrow.Author.Rules.{rules}
+use lib.ListN.{get_or}
+use lib.Dec.{eqb}
+use Rattle.labels.specs.Codes.{coded}
+use Rattle.tables.specs.Records.{no_object}
+use Rattle.tables.specs.Working.{some_below}
+use Rattle.passes.specs.Working.{low_by, short_object}
+use Rattle.flows.proofs.objects_short.Given as goal
+
+abbrev pub invariant-loop-i : goal.invariant-loop-i
+invariant-loop-i l = (l.i ≤ 64) × (l.found ≡ some_below l.i (λ j. short_object (get_or l.objects j no_object) (coded (get_or l.n (32 + j) 0))))
+
+abbrev pub decreases-loop-i : goal.decreases-loop-i
+decreases-loop-i l = 64 - l.i

@@ -1,0 +1,15 @@
+-- `groups::alone` meets its contract. Assumes nothing.
+use Prim.Native.Nat.{◌%◌}
+use native.Mathlib.Omega.{arith}
+use borrow.Author.Rules.{rules}
+use Rattle.tables.proofs.Maps.{unmapped}
+use Rattle.groups.proofs.Leaving.{own_left, left_alone}
+use Rattle.groups.proofs.alone.Goals as goal
+
+pub returns : goal.returns
+returns c =
+    let a = c.args in record {
+      tables = λ rest os low k. left_alone a.subjects c.ousted-left.result a.groups a.handles c.closed-kept.result c.shed-after.result c.mates-gone.result a.s low
+          (search (rules, unmapped)) (search (rules, unmapped)) (search rules) c.mates-gone.ensures c.ousted-left.ensures c.closed-kept.ensures c.shed-after.ensures rest os k;
+      own = own_left a.subjects c.ousted-left.result a.groups c.mates-gone.result (a.s % 32) (omega arith) c.mates-gone.ensures c.ousted-left.ensures;
+    }

@@ -1,0 +1,24 @@
+-- `groups::closed` meets its contract. Assumes nothing.
+use mathlib.Core.Bool.{false}
+use Prim.Native.Nat.{◌-◌, ◌/◌, ◌≤◌}
+use native.Mathlib.Omega.{arith}
+use borrow.Author.Rules.{rules}
+use lib.ListN.{get_or}
+use Rattle.tables.specs.Records.{no_handle}
+use Rattle.tables.proofs.Maps.{Mapped, mapped_none, mapped_more, unmapped}
+use mathlib.Core.Bool.{cond}
+use Rattle.groups.proofs.Closing.{closed_tables}
+use Rattle.groups.proofs.closed.Goals as goal
+
+pub loop-i-init : goal.loop-i-init
+loop-i-init c = (omega arith, mapped_none no_handle _ _)
+
+pub loop-i-preserved : goal.loop-i-preserved
+loop-i-preserved c =
+    (
+  omega arith,
+  mapped_more no_handle _ _ _ _ _ c.loop-i.invariant.1 (search (rules, unmapped)) c.unless_closed-put.ensures,
+)
+
+pub returns : goal.returns
+returns c = λ rest ss os. closed_tables rest ss os _ _ _ c.args.gone c.loop-i-test.false c.loop-i.invariant.1 (search (rules, unmapped))

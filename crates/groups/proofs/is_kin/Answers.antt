@@ -1,0 +1,15 @@
+-- `groups::is_kin` meets its contract. Assumes nothing.
+use borrow.Author.Tests.{eq-eqb, ne_eqb}
+use Rattle.groups.proofs.is_kin.Goals as goal
+
+pub returns-then-a-b : goal.returns-then-a-b
+returns-then-a-b c = rw (eq-eqb _ _ c.if-a-b.true)
+
+pub returns-then-x-eq0 : goal.returns-then-x-eq0
+returns-then-x-eq0 c = rw (ne_eqb _ _ c.if-a-b.false, eq-eqb _ _ c.if-x-eq0.true)
+
+pub returns-then-y-eq0 : goal.returns-then-y-eq0
+returns-then-y-eq0 c = rw (ne_eqb _ _ c.if-a-b.false, ne_eqb _ _ c.if-x-eq0.false, eq-eqb _ _ c.if-y-eq0.true)
+
+pub returns : goal.returns
+returns c = rw (ne_eqb _ _ c.if-a-b.false, ne_eqb _ _ c.if-x-eq0.false, ne_eqb _ _ c.if-y-eq0.false)

@@ -1,0 +1,15 @@
+-- `groups::leads` meets its contract. Assumes nothing.
+use Prim.Native.Nat.{ℕ, ◌-◌, ◌≤◌, ◌<◌}
+use native.Mathlib.Omega.{arith}
+use borrow.Author.Rules.{rules}
+use mir.Syntax.{w8}
+use mir.Val.{Fits}
+use lib.ListN.{get_or}
+use Rattle.groups.proofs.Leading.{Led, led_none, led_more, led_leads}
+use Rattle.groups.proofs.leads.Given as goal
+
+abbrev pub invariant-loop-s : goal.invariant-loop-s
+invariant-loop-s l = (l.s ≤ 32) × Led l.subjects l.groups l.first l.r l.s
+
+abbrev pub decreases-loop-s : goal.decreases-loop-s
+decreases-loop-s l = 32 - l.s

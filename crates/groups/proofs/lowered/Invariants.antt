@@ -1,0 +1,16 @@
+-- `groups::lowered` meets its contract. Assumes nothing.
+use mathlib.Core.Bool.{false}
+use Prim.Native.Nat.{◌-◌, ◌≤◌}
+use native.Mathlib.Omega.{arith}
+use borrow.Author.Rules.{rules}
+use lib.ListN.{get_or}
+use Rattle.tables.specs.Records.{no_subject}
+use Rattle.tables.proofs.Maps.{Mapped, mapped_none, mapped_more, unmapped}
+use Rattle.groups.specs.Groups.{taken_by}
+use Rattle.groups.proofs.lowered.Given as goal
+
+abbrev pub invariant-loop-a : goal.invariant-loop-a
+invariant-loop-a l = (l.a ≤ 32) × Mapped no_subject (λ j x. taken_by x (get_or l.takes j false) l.level l.shops) l.initial.r l.r l.a
+
+abbrev pub decreases-loop-a : goal.decreases-loop-a
+decreases-loop-a l = 32 - l.a

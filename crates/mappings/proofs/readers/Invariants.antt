@@ -1,0 +1,18 @@
+-- `mappings::readers` meets its contract. Assumes nothing.
+use mathlib.Core.Path.{◌≡◌}
+use Prim.Native.Nat.{◌-◌, ◌/◌, ◌%◌, ◌≤◌}
+use native.Mathlib.Omega.{arith}
+use borrow.Author.Rules.{rules}
+use lib.ListN.{get_or}
+use Rattle.tables.specs.Records.{no_handle}
+use Rattle.handles.specs.Working.{Hits}
+use Rattle.mappings.specs.Working.{reader_slot}
+use Rattle.handles.proofs.Hitting.{hits_none, hits_more}
+use Rattle.mappings.proofs.Reading.{slot_below}
+use Rattle.mappings.proofs.readers.Given as goal
+
+abbrev pub invariant-loop-i : goal.invariant-loop-i
+invariant-loop-i l = (l.i ≤ 512) × Hits (λ j. reader_slot (get_or l.handles j no_handle) l.o (get_or l.leads (j / 16) 0 % 32)) 33 l.r l.i
+
+abbrev pub decreases-loop-i : goal.decreases-loop-i
+decreases-loop-i l = 512 - l.i

@@ -1,0 +1,16 @@
+-- `tables::slots::are_home` meets its contract. Assumes nothing.
+use mathlib.Core.Path.{◌≡◌, sym, subst}
+use Prim.Native.Nat.{ℕ, ◌%◌, ◌-◌, ◌≤◌, ◌<◌}
+use native.Mathlib.Omega.{arith}
+use lib.Dec.{T}
+use lib.ListN.{get_or}
+use borrow.Author.Rules.{rules}
+use Rattle.tables.specs.Slots.{slot_used}
+use Rattle.tables.proofs.Seating.{further, at_home}
+use Rattle.tables.proofs.slots.are_home.Given as goal
+
+abbrev pub invariant-loop-i : goal.invariant-loop-i
+invariant-loop-i l = (l.i ≤ 64) × ((j : ℕ) → j < l.i → T (slot_used l.objects j) → get_or l.numbers j 0 % 64 ≡ j)
+
+abbrev pub decreases-loop-i : goal.decreases-loop-i
+decreases-loop-i l = 64 - l.i

@@ -1,0 +1,18 @@
+-- `ways::nearer` meets its contract. Assumes nothing.
+use mathlib.Core.Logic.{⊎_elim}
+use mathlib.Core.Path.{◌≡◌, sym}
+use Prim.Native.Nat.{◌-◌, ◌≤◌}
+use native.Mathlib.Omega.{arith}
+use borrow.Author.Rules.{rules}
+use lib.ListN.{length, get_or}
+use mir.Syntax.{w8}
+use mir.Val.{Fits}
+use Rattle.ways.specs.Near.{figure, Neared}
+use Rattle.ways.proofs.Nearing.{start, keep, shrink, neared_as, no_nearer, yes_nearer}
+use Rattle.ways.proofs.nearer.Given as goal
+
+abbrev pub invariant-loop-i : goal.invariant-loop-i
+invariant-loop-i l = (l.i ≤ 512) × Neared (figure l.e.from) (figure l.e.to) l.initial.next l.next l.i l.fell
+
+abbrev pub decreases-loop-i : goal.decreases-loop-i
+decreases-loop-i l = 512 - l.i

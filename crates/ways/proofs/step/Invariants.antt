@@ -1,0 +1,13 @@
+-- `ways::step` meets its contract. Assumes nothing.
+use Prim.Native.Nat.{◌-◌, ◌≤◌}
+use native.Mathlib.Omega.{arith}
+use borrow.Author.Rules.{rules}
+use Rattle.ways.specs.Near.{figure}
+use Rattle.ways.proofs.Walking.{NoneBelow, is_one, is_none, scan_more, scan_none}
+use Rattle.ways.proofs.step.Given as goal
+
+abbrev pub invariant-loop-arc : goal.invariant-loop-arc
+invariant-loop-arc l = (l.arc ≤ 512) × NoneBelow (figure l.e.from) (figure l.e.to) (figure l.dist) l.a l.arc
+
+abbrev pub decreases-loop-arc : goal.decreases-loop-arc
+decreases-loop-arc l = 512 - l.arc
