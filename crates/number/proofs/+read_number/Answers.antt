@@ -1,0 +1,60 @@
+-- `number::read_number` meets its contract: each way through it is a law of `Reader`. Assumes nothing.
+use Rattle.std.proofs.Common.{◌≡◌, ℕ, ◌-◌, ◌≤◌, ◌<◌, List, length, take, drop, get_or, sym, ap, ◌∙◌, arith}
+use Rattle.number.specs.Leb.{largest, longest, Reading, number}
+use Rattle.number.proofs.Reader.{number_nil, number_one, number_cut, Begun, number_padded, number_two}
+use Rattle.number.proofs.Reader.{rest, rest_malformed, rest_over, rest_used, rest_good}
+use Rattle.number.proofs.+read_number.Goals as goal
+
+-- where the first byte is not the last, and another stands behind it
+begun : (s : List ℕ) → 0 < length s → 128 ≤ get_or s 0 0 → (length s ≡ 1 → ⊥) → get_or s 0 0 < 256 → Begun s
+begun s some long more byte = record { full = omega arith; long = long; byte = byte }
+
+-- what the call on the rest answered
+called : (s : List ℕ) (r : Reading) (k : ℕ) → r ≡ number largest (take (k - 1) (drop 1 s)) → k ≡ length (take longest s)
+    → r ≡ number largest (rest s)
+called s r k e reach = e ∙ ap (λ (k : ℕ). number largest (take (k - 1) (drop 1 s))) reach
+
+pub returns-then-from-eq0 : goal.returns-then-from-eq0
+returns-then-from-eq0 t c = sym (number_nil _ _ c.if-from-eq0.true)
+
+pub returns-then-first-lt128 : goal.returns-then-first-lt128
+returns-then-first-lt128 t c = sym (number_one _ _ (omega arith) c.if-first-lt128.true (omega arith))
+
+pub returns-then-from-eq1 : goal.returns-then-from-eq1
+returns-then-from-eq1 t c = sym (number_cut _ _ c.if-from-eq1.true (omega arith))
+
+pub returns-then-second-eq0 : goal.returns-then-second-eq0
+returns-then-second-eq0 t c =
+    let s = c.args.from.now in
+    let b = begun s (omega arith) (omega arith) c.if-from-eq1.false (omega (arith, c.type_inv.from 0)) in
+    sym (number_padded b (omega arith))
+
+pub returns-then-second-lt128 : goal.returns-then-second-lt128
+returns-then-second-lt128 t c =
+    let s = c.args.from.now in
+    let b = begun s (omega arith) (omega arith) c.if-from-eq1.false (omega (arith, c.type_inv.from 0)) in
+    sym (number_two b (omega arith) (omega arith))
+
+pub returns-then-group-value : goal.returns-then-group-value
+returns-then-group-value t c =
+    let s = c.args.from.now in
+    let b = begun s (omega arith) (omega arith) c.if-from-eq1.false (omega (arith, c.type_inv.from 0)) in
+    rest_over b _ _ (called s _ _ c.in-Good.ensures c.reach-end.ensures) (omega arith)
+
+pub overflow_add-bytes : goal.overflow_add-bytes
+overflow_add-bytes t c =
+    let s = c.args.from.now in
+    let b = begun s (omega arith) (omega arith) c.if-from-eq1.false (omega (arith, c.type_inv.from 0)) in
+    omega (arith, rest_used b _ _ (called s _ _ c.in-Good.ensures c.reach-end.ensures), c.well_formed)
+
+pub returns-else-group-value : goal.returns-else-group-value
+returns-else-group-value t c =
+    let s = c.args.from.now in
+    let b = begun s (omega arith) (omega arith) c.if-from-eq1.false (omega (arith, c.type_inv.from 0)) in
+    rest_good b _ _ (called s _ _ c.in-Good.ensures c.reach-end.ensures) (omega arith) (omega (arith, c.type_inv.from 1)) (omega arith)
+
+pub returns-in-Malformed : goal.returns-in-Malformed
+returns-in-Malformed t c =
+    let s = c.args.from.now in
+    let b = begun s (omega arith) (omega arith) c.if-from-eq1.false (omega (arith, c.type_inv.from 0)) in
+    rest_malformed b (called s _ _ c.in-Malformed.ensures c.reach-end.ensures)
