@@ -1,16 +1,16 @@
 -- What the writers of lines answer and leave in the buffer. Each line has four parts. In order: that they fit; the
 -- buffer once a part of it is back; a line that does not fit, and one that does. Assumes nothing.
 use mathlib.Core.Path.{◌≡◌, sym, ap, ◌∙◌}
-use Prim.Native.Nat.{ℕ, ◌-◌, ◌≤◌, ◌<◌}
+use Prim.Native.Nat.{ℕ, ◌+◌, ◌-◌, ◌≤◌, ◌<◌}
 use native.Mathlib.Omega.{arith}
 use mathlib.Core.List.{List, ◌++◌}
 use mathlib.Core.Option.{none, some}
-use lib.ListN.{length, length-append}
+use lib.ListN.{length, take, drop, length-append, length-drop}
 use borrow.Rule.Slice.PartMut.{put_mid}
 use Rattle.number.specs.Put.{put, fitted}
-use Rattle.number.specs.Put.Laws.{put_none, fitted_fits, fitted_none}
+use Rattle.number.specs.Put.Laws.{put_fits, put_none, fitted_fits, fitted_none}
 use Rattle.text.specs.Parts.{Over}
-use Rattle.text.specs.Parts.Laws.{over_count, over_put}
+use Rattle.text.specs.Parts.Laws.{put_over, over_count, over_put, part_after}
 
 -- ---- four parts that fit into b
 
@@ -30,6 +30,29 @@ fit d e f g b all =
 
 abbrev pub joined : ℕ → List ℕ → List ℕ → List ℕ
 joined at out ys = put_mid at (length out - at) out ys
+
+-- what is lent of it
+abbrev pub lent : ℕ → List ℕ → List ℕ
+lent at out = take (length out - at) (drop at out)
+
+-- what was copied over its front was put there
+pub copied : (f r w : List ℕ) → w ≡ f ++ drop (length f) r → length w ≡ length r → w ≡ put f r
+copied f r w wrote same =
+    wrote ∙ sym (put_fits f r (omega (arith, ap length wrote, length-append f (drop (length f) r), length-drop (length f) r, same)))
+
+-- ---- the four parts, of i, j, k and l bytes, put one after the other
+
+pub four_written : {d e f g b : List ℕ} → Fit d e f g b → {i j k l : ℕ} {u v w x : List ℕ}
+    → i ≡ length d → u ≡ put d b
+    → j ≡ length e → v ≡ put e (lent i u)
+    → k ≡ length f → w ≡ put f (lent (i + j) (joined i u v))
+    → l ≡ length g → x ≡ put g (lent (i + j + k) (joined (i + j) (joined i u v) w))
+    → Over b (d ++ e ++ f ++ g) (i + j + k + l) (joined (i + j + k) (joined (i + j) (joined i u v) w) x)
+four_written {d} {e} {f} {g} {b} fits {i} {j} {k} {l} {u} {v} {w} {x} ci pu cj pv ck pw cl px =
+    let first = put_over d b u i ci (omega (arith, ci, fits.one)) pu in
+    let second = part_after first e v j cj fits.two pv in
+    let third = part_after second f w k ck fits.three pw in
+    part_after third g x l cl fits.four px
 
 -- ---- a line e of at most `most` bytes
 

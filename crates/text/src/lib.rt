@@ -2,7 +2,7 @@
 // What stands in them is in specs/Reply.antt, and a number's digits are in specs/Decimal.antt.
 #![tactic(auto)]
 
-ghost use Rattle.std.specs.Prelude.{◌≡◌, ◌+◌, ◌*◌, ◌≤◌, length};
+ghost use Rattle.std.specs.Prelude.{◌≡◌, ◌+◌, ◌*◌, ◌≤◌, ◌++◌, length, drop};
 ghost use Rattle.number.specs.Put.{put, fitted};
 ghost use Rattle.number.specs.Answers.{writing};
 ghost use Rattle.text.specs.Decimal.{decimal, most_digits};
@@ -22,6 +22,16 @@ const NEWLINE: u8 = b'\n';
 
 // The letter of an answer that lowers.
 const LOWERED: u8 = b'L';
+
+// Copies `from` over the front of `to`, which has room for it, and says how many bytes that is.
+fn copy(from: &[u8], to: &mut [u8]) -> usize
+    requires { length from.now ≤ length to.old }
+    ensures count { result ≡ length from.now }
+    ensures buffer { to.new ≡ from.now ++ drop (length from.now) to.old }
+{
+    to[..from.len()].copy_from_slice(from);
+    from.len()
+}
 
 // How many digits `n` has.
 fn decimal_len(n: u64) -> usize
@@ -107,7 +117,7 @@ pub fn write_line(
     }
     let at = write_field(out, position, SPACE);
     let at = at + write_field(&mut out[at..], code, SPACE);
-    let at = at + bytes::copy(&[letter, SPACE], &mut out[at..]);
+    let at = at + copy(&[letter, SPACE], &mut out[at..]);
     let at = at + write_last(&mut out[at..], letter, value, lost);
     Written::Bytes(at)
 }
@@ -123,7 +133,7 @@ pub fn write_end(out: &mut [u8], made: u64, gone: u64, held: u64) -> Written
     if out.len() < size {
         return Written::NoRoom;
     }
-    let at = bytes::copy(b"end ", out);
+    let at = copy(b"end ", out);
     let at = at + write_field(&mut out[at..], made, SPACE);
     let at = at + write_field(&mut out[at..], gone, SPACE);
     let at = at + write_field(&mut out[at..], held, NEWLINE);
