@@ -9,7 +9,7 @@ use native.Mathlib.Omega.{arith}
 use native.Mathlib.Numerals.{add-one}
 use lib.Dec.{eqb, leb}
 use lib.ListN.{length, get_or, drop, drop_of_length-le}
-use lib.Seq.{drop_cons}
+use lib.Seq.{drop-cons}
 use borrow.Author.Tests.{eq-eqb, ne_eqb, leb-true, leb-false, le-leb, lt-leb}
 use Rattle.lines.specs.Line.{largest}
 use Rattle.lines.specs.Reading.{Got, got, skip, is_digit, grows, digits, numeral, as_given, signed_at, signed, at_bar, at_semicolon, at_end, ended_at, with_end, with_into, with_from, with_program, staged}
@@ -106,7 +106,7 @@ module _ (line : List ℕ) (i : ℕ) where
   none_here h = drop_of_length-le line h
 
   some_here : i < length line → drop i line ≡ here ∷ rest
-  some_here h = drop_cons line i 0 h ∙ ap (λ (j : ℕ). here ∷ drop j line) (sym (add-one i))
+  some_here h = drop-cons line i 0 h ∙ ap (λ (j : ℕ). here ∷ drop j line) (sym (add-one i))
 
   -- ── spaces ──
   pub skip_over : length line ≤ i → skip (drop i line) ≡ drop i line
