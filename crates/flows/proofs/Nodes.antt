@@ -14,17 +14,17 @@ use lib.ListN.{length, get_or, get_or-eq_default}
 use lib.Dec.{T, ltb, ltb→lt, lt→ltb, eqb}
 use Rattle.model.specs.Lists.{In}
 use Rattle.model.specs.Label.{Label, ◌⊑◌}
-use Rattle.model.specs.Label.Laws.{⊑-antisym, ⊑_refl, bot_least}
+use Rattle.model.proofs.Label.Laws.{⊑-antisym, ⊑_refl, bot_least}
 use Rattle.labels.specs.Codes.{coded}
 use Rattle.labels.specs.Codes.Laws.{coded_zero}
 use Rattle.model.specs.Flow.{Thing, subject, object, Edge}
-use Rattle.model.specs.Flow.Laws.{need_self, need_flow, need_below}
+use Rattle.model.proofs.Flow.Laws.{need_self, need_flow, need_below}
 use Rattle.model.specs.Tables.{Dir, reading, writing, Entry, Tables, in_range, arc, flow, edges, demand, needs}
 use Rattle.model.specs.Tables.{Handle as Held}
-use Rattle.model.specs.Tables.Laws.{live_of}
+use Rattle.model.proofs.Tables.Laws.{live_of}
 use Rattle.model.specs.Invariant.{Wf}
-use Rattle.model.specs.Invariant.Laws.{mates_kin}
-use Rattle.model.specs.Calls.Needs.{kin_needs, wf_ranged, edge_in, in_edge}
+use Rattle.model.proofs.Invariant.Laws.{mates_kin}
+use Rattle.model.proofs.Calls.Needs.{kin_needs, wf_ranged, edge_in, in_edge}
 use Rattle.tables.specs.declared.Subject.{Subject}
 use Rattle.tables.specs.declared.Object.{Object}
 use Rattle.tables.specs.declared.Handle.{Handle}

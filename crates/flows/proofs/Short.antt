@@ -13,9 +13,9 @@ use Rattle.model.specs.Label.{Label, leq, label}
 use Rattle.labels.specs.Codes.{coded}
 use Rattle.model.specs.Flow.{Thing, subject, object}
 use Rattle.model.specs.Tables.{Kind, running, file, pipe, Entry, entry, Tables, in_range, used, live, label_of, handles, open_on, things, needs, safe}
-use Rattle.model.specs.Tables.Laws.{used_is, some_is, Stands, thing_listed, listed_thing, not_safe}
+use Rattle.model.proofs.Tables.Laws.{used_is, some_is, Stands, thing_listed, listed_thing, not_safe}
 use Rattle.model.specs.Invariant.{Wf}
-use Rattle.model.specs.Calls.Sound.{idle_need}
+use Rattle.model.proofs.Calls.Sound.{idle_need}
 use Rattle.tables.specs.declared.Subject.{Subject}
 use Rattle.tables.specs.declared.Object.{Object}
 use Rattle.tables.specs.declared.Handle.{Handle}

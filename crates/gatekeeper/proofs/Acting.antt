@@ -21,13 +21,13 @@ use Rattle.tables.specs.Slots.{slot_used}
 use lib.Dec.{T, eqb, ltb}
 use lib.ListN.{length, get_or, get_or-eq_default}
 use Rattle.model.specs.Calls.{Call, made, steps, stepped, tests, first, refusal, effect, refused, allowed, lowered, answer}
-use Rattle.model.specs.Calls.Listed.{Listed, listed_same, made_or, stepped_left, effect_listed, effect_is, effect_at}
+use Rattle.model.proofs.Calls.Listed.{Listed, listed_same, made_or, stepped_left, effect_listed, effect_is, effect_at}
 use Rattle.model.specs.Calls.{Answer as Told}
-use Rattle.model.specs.Calls.Refusals.{answered_refused}
-use Rattle.model.specs.Calls.Dangling.{effect_wf}
-use Rattle.model.specs.Calls.Sound.{Sound as Kept-sound, effect_safe}
+use Rattle.model.proofs.Calls.Refusals.{answered_refused}
+use Rattle.model.proofs.Calls.Dangling.{effect_wf}
+use Rattle.model.proofs.Calls.Sound.{Sound as Kept-sound, effect_safe}
 use Rattle.model.specs.Invariant.{Wf, Safe}
-use Rattle.model.specs.Invariant.Laws.{clean_same}
+use Rattle.model.proofs.Invariant.Laws.{clean_same}
 use Rattle.model.specs.Figures.{Ready}
 use Rattle.model.specs.Promise.{Meets}
 use Rattle.tables.specs.Needs.{figure_of}

@@ -15,22 +15,22 @@ use Rattle.model.specs.Bools.{test, both, is_true, neither, not_not, cond_no, co
 use Rattle.model.specs.Lists.{In}
 use Rattle.model.specs.Sets.{lost}
 use Rattle.model.specs.Label.{Label, leq, ◌⊑◌, meet, label, level, marks_lost}
-use Rattle.model.specs.Label.Laws.{⊑_refl, level_label, meet_labels, lost_labels}
+use Rattle.model.proofs.Label.Laws.{⊑_refl, level_label, meet_labels, lost_labels}
 use Rattle.model.specs.Flow.{Thing, subject, object, same}
-use Rattle.model.specs.Flow.Laws.{same→eq}
+use Rattle.model.proofs.Flow.Laws.{same→eq}
 use Rattle.model.specs.Tables.{Kind, running, file, pipe, Dir, reading, writing, Entry, entry, handle, mapping, with_mark, Tables, with_at, with_hand, with_freeze, with_kin, subjects, places, is_some, live, label_of, a_file, cell, whole, mates, handles, open_on}
 use Rattle.model.specs.Tables.{Handle as Held}
-use Rattle.model.specs.Tables.Laws.{Stands, live_of, used_is, cell_self, whole_self, whole_object, whole_by, whole_kin, whole_no_object, handles_by, handles_at, open_here, open_at}
+use Rattle.model.proofs.Tables.Laws.{Stands, live_of, used_is, cell_self, whole_self, whole_object, whole_by, whole_kin, whole_no_object, handles_by, handles_at, open_here, open_at}
 use Rattle.model.specs.Steps.{Step, runs, mix, put, row, place, parted, bound, sunk, fall, sink, applies, ended, reap}
-use Rattle.model.specs.Steps.Laws.{sink_one, put_cases, put_same, put_apart, place_other, place_apart, applies_append, ended_subject, reap_more, file_keeps}
+use Rattle.model.proofs.Steps.Laws.{sink_one, put_cases, put_same, put_apart, place_other, place_apart, applies_append, ended_subject, reap_more, file_keeps}
 use Rattle.model.specs.Invariant.{Wf}
-use Rattle.model.specs.Invariant.Laws.{Less, parted_cases}
+use Rattle.model.proofs.Invariant.Laws.{Less, parted_cases}
 use Rattle.model.specs.Calls.{Call, admit, register, create, make_pipe, opens, access, fork, thread, exec, close, exit, retire, maps, mark, freeze, connect, target, rereads, marking, sheds, channel, steps, stepped, effect, Test, roomy, alive, new, present, vacant, taken, apart, unlike, others, broken, tests, refusal, level_at, shown, refused, allowed, lowers, last_label, fewer, outcome, said, answer}
 use Rattle.model.specs.Calls.{Answer as Told}
-use Rattle.model.specs.Calls.Refusals.{allowed_iff}
-use Rattle.model.specs.Calls.Moving.{took, reread_by, rereads_none, rereads_file, NoneLower, lowers_none, lowers_one}
-use Rattle.model.specs.Calls.Listed.{said_effect}
-use Rattle.model.specs.Calls.Passed.{is_alive, is_present, is_new, is_place, not_own_mate, sheds_less}
+use Rattle.model.proofs.Calls.Refusals.{allowed_iff}
+use Rattle.model.proofs.Calls.Moving.{took, reread_by, rereads_none, rereads_file, NoneLower, lowers_none, lowers_one}
+use Rattle.model.proofs.Calls.Listed.{said_effect}
+use Rattle.model.proofs.Calls.Passed.{is_alive, is_present, is_new, is_place, not_own_mate, sheds_less}
 use Rattle.tables.specs.declared.Subject.{Subject}
 use Rattle.tables.specs.declared.Object.{Object}
 use Rattle.tables.specs.declared.Handle.{Handle}

@@ -14,13 +14,13 @@ use Rattle.labels.specs.Codes.{coded}
 use Rattle.labels.specs.Codes.Laws.{coded_zero}
 use Rattle.model.specs.Flow.{Thing, subject}
 use Rattle.model.specs.Tables.{running, Entry, entry, Tables, empty, with_freeze, with_numbers, in_range, is_some, used, live, clean, needs, safe}
-use Rattle.model.specs.Tables.Laws.{used_is, some_is, live_of}
-use Rattle.model.specs.Steps.Laws.{live_hand}
+use Rattle.model.proofs.Tables.Laws.{used_is, some_is, live_of}
+use Rattle.model.proofs.Steps.Laws.{live_hand}
 use Rattle.model.specs.Invariant.{Wf}
-use Rattle.model.specs.Calls.Kept.{empty_kept}
-use Rattle.model.specs.Invariant.Laws.{clean_same, empty_wf}
+use Rattle.model.proofs.Calls.Kept.{empty_kept}
+use Rattle.model.proofs.Invariant.Laws.{clean_same, empty_wf}
 use Rattle.model.specs.Figures.{Ready}
-use Rattle.model.specs.Figures.Laws.{empty_ready, needs_none, ready_anew}
+use Rattle.model.proofs.Figures.Laws.{empty_ready, needs_none, ready_anew}
 use Rattle.tables.specs.declared.Subject.{Subject}
 use Rattle.tables.specs.declared.Handle.{Handle}
 use Rattle.tables.specs.Records.{subject_entry, tables_of}

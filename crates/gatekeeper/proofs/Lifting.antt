@@ -17,9 +17,9 @@ use Rattle.model.specs.Label.{label}
 use Rattle.model.specs.Flow.{object}
 use Rattle.model.specs.Tables.{file, pipe, entry, Tables}
 use Rattle.model.specs.Calls.{Call, connect, roomy, broken, made, steps}
-use Rattle.model.specs.Calls.Renaming.{Renumbers, call}
+use Rattle.model.proofs.Calls.Renaming.{Renumbers, call}
 use Rattle.model.specs.Tables.Numbers.{Distinct}
-use Rattle.model.specs.Calls.Slots.{to, from, renumbers, placed, reseat, unseat, reseats, reseat_here, reseat_there}
+use Rattle.model.proofs.Calls.Slots.{to, from, renumbers, placed, reseat, unseat, reseats, reseat_here, reseat_there}
 use Rattle.tables.specs.declared.Object.{Object}
 use Rattle.tables.specs.Records.{object_entry, no_object}
 use Rattle.refusals.specs.Refusing.{Room}

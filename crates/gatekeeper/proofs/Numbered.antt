@@ -13,16 +13,16 @@ use Rattle.model.specs.Lists.{In, inserts}
 use Rattle.model.specs.Lists.Rising.{Rising, insert_length, inserts_in, inserts_new, inserts_rising, each_rising, each_of, each_has}
 use Rattle.model.specs.Flow.{Thing, object}
 use Rattle.model.specs.Tables.{Entry, Tables, empty, with_numbers, is_some, clean, needs}
-use Rattle.model.specs.Tables.Laws.{used_is, live_of, some_is}
+use Rattle.model.proofs.Tables.Laws.{used_is, live_of, some_is}
 use Rattle.model.specs.Invariant.{Wf}
-use Rattle.model.specs.Invariant.Laws.{clean_same, empty_wf}
+use Rattle.model.proofs.Invariant.Laws.{clean_same, empty_wf}
 use Rattle.model.specs.Calls.{Call, made, steps, effect, refusal, answer, refused, allowed, lowered}
 use Rattle.model.specs.Calls.{Answer as Told}
-use Rattle.model.specs.Calls.Refusals.{answered_refused}
-use Rattle.model.specs.Calls.Dangling.{effect_wf}
-use Rattle.model.specs.Calls.Renaming.{Renumbers, call, ren, answer_ren, refusal_ren, effect_ren, clean_ren}
-use Rattle.model.specs.Calls.Slots.{by_number_is, distinct}
-use Rattle.model.specs.Calls.Listed.{Listed, listed_same, effect_listed}
+use Rattle.model.proofs.Calls.Refusals.{answered_refused}
+use Rattle.model.proofs.Calls.Dangling.{effect_wf}
+use Rattle.model.proofs.Calls.Renaming.{Renumbers, call, ren, answer_ren, refusal_ren, effect_ren, clean_ren}
+use Rattle.model.proofs.Calls.Slots.{by_number_is, distinct}
+use Rattle.model.proofs.Calls.Listed.{Listed, listed_same, effect_listed}
 use Rattle.model.specs.Promise.{Kind, Meets}
 use Rattle.tables.specs.declared.Object.{Object}
 use Rattle.tables.specs.Records.{object_entry, no_object, tables_of}

@@ -15,25 +15,25 @@ use Rattle.model.specs.Bools.{is_false, not_not, neither}
 use Rattle.model.specs.Lists.{In}
 use Rattle.model.specs.Sets.{lost}
 use Rattle.model.specs.Label.{Label, leq, label, in_scale, bot}
-use Rattle.model.specs.Label.Laws.{level_label, shops_label, level_in_scale, shops_in_scale}
+use Rattle.model.proofs.Label.Laws.{level_label, shops_label, level_in_scale, shops_in_scale}
 use Rattle.labels.specs.Codes.{coded}
 use Rattle.labels.specs.Codes.Laws.{coded_zero}
 use Rattle.model.specs.Flow.{Thing, subject, object, same}
-use Rattle.model.specs.Flow.Changes.{but}
+use Rattle.model.proofs.Flow.Changes.{but}
 use Rattle.model.specs.Tables.{running, file, pipe, reading, writing, Entry, entry, handle, mapping, Tables, empty, with_at, with_hand, with_kin, is_some, live, label_of, cell, handles, open_on, needs, safe}
 use Rattle.model.specs.Tables.{Handle as Held}
-use Rattle.model.specs.Tables.Laws.{used_is, live_of, cell_self, whole_by, handles_by}
+use Rattle.model.proofs.Tables.Laws.{used_is, live_of, cell_self, whole_by, handles_by}
 use Rattle.model.specs.Steps.{reads as reads-file, hold, mix, quits, put, row, place, parted, bound, fall, sink, apply, applies, reap}
 use Rattle.model.specs.Invariant.{Ends, Wf, Safe}
-use Rattle.model.specs.Invariant.Laws.{wf_hold, wf_mix, less_wf}
+use Rattle.model.proofs.Invariant.Laws.{wf_hold, wf_mix, less_wf}
 use Rattle.model.specs.Calls.{Call, admit, register, create, make_pipe, opens, access, fork, thread, exec, close, exit, retire, maps, mark, freeze, connect, rereads, marking, sheds, channel, steps, effect, Test, number, known, alive, present, no_pipe, leveled, freezable, new, vacant, taken, apart, unlike, others, facing, enough, suits, idle, thawed, broken, tests, order, earlier, InOrder, breaks, refusal, allowed, lowers, outcome, roomy}
 use Rattle.model.specs.Calls.{Answer as Told}
-use Rattle.model.specs.Calls.Refusals.{refused_by}
-use Rattle.model.specs.Calls.Passed.{is_alive, is_present, is_new, is_place, is_vacant, sheds_less}
-use Rattle.model.specs.Calls.Dangling.{connect_wf}
-use Rattle.model.specs.Calls.Needs.{own_need}
+use Rattle.model.proofs.Calls.Refusals.{refused_by}
+use Rattle.model.proofs.Calls.Passed.{is_alive, is_present, is_new, is_place, is_vacant, sheds_less}
+use Rattle.model.proofs.Calls.Dangling.{connect_wf}
+use Rattle.model.proofs.Calls.Needs.{own_need}
 use Rattle.model.specs.Figures.{Ready}
-use Rattle.model.specs.Figures.Laws.{access_ready, mark_ready, freeze_ready, retire_ready, admit_ready, register_ready, create_ready, pipe_ready, fork_ready, thread_ready, effect_ready, anew_ready, mapping_ready, map_ready, exec_ready, exit_ready}
+use Rattle.model.proofs.Figures.Laws.{access_ready, mark_ready, freeze_ready, retire_ready, admit_ready, register_ready, create_ready, pipe_ready, fork_ready, thread_ready, effect_ready, anew_ready, mapping_ready, map_ready, exec_ready, exit_ready}
 use Rattle.tables.specs.declared.Subject.{Subject}
 use Rattle.tables.specs.declared.Object.{Object}
 use Rattle.tables.specs.declared.Handle.{Handle}

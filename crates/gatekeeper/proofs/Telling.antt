@@ -16,17 +16,17 @@ use Rattle.labels.specs.Codes.{coded}
 use Rattle.labels.specs.Codes.Laws.{coded_zero}
 use Rattle.model.specs.Flow.{Thing, subject, object}
 use Rattle.model.specs.Tables.{Entry, Tables, used, clean, needs, safe}
-use Rattle.model.specs.Tables.Laws.{used_is, some_is}
+use Rattle.model.proofs.Tables.Laws.{used_is, some_is}
 use Rattle.model.specs.Invariant.{Wf, Safe}
-use Rattle.model.specs.Invariant.Laws.{clean_same}
+use Rattle.model.proofs.Invariant.Laws.{clean_same}
 use Rattle.model.specs.Figures.{Ready}
-use Rattle.model.specs.Figures.Laws.{needs_none}
-use Rattle.model.specs.Calls.Sound.{safe_sound}
-use Rattle.model.specs.Calls.Renaming.{Renumbers, thing, ren, needs_ren, safe_ren}
+use Rattle.model.proofs.Figures.Laws.{needs_none}
+use Rattle.model.proofs.Calls.Sound.{safe_sound}
+use Rattle.model.proofs.Calls.Renaming.{Renumbers, thing, ren, needs_ren, safe_ren}
 use Rattle.model.specs.Tables.Numbers.{holding, by_number}
-use Rattle.model.specs.Calls.Slots.{to, from, renumbers, placed}
+use Rattle.model.proofs.Calls.Slots.{to, from, renumbers, placed}
 use Rattle.model.specs.Tally.{held, drops}
-use Rattle.model.specs.Tally.Laws.{held_ren, drops_ren}
+use Rattle.model.proofs.Tally.Laws.{held_ren, drops_ren}
 use Rattle.tables.specs.declared.Object.{Object}
 use Rattle.tables.specs.declared.Handle.{Handle}
 use Rattle.tables.specs.Records.{object_entry, no_object, tables_of}

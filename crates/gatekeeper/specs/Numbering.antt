@@ -5,7 +5,7 @@ use Rattle.model.specs.Lists.{In}
 use Rattle.model.specs.Flow.{object}
 use Rattle.model.specs.Tables.{Tables}
 use Rattle.model.specs.Calls.{Call, made, steps}
-use Rattle.model.specs.Calls.Renaming.{Renumbers, call}
+use Rattle.model.proofs.Calls.Renaming.{Renumbers, call}
 use Rattle.tables.specs.declared.Object.{Object}
 use Rattle.tables.specs.Records.{object_entry, no_object}
 use Rattle.refusals.specs.Refusing.{Room}

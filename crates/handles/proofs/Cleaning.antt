@@ -12,7 +12,7 @@ use lib.Dec.{ltb, eqb}
 use Rattle.model.specs.Flow.{subject, object}
 use Rattle.model.specs.Tables.{Tables, with_hand, places, is_some, used, live, counted, clean}
 use Rattle.model.specs.Tables.{Handle as Held}
-use Rattle.model.specs.Tables.Laws.{used_is}
+use Rattle.model.proofs.Tables.Laws.{used_is}
 use Rattle.tables.specs.declared.Subject.{Subject}
 use Rattle.tables.specs.declared.Object.{Object}
 use Rattle.tables.specs.declared.Handle.{Handle}

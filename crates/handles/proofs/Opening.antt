@@ -10,7 +10,7 @@ use lib.ListN.{get_or}
 use lib.Dec.{T, eqb, eqb→eq}
 use Rattle.model.specs.Tables.{empty, with_hand, handles, open_on}
 use Rattle.model.specs.Tables.{Handle as Held}
-use Rattle.model.specs.Tables.Laws.{open_here, open_at}
+use Rattle.model.proofs.Tables.Laws.{open_here, open_at}
 use Rattle.tables.specs.declared.Handle.{Handle}
 use Rattle.tables.specs.Records.{joins, held, no_handle, hands}
 use Rattle.handles.specs.Working.{on, open_by}

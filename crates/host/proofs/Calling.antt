@@ -8,7 +8,7 @@ use borrow.Author.Tests.{eq-eqb, ne_eqb}
 use lib.ListN.{length}
 use Rattle.model.specs.Tables.{Tables, clean}
 use Rattle.model.specs.Calls.{Call, Raw, decode, refusal, Answer, allowed, lowered, refused, answer}
-use Rattle.model.specs.Calls.Refusals.{answered_refused}
+use Rattle.model.proofs.Calls.Refusals.{answered_refused}
 use Rattle.model.specs.Promise.{Meets}
 use Rattle.model.specs.Tally.{tallied}
 use Rattle.gatekeeper.specs.declared.Monitor.{Monitor}

@@ -12,13 +12,13 @@ use lib.Dec.{T, eqb, ltb, ltb→lt}
 use lib.ListN.{length, take, drop, get_or, length-take}
 use lib.Seq.{take_at, drop_at, drop-drop, get_or-take, ext_get_or}
 use Rattle.model.specs.Label.{label, level, shops}
-use Rattle.model.specs.Label.Laws.{level_label, shops_label}
+use Rattle.model.proofs.Label.Laws.{level_label, shops_label}
 use Rattle.model.specs.Lists.{each, keep, from_on}
 use Rattle.model.specs.Lists.Rising.{each_of, each_has, each_rising, from_on_is}
 use Rattle.model.specs.Flow.{Thing, subject, object}
 use Rattle.model.specs.Tables.{running, file, pipe, reading, writing, Entry, entry, Tables, places, in_range, is_some, live, counted, clean}
-use Rattle.model.specs.Tables.Laws.{used_is}
-use Rattle.model.specs.Tables.Laws.{live_of as in_use}
+use Rattle.model.proofs.Tables.Laws.{used_is}
+use Rattle.model.proofs.Tables.Laws.{live_of as in_use}
 use Rattle.model.specs.Tables.{Handle as Held}
 use Rattle.model.specs.Invariant.{Wf}
 use Rattle.tables.specs.declared.Subject.{Subject}

@@ -10,10 +10,10 @@ use lib.ListN.{drop}
 use Rattle.model.specs.Flow.{Thing, subject, object}
 use Rattle.model.specs.Tables.{Tables, Entry, subjects, objects, places, in_range, used, clean}
 use Rattle.model.specs.Invariant.{Teams, Wf}
-use Rattle.model.specs.Invariant.Laws.{teams_same, clean_wf}
+use Rattle.model.proofs.Invariant.Laws.{teams_same, clean_wf}
 use Rattle.model.specs.Calls.{Raw, answers, after}
 use Rattle.model.specs.Tally.{tally}
-use Rattle.model.specs.Promise.Laws.{runs_right}
+use Rattle.model.proofs.Promise.Laws.{runs_right}
 use Rattle.gatekeeper.specs.declared.Monitor.{Monitor}
 use Rattle.gatekeeper.specs.View.{slots, straight_view, once, view, Honest, Tidy, monitors}
 use Rattle.gatekeeper.specs.View.Laws.{honest_tidy}

@@ -12,21 +12,21 @@ use lib.Dec.{T, eqb, leb, leb→le, ltb, ltb→lt}
 use Rattle.model.specs.Bools.{both_of, or_cases}
 use Rattle.model.specs.Sets.{within}
 use Rattle.model.specs.Label.{Label, level, shops, ◌⊑◌, bot}
-use Rattle.model.specs.Label.Laws.{level_label, shops_label, ⊑_refl, ⊑_trans, bot_least}
+use Rattle.model.proofs.Label.Laws.{level_label, shops_label, ⊑_refl, ⊑_trans, bot_least}
 use Rattle.labels.specs.Codes.{coded}
 use Rattle.labels.specs.Codes.Laws.{coded_zero}
 use Rattle.model.specs.Flow.{Thing, subject, object, same, Reaches, here, step}
-use Rattle.model.specs.Flow.Laws.{need_self, need_upper}
-use Rattle.model.specs.Flow.Changes.{Adds, remove_quiet, remove_parts}
+use Rattle.model.proofs.Flow.Laws.{need_self, need_upper}
+use Rattle.model.proofs.Flow.Changes.{Adds, remove_quiet, remove_parts}
 use Rattle.model.specs.Tables.{Dir, reading, writing, Tables, live, arc, flow, edges, demand, needs}
-use Rattle.model.specs.Tables.Laws.{live_of}
+use Rattle.model.proofs.Tables.Laws.{live_of}
 use Rattle.model.specs.Steps.{hold, quits, apply}
 use Rattle.model.specs.Invariant.{Ends, Wf}
-use Rattle.model.specs.Invariant.Laws.{less_wf, less_close, less_quits}
+use Rattle.model.proofs.Invariant.Laws.{less_wf, less_close, less_quits}
 use Rattle.model.specs.Calls.{exit}
-use Rattle.model.specs.Calls.Needs.{close_adds, effect_needs, exit_needs, vacate_quiet, edge_in, wf_ranged}
+use Rattle.model.proofs.Calls.Needs.{close_adds, effect_needs, exit_needs, vacate_quiet, edge_in, wf_ranged}
 use Rattle.model.specs.Figures.{Ready}
-use Rattle.model.specs.Figures.Laws.{step_lived, ready_same, ready_anew}
+use Rattle.model.proofs.Figures.Laws.{step_lived, ready_same, ready_anew}
 use Rattle.tables.specs.declared.Subject.{Subject}
 use Rattle.tables.specs.declared.Object.{Object}
 use Rattle.tables.specs.declared.Handle.{Handle}

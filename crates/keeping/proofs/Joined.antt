@@ -14,16 +14,16 @@ use lib.Dec.{T, eqb}
 use Rattle.model.specs.Lists.{In, each}
 use Rattle.model.specs.Lists.Laws.{in_each, each_in}
 use Rattle.model.specs.Label.{Label, ◌⊑◌, join}
-use Rattle.model.specs.Label.Laws.{⊑_trans, ⊑-antisym, join_left, join_right, join_lub, bot_least}
+use Rattle.model.proofs.Label.Laws.{⊑_trans, ⊑-antisym, join_left, join_right, join_lub, bot_least}
 use Rattle.labels.specs.Codes.{coded}
 use Rattle.labels.specs.Codes.Laws.{coded_zero}
 use Rattle.model.specs.Flow.{Thing, object}
-use Rattle.model.specs.Flow.Laws.{joins_upper, joins_least}
+use Rattle.model.proofs.Flow.Laws.{joins_upper, joins_least}
 use Rattle.model.specs.Tables.{reading, writing, Tables, live, needs}
 use Rattle.model.specs.Tables.{Handle as Held}
 use Rattle.model.specs.Invariant.{Wf}
 use Rattle.model.specs.Figures.{Ready}
-use Rattle.model.specs.Calls.Needs.{written_at, own_need}
+use Rattle.model.proofs.Calls.Needs.{written_at, own_need}
 use Rattle.tables.specs.declared.Subject.{Subject}
 use Rattle.tables.specs.declared.Object.{Object}
 use Rattle.tables.specs.declared.Handle.{Handle}

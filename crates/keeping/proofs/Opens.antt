@@ -11,16 +11,16 @@ use Rattle.model.specs.Bools.{is_true, both_of}
 use Rattle.model.specs.Label.{Label, leq, ◌⊑◌}
 use Rattle.labels.specs.Codes.{coded}
 use Rattle.model.specs.Flow.{Thing, subject, object}
-use Rattle.model.specs.Flow.Changes.{Adds, add_quiet}
+use Rattle.model.proofs.Flow.Changes.{Adds, add_quiet}
 use Rattle.model.specs.Tables.{reading, writing, Tables, arc, flow, edges, demand, needs, safe}
-use Rattle.model.specs.Tables.Laws.{live_of}
+use Rattle.model.proofs.Tables.Laws.{live_of}
 use Rattle.model.specs.Steps.{hold, apply}
 use Rattle.model.specs.Invariant.{Ends, Wf, Safe}
-use Rattle.model.specs.Invariant.Laws.{wf_hold}
-use Rattle.model.specs.Calls.Needs.{hold_adds}
-use Rattle.model.specs.Calls.Sound.{safe_complete}
+use Rattle.model.proofs.Invariant.Laws.{wf_hold}
+use Rattle.model.proofs.Calls.Needs.{hold_adds}
+use Rattle.model.proofs.Calls.Sound.{safe_complete}
 use Rattle.model.specs.Figures.{Ready}
-use Rattle.model.specs.Figures.Laws.{step_lived, ready_same}
+use Rattle.model.proofs.Figures.Laws.{step_lived, ready_same}
 use Rattle.tables.specs.declared.Handle.{Handle}
 use Rattle.tables.specs.Records.{joins, reads_by}
 use Rattle.tables.specs.Needs.{figure_of}

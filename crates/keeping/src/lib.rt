@@ -10,7 +10,7 @@ ghost use Rattle.model.specs.Tables.{Tables, live, safe};
 ghost use Rattle.model.specs.Steps.{hold, quits, apply};
 ghost use Rattle.model.specs.Invariant.{Ends, Wf, Safe};
 ghost use Rattle.model.specs.Figures.{Ready};
-ghost use Rattle.model.specs.Calls.Needs.{own_need};
+ghost use Rattle.model.proofs.Calls.Needs.{own_need};
 ghost use Rattle.labels.specs.Codes.{coded};
 ghost use Rattle.tables.specs.declared.Object.{Object};
 ghost use Rattle.tables.specs.declared.Subject.{Subject};

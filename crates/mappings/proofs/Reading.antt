@@ -16,13 +16,13 @@ use Rattle.model.specs.Bools.{both, both_of, is_true, not_not}
 use Rattle.model.specs.Lists.{In}
 use Rattle.model.specs.Lists.Laws.{in_each, any_of}
 use Rattle.model.specs.Label.{Label, leq, ◌⊑◌, meet, label}
-use Rattle.model.specs.Label.Laws.{⊑_refl, meet_labels}
+use Rattle.model.proofs.Label.Laws.{⊑_refl, meet_labels}
 use Rattle.model.specs.Flow.{Thing, subject, object, same}
 use Rattle.model.specs.Tables.{running, file, pipe, Entry, entry, Tables, with_at, places, a_file, cell, whole, one, handles_of}
 use Rattle.model.specs.Tables.{Handle as Held}
 use Rattle.model.specs.Steps.{Step, fall, sink, applies}
 use Rattle.model.specs.Calls.{has_mapped, rereads, lowers}
-use Rattle.model.specs.Calls.Moving.{has_mapped_at, took, reread_by, rereads_none, rereads_file, lowers_none, lowers_some}
+use Rattle.model.proofs.Calls.Moving.{has_mapped_at, took, reread_by, rereads_none, rereads_file, lowers_none, lowers_some}
 use Rattle.tables.specs.declared.Subject.{Subject}
 use Rattle.tables.specs.declared.Object.{Object}
 use Rattle.tables.specs.declared.Handle.{Handle}

@@ -10,8 +10,6 @@ use Rattle.model.specs.Flow.{Thing, same}
 use Rattle.model.specs.Tables.{Tables, empty, whole}
 use Rattle.model.specs.Steps.{Origin, outside, blank, copied, Access, Step, enter, leave, hold, holds, mix, quits, binds, freezes, apply}
 use Rattle.model.specs.Calls.{Call, Raw, decode, steps, refusal, effect, next, Answer, answer}
-pub mod Laws
-pub mod Groups
 
 -- RULES B4: a whole number for each live thing; what stands at other things is never looked at
 abbrev pub Contents : Type 0

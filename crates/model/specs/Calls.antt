@@ -11,23 +11,6 @@ use Rattle.model.specs.Lists.{In, each, keep, any, inserts, only}
 use Rattle.model.specs.Flow.{Thing, subject, object, same}
 use Rattle.model.specs.Tables.{running, file, pipe, Dir, reading, writing, Entry, entry, Handle, handle, mapping, with_mark, Tables, with_numbers, no_freeze, subjects, objects, places, in_range, is_some, used, live, label_of, is_file, a_file, is_pipe, cell, things, handles_of, handles, open_on, needs, safe, mates}
 use Rattle.model.specs.Steps.{outside, blank, copied, reads, writes, runs, Step, enter, leave, hold, holds, mix, quits, freezes, applies, reap, binds}
-pub mod Refusals
-pub mod Passed
-pub mod Dangling
-pub mod Scale
-pub mod Vouched
-pub mod Moving
-pub mod Mapped
-pub mod Sound
-pub mod Groups
-pub mod Kept
-pub mod Needs
-pub mod Sayable
-pub mod Codes
-pub mod Renaming
-pub mod Slots
-pub mod Listed
-pub mod Before
 
 -- ── the calls ──
 pub data Call : Type 0 where

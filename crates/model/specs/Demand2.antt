@@ -8,12 +8,6 @@ use Rattle.model.specs.Flow.{Thing, object, Reaches}
 use Rattle.model.specs.Tables.{Dir, Entry, handle, Tables, no_freeze, live, label_of, is_file, edges}
 use Rattle.model.specs.Steps.{hold, apply}
 use Rattle.model.specs.Calls.{alive, present, vacant, broken}
-pub mod Laws
-pub mod Mappings
-pub mod Reads
-pub mod Top
-pub mod Quiet
-pub mod Fewer
 
 -- RULES F4, R9: x reaches, through open handles, a file that a thing of label a must not reach: one whose label a is not at least
 pub record Leaks (u : Tables) (a : Label) (x : Thing) : Type 0 where

@@ -11,7 +11,6 @@ use Rattle.model.specs.Flow.{Thing}
 use Rattle.model.specs.Tables.{Dir, Entry, Handle, Tables}
 use Rattle.model.specs.Calls.{Raw, decode, access, Answer, refused}
 use Rattle.model.specs.Book.{Book, Handling, Outside, book, book_answers, Alike}
-pub mod Laws
 
 -- RULES B10, B27: the call is a read or a write whose caller has, in the book, a handle for that direction at that place
 pub record Held (b : Book) (r : Raw) : Type 0 where

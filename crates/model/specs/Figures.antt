@@ -5,8 +5,6 @@ use Rattle.model.specs.Label.{Label}
 use Rattle.model.specs.Flow.{Thing}
 use Rattle.model.specs.Tables.{Handle, Tables, live, needs}
 use Rattle.model.specs.Calls.{Raw, decode, next}
-pub mod Laws
-pub mod Falling
 
 -- RULES F11: the figure of each live thing is its need
 pub record Ready (t : Tables) (figure : Thing → Label) : Type 0 where

@@ -6,8 +6,6 @@
 use Rattle.std.specs.Prelude.{◌≡◌, Bool, false, not, List, [], ◌∷◌, ◌++◌, ℕ, zero, suc, length, eqb}
 use Rattle.model.specs.Label.{Label, join, bot}
 use Rattle.model.specs.Lists.{In, keep, any}
-pub mod Laws
-pub mod Changes
 
 -- RULES T1, T2: subjects and objects, by number
 pub data Thing : Type 0 where

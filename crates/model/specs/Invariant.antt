@@ -8,7 +8,6 @@ use Rattle.model.specs.Flow.{Thing, subject, object}
 use Rattle.model.specs.Tables.{reading, Entry, Handle, Tables, no_freeze, places, in_range, live, label_of, a_file, is_pipe, cell, handles, open_on, needs}
 use Rattle.model.specs.Calls.{Call, admit, register, create, make_pipe, opens, access, fork, thread, exec, close, exit, retire, maps, mark, freeze, connect, unknown, Raw, decode}
 use Rattle.model.specs.Calls.{Answer, allowed, lowered, refused, order}
-pub mod Laws
 
 -- the handle k at place p of s joins a place in range of a live subject to a live object
 pub record Ends (t : Tables) (s p : ℕ) (k : Handle) : Type 0 where

@@ -5,7 +5,6 @@
 use Rattle.std.specs.Prelude.{ℕ, min, max, Bool, ◌&&◌, T, leb}
 use Rattle.std.specs.Int.Bits.{bit_and, bit_or}
 use Rattle.model.specs.Sets.{within, lost}
-pub mod Laws
 
 unfoldable pub Label : Type 0
 Label = ℕ × ℕ

@@ -10,7 +10,6 @@ use Rattle.std.specs.Prelude.{◌≡◌, List, [], ◌∷◌, ℕ}
 use Rattle.std.proofs.Math.Option.{none}
 use Rattle.model.specs.Tables.{Tables, clean}
 use Rattle.model.specs.Calls.{Call, Raw, decode, refusal, effect, Answer, refused, answer}
-pub mod Laws
 
 -- RULES T23: monitors m and n differ in the free part alone
 abbrev pub SameButFree : {M : Type 0} → (M → Tables) → M → M → Type 0

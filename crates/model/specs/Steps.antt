@@ -5,7 +5,6 @@ use Rattle.std.proofs.Math.Option.{Option, none, some}
 use Rattle.model.specs.Label.{Label, meet}
 use Rattle.model.specs.Flow.{Thing, subject, object, same}
 use Rattle.model.specs.Tables.{Kind, running, file, pipe, Entry, entry, Handle, Tables, with_at, with_hand, with_freeze, with_kin, is_pipe, whole, handles, open_on}
-pub mod Laws
 
 -- RULES B11, B12, B16: where a new thing's content comes from
 pub data Origin : Type 0 where

@@ -9,7 +9,6 @@ use Rattle.std.proofs.Math.Option.{Option, none, some}
 use Rattle.model.specs.Label.{Label, leq, bot}
 use Rattle.model.specs.Lists.{each, keep, any}
 use Rattle.model.specs.Flow.{Thing, subject, object, same, Edge, need}
-pub mod Laws
 pub mod Numbers
 
 -- ── what is kept ──

@@ -5,7 +5,6 @@ use Rattle.model.specs.Lists.{each}
 use Rattle.model.specs.Flow.{subject}
 use Rattle.model.specs.Tables.{Handle, Tables, subjects, places, mates, one, handles_of}
 use Rattle.model.specs.Calls.{Call, admit, register, create, make_pipe, opens, access, fork, thread, exec, close, exit, retire, maps, mark, freeze, connect, unknown, ends_at_exec, Raw, decode, refusal, next}
-pub mod Laws
 
 -- RULES Y4, Y6, Y11: how many handles s holds
 abbrev pub held : Tables → ℕ → ℕ

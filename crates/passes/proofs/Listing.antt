@@ -12,7 +12,7 @@ use lib.ListN.{length, get_or, set, length-set}
 use lib.Seq.{get_or-set_same, get_or-set_other}
 use lib.Dec.{eqb}
 use Rattle.model.specs.Label.{Label, ◌⊑◌}
-use Rattle.model.specs.Label.Laws.{⊑_refl}
+use Rattle.model.proofs.Label.Laws.{⊑_refl}
 use Rattle.tables.specs.declared.Handle.{Handle}
 use Rattle.tables.specs.Records.{reads_by, no_handle}
 use Rattle.passes.specs.Least.{end_at, Before, Settled, Between}

@@ -14,7 +14,7 @@ use lib.Dec.{T}
 use Rattle.model.specs.Sets.Laws.{within_all}
 use Rattle.model.specs.Sets.{within}
 use Rattle.model.specs.Label.{Label, leq, ◌⊑◌, join}
-use Rattle.model.specs.Label.Laws.{level_label, shops_label, ⊑-of, ⊑_refl, ⊑_trans, join_left, join_lub}
+use Rattle.model.proofs.Label.Laws.{level_label, shops_label, ⊑-of, ⊑_refl, ⊑_trans, join_left, join_lub}
 use Rattle.labels.specs.Codes.{coded}
 use Rattle.labels.specs.Codes.Laws.{coded_le, coded_grows}
 use Rattle.passes.specs.Least.{figure, Before, Behind, Between, Least, sum, Passed}

@@ -17,8 +17,8 @@ use Rattle.labels.specs.Codes.{coded}
 use Rattle.model.specs.Flow.{subject, object}
 use Rattle.model.specs.Tables.{reading, writing, Tables, empty, with_hand, handles, open_on, arc, demand, needs}
 use Rattle.model.specs.Tables.{Handle as Held}
-use Rattle.model.specs.Tables.Laws.{live_of}
-use Rattle.model.specs.Tables.Laws.{object_entry as live_entry}
+use Rattle.model.proofs.Tables.Laws.{live_of}
+use Rattle.model.proofs.Tables.Laws.{object_entry as live_entry}
 use Rattle.model.specs.Steps.{hold, apply}
 use Rattle.model.specs.Invariant.{Ends, Wf}
 use Rattle.model.specs.Figures.{Ready}

@@ -9,10 +9,10 @@ use lib.Seq.{get_or-set_same, get_or-set_other}
 use Rattle.model.specs.Tables.{Tables, clean}
 use Rattle.model.specs.Calls.{Call, Raw, decode, refused, allowed, answer}
 use Rattle.model.specs.Calls.{Answer as Told}
-use Rattle.model.specs.Calls.Refusals.{answered_refused}
-use Rattle.model.specs.Calls.Renaming.{Renumbers, call, ren}
+use Rattle.model.proofs.Calls.Refusals.{answered_refused}
+use Rattle.model.proofs.Calls.Renaming.{Renumbers, call, ren}
 use Rattle.model.specs.Invariant.{Wf}
-use Rattle.model.specs.Invariant.Laws.{clean_same}
+use Rattle.model.proofs.Invariant.Laws.{clean_same}
 use Rattle.model.specs.Promise.{Meets}
 use Rattle.model.specs.Tally.{makes, removes, wrapped}
 use Rattle.tables.specs.declared.Object.{Object}

@@ -16,15 +16,15 @@ use Rattle.model.specs.Label.{Label, leq, ◌⊑◌}
 use Rattle.labels.specs.Codes.{coded}
 use Rattle.model.specs.Lists.{In}
 use Rattle.model.specs.Flow.{Thing, subject, object}
-use Rattle.model.specs.Flow.Laws.{need_flow}
+use Rattle.model.proofs.Flow.Laws.{need_flow}
 use Rattle.model.specs.Tables.{Dir, handle, Tables, live, flow, edges, demand, needs, safe}
-use Rattle.model.specs.Tables.Laws.{live_of}
+use Rattle.model.proofs.Tables.Laws.{live_of}
 use Rattle.model.specs.Steps.{hold, apply}
 use Rattle.model.specs.Invariant.{Ends, Wf}
 use Rattle.model.specs.Figures.{Ready}
 use Rattle.model.specs.Calls.{Call, opens, decode, effect, alive, present, vacant, thawed, broken, tests, breaks, first, refusal}
-use Rattle.model.specs.Calls.Passed.{is_alive, is_present, is_place, is_vacant}
-use Rattle.model.specs.Calls.Needs.{effect_needs, hold_adds}
+use Rattle.model.proofs.Calls.Passed.{is_alive, is_present, is_place, is_vacant}
+use Rattle.model.proofs.Calls.Needs.{effect_needs, hold_adds}
 use Rattle.model.specs.Tally.{wrapped}
 use Rattle.tables.specs.declared.Subject.{Subject}
 use Rattle.tables.specs.declared.Object.{Object}

@@ -10,8 +10,8 @@ use Rattle.model.specs.Label.{Label, bot}
 use Rattle.model.specs.Flow.{Thing, subject, object}
 use Rattle.model.specs.Tables.{Dir, reading, writing, Handle, Tables, arc, demand, needs}
 use Rattle.model.specs.Calls.{Call, opens, close, refusal, effect}
-use Rattle.model.specs.Calls.Needs.{needs_numbers}
-use Rattle.model.specs.Calls.Renaming.{Renumbers, call, thing, joined, held, ren, at_there, live_ren, needs_ren, demands_ren, refusal_ren, effect_ren}
+use Rattle.model.proofs.Calls.Needs.{needs_numbers}
+use Rattle.model.proofs.Calls.Renaming.{Renumbers, call, thing, joined, held, ren, at_there, live_ren, needs_ren, demands_ren, refusal_ren, effect_ren}
 use Rattle.passes.specs.Working.{spare_by}
 use Rattle.quick.specs.Parts.{demanded_at, Loose, Settles}
 

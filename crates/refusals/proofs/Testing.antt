@@ -9,12 +9,12 @@ use native.Mathlib.Decide.{ℕ_discrete}
 use borrow.Author.Tests.{lt-ltb, le-leb, ne_eqb}
 use lib.Dec.{T, ltb, leb, eqb}
 use Rattle.model.specs.Bools.{is_true}
-use Rattle.model.specs.Label.Laws.{level_label}
+use Rattle.model.proofs.Label.Laws.{level_label}
 use Rattle.model.specs.Flow.{Thing, subject, object}
 use Rattle.model.specs.Label.{label, in_scale}
 use Rattle.model.specs.Tables.{file, pipe, entry, Dir, reading, writing, Entry, Tables, in_range, live, is_pipe}
 use Rattle.model.specs.Tables.{Handle as Held}
-use Rattle.model.specs.Tables.Laws.{used_is}
+use Rattle.model.proofs.Tables.Laws.{used_is}
 use Rattle.model.specs.Invariant.{Wf}
 use Rattle.model.specs.Calls.{alive, new, present, no_pipe, leveled, freezable, vacant, taken, facing, thawed, turned, frozen, broken}
 use Rattle.tables.specs.declared.Subject.{Subject}

@@ -6,7 +6,7 @@ use borrow.Rule.Slice.PartMut.{put_mid}
 use Rattle.model.specs.Tables.{Tables, empty}
 use Rattle.model.specs.Invariant.{Kept}
 use Rattle.model.specs.Calls.{Answer, refused, after}
-use Rattle.model.specs.Calls.Kept.{empty_kept}
+use Rattle.model.proofs.Calls.Kept.{empty_kept}
 use Rattle.model.specs.Tally.{Tally, zeroed, tally}
 use Rattle.number.specs.Put.{put, fitted}
 use Rattle.number.specs.Put.Laws.{put_none, fitted_fits, fitted_none, fits, fits_not}

@@ -7,13 +7,13 @@ use Rattle.model.specs.Bools.{both_of}
 use Rattle.model.specs.Lists.{each}
 use Rattle.model.specs.Flow.{subject}
 use Rattle.model.specs.Tables.{Tables, empty, with_hand, mates, one, handles_of, clean}
-use Rattle.model.specs.Tables.Laws.{live_of}
+use Rattle.model.proofs.Tables.Laws.{live_of}
 use Rattle.model.specs.Invariant.{Wf}
 use Rattle.model.specs.Calls.{Call, lasting, decode, refusal, Answer, allowed, lowered, refused, answer}
-use Rattle.model.specs.Calls.Codes.{decode_by}
-use Rattle.model.specs.Calls.Refusals.{answered_refused}
+use Rattle.model.proofs.Calls.Codes.{decode_by}
+use Rattle.model.proofs.Calls.Refusals.{answered_refused}
 use Rattle.model.specs.Tally.{held, drops, ousted, makes, removes, wrapped, tallied}
-use Rattle.model.specs.Tally.Laws.{each_parts, each_none}
+use Rattle.model.proofs.Tally.Laws.{each_parts, each_none}
 use Rattle.model.specs.Tables.{Handle as Held}
 use Rattle.model.specs.Tally.{Tally as Counts}
 use Rattle.tables.specs.declared.Subject.{Subject}

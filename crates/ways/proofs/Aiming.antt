@@ -13,7 +13,7 @@ use lib.Seq.{get_or-set_same, get_or-set_other}
 use lib.Dec.{T, T_not, eqb, ltb}
 use Rattle.model.specs.Bools.{is_false}
 use Rattle.model.specs.Label.{Label, label, leq}
-use Rattle.model.specs.Label.Laws.{⊑_refl}
+use Rattle.model.proofs.Label.Laws.{⊑_refl}
 use Rattle.model.specs.Flow.{subject, object}
 use Rattle.model.specs.Tables.{file, pipe, running, Entry, entry, is_file}
 use Rattle.tables.specs.declared.Subject.{Subject}

@@ -13,7 +13,7 @@ use Rattle.model.specs.Bools.{test, cond_no}
 use Rattle.model.specs.Flow.{Thing, subject, object, Edge}
 use Rattle.model.specs.Tables.{Dir, reading, writing, Tables, in_range, whole, arc, flow}
 use Rattle.model.specs.Tables.{Handle as Held}
-use Rattle.model.specs.Tables.Laws.{live_of, whole_self, whole_cases, whole_kin}
+use Rattle.model.proofs.Tables.Laws.{live_of, whole_self, whole_cases, whole_kin}
 use Rattle.model.specs.Invariant.{Wf}
 use Rattle.attack.specs.Attack.{Way, end as stop, via as by}
 use Rattle.tables.specs.declared.Handle.{Handle}

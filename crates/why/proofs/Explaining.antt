@@ -12,11 +12,11 @@ use Rattle.model.specs.Flow.{object}
 use Rattle.model.specs.Tables.{Tables, is_some, clean}
 use Rattle.model.specs.Tables.Numbers.{Distinct}
 use Rattle.model.specs.Invariant.{Wf, Even}
-use Rattle.model.specs.Invariant.Laws.{clean_same}
+use Rattle.model.proofs.Invariant.Laws.{clean_same}
 use Rattle.model.specs.Calls.{Call, refusal}
 use Rattle.model.specs.Calls.{Answer as Told}
-use Rattle.model.specs.Calls.Renaming.{ren, refusal_ren}
-use Rattle.model.specs.Calls.Listed.{Listed}
+use Rattle.model.proofs.Calls.Renaming.{ren, refusal_ren}
+use Rattle.model.proofs.Calls.Listed.{Listed}
 use Rattle.model.specs.Promise.{Meets}
 use Rattle.tables.specs.declared.Object.{Object}
 use Rattle.tables.specs.Records.{tables_of}

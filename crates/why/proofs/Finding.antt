@@ -12,11 +12,11 @@ use lib.ListN.{length, get_or, take}
 use lib.Dec.{T, T_not, ltb, lt→ltb, eqb, eqb→eq}
 use Rattle.model.specs.Bools.{test}
 use Rattle.model.specs.Label.{Label, leq}
-use Rattle.model.specs.Label.Laws.{⊑_refl}
+use Rattle.model.proofs.Label.Laws.{⊑_refl}
 use Rattle.model.specs.Flow.{Thing, subject, object}
 use Rattle.model.specs.Tables.{Entry, Tables, label_of, whole}
 use Rattle.model.specs.Tables.{Handle as Held}
-use Rattle.model.specs.Tables.Laws.{step_entry, whole_self, whole_cases, whole_by, whole_kin}
+use Rattle.model.proofs.Tables.Laws.{step_entry, whole_self, whole_cases, whole_by, whole_kin}
 use Rattle.model.specs.Invariant.{Wf, Even}
 use Rattle.model.specs.Calls.{Call, effect}
 use Rattle.attack.specs.Attack.{Barred, Begins, Chain}

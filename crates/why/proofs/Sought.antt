@@ -18,17 +18,17 @@ use Rattle.labels.specs.Codes.{coded}
 use Rattle.model.specs.Flow.{Thing, subject, object}
 use Rattle.model.specs.Tables.{file, pipe, Dir, reading, writing, Entry, entry, handle, mapping, Tables, with_hand, with_kin, is_some, live, cell, whole, mates}
 use Rattle.model.specs.Tables.{Handle as Held}
-use Rattle.model.specs.Tables.Laws.{live_of, used_is, some_is, whole_kin, whole_no_object}
+use Rattle.model.proofs.Tables.Laws.{live_of, used_is, some_is, whole_kin, whole_no_object}
 use Rattle.model.specs.Steps.{runs, mix, place, applies}
-use Rattle.model.specs.Steps.Laws.{applies_append}
+use Rattle.model.proofs.Steps.Laws.{applies_append}
 use Rattle.model.specs.Invariant.{Wf}
-use Rattle.model.specs.Invariant.Laws.{parted_cases}
+use Rattle.model.proofs.Invariant.Laws.{parted_cases}
 use Rattle.model.specs.Calls.{Call, admit, register, create, make_pipe, opens, access, fork, thread, exec, close, exit, retire, maps, mark, freeze, connect, unknown, decode, made, steps, stepped, sheds, effect, Test, alive, present, new, vacant, unlike, roomy, number, broken, tests, earlier, order, refusal}
-use Rattle.model.specs.Calls.Refusals.{refused_by}
-use Rattle.model.specs.Calls.Passed.{is_alive, is_present, is_new, is_place}
-use Rattle.model.specs.Calls.Listed.{made_or, stepped_left, effect_at}
+use Rattle.model.proofs.Calls.Refusals.{refused_by}
+use Rattle.model.proofs.Calls.Passed.{is_alive, is_present, is_new, is_place}
+use Rattle.model.proofs.Calls.Listed.{made_or, stepped_left, effect_at}
 use Rattle.attack.specs.Attack.{Begins}
-use Rattle.model.specs.Calls.Codes.{decode_by}
+use Rattle.model.proofs.Calls.Codes.{decode_by}
 use Rattle.attack.specs.Attack.Sought.{Seeks, an_open, a_map, an_exec, a_connect, seeks}
 use Rattle.attack.specs.Attack.Laws.{sought_wf}
 use Rattle.tables.specs.declared.Subject.{Subject}

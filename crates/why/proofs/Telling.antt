@@ -11,13 +11,13 @@ use lib.ListN.{length, get_or, take}
 use lib.Dec.{T, eqb, eqb→eq}
 use Rattle.model.specs.Flow.{Thing, subject, object}
 use Rattle.model.specs.Tables.{Entry, Handle, Tables, in_range, is_some, live}
-use Rattle.model.specs.Tables.Laws.{some_is}
+use Rattle.model.proofs.Tables.Laws.{some_is}
 use Rattle.model.specs.Invariant.{Wf, Safe, Even}
 use Rattle.model.specs.Calls.{Call, admit, register, create, make_pipe, opens, access, fork, thread, exec, close, exit, retire, maps, mark, freeze, connect, unknown, refusal, answer, refused, allowed, lowered}
 use Rattle.model.specs.Calls.{Answer as Told}
-use Rattle.model.specs.Calls.Refusals.{answered_refused}
-use Rattle.model.specs.Calls.Renaming.{Renumbers, thing, joined, held, ren, live_ren, call}
-use Rattle.model.specs.Calls.Listed.{Listed}
+use Rattle.model.proofs.Calls.Refusals.{answered_refused}
+use Rattle.model.proofs.Calls.Renaming.{Renumbers, thing, joined, held, ren, live_ren, call}
+use Rattle.model.proofs.Calls.Listed.{Listed}
 use Rattle.attack.specs.Attack.{most, Fewest}
 use Rattle.attack.specs.Attack.{Chain as Behind}
 use Rattle.attack.specs.Attack.Laws.{chain_attack, Short, chain_exists}

@@ -5,15 +5,15 @@ use Rattle.std.proofs.Math.Option.{some}
 use Rattle.std.proofs.Math.Dec.{not_T}
 use Rattle.model.specs.Bools.{cond_yes, cond_no}
 use Rattle.model.specs.Flow.{Thing, subject, object, same, Edge, Reaches}
-use Rattle.model.specs.Flow.Changes.{Adds}
+use Rattle.model.proofs.Flow.Changes.{Adds}
 use Rattle.model.specs.Tables.{mapping, Tables, cell, whole, flow, edges}
-use Rattle.model.specs.Tables.Laws.{cell_self, whole_by, whole_self}
+use Rattle.model.proofs.Tables.Laws.{cell_self, whole_by, whole_self}
 use Rattle.model.specs.Steps.{hold, apply, applies}
 use Rattle.model.specs.Invariant.{Wf, Safe}
-use Rattle.model.specs.Invariant.Laws.{less_wf}
+use Rattle.model.proofs.Invariant.Laws.{less_wf}
 use Rattle.model.specs.Calls.{Call, maps, connect, sheds, steps, effect, alive, new, vacant, broken, InOrder, refusal}
-use Rattle.model.specs.Calls.Refusals.{refused_by}
-use Rattle.model.specs.Calls.Passed.{is_new, sheds_less}
+use Rattle.model.proofs.Calls.Refusals.{refused_by}
+use Rattle.model.proofs.Calls.Passed.{is_new, sheds_less}
 use Rattle.model.specs.Book.{Contents, store, carries}
 use Rattle.attack.specs.Attack.{copying, most, Attack, Chain, acts}
 use Rattle.attack.specs.Attack.Moving.{acts_held, acts_free, acts_carry}

@@ -9,11 +9,11 @@ use Rattle.model.specs.Tables.{Tables, empty}
 use Rattle.model.specs.Steps.{Access, Step, enter, leave, hold, holds, mix, quits, binds, freezes, apply}
 use Rattle.model.specs.Invariant.{Kept}
 use Rattle.model.specs.Calls.{Call, Raw, decode, steps, effect, refusal, refused, answer, after}
-use Rattle.model.specs.Calls.Refusals.{answered_refused}
-use Rattle.model.specs.Calls.Listed.{always_listed, always_few}
-use Rattle.model.specs.Calls.Kept.{always_kept}
+use Rattle.model.proofs.Calls.Refusals.{answered_refused}
+use Rattle.model.proofs.Calls.Listed.{always_listed, always_few}
+use Rattle.model.proofs.Calls.Kept.{always_kept}
 use Rattle.model.specs.Book.{Contents, Book, Handling, Outside, blank_book, pour, carry, carries, turn, book_from, book}
-use Rattle.model.specs.Book.Laws.{book_tables}
+use Rattle.model.proofs.Book.Laws.{book_tables}
 use Rattle.attack.specs.Attack.{copying, let_through, book_of, Attack, Behind, acts}
 pub use Rattle.attack.specs.Attack.Sought.{sought_wf}
 pub use Rattle.attack.specs.Attack.Carrying.{chain_attack}

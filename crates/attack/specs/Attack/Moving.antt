@@ -7,15 +7,15 @@ use Rattle.model.specs.Bools.{cond_yes}
 use Rattle.model.specs.Lists.{In}
 use Rattle.model.specs.Flow.{Thing, subject, object}
 use Rattle.model.specs.Tables.{Dir, reading, writing, Handle, Tables, cell, whole, arc, flow}
-use Rattle.model.specs.Tables.Laws.{cell_self, whole_by, whole_self, whole_object, whole_no_object}
+use Rattle.model.proofs.Tables.Laws.{cell_self, whole_by, whole_self, whole_object, whole_no_object}
 use Rattle.model.specs.Steps.{Access, reads, writes, Step, mix, apply, applies}
 use Rattle.model.specs.Invariant.{Wf}
 use Rattle.model.specs.Calls.{Call, access, Raw, decode, target, rereads, steps, effect, refusal}
-use Rattle.model.specs.Calls.Moving.{reread_of, rereads_keep}
-use Rattle.model.specs.Calls.Dangling.{effect_wf}
+use Rattle.model.proofs.Calls.Moving.{reread_of, rereads_keep}
+use Rattle.model.proofs.Calls.Dangling.{effect_wf}
 use Rattle.model.specs.Book.{Contents, Book, Outside, pour, carry, carries, turn, book_from}
 use Rattle.model.specs.Demand3.{Held}
-use Rattle.model.specs.Demand3.Laws.{held_allowed}
+use Rattle.model.proofs.Demand3.Laws.{held_allowed}
 use Rattle.attack.specs.Attack.{copying, book_of, NoneRefused, Way, end, via, act, acts}
 
 -- ── what moves data leaves the handles and the groups ──

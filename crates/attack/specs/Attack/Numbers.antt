@@ -5,9 +5,9 @@ use Rattle.std.proofs.Common.{sym, ◌∙◌, ap, subst}
 use Rattle.std.proofs.Math.Option.{Option, none, some, none-ne-some, some-injective}
 use Rattle.model.specs.Flow.{Thing, subject, object, Edge}
 use Rattle.model.specs.Tables.{Dir, reading, writing, Handle, Tables, with_numbers, is_file, whole, arc, flow}
-use Rattle.model.specs.Tables.Laws.{whole_by}
+use Rattle.model.proofs.Tables.Laws.{whole_by}
 use Rattle.model.specs.Calls.{Call, admit, register, create, make_pipe, opens, access, fork, thread, exec, close, exit, retire, maps, mark, freeze, connect, unknown, effect}
-use Rattle.model.specs.Calls.Renaming.{Renumbers, thing, un, un_thing, edge, joined, held, ren, at_there, whole_ren, a_file_ren, call, effect_ren}
+use Rattle.model.proofs.Calls.Renaming.{Renumbers, thing, un, un_thing, edge, joined, held, ren, at_there, whole_ren, a_file_ren, call, effect_ren}
 use Rattle.attack.specs.Attack.{Barred, Begins, Way, end, via, Chain, Fewest}
 
 module _ (ρ σ : ℕ → ℕ) (v : Renumbers ρ σ) (l : List ℕ) where

@@ -9,20 +9,20 @@ use Rattle.model.specs.Bools.{test, both}
 use Rattle.model.specs.Lists.{In}
 use Rattle.model.specs.Label.{Label, leq}
 use Rattle.model.specs.Flow.{Thing, subject, object, Edge, Reaches, step}
-use Rattle.model.specs.Flow.Changes.{Sub, Adds}
+use Rattle.model.proofs.Flow.Changes.{Sub, Adds}
 use Rattle.model.specs.Tables.{Kind, running, file, pipe, Dir, reading, writing, Entry, entry, Handle, handle, mapping, Tables, live, label_of, is_file, is_pipe, cell, whole, mates, flow, edges, needs}
-use Rattle.model.specs.Tables.Laws.{some_of, used_is, live_of, cell_self, whole_by, whole_cases, step_entry, cell_entry, object_entry}
+use Rattle.model.proofs.Tables.Laws.{some_of, used_is, live_of, cell_self, whole_by, whole_cases, step_entry, cell_entry, object_entry}
 use Rattle.model.specs.Steps.{hold, put, place, apply, applies}
-use Rattle.model.specs.Steps.Laws.{put_cases, place_same, place_apart}
+use Rattle.model.proofs.Steps.Laws.{put_cases, place_same, place_apart}
 use Rattle.model.specs.Invariant.{Wf, Safe, Even}
-use Rattle.model.specs.Invariant.Laws.{Less, less_pot, pot_safe, needs_pot, unlike_back, mates_live, parted_cases}
+use Rattle.model.proofs.Invariant.Laws.{Less, less_pot, pot_safe, needs_pot, unlike_back, mates_live, parted_cases}
 use Rattle.model.specs.Calls.{Call, opens, exec, maps, connect, sheds, channel, effect, alive, present, no_pipe, vacant, others, InOrder, refusal}
-use Rattle.model.specs.Calls.Refusals.{refused_by}
-use Rattle.model.specs.Calls.Passed.{is_alive, is_present, sheds_less}
-use Rattle.model.specs.Calls.Needs.{edge_in, wf_ranged}
-use Rattle.model.specs.Calls.Listed.{Listed, effect_listed, effect_few}
+use Rattle.model.proofs.Calls.Refusals.{refused_by}
+use Rattle.model.proofs.Calls.Passed.{is_alive, is_present, sheds_less}
+use Rattle.model.proofs.Calls.Needs.{edge_in, wf_ranged}
+use Rattle.model.proofs.Calls.Listed.{Listed, effect_listed, effect_few}
 use Rattle.model.specs.Demand2.{Leaks, Offends, opened}
-use Rattle.model.specs.Demand2.Laws.{open_refused_iff, map_refused_iff, connect_refused_iff, exec_leaks_iff}
+use Rattle.model.proofs.Demand2.Laws.{open_refused_iff, map_refused_iff, connect_refused_iff, exec_leaks_iff}
 use Rattle.attack.specs.Attack.{Barred, Begins, most, Chain}
 use Rattle.attack.specs.Attack.Ways.{Led, led_95, led_94}
 use Rattle.attack.specs.Attack.Sought.{Seeks, an_open, a_map, an_exec, a_connect, seeks, steps_wf, sought_wf, effect_edges, map_edges, exec_edges, file_stays, reaches_more, not_reached, placed_adds}

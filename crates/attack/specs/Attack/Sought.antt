@@ -9,19 +9,19 @@ use Rattle.model.specs.Lists.{In, any}
 use Rattle.model.specs.Lists.Laws.{any_of}
 use Rattle.model.specs.Label.{leq}
 use Rattle.model.specs.Flow.{Thing, subject, object, same, Edge, Reaches, here, step}
-use Rattle.model.specs.Flow.Laws.{same→eq}
-use Rattle.model.specs.Flow.Changes.{Sub, Adds}
+use Rattle.model.proofs.Flow.Laws.{same→eq}
+use Rattle.model.proofs.Flow.Changes.{Sub, Adds}
 use Rattle.model.specs.Tables.{Kind, running, file, pipe, Dir, Entry, entry, Handle, handle, mapping, Tables, subjects, is_some, used, live, label_of, is_file, cell, handles, flow, edges, needs}
-use Rattle.model.specs.Tables.Laws.{live_of, cell_self, whole_no_object, edges_numbers}
+use Rattle.model.proofs.Tables.Laws.{live_of, cell_self, whole_no_object, edges_numbers}
 use Rattle.model.specs.Steps.{reads, hold, put, fall, sink, apply, applies, ended, reap}
 use Rattle.model.specs.Invariant.{Wf, Safe}
-use Rattle.model.specs.Invariant.Laws.{less_wf, less_numbers, wf_reap, wf_mix}
+use Rattle.model.proofs.Invariant.Laws.{less_wf, less_numbers, wf_reap, wf_mix}
 use Rattle.model.specs.Calls.{Call, admit, register, create, make_pipe, opens, access, fork, thread, exec, close, exit, retire, maps, mark, freeze, connect, unknown, sheds, steps, effect, number, alive, present, new, vacant, broken, tests, order, InOrder, refusal}
-use Rattle.model.specs.Calls.Refusals.{refused_by, earlier_on}
-use Rattle.model.specs.Calls.Passed.{is_alive, is_new, is_place, is_vacant, sheds_less}
-use Rattle.model.specs.Calls.Dangling.{placed_wf, exec_wf, connect_wf}
-use Rattle.model.specs.Calls.Needs.{edges_at, hold_adds}
-use Rattle.model.specs.Demand2.Laws.{leaks_over}
+use Rattle.model.proofs.Calls.Refusals.{refused_by, earlier_on}
+use Rattle.model.proofs.Calls.Passed.{is_alive, is_new, is_place, is_vacant, sheds_less}
+use Rattle.model.proofs.Calls.Dangling.{placed_wf, exec_wf, connect_wf}
+use Rattle.model.proofs.Calls.Needs.{edges_at, hold_adds}
+use Rattle.model.proofs.Demand2.Laws.{leaks_over}
 use Rattle.attack.specs.Attack.{Barred}
 
 -- ── the calls that are refused with 9 ──

@@ -5,7 +5,7 @@ use Rattle.model.specs.Bools.{test}
 use Rattle.model.specs.Lists.{In, keep}
 use Rattle.model.specs.Lists.Laws.{keep_here, keep_there, keep_cases}
 use Rattle.model.specs.Flow.{Thing, same, Edge, Reaches, here, step}
-use Rattle.model.specs.Flow.Laws.{same→eq, same_refl}
+use Rattle.model.proofs.Flow.Laws.{same→eq, same_refl}
 
 -- a chain of at most n flows
 pub data Trail (es : List Edge) : ℕ → Thing → Thing → Type 0 where

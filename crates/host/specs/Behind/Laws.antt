@@ -3,8 +3,8 @@ use Rattle.std.specs.Prelude.{◌≡◌, List, ℕ, ◌<◌}
 use Rattle.std.proofs.Common.{subst}
 use Rattle.model.specs.Tables.{Tables, empty}
 use Rattle.model.specs.Calls.{Raw, decode, Answer, refused, answer, after}
-use Rattle.model.specs.Calls.Kept.{always_kept}
-use Rattle.model.specs.Calls.Refusals.{answered_refused}
+use Rattle.model.proofs.Calls.Kept.{always_kept}
+use Rattle.model.proofs.Calls.Refusals.{answered_refused}
 use Rattle.why.specs.declared.Chain.{Chain}
 use Rattle.why.specs.Why.{Shown}
 use Rattle.stored.specs.State.{Blank}

@@ -3,14 +3,14 @@ use Rattle.std.specs.Prelude.{◌≡◌, List, ℕ}
 use Rattle.std.proofs.Common.{sym, ap, ◌∙◌, subst}
 use Rattle.model.specs.Tables.{Tables, empty, clean}
 use Rattle.model.specs.Invariant.{Wf, AllSayable}
-use Rattle.model.specs.Invariant.Laws.{empty_wf, clean_same}
+use Rattle.model.proofs.Invariant.Laws.{empty_wf, clean_same}
 use Rattle.model.specs.Calls.{Raw, decode, Answer, answers}
-use Rattle.model.specs.Calls.Sayable.{always_sayable}
+use Rattle.model.proofs.Calls.Sayable.{always_sayable}
 use Rattle.model.specs.Promise.{Meets, Runs}
-use Rattle.model.specs.Promise.Laws.{cleaned_runs, runs_right}
+use Rattle.model.proofs.Promise.Laws.{cleaned_runs, runs_right}
 use Rattle.model.specs.Promise.{done as stop, then as go}
 use Rattle.model.specs.Demand3.{Demand3}
-use Rattle.model.specs.Demand3.Laws.{demand3}
+use Rattle.model.proofs.Demand3.Laws.{demand3}
 use Rattle.stored.specs.State.{Sized, state_view, state_right, stored_kind, Blank}
 use Rattle.host.specs.Demand3.{Calls, done, then, answers_in}
 

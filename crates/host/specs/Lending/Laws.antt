@@ -3,14 +3,14 @@ use Rattle.std.specs.Prelude.{◌≡◌, List, ◌++◌, ℕ}
 use Rattle.std.proofs.Common.{sym, ap, ap₂, ◌∙◌, subst}
 use Rattle.model.specs.Tables.{Tables, empty, clean}
 use Rattle.model.specs.Invariant.{Wf, AllSayable}
-use Rattle.model.specs.Invariant.Laws.{empty_wf, clean_same}
+use Rattle.model.proofs.Invariant.Laws.{empty_wf, clean_same}
 use Rattle.model.specs.Calls.{Call, Raw, decode, Answer, answers, after}
-use Rattle.model.specs.Calls.Sayable.{always_sayable}
+use Rattle.model.proofs.Calls.Sayable.{always_sayable}
 use Rattle.model.specs.Promise.{Meets, Runs}
-use Rattle.model.specs.Promise.Laws.{cleaned_runs, runs_right, runs_honest, runs_claim}
+use Rattle.model.proofs.Promise.Laws.{cleaned_runs, runs_right, runs_honest, runs_claim}
 use Rattle.model.specs.Promise.{done as stop, then as go}
 use Rattle.model.specs.Demand3.{Demand3}
-use Rattle.model.specs.Demand3.Laws.{demand3}
+use Rattle.model.proofs.Demand3.Laws.{demand3}
 use Rattle.host.specs.declared.lent.State.{State}
 use Rattle.gatekeeper.specs.declared.Monitor.{Monitor}
 use Rattle.gatekeeper.specs.View.{monitors}

@@ -3,11 +3,11 @@ use Rattle.std.specs.Prelude.{◌≡◌, refl, Bool, true, false, List, [], ◌�
 use Rattle.std.proofs.Common.{sym, ◌∙◌, ap, ap₂, subst, subst₂}
 use Rattle.model.specs.Tables.{Tables, empty, clean}
 use Rattle.model.specs.Invariant.{Kept}
-use Rattle.model.specs.Invariant.Laws.{clean_same}
+use Rattle.model.proofs.Invariant.Laws.{clean_same}
 use Rattle.model.specs.Calls.{Raw, decode, next, Answer, answer, answers, after}
-use Rattle.model.specs.Calls.Kept.{next_kept, after_kept, empty_kept, always_kept}
+use Rattle.model.proofs.Calls.Kept.{next_kept, after_kept, empty_kept, always_kept}
 use Rattle.model.specs.Demand3.{Demand3}
-use Rattle.model.specs.Demand3.Laws.{rules_demand3, meets_next}
+use Rattle.model.proofs.Demand3.Laws.{rules_demand3, meets_next}
 use Rattle.stored.specs.State.{Sized, state_view, state_right, stored_kind, Blank}
 use Rattle.lines.specs.Calls.{calls_of}
 use Rattle.typed.specs.declared.Outcome.{Outcome}

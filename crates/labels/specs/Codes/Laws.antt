@@ -8,7 +8,7 @@ use Rattle.model.specs.Bools.{is_true}
 use Rattle.model.specs.Sets.{within}
 use Rattle.model.specs.Sets.Laws.{and_assoc, within_of, within_le}
 use Rattle.model.specs.Label.{Label, label, level, shops, leq, ◌⊑◌, join, bot}
-use Rattle.model.specs.Label.Laws.{level_label, shops_label, leq_labels, join_parts, label_zero, ⊑→le, ⊑→within, ⊑_refl, join_left, join_right}
+use Rattle.model.proofs.Label.Laws.{level_label, shops_label, leq_labels, join_parts, label_zero, ⊑→le, ⊑→within, ⊑_refl, join_left, join_right}
 use Rattle.labels.specs.Codes.{coded}
 
 pub coded_is : (l m : ℕ) → m < 256 → coded (l * 256 + m) ≡ label l m

@@ -5,7 +5,7 @@ use Rattle.model.specs.Tables.{Tables, empty}
 use Rattle.model.specs.Calls.{decode, next, Answer, refused, answer, answers, after}
 use Rattle.model.specs.Tally.{Tally, zeroed, tally}
 use Rattle.model.specs.Demand3.{Demand3}
-use Rattle.model.specs.Demand3.Laws.{rules_demand3}
+use Rattle.model.proofs.Demand3.Laws.{rules_demand3}
 use Rattle.journal.specs.Answers.{Said, said}
 use Rattle.journal.specs.Answers.{answers as reads, refused as bad}
 use Rattle.replay.specs.Replay.{records_of, raw, calls_of, replies, run_of, largest_journal}

@@ -5,12 +5,12 @@ use Rattle.std.proofs.Common.{sym, ◌∙◌, ap, subst, append_assoc, arith, lt
 use Rattle.std.proofs.Math.Option.{Option, none, some}
 use Rattle.model.specs.Tables.{Tables, clean}
 use Rattle.model.specs.Invariant.{Kept}
-use Rattle.model.specs.Invariant.Laws.{clean_same}
+use Rattle.model.proofs.Invariant.Laws.{clean_same}
 use Rattle.model.specs.Calls.{Call, unknown, Raw, decode, refusal, next, Answer, refused, answer, after}
-use Rattle.model.specs.Calls.Codes.{decode_unknown}
-use Rattle.model.specs.Calls.Kept.{next_kept}
+use Rattle.model.proofs.Calls.Codes.{decode_unknown}
+use Rattle.model.proofs.Calls.Kept.{next_kept}
 use Rattle.model.specs.Tally.{Tally, tallied, tally}
-use Rattle.model.specs.Demand3.Laws.{meets_next}
+use Rattle.model.proofs.Demand3.Laws.{meets_next}
 use Rattle.number.specs.Leb.{number, largest, Reading, good, malformed}
 use Rattle.journal.specs.Answers.{Said, said, Next, body, end}
 use Rattle.journal.specs.Answers.{Answer as Read, answers as reads, refused as bad}

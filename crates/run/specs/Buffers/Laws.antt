@@ -3,10 +3,10 @@ use Rattle.std.specs.Prelude.{◌≡◌, refl, List, [], ◌∷◌, ◌++◌, Bo
 use Rattle.std.proofs.Common.{sym, ◌∙◌, ap, ap₂, subst, arith, add-one, length-append, length-drop, drop-drop, take_at, ltb-true, ltb-false}
 use Rattle.model.specs.Tables.{Tables, empty}
 use Rattle.model.specs.Calls.{Raw, decode, Answer, allowed, lowered, refused, answer, next, answers, after}
-use Rattle.model.specs.Calls.Kept.{always_kept}
+use Rattle.model.proofs.Calls.Kept.{always_kept}
 use Rattle.model.specs.Promise.{Meets}
 use Rattle.model.specs.Demand3.{Demand3}
-use Rattle.model.specs.Demand3.Laws.{rules_demand3, after_more, answers_more, meets_next}
+use Rattle.model.proofs.Demand3.Laws.{rules_demand3, after_more, answers_more, meets_next}
 use Rattle.gatekeeper.specs.declared.Monitor.{Monitor}
 use Rattle.answers.specs.Telling.{letter_of, value_of, lost_of}
 use Rattle.gatekeeper.specs.View.{view, Honest, monitors}

@@ -14,9 +14,9 @@ use Rattle.std.proofs.lemmas.List.{length-replicate, get_or-replicate, length-ma
 use Rattle.model.specs.Flow.{Thing, subject, object}
 use Rattle.model.specs.Tables.{Tables, no_freeze, empty, clean, with_at, with_hand, with_freeze, with_numbers, with_kin, subjects, objects, places}
 use Rattle.model.specs.Invariant.{Wf}
-use Rattle.model.specs.Invariant.Laws.{clean_same, empty_wf}
+use Rattle.model.proofs.Invariant.Laws.{clean_same, empty_wf}
 use Rattle.model.specs.Figures.{Ready}
-use Rattle.model.specs.Figures.Laws.{empty_ready}
+use Rattle.model.proofs.Figures.Laws.{empty_ready}
 use Rattle.tables.specs.Needs.{figure_of}
 use Rattle.model.specs.Tally.{zeroed}
 use Rattle.model.specs.Tables.{Handle as Held}

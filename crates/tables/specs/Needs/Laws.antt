@@ -4,11 +4,11 @@ use Rattle.std.proofs.Common.{sym, ◌∙◌, ap, subst, arith, get_or-set_same,
 use Rattle.model.specs.Label.{Label}
 use Rattle.labels.specs.Codes.{coded}
 use Rattle.model.specs.Flow.{Thing, subject, object, same}
-use Rattle.model.specs.Flow.Laws.{same→eq, same_refl}
-use Rattle.model.specs.Flow.Changes.{but}
+use Rattle.model.proofs.Flow.Laws.{same→eq, same_refl}
+use Rattle.model.proofs.Flow.Changes.{but}
 use Rattle.model.specs.Tables.{Tables, in_range}
 use Rattle.model.specs.Figures.{Ready}
-use Rattle.model.specs.Figures.Laws.{ready_by}
+use Rattle.model.proofs.Figures.Laws.{ready_by}
 use Rattle.tables.specs.Needs.{node, housed, figure_of}
 
 pub node_low : (x : Thing) → T (housed x) → node x < 96

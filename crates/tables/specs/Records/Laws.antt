@@ -16,11 +16,11 @@ use Rattle.model.specs.Bools.{is_true, cond_no}
 use Rattle.model.specs.Flow.{Thing, subject, object}
 use Rattle.model.specs.Tables.{Entry, Tables, empty, with_at, with_hand, is_some, live, is_pipe, handles, open_on, clean}
 use Rattle.model.specs.Tables.{Handle as Held}
-use Rattle.model.specs.Tables.Laws.{used_is, live_of, open_here, open_at, handles_by}
+use Rattle.model.proofs.Tables.Laws.{used_is, live_of, open_here, open_at, handles_by}
 use Rattle.model.specs.Steps.{put, place, ended, reap}
-use Rattle.model.specs.Steps.Laws.{ended_of, ended_subject}
+use Rattle.model.proofs.Steps.Laws.{ended_of, ended_subject}
 use Rattle.model.specs.Invariant.{Teams, Wf}
-use Rattle.model.specs.Invariant.Laws.{clean_wf}
+use Rattle.model.proofs.Invariant.Laws.{clean_wf}
 use Rattle.tables.specs.declared.Subject.{Subject}
 use Rattle.tables.specs.declared.Object.{Object}
 use Rattle.tables.specs.declared.Handle.{Handle}

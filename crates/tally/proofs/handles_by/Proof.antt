@@ -1,7 +1,7 @@
 -- `tally::handles_by` meets its contract. Assumes nothing.
 use Rattle.std.proofs.Common.{◌≡◌, List, sym, ap, ◌∙◌, subst, rules}
 use Rattle.model.specs.Tables.{clean}
-use Rattle.model.specs.Invariant.Laws.{clean_same}
+use Rattle.model.proofs.Invariant.Laws.{clean_same}
 use Rattle.tables.specs.declared.Object.{Object}
 use Rattle.tables.specs.Records.{tables_of}
 use Rattle.gatekeeper.specs.declared.Monitor.{Monitor}

@@ -7,16 +7,16 @@ use Rattle.std.proofs.lemmas.Bool.{false≢true}
 use Rattle.std.proofs.Math.Option.{Option, none, some}
 use Rattle.model.specs.Tables.{Tables, empty, clean}
 use Rattle.model.specs.Invariant.{Wf}
-use Rattle.model.specs.Invariant.Laws.{clean_same}
+use Rattle.model.proofs.Invariant.Laws.{clean_same}
 use Rattle.model.specs.Calls.{Raw, decode, refusal, effect, next, Answer, allowed, lowered, refused, answers, after}
-use Rattle.model.specs.Calls.Refusals.{answered_refused}
-use Rattle.model.specs.Calls.Dangling.{next_wf}
+use Rattle.model.proofs.Calls.Refusals.{answered_refused}
+use Rattle.model.proofs.Calls.Dangling.{next_wf}
 use Rattle.model.specs.Promise.{Meets, Runs}
 use Rattle.model.specs.Promise.{done as stop, then as go}
-use Rattle.model.specs.Promise.Laws.{handed_back, cleaned_runs}
+use Rattle.model.proofs.Promise.Laws.{handed_back, cleaned_runs}
 use Rattle.model.specs.Tally.{tally, wrapped}
 use Rattle.model.specs.Demand3.{Demand3}
-use Rattle.model.specs.Demand3.Laws.{demand3}
+use Rattle.model.proofs.Demand3.Laws.{demand3}
 use Rattle.answers.specs.Telling.{refuses}
 use Rattle.gatekeeper.specs.declared.Monitor.{Monitor}
 use Rattle.gatekeeper.specs.View.{view, Honest, Tidy, Whole, monitors}

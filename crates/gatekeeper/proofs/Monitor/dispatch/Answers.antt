@@ -1,7 +1,7 @@
 -- `gatekeeper::Monitor::dispatch` meets its contract. Assumes nothing.
 use mathlib.Core.Path.{sym, subst}
 use Rattle.model.specs.Calls.{Call, unknown, decode}
-use Rattle.model.specs.Calls.Codes.{decode_unknown, unknown_refused}
+use Rattle.model.proofs.Calls.Codes.{decode_unknown, unknown_refused}
 use Rattle.answers.specs.Telling.{told}
 use Rattle.gatekeeper.specs.View.{slots, direct}
 use Rattle.gatekeeper.specs.Acting.{Acts}

@@ -3,7 +3,7 @@ use mathlib.Core.Path.{refl, sym, ◌∙◌, ap}
 use mathlib.Core.List.{List}
 use borrow.Author.Rules.{rules}
 use Rattle.model.specs.Tables.{empty, with_freeze, with_numbers, with_kin, clean}
-use Rattle.model.specs.Invariant.Laws.{clean_same}
+use Rattle.model.proofs.Invariant.Laws.{clean_same}
 use Rattle.tables.specs.declared.Object.{Object}
 use Rattle.tables.specs.Records.{tables_of}
 use Rattle.gatekeeper.specs.declared.Monitor.{Monitor}

@@ -6,12 +6,12 @@ use lib.ListN.{length}
 use Rattle.model.specs.Tables.{reading, writing}
 use Rattle.model.specs.Label.{label}
 use Rattle.model.specs.Calls.{Call, admit, register, create, make_pipe, opens, maps, access, connect, fork, thread, exec, close, mark, exit, retire, freeze, unknown, decode, sheds}
-use Rattle.model.specs.Calls.Codes.{decode_unknown}
+use Rattle.model.proofs.Calls.Codes.{decode_unknown}
 use Rattle.tables.proofs.Maps.{unmapped}
 use Rattle.gatekeeper.specs.declared.seats.Seats.{Seats}
 use Rattle.gatekeeper.specs.View.{direct}
 use Rattle.gatekeeper.specs.Numbering.{Lift}
-use Rattle.model.specs.Calls.Listed.{writes_none}
+use Rattle.model.proofs.Calls.Listed.{writes_none}
 use Rattle.gatekeeper.proofs.Lifting.{lift_none, lift_named, lift_made, lift_both}
 use borrow.Author.Rules.{rules}
 use Rattle.gatekeeper.proofs.seats.located.Goals as goal

@@ -1,0 +1,17 @@
+pub mod Refusals
+pub mod Passed
+pub mod Dangling
+pub mod Scale
+pub mod Vouched
+pub mod Moving
+pub mod Mapped
+pub mod Sound
+pub mod Groups
+pub mod Kept
+pub mod Needs
+pub mod Sayable
+pub mod Codes
+pub mod Renaming
+pub mod Slots
+pub mod Listed
+pub mod Before
