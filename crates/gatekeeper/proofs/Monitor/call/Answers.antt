@@ -24,7 +24,7 @@ returns c =
     let g = owned_long m c.well_formed.0 in
     let d = c.dispatch-r.ensures in
     meets m _ (decode (direct a.code a.a a.b a.c a.d a.e a.f)) (decode (direct a.code s.a s.b s.c s.d a.e a.f))
-    c.dispatch-r.result g.objects (reply_long c.dispatch-r.result c.dispatch-r.type-inv)
+    c.dispatch-r.result g.objects (reply_long c.dispatch-r.result c.dispatch-r.type_inv)
     (read_wf (once m) (once_long m g))
     (λ h. record {
       tables = λ v. k.tables h;

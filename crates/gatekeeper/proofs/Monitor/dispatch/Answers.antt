@@ -11,75 +11,82 @@ use Rattle.gatekeeper.proofs.Monitor.dispatch.Goals as goal
 
 pub returns-in-1 : goal.returns-in-1
 unfolding decode
-returns-in-1 c = rw c.in-1.is (unroomed c.admit.ensures)
+returns-in-1 c = rw c.in-1.is (let z = unroomed c.admit.ensures in record { acts = z.0; keeps = z.1 })
 
 pub returns-in-2 : goal.returns-in-2
 unfolding decode
-returns-in-2 c = rw c.in-2.is (both c.register.ensures)
+returns-in-2 c = rw c.in-2.is (let z = both c.register.ensures in record { acts = z.0; keeps = z.1 })
 
 pub returns-in-3 : goal.returns-in-3
 unfolding decode
-returns-in-3 c = rw c.in-3.is (both c.create.ensures)
+returns-in-3 c = rw c.in-3.is (let z = both c.create.ensures in record { acts = z.0; keeps = z.1 })
 
 pub returns-in-4 : goal.returns-in-4
 unfolding decode
-returns-in-4 c = rw c.in-4.is (both c.pipe.ensures)
+returns-in-4 c = rw c.in-4.is (let z = both c.pipe.ensures in record { acts = z.0; keeps = z.1 })
 
 pub returns-in-5 : goal.returns-in-5
 unfolding decode
-returns-in-5 c = rw c.in-5.is (either c.open.ensures)
+returns-in-5 c = rw c.in-5.is (let z = either (c.open.ensures.acts, c.open.ensures.keeps) in record { acts = z.0; keeps = z.1 })
 
 pub returns-in-6 : goal.returns-in-6
 unfolding decode
-returns-in-6 c = rw c.in-6.is (either c.open-in-6.ensures)
+returns-in-6 c = rw c.in-6.is (let z = either (c.open-in-6.ensures.acts, c.open-in-6.ensures.keeps) in record { acts = z.0; keeps = z.1 })
 
 pub returns-in-7 : goal.returns-in-7
 unfolding decode
-returns-in-7 c = rw c.in-7.is (unroomed c.read.ensures)
+returns-in-7 c = rw c.in-7.is (let z = unroomed c.read.ensures in record { acts = z.0; keeps = z.1 })
 
 pub returns-in-8 : goal.returns-in-8
 unfolding decode
-returns-in-8 c = rw c.in-8.is (unroomed c.write.ensures)
+returns-in-8 c = rw c.in-8.is (let z = unroomed c.write.ensures in record { acts = z.0; keeps = z.1 })
 
 pub returns-in-9 : goal.returns-in-9
 unfolding decode
-returns-in-9 c = rw c.in-9.is (unroomed c.fork.ensures)
+returns-in-9 c = rw c.in-9.is (let z = unroomed c.fork.ensures in record { acts = z.0; keeps = z.1 })
 
 pub returns-in-10 : goal.returns-in-10
 unfolding decode
-returns-in-10 c = rw c.in-10.is (unroomed c.exec.ensures)
+returns-in-10 c = rw c.in-10.is (let z = unroomed c.exec.ensures in record { acts = z.0; keeps = z.1 })
 
 pub returns-in-11 : goal.returns-in-11
 unfolding decode
-returns-in-11 c = rw c.in-11.is (unroomed c.close.ensures)
+returns-in-11 c = rw c.in-11.is (let z = unroomed c.close.ensures in record { acts = z.0; keeps = z.1 })
 
 pub returns-in-12 : goal.returns-in-12
 unfolding decode
-returns-in-12 c = rw c.in-12.is (unroomed c.exit.ensures)
+returns-in-12 c = rw c.in-12.is (let z = unroomed c.exit.ensures in record { acts = z.0; keeps = z.1 })
 
 pub returns-in-13 : goal.returns-in-13
 unfolding decode
-returns-in-13 c = rw c.in-13.is (unroomed c.retire.ensures)
+returns-in-13 c = rw c.in-13.is (let z = unroomed c.retire.ensures in record { acts = z.0; keeps = z.1 })
 
 pub returns-in-14 : goal.returns-in-14
 unfolding decode
-returns-in-14 c = rw c.in-14.is (either c.map.ensures)
+returns-in-14 c = rw c.in-14.is (let z = either (c.map.ensures.acts, c.map.ensures.keeps) in record { acts = z.0; keeps = z.1 })
 
 pub returns-in-15 : goal.returns-in-15
 unfolding decode
-returns-in-15 c = rw c.in-15.is (unroomed c.mark.ensures)
+returns-in-15 c = rw c.in-15.is (let z = unroomed c.mark.ensures in record { acts = z.0; keeps = z.1 })
 
 pub returns-in-16 : goal.returns-in-16
 unfolding decode
-returns-in-16 c = rw c.in-16.is (unroomed c.freeze.ensures)
+returns-in-16 c = rw c.in-16.is (let z = unroomed c.freeze.ensures in record { acts = z.0; keeps = z.1 })
 
 pub returns-in-17 : goal.returns-in-17
 unfolding decode
-returns-in-17 c = rw c.in-17.is (both c.connect.ensures)
+returns-in-17 c = rw c.in-17.is (let z = both c.connect.ensures in record { acts = z.0; keeps = z.1 })
 
 pub returns-in-18 : goal.returns-in-18
 unfolding decode
-returns-in-18 c = rw c.in-18.is (unroomed c.thread.ensures)
+returns-in-18 c = rw c.in-18.is (let z = unroomed c.thread.ensures in record { acts = z.0; keeps = z.1 })
 
 pub returns-in_default : goal.returns-in_default
-returns-in_default c = ?
+returns-in_default c =
+    let a = c.args in
+    let n = c.in_default.in_default-own.rest in
+    let z = both (λ w r. subst (λ (k : Call). Acts a.self k (told c.refuse.result.answer) c.refuse.result.monitor)
+        (sym (decode_unknown (direct a.code a.a a.b a.c a.d a.e a.f)
+        (n.0.0.0.0.0.0.0.0.0.0.0.0.0.0.0.0.0.1, (n.0.0.0.0.0.0.0.0.0.0.0.0.0.0.0.0.1, (n.0.0.0.0.0.0.0.0.0.0.0.0.0.0.0.1, (n.0.0.0.0.0.0.0.0.0.0.0.0.0.0.1, (n.0.0.0.0.0.0.0.0.0.0.0.0.0.1, (n.0.0.0.0.0.0.0.0.0.0.0.0.1, (n.0.0.0.0.0.0.0.0.0.0.0.1, (n.0.0.0.0.0.0.0.0.0.0.1, (n.0.0.0.0.0.0.0.0.0.1, (n.0.0.0.0.0.0.0.0.1, (n.0.0.0.0.0.0.0.1, (n.0.0.0.0.0.0.1, (n.0.0.0.0.0.1, (n.0.0.0.0.1, (n.0.0.0.1, (n.0.0.1, (n.0.1, (n.1, tt))))))))))))))))))))
+        (halts a.self unknown 1 c.refuse.result (unknown_refused (slots a.self)) c.refuse.ensures)) in
+    record { acts = z.0; keeps = z.1 }

@@ -46,5 +46,5 @@ returns c =
     c.figures-needs.ensures c.of_subject-need.result c.object_label.result c.is_less-short.result c.of_subject-need.ensures c.object_label.ensures c.is_less-short.ensures) in
     let sank = c.is_less-sank.ensures ∙ ap₂ (λ (i j : Label). not (leq i j)) c.subject_label-2.ensures c.subject_label.ensures in
     execs a.self g a.s a.o c.object_of-y.result c.alone-a.result.subjects c.alone-a.result.handles c.figures-needs.result w z y c.alone-a.ensures.tables
-    c.figures-needs.ensures c.subject_of-x.result c.fallen-put.result c.with_subject-ran.result c.reaped-left.result _ (remains_long c.alone-a.result c.alone-a.type-inv) c.alone-a.ensures.own x
+    c.figures-needs.ensures c.subject_of-x.result c.fallen-put.result c.with_subject-ran.result c.reaped-left.result _ (remains_long c.alone-a.result c.alone-a.type_inv) c.alone-a.ensures.own x
     (frees e c.if-late-ne0.false) c.fallen-put.ensures c.with_subject-ran.ensures (c.not_refused.ensures ∙ ap₂ (λ (b : Bool) (k : ℕ). outcome b c.fallen-put.result.level k) sank c.lost-lost.ensures) c.reaped-left.ensures

@@ -58,8 +58,8 @@ returns c =
           maps_acts a.self g a.s a.o a.p c.object_of-y.result c.joining-opened.result c.with_handle-next.result c.opened-w.result.needs
           c.opened-w.result.short w z y c.joining-opened.ensures c.with_handle-next.ensures c.opened-w.ensures
           c.subject_of-x.result c.fallen-put.result c.taken-t.result.subjects c.with_handle-all.result c.taken-t.result.lower _ x (frees e c.if-late-ne0.false) c.fallen-put.ensures
-          c.taken-t.ensures all (c.not_refused.ensures ∙ ap (outcome c.taken-t.result.lower c.fallen-put.result.level) c.lost-lost.ensures);
+          (c.taken-t.ensures.tables, (c.taken-t.ensures.lower, c.taken-t.ensures.live)) all (c.not_refused.ensures ∙ ap (outcome c.taken-t.result.lower c.fallen-put.result.level) c.lost-lost.ensures);
       keeps = λ w. maps_keeps a.self g a.s a.o a.p c.object_of-y.result c.joining-opened.result c.with_handle-next.result c.opened-w.result.needs
           c.opened-w.result.short w (waited w) y c.joining-opened.ensures c.with_handle-next.ensures c.opened-w.ensures
-          c.taken-t.result.subjects c.with_handle-all.result c.taken-t.result.lower c.taken-t.ensures all;
+          c.taken-t.result.subjects c.with_handle-all.result c.taken-t.result.lower (c.taken-t.ensures.tables, (c.taken-t.ensures.lower, c.taken-t.ensures.live)) all;
     }

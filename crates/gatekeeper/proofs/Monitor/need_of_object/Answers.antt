@@ -17,13 +17,15 @@ returns-then-i-ge-OBJECT_NUMBERS c =
     let m = c.args.self in
     let g = owned_long m c.well_formed.0 in
     let f = subst (λ (l : List Object). Found l m.numbers c.args.o c.slot_of-i.result) c.single-single.ensures c.slot_of-i.ensures in
-    told_need m g.objects (read_wf (once m) (once_long m g))
-    c.args.o c.slot_of-i.result 0 f (inr (c.if-i-ge-OBJECT_NUMBERS.true, refl))
+    let z = told_need m g.objects (read_wf (once m) (once_long m g))
+    c.args.o c.slot_of-i.result 0 f (inr (c.if-i-ge-OBJECT_NUMBERS.true, refl)) in
+    record { kept = z.0; right = z.1 }
 
 pub returns : goal.returns
 returns c =
     let m = c.args.self in
     let g = owned_long m c.well_formed.0 in
     let f = subst (λ (l : List Object). Found l m.numbers c.args.o c.slot_of-i.result) c.single-single.ensures c.slot_of-i.ensures in
-    told_need m g.objects (read_wf (once m) (once_long m g))
-    c.args.o c.slot_of-i.result c.of_object.result f (inl (c.if-i-ge-OBJECT_NUMBERS.false, c.of_object.ensures))
+    let z = told_need m g.objects (read_wf (once m) (once_long m g))
+    c.args.o c.slot_of-i.result c.of_object.result f (inl (c.if-i-ge-OBJECT_NUMBERS.false, c.of_object.ensures)) in
+    record { kept = z.0; right = z.1 }

@@ -14,8 +14,9 @@ returns-then-x-eq0 c =
     let m = a.self in
     let g = once_long m (owned_long m c.well_formed.0) in
     let w = read_wf (once m) g in
-    subject_need m (owned_long m c.well_formed.0).objects w a.s 0
-    (subject_dead (once m) w a.s c.subject_of-x.result (subject_got (once m) g a.s c.subject_of-x.result c.subject_of-x.ensures) c.if-x-eq0.true)
+    let z = subject_need m (owned_long m c.well_formed.0).objects w a.s 0
+    (subject_dead (once m) w a.s c.subject_of-x.result (subject_got (once m) g a.s c.subject_of-x.result c.subject_of-x.ensures) c.if-x-eq0.true) in
+    record { kept = z.0; right = z.1 }
 
 pub returns : goal.returns
 returns c =
@@ -23,6 +24,7 @@ returns c =
     let m = a.self in
     let g = once_long m (owned_long m c.well_formed.0) in
     let w = read_wf (once m) g in
-    subject_need m (owned_long m c.well_formed.0).objects w a.s c.of_subject.result
+    let z = subject_need m (owned_long m c.well_formed.0).objects w a.s c.of_subject.result
     (subject_told (once m) w a.s c.subject_of-x.result (subject_got (once m) g a.s c.subject_of-x.result c.subject_of-x.ensures) c.of_subject.result
-    c.if-x-eq0.false c.of_subject.ensures)
+    c.if-x-eq0.false c.of_subject.ensures) in
+    record { kept = z.0; right = z.1 }

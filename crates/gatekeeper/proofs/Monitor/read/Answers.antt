@@ -28,4 +28,4 @@ returns c =
     let z = goes (c.of_read-n.ensures (slots a.self) a.s a.p w x h) c.if-n-ne0.false in
     reads a.self g a.s a.p c.subject_of-x.result c.fallen-put.result c.handle_of-h.result c.object_of-y.result c.taken-t.result.subjects
     c.taken-t.result.lower _ w z x h (object_got a.self g c.handle_of-h.result.object c.object_of-y.result c.object_of-y.ensures) c.fallen-put.ensures
-    c.taken-t.ensures (c.not_refused.ensures ∙ ap (outcome c.taken-t.result.lower c.fallen-put.result.level) c.lost-lost.ensures)
+    (c.taken-t.ensures.tables, (c.taken-t.ensures.lower, c.taken-t.ensures.live)) (c.not_refused.ensures ∙ ap (outcome c.taken-t.result.lower c.fallen-put.result.level) c.lost-lost.ensures)

@@ -167,10 +167,14 @@ returns-in-18 c =
 pub returns-in_default : goal.returns-in_default
 returns-in_default c =
     let a = c.args in
+    let n = c.in_default.in_default-own.rest in
     let lo : length a.objects ≡ 64 = search (rules, unmapped) in
     let ln : length a.numbers ≡ 64 = search rules in
     let r = c.names_none-in_default.result in
     λ e f dd. subst₂ (λ (x y : Call). Lift a.objects a.numbers x y r.numbers)
-    (sym (decode_unknown (direct a.code a.a a.b a.c a.d e f) (c.match.rest.0.0.0.0.0.0.0.0.0.0.0.0.0.0.0.0.0.1, (c.match.rest.0.0.0.0.0.0.0.0.0.0.0.0.0.0.0.0.1, (c.match.rest.0.0.0.0.0.0.0.0.0.0.0.0.0.0.0.1, (c.match.rest.0.0.0.0.0.0.0.0.0.0.0.0.0.0.1, (c.match.rest.0.0.0.0.0.0.0.0.0.0.0.0.0.1, (c.match.rest.0.0.0.0.0.0.0.0.0.0.0.0.1, (c.match.rest.0.0.0.0.0.0.0.0.0.0.0.1, (c.match.rest.0.0.0.0.0.0.0.0.0.0.1, (c.match.rest.0.0.0.0.0.0.0.0.0.1, (c.match.rest.0.0.0.0.0.0.0.0.1, (c.match.rest.0.0.0.0.0.0.0.1, (c.match.rest.0.0.0.0.0.0.1, (c.match.rest.0.0.0.0.0.1, (c.match.rest.0.0.0.0.1, (c.match.rest.0.0.0.1, (c.match.rest.0.0.1, (c.match.rest.0.1, (c.match.rest.1, tt)))))))))))))))))))) (sym (decode_unknown (direct a.code r.a r.b r.c r.d e f) (c.match.rest.0.0.0.0.0.0.0.0.0.0.0.0.0.0.0.0.0.1, (c.match.rest.0.0.0.0.0.0.0.0.0.0.0.0.0.0.0.0.1, (c.match.rest.0.0.0.0.0.0.0.0.0.0.0.0.0.0.0.1, (c.match.rest.0.0.0.0.0.0.0.0.0.0.0.0.0.0.1, (c.match.rest.0.0.0.0.0.0.0.0.0.0.0.0.0.1, (c.match.rest.0.0.0.0.0.0.0.0.0.0.0.0.1, (c.match.rest.0.0.0.0.0.0.0.0.0.0.0.1, (c.match.rest.0.0.0.0.0.0.0.0.0.0.1, (c.match.rest.0.0.0.0.0.0.0.0.0.1, (c.match.rest.0.0.0.0.0.0.0.0.1, (c.match.rest.0.0.0.0.0.0.0.1, (c.match.rest.0.0.0.0.0.0.1, (c.match.rest.0.0.0.0.0.1, (c.match.rest.0.0.0.0.1, (c.match.rest.0.0.0.1, (c.match.rest.0.0.1, (c.match.rest.0.1, (c.match.rest.1, tt))))))))))))))))))))
+    (sym (decode_unknown (direct a.code a.a a.b a.c a.d e f)
+    (n.0.0.0.0.0.0.0.0.0.0.0.0.0.0.0.0.0.1, (n.0.0.0.0.0.0.0.0.0.0.0.0.0.0.0.0.1, (n.0.0.0.0.0.0.0.0.0.0.0.0.0.0.0.1, (n.0.0.0.0.0.0.0.0.0.0.0.0.0.0.1, (n.0.0.0.0.0.0.0.0.0.0.0.0.0.1, (n.0.0.0.0.0.0.0.0.0.0.0.0.1, (n.0.0.0.0.0.0.0.0.0.0.0.1, (n.0.0.0.0.0.0.0.0.0.0.1, (n.0.0.0.0.0.0.0.0.0.1, (n.0.0.0.0.0.0.0.0.1, (n.0.0.0.0.0.0.0.1, (n.0.0.0.0.0.0.1, (n.0.0.0.0.0.1, (n.0.0.0.0.1, (n.0.0.0.1, (n.0.0.1, (n.0.1, (n.1, tt))))))))))))))))))))
+    (sym (decode_unknown (direct a.code r.a r.b r.c r.d e f)
+    (n.0.0.0.0.0.0.0.0.0.0.0.0.0.0.0.0.0.1, (n.0.0.0.0.0.0.0.0.0.0.0.0.0.0.0.0.1, (n.0.0.0.0.0.0.0.0.0.0.0.0.0.0.0.1, (n.0.0.0.0.0.0.0.0.0.0.0.0.0.0.1, (n.0.0.0.0.0.0.0.0.0.0.0.0.0.1, (n.0.0.0.0.0.0.0.0.0.0.0.0.1, (n.0.0.0.0.0.0.0.0.0.0.0.1, (n.0.0.0.0.0.0.0.0.0.0.1, (n.0.0.0.0.0.0.0.0.0.1, (n.0.0.0.0.0.0.0.0.1, (n.0.0.0.0.0.0.0.1, (n.0.0.0.0.0.0.1, (n.0.0.0.0.0.1, (n.0.0.0.0.1, (n.0.0.0.1, (n.0.0.1, (n.0.1, (n.1, tt))))))))))))))))))))
     (subst (λ (r : Seats). Lift a.objects a.numbers unknown unknown r.numbers) (sym c.names_none-in_default.ensures)
     (lift_none a.objects a.numbers lo ln dd unknown (λ ρ σ v l. refl) (λ t i h. h) (λ t. tt)))
