@@ -1,0 +1,10 @@
+-- `run::fewer` meets its contract. Assumes nothing.
+use native.Mathlib.Omega.{arith}
+use borrow.Author.Tests.{lt-ltb, le-ltb}
+use Rattle.run.proofs.fewer.Goals as goal
+
+pub returns-then-a-b : goal.returns-then-a-b
+returns-then-a-b c = rw (lt-ltb c.args.a c.args.b c.if-a-b.true)
+
+pub returns : goal.returns
+returns c = rw (le-ltb c.args.a c.args.b (omega (arith, c.if-a-b.false)))

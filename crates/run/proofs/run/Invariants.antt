@@ -1,0 +1,18 @@
+-- `run::run` meets its contract. Assumes nothing.
+use mathlib.Core.Path.{◌≡◌, refl, ◌∙◌, subst}
+use Prim.Native.Nat.{ℕ, ◌+◌, ◌*◌, ◌-◌, ◌/◌, ◌≤◌}
+use native.Mathlib.Omega.{arith}
+use borrow.Author.Rules.{rules}
+use lib.ListN.{length, set, length-set}
+use Rattle.answers.specs.Telling.{told}
+use Rattle.gatekeeper.specs.View.{view, Honest, Right}
+use Rattle.gatekeeper.specs.View.Laws.{honest_tidy}
+use Rattle.run.specs.Buffers.{lesser}
+use Rattle.run.specs.Buffers.Laws.{lesser_left, lesser_right, SoFar, so_far_none, so_far_more, run_demand3}
+use Rattle.run.proofs.run.Given as goal
+
+abbrev pub invariant-loop-i : goal.invariant-loop-i
+invariant-loop-i l = (l.i ≤ l.n) × (l.n * 7 ≤ length l.calls) × (l.n * 3 ≤ length l.initial.out) × (length l.out ≡ length l.initial.out) × SoFar l.calls l.initial.out l.out l.i (view l.m) × Right l.m × Honest l.m × (l.m.sure ≡ 1)
+
+abbrev pub decreases-loop-i : goal.decreases-loop-i
+decreases-loop-i l = l.n - l.i

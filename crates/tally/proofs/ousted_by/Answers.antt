@@ -1,0 +1,50 @@
+-- `tally::ousted_by` meets its contract. Assumes nothing.
+use Rattle.std.proofs.Common.{◌≡◌, ℕ, ◌%◌, sym, refl, ap, ◌∙◌, arith, rules}
+use Rattle.model.specs.Flow.{subject}
+use Rattle.model.specs.Tables.{mates, clean}
+use Rattle.model.specs.Tally.{ousted}
+use Rattle.tables.specs.Records.{tables_of}
+use Rattle.groups.specs.Groups.{mate_of}
+use Rattle.gatekeeper.specs.declared.Monitor.{Monitor}
+use Rattle.gatekeeper.specs.View.{slots, straight_view, once, view}
+use Rattle.gatekeeper.proofs.Owned.{Long, owned_long}
+use Rattle.gatekeeper.proofs.Keeping.{read_wf}
+use Rattle.gatekeeper.proofs.Numbered.{once_long}
+use Rattle.gatekeeper.proofs.Telling.{held_same}
+use Rattle.tally.proofs.Counting.{ousted_is, none_ousted, ousted_same}
+use Rattle.tally.proofs.ousted_by.Goals as goal
+
+-- the groups of the tables by slot are those of the bytes
+
+-- and those of the tables by number are the same
+
+mates-are : (m : Monitor) (s a : ℕ) → mates (clean (slots (once m))) s (subject a) ≡ mate_of m.subjects m.groups s a
+unfolding clean tables_of
+mates-are m s a = refl
+
+numbers-aside : (m : Monitor) → Long m → (s : ℕ) → ousted (clean (view m)) s ≡ ousted (clean (slots (once m))) s
+unfolding straight_view clean
+numbers-aside m g s = ousted_same (clean (view m)) (clean (slots (once m))) s refl (held_same m g.objects (read_wf (once m) (once_long m g)))
+
+pub returns-then-s : goal.returns-then-s
+returns-then-s c =
+    let a = c.args in
+    let m = a.monitor in
+    let g = owned_long m c.well_formed.0 in
+    record {
+      few = omega arith;
+      ousted = λ h. none_ousted (clean (slots (once m))) (read_wf (once m) (once_long m g)) a.s (omega (arith, c.if-s.true)) ∙ sym (numbers-aside m g a.s);
+    }
+
+pub returns : goal.returns
+returns c =
+    let a = c.args in
+    let m = a.monitor in
+    let g = owned_long m c.well_formed.0 in
+    let low : a.s % 32 ≡ a.s = omega (arith, c.if-s.false) in record {
+      few = c.count_of.ensures.few;
+      ousted = λ h. c.count_of.ensures.count
+          ∙ ousted_is (clean (slots (once m))) a.s c.handles_by-kept.result c.mates-mates.result (c.handles_by-kept.ensures h)
+          (λ b l. c.mates-mates.ensures b l ∙ ap (λ (n : ℕ). mate_of m.subjects m.groups n b) low ∙ sym (mates-are m a.s b))
+          ∙ sym (numbers-aside m g a.s);
+    }
