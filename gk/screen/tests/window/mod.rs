@@ -30,9 +30,16 @@ const O_CLOEXEC: c_int = 0o200_0000;
 const TIOCSCTTY: c_ulong = 0x540e;
 const TIOCSWINSZ: c_ulong = 0x5414;
 const SIG_DFL: usize = 0;
+const SIGHUP: c_int = 1;
 const SIGINT: c_int = 2;
+const SIGQUIT: c_int = 3;
 const SIGTERM: c_int = 15;
 const SIGCONT: c_int = 18;
+const SIGSTOP: c_int = 19;
+const SIGTSTP: c_int = 20;
+const SIGWINCH: c_int = 28;
+/// Those that the program or the kernel answers; who runs the tests may have them ignored, and what is ignored stays so.
+const OWN: [c_int; 7] = [SIGHUP, SIGINT, SIGQUIT, SIGTERM, SIGCONT, SIGTSTP, SIGWINCH];
 
 /// A busy machine may take its time.
 const MOST: Duration = Duration::from_secs(120);
@@ -95,6 +102,45 @@ fn mode(terminal: &File) -> [u8; 128] {
     mode
 }
 
+fn send(child: &Child, number: c_int) {
+    // Sound: it takes two numbers. The program is a child that was not waited for.
+    assert_eq!(unsafe { kill(child.id() as c_int, number) }, 0);
+}
+
+/// Whether a child is stopped, by what the kernel says of it.
+fn is_stopped(child: &Child) -> bool {
+    let said = std::fs::read_to_string(format!("/proc/{}/stat", child.id())).unwrap_or_default();
+    said.rsplit(')').next().is_some_and(|rest| rest.starts_with(" T"))
+}
+
+/// Whether the kernel stops what leads a session of its own, as the window does here; where it does not, that is said, for
+/// tools/screen-test.
+fn can_stop() -> bool {
+    let mut command = Command::new("sleep");
+    // Sound: a call of the kernel.
+    unsafe {
+        command.arg("100").pre_exec(|| {
+            setsid();
+            Ok(())
+        });
+    }
+    let mut child = command.spawn().expect("sleep starts");
+    send(&child, SIGSTOP);
+    let began = Instant::now();
+    while !is_stopped(&child) && began.elapsed() < MOST / 4 {
+        sleep(Duration::from_millis(10));
+    }
+    let is_stopped = is_stopped(&child);
+    let _ = child.kill().and_then(|()| child.wait());
+    if !is_stopped {
+        let _ = writeln!(
+            std::io::stderr(),
+            "gk screen: a process is not stopped by SIGSTOP; no stop was tried"
+        );
+    }
+    is_stopped
+}
+
 impl Session {
     /// None where there is no terminal for it.
     fn new(args: &[&str], columns: u16, rows: u16) -> Option<Session> {
@@ -108,9 +154,10 @@ impl Session {
             command.pre_exec(|| {
                 setsid();
                 ioctl(0, TIOCSCTTY, 0);
-                // A shell has what it runs behind its back ignore them.
-                signal(SIGINT, SIG_DFL);
-                signal(SIGTERM, SIG_DFL);
+                // A shell has what it runs behind its back ignore some of them, and a program without a terminal SIGTSTP.
+                for number in OWN {
+                    signal(number, SIG_DFL);
+                }
                 Ok(())
             });
         }
@@ -161,8 +208,7 @@ impl Session {
     }
 
     fn signal(&self, number: c_int) {
-        // Sound: it takes two numbers. The program is a child that was not waited for.
-        assert_eq!(unsafe { kill(self.child.id() as c_int, number) }, 0);
+        send(&self.child, number);
     }
 
     /// How it has ended; the terminal is as it was found.
@@ -285,20 +331,29 @@ fn a_journal_that_grows_is_shown_in_its_window() {
     assert_eq!(session.end().0.code(), Some(0));
 }
 
-/// Ctrl-Z gives the terminal back as it was; when the program goes on, it draws again.
+/// Ctrl-Z gives the terminal back as it was, and stops the program; when it goes on, it draws again.
 #[test]
 fn a_stop_gives_the_terminal_back_for_its_time() {
+    if !can_stop() {
+        return;
+    }
     let Some(mut session) = Session::new(&[MARCH], 80, 24) else { return };
     session.shows(&["record 306 of 306"]);
     session.press("\u{1a}");
-    session.until("it stops", |session| {
+    session.until("it gives the terminal back", |session| {
         session.all().ends_with(LEAVE) && mode(&session.slave) == session.found
     });
+    session.until("it stops", |session| is_stopped(&session.child));
+    assert!(mode(&session.slave) == session.found, "the terminal is as it was while it stands still");
+    session.signal(SIGCONT);
     session.until("it goes on", |session| {
-        session.signal(SIGCONT);
-        session.all().matches(ENTER).count() == 2
+        !is_stopped(&session.child) && session.all().matches(ENTER).count() == 2
     });
-    session.shows(&["record 306 of 306"]);
+    session.until("it is drawn again", |session| {
+        let all = session.all();
+        let since = all.rsplit(ENTER).next().unwrap_or_default();
+        drawn(since).join("\n").contains("record 306 of 306")
+    });
     session.press("p");
     session.shows(&["record 209 of 306", "Refused (9), refusal 5 of 5"]);
     session.press("q");
