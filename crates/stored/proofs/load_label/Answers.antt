@@ -1,0 +1,29 @@
+-- `stored::load_label` meets its contract. Assumes nothing.
+use mathlib.Core.Path.{◌≡◌, sym, ap, ◌∙◌}
+use Prim.Native.Nat.{◌+◌, ◌*◌}
+use native.Mathlib.Omega.{arith}
+use lib.ListN.{get_or}
+use borrow.Author.Rules.{rules}
+use Rattle.stored.specs.State.{whole}
+use Rattle.stored.proofs.Loading.{bytes_taken}
+use Rattle.stored.proofs.load_label.Goals as goal
+
+pub overflow_cast-result : goal.overflow_cast-result
+overflow_cast-result c = omega (arith, c.shared-slice-known2.given (c.args.at + 1))
+
+pub overflow_mul-result : goal.overflow_mul-result
+overflow_mul-result c = omega (arith, c.shared-slice-known2.given (c.args.at + 1))
+
+pub overflow_cast-result-2 : goal.overflow_cast-result-2
+overflow_cast-result-2 c = omega (arith, c.shared-slice-known2.given c.args.at)
+
+pub overflow_add-result : goal.overflow_add-result
+overflow_add-result c = omega (arith, c.shared-slice-known2.given c.args.at, c.shared-slice-known2.given (c.args.at + 1))
+
+pub returns : goal.returns
+unfolding whole
+returns c =
+    let s = c.args.state.now in
+    let at = c.args.at in
+    let is : 256 * get_or s (at + 1) 0 + get_or s at 0 ≡ get_or s at 0 + 256 * (get_or s (at + 1) 0 + 256 * 0) = omega arith in
+    is ∙ ap whole (sym (bytes_taken 2 at s c.requires))

@@ -1,0 +1,15 @@
+-- `stored::load_objects` meets its contract. Assumes nothing.
+use mathlib.Core.Path.{refl}
+use Prim.Native.Nat.{◌-◌}
+use native.Mathlib.Omega.{arith}
+use borrow.Author.Rules.{rules}
+use Rattle.tables.specs.Records.{no_object}
+use Rattle.stored.specs.State.{object_width, objects_at, object_of, objects_of}
+use Rattle.stored.proofs.Loading.{Loaded, loaded_none, loaded_more, loaded_all}
+use Rattle.stored.proofs.load_objects.Given as goal
+
+abbrev pub invariant-loop-i : goal.invariant-loop-i
+invariant-loop-i l = Loaded object_of no_object object_width objects_at 64 l.state l.r l.i
+
+abbrev pub decreases-loop-i : goal.decreases-loop-i
+decreases-loop-i l = 64 - l.i

@@ -1,0 +1,13 @@
+-- `stored::store_number` meets its contract. Assumes nothing.
+use mathlib.Core.Path.{refl}
+use Prim.Native.Nat.{◌-◌}
+use native.Mathlib.Omega.{arith}
+use borrow.Author.Rules.{rules}
+use Rattle.stored.proofs.Storing.{Spelt, spelt_none, spelt_long, spelt_more, spelt_all}
+use Rattle.stored.proofs.store_number.Given as goal
+
+abbrev pub invariant-loop-k : goal.invariant-loop-k
+invariant-loop-k l = Spelt l.number l.at l.initial.state l.state l.rest l.k
+
+abbrev pub decreases-loop-k : goal.decreases-loop-k
+decreases-loop-k l = 8 - l.k

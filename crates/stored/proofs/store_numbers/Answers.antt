@@ -1,0 +1,33 @@
+-- `stored::store_numbers` meets its contract. Assumes nothing.
+use mathlib.Core.Path.{◌≡◌}
+use Prim.Native.Nat.{◌-◌}
+use native.Mathlib.Omega.{arith}
+use lib.ListN.{length}
+use borrow.Author.Rules.{rules}
+use Rattle.stored.specs.State.{number_width, numbers_at, number_bytes}
+use Rattle.stored.proofs.Storing.{Listed, listed_none, listed_long, listed_more, listed_all, listed_narrow}
+use Rattle.stored.proofs.store_numbers.Goals as goal
+
+pub loop-i-init : goal.loop-i-init
+loop-i-init c = let long : length c.args.numbers ≡ 64 = search rules in listed_none number_width 64 numbers_at 64 _ _ long (omega (arith, c.requires))
+
+pub store_number-requires : goal.store_number-requires
+store_number-requires c = omega (arith, c.loop-i-test.true, listed_long c.loop-i.invariant, c.requires)
+
+pub loop-i-preserved : goal.loop-i-preserved
+loop-i-preserved c =
+    let k = c.store_number.ensures in
+    listed_more c.loop-i.invariant _ _ c.loop-i-test.true (omega arith) k.bytes k.narrow
+
+pub shape_of-state : goal.shape_of-state
+shape_of-state c = listed_long c.loop-i.invariant
+
+pub returns : goal.returns
+unfolding number_bytes
+returns c =
+    let p = c.loop-i.invariant in
+    let h = c.loop-i-test.false in
+    record {
+      bytes = listed_all p h;
+      narrow = listed_narrow p h;
+    }

@@ -1,0 +1,28 @@
+-- `typed::exits` meets its contract. Assumes nothing.
+use Rattle.std.proofs.Common.{◌≡◌, ℕ, ◌-◌, ◌≤◌, [], ◌∷◌, subst, arith, rules}
+use Rattle.model.specs.Lists.{each}
+use Rattle.gatekeeper.specs.View.{direct}
+use Rattle.lines.specs.Calls.{call, exit_call}
+use Rattle.typed.specs.Working.{Works}
+use Rattle.typed.specs.Working.Laws.{works_none, works_more, works_as, as_exit}
+use Rattle.typed.proofs.exits.Goals as goal
+
+pub loop-i-init : goal.loop-i-init
+loop-i-init c = (works_none c.args.hand, omega arith)
+
+pub loop-i-preserved : goal.loop-i-preserved
+loop-i-preserved c =
+    let l = c.loop-i in
+    let a = c.args in
+    let w = c.wrapping_add_u64-c in (
+      works_more (exit_call a.child) l.invariant.0
+          (subst (λ (n : ℕ). Works l.h (call 12 (n ∷ [])) c.made-h.result) w.ensures (works_as (direct 12 w.result 0 0 0 0 0) _ (as_exit w.result 0 0 0) c.made-h.ensures)),
+      omega (arith, c.loop-i-test.true),
+    )
+
+pub returns : goal.returns
+returns c =
+    let l = c.loop-i in
+    let a = c.args in
+    let all : l.i ≡ a.n = omega (arith, l.invariant.1, c.loop-i-test.false) in
+    subst (λ (k : ℕ). Works a.hand (each k (exit_call a.child)) l.h) all l.invariant.0

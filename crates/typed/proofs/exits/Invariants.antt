@@ -1,0 +1,14 @@
+-- `typed::exits` meets its contract. Assumes nothing.
+use Rattle.std.proofs.Common.{◌≡◌, ℕ, ◌-◌, ◌≤◌, [], ◌∷◌, subst, arith, rules}
+use Rattle.model.specs.Lists.{each}
+use Rattle.gatekeeper.specs.View.{direct}
+use Rattle.lines.specs.Calls.{call, exit_call}
+use Rattle.typed.specs.Working.{Works}
+use Rattle.typed.specs.Working.Laws.{works_none, works_more, works_as, as_exit}
+use Rattle.typed.proofs.exits.Given as goal
+
+abbrev pub invariant-loop-i : goal.invariant-loop-i
+invariant-loop-i l = Works l.initial.h (each l.i (exit_call l.child)) l.h × (l.i ≤ l.n)
+
+abbrev pub decreases-loop-i : goal.decreases-loop-i
+decreases-loop-i l = l.n - l.i
