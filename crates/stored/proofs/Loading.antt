@@ -8,7 +8,7 @@ use native.Mathlib.Nat.{mul-suc, mul-le-mul_left, pow-le-pow_right}
 use native.Mathlib.Numerals.{add-one}
 use native.Mathlib.Decide.{ℕ_discrete}
 use lib.ListN.{length, take, drop, get_or, set, length-set}
-use lib.Seq.{get_or-set_same, get_or-set_other, drop_cons, drop-drop, ext_get_or}
+use lib.Seq.{get_or-set_same, get_or-set_other, drop-cons, drop-drop, ext_get_or}
 use Rattle.stored.specs.State.{byte_width, records, byte_of, whole}
 use Rattle.stored.specs.State.Laws.{length_records, getD_records}
 
@@ -20,7 +20,7 @@ bytes_at (suc w) at s = get_or s at 0 ∷ bytes_at w (at + 1) s
 
 pub bytes_taken : (w at : ℕ) (s : List ℕ) → at + w ≤ length s → take w (drop at s) ≡ bytes_at w at s
 bytes_taken zero at s h = refl
-bytes_taken (suc w) at s h = ap (take (suc w)) (drop_cons s at 0 (omega arith) ∙ ap (λ (k : ℕ). get_or s at 0 ∷ drop k s) (sym (add-one at)))
+bytes_taken (suc w) at s h = ap (take (suc w)) (drop-cons s at 0 (omega arith) ∙ ap (λ (k : ℕ). get_or s at 0 ∷ drop k s) (sym (add-one at)))
     ∙ ap (λ (t : List ℕ). get_or s at 0 ∷ t) (bytes_taken w (at + 1) s (omega arith))
 
 -- the first i of the n elements of r are those of the bytes of s from index b on, w bytes each
@@ -91,7 +91,7 @@ module _ {s : List ℕ} {at n left : ℕ} (p : Summed s at n left) where
       let one : 8 - (left - 1) ≡ suc (8 - left) = omega (arith, p.few) in
       let next : suc i ≡ at + left = omega arith in
       let bytes : drop i s ≡ get_or s i 0 ∷ drop (at + left) s =
-      drop_cons s i 0 (omega (arith, p.few, p.room)) ∙ ap (λ (k : ℕ). get_or s i 0 ∷ drop k s) next in
+      drop-cons s i 0 (omega (arith, p.few, p.room)) ∙ ap (λ (k : ℕ). get_or s i 0 ∷ drop k s) next in
       let turned : m ≡ b + 256 * n = omega arith in
       record {
         few = omega (arith, p.few);

@@ -8,7 +8,7 @@ use native.Mathlib.Nat.{mul-suc, mul-le-mul_left}
 use native.Mathlib.Numerals.{add-one}
 use native.Mathlib.Decide.{ℕ_discrete}
 use lib.ListN.{length, take, drop, get_or, set, replicate, length-append, length-replicate, get_or-replicate}
-use lib.Seq.{length-take-le, take-suc, take_all, drop_cons, sets, sets-eq}
+use lib.Seq.{length-take-le, take-suc, take_all, drop-cons, sets, sets-eq}
 use Rattle.gatekeeper.specs.declared.Monitor.{Monitor}
 use Rattle.tally.specs.declared.Tally.{Tally}
 use Rattle.stored.specs.State.{state_bytes, objects_at, handles_at, made_at, gone_at, freeze_at, needs_at, numbers_at, groups_at}
@@ -180,7 +180,7 @@ module _ {n at : ℕ} {o s : List ℕ} {rest k : ℕ} (p : Spelt n at o s rest k
       let l = digits 8 n in
       let one : 8 - k ≡ suc (8 - (k + 1)) = omega arith in
       let next : get_or l k 0 ∷ drop (suc k) l ≡ rest % 256 ∷ digits (8 - (k + 1)) (rest / 256) =
-      sym (drop_cons l k 0 (omega (arith, length_digits 8 n))) ∙ p.left ∙ ap (λ (j : ℕ). digits j rest) one in
+      sym (drop-cons l k 0 (omega (arith, length_digits 8 n))) ∙ p.left ∙ ap (λ (j : ℕ). digits j rest) one in
       record {
         laid = laid_more p.laid place (b ∷ []) 0 h (omega arith) (ap byte_record (hb ∙ sym (ap (λ (t : List ℕ). get_or t 0 0) next)));
         left = ap (λ (j : ℕ). drop j l) (add-one k) ∙ ap (drop 1) next;

@@ -85,5 +85,5 @@ returns c =
     λ ns ln gs lg. let w : Whole ns a.subjects.now a.objects.now a.handles.now a.needs.now a.counts.now = record { numbers = ln; subjects = v.0; objects = v.1; handles = v.2; needs = v.3; counts = v.4 } in
     let quiet = told c.handle_in-h.result c.object_in-y.result c.is_quiet.ensures c.subject_need-mine.ensures c.object_need-its.ensures c.if-not-is_quiet.false in
     let done = close_done gs lg ns a.subjects.now a.objects.now a.handles.now a.needs.now a.counts.now a.freeze a.sure a.s a.p w c.if-sure-ne-SURE.false c.subject_in-x.result c.handle_in-h.result c.of_held-n.result c.subject_in-x.ensures.there c.handle_in-h.ensures c.of_held-n.ensures c.if-n-ne0.false c.object_in-y.result c.object_in-y.ensures.there quiet c.slot_of-at.result c.slot_of-at.ensures
-    (c.is_outlived.ensures.0 c.if-not-is_outlived.false) c.put.new.0 c.count.new.0 c.put.ensures.put c.count.ensures _ refl c.subject_in-x.ensures.byte in
+    (c.is_outlived.ensures.0 c.if-not-is_outlived.false) c.put.new.handles c.count.new.counts c.put.ensures.put c.count.ensures _ refl c.subject_in-x.ensures.byte in
     (λ l. (w, done), λ e. absurd (omega arith), λ i w' one h. done_settles (monitor_in gs ns a.subjects.now a.objects.now a.handles.now a.needs.now a.freeze a.sure) (whole_long gs lg ns a.subjects.now a.objects.now a.handles.now a.needs.now a.counts.now a.freeze a.sure w) h (omega arith) done)

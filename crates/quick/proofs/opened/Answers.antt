@@ -91,5 +91,5 @@ returns c =
     λ gs lg. let w : Whole a.numbers.now a.subjects.now a.objects.now a.handles.now a.needs.now a.counts.now = record { numbers = c.if-numbers-ne-OBJECTS.false; subjects = v.0; objects = v.1; handles = v.2; needs = v.3; counts = v.4 } in
     let down = sym (c.falls-down.ensures ∙ ap₂ (λ (i j : ℕ). falls_by (eqb a.code 5) (coded i) (coded j)) c.subject_need-mine.ensures c.object_need-its.ensures) ∙ c.if-not-down.false in
     let done = open_done gs lg a.numbers.now a.subjects.now a.objects.now a.handles.now a.needs.now a.counts.now a.freeze a.sure a.code a.s a.o c.slot_in-i.result a.p w c.if-sure-ne-SURE.false c.slot_in-i.ensures d c.subject_in-x.result c.object_in-y.result c.handle_in-h.result c.of_open-n.result c.subject_in-x.ensures.there c.object_in-y.ensures.there c.handle_in-h.ensures c.of_open-n.ensures c.if-n-ne0.false c.is_frozen-frozen.result c.is_frozen-frozen.ensures c.if-frozen.false c.joining-new.result
-    (c.joining-new.ensures ∙ ap (λ (i : ℕ). joining i c.slot_in-i.result) c.way_of-way.ensures) down c.put.new.0 c.count.new.0 c.put.ensures.put c.count.ensures _ refl c.object_in-y.ensures.byte in
+    (c.joining-new.ensures ∙ ap (λ (i : ℕ). joining i c.slot_in-i.result) c.way_of-way.ensures) down c.put.new.handles c.count.new.counts c.put.ensures.put c.count.ensures _ refl c.object_in-y.ensures.byte in
     (λ l. (w, done), λ e. absurd (omega arith), λ i w' one h. done_settles (monitor_in gs a.numbers.now a.subjects.now a.objects.now a.handles.now a.needs.now a.freeze a.sure) (whole_long gs lg a.numbers.now a.subjects.now a.objects.now a.handles.now a.needs.now a.counts.now a.freeze a.sure w) h (omega arith) done)

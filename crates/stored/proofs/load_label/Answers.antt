@@ -8,18 +8,6 @@ use Rattle.stored.specs.State.{whole}
 use Rattle.stored.proofs.Loading.{bytes_taken}
 use Rattle.stored.proofs.load_label.Goals as goal
 
-pub overflow_cast-result : goal.overflow_cast-result
-overflow_cast-result c = omega (arith, c.shared-slice-known2.given (c.args.at + 1))
-
-pub overflow_mul-result : goal.overflow_mul-result
-overflow_mul-result c = omega (arith, c.shared-slice-known2.given (c.args.at + 1))
-
-pub overflow_cast-result-2 : goal.overflow_cast-result-2
-overflow_cast-result-2 c = omega (arith, c.shared-slice-known2.given c.args.at)
-
-pub overflow_add-result : goal.overflow_add-result
-overflow_add-result c = omega (arith, c.shared-slice-known2.given c.args.at, c.shared-slice-known2.given (c.args.at + 1))
-
 pub returns : goal.returns
 unfolding whole
 returns c =

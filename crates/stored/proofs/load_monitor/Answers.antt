@@ -7,10 +7,10 @@ pub returns : goal.returns
 unfolding freeze_of
 returns c =
     λ i. record {
-      c = c.load_numbers-numbers.ensures i;
-      c = c.load_subjects-subjects.ensures i;
-      c = c.load_objects-objects.ensures i;
-      c = c.load_handles-handles.ensures i;
+      numbers = c.load_numbers-numbers.ensures i;
+      subjects = c.load_subjects-subjects.ensures i;
+      objects = c.load_objects-objects.ensures i;
+      handles = c.load_handles-handles.ensures i;
       freeze = freeze_of c.args.state.now;
       needs = c.load_needs-needs.ensures i;
       groups = c.load_groups-groups.ensures i;

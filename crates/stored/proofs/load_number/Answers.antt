@@ -1,6 +1,7 @@
 -- `stored::load_number` meets its contract. Assumes nothing.
 use mathlib.Core.Path.{refl}
-use Prim.Native.Nat.{◌+◌, ◌-◌}
+use Prim.Native.Nat.{◌+◌, ◌-◌, ◌<◌}
+use lib.ListN.{get_or}
 use native.Mathlib.Omega.{arith}
 use borrow.Author.Rules.{rules}
 use Rattle.stored.proofs.Loading.{Summed, summed_none, summed_room, summed_more, summed_all}
@@ -14,12 +15,12 @@ overflow_mul-n c = omega (arith, summed_room c.loop-left.invariant c.loop-left-t
 
 pub overflow_add-n : goal.overflow_add-n
 overflow_add-n c =
-    let byte = c.shared-slice-known2.given (c.args.at + (c.loop-left.left - 1)) in
+    let byte : get_or c.args.state.now (c.args.at + (c.loop-left.left - 1)) 0 < 256 = search rules in
     omega (arith, summed_room c.loop-left.invariant c.loop-left-test.true, c.wide.ensures, byte)
 
 pub loop-left-preserved : goal.loop-left-preserved
 loop-left-preserved c =
-    let byte = c.shared-slice-known2.given (c.args.at + (c.loop-left.left - 1)) in
+    let byte : get_or c.args.state.now (c.args.at + (c.loop-left.left - 1)) 0 < 256 = search rules in
     summed_more c.loop-left.invariant _ _ c.loop-left-test.true c.wide.ensures (omega (arith, c.wide.ensures, byte)) refl
 
 pub returns : goal.returns

@@ -11,29 +11,13 @@ use Rattle.stored.proofs.Owned.{monitor_long, tally_fits}
 use Rattle.stored.proofs.Storing.{laid_whole}
 use Rattle.stored.proofs.store.Goals as goal
 
-pub store_needs-requires : goal.store_needs-requires
-store_needs-requires c = simp length-set (c.state5.given ∙ c.state4.given ∙ c.state3.given ∙ c.state2.given ∙ c.state.given ∙ c.requires)
-
-pub store_numbers-requires : goal.store_numbers-requires
-store_numbers-requires c = c.state6.given ∙ simp length-set (c.state5.given ∙ c.state4.given ∙ c.state3.given ∙ c.state2.given ∙ c.state.given ∙ c.requires)
-
-pub store_groups-requires : goal.store_groups-requires
-store_groups-requires c =
-    c.state7.given ∙ c.state6.given
-    ∙ simp length-set (c.state5.given ∙ c.state4.given ∙ c.state3.given ∙ c.state2.given ∙ c.state.given ∙ c.requires)
-
-pub shape_of-state : goal.shape_of-state
-shape_of-state c =
-    c.state8.given ∙ c.state7.given ∙ c.state6.given
-    ∙ simp length-set (c.state5.given ∙ c.state4.given ∙ c.state3.given ∙ c.state2.given ∙ c.state.given)
-
 pub returns : goal.returns
 returns c =
     let m = c.args.monitor in
     let y = c.args.tally in
     let long = monitor_long m c.well_formed.1.0 in
     let fits = tally_fits y c.well_formed.1.1.0 in
-    let slim : Slim m = record { needs = c.store_needs.ensures.narrow; c = c.store_numbers.ensures.narrow } in
+    let slim : Slim m = record { needs = c.store_needs.ensures.narrow; numbers = c.store_numbers.ensures.narrow } in
     let is =
     laid_whole m y long c.args.state.now c.requires _ _ _ _ _ _ _ _ _
     c.store_subjects.ensures
