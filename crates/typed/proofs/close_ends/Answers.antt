@@ -1,5 +1,5 @@
 -- `typed::close_ends` meets its contract. Assumes nothing.
-use Rattle.std.proofs.Common.{◌≡◌, ℕ, ◌-◌, ◌≤◌, subst, arith, rules}
+use Rattle.std.proofs.Common.{◌≡◌, ℕ, subst, arith}
 use Rattle.model.specs.Lists.{each}
 use Rattle.gatekeeper.specs.View.{direct}
 use Rattle.lines.specs.Calls.{close_call}

@@ -1,10 +1,8 @@
 -- `typed::close_ends` meets its contract. Assumes nothing.
-use Rattle.std.proofs.Common.{◌≡◌, ℕ, ◌-◌, ◌≤◌, subst, arith, rules}
+use Rattle.std.proofs.Common.{◌-◌, ◌≤◌}
 use Rattle.model.specs.Lists.{each}
-use Rattle.gatekeeper.specs.View.{direct}
 use Rattle.lines.specs.Calls.{close_call}
 use Rattle.typed.specs.Working.{Works}
-use Rattle.typed.specs.Working.Laws.{works_none, works_more, works_as, as_close}
 use Rattle.typed.proofs.close_ends.Given as goal
 
 abbrev pub invariant-loop-e : goal.invariant-loop-e

@@ -1,5 +1,5 @@
 -- `typed::close_unused` meets its contract. Assumes nothing.
-use Rattle.std.proofs.Common.{List, sym, ◌∙◌, subst, rules}
+use Rattle.std.proofs.Common.{List, sym, ◌∙◌, subst}
 use Rattle.model.specs.Calls.{Raw}
 use Rattle.gatekeeper.specs.View.{direct}
 use Rattle.typed.specs.Working.{Works}

@@ -1,5 +1,5 @@
 -- `typed::closes_unused` meets its contract. Assumes nothing.
-use Rattle.std.proofs.Common.{◌≡◌, ℕ, ◌-◌, ◌≤◌, subst, arith, rules}
+use Rattle.std.proofs.Common.{◌≡◌, ℕ, subst, arith}
 use Rattle.model.specs.Lists.{each}
 use Rattle.lines.specs.Calls.{unused_call}
 use Rattle.typed.specs.Working.{Works}

@@ -1,9 +1,8 @@
 -- `typed::closes_unused` meets its contract. Assumes nothing.
-use Rattle.std.proofs.Common.{◌≡◌, ℕ, ◌-◌, ◌≤◌, subst, arith, rules}
+use Rattle.std.proofs.Common.{◌-◌, ◌≤◌}
 use Rattle.model.specs.Lists.{each}
 use Rattle.lines.specs.Calls.{unused_call}
 use Rattle.typed.specs.Working.{Works}
-use Rattle.typed.specs.Working.Laws.{works_none, works_more}
 use Rattle.typed.proofs.closes_unused.Given as goal
 
 abbrev pub invariant-loop-e : goal.invariant-loop-e

@@ -1,5 +1,4 @@
 -- `typed::counted_line` meets its contract. Assumes nothing.
-use Rattle.std.proofs.Common.{rules}
 use Rattle.typed.proofs.Going.{refuses_line, good_line, runs_line}
 use Rattle.typed.proofs.counted_line.Goals as goal
 

@@ -1,5 +1,5 @@
 -- `typed::exits` meets its contract. Assumes nothing.
-use Rattle.std.proofs.Common.{◌≡◌, ℕ, ◌-◌, ◌≤◌, [], ◌∷◌, subst, arith, rules}
+use Rattle.std.proofs.Common.{◌≡◌, ℕ, [], ◌∷◌, subst, arith}
 use Rattle.model.specs.Lists.{each}
 use Rattle.gatekeeper.specs.View.{direct}
 use Rattle.lines.specs.Calls.{call, exit_call}
@@ -16,7 +16,7 @@ loop-i-preserved c =
     let a = c.args in
     let w = c.wrapping_add_u64-c in (
       works_more (exit_call a.child) l.invariant.0
-          (subst (λ (n : ℕ). Works l.h (call 12 (n ∷ [])) c.made-h.result) w.ensures (works_as (direct 12 w.result 0 0 0 0 0) _ (as_exit w.result 0 0 0) c.made-h.ensures)),
+          (subst (λ (n : ℕ). Works l.h (call 12 (n ∷ [])) c.made-h.result) w.ensures.value (works_as (direct 12 w.result 0 0 0 0 0) _ (as_exit w.result 0 0 0) c.made-h.ensures)),
       omega (arith, c.loop-i-test.true),
     )
 

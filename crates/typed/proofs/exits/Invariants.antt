@@ -1,10 +1,8 @@
 -- `typed::exits` meets its contract. Assumes nothing.
-use Rattle.std.proofs.Common.{◌≡◌, ℕ, ◌-◌, ◌≤◌, [], ◌∷◌, subst, arith, rules}
+use Rattle.std.proofs.Common.{◌-◌, ◌≤◌}
 use Rattle.model.specs.Lists.{each}
-use Rattle.gatekeeper.specs.View.{direct}
-use Rattle.lines.specs.Calls.{call, exit_call}
+use Rattle.lines.specs.Calls.{exit_call}
 use Rattle.typed.specs.Working.{Works}
-use Rattle.typed.specs.Working.Laws.{works_none, works_more, works_as, as_exit}
 use Rattle.typed.proofs.exits.Given as goal
 
 abbrev pub invariant-loop-i : goal.invariant-loop-i

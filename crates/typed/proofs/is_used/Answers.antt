@@ -1,5 +1,5 @@
 -- `typed::is_used` meets its contract. Assumes nothing.
-use Rattle.std.proofs.Common.{sym, rules}
+use Rattle.std.proofs.Common.{sym}
 use Rattle.typed.proofs.Places.{used_before, used_behind}
 use Rattle.typed.proofs.is_used.Goals as goal
 

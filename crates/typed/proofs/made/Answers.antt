@@ -1,5 +1,4 @@
 -- `typed::made` meets its contract. Assumes nothing.
-use Rattle.std.proofs.Common.{rules}
 use Rattle.answers.specs.Telling.{told}
 use Rattle.gatekeeper.specs.View.{direct}
 use Rattle.typed.specs.Working.Laws.{works_one}

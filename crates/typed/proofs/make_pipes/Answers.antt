@@ -1,5 +1,5 @@
 -- `typed::make_pipes` meets its contract. Assumes nothing.
-use Rattle.std.proofs.Common.{◌≡◌, ℕ, ◌+◌, ◌-◌, ◌*◌, ◌≤◌, [], ◌∷◌, subst, arith, rules}
+use Rattle.std.proofs.Common.{◌≡◌, ℕ, ◌+◌, ◌*◌, [], ◌∷◌, subst, arith}
 use Rattle.model.specs.Lists.{each}
 use Rattle.gatekeeper.specs.View.{direct}
 use Rattle.lines.specs.Calls.{call, pipe_call}
@@ -16,7 +16,7 @@ loop-i-preserved c =
     let a = c.args in
     let w = c.wrapping_add_u64-o in (
       works_more (pipe_call a.shell a.pipe) l.invariant.0
-          (subst (λ (n : ℕ). Works l.h (call 4 (a.shell ∷ n ∷ (2 * l.i) ∷ (2 * l.i + 1) ∷ [])) c.made-h.result) w.ensures
+          (subst (λ (n : ℕ). Works l.h (call 4 (a.shell ∷ n ∷ (2 * l.i) ∷ (2 * l.i + 1) ∷ [])) c.made-h.result) w.ensures.value
           (works_as (direct 4 a.shell w.result (2 * l.i) (2 * l.i + 1) 0 0) _ (as_pipe a.shell w.result (2 * l.i) (2 * l.i + 1)) c.made-h.ensures)),
       omega (arith, c.loop-i-test.true),
     )

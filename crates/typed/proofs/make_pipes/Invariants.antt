@@ -1,10 +1,8 @@
 -- `typed::make_pipes` meets its contract. Assumes nothing.
-use Rattle.std.proofs.Common.{◌≡◌, ℕ, ◌+◌, ◌-◌, ◌*◌, ◌≤◌, [], ◌∷◌, subst, arith, rules}
+use Rattle.std.proofs.Common.{◌-◌, ◌≤◌}
 use Rattle.model.specs.Lists.{each}
-use Rattle.gatekeeper.specs.View.{direct}
-use Rattle.lines.specs.Calls.{call, pipe_call}
+use Rattle.lines.specs.Calls.{pipe_call}
 use Rattle.typed.specs.Working.{Works}
-use Rattle.typed.specs.Working.Laws.{works_none, works_more, works_as, as_pipe}
 use Rattle.typed.proofs.make_pipes.Given as goal
 
 abbrev pub invariant-loop-i : goal.invariant-loop-i

@@ -1,5 +1,5 @@
 -- `typed::opened` meets its contract. Assumes nothing.
-use Rattle.std.proofs.Common.{Bool, sym, subst, rules}
+use Rattle.std.proofs.Common.{Bool, sym, subst}
 use Rattle.lines.specs.Calls.{open_call}
 use Rattle.lines.specs.Told.{optional}
 use Rattle.typed.specs.Working.{Works}

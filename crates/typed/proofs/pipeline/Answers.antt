@@ -1,5 +1,4 @@
 -- `typed::pipeline` meets its contract. Assumes nothing.
-use Rattle.std.proofs.Common.{rules}
 use Rattle.lines.specs.Line.{all}
 use Rattle.typed.specs.Working.Laws.{works_then}
 use Rattle.typed.proofs.Going.{pipeline_works}

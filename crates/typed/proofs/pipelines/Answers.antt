@@ -1,6 +1,5 @@
 -- `typed::pipelines` meets its contract. Assumes nothing.
-use Rattle.std.proofs.Common.{◌-◌, ◌<◌, length, arith, rules}
-use Rattle.typed.specs.Working.{Going}
+use Rattle.std.proofs.Common.{◌<◌, arith}
 use Rattle.typed.proofs.Going.{going_none, stages_fit, going_last, going_on}
 use Rattle.typed.proofs.pipelines.Goals as goal
 
@@ -12,7 +11,7 @@ pipeline-h-requires c =
     let a = c.args in
     let l = c.loop-p in
     let p = c.pipeline_at-p in
-    stages_fit a.shell a.child a.pipe a.line.now a.hand l.h l.i l.invariant p.result p.ensures.0
+    stages_fit a.shell a.child a.pipe a.line.now a.hand l.h l.i l.invariant p.result p.ensures.read
 
 pub returns-then-p-ne-SEMICOLON : goal.returns-then-p-ne-SEMICOLON
 returns-then-p-ne-SEMICOLON c =
@@ -20,14 +19,14 @@ returns-then-p-ne-SEMICOLON c =
     let l = c.loop-p in
     let p = c.pipeline_at-p in
     let m = c.pipeline-h in
-    going_last a.shell a.child a.pipe a.line.now a.hand l.h l.i l.invariant p.result p.ensures.0 m.result m.ensures c.if-p-ne-SEMICOLON.true
+    going_last a.shell a.child a.pipe a.line.now a.hand l.h l.i l.invariant p.result p.ensures.read m.result m.ensures c.if-p-ne-SEMICOLON.true
 
 pub loop-p-smaller : goal.loop-p-smaller
 loop-p-smaller c =
     let p = c.pipeline_at-p in
     let two = c.if-p-ne-SEMICOLON.false in
     let some : 0 < p.result.end = omega (arith, two) in
-    let on = p.ensures.1 some in
+    let on = p.ensures.on some in
     omega (arith, on.0, on.1)
 
 pub loop-p-preserved : goal.loop-p-preserved
@@ -36,4 +35,4 @@ loop-p-preserved c =
     let l = c.loop-p in
     let p = c.pipeline_at-p in
     let m = c.pipeline-h in
-    going_on a.shell a.child a.pipe a.line.now a.hand l.h l.i l.invariant p.result p.ensures.0 m.result m.ensures (omega (arith, c.if-p-ne-SEMICOLON.false))
+    going_on a.shell a.child a.pipe a.line.now a.hand l.h l.i l.invariant p.result p.ensures.read m.result m.ensures (omega (arith, c.if-p-ne-SEMICOLON.false))

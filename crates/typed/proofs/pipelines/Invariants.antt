@@ -1,7 +1,6 @@
 -- `typed::pipelines` meets its contract. Assumes nothing.
-use Rattle.std.proofs.Common.{◌-◌, ◌<◌, length, arith, rules}
+use Rattle.std.proofs.Common.{◌-◌, length}
 use Rattle.typed.specs.Working.{Going}
-use Rattle.typed.proofs.Going.{going_none, stages_fit, going_last, going_on}
 use Rattle.typed.proofs.pipelines.Given as goal
 
 abbrev pub invariant-loop-p : goal.invariant-loop-p

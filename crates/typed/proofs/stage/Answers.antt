@@ -1,5 +1,5 @@
 -- `typed::stage` meets its contract. Assumes nothing.
-use Rattle.std.proofs.Common.{refl, inl, inr, rules}
+use Rattle.std.proofs.Common.{refl, inl, inr}
 use Rattle.gatekeeper.specs.View.{direct}
 use Rattle.typed.specs.Working.Laws.{works_then, works_as, as_fork, as_exec}
 use Rattle.typed.proofs.stage.Goals as goal

@@ -1,18 +1,14 @@
 -- `typed::stages` meets its contract. Assumes nothing.
-use Rattle.std.proofs.Common.{◌≡◌, ℕ, ◌-◌, ◌<◌, ◌≤◌, List, length, get_or, drop, subst, arith, rules}
-use mathlib.Core.Option.{Option}
+use Rattle.std.proofs.Common.{◌≡◌, ℕ, ◌-◌, ◌<◌, get_or, subst, arith}
 use Rattle.model.specs.Lists.{each}
-use Rattle.lines.specs.Line.{Pipeline, all}
+use Rattle.lines.specs.Line.{all}
 use Rattle.lines.specs.Line.{Stage as Stage-read}
-use Rattle.lines.specs.Reading.{Pipelined}
 use Rattle.lines.specs.Told.{stage_of}
 use Rattle.lines.specs.Calls.{counted_from, stage_calls, no_stage}
-use Rattle.typed.specs.Working.{Works, Left}
+use Rattle.typed.specs.Working.{Works}
 use Rattle.typed.specs.Working.Laws.{works_none, works_more}
 use Rattle.typed.proofs.Places.{left_all, left_next}
 use Rattle.typed.proofs.stages.Goals as goal
-
--- of the pipeline that stands at `at`, whichever it is, i stages were done, and the rest of it stands at `from`
 
 pub loop-i-init : goal.loop-i-init
 loop-i-init c = (omega arith, λ p e w z. (left_all p e _ w, works_none c.args.hand))
@@ -30,11 +26,11 @@ loop-i-preserved c =
       omega (arith, under),
       λ p e r z.
           let k = l.invariant.1 p e r z in
-          let f = left_next a.line.now p e l.i l.from s.result s.ensures.0 k.0 (omega (arith, under, z)) in (
+          let f = left_next a.line.now p e l.i l.from s.result s.ensures.read k.0 (omega (arith, under, z)) in (
             f.1,
             works_more (λ j. stage_calls a.shell (a.n - 1) j (counted_from a.child j) (get_or (all p) j no_stage)) k.1
                 (subst (λ (g : Stage-read). Works l.h (stage_calls a.shell (a.n - 1) l.i (counted_from a.child l.i) g) c.stage-h.result) f.0
-                (subst (λ (m : ℕ). Works l.h (stage_calls a.shell (a.n - 1) l.i m (stage_of s.result)) c.stage-h.result) w.ensures c.stage-h.ensures)),
+                (subst (λ (m : ℕ). Works l.h (stage_calls a.shell (a.n - 1) l.i m (stage_of s.result)) c.stage-h.result) w.ensures.value c.stage-h.ensures)),
           ),
     )
 
