@@ -1,13 +1,12 @@
 -- `replay::records` meets its contract. Assumes nothing.
 use mathlib.Core.Path.{◌≡◌, sym, ◌∙◌, ap, ap₂, subst}
 use Rattle.text.specs.Parts.Laws.{put_after, none_after}
-use Rattle.replay.specs.Replay.{answer_line, last_line, largest_journal}
+use Rattle.replay.specs.Replay.{answer_line, last_line}
 use Rattle.replay.specs.Replay.Laws.{bad_inside, right_more, honest_more, sure_more, one_turned}
 use mathlib.Core.Bool.{Bool, cond}
 use mathlib.Core.Option.{none-ne-some}
-use Prim.Native.Nat.{ℕ, ◌+◌, ◌-◌, ◌≤◌}
+use Prim.Native.Nat.{ℕ, ◌-◌, ◌≤◌}
 use native.Mathlib.Omega.{arith}
-use borrow.Author.Rules.{rules}
 use lib.ListN.{length, take, drop}
 use Rattle.model.specs.Calls.{Answer}
 use Rattle.number.specs.Put.{put, fitted}
@@ -19,10 +18,10 @@ use Rattle.journal.specs.Journal.{entry_at, body_in}
 use Rattle.replay.specs.One.{One}
 use Rattle.journal.specs.Journal.Laws.{entry_next}
 use Rattle.answers.specs.Telling.{told, letter_of, value_of, lost_of}
-use Rattle.gatekeeper.specs.View.{view, Honest, Right}
+use Rattle.gatekeeper.specs.View.{view}
 use Rattle.tally.specs.Counting.{counts_of}
 use Rattle.replay.specs.Demand3.Laws.{run_ended}
-use Rattle.replay.specs.Stage.{Going, going_begun, at_test, record_turn, record_ends, broken_turn, broken_ends, end_turn, ended, end_short}
+use Rattle.replay.specs.Stage.{going_begun, at_test, record_turn, record_ends, broken_turn, broken_ends, end_turn, ended, end_short}
 use Rattle.replay.proofs.records.Goals as goal
 
 -- the line that is written is that of the answer
@@ -51,8 +50,8 @@ overflow_add-used c =
     let w = c.write_line in
     omega (
       arith,
-      (put_after g.stage.over _ w.new.0 c.n.given.0.0 (ap writing (sym c.n.given.1) ∙ w.ensures.0)
-          w.ensures.1.0).within,
+      (put_after g.stage.over _ w.new.out c.in-Bytes.n (ap writing (sym c.in-Bytes.is) ∙ w.ensures.answer)
+          w.ensures.buffer).within,
       c.well_formed,
     )
 
@@ -68,9 +67,9 @@ loop-going-smaller-in-Bytes c =
     let l = c.loop-going in
     let a = c.args in
     let g = at_test c.loop-going-test.true l.invariant.1 in
-    let q = c.start.given in
-    let e : entry_at a.journal.now l.at ≡ reads (body q.0.0 q.0.1.0
-    q.0.1.1.0) = sym c.entry_at.ensures ∙ ap entry-answer q.1 in
+    let q = c.in-Record in
+    let e : entry_at a.journal.now l.at ≡ reads (body q.start q.len
+    q.next) = sym c.entry_at.ensures ∙ ap entry-answer q.is in
     omega (arith, (entry_next _ _ _ _ _ e).0, (entry_next _ _ _ _ _ e).1)
 
 pub loop-going-preserved-in-Bytes : goal.loop-going-preserved-in-Bytes
@@ -78,30 +77,30 @@ loop-going-preserved-in-Bytes c =
     let l = c.loop-going in
     let a = c.args in
     let g = at_test c.loop-going-test.true l.invariant.1 in
-    let q = c.start.given in
-    let e : entry_at a.journal.now l.at ≡ reads (body q.0.0 q.0.1.0
-    q.0.1.1.0) = sym c.entry_at.ensures ∙ ap entry-answer q.1 in
+    let q = c.in-Record in
+    let e : entry_at a.journal.now l.at ≡ reads (body q.start q.len
+    q.next) = sym c.entry_at.ensures ∙ ap entry-answer q.is in
     let k = c.one-r in
     let w = c.write_line in
     let x = told k.result.answer in
     let is = same_line l.position k.result.code x c.letter-letter.ensures c.value-value.ensures c.lost-lost.ensures in
-    let o = one_turned l.m k.result.monitor l.tally k.result.tally k.result.code x (body_in (take q.0.1.0 (drop q.0.0 a.journal.now))) l.invariant.0.2
+    let o = one_turned l.m k.result.monitor l.tally k.result.tally k.result.code x (body_in (take q.len (drop q.start a.journal.now))) l.invariant.0.2
     (subst (λ bs. One l.m l.tally (body_in bs) k.result.code x k.result.monitor k.result.tally) c.body_at.ensures.bytes k.ensures) in
-    let thin = subst (λ y. length y ≤ longest_line) is w.ensures.1.1 in
+    let thin = subst (λ y. length y ≤ longest_line) is w.ensures.short in
     let rest = take (length l.out - l.used) (drop l.used l.out) in (
       (
         l.invariant.0.0,
         right_more l.m k.result.monitor (counts_of l.tally) (counts_of k.result.tally) k.result.code x
-            (body_in (take q.0.1.0 (drop q.0.0 a.journal.now))) o l.invariant.0.1,
+            (body_in (take q.len (drop q.start a.journal.now))) o l.invariant.0.1,
         honest_more l.m k.result.monitor (counts_of l.tally) (counts_of k.result.tally) k.result.code x
-            (body_in (take q.0.1.0 (drop q.0.0 a.journal.now))) o l.invariant.0.2,
+            (body_in (take q.len (drop q.start a.journal.now))) o l.invariant.0.2,
         sure_more l.m k.result.monitor (counts_of l.tally) (counts_of k.result.tally) k.result.code x
-            (body_in (take q.0.1.0 (drop q.0.0 a.journal.now))) o l.invariant.0.3,
+            (body_in (take q.len (drop q.start a.journal.now))) o l.invariant.0.3,
       ),
       at_test (sym c.loop-going-test.true) (record_turn a.journal.now a.out.now l.out l.at l.position l.used l.m
-          (counts_of l.tally) g q.0.0 q.0.1.0 q.0.1.1.0 e k.result.monitor (counts_of k.result.tally)
-          k.result.code x o thin w.new.0 c.n.given.0.0
-          (ap writing (sym c.n.given.1) ∙ w.ensures.0 ∙ ap (λ y. fitted y rest) is) (w.ensures.1.0 ∙ ap (λ y. put y rest) is)),
+          (counts_of l.tally) g q.start q.len q.next e k.result.monitor (counts_of k.result.tally)
+          k.result.code x o thin w.new.out c.in-Bytes.n
+          (ap writing (sym c.in-Bytes.is) ∙ w.ensures.answer ∙ ap (λ y. fitted y rest) is) (w.ensures.buffer ∙ ap (λ y. put y rest) is)),
     )
 
 pub shape_of-out-in-NoRoom : goal.shape_of-out-in-NoRoom
@@ -110,28 +109,28 @@ shape_of-out-in-NoRoom c =
     let a = c.args in
     let g = at_test c.loop-going-test.true l.invariant.1 in
     let w = c.write_line in
-    ap length (none_after g.stage.over _ w.new.0 (ap writing (sym c.enum_told.given.1) ∙ w.ensures.0)
-    w.ensures.1.0) ∙ g.stage.over.size
+    ap length (none_after g.stage.over _ w.new.out (ap writing (sym c.in-NoRoom.is) ∙ w.ensures.answer)
+    w.ensures.buffer) ∙ g.stage.over.size
 
 pub returns-in-NoRoom : goal.returns-in-NoRoom
 returns-in-NoRoom c =
     let l = c.loop-going in
     let a = c.args in
     let g = at_test c.loop-going-test.true l.invariant.1 in
-    let q = c.start.given in
-    let e : entry_at a.journal.now l.at ≡ reads (body q.0.0 q.0.1.0
-    q.0.1.1.0) = sym c.entry_at.ensures ∙ ap entry-answer q.1 in
+    let q = c.in-Record in
+    let e : entry_at a.journal.now l.at ≡ reads (body q.start q.len
+    q.next) = sym c.entry_at.ensures ∙ ap entry-answer q.is in
     let k = c.one-r in
     let w = c.write_line in
     let x = told k.result.answer in
     let is = same_line l.position k.result.code x c.letter-letter.ensures c.value-value.ensures c.lost-lost.ensures in
     let rest = take (length l.out - l.used) (drop l.used l.out) in
-    let o = one_turned l.m k.result.monitor l.tally k.result.tally k.result.code x (body_in (take q.0.1.0 (drop q.0.0 a.journal.now))) l.invariant.0.2
+    let o = one_turned l.m k.result.monitor l.tally k.result.tally k.result.code x (body_in (take q.len (drop q.start a.journal.now))) l.invariant.0.2
     (subst (λ bs. One l.m l.tally (body_in bs) k.result.code x k.result.monitor k.result.tally) c.body_at.ensures.bytes k.ensures) in
-    let thin = subst (λ y. length y ≤ longest_line) is w.ensures.1.1 in record {
-      text = record_ends a.journal.now a.out.now l.out l.at l.position l.used l.m (counts_of l.tally) g q.0.0 q.0.1.0
-          q.0.1.1.0 e k.result.monitor (counts_of k.result.tally) k.result.code x o thin l.invariant.0.0 w.new.0
-          (ap writing (sym c.enum_told.given.1) ∙ w.ensures.0 ∙ ap (λ y. fitted y rest) is) (w.ensures.1.0 ∙ ap (λ y. put y rest) is);
+    let thin = subst (λ y. length y ≤ longest_line) is w.ensures.short in record {
+      text = record_ends a.journal.now a.out.now l.out l.at l.position l.used l.m (counts_of l.tally) g q.start q.len
+          q.next e k.result.monitor (counts_of k.result.tally) k.result.code x o thin l.invariant.0.0 w.new.out
+          (ap writing (sym c.in-NoRoom.is) ∙ w.ensures.answer ∙ ap (λ y. fitted y rest) is) (w.ensures.buffer ∙ ap (λ y. put y rest) is);
       end = λ k z. absurd (none-ne-some k z);
       right = l.invariant.0.1;
       honest = l.invariant.0.2;
@@ -146,8 +145,8 @@ overflow_add-used-in-Bytes-write_line c =
     let w = c.write_line-in-Broken in
     omega (
       arith,
-      (put_after g.stage.over _ w.new.0 c.n2.given.0.0 (ap writing (sym c.n2.given.1) ∙ w.ensures.0)
-          w.ensures.1.0).within,
+      (put_after g.stage.over _ w.new.out c.in-Bytes-write_line.n (ap writing (sym c.in-Bytes-write_line.is) ∙ w.ensures.answer)
+          w.ensures.buffer).within,
       c.well_formed,
     )
 
@@ -165,12 +164,12 @@ loop-going-preserved-in-Bytes-write_line c =
     let l = c.loop-going in
     let a = c.args in
     let g = at_test c.loop-going-test.true l.invariant.1 in
-    let e : entry_at a.journal.now l.at ≡ bad 11 = sym c.entry_at.ensures ∙ ap entry-answer c.enum-told2.given.1 in
+    let e : entry_at a.journal.now l.at ≡ bad 11 = sym c.entry_at.ensures ∙ ap entry-answer c.in-Broken.is in
     let w = c.write_line-in-Broken in (
       l.invariant.0,
       broken_turn a.journal.now a.out.now l.out l.at l.position l.used l.m
-          (counts_of l.tally) g e (bad_inside _ _ _ e) w.ensures.1.1 w.new.0 c.n2.given.0.0
-          (ap writing (sym c.n2.given.1) ∙ w.ensures.0) w.ensures.1.0,
+          (counts_of l.tally) g e (bad_inside _ _ _ e) w.ensures.short w.new.out c.in-Bytes-write_line.n
+          (ap writing (sym c.in-Bytes-write_line.is) ∙ w.ensures.answer) w.ensures.buffer,
     )
 
 pub returns-in-NoRoom-write_line : goal.returns-in-NoRoom-write_line
@@ -178,10 +177,10 @@ returns-in-NoRoom-write_line c =
     let l = c.loop-going in
     let a = c.args in
     let g = at_test c.loop-going-test.true l.invariant.1 in
-    let e : entry_at a.journal.now l.at ≡ bad 11 = sym c.entry_at.ensures ∙ ap entry-answer c.enum-told2.given.1 in
+    let e : entry_at a.journal.now l.at ≡ bad 11 = sym c.entry_at.ensures ∙ ap entry-answer c.in-Broken.is in
     let w = c.write_line-in-Broken in record {
       text = broken_ends a.journal.now a.out.now l.out l.at l.position l.used l.m (counts_of l.tally) g e (bad_inside _ _ _ e)
-          w.ensures.1.1 l.invariant.0.0 w.new.0 (ap writing (sym c.enum-told3.given.1) ∙ w.ensures.0) w.ensures.1.0;
+          w.ensures.short l.invariant.0.0 w.new.out (ap writing (sym c.in-NoRoom-write_line.is) ∙ w.ensures.answer) w.ensures.buffer;
       end = λ k z. absurd (none-ne-some k z);
       right = l.invariant.0.1;
       honest = l.invariant.0.2;
@@ -203,7 +202,7 @@ loop-going-preserved c =
     let g = at_test c.loop-going-test.true l.invariant.1 in (
       l.invariant.0,
       end_turn a.journal.now a.out.now l.out l.at l.position l.used l.m
-          (counts_of l.tally) g (sym c.entry_at.ensures ∙ ap entry-answer c.enum-told4.given.1),
+          (counts_of l.tally) g (sym c.entry_at.ensures ∙ ap entry-answer c.in-End.is),
     )
 
 pub overflow_add-total : goal.overflow_add-total
@@ -214,8 +213,8 @@ overflow_add-total c =
     let w = c.write_end in
     omega (
       arith,
-      (put_after g.stage.over _ w.new.0 c.n3.given.0.0 (ap writing (sym c.n3.given.1) ∙ w.ensures.0)
-          w.ensures.1.0).within,
+      (put_after g.stage.over _ w.new.out c.in-Bytes-write_end.n (ap writing (sym c.in-Bytes-write_end.is) ∙ w.ensures.answer)
+          w.ensures.buffer).within,
       c.well_formed,
     )
 
@@ -229,9 +228,9 @@ returns-in-Bytes-write_end c =
     c.open_now.result ≡ last_line (counts_of l.tally) = ap (λ d. ending l.tally.made
     l.tally.gone d) c.open_now.ensures in
     let rest = take (length l.out - l.used) (drop l.used l.out) in record {
-      text = ended a.journal.now a.out.now l.out l.position l.used (view l.m) (counts_of l.tally) g.stage w.new.0
-          c.n3.given.0.0 (ap writing (sym c.n3.given.1) ∙ w.ensures.0 ∙ ap (λ y. fitted y rest) is)
-          (w.ensures.1.0 ∙ ap (λ y. put y rest) is);
+      text = ended a.journal.now a.out.now l.out l.position l.used (view l.m) (counts_of l.tally) g.stage w.new.out
+          c.in-Bytes-write_end.n (ap writing (sym c.in-Bytes-write_end.is) ∙ w.ensures.answer ∙ ap (λ y. fitted y rest) is)
+          (w.ensures.buffer ∙ ap (λ y. put y rest) is);
       end = λ k z. run_ended a.journal.now l.invariant.0.0 (view l.m) (counts_of l.tally) g.stage.leads g.stage.counts;
       right = l.invariant.0.1;
       honest = l.invariant.0.2;
@@ -248,10 +247,10 @@ returns-in-NoRoom-write_end c =
     c.open_now.result ≡ last_line (counts_of l.tally) = ap (λ d. ending l.tally.made
     l.tally.gone d) c.open_now.ensures in
     let rest = take (length l.out - l.used) (drop l.used l.out) in
-    let thin = subst (λ y. length y ≤ longest_end) is w.ensures.1.1 in record {
+    let thin = subst (λ y. length y ≤ longest_end) is w.ensures.short in record {
       text = end_short a.journal.now a.out.now l.out (view l.m) (counts_of l.tally) l.at l.position l.used g thin l.invariant.0.0
-          w.new.0 (ap writing (sym c.enum-told5.given.1) ∙ w.ensures.0 ∙ ap (λ y. fitted y rest) is)
-          (w.ensures.1.0 ∙ ap (λ y. put y rest) is);
+          w.new.out (ap writing (sym c.in-NoRoom-write_end.is) ∙ w.ensures.answer ∙ ap (λ y. fitted y rest) is)
+          (w.ensures.buffer ∙ ap (λ y. put y rest) is);
       end = λ k z. absurd (none-ne-some k z);
       right = l.invariant.0.1;
       honest = l.invariant.0.2;

@@ -5,7 +5,6 @@ use Rattle.number.specs.Answers.{writing}
 use Rattle.gatekeeper.specs.View.{view}
 use Rattle.replay.specs.Demand3.Laws.{none_ended}
 use Rattle.replay.specs.Stage.{Ends, reply_long, reply_whole}
-use borrow.Author.Rules.{rules}
 use Rattle.replay.proofs.run.Goals as goal
 
 pub returns-then-journal-gt-LARGEST_JOURNAL : goal.returns-then-journal-gt-LARGEST_JOURNAL
@@ -13,13 +12,31 @@ returns-then-journal-gt-LARGEST_JOURNAL c =
     let a = c.args in
     let k = c.too_long-written in
     let long = c.if-journal-gt-LARGEST_JOURNAL.true in
-    let e = subst (λ x. Ends x a.out.now k.new.0 (writing k.result)) (reply_long a.journal.now long) k.ensures in
-    (e.0, (e.1.0, (e.1.1.0, (e.1.1.1, ((λ n z. none_ended a.journal.now long (view c.empty.result) c.empty.ensures.tables), c.empty.ensures.1)))))
+    let e = subst (λ x. Ends x a.out.now k.new.out (writing k.result)) (reply_long a.journal.now long) k.ensures in
+    record {
+      answer = e.0;
+      buffer = e.1.0;
+      begun = e.1.1.0;
+      room = e.1.1.1;
+      end = λ n z. none_ended a.journal.now long (view c.empty.result) c.empty.ensures.tables;
+      right = c.empty.ensures.needs;
+      honest = c.empty.ensures.honest;
+      sure = c.empty.ensures.sure;
+    }
 
 pub returns : goal.returns
 returns c =
     let a = c.args in
     let k = c.records in
     let short = reply_whole a.journal.now (omega (arith, c.if-journal-gt-LARGEST_JOURNAL.false)) in
-    let e = subst (λ x. Ends x a.out.now k.new.1.0 (writing k.result.written)) short k.ensures.0 in
-    (e.0, (e.1.0, (e.1.1.0, (e.1.1.1, k.ensures.1))))
+    let e = subst (λ x. Ends x a.out.now k.new.out (writing k.result.written)) short k.ensures.text in
+    record {
+      answer = e.0;
+      buffer = e.1.0;
+      begun = e.1.1.0;
+      room = e.1.1.1;
+      end = k.ensures.end;
+      right = k.ensures.right;
+      honest = k.ensures.honest;
+      sure = k.ensures.sure;
+    }

@@ -4,22 +4,21 @@ use native.Mathlib.Omega.{arith}
 use Rattle.number.specs.Answers.{writing}
 use Rattle.text.specs.Reply.{line, ending}
 use Rattle.replay.specs.Stage.{all_ends, begun_inside, first_short, second_short, both_over, refusal_thin}
-use borrow.Author.Rules.{rules}
 use Rattle.replay.proofs.too_long.Goals as goal
 
 pub slice_bounds-write_end-count : goal.slice_bounds-write_end-count
 slice_bounds-write_end-count c =
     let f = c.args.out.now in
     let v = c.write_line in
-    begun_inside (line 1 0 82 14 0) (ending 0 0 0) f refusal_thin v.new.0 c.n.given.0.0
-    (ap writing (sym c.n.given.1) ∙ v.ensures.0) v.ensures.1.0
+    begun_inside (line 1 0 82 14 0) (ending 0 0 0) f refusal_thin v.new.out c.in-Bytes.n
+    (ap writing (sym c.in-Bytes.is) ∙ v.ensures.answer) v.ensures.buffer
 
 pub slice_bounds-write_end-start : goal.slice_bounds-write_end-start
 slice_bounds-write_end-start c =
     let f = c.args.out.now in
     let v = c.write_line in
-    begun_inside (line 1 0 82 14 0) (ending 0 0 0) f refusal_thin v.new.0 c.n.given.0.0
-    (ap writing (sym c.n.given.1) ∙ v.ensures.0) v.ensures.1.0
+    begun_inside (line 1 0 82 14 0) (ending 0 0 0) f refusal_thin v.new.out c.in-Bytes.n
+    (ap writing (sym c.in-Bytes.is) ∙ v.ensures.answer) v.ensures.buffer
 
 pub overflow_add-result : goal.overflow_add-result
 overflow_add-result c =
@@ -28,11 +27,11 @@ overflow_add-result c =
     let w = c.write_end in
     omega (
       arith,
-      (both_over (line 1 0 82 14 0) (ending 0 0 0) f refusal_thin v.new.0
-          c.n.given.0.0
-          (ap writing (sym c.n.given.1) ∙ v.ensures.0) v.ensures.1.0
-          w.new.0 c.k.given.0.0 (ap writing (sym c.k.given.1) ∙ w.ensures.0)
-          w.ensures.1.0).within,
+      (both_over (line 1 0 82 14 0) (ending 0 0 0) f refusal_thin v.new.out
+          c.in-Bytes.n
+          (ap writing (sym c.in-Bytes.is) ∙ v.ensures.answer) v.ensures.buffer
+          w.new.out c.in-Bytes-write_end.k (ap writing (sym c.in-Bytes-write_end.is) ∙ w.ensures.answer)
+          w.ensures.buffer).within,
       c.well_formed,
     )
 
@@ -41,24 +40,24 @@ returns-in-Bytes-write_end c =
     let f = c.args.out.now in
     let v = c.write_line in
     let w = c.write_end in
-    all_ends _ f _ _ (both_over (line 1 0 82 14 0) (ending 0 0 0) f refusal_thin v.new.0
-    c.n.given.0.0
-    (ap writing (sym c.n.given.1) ∙ v.ensures.0) v.ensures.1.0
-    w.new.0 c.k.given.0.0 (ap writing (sym c.k.given.1) ∙ w.ensures.0) w.ensures.1.0)
+    all_ends _ f _ _ (both_over (line 1 0 82 14 0) (ending 0 0 0) f refusal_thin v.new.out
+    c.in-Bytes.n
+    (ap writing (sym c.in-Bytes.is) ∙ v.ensures.answer) v.ensures.buffer
+    w.new.out c.in-Bytes-write_end.k (ap writing (sym c.in-Bytes-write_end.is) ∙ w.ensures.answer) w.ensures.buffer)
 
 pub returns-in-NoRoom-write_end : goal.returns-in-NoRoom-write_end
 returns-in-NoRoom-write_end c =
     let f = c.args.out.now in
     let v = c.write_line in
     let w = c.write_end in
-    second_short (line 1 0 82 14 0) (ending 0 0 0) f refusal_thin v.new.0
-    c.n.given.0.0
-    (ap writing (sym c.n.given.1) ∙ v.ensures.0) v.ensures.1.0 w.new.0
-    (ap writing (sym c.enum_told.given.1) ∙ w.ensures.0) w.ensures.1.0
+    second_short (line 1 0 82 14 0) (ending 0 0 0) f refusal_thin v.new.out
+    c.in-Bytes.n
+    (ap writing (sym c.in-Bytes.is) ∙ v.ensures.answer) v.ensures.buffer w.new.out
+    (ap writing (sym c.in-NoRoom-write_end.is) ∙ w.ensures.answer) w.ensures.buffer
 
 pub returns-in-NoRoom : goal.returns-in-NoRoom
 returns-in-NoRoom c =
     let f = c.args.out.now in
     let v = c.write_line in
-    first_short (line 1 0 82 14 0) (ending 0 0 0) f refusal_thin v.new.0 (ap writing (sym c.enum-told2.given.1) ∙ v.ensures.0)
-    v.ensures.1.0
+    first_short (line 1 0 82 14 0) (ending 0 0 0) f refusal_thin v.new.out (ap writing (sym c.in-NoRoom.is) ∙ v.ensures.answer)
+    v.ensures.buffer
