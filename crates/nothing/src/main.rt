@@ -1,6 +1,6 @@
 // The program on an empty journal (RULES K16).
 #![tactic(auto)]
 
-fn main() {
-    serve::program();
+fn main(rt: HostRuntime) {
+    serve::program(rt.stdin(), rt.stdout(), rt.stderr());
 }

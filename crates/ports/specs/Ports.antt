@@ -25,6 +25,11 @@ number_of Output = pos 1
 number_of Error = pos 2
 
 -- ── reading ──
+-- what a read that is lent n bytes may answer: -1, or how many bytes it brought, at most n
+abbrev pub Moved : ℕ → ℤ → Type 0
+Moved n (pos k) = k ≤ n
+Moved n (negsuc k) = k ≡ 0
+
 -- RULES P1, P15: what the number means that a read answers. Below 0 it failed, at 0 the input has ended, any other is
 -- so many bytes more
 abbrev pub step : ℤ → Step

@@ -1,13 +1,32 @@
 // The program's ports, standard input, output and error: all that it reads and writes (RULES P1, P15, P16). No contract
-// can say that a read or a write was made. Three lines of this file make them, one in `more`, one in `send` and one in
-// `say`, and have to be believed. `Intake`, `Sent` and `Said` have private fields: only this file makes one, and who hands
+// can say that a read or a write was made. Three lines of this file make them, one in `read` and two in `write`, and have
+// to be believed. `Intake`, `Sent` and `Said` have private fields: only this file makes one, and who hands
 // one on has called these functions. What was read, sent or said with it is in their contracts.
 #![tactic(auto)]
 
-ghost use Rattle.std.specs.Prelude.{◌≡◌, ◌≤◌, length};
+ghost use Rattle.std.specs.Prelude.{◌≡◌, ◌≤◌, pos, negsuc, length, IfOk, IfErr};
+ghost use Rattle.std.specs.Io.{ReadsAtMost};
 ghost use Rattle.replay.specs.Replay.{reply};
-ghost use Rattle.ports.specs.Ports.{number_of, step, brought_by, begun, Advanced, goes, filled};
+ghost use Rattle.ports.specs.Ports.{number_of, Moved, step, brought_by, begun, Advanced, goes, filled};
 ghost use Rattle.ports.specs.Ports.{words, Sending, Saying};
+
+use std::io;
+use std::io::{Read, Stderr, Stdin, Stdout};
+
+// The numbers by which the host knows its three ports, POSIX's.
+const STDIN_FILENO: i32 = 0;
+
+const STDOUT_FILENO: i32 = 1;
+
+const STDERR_FILENO: i32 = 2;
+
+// The host's three streams, by which its ports are read and written. Only `main` can hand them on.
+#[derive(Clone, Copy)]
+pub struct Host {
+    input: Stdin,
+    output: Stdout,
+    error: Stderr,
+}
 
 #[derive(Clone, Copy)]
 pub enum Port {
@@ -78,10 +97,60 @@ fn descriptor(port: Port) -> i32
     ensures { result ≡ number_of port }
 {
     match port {
-        Port::Input => libc::STDIN_FILENO,
-        Port::Output => libc::STDOUT_FILENO,
-        Port::Error => libc::STDERR_FILENO,
+        Port::Input => STDIN_FILENO,
+        Port::Output => STDOUT_FILENO,
+        Port::Error => STDERR_FILENO,
     }
+}
+
+// The streams of the host.
+pub fn host_of(input: Stdin, output: Stdout, error: Stderr) -> Host
+    ensures read { result.input ≡ input }
+    ensures written { result.output ≡ output }
+    ensures told { result.error ≡ error }
+{
+    Host {
+        input: input,
+        output: output,
+        error: error,
+    }
+}
+
+// The number that POSIX's read answers: how many bytes came, or -1 where it failed.
+fn answered(got: io::Result<usize>, buf: &[u8]) -> isize
+    requires { ReadsAtMost got buf.now }
+    ensures moved { Moved (length buf.now) result }
+    ensures brought { IfOk got (λ n. result ≡ pos n) }
+    ensures failed { IfErr got (λ e. result ≡ negsuc 0) }
+{
+    match got {
+        Ok(n) => n as isize,
+        Err(_) => -1,
+    }
+}
+
+// One read of the port with this number. Standard input alone can be read: of any other it fails.
+fn read(host: Host, number: i32, buf: &mut [u8]) -> isize
+    ensures { Moved (length buf.old) result }
+{
+    if number == STDIN_FILENO {
+        let mut input = host.input;
+        let got = input.read(buf);
+        return answered(got, buf);
+    }
+    -1
+}
+
+// Hands bytes to the port with this number, and says whether all were taken. Standard output and error alone can be
+// written: any other takes none.
+fn write(host: Host, number: i32, text: &[u8]) -> bool {
+    if number == STDOUT_FILENO {
+        return host.output.write_all(text).is_ok();
+    }
+    if number == STDERR_FILENO {
+        return host.error.write_all(text).is_ok();
+    }
+    false
 }
 
 // What the number means that a read answers.
@@ -120,13 +189,13 @@ pub fn start(from: Port) -> Intake
 }
 
 // One read, behind the bytes that stand in the buffer.
-pub fn more(at: Intake, buf: &mut [u8]) -> Intake
+pub fn more(host: Host, at: Intake, buf: &mut [u8]) -> Intake
     requires { at.done ≤ length buf.old }
     ensures { Advanced at result buf.old buf.new }
 {
     let from = at.from;
     let done = at.done;
-    let number = libc::read(descriptor(from), &mut buf[done..]);
+    let number = read(host, descriptor(from), &mut buf[done..]);
     let last = step_of(number);
     let reached = done + brought(last);
     Intake {
@@ -161,11 +230,11 @@ pub fn came_to(at: Intake) -> Filled
 }
 
 // Writes a reply. Nothing but the reply to `journal`, whole, can be handed to it.
-pub fn send(to: Port, text: &[u8], journal: &[u8]) -> Sent
+pub fn send(host: Host, to: Port, text: &[u8], journal: &[u8]) -> Sent
     requires { text.now ≡ reply journal.now }
     ensures { Sending to (length journal.now) (length text.now) result }
 {
-    let whole = io::write_all(descriptor(to), text);
+    let whole = write(host, descriptor(to), text);
     Sent {
         to: to,
         read: journal.len(),
@@ -181,11 +250,11 @@ pub fn is_whole(sent: Sent) -> bool
 }
 
 // Writes a message. Nothing but the words of `message` can be handed to it.
-pub fn say(to: Port, text: &[u8], message: Message) -> Said
+pub fn say(host: Host, to: Port, text: &[u8], message: Message) -> Said
     requires { text.now ≡ words message }
     ensures { Saying to message result }
 {
-    io::write_all(descriptor(to), text);
+    write(host, descriptor(to), text);
     Said {
         to: to,
         message: message,

@@ -8,8 +8,9 @@ ghost use Rattle.replay.specs.Replay.{reply_room};
 ghost use Rattle.serve.specs.Serving.{Finished, journal_room, Sized, Replying, Answering, Serving, Ran, Roomy};
 
 use number::Written;
-use ports::{Filled, Intake, Message, Port, Said, Sent};
+use ports::{Filled, Host, Intake, Message, Port, Said, Sent};
 use replay::LARGEST_JOURNAL;
+use std::io::{Stderr, Stdin, Stdout};
 
 // Room for the longest journal and one byte more, by which a longer one is known.
 const JOURNAL_ROOM: usize = LARGEST_JOURNAL + 1;
@@ -38,28 +39,29 @@ pub struct Run {
 }
 
 // Reads standard input until it ends, a read fails or the buffer is full.
-fn fill(buf: &mut [u8]) -> Intake
+fn fill(host: Host, buf: &mut [u8]) -> Intake
     ensures { Finished result buf.new }
 {
     let mut at = ports::start(Port::Input);
     while ports::goes_on(at, buf.len()) {
-        at = ports::more(at, buf);
+        at = ports::more(host, at, buf);
     }
     at
 }
 
 // Replies to the first `n` bytes of `journal`, by way of `out`.
-fn respond(journal: &[u8], n: usize, out: &mut [u8]) -> Served
+fn respond(host: Host, journal: &[u8], n: usize, out: &mut [u8]) -> Served
     requires { n ≤ length journal.now }
     ensures { Replying n result journal.now out.old out.new }
 {
     match replay::replay(&journal[..n], out) {
         Written::Bytes(k) => {
-            let sent = ports::send(Port::Output, &out[..k], &journal[..n]);
+            let sent = ports::send(host, Port::Output, &out[..k], &journal[..n]);
             if ports::is_whole(sent) {
                 return Served::Replied(sent);
             }
             let said = ports::say(
+                host,
                 Port::Error,
                 b"payrun: standard output could not be written\n",
                 Message::Unwritten,
@@ -71,6 +73,7 @@ fn respond(journal: &[u8], n: usize, out: &mut [u8]) -> Served
         }
         Written::NoRoom => {
             let said = ports::say(
+                host,
                 Port::Error,
                 b"payrun: the reply is longer than the room for it\n",
                 Message::NoRoom,
@@ -84,25 +87,27 @@ fn respond(journal: &[u8], n: usize, out: &mut [u8]) -> Served
 }
 
 // What the program makes of its input, once that is read: all of the program but the read.
-fn answer(journal: &[u8], read: Intake, out: &mut [u8]) -> Served
+fn answer(host: Host, journal: &[u8], read: Intake, out: &mut [u8]) -> Served
     requires { Finished read journal.now }
     ensures { Answering read result journal.now out.old out.new }
 {
     match ports::came_to(read) {
-        Filled::Ended(n) => respond(journal, n, out),
+        Filled::Ended(n) => respond(host, journal, n, out),
         Filled::Full => {
             if journal.len() <= LARGEST_JOURNAL {
                 let said = ports::say(
+                    host,
                     Port::Error,
                     b"payrun: the journal may go on after the room for it\n",
                     Message::Unended,
                 );
                 return Served::Unended(said);
             }
-            respond(journal, journal.len(), out)
+            respond(host, journal, journal.len(), out)
         }
         Filled::Failed => {
             let said = ports::say(
+                host,
                 Port::Error,
                 b"payrun: standard input could not be read\n",
                 Message::Unread,
@@ -114,11 +119,11 @@ fn answer(journal: &[u8], read: Intake, out: &mut [u8]) -> Served
 
 // Standard input to its end, or until the first buffer is full; the replies to standard output, by way of the second.
 // What fails is said on standard error.
-pub fn serve(journal: &mut [u8], out: &mut [u8]) -> Run
+pub fn serve(host: Host, journal: &mut [u8], out: &mut [u8]) -> Run
     ensures { Serving result journal.new out.old out.new }
 {
-    let read = fill(journal);
-    let came = answer(journal, read, out);
+    let read = fill(host, journal);
+    let came = answer(host, journal, read, out);
     Run {
         read: read,
         came: came,
@@ -139,11 +144,12 @@ fn reply_space() -> [u8; replay::REPLY_ROOM]
 }
 
 // The whole program: a run with room for every journal and every reply.
-pub fn program() -> Run
+pub fn program(input: Stdin, output: Stdout, error: Stderr) -> Run
     ensures ran { Ran result }
     ensures roomy { Roomy result }
 {
     let mut journal = journal_space();
     let mut out = reply_space();
-    serve(&mut journal, &mut out)
+    let host = ports::host_of(input, output, error);
+    serve(host, &mut journal, &mut out)
 }

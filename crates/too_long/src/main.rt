@@ -1,6 +1,6 @@
 // The program on a journal of 65,537 bytes, one too many (RULES R14, P14).
 #![tactic(auto)]
 
-fn main() {
-    serve::program();
+fn main(rt: HostRuntime) {
+    serve::program(rt.stdin(), rt.stdout(), rt.stderr());
 }

@@ -2,11 +2,10 @@
 use Rattle.std.specs.Prelude.{ℕ, zero, suc, ◌+◌, ◌-◌, ◌≤◌, ◌<◌, ◌≡◌, refl, true, false, List, ℤ, pos, negsuc, nat_abs, length, take, drop}
 use Rattle.std.proofs.Common.{zero-le, arith, sym, subst, ltb-true, ltb-false, length-take, length-drop}
 use Rattle.std.specs.Int.Signed.{lt_z}
-use Rattle.libc.specs.Io.{Moved}
 use Rattle.ports.specs.declared.Intake.{Intake}
 use Rattle.ports.specs.declared.Step.{Step}
 use Rattle.ports.specs.declared.Step.TheVariants.{Failed, Ended, Brought}
-use Rattle.ports.specs.Ports.{step, brought_by, Advanced, goes_by, goes}
+use Rattle.ports.specs.Ports.{Moved, step, brought_by, Advanced, goes_by, goes}
 
 -- ── what a read's number means ──
 pub step_below : (z : ℤ) → lt_z z (pos 0) ≡ true → Failed ≡ step z
