@@ -1,7 +1,8 @@
 // The program's ports, standard input, output and error: all that it reads and writes (RULES P1, P15, P16). No contract
-// can say that a read or a write was made. Three lines of this file make them, one in `read` and two in `write`, and have
-// to be believed. `Intake`, `Sent` and `Said` have private fields: only this file makes one, and who hands
-// one on has called these functions. What was read, sent or said with it is in their contracts.
+// can say that a read or a write was made. Three lines of this file make them, one in `read` and two in `write`. They have
+// to be believed, and so have the lines of `more`, `send` and `say` that call these two. `Intake`, `Sent` and `Said` have
+// private fields: only this file makes one, and who hands one on has called these functions. What was read, sent or said
+// with it is in their contracts.
 #![tactic(auto)]
 
 ghost use Rattle.std.specs.Prelude.{◌≡◌, ◌≤◌, pos, negsuc, length, IfOk, IfErr};
