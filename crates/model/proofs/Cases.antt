@@ -1,13 +1,13 @@
 -- The worked cases, RULES K0 to K9, are answered as their table says: one computed fact about the definitions. Assumes nothing.
-use Rattle.std.specs.Prelude.{◌≡◌, refl, Bool, true, false, ◌&&◌, List, [], ◌∷◌, ◌++◌, ℕ, length, drop, T, eqb}
+use Rattle.std.specs.Prelude.{◌≡◌, refl, Bool, true, false, ◌&&◌, List, [], ◌∷◌, ℕ, T}
 use Rattle.std.proofs.Common.{◌∙◌, ap₂}
 use Rattle.model.specs.Bools.{both_of}
 use Rattle.model.specs.Label.{Label, label, level, in_scale, leq, meet, join, bot, marks_lost}
 use Rattle.std.specs.Int.Count.{ones, ones_in}
 use Rattle.model.specs.Flow.{need}
-use Rattle.model.specs.Tables.{empty, used, cell, whole, speaks, things, handles, edges, safe}
+use Rattle.model.specs.Tables.{used, cell, whole, speaks, things, handles, edges, safe}
 use Rattle.model.specs.Steps.{ended}
-use Rattle.model.specs.Calls.{Raw, decode, rereads, sheds, effect, refusal, Answer, allowed, lowered, refused, lowers, answer, answers}
+use Rattle.model.specs.Calls.{decode, rereads, sheds, effect, refusal, Answer, lowers, answer}
 use Rattle.model.specs.Cases.{Given, calls, bytes, Case, table, all_equal, given_answers, right}
 
 -- rows of calls are answered alike whichever the journal is

@@ -2,15 +2,9 @@
 --
 -- A row is either calls or the bytes of a journal. What a journal is answered is a parameter, `journal`, so that K10 and K11, whose
 -- rows are bytes, join the table where the journal is defined; the fact here holds whichever it is. Assumes nothing.
-use Rattle.std.specs.Prelude.{◌≡◌, refl, Bool, true, false, ◌&&◌, List, [], ◌∷◌, ◌++◌, ℕ, length, drop, T, eqb}
-use Rattle.std.proofs.Common.{◌∙◌, ap₂}
-use Rattle.model.specs.Bools.{both_of}
-use Rattle.model.specs.Label.{Label, label, level, in_scale, leq, meet, join, bot, marks_lost}
-use Rattle.std.specs.Int.Count.{ones, ones_in}
-use Rattle.model.specs.Flow.{need}
-use Rattle.model.specs.Tables.{empty, used, cell, whole, speaks, things, handles, edges, safe}
-use Rattle.model.specs.Steps.{ended}
-use Rattle.model.specs.Calls.{Raw, decode, rereads, sheds, effect, refusal, Answer, allowed, lowered, refused, lowers, answer, answers}
+use Rattle.std.specs.Prelude.{Bool, true, false, ◌&&◌, List, [], ◌∷◌, ◌++◌, ℕ, length, drop, eqb}
+use Rattle.model.specs.Tables.{empty}
+use Rattle.model.specs.Calls.{Raw, Answer, allowed, lowered, refused, answers}
 
 abbrev pub call : ℕ → List ℕ → Raw
 call c ns = record { code = c; numbers = ns }

@@ -1,6 +1,6 @@
 -- `labels::joined` meets its contract. Assumes nothing.
 use Rattle.std.proofs.Common.{◌/◌, arith}
-use Rattle.labels.specs.Codes.Laws.{join_fits, join_is}
+use Rattle.labels.specs.Codes.Laws.{join_is}
 use Rattle.labels.proofs.joined.Goals as goal
 
 pub returns-then-mine-its : goal.returns-then-mine-its

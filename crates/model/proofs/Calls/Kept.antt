@@ -9,7 +9,7 @@ use Rattle.std.proofs.Math.Dec.{not_T, eqb_refl}
 use Rattle.model.specs.Bools.{test}
 use Rattle.model.specs.Label.{in_scale, ◌⊑◌}
 use Rattle.model.specs.Flow.{Thing, subject, object, same}
-use Rattle.model.specs.Tables.{running, file, pipe, Dir, reading, writing, Entry, entry, Handle, handle, mapping, Tables, empty, label_of, is_pipe, cell, handles, open_on, safe, with_numbers, needs}
+use Rattle.model.specs.Tables.{running, file, pipe, Dir, reading, writing, Entry, entry, Handle, handle, mapping, Tables, empty, label_of, is_pipe, cell, handles, open_on, with_numbers, needs}
 use Rattle.model.proofs.Tables.Laws.{handles_at, open_here, cell_same, handles_by}
 use Rattle.model.specs.Steps.{Origin, outside, blank, Access, reads, writes, runs, enter, leave, hold, mix, quits, freezes, put, fall, sink, apply, applies, ended, reap}
 use Rattle.model.proofs.Steps.Laws.{put_cases, sink_cases, place_same, place_other, applies_append, ended_last}

@@ -1,7 +1,6 @@
 -- `refusals::ends_used` meets its contract. Assumes nothing.
 use mathlib.Core.Path.{◌∙◌, ap₂}
 use mathlib.Core.Bool.{Bool, ◌||◌}
-use borrow.Author.Rules.{rules}
 use Rattle.refusals.proofs.ends_used.Goals as goal
 
 pub returns : goal.returns

@@ -1,7 +1,6 @@
 -- `refusals::is_frozen` meets its contract. Assumes nothing.
 use mathlib.Core.Path.{sym, ◌∙◌, ap}
 use mathlib.Core.Bool.{Bool, ◌&&◌}
-use borrow.Author.Rules.{rules}
 use lib.Dec.{ltb}
 use Rattle.refusals.proofs.Testing.{frozen_is}
 use Rattle.refusals.proofs.is_frozen.Goals as goal

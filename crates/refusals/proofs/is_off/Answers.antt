@@ -1,6 +1,5 @@
 -- `refusals::is_off` meets its contract. Assumes nothing.
 use mathlib.Core.Path.{sym, ◌∙◌}
-use borrow.Author.Rules.{rules}
 use Rattle.model.proofs.Label.Laws.{off_scale}
 use Rattle.refusals.proofs.is_off.Goals as goal
 

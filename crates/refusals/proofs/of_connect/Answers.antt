@@ -1,7 +1,6 @@
 -- `refusals::of_connect` meets its contract. Assumes nothing.
 use mathlib.Core.Path.{refl, sym, ◌∙◌, subst}
 use borrow.Author.Tests.{eq-eqb}
-use borrow.Author.Rules.{rules}
 use lib.Dec.{T, eqb}
 use Rattle.refusals.proofs.Testing.{alive_is, new_object_is, free_is, or-false, vacant_is}
 use Rattle.refusals.proofs.Finding.{alone, both, places, four_places, finds}

@@ -1,6 +1,5 @@
 -- `refusals::of_exec` meets its contract. Assumes nothing.
 use mathlib.Core.Path.{refl}
-use borrow.Author.Rules.{rules}
 use Rattle.refusals.proofs.Testing.{alive_is, present_is, pipe_is}
 use Rattle.refusals.proofs.Finding.{alone, finds}
 use Rattle.refusals.proofs.of_exec.Goals as goal

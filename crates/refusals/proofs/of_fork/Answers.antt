@@ -2,7 +2,6 @@
 use mathlib.Core.Path.{refl, sym, ◌∙◌}
 use mathlib.Core.Bool.{false}
 use mathlib.Core.List.{[], ◌∷◌}
-use borrow.Author.Rules.{rules}
 use lib.Dec.{eqb}
 use Rattle.model.specs.Flow.{subject}
 use Rattle.model.specs.Calls.{alive, new}

@@ -1,6 +1,5 @@
 -- `refusals::of_open` meets its contract. Assumes nothing.
 use mathlib.Core.Path.{refl, sym, ◌∙◌}
-use borrow.Author.Rules.{rules}
 use Rattle.refusals.proofs.Testing.{alive_is, present_is, vacant_is}
 use Rattle.refusals.proofs.Finding.{alone, finds}
 use Rattle.refusals.proofs.of_open.Goals as goal

@@ -1,6 +1,5 @@
 -- `refusals::of_pipe` meets its contract. Assumes nothing.
 use mathlib.Core.Path.{refl, sym, ◌∙◌}
-use borrow.Author.Rules.{rules}
 use Rattle.refusals.proofs.Testing.{alive_is, new_object_is, free_is, vacant_is}
 use Rattle.refusals.proofs.Finding.{alone, places, finds}
 use Rattle.refusals.proofs.of_pipe.Goals as goal

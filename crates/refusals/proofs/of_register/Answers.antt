@@ -1,6 +1,5 @@
 -- `refusals::of_register` meets its contract. Assumes nothing.
 use mathlib.Core.Path.{refl, sym, ◌∙◌}
-use borrow.Author.Rules.{rules}
 use Rattle.refusals.proofs.Testing.{off_is, new_object_is, free_is}
 use Rattle.refusals.proofs.Finding.{alone, finds}
 use Rattle.refusals.proofs.of_register.Goals as goal

@@ -1,6 +1,5 @@
 -- `refusals::of_retire` meets its contract. Assumes nothing.
 use mathlib.Core.Path.{refl}
-use borrow.Author.Rules.{rules}
 use Rattle.refusals.proofs.Testing.{present_is, pipe_is}
 use Rattle.refusals.proofs.Finding.{alone, finds}
 use Rattle.refusals.proofs.of_retire.Goals as goal

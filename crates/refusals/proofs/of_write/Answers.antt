@@ -1,6 +1,5 @@
 -- `refusals::of_write` meets its contract. Assumes nothing.
 use mathlib.Core.Path.{refl, sym, ◌∙◌}
-use borrow.Author.Rules.{rules}
 use Rattle.refusals.proofs.Testing.{alive_is, taken_is, faces_in}
 use Rattle.refusals.proofs.Finding.{alone, finds}
 use Rattle.refusals.proofs.of_write.Goals as goal

@@ -1,6 +1,5 @@
 -- `tables::looks::fallen` meets its contract. Assumes nothing.
 use mathlib.Core.Path.{refl}
-use borrow.Author.Rules.{rules}
 use Rattle.tables.proofs.looks.fallen.Goals as goal
 
 pub returns : goal.returns

@@ -1,7 +1,6 @@
 -- `tables::looks::handle_of` meets its contract. Assumes nothing.
 use mathlib.Core.Path.{◌∙◌, ap}
 use Prim.Native.Nat.{ℕ}
-use borrow.Author.Rules.{rules}
 use lib.ListN.{get_or}
 use Rattle.tables.specs.Records.{no_handle}
 use Rattle.tables.specs.Working.{handle_at}

@@ -2,7 +2,6 @@
 use mathlib.Core.Path.{ap}
 use mathlib.Core.Bool.{not}
 use borrow.Author.Tests.{eq-eqb, ne_eqb}
-use borrow.Author.Rules.{rules}
 use Rattle.tables.proofs.looks.is_writing.Goals as goal
 
 pub returns-then-way-eq-EMPTY : goal.returns-then-way-eq-EMPTY

@@ -1,7 +1,6 @@
 -- `tables::looks::sunken` meets its contract. Assumes nothing.
 use mathlib.Core.Path.{refl}
 use borrow.Author.Tests.{eq-eqb, ne_eqb}
-use borrow.Author.Rules.{rules}
 use Rattle.tables.proofs.looks.sunken.Goals as goal
 
 pub returns-then-y-eq-FILE : goal.returns-then-y-eq-FILE

@@ -1,7 +1,6 @@
 -- `tables::looks::with_handle` meets its contract. Assumes nothing.
 use mathlib.Core.Path.{ap}
 use Prim.Native.Nat.{ℕ}
-use borrow.Author.Rules.{rules}
 use lib.ListN.{set}
 use Rattle.tables.proofs.looks.with_handle.Goals as goal
 

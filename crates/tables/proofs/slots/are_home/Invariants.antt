@@ -1,12 +1,9 @@
 -- `tables::slots::are_home` meets its contract. Assumes nothing.
-use mathlib.Core.Path.{◌≡◌, sym, subst}
+use mathlib.Core.Path.{◌≡◌}
 use Prim.Native.Nat.{ℕ, ◌%◌, ◌-◌, ◌≤◌, ◌<◌}
-use native.Mathlib.Omega.{arith}
 use lib.Dec.{T}
 use lib.ListN.{get_or}
-use borrow.Author.Rules.{rules}
 use Rattle.tables.specs.Slots.{slot_used}
-use Rattle.tables.proofs.Seating.{further, at_home}
 use Rattle.tables.proofs.slots.are_home.Given as goal
 
 abbrev pub invariant-loop-i : goal.invariant-loop-i

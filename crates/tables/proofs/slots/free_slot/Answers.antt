@@ -1,10 +1,9 @@
 -- `tables::slots::free_slot` meets its contract. Assumes nothing.
 use mathlib.Core.Path.{◌≡◌, refl}
 use mathlib.Core.Logic.{inr}
-use Prim.Native.Nat.{ℕ, ◌%◌, ◌-◌, ◌≤◌, ◌<◌}
+use Prim.Native.Nat.{ℕ, ◌%◌}
 use native.Mathlib.Omega.{arith}
 use lib.Dec.{T}
-use borrow.Author.Rules.{rules}
 use Rattle.tables.specs.Slots.{slot_used}
 use Rattle.tables.proofs.Seating.{lies_free, lies_used, further}
 use Rattle.tables.proofs.slots.free_slot.Goals as goal

@@ -1,11 +1,8 @@
 -- `tables::slots::is_before` meets its contract. Assumes nothing.
-use mathlib.Core.Path.{◌≡◌, sym, ◌∙◌, ap}
+use mathlib.Core.Path.{◌≡◌}
 use mathlib.Core.Bool.{false}
-use Prim.Native.Nat.{ℕ, ◌%◌, ◌-◌, ◌≤◌, ◌<◌}
-use native.Mathlib.Omega.{arith}
-use borrow.Author.Rules.{rules}
-use Rattle.tables.proofs.Below.{some_at, none_below}
-use Rattle.tables.proofs.Seating.{hit, further}
+use Prim.Native.Nat.{ℕ, ◌-◌, ◌≤◌, ◌<◌}
+use Rattle.tables.proofs.Seating.{hit}
 use Rattle.tables.proofs.slots.is_before.Given as goal
 
 abbrev pub invariant-loop-j : goal.invariant-loop-j

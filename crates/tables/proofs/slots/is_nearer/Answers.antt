@@ -1,7 +1,6 @@
 -- `tables::slots::is_nearer` meets its contract. Assumes nothing.
 use mathlib.Core.Path.{◌∙◌, ap₂}
 use mathlib.Core.Bool.{Bool, ◌&&◌}
-use borrow.Author.Rules.{rules}
 use Rattle.tables.proofs.slots.is_nearer.Goals as goal
 
 pub returns : goal.returns

@@ -1,5 +1,4 @@
 -- `tables::slots::is_same` meets its contract. Assumes nothing.
-use borrow.Author.Rules.{rules}
 use Rattle.tables.proofs.slots.is_same.Goals as goal
 
 pub returns : goal.returns

@@ -1,6 +1,5 @@
 -- `tables::slots::once` meets its contract. Assumes nothing.
 use mathlib.Core.Path.{sym, ◌∙◌}
-use borrow.Author.Rules.{rules}
 use Rattle.tables.proofs.slots.once.Goals as goal
 
 pub returns-then-both : goal.returns-then-both

@@ -1,5 +1,4 @@
 -- `tables::slots::seat_of` meets its contract. Assumes nothing.
-use borrow.Author.Rules.{rules}
 use Rattle.tables.proofs.Seating.{seated_here, seated_free}
 use Rattle.tables.proofs.slots.seat_of.Goals as goal
 

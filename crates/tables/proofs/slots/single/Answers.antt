@@ -1,15 +1,13 @@
 -- `tables::slots::single` meets its contract. Assumes nothing.
 use mathlib.Core.Path.{◌≡◌, ◌∙◌, ap₂}
 use mathlib.Core.Bool.{Bool, not, ◌&&◌, cond}
-use Prim.Native.Nat.{◌-◌, ◌≤◌}
 use native.Mathlib.Omega.{arith}
 use lib.Dec.{eqb}
 use lib.ListN.{length, get_or}
 use borrow.Author.Rules.{rules}
 use Rattle.tables.specs.declared.Object.{Object}
 use Rattle.tables.specs.Records.{no_object}
-use Rattle.tables.specs.Slots.{repeated}
-use Rattle.tables.proofs.Maps.{Mapped, mapped_none, mapped_more, unmapped}
+use Rattle.tables.proofs.Maps.{mapped_none, mapped_more, unmapped}
 use Rattle.tables.proofs.Seating.{single_is, home_single}
 use Rattle.tables.proofs.slots.single.Goals as goal
 

@@ -1,11 +1,10 @@
 -- `tables::slots::slot_of` meets its contract. Assumes nothing.
 use mathlib.Core.Path.{◌≡◌, refl}
 use mathlib.Core.Logic.{inl, inr}
-use Prim.Native.Nat.{ℕ, ◌-◌, ◌≤◌, ◌<◌}
+use Prim.Native.Nat.{ℕ}
 use native.Mathlib.Omega.{arith}
 use lib.Dec.{T}
 use lib.ListN.{get_or}
-use borrow.Author.Rules.{rules}
 use Rattle.tables.specs.Slots.{slot_used}
 use Rattle.tables.proofs.Seating.{here, missed, further}
 use Rattle.tables.proofs.slots.slot_of.Goals as goal

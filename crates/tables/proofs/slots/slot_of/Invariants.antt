@@ -1,13 +1,9 @@
 -- `tables::slots::slot_of` meets its contract. Assumes nothing.
-use mathlib.Core.Path.{◌≡◌, refl}
-use mathlib.Core.Logic.{inl, inr}
+use mathlib.Core.Path.{◌≡◌}
 use Prim.Native.Nat.{ℕ, ◌-◌, ◌≤◌, ◌<◌}
-use native.Mathlib.Omega.{arith}
 use lib.Dec.{T}
 use lib.ListN.{get_or}
-use borrow.Author.Rules.{rules}
 use Rattle.tables.specs.Slots.{slot_used}
-use Rattle.tables.proofs.Seating.{here, missed, further}
 use Rattle.tables.proofs.slots.slot_of.Given as goal
 
 abbrev pub invariant-loop-i : goal.invariant-loop-i

@@ -1,0 +1,6 @@
+-- `host::behind::of_state` meets its contract. Assumes nothing.
+use borrow.Author.Rules.{rules}
+use Rattle.host.proofs.behind.of_state.Goals as goal
+
+pub returns : goal.returns
+returns c = record { left = c.told.ensures.left; tells = c.told.ensures.tells }
