@@ -1,6 +1,5 @@
 -- `flows::demanded` meets its contract. Assumes nothing.
 use borrow.Author.Tests.{eq-eqb, ne_eqb}
-use borrow.Author.Rules.{rules}
 use Rattle.labels.specs.Codes.Laws.{coded_zero}
 use Rattle.flows.proofs.demanded.Goals as goal
 

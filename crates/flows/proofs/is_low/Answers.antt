@@ -1,7 +1,6 @@
 -- `flows::is_low` meets its contract. Assumes nothing.
 use mathlib.Core.Path.{ap}
 use mathlib.Core.Bool.{not}
-use borrow.Author.Rules.{rules}
 use Rattle.flows.proofs.is_low.Goals as goal
 
 pub is_at_most-enough-requires : goal.is_at_most-enough-requires

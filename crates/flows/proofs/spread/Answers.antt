@@ -1,11 +1,9 @@
 -- `flows::spread` meets its contract. Assumes nothing.
 use mathlib.Core.Path.{refl}
-use Prim.Native.Nat.{◌+◌, ◌-◌, ◌≤◌}
+use Prim.Native.Nat.{◌+◌}
 use native.Mathlib.Omega.{arith}
 use borrow.Author.Rules.{rules}
-use lib.ListN.{get_or}
-use Rattle.tables.proofs.Maps.{Mapped, mapped_none, mapped_more}
-use Rattle.passes.specs.Working.{lead_of}
+use Rattle.tables.proofs.Maps.{mapped_none, mapped_more}
 use Rattle.flows.proofs.spread.Goals as goal
 
 pub loop-s-init : goal.loop-s-init

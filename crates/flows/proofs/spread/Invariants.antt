@@ -1,10 +1,7 @@
 -- `flows::spread` meets its contract. Assumes nothing.
-use mathlib.Core.Path.{refl}
-use Prim.Native.Nat.{◌+◌, ◌-◌, ◌≤◌}
-use native.Mathlib.Omega.{arith}
-use borrow.Author.Rules.{rules}
+use Prim.Native.Nat.{◌-◌, ◌≤◌}
 use lib.ListN.{get_or}
-use Rattle.tables.proofs.Maps.{Mapped, mapped_none, mapped_more}
+use Rattle.tables.proofs.Maps.{Mapped}
 use Rattle.passes.specs.Working.{lead_of}
 use Rattle.flows.proofs.spread.Given as goal
 

@@ -1,8 +1,6 @@
 -- `flows::starts` meets its contract. Assumes nothing.
-use Prim.Native.Nat.{◌-◌, ◌≤◌}
 use native.Mathlib.Omega.{arith}
 use borrow.Author.Rules.{rules}
-use Rattle.passes.specs.Working.{Started}
 use Rattle.flows.proofs.Starting.{none_started, one_started}
 use Rattle.flows.proofs.starts.Goals as goal
 

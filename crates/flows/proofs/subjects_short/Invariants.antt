@@ -1,16 +1,11 @@
 -- `flows::subjects_short` meets its contract. Assumes nothing.
-use mathlib.Core.Path.{◌≡◌, refl, sym, ◌∙◌, ap, ap₂}
-use mathlib.Core.Bool.{not, ◌||◌}
+use mathlib.Core.Path.{◌≡◌}
 use Prim.Native.Nat.{◌-◌, ◌≤◌}
-use native.Mathlib.Omega.{arith}
-use native.Mathlib.Numerals.{add-one}
-use borrow.Author.Rules.{rules}
 use lib.ListN.{get_or}
-use lib.Dec.{eqb}
 use Rattle.labels.specs.Codes.{coded}
 use Rattle.tables.specs.Records.{no_subject}
 use Rattle.tables.specs.Working.{some_below}
-use Rattle.passes.specs.Working.{low_by, short_subject}
+use Rattle.passes.specs.Working.{short_subject}
 use Rattle.flows.proofs.subjects_short.Given as goal
 
 abbrev pub invariant-loop-i : goal.invariant-loop-i

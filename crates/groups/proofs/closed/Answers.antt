@@ -1,12 +1,9 @@
 -- `groups::closed` meets its contract. Assumes nothing.
 use mathlib.Core.Bool.{false}
-use Prim.Native.Nat.{◌-◌, ◌/◌, ◌≤◌}
 use native.Mathlib.Omega.{arith}
 use borrow.Author.Rules.{rules}
-use lib.ListN.{get_or}
 use Rattle.tables.specs.Records.{no_handle}
-use Rattle.tables.proofs.Maps.{Mapped, mapped_none, mapped_more, unmapped}
-use mathlib.Core.Bool.{cond}
+use Rattle.tables.proofs.Maps.{mapped_none, mapped_more, unmapped}
 use Rattle.groups.proofs.Closing.{closed_tables}
 use Rattle.groups.proofs.closed.Goals as goal
 
@@ -14,8 +11,7 @@ pub loop-i-init : goal.loop-i-init
 loop-i-init c = (omega arith, mapped_none no_handle _ _)
 
 pub loop-i-preserved : goal.loop-i-preserved
-loop-i-preserved c =
-    (
+loop-i-preserved c = (
   omega arith,
   mapped_more no_handle _ _ _ _ _ c.loop-i.invariant.1 (search (rules, unmapped)) c.unless_closed-put.ensures,
 )

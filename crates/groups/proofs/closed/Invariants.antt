@@ -1,13 +1,10 @@
 -- `groups::closed` meets its contract. Assumes nothing.
 use mathlib.Core.Bool.{false}
 use Prim.Native.Nat.{◌-◌, ◌/◌, ◌≤◌}
-use native.Mathlib.Omega.{arith}
-use borrow.Author.Rules.{rules}
 use lib.ListN.{get_or}
 use Rattle.tables.specs.Records.{no_handle}
-use Rattle.tables.proofs.Maps.{Mapped, mapped_none, mapped_more, unmapped}
+use Rattle.tables.proofs.Maps.{Mapped}
 use mathlib.Core.Bool.{cond}
-use Rattle.groups.proofs.Closing.{closed_tables}
 use Rattle.groups.proofs.closed.Given as goal
 
 abbrev pub invariant-loop-i : goal.invariant-loop-i

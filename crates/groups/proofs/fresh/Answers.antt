@@ -1,11 +1,10 @@
 -- `groups::fresh` meets its contract. Assumes nothing.
 use mathlib.Core.Path.{◌≡◌}
 use mathlib.Core.Bool.{true, false}
-use Prim.Native.Nat.{ℕ, ◌-◌, ◌≤◌, ◌<◌}
+use Prim.Native.Nat.{ℕ}
 use native.Mathlib.Omega.{arith}
 use borrow.Author.Rules.{rules}
 use lib.ListN.{get_or}
-use borrow.Author.Tests.{not-true, not-false}
 use Rattle.tables.proofs.Maps.{unmapped}
 use Rattle.tables.proofs.Seating.{further}
 use Rattle.groups.proofs.Counting.{not_taken, all_taken}

@@ -2,13 +2,7 @@
 use mathlib.Core.Path.{◌≡◌}
 use mathlib.Core.Bool.{true, false}
 use Prim.Native.Nat.{ℕ, ◌-◌, ◌≤◌, ◌<◌}
-use native.Mathlib.Omega.{arith}
-use borrow.Author.Rules.{rules}
 use lib.ListN.{get_or}
-use borrow.Author.Tests.{not-true, not-false}
-use Rattle.tables.proofs.Maps.{unmapped}
-use Rattle.tables.proofs.Seating.{further}
-use Rattle.groups.proofs.Counting.{not_taken, all_taken}
 use Rattle.groups.proofs.fresh.Given as goal
 
 abbrev pub invariant-loop-v : goal.invariant-loop-v

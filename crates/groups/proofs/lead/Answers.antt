@@ -1,6 +1,5 @@
 -- `groups::lead` meets its contract. Assumes nothing.
 use borrow.Author.Tests.{eq-eqb, ne_eqb}
-use borrow.Author.Rules.{rules}
 use Rattle.groups.proofs.lead.Goals as goal
 
 pub returns-then-x-eq0 : goal.returns-then-x-eq0

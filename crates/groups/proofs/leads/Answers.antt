@@ -1,11 +1,11 @@
 -- `groups::leads` meets its contract. Assumes nothing.
-use Prim.Native.Nat.{ℕ, ◌-◌, ◌≤◌, ◌<◌}
+use Prim.Native.Nat.{ℕ, ◌<◌}
 use native.Mathlib.Omega.{arith}
 use borrow.Author.Rules.{rules}
 use mir.Syntax.{w8}
 use mir.Val.{Fits}
 use lib.ListN.{get_or}
-use Rattle.groups.proofs.Leading.{Led, led_none, led_more, led_leads}
+use Rattle.groups.proofs.Leading.{led_none, led_more, led_leads}
 use Rattle.groups.proofs.leads.Goals as goal
 
 pub loop-s-init : goal.loop-s-init

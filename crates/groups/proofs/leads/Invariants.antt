@@ -1,11 +1,6 @@
 -- `groups::leads` meets its contract. Assumes nothing.
-use Prim.Native.Nat.{ℕ, ◌-◌, ◌≤◌, ◌<◌}
-use native.Mathlib.Omega.{arith}
-use borrow.Author.Rules.{rules}
-use mir.Syntax.{w8}
-use mir.Val.{Fits}
-use lib.ListN.{get_or}
-use Rattle.groups.proofs.Leading.{Led, led_none, led_more, led_leads}
+use Prim.Native.Nat.{◌-◌, ◌≤◌}
+use Rattle.groups.proofs.Leading.{Led}
 use Rattle.groups.proofs.leads.Given as goal
 
 abbrev pub invariant-loop-s : goal.invariant-loop-s

@@ -1,20 +1,15 @@
 -- `groups::members` meets its contract. Assumes nothing.
-use mathlib.Core.Bool.{false, not, ◌||◌, ◌&&◌}
-use Prim.Native.Nat.{◌-◌, ◌≤◌}
+use mathlib.Core.Bool.{false}
 use native.Mathlib.Omega.{arith}
 use borrow.Author.Rules.{rules}
-use lib.ListN.{get_or}
-use lib.Dec.{eqb}
-use Rattle.tables.specs.Records.{no_subject}
-use Rattle.tables.proofs.Maps.{Mapped, mapped_none, mapped_more}
+use Rattle.tables.proofs.Maps.{mapped_none, mapped_more}
 use Rattle.groups.proofs.members.Goals as goal
 
 pub loop-a-init : goal.loop-a-init
 loop-a-init c = (omega arith, mapped_none false _ _)
 
 pub loop-a-preserved : goal.loop-a-preserved
-loop-a-preserved c =
-    (
+loop-a-preserved c = (
   omega arith,
   mapped_more false _ _ _ _ _ c.loop-a.invariant.1 (search rules) c.is_kin-kin.ensures,
 )

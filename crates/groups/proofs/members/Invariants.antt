@@ -1,12 +1,10 @@
 -- `groups::members` meets its contract. Assumes nothing.
 use mathlib.Core.Bool.{false, not, ◌||◌, ◌&&◌}
 use Prim.Native.Nat.{◌-◌, ◌≤◌}
-use native.Mathlib.Omega.{arith}
-use borrow.Author.Rules.{rules}
 use lib.ListN.{get_or}
 use lib.Dec.{eqb}
 use Rattle.tables.specs.Records.{no_subject}
-use Rattle.tables.proofs.Maps.{Mapped, mapped_none, mapped_more}
+use Rattle.tables.proofs.Maps.{Mapped}
 use Rattle.groups.proofs.members.Given as goal
 
 abbrev pub invariant-loop-a : goal.invariant-loop-a

@@ -1,11 +1,9 @@
 -- `groups::ousted` meets its contract. Assumes nothing.
 use mathlib.Core.Bool.{false}
 use Prim.Native.Nat.{◌-◌, ◌≤◌}
-use native.Mathlib.Omega.{arith}
-use borrow.Author.Rules.{rules}
 use lib.ListN.{get_or}
 use Rattle.tables.specs.Records.{no_subject}
-use Rattle.tables.proofs.Maps.{Mapped, mapped_none, mapped_more, unmapped}
+use Rattle.tables.proofs.Maps.{Mapped}
 use Rattle.groups.specs.Groups.{ousted_by}
 use Rattle.groups.proofs.ousted.Given as goal
 

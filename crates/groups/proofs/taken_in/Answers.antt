@@ -1,5 +1,4 @@
 -- `groups::taken_in` meets its contract. Assumes nothing.
-use borrow.Author.Rules.{rules}
 use Rattle.groups.proofs.taken_in.Goals as goal
 
 pub returns-then-takes : goal.returns-then-takes

@@ -1,5 +1,4 @@
 -- `groups::unless_closed` meets its contract. Assumes nothing.
-use borrow.Author.Rules.{rules}
 use Rattle.groups.proofs.unless_closed.Goals as goal
 
 pub returns-then-goes : goal.returns-then-goes

@@ -1,10 +1,8 @@
 -- `handles::cleaned` meets its contract. Assumes nothing.
 use Prim.Native.Nat.{◌-◌, ◌≤◌}
-use native.Mathlib.Omega.{arith}
-use borrow.Author.Rules.{rules}
 use Rattle.tables.specs.Records.{no_handle}
-use Rattle.tables.proofs.Maps.{Mapped, mapped_none, mapped_more, unmapped}
-use Rattle.handles.proofs.Cleaning.{kept_at, cleaned_tables}
+use Rattle.tables.proofs.Maps.{Mapped}
+use Rattle.handles.proofs.Cleaning.{kept_at}
 use Rattle.handles.proofs.cleaned.Given as goal
 
 abbrev pub invariant-loop-i : goal.invariant-loop-i

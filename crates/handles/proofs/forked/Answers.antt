@@ -1,6 +1,5 @@
 -- `handles::forked` meets its contract. Assumes nothing.
 use Rattle.handles.proofs.Rows.{rowed_as}
-use borrow.Author.Rules.{rules}
 use Rattle.handles.proofs.forked.Goals as goal
 
 pub returns : goal.returns

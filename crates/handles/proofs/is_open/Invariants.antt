@@ -1,14 +1,10 @@
 -- `handles::is_open` meets its contract. Assumes nothing.
-use mathlib.Core.Path.{◌≡◌, sym, ◌∙◌}
+use mathlib.Core.Path.{◌≡◌}
 use mathlib.Core.Bool.{false}
 use Prim.Native.Nat.{ℕ, ◌-◌, ◌≤◌, ◌<◌}
-use native.Mathlib.Omega.{arith}
-use borrow.Author.Rules.{rules}
-use borrow.Author.Count.{below_more}
 use lib.ListN.{get_or}
 use Rattle.tables.specs.Records.{no_handle}
 use Rattle.handles.specs.Working.{on}
-use Rattle.handles.proofs.Opening.{found, none_found}
 use Rattle.handles.proofs.is_open.Given as goal
 
 abbrev pub invariant-loop-i : goal.invariant-loop-i

@@ -1,6 +1,5 @@
 -- `handles::kept` meets its contract. Assumes nothing.
 use borrow.Author.Tests.{lt-ltb, le-ltb, eq-eqb, ne_eqb}
-use borrow.Author.Rules.{rules}
 use Rattle.handles.proofs.kept.Goals as goal
 
 pub returns-then-subject-eq0 : goal.returns-then-subject-eq0

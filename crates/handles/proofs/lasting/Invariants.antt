@@ -1,11 +1,8 @@
 -- `handles::lasting` meets its contract. Assumes nothing.
 use Prim.Native.Nat.{◌-◌, ◌≤◌}
-use native.Mathlib.Omega.{arith}
-use borrow.Author.Rules.{rules}
 use Rattle.tables.specs.Records.{no_handle}
 use Rattle.handles.specs.Working.{lasting_of}
-use Rattle.tables.proofs.Maps.{Mapped, mapped_none, mapped_more, unmapped}
-use Rattle.handles.proofs.Rows.{lasting_along}
+use Rattle.tables.proofs.Maps.{Mapped}
 use Rattle.handles.proofs.lasting.Given as goal
 
 abbrev pub invariant-loop-p : goal.invariant-loop-p

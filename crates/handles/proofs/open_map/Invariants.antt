@@ -1,13 +1,8 @@
 -- `handles::open_map` meets its contract. Assumes nothing.
-use mathlib.Core.Path.{◌≡◌}
 use Prim.Native.Nat.{◌-◌, ◌≤◌}
-use native.Mathlib.Omega.{arith}
-use borrow.Author.Rules.{rules}
 use lib.ListN.{get_or}
 use Rattle.tables.specs.Records.{no_handle}
 use Rattle.handles.specs.Working.{slot_of, Hits}
-use Rattle.handles.proofs.Ending.{slot_low}
-use Rattle.handles.proofs.Hitting.{hits_none, hits_more}
 use Rattle.handles.proofs.open_map.Given as goal
 
 abbrev pub invariant-loop-i : goal.invariant-loop-i

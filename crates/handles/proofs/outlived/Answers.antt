@@ -1,7 +1,6 @@
 -- `handles::outlived` meets its contract. Assumes nothing.
 use mathlib.Core.Path.{sym, ◌∙◌}
 use borrow.Author.Tests.{lt-ltb, le-ltb}
-use borrow.Author.Rules.{rules}
 use Rattle.handles.proofs.outlived.Goals as goal
 
 pub returns-then-object-lt-PIPE : goal.returns-then-object-lt-PIPE

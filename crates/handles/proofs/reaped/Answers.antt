@@ -1,10 +1,9 @@
 -- `handles::reaped` meets its contract. Assumes nothing.
-use Prim.Native.Nat.{◌-◌, ◌≤◌}
 use native.Mathlib.Omega.{arith}
 use borrow.Author.Rules.{rules}
 use Rattle.tables.specs.Records.{no_object}
-use Rattle.tables.proofs.Maps.{Mapped, mapped_none, mapped_more, unmapped}
-use Rattle.handles.proofs.Ending.{left_at, reaped_tables}
+use Rattle.tables.proofs.Maps.{mapped_none, mapped_more, unmapped}
+use Rattle.handles.proofs.Ending.{reaped_tables}
 use Rattle.handles.proofs.reaped.Goals as goal
 
 pub loop-i-init : goal.loop-i-init

@@ -1,10 +1,8 @@
 -- `handles::reaped` meets its contract. Assumes nothing.
 use Prim.Native.Nat.{◌-◌, ◌≤◌}
-use native.Mathlib.Omega.{arith}
-use borrow.Author.Rules.{rules}
 use Rattle.tables.specs.Records.{no_object}
-use Rattle.tables.proofs.Maps.{Mapped, mapped_none, mapped_more, unmapped}
-use Rattle.handles.proofs.Ending.{left_at, reaped_tables}
+use Rattle.tables.proofs.Maps.{Mapped}
+use Rattle.handles.proofs.Ending.{left_at}
 use Rattle.handles.proofs.reaped.Given as goal
 
 abbrev pub invariant-loop-i : goal.invariant-loop-i

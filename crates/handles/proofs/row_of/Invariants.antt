@@ -1,12 +1,9 @@
 -- `handles::row_of` meets its contract. Assumes nothing.
-use mathlib.Core.Path.{◌≡◌, refl}
+use mathlib.Core.Path.{◌≡◌}
 use Prim.Native.Nat.{◌+◌, ◌*◌, ◌-◌, ◌≤◌}
-use native.Mathlib.Omega.{arith}
-use borrow.Author.Rules.{rules}
 use lib.ListN.{get_or}
 use Rattle.tables.specs.Records.{no_handle}
-use Rattle.tables.proofs.Maps.{Mapped, mapped_none, mapped_more}
-use Rattle.handles.proofs.Rows.{row_along}
+use Rattle.tables.proofs.Maps.{Mapped}
 use Rattle.handles.proofs.row_of.Given as goal
 
 abbrev pub invariant-loop-p : goal.invariant-loop-p

@@ -2,7 +2,6 @@
 use mathlib.Core.Path.{◌∙◌, ap}
 use Rattle.model.specs.Calls.{lasting}
 use Rattle.handles.proofs.Rows.{rowed_as}
-use borrow.Author.Rules.{rules}
 use Rattle.handles.proofs.shed.Goals as goal
 
 pub returns : goal.returns

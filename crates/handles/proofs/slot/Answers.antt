@@ -1,6 +1,5 @@
 -- `handles::slot` meets its contract. Assumes nothing.
 use borrow.Author.Tests.{lt-ltb, le-ltb, eq-eqb, ne_eqb}
-use borrow.Author.Rules.{rules}
 use Rattle.handles.proofs.slot.Goals as goal
 
 pub returns-then-h-eq-EMPTY : goal.returns-then-h-eq-EMPTY

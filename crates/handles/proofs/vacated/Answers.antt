@@ -2,7 +2,6 @@
 use lib.ListN.{replicate}
 use Rattle.tables.specs.Records.{no_handle}
 use Rattle.handles.proofs.Rows.{rowed_as, no_places}
-use borrow.Author.Rules.{rules}
 use Rattle.handles.proofs.vacated.Goals as goal
 
 pub returns : goal.returns

@@ -1,12 +1,9 @@
 -- `handles::with_row` meets its contract. Assumes nothing.
-use mathlib.Core.Path.{◌≡◌, refl}
+use mathlib.Core.Path.{◌≡◌}
 use Prim.Native.Nat.{◌*◌, ◌-◌, ◌≤◌}
-use native.Mathlib.Omega.{arith}
-use borrow.Author.Rules.{rules}
 use lib.ListN.{get_or}
 use Rattle.tables.specs.Records.{no_handle}
-use Rattle.tables.proofs.Maps.{Rowed, rowed_none, rowed_more, unmapped}
-use Rattle.handles.proofs.Rows.{rowed_tables}
+use Rattle.tables.proofs.Maps.{Rowed}
 use Rattle.handles.proofs.with_row.Given as goal
 
 abbrev pub invariant-loop-p : goal.invariant-loop-p

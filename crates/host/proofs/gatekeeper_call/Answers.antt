@@ -1,6 +1,5 @@
 -- `host::gatekeeper_call` meets its contract. Assumes nothing.
 use mathlib.Core.Path.{sym, ◌∙◌}
-use borrow.Author.Rules.{rules}
 use Rattle.model.specs.Calls.{decode}
 use Rattle.gatekeeper.specs.View.{direct}
 use Rattle.host.proofs.Calling.{made, called_refused, called_moved, called_unsized}

@@ -1,5 +1,4 @@
 -- `host::gatekeeper_gone` meets its contract. Assumes nothing.
-use borrow.Author.Rules.{rules}
 use borrow.Author.Tests.{eq-eqb, ne_eqb}
 use lib.ListN.{length}
 use Rattle.stored.specs.State.{state_bytes, gone_of}

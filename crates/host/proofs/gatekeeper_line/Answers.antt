@@ -1,5 +1,4 @@
 -- `host::gatekeeper_line` meets its contract. Assumes nothing.
-use borrow.Author.Rules.{rules}
 use borrow.Author.Tests.{not-true, not-false}
 use Rattle.host.proofs.Typing.{types_still, types_moved, types_unsized}
 use Rattle.host.proofs.gatekeeper_line.Goals as goal

@@ -2,7 +2,6 @@
 use mathlib.Core.Path.{ap}
 use native.Mathlib.Omega.{arith}
 use Rattle.number.specs.Leb.{Reading}
-use borrow.Author.Rules.{rules}
 use Rattle.host.specs.Numbers.{reading_used, reading_value}
 use Rattle.host.proofs.Answering.{number_short, reading_told}
 use Rattle.host.proofs.gatekeeper_number.Goals as goal

@@ -5,7 +5,6 @@ use Prim.Native.Nat.{ℕ, zero, suc}
 use mir.Val.{Fits}
 use mir.Syntax.{w64}
 use native.Mathlib.Omega.{arith}
-use borrow.Author.Rules.{rules}
 use Rattle.number.specs.Leb.{AtMost, largest}
 use Rattle.host.proofs.Answering.{record_short, record_numbered, record_roomy}
 use Rattle.host.proofs.gatekeeper_record.Goals as goal

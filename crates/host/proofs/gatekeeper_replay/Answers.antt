@@ -1,7 +1,6 @@
 -- `host::gatekeeper_replay` meets its contract. Assumes nothing.
 use mathlib.Core.Path.{ap}
 use native.Mathlib.Omega.{arith}
-use borrow.Author.Rules.{rules}
 use Rattle.number.specs.Answers.{writing}
 use Rattle.replay.specs.Replay.{reply_room}
 use Rattle.host.proofs.Answering.{reply_numbered, reply_roomy}

@@ -1,6 +1,5 @@
 -- `host::to_number` meets its contract. Assumes nothing.
 use native.Mathlib.Omega.{arith}
-use borrow.Author.Rules.{rules}
 use Rattle.host.proofs.Answering.{call_numbered}
 use Rattle.host.proofs.to_number.Goals as goal
 

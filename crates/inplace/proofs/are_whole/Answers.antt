@@ -1,5 +1,5 @@
 -- `inplace::are_whole` meets its contract. Assumes nothing.
-use Rattle.std.proofs.Common.{T, sym, subst, eqb→eq, rules, eq-eqb}
+use Rattle.std.proofs.Common.{T, sym, subst, eqb→eq, eq-eqb}
 use Rattle.passes.proofs.Raising.{true_false}
 use Rattle.inplace.proofs.are_whole.Goals as goal
 

@@ -1,5 +1,5 @@
 -- `inplace::count` meets its contract. Assumes nothing.
-use Rattle.std.proofs.Common.{ℕ, set, ap₂, rules}
+use Rattle.std.proofs.Common.{ℕ, set, ap₂}
 use Rattle.inplace.proofs.count.Goals as goal
 
 pub returns : goal.returns

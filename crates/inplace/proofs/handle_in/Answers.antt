@@ -1,5 +1,5 @@
 -- `inplace::handle_in` meets its contract. Assumes nothing.
-use Rattle.std.proofs.Common.{◌+◌, ◌*◌, ◌%◌, sym, ap, ◌∙◌, arith, rules}
+use Rattle.std.proofs.Common.{◌+◌, ◌*◌, ◌%◌, sym, ap, ◌∙◌, arith}
 use Rattle.tables.specs.Working.{handle_at}
 use Rattle.inplace.specs.Bytes.{handle_of}
 use Rattle.inplace.specs.Bytes.Laws.{handle_there}

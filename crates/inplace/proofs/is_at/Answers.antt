@@ -1,5 +1,5 @@
 -- `inplace::is_at` meets its contract. Assumes nothing.
-use Rattle.std.proofs.Common.{◌%◌, not, ◌&&◌, eqb, get_or, sym, ap, ◌∙◌, arith, rules}
+use Rattle.std.proofs.Common.{◌%◌, not, ◌&&◌, eqb, get_or, sym, ap, ◌∙◌, arith}
 use Rattle.tables.specs.declared.Object.{Object}
 use Rattle.inplace.specs.Bytes.Laws.{object_there}
 use Rattle.inplace.proofs.is_at.Goals as goal

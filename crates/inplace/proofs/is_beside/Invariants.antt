@@ -1,12 +1,8 @@
 -- `inplace::is_beside` meets its contract. Assumes nothing.
-use Rattle.std.proofs.Common.{◌≡◌, ℕ, ◌+◌, ◌-◌, ◌*◌, ◌%◌, ◌<◌, Bool, true, false, cond, eqb, List, get_or, sym, refl, ap, ◌∙◌, subst, arith, rules, eq-eqb, ne_eqb}
-use native.Mathlib.Decide.{ℕ_discrete, dec_lt}
-use Rattle.tables.specs.declared.Handle.{Handle}
+use Rattle.std.proofs.Common.{◌≡◌, ℕ, ◌+◌, ◌-◌, ◌%◌, ◌<◌, false, get_or}
 use Rattle.tables.specs.Records.{no_handle}
 use Rattle.handles.specs.Working.{on}
-use Rattle.passes.proofs.Raising.{true_false}
-use Rattle.inplace.specs.Bytes.{handle_of, handles_in}
-use Rattle.inplace.specs.Bytes.Laws.{handle_there}
+use Rattle.inplace.specs.Bytes.{handles_in}
 use Rattle.inplace.proofs.is_beside.Given as goal
 
 abbrev pub invariant-loop-k : goal.invariant-loop-k

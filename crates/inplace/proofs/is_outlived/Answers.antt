@@ -1,5 +1,5 @@
 -- `inplace::is_outlived` meets its contract. Assumes nothing.
-use Rattle.std.proofs.Common.{refl, inl, inr, arith, rules}
+use Rattle.std.proofs.Common.{refl, inl, inr, arith}
 use Rattle.inplace.proofs.is_outlived.Goals as goal
 
 pub returns-then-y-le-FILE : goal.returns-then-y-le-FILE

@@ -1,5 +1,5 @@
 -- `inplace::object_in` meets its contract. Assumes nothing.
-use Rattle.std.proofs.Common.{◌%◌, sym, ap, ◌∙◌, arith, rules}
+use Rattle.std.proofs.Common.{◌%◌, sym, ap, ◌∙◌, arith}
 use Rattle.tables.specs.Working.{object_at}
 use Rattle.inplace.specs.Bytes.Laws.{object_there}
 use Rattle.inplace.proofs.object_in.Goals as goal

@@ -1,5 +1,5 @@
 -- `inplace::put` meets its contract. Assumes nothing.
-use Rattle.std.proofs.Common.{ℕ, ◌+◌, ◌*◌, ◌<◌, set, ap, ◌∙◌, arith, length-set, rules}
+use Rattle.std.proofs.Common.{ℕ, ◌+◌, ◌*◌, ◌<◌, set, ap, ◌∙◌, arith, length-set}
 use Rattle.inplace.specs.Bytes.{handles_in}
 use Rattle.inplace.specs.Bytes.Laws.{handles_stored, length_stored}
 use Rattle.inplace.proofs.put.Goals as goal

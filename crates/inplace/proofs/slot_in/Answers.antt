@@ -1,5 +1,5 @@
 -- `inplace::slot_in` meets its contract. Assumes nothing.
-use Rattle.std.proofs.Common.{◌≡◌, ℕ, ◌-◌, ◌<◌, ◌≤◌, T, get_or, refl, inl, inr, arith, rules}
+use Rattle.std.proofs.Common.{◌≡◌, ℕ, T, get_or, refl, inl, inr, arith}
 use Rattle.tables.specs.Slots.{slot_used}
 use Rattle.tables.proofs.Seating.{here, missed, further}
 use Rattle.inplace.specs.Bytes.{objects_in}
@@ -8,8 +8,8 @@ use Rattle.inplace.proofs.slot_in.Goals as goal
 pub returns-then-is_at : goal.returns-then-is_at
 returns-then-is_at c =
     let a = c.args in record {
-  is = inl (here (objects_in a.objects.now) a.numbers.now a.o a.o _ _ c.is_at.ensures c.if-is_at.true refl);
-}
+      is = inl (here (objects_in a.objects.now) a.numbers.now a.o a.o _ _ c.is_at.ensures c.if-is_at.true refl);
+    }
 
 pub loop-i-init : goal.loop-i-init
 loop-i-init c = (omega arith, λ j h. absurd (omega arith))

@@ -1,7 +1,6 @@
 -- `inplace::slot_in` meets its contract. Assumes nothing.
-use Rattle.std.proofs.Common.{◌≡◌, ℕ, ◌-◌, ◌<◌, ◌≤◌, T, get_or, refl, inl, inr, arith, rules}
+use Rattle.std.proofs.Common.{◌≡◌, ℕ, ◌-◌, ◌<◌, ◌≤◌, T, get_or}
 use Rattle.tables.specs.Slots.{slot_used}
-use Rattle.tables.proofs.Seating.{here, missed, further}
 use Rattle.inplace.specs.Bytes.{objects_in}
 use Rattle.inplace.proofs.slot_in.Given as goal
 

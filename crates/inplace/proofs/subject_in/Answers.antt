@@ -1,5 +1,5 @@
 -- `inplace::subject_in` meets its contract. Assumes nothing.
-use Rattle.std.proofs.Common.{◌%◌, sym, ap, ◌∙◌, arith, rules}
+use Rattle.std.proofs.Common.{◌%◌, sym, ap, ◌∙◌, arith}
 use Rattle.tables.specs.Working.{subject_at}
 use Rattle.inplace.specs.Bytes.Laws.{subject_there}
 use Rattle.inplace.proofs.subject_in.Goals as goal

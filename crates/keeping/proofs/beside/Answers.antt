@@ -1,9 +1,6 @@
 -- `keeping::beside` meets its contract. Assumes nothing.
 use mathlib.Core.Path.{◌≡◌, ◌∙◌, ap}
-use Prim.Native.Nat.{◌-◌, ◌≤◌}
 use native.Mathlib.Omega.{arith}
-use borrow.Author.Rules.{rules}
-use Rattle.labels.specs.Codes.{coded}
 use Rattle.labels.specs.Codes.Laws.{coded_zero}
 use Rattle.passes.specs.Working.{beside_of}
 use Rattle.keeping.proofs.Joined.{joined_more}

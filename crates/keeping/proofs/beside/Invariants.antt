@@ -1,12 +1,8 @@
 -- `keeping::beside` meets its contract. Assumes nothing.
-use mathlib.Core.Path.{◌≡◌, ◌∙◌, ap}
+use mathlib.Core.Path.{◌≡◌}
 use Prim.Native.Nat.{◌-◌, ◌≤◌}
-use native.Mathlib.Omega.{arith}
-use borrow.Author.Rules.{rules}
 use Rattle.labels.specs.Codes.{coded}
-use Rattle.labels.specs.Codes.Laws.{coded_zero}
 use Rattle.passes.specs.Working.{beside_of}
-use Rattle.keeping.proofs.Joined.{joined_more}
 use Rattle.keeping.proofs.beside.Given as goal
 
 abbrev pub invariant-loop-p : goal.invariant-loop-p

@@ -1,7 +1,6 @@
 -- `keeping::closed` meets its contract. Assumes nothing.
 use mathlib.Core.Path.{◌≡◌, ◌∙◌, sym}
 use borrow.Author.Rules.{rules}
-use borrow.Author.Tests.{not-true}
 use lib.ListN.{length}
 use Rattle.tables.proofs.Maps.{unmapped}
 use Rattle.keeping.proofs.Closing.{end_figure, spare_is, backed_kept, beside_kept}

@@ -1,6 +1,5 @@
 -- `keeping::is_quiet` meets its contract. Assumes nothing.
 use mathlib.Core.Path.{◌∙◌}
-use borrow.Author.Rules.{rules}
 use Rattle.keeping.proofs.is_quiet.Goals as goal
 
 pub returns : goal.returns

@@ -2,7 +2,6 @@
 use mathlib.Core.Path.{sym, ◌∙◌, ap}
 use mathlib.Core.Bool.{◌&&◌}
 use Prim.Native.Nat.{◌%◌}
-use borrow.Author.Rules.{rules}
 use Rattle.model.specs.Sets.{within}
 use Rattle.keeping.proofs.Closing.{spare_coded}
 use Rattle.keeping.proofs.is_spare.Goals as goal

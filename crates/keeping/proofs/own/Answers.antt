@@ -1,8 +1,7 @@
 -- `keeping::own` meets its contract. Assumes nothing.
 use mathlib.Core.Path.{◌≡◌, ◌∙◌, ap}
-use Prim.Native.Nat.{ℕ, ◌%◌, ◌-◌, ◌≤◌}
+use Prim.Native.Nat.{ℕ, ◌%◌}
 use native.Mathlib.Omega.{arith}
-use borrow.Author.Rules.{rules}
 use Rattle.labels.specs.Codes.{coded}
 use Rattle.labels.specs.Codes.Laws.{coded_zero}
 use Rattle.passes.specs.Working.{all_below}

@@ -1,12 +1,9 @@
 -- `keeping::own` meets its contract. Assumes nothing.
-use mathlib.Core.Path.{◌≡◌, ◌∙◌, ap}
-use Prim.Native.Nat.{ℕ, ◌%◌, ◌-◌, ◌≤◌}
-use native.Mathlib.Omega.{arith}
-use borrow.Author.Rules.{rules}
+use mathlib.Core.Path.{◌≡◌}
+use Prim.Native.Nat.{◌%◌, ◌-◌, ◌≤◌}
 use Rattle.labels.specs.Codes.{coded}
-use Rattle.labels.specs.Codes.Laws.{coded_zero}
 use Rattle.passes.specs.Working.{all_below}
-use Rattle.keeping.proofs.Joined.{joined_more, written_by, own_is}
+use Rattle.keeping.proofs.Joined.{written_by}
 use Rattle.keeping.proofs.own.Given as goal
 
 abbrev pub invariant-loop-p : goal.invariant-loop-p

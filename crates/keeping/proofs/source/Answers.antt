@@ -1,6 +1,5 @@
 -- `keeping::source` meets its contract. Assumes nothing.
 use mathlib.Core.Path.{sym, ◌∙◌}
-use borrow.Author.Rules.{rules}
 use Rattle.keeping.proofs.source.Goals as goal
 
 pub returns-then-is_reading : goal.returns-then-is_reading

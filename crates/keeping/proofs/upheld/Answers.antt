@@ -1,6 +1,5 @@
 -- `keeping::upheld` meets its contract. Assumes nothing.
 use mathlib.Core.Path.{sym, ◌∙◌}
-use borrow.Author.Rules.{rules}
 use Rattle.labels.specs.Codes.Laws.{coded_zero}
 use Rattle.keeping.proofs.upheld.Goals as goal
 

@@ -1,6 +1,5 @@
 -- `keeping::vacated` meets its contract. Assumes nothing.
 use mathlib.Core.Path.{◌∙◌, sym, subst}
-use borrow.Author.Rules.{rules}
 use Rattle.model.specs.Tables.{Tables}
 use Rattle.model.specs.Invariant.{Wf}
 use Rattle.model.specs.Figures.{Ready}

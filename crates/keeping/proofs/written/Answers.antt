@@ -1,6 +1,5 @@
 -- `keeping::written` meets its contract. Assumes nothing.
 use mathlib.Core.Path.{sym, ◌∙◌}
-use borrow.Author.Rules.{rules}
 use Rattle.keeping.proofs.written.Goals as goal
 
 pub returns-then-is_writing : goal.returns-then-is_writing

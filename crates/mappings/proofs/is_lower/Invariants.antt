@@ -1,15 +1,10 @@
 -- `mappings::is_lower` meets its contract. Assumes nothing.
-use mathlib.Core.Path.{◌≡◌, sym, ◌∙◌}
+use mathlib.Core.Path.{◌≡◌}
 use mathlib.Core.Bool.{false}
 use Prim.Native.Nat.{ℕ, ◌-◌, ◌≤◌, ◌<◌}
-use native.Mathlib.Omega.{arith}
-use borrow.Author.Rules.{rules}
-use borrow.Author.Count.{below_more}
 use lib.ListN.{get_or}
 use Rattle.tables.specs.Records.{no_subject}
-use Rattle.tables.proofs.Maps.{unmapped}
 use Rattle.mappings.specs.Working.{sank_by}
-use Rattle.mappings.proofs.Reading.{found_lower, none_lower}
 use Rattle.mappings.proofs.is_lower.Given as goal
 
 abbrev pub invariant-loop-s : goal.invariant-loop-s

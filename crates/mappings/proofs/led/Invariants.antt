@@ -1,11 +1,8 @@
 -- `mappings::led` meets its contract. Assumes nothing.
-use mathlib.Core.Path.{refl}
 use mathlib.Core.Bool.{false}
 use Prim.Native.Nat.{◌-◌, ◌%◌, ◌≤◌}
-use native.Mathlib.Omega.{arith}
-use borrow.Author.Rules.{rules}
 use lib.ListN.{get_or}
-use Rattle.tables.proofs.Maps.{Mapped, mapped_none, mapped_more}
+use Rattle.tables.proofs.Maps.{Mapped}
 use Rattle.mappings.proofs.led.Given as goal
 
 abbrev pub invariant-loop-a : goal.invariant-loop-a

@@ -1,11 +1,9 @@
 -- `mappings::readers` meets its contract. Assumes nothing.
 use mathlib.Core.Path.{◌≡◌}
-use Prim.Native.Nat.{◌-◌, ◌/◌, ◌%◌, ◌≤◌}
+use Prim.Native.Nat.{◌/◌, ◌%◌}
 use native.Mathlib.Omega.{arith}
-use borrow.Author.Rules.{rules}
 use lib.ListN.{get_or}
 use Rattle.tables.specs.Records.{no_handle}
-use Rattle.handles.specs.Working.{Hits}
 use Rattle.mappings.specs.Working.{reader_slot}
 use Rattle.handles.proofs.Hitting.{hits_none, hits_more}
 use Rattle.mappings.proofs.Reading.{slot_below}

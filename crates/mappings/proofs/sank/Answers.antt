@@ -1,7 +1,6 @@
 -- `mappings::sank` meets its contract. Assumes nothing.
 use mathlib.Core.Path.{◌∙◌, ap, ap₂}
 use mathlib.Core.Bool.{not}
-use borrow.Author.Rules.{rules}
 use borrow.Author.Tests.{eq-eqb, ne_eqb}
 use Rattle.model.specs.Label.{leq}
 use Rattle.mappings.proofs.sank.Goals as goal

@@ -1,10 +1,7 @@
 -- `passes::listed` meets its contract. Assumes nothing.
 use mathlib.Core.Path.{◌≡◌, refl, sym, ◌∙◌}
-use mathlib.Core.Logic.{⊎_elim}
-use Prim.Native.Nat.{◌+◌, ◌*◌, ◌-◌, ◌≤◌}
 use native.Mathlib.Omega.{arith}
 use borrow.Author.Rules.{rules}
-use Rattle.passes.specs.Listing.{Listed}
 use Rattle.passes.proofs.Listing.{none_listed, nowhere, reads_from, reads_to, writes_from, writes_to, leave, put, listed_as}
 use Rattle.passes.proofs.listed.Goals as goal
 

@@ -1,11 +1,6 @@
 -- `passes::listed` meets its contract. Assumes nothing.
-use mathlib.Core.Path.{◌≡◌, refl, sym, ◌∙◌}
-use mathlib.Core.Logic.{⊎_elim}
 use Prim.Native.Nat.{◌+◌, ◌*◌, ◌-◌, ◌≤◌}
-use native.Mathlib.Omega.{arith}
-use borrow.Author.Rules.{rules}
 use Rattle.passes.specs.Listing.{Listed}
-use Rattle.passes.proofs.Listing.{none_listed, nowhere, reads_from, reads_to, writes_from, writes_to, leave, put, listed_as}
 use Rattle.passes.proofs.listed.Given as goal
 
 abbrev pub invariant-loop-p : goal.invariant-loop-p

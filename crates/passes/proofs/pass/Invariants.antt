@@ -1,14 +1,7 @@
 -- `passes::pass` meets its contract. Assumes nothing.
-use mathlib.Core.Path.{◌≡◌, refl}
-use mathlib.Core.Logic.{⊎_elim}
 use Prim.Native.Nat.{ℕ, ◌-◌, ◌≤◌, ◌<◌}
-use native.Mathlib.Omega.{arith}
-use borrow.Author.Rules.{rules}
-use borrow.Author.Tests.{not-true, not-false}
-use lib.ListN.{length}
 use Rattle.model.specs.Label.{◌⊑◌}
 use Rattle.passes.specs.Least.{figure, end_at, Passed, Before}
-use Rattle.passes.proofs.Raising.{start, keep_on, grow_at, next_before, split_before, settled_more, holds, fails}
 use Rattle.passes.proofs.pass.Given as goal
 
 abbrev pub invariant-loop-i-2 : goal.invariant-loop-i-2

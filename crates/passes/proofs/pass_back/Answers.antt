@@ -1,13 +1,10 @@
 -- `passes::pass_back` meets its contract. Assumes nothing.
 use mathlib.Core.Path.{◌≡◌, refl}
-use mathlib.Core.Logic.{⊎_elim}
-use Prim.Native.Nat.{ℕ, ◌-◌, ◌≤◌, ◌<◌}
+use Prim.Native.Nat.{◌-◌, ◌<◌}
 use native.Mathlib.Omega.{arith}
 use borrow.Author.Rules.{rules}
-use borrow.Author.Tests.{not-true, not-false}
 use lib.ListN.{length}
-use Rattle.model.specs.Label.{◌⊑◌}
-use Rattle.passes.specs.Least.{figure, end_at, Passed, Behind}
+use Rattle.passes.specs.Least.{end_at, Behind}
 use Rattle.passes.proofs.Raising.{start, keep_on, grow_at, next_behind, split_behind, settled_less, all_done, holds, fails}
 use Rattle.passes.proofs.pass_back.Goals as goal
 

@@ -1,14 +1,7 @@
 -- `passes::pass_back` meets its contract. Assumes nothing.
-use mathlib.Core.Path.{◌≡◌, refl}
-use mathlib.Core.Logic.{⊎_elim}
-use Prim.Native.Nat.{ℕ, ◌-◌, ◌≤◌, ◌<◌}
-use native.Mathlib.Omega.{arith}
-use borrow.Author.Rules.{rules}
-use borrow.Author.Tests.{not-true, not-false}
-use lib.ListN.{length}
+use Prim.Native.Nat.{ℕ, ◌≤◌, ◌<◌}
 use Rattle.model.specs.Label.{◌⊑◌}
 use Rattle.passes.specs.Least.{figure, end_at, Passed, Behind}
-use Rattle.passes.proofs.Raising.{start, keep_on, grow_at, next_behind, split_behind, settled_less, all_done, holds, fails}
 use Rattle.passes.proofs.pass_back.Given as goal
 
 abbrev pub invariant-loop-left-2 : goal.invariant-loop-left-2

@@ -1,13 +1,12 @@
 -- `passes::worked` meets its contract. Assumes nothing.
 use mathlib.Core.Path.{sym}
-use Prim.Native.Nat.{ℕ, ◌-◌, ◌≤◌}
+use Prim.Native.Nat.{ℕ, ◌≤◌}
 use native.Mathlib.Omega.{arith}
 use borrow.Author.Rules.{rules}
 use borrow.Author.Tests.{not-true, not-false}
 use lib.ListN.{get_or}
 use mir.Val.{Fits}
 use mir.Syntax.{w16}
-use Rattle.passes.specs.Least.{end_at, Between, sum}
 use Rattle.passes.proofs.Raising.{none_yet, then, stop, falls, holds, true_false}
 use Rattle.passes.proofs.worked.Goals as goal
 
@@ -25,10 +24,10 @@ is_at_most-requires c = tt
 
 pub returns-then-is_at_most : goal.returns-then-is_at_most
 returns-then-is_at_most c = record {
-    between = then _ _ _ _ _ _ _ c.loop-e.invariant c.pass-p.ensures;
-    still = λ e. true_false (sym e);
-    stopped = λ e. (c.if-stops.true, holds c.is_at_most.ensures c.if-is_at_most.true);
-  }
+  between = then _ _ _ _ _ _ _ c.loop-e.invariant c.pass-p.ensures;
+  still = λ e. true_false (sym e);
+  stopped = λ e. (c.if-stops.true, holds c.is_at_most.ensures c.if-is_at_most.true);
+}
 
 pub returns-then-not-q : goal.returns-then-not-q
 returns-then-not-q c =

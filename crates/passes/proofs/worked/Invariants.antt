@@ -1,14 +1,6 @@
 -- `passes::worked` meets its contract. Assumes nothing.
-use mathlib.Core.Path.{sym}
-use Prim.Native.Nat.{ℕ, ◌-◌, ◌≤◌}
-use native.Mathlib.Omega.{arith}
-use borrow.Author.Rules.{rules}
-use borrow.Author.Tests.{not-true, not-false}
-use lib.ListN.{get_or}
-use mir.Val.{Fits}
-use mir.Syntax.{w16}
+use Prim.Native.Nat.{◌-◌}
 use Rattle.passes.specs.Least.{end_at, Between, sum}
-use Rattle.passes.proofs.Raising.{none_yet, then, stop, falls, holds, true_false}
 use Rattle.passes.proofs.worked.Given as goal
 
 abbrev pub invariant-loop-e : goal.invariant-loop-e

@@ -2,8 +2,6 @@
 use mathlib.Core.Path.{refl, sym, ◌∙◌, ap, ap₂}
 use Prim.Native.Nat.{ℕ}
 use native.Mathlib.Omega.{arith}
-use borrow.Author.Rules.{rules}
-use borrow.Author.Tests.{not-true, not-false}
 use lib.Dec.{eqb}
 use Rattle.tables.specs.Working.{joining}
 use Rattle.labels.specs.Codes.{coded}
@@ -17,10 +15,10 @@ use Rattle.quick.proofs.opened.Goals as goal
 pub returns-then-not-whole : goal.returns-then-not-whole
 returns-then-not-whole c =
     λ gs lg. (
-  λ l. absurd (omega arith),
-  λ e. (refl, refl),
-  λ i w one h. true_false (sym (c.are_whole-whole.ensures.1 (w.subjects, w.objects, w.handles, w.needs, w.counts)) ∙ c.if-not-whole.true),
-)
+      λ l. absurd (omega arith),
+      λ e. (refl, refl),
+      λ i w one h. true_false (sym (c.are_whole-whole.ensures.1 (w.subjects, w.objects, w.handles, w.needs, w.counts)) ∙ c.if-not-whole.true),
+    )
 
 pub returns-then-numbers-ne-OBJECTS : goal.returns-then-numbers-ne-OBJECTS
 returns-then-numbers-ne-OBJECTS c = λ gs lg. (λ l. absurd (omega arith), λ e. (refl, refl), λ i w one h. absurd (c.if-numbers-ne-OBJECTS.true w.numbers))

@@ -1,11 +1,11 @@
 -- `run::run` meets its contract. Assumes nothing.
 use mathlib.Core.Path.{◌≡◌, refl, ◌∙◌, subst}
-use Prim.Native.Nat.{ℕ, ◌+◌, ◌*◌, ◌-◌, ◌/◌, ◌≤◌}
+use Prim.Native.Nat.{ℕ, ◌+◌, ◌*◌, ◌/◌}
 use native.Mathlib.Omega.{arith}
 use borrow.Author.Rules.{rules}
 use lib.ListN.{length, set, length-set}
 use Rattle.answers.specs.Telling.{told}
-use Rattle.gatekeeper.specs.View.{view, Honest, Right}
+use Rattle.gatekeeper.specs.View.{view}
 use Rattle.gatekeeper.specs.View.Laws.{honest_tidy}
 use Rattle.run.specs.Buffers.{lesser}
 use Rattle.run.specs.Buffers.Laws.{lesser_left, lesser_right, SoFar, so_far_none, so_far_more, run_demand3}

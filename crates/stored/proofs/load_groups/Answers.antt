@@ -1,10 +1,8 @@
 -- `stored::load_groups` meets its contract. Assumes nothing.
 use mathlib.Core.Path.{refl}
-use Prim.Native.Nat.{◌-◌}
 use native.Mathlib.Omega.{arith}
-use borrow.Author.Rules.{rules}
 use Rattle.stored.specs.State.{byte_width, byte_of, groups_at, groups_of}
-use Rattle.stored.proofs.Loading.{Loaded, loaded_none, loaded_byte, loaded_all}
+use Rattle.stored.proofs.Loading.{loaded_none, loaded_byte, loaded_all}
 use Rattle.stored.proofs.load_groups.Goals as goal
 
 pub loop-i-init : goal.loop-i-init

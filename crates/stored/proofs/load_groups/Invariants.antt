@@ -1,10 +1,7 @@
 -- `stored::load_groups` meets its contract. Assumes nothing.
-use mathlib.Core.Path.{refl}
 use Prim.Native.Nat.{◌-◌}
-use native.Mathlib.Omega.{arith}
-use borrow.Author.Rules.{rules}
-use Rattle.stored.specs.State.{byte_width, byte_of, groups_at, groups_of}
-use Rattle.stored.proofs.Loading.{Loaded, loaded_none, loaded_byte, loaded_all}
+use Rattle.stored.specs.State.{byte_width, byte_of, groups_at}
+use Rattle.stored.proofs.Loading.{Loaded}
 use Rattle.stored.proofs.load_groups.Given as goal
 
 abbrev pub invariant-loop-i : goal.invariant-loop-i

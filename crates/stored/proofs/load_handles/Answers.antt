@@ -1,11 +1,9 @@
 -- `stored::load_handles` meets its contract. Assumes nothing.
 use mathlib.Core.Path.{refl}
-use Prim.Native.Nat.{◌-◌}
 use native.Mathlib.Omega.{arith}
-use borrow.Author.Rules.{rules}
 use Rattle.tables.specs.Records.{no_handle}
 use Rattle.stored.specs.State.{handle_width, handles_at, handle_of, handles_of}
-use Rattle.stored.proofs.Loading.{Loaded, loaded_none, loaded_more, loaded_all}
+use Rattle.stored.proofs.Loading.{loaded_none, loaded_more, loaded_all}
 use Rattle.stored.proofs.load_handles.Goals as goal
 
 pub loop-i-init : goal.loop-i-init

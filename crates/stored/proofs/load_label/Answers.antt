@@ -3,7 +3,6 @@ use mathlib.Core.Path.{◌≡◌, sym, ap, ◌∙◌}
 use Prim.Native.Nat.{◌+◌, ◌*◌}
 use native.Mathlib.Omega.{arith}
 use lib.ListN.{get_or}
-use borrow.Author.Rules.{rules}
 use Rattle.stored.specs.State.{whole}
 use Rattle.stored.proofs.Loading.{bytes_taken}
 use Rattle.stored.proofs.load_label.Goals as goal

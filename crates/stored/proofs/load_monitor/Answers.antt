@@ -1,5 +1,4 @@
 -- `stored::load_monitor` meets its contract. Assumes nothing.
-use borrow.Author.Rules.{rules}
 use Rattle.stored.specs.State.{freeze_of}
 use Rattle.stored.proofs.load_monitor.Goals as goal
 

@@ -4,7 +4,7 @@ use Prim.Native.Nat.{◌+◌, ◌-◌, ◌<◌}
 use lib.ListN.{get_or}
 use native.Mathlib.Omega.{arith}
 use borrow.Author.Rules.{rules}
-use Rattle.stored.proofs.Loading.{Summed, summed_none, summed_room, summed_more, summed_all}
+use Rattle.stored.proofs.Loading.{summed_none, summed_room, summed_more, summed_all}
 use Rattle.stored.proofs.load_number.Goals as goal
 
 pub loop-left-init : goal.loop-left-init

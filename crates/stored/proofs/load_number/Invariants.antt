@@ -1,9 +1,5 @@
 -- `stored::load_number` meets its contract. Assumes nothing.
-use mathlib.Core.Path.{refl}
-use Prim.Native.Nat.{◌+◌, ◌-◌}
-use native.Mathlib.Omega.{arith}
-use borrow.Author.Rules.{rules}
-use Rattle.stored.proofs.Loading.{Summed, summed_none, summed_room, summed_more, summed_all}
+use Rattle.stored.proofs.Loading.{Summed}
 use Rattle.stored.proofs.load_number.Given as goal
 
 abbrev pub invariant-loop-left : goal.invariant-loop-left

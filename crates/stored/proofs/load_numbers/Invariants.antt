@@ -1,10 +1,7 @@
 -- `stored::load_numbers` meets its contract. Assumes nothing.
-use mathlib.Core.Path.{refl}
 use Prim.Native.Nat.{◌-◌}
-use native.Mathlib.Omega.{arith}
-use borrow.Author.Rules.{rules}
-use Rattle.stored.specs.State.{number_width, whole, numbers_at, numbers_of}
-use Rattle.stored.proofs.Loading.{Loaded, loaded_none, loaded_part, loaded_all}
+use Rattle.stored.specs.State.{number_width, whole, numbers_at}
+use Rattle.stored.proofs.Loading.{Loaded}
 use Rattle.stored.proofs.load_numbers.Given as goal
 
 abbrev pub invariant-loop-i : goal.invariant-loop-i

@@ -1,11 +1,8 @@
 -- `stored::load_subjects` meets its contract. Assumes nothing.
-use mathlib.Core.Path.{refl}
 use Prim.Native.Nat.{◌-◌}
-use native.Mathlib.Omega.{arith}
-use borrow.Author.Rules.{rules}
 use Rattle.tables.specs.Records.{no_subject}
-use Rattle.stored.specs.State.{subject_width, subject_of, subjects_of}
-use Rattle.stored.proofs.Loading.{Loaded, loaded_none, loaded_more, loaded_all}
+use Rattle.stored.specs.State.{subject_width, subject_of}
+use Rattle.stored.proofs.Loading.{Loaded}
 use Rattle.stored.proofs.load_subjects.Given as goal
 
 abbrev pub invariant-loop-i : goal.invariant-loop-i

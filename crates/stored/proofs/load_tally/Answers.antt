@@ -1,5 +1,4 @@
 -- `stored::load_tally` meets its contract. Assumes nothing.
-use borrow.Author.Rules.{rules}
 use Rattle.stored.specs.State.{made_of, gone_of}
 use Rattle.stored.proofs.load_tally.Goals as goal
 

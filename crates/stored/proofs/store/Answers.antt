@@ -2,8 +2,7 @@
 use mathlib.Core.Path.{refl, sym, ap, ap₂, ◌∙◌, subst}
 use mathlib.Core.List.{List}
 use Prim.Native.Nat.{ℕ}
-use lib.ListN.{length, length-set}
-use borrow.Author.Rules.{rules}
+use lib.ListN.{length}
 use Rattle.gatekeeper.specs.View.{view, Right, Whole}
 use Rattle.stored.specs.State.{monitor_of, tally_of, bytes_of}
 use Rattle.stored.specs.State.Laws.{Slim, bytes_length, view_back, right_back, whole_back, tally_back, bytes_again}

@@ -1,12 +1,7 @@
 -- `stored::store_groups` meets its contract. Assumes nothing.
-use mathlib.Core.Path.{◌≡◌, refl}
-use mathlib.Core.List.{[], ◌∷◌}
 use Prim.Native.Nat.{◌-◌}
-use native.Mathlib.Omega.{arith}
-use lib.ListN.{length}
-use borrow.Author.Rules.{rules}
-use Rattle.stored.specs.State.{byte_width, byte_record, groups_at, group_bytes}
-use Rattle.stored.proofs.Storing.{Laid, laid_none, laid_long, laid_more, laid_all}
+use Rattle.stored.specs.State.{byte_width, byte_record, groups_at}
+use Rattle.stored.proofs.Storing.{Laid}
 use Rattle.stored.proofs.store_groups.Given as goal
 
 abbrev pub invariant-loop-i : goal.invariant-loop-i

@@ -1,9 +1,7 @@
 -- `stored::store_number` meets its contract. Assumes nothing.
 use mathlib.Core.Path.{refl}
-use Prim.Native.Nat.{◌-◌}
 use native.Mathlib.Omega.{arith}
-use borrow.Author.Rules.{rules}
-use Rattle.stored.proofs.Storing.{Spelt, spelt_none, spelt_long, spelt_more, spelt_all}
+use Rattle.stored.proofs.Storing.{spelt_none, spelt_long, spelt_more, spelt_all}
 use Rattle.stored.proofs.store_number.Goals as goal
 
 pub loop-k-init : goal.loop-k-init

@@ -1,9 +1,6 @@
 -- `stored::store_number` meets its contract. Assumes nothing.
-use mathlib.Core.Path.{refl}
 use Prim.Native.Nat.{◌-◌}
-use native.Mathlib.Omega.{arith}
-use borrow.Author.Rules.{rules}
-use Rattle.stored.proofs.Storing.{Spelt, spelt_none, spelt_long, spelt_more, spelt_all}
+use Rattle.stored.proofs.Storing.{Spelt}
 use Rattle.stored.proofs.store_number.Given as goal
 
 abbrev pub invariant-loop-k : goal.invariant-loop-k

@@ -1,5 +1,5 @@
 -- `tally::count` meets its contract. Assumes nothing.
-use Rattle.std.proofs.Common.{◌≡◌, ◌-◌, ◌<◌, ◌≤◌, Bool, cond, length, get_or, sym, refl, ap, ◌∙◌, arith, rules, lt-ltb}
+use Rattle.std.proofs.Common.{◌≡◌, ◌<◌, Bool, cond, length, get_or, sym, refl, ap, ◌∙◌, arith, lt-ltb}
 use mathlib.Core.Option.{none}
 use Rattle.model.specs.Tables.{one}
 use Rattle.tables.specs.Records.{held, along, no_handle}
@@ -12,12 +12,12 @@ loop-p-init c = (omega arith, refl, omega arith)
 pub overflow_add-n : goal.overflow_add-n
 overflow_add-n c =
     omega (
-  arith,
-  c.one-k.ensures,
-  one_short (held (get_or c.args.row
-      c.loop-p.p no_handle)),
-  c.loop-p.invariant.2,
-)
+      arith,
+      c.one-k.ensures,
+      one_short (held (get_or c.args.row
+          c.loop-p.p no_handle)),
+      c.loop-p.invariant.2,
+    )
 
 pub loop-p-preserved : goal.loop-p-preserved
 loop-p-preserved c =

@@ -1,9 +1,7 @@
 -- `tally::count` meets its contract. Assumes nothing.
-use Rattle.std.proofs.Common.{◌≡◌, ◌-◌, ◌<◌, ◌≤◌, Bool, cond, length, get_or, sym, refl, ap, ◌∙◌, arith, rules, lt-ltb}
-use mathlib.Core.Option.{none}
-use Rattle.model.specs.Tables.{one}
-use Rattle.tables.specs.Records.{held, along, no_handle}
-use Rattle.tally.proofs.Counting.{held_below, held_more, one_short}
+use Rattle.std.proofs.Common.{◌≡◌, ◌-◌, ◌≤◌}
+use Rattle.tables.specs.Records.{along}
+use Rattle.tally.proofs.Counting.{held_below}
 use Rattle.tally.proofs.count.Given as goal
 
 abbrev pub invariant-loop-p : goal.invariant-loop-p

@@ -1,5 +1,5 @@
 -- `tally::count_of` meets its contract. Assumes nothing.
-use Rattle.std.proofs.Common.{◌≡◌, ◌-◌, ◌≤◌, refl, ap, ◌∙◌, arith, rules}
+use Rattle.std.proofs.Common.{◌≡◌, refl, ap, ◌∙◌, arith}
 use Rattle.tally.proofs.Counting.{held_below, held_more, one_short, going, rows_are}
 use Rattle.tally.proofs.count_of.Goals as goal
 

@@ -1,6 +1,6 @@
 -- `tally::count_of` meets its contract. Assumes nothing.
-use Rattle.std.proofs.Common.{◌≡◌, ◌-◌, ◌≤◌, refl, ap, ◌∙◌, arith, rules}
-use Rattle.tally.proofs.Counting.{held_below, held_more, one_short, going, rows_are}
+use Rattle.std.proofs.Common.{◌≡◌, ◌-◌, ◌≤◌}
+use Rattle.tally.proofs.Counting.{held_below, going}
 use Rattle.tally.proofs.count_of.Given as goal
 
 abbrev pub invariant-loop-i : goal.invariant-loop-i

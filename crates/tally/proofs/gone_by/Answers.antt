@@ -1,5 +1,5 @@
 -- `tally::gone_by` meets its contract. Assumes nothing.
-use Rattle.std.proofs.Common.{refl, rules, eq-eqb, ne_eqb}
+use Rattle.std.proofs.Common.{refl, eq-eqb, ne_eqb}
 use Rattle.tally.proofs.Pick.{here, past}
 use Rattle.tally.proofs.gone_by.Goals as goal
 

@@ -1,5 +1,5 @@
 -- `tally::handles_by` meets its contract. Assumes nothing.
-use Rattle.std.proofs.Common.{◌≡◌, List, sym, ap, ◌∙◌, subst, rules}
+use Rattle.std.proofs.Common.{◌≡◌, List, sym, ap, ◌∙◌, subst}
 use Rattle.model.specs.Tables.{clean}
 use Rattle.model.proofs.Invariant.Laws.{clean_same}
 use Rattle.tables.specs.declared.Object.{Object}

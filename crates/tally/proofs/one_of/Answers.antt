@@ -1,5 +1,4 @@
 -- `tally::one_of` meets its contract. Assumes nothing.
-use Rattle.std.proofs.Common.{rules}
 use Rattle.tally.proofs.one_of.Goals as goal
 
 pub returns-then-goes : goal.returns-then-goes

@@ -1,5 +1,5 @@
 -- `tally::ousted_by` meets its contract. Assumes nothing.
-use Rattle.std.proofs.Common.{◌≡◌, ℕ, ◌%◌, sym, refl, ap, ◌∙◌, arith, rules}
+use Rattle.std.proofs.Common.{◌≡◌, ℕ, ◌%◌, sym, refl, ap, ◌∙◌, arith}
 use Rattle.model.specs.Flow.{subject}
 use Rattle.model.specs.Tables.{mates, clean}
 use Rattle.model.specs.Tally.{ousted}

@@ -1,5 +1,5 @@
 -- `tally::row_by` meets its contract. Assumes nothing.
-use Rattle.std.proofs.Common.{sym, ◌∙◌, arith, rules}
+use Rattle.std.proofs.Common.{sym, ◌∙◌, arith}
 use Rattle.model.specs.Tables.{clean}
 use Rattle.gatekeeper.specs.View.{slots, once}
 use Rattle.gatekeeper.proofs.Owned.{owned_long}

@@ -1,5 +1,5 @@
 -- `tally::shed_by` meets its contract. Assumes nothing.
-use Rattle.std.proofs.Common.{ℕ, ◌+◌, ap₂, arith, rules}
+use Rattle.std.proofs.Common.{ℕ, ◌+◌, ap₂, arith}
 use Rattle.tally.proofs.shed_by.Goals as goal
 
 pub overflow_add-result : goal.overflow_add-result

@@ -1,5 +1,5 @@
 -- `tally::tallied_call` meets its contract. Assumes nothing.
-use Rattle.std.proofs.Common.{◌+◌, sym, refl, ap, ◌∙◌, rules}
+use Rattle.std.proofs.Common.{◌+◌, sym, refl, ap, ◌∙◌}
 use Rattle.model.specs.Tables.{clean}
 use Rattle.model.specs.Calls.{decode}
 use Rattle.model.specs.Tally.{wrapped}

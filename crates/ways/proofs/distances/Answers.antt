@@ -1,7 +1,5 @@
 -- `ways::distances` meets its contract. Assumes nothing.
-use borrow.Author.Rules.{rules}
 use borrow.Author.Tests.{not-true, not-false}
-use Rattle.ways.specs.Near.{figure, Falls, sum}
 use Rattle.ways.proofs.Nearing.{none_fell, falls_on}
 use Rattle.ways.proofs.distances.Goals as goal
 

@@ -1,9 +1,6 @@
 -- `ways::drawn` meets its contract. Assumes nothing.
 use Prim.Native.Nat.{◌-◌, ◌≤◌}
-use native.Mathlib.Omega.{arith}
-use borrow.Author.Rules.{rules}
 use Rattle.ways.specs.Working.{Drawn}
-use Rattle.ways.proofs.Drawing.{none_drawn, one_drawn}
 use Rattle.ways.proofs.drawn.Given as goal
 
 abbrev pub invariant-loop-i : goal.invariant-loop-i

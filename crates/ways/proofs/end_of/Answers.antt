@@ -1,6 +1,5 @@
 -- `ways::end_of` meets its contract. Assumes nothing.
 use mathlib.Core.Path.{sym, ◌∙◌}
-use borrow.Author.Rules.{rules}
 use Rattle.ways.proofs.Drawing.{empty_end, open_end}
 use Rattle.ways.proofs.end_of.Goals as goal
 

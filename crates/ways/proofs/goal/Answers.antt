@@ -1,7 +1,6 @@
 -- `ways::goal` meets its contract. Assumes nothing.
 use mathlib.Core.Path.{refl, sym}
-use borrow.Author.Rules.{rules}
-use borrow.Author.Tests.{ne_eqb, not-true, not-false}
+use borrow.Author.Tests.{ne_eqb}
 use Rattle.ways.proofs.Aiming.{file_figure}
 use Rattle.ways.proofs.goal.Goals as goal
 

@@ -1,9 +1,6 @@
 -- `ways::goals` meets its contract. Assumes nothing.
-use Prim.Native.Nat.{◌-◌, ◌≤◌}
 use native.Mathlib.Omega.{arith}
 use borrow.Author.Rules.{rules}
-use Rattle.labels.specs.Codes.{coded}
-use Rattle.ways.specs.Working.{Aimed}
 use Rattle.ways.proofs.Aiming.{none_aimed, one_aimed}
 use Rattle.ways.proofs.goals.Goals as goal
 

@@ -1,7 +1,6 @@
 -- `ways::is_live` meets its contract. Assumes nothing.
 use mathlib.Core.Path.{refl}
 use native.Mathlib.Omega.{arith}
-use borrow.Author.Rules.{rules}
 use borrow.Author.Tests.{lt-ltb, le-ltb}
 use Rattle.ways.proofs.is_live.Goals as goal
 

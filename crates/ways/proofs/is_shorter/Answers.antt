@@ -1,7 +1,6 @@
 -- `ways::is_shorter` meets its contract. Assumes nothing.
 use mathlib.Core.Bool.{Bool, not, ◌&&◌}
 use mathlib.Core.Path.{◌∙◌, ap}
-use borrow.Author.Rules.{rules}
 use lib.Dec.{eqb}
 use Rattle.ways.proofs.is_shorter.Goals as goal
 

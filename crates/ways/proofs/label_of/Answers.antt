@@ -1,6 +1,5 @@
 -- `ways::label_of` meets its contract. Assumes nothing.
 use native.Mathlib.Omega.{arith}
-use borrow.Author.Rules.{rules}
 use borrow.Author.Tests.{lt-ltb, le-ltb}
 use Rattle.ways.proofs.label_of.Goals as goal
 

@@ -1,14 +1,6 @@
 -- `ways::nearer` meets its contract. Assumes nothing.
-use mathlib.Core.Logic.{⊎_elim}
-use mathlib.Core.Path.{◌≡◌, sym}
 use Prim.Native.Nat.{◌-◌, ◌≤◌}
-use native.Mathlib.Omega.{arith}
-use borrow.Author.Rules.{rules}
-use lib.ListN.{length, get_or}
-use mir.Syntax.{w8}
-use mir.Val.{Fits}
 use Rattle.ways.specs.Near.{figure, Neared}
-use Rattle.ways.proofs.Nearing.{start, keep, shrink, neared_as, no_nearer, yes_nearer}
 use Rattle.ways.proofs.nearer.Given as goal
 
 abbrev pub invariant-loop-i : goal.invariant-loop-i

@@ -1,8 +1,7 @@
 -- `ways::nearest` meets its contract. Assumes nothing.
 use mathlib.Core.Path.{sym, subst}
-use Prim.Native.Nat.{◌+◌, ◌-◌, ◌≤◌}
+use Prim.Native.Nat.{◌+◌}
 use native.Mathlib.Omega.{arith}
-use borrow.Author.Rules.{rules}
 use Rattle.ways.specs.Paths.{Stands}
 use Rattle.ways.specs.Working.{Below}
 use Rattle.ways.proofs.Finding.{Says, none_found, found_by, best_found}

@@ -1,11 +1,8 @@
 -- `ways::nearest` meets its contract. Assumes nothing.
-use mathlib.Core.Path.{sym, subst}
-use Prim.Native.Nat.{◌+◌, ◌-◌, ◌≤◌}
-use native.Mathlib.Omega.{arith}
-use borrow.Author.Rules.{rules}
+use Prim.Native.Nat.{◌-◌, ◌≤◌}
 use Rattle.ways.specs.Paths.{Stands}
 use Rattle.ways.specs.Working.{Below}
-use Rattle.ways.proofs.Finding.{Says, none_found, found_by, best_found}
+use Rattle.ways.proofs.Finding.{Says}
 use Rattle.ways.proofs.nearest.Given as goal
 
 abbrev pub invariant-loop-x : goal.invariant-loop-x

@@ -1,6 +1,5 @@
 -- `ways::shorter` meets its contract. Assumes nothing.
 use mathlib.Core.Path.{refl, sym}
-use borrow.Author.Rules.{rules}
 use Rattle.ways.proofs.shorter.Goals as goal
 
 pub returns-then-is_shorter : goal.returns-then-is_shorter

@@ -1,9 +1,7 @@
 -- `ways::step` meets its contract. Assumes nothing.
 use Prim.Native.Nat.{◌-◌, ◌≤◌}
-use native.Mathlib.Omega.{arith}
-use borrow.Author.Rules.{rules}
 use Rattle.ways.specs.Near.{figure}
-use Rattle.ways.proofs.Walking.{NoneBelow, is_one, is_none, scan_more, scan_none}
+use Rattle.ways.proofs.Walking.{NoneBelow}
 use Rattle.ways.proofs.step.Given as goal
 
 abbrev pub invariant-loop-arc : goal.invariant-loop-arc

@@ -1,10 +1,10 @@
 -- `ways::walk` meets its contract. Assumes nothing.
 use mathlib.Core.Path.{◌≡◌, refl, subst}
-use Prim.Native.Nat.{ℕ, ◌+◌, ◌≤◌, ◌<◌}
+use Prim.Native.Nat.{ℕ, ◌+◌, ◌≤◌}
 use native.Mathlib.Omega.{arith}
 use borrow.Author.Rules.{rules}
-use lib.ListN.{length, take, length-set}
-use Rattle.ways.specs.Near.{figure, Walk, there}
+use lib.ListN.{length-set}
+use Rattle.ways.specs.Near.{figure, there}
 use Rattle.ways.proofs.Walking.{walk_more}
 use Rattle.ways.proofs.walk.Goals as goal
 

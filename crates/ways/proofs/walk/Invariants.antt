@@ -1,11 +1,8 @@
 -- `ways::walk` meets its contract. Assumes nothing.
-use mathlib.Core.Path.{◌≡◌, refl, subst}
-use Prim.Native.Nat.{ℕ, ◌+◌, ◌≤◌, ◌<◌}
-use native.Mathlib.Omega.{arith}
-use borrow.Author.Rules.{rules}
-use lib.ListN.{length, take, length-set}
-use Rattle.ways.specs.Near.{figure, Walk, there}
-use Rattle.ways.proofs.Walking.{walk_more}
+use mathlib.Core.Path.{◌≡◌}
+use Prim.Native.Nat.{◌+◌, ◌<◌}
+use lib.ListN.{length, take}
+use Rattle.ways.specs.Near.{figure, Walk}
 use Rattle.ways.proofs.walk.Given as goal
 
 abbrev pub invariant-loop-at : goal.invariant-loop-at

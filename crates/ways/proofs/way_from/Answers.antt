@@ -1,6 +1,5 @@
 -- `ways::way_from` meets its contract. Assumes nothing.
 use native.Mathlib.Omega.{arith}
-use borrow.Author.Rules.{rules}
 use Rattle.ways.proofs.Drawing.{bounded}
 use Rattle.ways.proofs.Finding.{sloped, far_found, walked_found}
 use Rattle.ways.proofs.way_from.Goals as goal

@@ -1,6 +1,5 @@
 -- `ways::way_of` meets its contract. Assumes nothing.
 use mathlib.Core.Path.{sym, ◌∙◌, subst}
-use borrow.Author.Rules.{rules}
 use Rattle.model.specs.Label.{Label}
 use Rattle.ways.specs.Paths.{Goal}
 use Rattle.ways.proofs.Aiming.{own_no_goal}

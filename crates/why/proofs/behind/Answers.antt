@@ -2,7 +2,6 @@
 use native.Mathlib.Omega.{arith}
 use Rattle.model.specs.Calls.{decode}
 use Rattle.why.proofs.Sought.{none_other}
-use borrow.Author.Rules.{rules}
 use Rattle.why.proofs.behind.Goals as goal
 
 pub returns-in-5 : goal.returns-in-5

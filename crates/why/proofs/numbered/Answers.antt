@@ -1,6 +1,5 @@
 -- `why::numbered` meets its contract. Assumes nothing.
 use Rattle.why.proofs.Telling.{from_none, from_subject, from_object}
-use borrow.Author.Rules.{rules}
 use Rattle.why.proofs.numbered.Goals as goal
 
 pub returns-then-w-eq0 : goal.returns-then-w-eq0

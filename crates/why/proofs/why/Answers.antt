@@ -1,7 +1,6 @@
 -- `why::why` meets its contract. Assumes nothing.
 use mathlib.Core.Path.{sym, ◌∙◌, subst}
 use native.Mathlib.Omega.{arith}
-use borrow.Author.Tests.{not-true, not-false}
 use Rattle.model.specs.Tables.{clean}
 use Rattle.model.specs.Calls.{decode}
 use Rattle.answers.specs.Telling.{told}
@@ -10,7 +9,6 @@ use Rattle.gatekeeper.proofs.Owned.{owned_long}
 use Rattle.why.specs.Why.{Explains}
 use Rattle.why.proofs.Telling.{told_few}
 use Rattle.why.proofs.Explaining.{apart, explained, answered_nine, answered_other}
-use borrow.Author.Rules.{rules}
 use Rattle.why.proofs.why.Goals as goal
 
 pub returns-then-not-is_nine : goal.returns-then-not-is_nine

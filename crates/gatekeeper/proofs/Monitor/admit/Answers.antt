@@ -5,7 +5,6 @@ use Rattle.gatekeeper.specs.View.{slots}
 use Rattle.gatekeeper.proofs.Acting.{stops, goes}
 use Rattle.gatekeeper.proofs.Owned.{owned_long}
 use Rattle.gatekeeper.proofs.Storing.{subject_got, admits}
-use borrow.Author.Rules.{rules}
 use Rattle.gatekeeper.proofs.Monitor.admit.Goals as goal
 
 pub returns-then-n-ne0 : goal.returns-then-n-ne0

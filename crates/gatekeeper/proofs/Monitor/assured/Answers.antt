@@ -15,7 +15,6 @@ use Rattle.gatekeeper.proofs.Owned.{owned_long}
 use Rattle.gatekeeper.proofs.Numbered.{once_long}
 use Rattle.gatekeeper.proofs.Keeping.{read_wf, right_anew, short_anew}
 use Rattle.gatekeeper.proofs.Telling.{assured_is}
-use borrow.Author.Rules.{rules}
 use Rattle.gatekeeper.proofs.Monitor.assured.Goals as goal
 
 pub returns : goal.returns

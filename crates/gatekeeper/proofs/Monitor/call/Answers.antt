@@ -12,7 +12,6 @@ use Rattle.gatekeeper.specs.Numbering.{Lift}
 use Rattle.gatekeeper.proofs.Numbered.{once_long, meets, once_apart}
 use Rattle.gatekeeper.proofs.Owned.{owned_long, reply_long}
 use Rattle.gatekeeper.proofs.Keeping.{read_wf}
-use borrow.Author.Rules.{rules}
 use Rattle.gatekeeper.proofs.Monitor.call.Goals as goal
 
 pub returns : goal.returns

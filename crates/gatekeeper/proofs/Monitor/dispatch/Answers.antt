@@ -6,7 +6,6 @@ use Rattle.answers.specs.Telling.{told}
 use Rattle.gatekeeper.specs.View.{slots, direct}
 use Rattle.gatekeeper.specs.Acting.{Acts}
 use Rattle.gatekeeper.proofs.Acting.{halts, both, unroomed, either}
-use borrow.Author.Rules.{rules}
 use Rattle.gatekeeper.proofs.Monitor.dispatch.Goals as goal
 
 pub returns-in-1 : goal.returns-in-1
@@ -86,7 +85,7 @@ returns-in_default c =
     let a = c.args in
     let n = c.in_default.in_default-own.rest in
     let z = both (λ w r. subst (λ (k : Call). Acts a.self k (told c.refuse.result.answer) c.refuse.result.monitor)
-        (sym (decode_unknown (direct a.code a.a a.b a.c a.d a.e a.f)
-        (n.0.0.0.0.0.0.0.0.0.0.0.0.0.0.0.0.0.1, (n.0.0.0.0.0.0.0.0.0.0.0.0.0.0.0.0.1, (n.0.0.0.0.0.0.0.0.0.0.0.0.0.0.0.1, (n.0.0.0.0.0.0.0.0.0.0.0.0.0.0.1, (n.0.0.0.0.0.0.0.0.0.0.0.0.0.1, (n.0.0.0.0.0.0.0.0.0.0.0.0.1, (n.0.0.0.0.0.0.0.0.0.0.0.1, (n.0.0.0.0.0.0.0.0.0.0.1, (n.0.0.0.0.0.0.0.0.0.1, (n.0.0.0.0.0.0.0.0.1, (n.0.0.0.0.0.0.0.1, (n.0.0.0.0.0.0.1, (n.0.0.0.0.0.1, (n.0.0.0.0.1, (n.0.0.0.1, (n.0.0.1, (n.0.1, (n.1, tt))))))))))))))))))))
-        (halts a.self unknown 1 c.refuse.result (unknown_refused (slots a.self)) c.refuse.ensures)) in
+    (sym (decode_unknown (direct a.code a.a a.b a.c a.d a.e a.f)
+    (n.0.0.0.0.0.0.0.0.0.0.0.0.0.0.0.0.0.1, (n.0.0.0.0.0.0.0.0.0.0.0.0.0.0.0.0.1, (n.0.0.0.0.0.0.0.0.0.0.0.0.0.0.0.1, (n.0.0.0.0.0.0.0.0.0.0.0.0.0.0.1, (n.0.0.0.0.0.0.0.0.0.0.0.0.0.1, (n.0.0.0.0.0.0.0.0.0.0.0.0.1, (n.0.0.0.0.0.0.0.0.0.0.0.1, (n.0.0.0.0.0.0.0.0.0.0.1, (n.0.0.0.0.0.0.0.0.0.1, (n.0.0.0.0.0.0.0.0.1, (n.0.0.0.0.0.0.0.1, (n.0.0.0.0.0.0.1, (n.0.0.0.0.0.1, (n.0.0.0.0.1, (n.0.0.0.1, (n.0.0.1, (n.0.1, (n.1, tt))))))))))))))))))))
+    (halts a.self unknown 1 c.refuse.result (unknown_refused (slots a.self)) c.refuse.ensures)) in
     record { acts = z.0; keeps = z.1 }

@@ -8,7 +8,6 @@ use Rattle.gatekeeper.specs.View.{slots}
 use Rattle.gatekeeper.proofs.Acting.{stops, ends, waits, frees}
 use Rattle.gatekeeper.proofs.Owned.{owned_long, remains_long}
 use Rattle.gatekeeper.proofs.Storing.{subject_got, object_got, exec_late, execs}
-use borrow.Author.Rules.{rules}
 use Rattle.gatekeeper.proofs.Monitor.exec.Goals as goal
 
 pub returns-then-n-ne0 : goal.returns-then-n-ne0

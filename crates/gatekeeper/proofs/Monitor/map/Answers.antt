@@ -9,7 +9,6 @@ use Rattle.gatekeeper.specs.View.{slots}
 use Rattle.gatekeeper.proofs.Acting.{stops, ends, waits, frees, back_keeps}
 use Rattle.gatekeeper.proofs.Owned.{owned_long}
 use Rattle.gatekeeper.proofs.Storing.{subject_got, object_got, handle_got, map_late, maps_acts, maps_keeps}
-use borrow.Author.Rules.{rules}
 use Rattle.gatekeeper.proofs.Monitor.map.Goals as goal
 
 pub returns-then-n-ne0 : goal.returns-then-n-ne0

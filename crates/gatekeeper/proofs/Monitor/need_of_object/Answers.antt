@@ -9,7 +9,6 @@ use Rattle.gatekeeper.proofs.Owned.{owned_long}
 use Rattle.gatekeeper.proofs.Numbered.{once_long}
 use Rattle.gatekeeper.proofs.Keeping.{read_wf}
 use Rattle.gatekeeper.proofs.Telling.{told_need}
-use borrow.Author.Rules.{rules}
 use Rattle.gatekeeper.proofs.Monitor.need_of_object.Goals as goal
 
 pub returns-then-i-ge-OBJECT_NUMBERS : goal.returns-then-i-ge-OBJECT_NUMBERS

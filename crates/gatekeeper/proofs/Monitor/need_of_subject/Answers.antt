@@ -5,7 +5,6 @@ use Rattle.gatekeeper.proofs.Storing.{subject_got}
 use Rattle.gatekeeper.proofs.Numbered.{once_long}
 use Rattle.gatekeeper.proofs.Keeping.{read_wf, subject_dead, subject_told}
 use Rattle.gatekeeper.proofs.Telling.{subject_need}
-use borrow.Author.Rules.{rules}
 use Rattle.gatekeeper.proofs.Monitor.need_of_subject.Goals as goal
 
 pub returns-then-x-eq0 : goal.returns-then-x-eq0

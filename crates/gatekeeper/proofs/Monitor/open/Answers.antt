@@ -10,7 +10,6 @@ use Rattle.gatekeeper.specs.View.{slots}
 use Rattle.gatekeeper.proofs.Acting.{stops, ends, waits, frees, back_keeps}
 use Rattle.gatekeeper.proofs.Owned.{owned_long}
 use Rattle.gatekeeper.proofs.Storing.{subject_got, object_got, handle_got, open_late, opens_acts, opens_keeps}
-use borrow.Author.Rules.{rules}
 use Rattle.gatekeeper.proofs.Monitor.open.Goals as goal
 
 pub returns-then-n-ne0 : goal.returns-then-n-ne0

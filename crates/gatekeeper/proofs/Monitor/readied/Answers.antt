@@ -1,7 +1,6 @@
 -- `gatekeeper::Monitor::readied` meets its contract. Assumes nothing.
 use mathlib.Core.Path.{refl, sym, ◌∙◌, ap}
 use mathlib.Core.List.{List}
-use borrow.Author.Rules.{rules}
 use Rattle.model.specs.Tables.{empty, with_freeze, with_numbers, with_kin, clean}
 use Rattle.model.proofs.Invariant.Laws.{clean_same}
 use Rattle.tables.specs.declared.Object.{Object}

@@ -4,7 +4,6 @@ use Rattle.gatekeeper.specs.View.{slots}
 use Rattle.gatekeeper.proofs.Acting.{stops, ends, waits, frees}
 use Rattle.gatekeeper.proofs.Owned.{owned_long}
 use Rattle.gatekeeper.proofs.Storing.{object_got, retire_late, retires}
-use borrow.Author.Rules.{rules}
 use Rattle.gatekeeper.proofs.Monitor.retire.Goals as goal
 
 pub returns-then-n-ne0 : goal.returns-then-n-ne0

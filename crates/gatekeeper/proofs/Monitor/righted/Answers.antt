@@ -11,7 +11,6 @@ use Rattle.gatekeeper.specs.View.{used_slots, once}
 use Rattle.gatekeeper.proofs.Owned.{owned_long}
 use Rattle.gatekeeper.proofs.Numbered.{once_long}
 use Rattle.gatekeeper.proofs.Keeping.{read_wf, right_anew}
-use borrow.Author.Rules.{rules}
 use Rattle.gatekeeper.proofs.Monitor.righted.Goals as goal
 
 pub returns : goal.returns

@@ -1,6 +1,5 @@
 -- `gatekeeper::Monitor::settle` meets its contract. Assumes nothing.
 use mathlib.Core.Path.{sym, ◌∙◌}
-use borrow.Author.Rules.{rules}
 use Rattle.gatekeeper.proofs.Monitor.settle.Goals as goal
 
 pub returns-then-is_refused : goal.returns-then-is_refused

@@ -1,7 +1,6 @@
 -- `gatekeeper::moved::is_less` meets its contract. Assumes nothing.
 use mathlib.Core.Path.{ap}
 use mathlib.Core.Bool.{not}
-use borrow.Author.Rules.{rules}
 use Rattle.gatekeeper.proofs.moved.is_less.Goals as goal
 
 pub returns : goal.returns

@@ -2,7 +2,6 @@ use mathlib.Core.Path.{refl, ◌∙◌, ap}
 use mathlib.Core.List.{List}
 use Prim.Native.Nat.{ℕ}
 use Rattle.gatekeeper.specs.Numbering.{noted, seats}
-use borrow.Author.Rules.{rules}
 use Rattle.gatekeeper.proofs.seats.makes_both.Goals as goal
 
 pub returns-then-c-d : goal.returns-then-c-d

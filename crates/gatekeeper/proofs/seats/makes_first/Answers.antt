@@ -2,7 +2,6 @@ use mathlib.Core.Path.{ap}
 use mathlib.Core.List.{List}
 use Prim.Native.Nat.{ℕ}
 use Rattle.gatekeeper.specs.Numbering.{seats}
-use borrow.Author.Rules.{rules}
 use Rattle.gatekeeper.proofs.seats.makes_first.Goals as goal
 
 pub returns : goal.returns

@@ -1,5 +1,4 @@
 use borrow.Author.Tests.{lt-ltb, le-ltb}
-use borrow.Author.Rules.{rules}
 use Rattle.gatekeeper.proofs.seats.noted.Goals as goal
 
 pub returns-then-i-ge-OBJECT_NUMBERS : goal.returns-then-i-ge-OBJECT_NUMBERS

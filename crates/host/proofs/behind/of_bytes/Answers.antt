@@ -1,5 +1,4 @@
 -- `host::behind::of_bytes` meets its contract. Assumes nothing.
-use borrow.Author.Rules.{rules}
 use Rattle.gatekeeper.specs.View.{direct}
 use Rattle.host.proofs.Explaining.{unsized_why, sized_why}
 use Rattle.host.proofs.behind.of_bytes.Goals as goal

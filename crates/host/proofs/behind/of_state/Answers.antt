@@ -1,5 +1,4 @@
 -- `host::behind::of_state` meets its contract. Assumes nothing.
-use borrow.Author.Rules.{rules}
 use Rattle.host.proofs.behind.of_state.Goals as goal
 
 pub returns : goal.returns

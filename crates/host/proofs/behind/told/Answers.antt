@@ -1,5 +1,4 @@
 -- `host::behind::told` meets its contract. Assumes nothing.
-use borrow.Author.Rules.{rules}
 use Rattle.host.proofs.Explaining.{kept_left, given_left, kept_tells, given_tells}
 use Rattle.host.proofs.behind.told.Goals as goal
 

@@ -1,6 +1,5 @@
 -- `host::lent::begun` meets its contract. Assumes nothing.
 use mathlib.Core.Path.{refl}
-use borrow.Author.Rules.{rules}
 use Rattle.host.proofs.lent.begun.Goals as goal
 
 pub returns : goal.returns

@@ -1,5 +1,4 @@
 -- `host::lent::line_step` meets its contract. Assumes nothing.
-use borrow.Author.Rules.{rules}
 use Rattle.host.proofs.lent.line_step.Goals as goal
 
 pub returns : goal.returns

@@ -1,7 +1,6 @@
 -- `host::lent::step` meets its contract. Assumes nothing.
 use mathlib.Core.Path.{◌≡◌, sym, ap, ap₂, ◌∙◌, subst}
 use Prim.Native.Nat.{ℕ}
-use borrow.Author.Rules.{rules}
 use Rattle.model.specs.Calls.{Raw, decode, Answer}
 use Rattle.model.specs.Promise.{Meets}
 use Rattle.gatekeeper.specs.View.{monitors, direct}

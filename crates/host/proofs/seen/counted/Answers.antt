@@ -1,7 +1,6 @@
 -- `host::seen::counted` meets its contract. Assumes nothing.
 use mathlib.Core.Path.{◌∙◌, ap₂}
 use Rattle.tables.specs.Slots.{single}
-use borrow.Author.Rules.{rules}
 use Rattle.host.proofs.seen.counted.Goals as goal
 
 pub returns : goal.returns

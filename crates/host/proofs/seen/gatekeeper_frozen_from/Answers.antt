@@ -4,7 +4,6 @@ use mathlib.Core.Bool.{Bool, cond}
 use borrow.Author.Tests.{lt-ltb, le-ltb}
 use Rattle.stored.specs.State.{freeze_of}
 use Rattle.host.proofs.Seeing.{sized_is, unsized_is}
-use borrow.Author.Rules.{rules}
 use Rattle.host.proofs.seen.gatekeeper_frozen_from.Goals as goal
 
 pub returns-then-state-ne-STATE_BYTES : goal.returns-then-state-ne-STATE_BYTES

@@ -6,7 +6,6 @@ use native.Mathlib.Omega.{arith}
 use Rattle.tables.specs.declared.Subject.{Subject}
 use Rattle.groups.specs.Groups.{kin_of, Leads}
 use Rattle.host.proofs.Seeing.{sized_is, unsized_is, group_none, group_lowest}
-use borrow.Author.Rules.{rules}
 use Rattle.host.proofs.seen.gatekeeper_group.Goals as goal
 
 pub returns-then-state-ne-STATE_BYTES : goal.returns-then-state-ne-STATE_BYTES

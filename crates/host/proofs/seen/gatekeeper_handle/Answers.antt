@@ -7,7 +7,6 @@ use Rattle.stored.specs.State.{live_byte}
 use Rattle.host.specs.Working.{way_number}
 use Rattle.host.proofs.Seeing.{sized_is, unsized_is, way_small, handle_told}
 use native.Mathlib.Omega.{arith}
-use borrow.Author.Rules.{rules}
 use Rattle.host.proofs.seen.gatekeeper_handle.Goals as goal
 
 pub returns-then-state-ne-STATE_BYTES : goal.returns-then-state-ne-STATE_BYTES

@@ -3,7 +3,6 @@ use mathlib.Core.Path.{sym, ◌∙◌}
 use Prim.Native.Nat.{◌%◌}
 use native.Mathlib.Omega.{arith}
 use Rattle.host.proofs.Seeing.{sized_is, unsized_is, number_read, handle_none, handle_object}
-use borrow.Author.Rules.{rules}
 use Rattle.host.proofs.seen.gatekeeper_handle_object.Goals as goal
 
 pub returns-then-state-ne-STATE_BYTES : goal.returns-then-state-ne-STATE_BYTES

@@ -6,7 +6,6 @@ use lib.Dec.{eqb}
 use borrow.Author.Tests.{eq-eqb, ne_eqb}
 use Rattle.host.specs.Numbers.{seen_entry}
 use Rattle.host.proofs.Seeing.{sized_is, unsized_is, object_seen, object_number}
-use borrow.Author.Rules.{rules}
 use Rattle.host.proofs.seen.gatekeeper_object.Goals as goal
 
 pub returns-then-state-ne-STATE_BYTES : goal.returns-then-state-ne-STATE_BYTES

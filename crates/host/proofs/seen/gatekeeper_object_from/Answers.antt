@@ -7,7 +7,6 @@ use Rattle.tables.specs.Slots.{First}
 use Rattle.gatekeeper.proofs.Telling.{told_from}
 use Rattle.stored.specs.State.{monitor_of}
 use Rattle.host.proofs.Seeing.{sized_is, unsized_is, objects_long}
-use borrow.Author.Rules.{rules}
 use Rattle.host.proofs.seen.gatekeeper_object_from.Goals as goal
 
 pub returns-then-state-ne-STATE_BYTES : goal.returns-then-state-ne-STATE_BYTES

@@ -6,7 +6,6 @@ use native.Mathlib.Omega.{arith}
 use Rattle.gatekeeper.proofs.Telling.{told_need}
 use Rattle.stored.specs.State.{monitor_of}
 use Rattle.host.proofs.Seeing.{need_read, need_seen, objects_long, state_wf}
-use borrow.Author.Rules.{rules}
 use Rattle.host.proofs.seen.gatekeeper_object_need.Goals as goal
 
 pub returns-then-state-ne-STATE_BYTES : goal.returns-then-state-ne-STATE_BYTES

@@ -4,7 +4,6 @@ use lib.ListN.{length}
 use borrow.Author.Tests.{eq-eqb, ne_eqb}
 use Rattle.stored.specs.State.{state_bytes}
 use Rattle.host.proofs.Seeing.{put_right}
-use borrow.Author.Rules.{rules}
 use Rattle.host.proofs.seen.gatekeeper_put_right.Goals as goal
 
 pub returns-then-state-ne-STATE_BYTES : goal.returns-then-state-ne-STATE_BYTES
@@ -22,6 +21,6 @@ returns c =
     let n = c.righted-n.result in record {
       answer = sym (eq-eqb (length s) state_bytes c.if-state-ne-STATE_BYTES.false);
       bytes = (λ h. put_right s _ c.load_monitor-m.result n h c.load_monitor-m.ensures c.righted-n.ensures
-            c.store_needs.ensures.all c.store_needs.ensures.narrow c.store_needs.ensures.bytes);
+          c.store_needs.ensures.all c.store_needs.ensures.narrow c.store_needs.ensures.bytes);
       other = λ h. absurd (h c.if-state-ne-STATE_BYTES.false);
     }

@@ -5,7 +5,6 @@ use Prim.Native.Nat.{◌+◌, ◌*◌}
 use borrow.Author.Tests.{eq-eqb, ne_eqb}
 use Rattle.host.specs.Numbers.{seen_entry}
 use Rattle.host.proofs.Seeing.{sized_is, unsized_is, subject_seen, seen_subject}
-use borrow.Author.Rules.{rules}
 use Rattle.host.proofs.seen.gatekeeper_subject.Goals as goal
 
 pub returns-then-state-ne-STATE_BYTES : goal.returns-then-state-ne-STATE_BYTES

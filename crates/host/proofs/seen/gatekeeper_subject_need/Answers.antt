@@ -8,7 +8,6 @@ use Rattle.gatekeeper.proofs.Telling.{subject_need}
 use Rattle.stored.specs.State.{monitor_of}
 use Rattle.host.specs.Numbers.{seen_label}
 use Rattle.host.proofs.Seeing.{sized_is, unsized_is, need_read, need_seen, objects_long, state_wf, subject_slot}
-use borrow.Author.Rules.{rules}
 use Rattle.host.proofs.seen.gatekeeper_subject_need.Goals as goal
 
 pub returns-then-state-ne-STATE_BYTES : goal.returns-then-state-ne-STATE_BYTES

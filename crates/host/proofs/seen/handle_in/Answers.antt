@@ -1,7 +1,6 @@
 -- `host::seen::handle_in` meets its contract. Assumes nothing.
 use mathlib.Core.Path.{◌∙◌}
 use Rattle.host.proofs.Seeing.{handle_read}
-use borrow.Author.Rules.{rules}
 use Rattle.host.proofs.seen.handle_in.Goals as goal
 
 pub returns : goal.returns

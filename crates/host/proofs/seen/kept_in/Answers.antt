@@ -2,7 +2,6 @@
 use mathlib.Core.Path.{sym, ◌∙◌, ap}
 use Rattle.tables.specs.Records.{held}
 use Rattle.host.proofs.Seeing.{handle_counted}
-use borrow.Author.Rules.{rules}
 use Rattle.host.proofs.seen.kept_in.Goals as goal
 
 pub returns : goal.returns

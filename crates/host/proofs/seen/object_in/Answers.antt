@@ -6,7 +6,6 @@ use lib.ListN.{get_or}
 use Rattle.tables.specs.declared.Object.{Object}
 use Rattle.tables.specs.Records.{no_object}
 use Rattle.tables.specs.Working.{object_at}
-use borrow.Author.Rules.{rules}
 use Rattle.host.proofs.seen.object_in.Goals as goal
 
 pub returns : goal.returns

@@ -4,7 +4,6 @@ use mathlib.Core.List.{List}
 use Prim.Native.Nat.{ℕ}
 use Rattle.tables.specs.declared.Object.{Object}
 use Rattle.tables.specs.Slots.{Found}
-use borrow.Author.Rules.{rules}
 use Rattle.host.proofs.seen.slot_in.Goals as goal
 
 pub returns : goal.returns

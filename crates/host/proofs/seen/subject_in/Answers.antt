@@ -1,7 +1,6 @@
 -- `host::seen::subject_in` meets its contract. Assumes nothing.
 use mathlib.Core.Path.{◌∙◌}
 use Rattle.host.proofs.Seeing.{subject_read}
-use borrow.Author.Rules.{rules}
 use Rattle.host.proofs.seen.subject_in.Goals as goal
 
 pub returns : goal.returns
