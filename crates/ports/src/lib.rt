@@ -12,7 +12,7 @@ ghost use Rattle.ports.specs.Ports.{number_of, Moved, step, brought_by, begun, A
 ghost use Rattle.ports.specs.Ports.{words, Sending, Saying};
 
 use std::io;
-use std::io::{Stderr, Stdin, Stdout};
+use std::io::{Read, Stderr, Stdin, Stdout};
 
 // The numbers by which the host knows its three ports, POSIX's.
 const STDIN_FILENO: i32 = 0;
