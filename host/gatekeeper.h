@@ -43,7 +43,7 @@ extern "C" {
 #define GATEKEEPER_VERSION_NUMBER (65536 * 8 + 256 * 0 + 0)
 
 /* How much stack a call of any function here takes at most, in bytes: measured (tools/hosts), not proved. */
-#define GATEKEEPER_STACK_BYTES 98304
+#define GATEKEEPER_STACK_BYTES 106496
 
 /* Sizes, in bytes. */
 #define GATEKEEPER_STATE_BYTES 2577    /* a monitor with its tally, its kept needs and its groups */
