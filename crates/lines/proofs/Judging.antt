@@ -11,7 +11,7 @@ use borrow.Author.Tests.{le-leb, lt-leb}
 use Rattle.lines.specs.Line.{one, more, all, Reading, most_stages, short, Judges, no_line, a_line}
 use Rattle.lines.specs.Line.{Pipeline as Stages}
 use Rattle.lines.specs.Reading.{Pipelined, Lined, last, then}
-use Rattle.lines.specs.Reading.Laws.{lined_line, line_lined, pipelined_one}
+use Rattle.lines.proofs.Reading.Laws.{lined_line, line_lined, pipelined_one}
 use Rattle.lines.specs.Told.{Counts, wrong, closed, parted}
 use Rattle.lines.specs.declared.Pipeline.{Pipeline}
 

@@ -2,3 +2,6 @@
 pub mod Steps
 pub mod Counting
 pub mod Judging
+pub mod Reading
+pub mod Line
+pub mod Calls

@@ -6,7 +6,6 @@ use Rattle.model.specs.Lists.{each}
 use Rattle.model.specs.Calls.{Raw}
 use Rattle.model.specs.Tally.{wrapped}
 use Rattle.lines.specs.Line.{one, more, all, Stage, Reading}
-pub mod Laws
 
 abbrev pub call : ℕ → List ℕ → List Raw
 call code numbers = record { code = code; numbers = numbers } ∷ []

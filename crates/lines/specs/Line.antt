@@ -3,8 +3,6 @@
 use Rattle.std.specs.Prelude.{◌≡◌, Bool, ◌&&◌, cond, List, [], ◌∷◌, ◌++◌, ℕ, ◌≤◌, length, leb}
 use Rattle.std.proofs.Math.Option.{Option, none, some}
 use Rattle.text.specs.Decimal.{decimal}
-pub mod Laws
-pub mod Examples
 
 -- one thing or several
 pub data Several (A : Type 0) : Type 0 where

@@ -3,10 +3,6 @@
 use Rattle.std.specs.Prelude.{◌≡◌, Bool, true, false, not, ◌&&◌, cond, List, [], ◌∷◌, ℕ, ◌+◌, ◌-◌, ◌*◌, eqb, leb}
 use Rattle.std.proofs.Math.Option.{Option, none, some}
 use Rattle.lines.specs.Line.{one, more, Stage, Pipeline, Reading, largest}
-pub mod Laws
-pub mod Numbers
-pub mod Tokens
-pub mod Stages
 
 -- something read, and the bytes behind it
 pub record Got (A : Type 0) : Type 0 where

@@ -8,7 +8,6 @@ use Rattle.model.specs.Demand3.{Demand3}
 use Rattle.journal.specs.Answers.{Said, said}
 use Rattle.journal.specs.Answers.{answers as reads, refused as bad}
 use Rattle.replay.specs.Replay.{calls_of, Replied, replies, run_of}
-pub mod Laws
 
 -- RULES B23, B25: the answers to the records that stand for a call, as `calls_of` has them
 abbrev pub answers_of : List Said → List Replied → List Answer

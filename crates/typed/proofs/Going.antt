@@ -7,11 +7,11 @@ use Rattle.model.specs.Calls.{Raw}
 use Rattle.gatekeeper.specs.declared.Monitor.{Monitor}
 use Rattle.tally.specs.declared.Tally.{Tally}
 use Rattle.lines.specs.Line.{one, more, all, Reading, Line, most_stages, short, Judges, no_line, a_line}
-use Rattle.lines.specs.Line.Laws.{one_reading}
+use Rattle.lines.proofs.Line.Laws.{one_reading}
 use Rattle.lines.specs.Line.{Pipeline as Stages}
 use Rattle.lines.specs.Line.{Stage as Stage-read}
 use Rattle.lines.specs.Reading.{Pipelined, Lined, last, then}
-use Rattle.lines.specs.Reading.Laws.{line_lined, pipelined_one, lined_one}
+use Rattle.lines.proofs.Reading.Laws.{line_lined, pipelined_one, lined_one}
 use Rattle.lines.specs.Told.{Counts, wrong, closed, parted}
 use Rattle.lines.specs.declared.Pipeline.{Pipeline}
 use Rattle.lines.specs.Calls.{counted_from, pipe_call, close_call, stage_calls, exit_call, no_stage, pipeline_calls, calls_of}

@@ -20,7 +20,7 @@ use Rattle.journal.specs.Journal.Laws.{entry_next}
 use Rattle.answers.specs.Telling.{told, letter_of, value_of, lost_of}
 use Rattle.gatekeeper.specs.View.{view}
 use Rattle.tally.specs.Counting.{counts_of}
-use Rattle.replay.specs.Demand3.Laws.{run_ended}
+use Rattle.replay.proofs.Demand3.Laws.{run_ended}
 use Rattle.replay.specs.Stage.{going_begun, at_test, record_turn, record_ends, broken_turn, broken_ends, end_turn, ended, end_short}
 use Rattle.replay.proofs.records.Goals as goal
 

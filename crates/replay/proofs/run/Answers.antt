@@ -3,7 +3,7 @@ use mathlib.Core.Path.{subst}
 use native.Mathlib.Omega.{arith}
 use Rattle.number.specs.Answers.{writing}
 use Rattle.gatekeeper.specs.View.{view}
-use Rattle.replay.specs.Demand3.Laws.{none_ended}
+use Rattle.replay.proofs.Demand3.Laws.{none_ended}
 use Rattle.replay.specs.Stage.{Ends, reply_long, reply_whole}
 use Rattle.replay.proofs.run.Goals as goal
 

@@ -7,7 +7,7 @@ use Rattle.text.specs.Decimal.{decimal}
 use Rattle.text.specs.Decimal.Laws.{decimal_one, decimal_first}
 use Rattle.lines.specs.Line.{Token, number, less, greater, bar, semicolon, given, Fits, spelled, Spaced, ends, space, token}
 use Rattle.lines.specs.Reading.{Got, got, skip, is_digit, numeral, as_given, signed_at, signed}
-use Rattle.lines.specs.Reading.Numbers.{clash, got_same, numeral_read, FirstFails, numeral_decimal}
+use Rattle.lines.proofs.Reading.Numbers.{clash, got_same, numeral_read, FirstFails, numeral_decimal}
 
 -- ── spaces ──
 pub skip_back : (ts : List Token) (bs : List ℕ) → Spaced ts (skip bs) → Spaced ts bs

@@ -6,8 +6,8 @@ use Rattle.std.proofs.Math.Option.{Option, none, some, some-injective}
 use Rattle.text.specs.Decimal.{digits, decimal}
 use Rattle.lines.specs.Line.{one, more, Reading, Line, written}
 use Rattle.lines.specs.Reading.{End, at_bar, at_semicolon, at_end, Staged, staged, closed, parted, joined, Lined, last, then}
-use Rattle.lines.specs.Reading.Numbers.{clash}
-use Rattle.lines.specs.Reading.Laws.{lined_line, line_lined}
+use Rattle.lines.proofs.Reading.Numbers.{clash}
+use Rattle.lines.proofs.Reading.Laws.{lined_line, line_lined}
 
 -- ── how bytes are seen to be no line ──
 abbrev rest_of : End → Option (List ℕ)

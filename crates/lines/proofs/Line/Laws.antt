@@ -2,7 +2,7 @@
 -- nothing.
 use Rattle.std.specs.Prelude.{◌≡◌, List, [], ◌∷◌, ℕ}
 use Rattle.lines.specs.Line.{Reading, Token, tokens, Spaced, ends, space, token, Line, spelled_out, AllFit, written}
-use Rattle.lines.specs.Reading.Laws.{line_lined, lined_one}
+use Rattle.lines.proofs.Reading.Laws.{line_lined, lined_one}
 
 pub one_reading : (bs : List ℕ) (l k : Reading) → Line l bs → Line k bs → l ≡ k
 one_reading bs l k d e = lined_one (line_lined bs l d) (line_lined bs k e)

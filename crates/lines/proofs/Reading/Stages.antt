@@ -6,9 +6,9 @@ use Rattle.std.proofs.Math.Option.{Option, none, some, some-injective}
 use Rattle.lines.specs.Line.{Stage, Token, number, less, greater, bar, semicolon, given, stage_tokens, Spaced, ends}
 use Rattle.lines.specs.Reading.{Got, got, skip, is_digit, numeral, signed, End, at_bar, at_semicolon, at_end, Staged, ended_at}
 use Rattle.lines.specs.Reading.{with_end, with_into, with_from, with_program, staged}
-use Rattle.lines.specs.Reading.Numbers.{clash}
-use Rattle.lines.specs.Reading.Tokens.{skip_back, empties, TokenFails, TokensFail, number_spaced, spaced_number}
-use Rattle.lines.specs.Reading.Tokens.{sign_spaced, spaced_sign, signed_spaced, spaced_signed}
+use Rattle.lines.proofs.Reading.Numbers.{clash}
+use Rattle.lines.proofs.Reading.Tokens.{skip_back, empties, TokenFails, TokensFail, number_spaced, spaced_number}
+use Rattle.lines.proofs.Reading.Tokens.{sign_spaced, spaced_sign, signed_spaced, spaced_signed}
 
 -- ── what ends a stage ──
 -- the sign that ends a stage, and what stands behind it

@@ -5,8 +5,8 @@ use Rattle.std.proofs.Common.{sym, ◌∙◌, ap, ap₂, subst, append_assoc, ap
 use Rattle.std.proofs.Math.Option.{Option, none, some, some-injective}
 use Rattle.lines.specs.Line.{one, more, Stage, Pipeline, Reading, Token, bar, semicolon, stage_tokens, pipeline_tokens, tokens, Spaced, Line}
 use Rattle.lines.specs.Reading.{End, at_bar, at_semicolon, at_end, Staged, staged, Pipelined, closed, parted, joined, Lined, last, then}
-use Rattle.lines.specs.Reading.Numbers.{clash}
-use Rattle.lines.specs.Reading.Stages.{Behind, nothing, a_bar, a_semicolon, Stops, with_nothing, with_bar, with_semicolon, staged_spaced, spaced_staged}
+use Rattle.lines.proofs.Reading.Numbers.{clash}
+use Rattle.lines.proofs.Reading.Stages.{Behind, nothing, a_bar, a_semicolon, Stops, with_nothing, with_bar, with_semicolon, staged_spaced, spaced_staged}
 
 -- ── pipelines ──
 -- what stands behind a pipeline
