@@ -12,14 +12,6 @@ use Rattle.model.specs.Tables.{reading, writing, Entry, Handle, Tables, is_file,
 use Rattle.model.specs.Calls.{Call, admit, register, create, make_pipe, opens, access, fork, thread, exec, close, exit, retire, maps, mark, freeze, connect, unknown, Raw, decode, steps, effect, refusal}
 use Rattle.model.specs.Book.{Contents, Book, Handling, Outside, carries, book_from}
 use Rattle.model.specs.Demand3.{Held}
-pub mod Moving
-pub mod Ways
-pub mod Sought
-pub mod Carrying
-pub mod Short
-pub mod Trails
-pub mod Laws
-pub mod Numbers
 
 -- ── a call let through ──
 -- RULES A7: the one handling of data: whoever takes in takes over what the source holds, in a read, a write and a run alike

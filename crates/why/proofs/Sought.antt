@@ -29,8 +29,8 @@ use Rattle.model.proofs.Calls.Passed.{is_alive, is_present, is_new, is_place}
 use Rattle.model.proofs.Calls.Listed.{made_or, stepped_left, effect_at}
 use Rattle.attack.specs.Attack.{Begins}
 use Rattle.model.proofs.Calls.Codes.{decode_by}
-use Rattle.attack.specs.Attack.Sought.{Seeks, an_open, a_map, an_exec, a_connect, seeks}
-use Rattle.attack.specs.Attack.Laws.{sought_wf}
+use Rattle.attack.proofs.Attack.Sought.{Seeks, an_open, a_map, an_exec, a_connect, seeks}
+use Rattle.attack.proofs.Attack.Laws.{sought_wf}
 use Rattle.tables.specs.declared.Subject.{Subject}
 use Rattle.tables.specs.declared.Object.{Object}
 use Rattle.tables.specs.declared.Handle.{Handle}

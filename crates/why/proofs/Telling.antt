@@ -20,8 +20,8 @@ use Rattle.model.proofs.Calls.Renaming.{Renumbers, thing, joined, held, ren, liv
 use Rattle.model.proofs.Calls.Listed.{Listed}
 use Rattle.attack.specs.Attack.{most, Fewest}
 use Rattle.attack.specs.Attack.{Chain as Behind}
-use Rattle.attack.specs.Attack.Laws.{chain_attack, Short, chain_exists}
-use Rattle.attack.specs.Attack.Numbers.{was, chain_there, chain_back, fewest_there}
+use Rattle.attack.proofs.Attack.Laws.{chain_attack, Short, chain_exists}
+use Rattle.attack.proofs.Attack.Numbers.{was, chain_there, chain_back, fewest_there}
 use Rattle.ways.specs.declared.Way.{Way}
 use Rattle.why.specs.declared.Chain.{Chain}
 use Rattle.why.specs.Why.{low_of, high_of, places_of, no_chain, Shown}

@@ -24,8 +24,8 @@ use Rattle.model.proofs.Calls.Listed.{Listed, effect_listed, effect_few}
 use Rattle.model.specs.Demand2.{Leaks, Offends, opened}
 use Rattle.model.proofs.Demand2.Laws.{open_refused_iff, map_refused_iff, connect_refused_iff, exec_leaks_iff}
 use Rattle.attack.specs.Attack.{Barred, Begins, most, Chain}
-use Rattle.attack.specs.Attack.Ways.{Led, led_95, led_94}
-use Rattle.attack.specs.Attack.Sought.{Seeks, an_open, a_map, an_exec, a_connect, seeks, steps_wf, sought_wf, effect_edges, map_edges, exec_edges, file_stays, reaches_more, not_reached, placed_adds}
+use Rattle.attack.proofs.Attack.Ways.{Led, led_95, led_94}
+use Rattle.attack.proofs.Attack.Sought.{Seeks, an_open, a_map, an_exec, a_connect, seeks, steps_wf, sought_wf, effect_edges, map_edges, exec_edges, file_stays, reaches_more, not_reached, placed_adds}
 
 -- RULES A4, A10: a chain behind the call that is short enough
 pub record Short (t : Tables) (c : Call) : Type 0 where

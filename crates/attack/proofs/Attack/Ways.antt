@@ -8,7 +8,7 @@ use Rattle.model.specs.Lists.{In, each}
 use Rattle.model.specs.Lists.Laws.{in_left, in_right, in_each}
 use Rattle.model.specs.Flow.{Thing, subject, object, same, Edge, Reaches, here, step}
 use Rattle.model.proofs.Flow.Laws.{same→eq}
-use Rattle.attack.specs.Attack.Trails.{Trail, end as stop, via as past, within_few, widen, avoids, cut, cut_in, omit, in_omit, omit_lt}
+use Rattle.attack.proofs.Attack.Trails.{Trail, end as stop, via as past, within_few, widen, avoids, cut, cut_in, omit, in_omit, omit_lt}
 use Rattle.model.specs.Tables.{Dir, reading, writing, Handle, Tables, subjects, live, whole, arc, flow, share, edges}
 use Rattle.model.proofs.Tables.Laws.{live_of, used_is, whole_self, whole_cases, whole_kin, share_edge, Shares}
 use Rattle.model.specs.Invariant.{Ends, Wf}

@@ -16,9 +16,9 @@ use Rattle.model.proofs.Calls.Refusals.{refused_by}
 use Rattle.model.proofs.Calls.Passed.{is_new, sheds_less}
 use Rattle.model.specs.Book.{Contents, store, carries}
 use Rattle.attack.specs.Attack.{copying, most, Attack, Chain, acts}
-use Rattle.attack.specs.Attack.Moving.{acts_held, acts_free, acts_carry}
-use Rattle.attack.specs.Attack.Ways.{whole_back, reaches_whole, way_reaches}
-use Rattle.attack.specs.Attack.Sought.{Seeks, an_open, a_map, an_exec, a_connect, seeks, sought_wf, map_edges, apart, from_end, not_reached, placed_adds}
+use Rattle.attack.proofs.Attack.Moving.{acts_held, acts_free, acts_carry}
+use Rattle.attack.proofs.Attack.Ways.{whole_back, reaches_whole, way_reaches}
+use Rattle.attack.proofs.Attack.Sought.{Seeks, an_open, a_map, an_exec, a_connect, seeks, sought_wf, map_edges, apart, from_end, not_reached, placed_adds}
 
 -- a map reads at once, so the thing must be another than s and its group: these reach the file only by what they read
 map_apart : (t : Tables) → Wf t → Safe t → (s o p : ℕ) → refusal t (maps s o p) ≡ some 9 → (low high : Thing) (l : List ℕ) → Chain t (maps s o p) low high l

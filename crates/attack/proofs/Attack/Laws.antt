@@ -15,9 +15,9 @@ use Rattle.model.proofs.Calls.Kept.{always_kept}
 use Rattle.model.specs.Book.{Contents, Book, Handling, Outside, blank_book, pour, carry, carries, turn, book_from, book}
 use Rattle.model.proofs.Book.Laws.{book_tables}
 use Rattle.attack.specs.Attack.{copying, let_through, book_of, Attack, Behind, acts}
-pub use Rattle.attack.specs.Attack.Sought.{sought_wf}
-pub use Rattle.attack.specs.Attack.Carrying.{chain_attack}
-pub use Rattle.attack.specs.Attack.Short.{Short, chain_exists}
+pub use Rattle.attack.proofs.Attack.Sought.{sought_wf}
+pub use Rattle.attack.proofs.Attack.Carrying.{chain_attack}
+pub use Rattle.attack.proofs.Attack.Short.{Short, chain_exists}
 
 -- ── over lists of calls ──
 -- RULES A1: NO NEEDLESS REFUSAL, in calls from empty tables, behind every answer 9
