@@ -20,21 +20,6 @@ enum { PAY_BOOK = 0, SHEET = 1, PIPE = 8 };
 /* The numbers of a call, and 0 for each that it does not use. */
 #define WITH(...) ((const uint64_t[6]){__VA_ARGS__})
 
-/* Says what stands behind a refusal by the flow rule: the handles by which data could get where it must not. */
-static void behind(const struct gatekeeper_monitor *monitor, uint64_t code, const uint64_t n[6])
-{
-    struct gatekeeper_chain chain;
-    uint32_t count = gatekeeper_monitor_why(monitor, code, n[0], n[1], n[2], n[3], n[4], n[5], &chain);
-    if (count == 0)
-        return;
-    printf("  Data could get from %s %" PRIu64 " into file %" PRIu64 ", by",
-           chain.kind == GATEKEEPER_FRONT_SUBJECT ? "step" : "object", chain.low, chain.high);
-    for (uint32_t i = 0; i < count; i++)
-        printf("%s place %u of step %u", i > 0 ? "," : "", (unsigned)chain.steps[i] % GATEKEEPER_PLACES,
-               (unsigned)chain.steps[i] / GATEKEEPER_PLACES);
-    printf(".\n");
-}
-
 /* Makes a call, and says what came of it; whether it may be done. */
 static bool ask(struct gatekeeper_monitor *monitor, const char *what, uint64_t code, const uint64_t n[6])
 {
@@ -43,8 +28,6 @@ static bool ask(struct gatekeeper_monitor *monitor, const char *what, uint64_t c
     printf("%-66s ", what);
     if (!gatekeeper_allows(answer)) {
         printf("refused (%" PRIu32 "): %s\n", value, gatekeeper_refusal_text(value));
-        if (value == GATEKEEPER_FLOW)
-            behind(monitor, code, n);
         return false;
     }
     if (gatekeeper_letter(answer) == GATEKEEPER_LOWERED)

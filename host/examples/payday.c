@@ -27,28 +27,6 @@ struct host {
 /* The numbers of a call, and 0 for each that it does not use. */
 #define WITH(...) ((const uint64_t[6]){__VA_ARGS__})
 
-static const char *kind_words(uint32_t object)
-{
-    return gatekeeper_kind_of(object) == GATEKEEPER_KIND_PIPE ? "pipe" : "file";
-}
-
-/* Says what stands behind a refusal by the flow rule: the handles by which data could get where it must not. */
-static void behind(const struct host *host, uint64_t code, const uint64_t n[6])
-{
-    struct gatekeeper_chain chain;
-    size_t len = sizeof host->monitor;
-    uint32_t count = gatekeeper_why(host->monitor, len, code, n[0], n[1], n[2], n[3], n[4], n[5], &chain);
-    if (count == 0)
-        return;
-    const char *object = kind_words(gatekeeper_object(host->monitor, len, chain.low));
-    printf("  Data could get from %s %" PRIu64 " into file %" PRIu64 ", by",
-           chain.kind == GATEKEEPER_FRONT_SUBJECT ? "step" : object, chain.low, chain.high);
-    for (uint32_t i = 0; i < count; i++)
-        printf("%s place %u of step %u", i > 0 ? "," : "", (unsigned)chain.steps[i] % GATEKEEPER_PLACES,
-               (unsigned)chain.steps[i] / GATEKEEPER_PLACES);
-    printf(".\n");
-}
-
 /* Makes a call, adds its record to the journal, and says what came of it; whether it may be done. */
 static bool ask(struct host *host, const char *what, uint64_t code, const uint64_t n[6])
 {
@@ -64,8 +42,6 @@ static bool ask(struct host *host, const char *what, uint64_t code, const uint64
     printf("%-66s ", what);
     if (!gatekeeper_allows(answer)) {
         printf("refused (%" PRIu32 "): %s\n", value, gatekeeper_refusal_text(value));
-        if (value == GATEKEEPER_FLOW)
-            behind(host, code, n);
         return false;
     }
     if (gatekeeper_letter(answer) == GATEKEEPER_LOWERED)
@@ -92,6 +68,11 @@ static const char *way_words(uint32_t way)
     case GATEKEEPER_WAY_WRITES: return "writes";
     default: return "maps";
     }
+}
+
+static const char *kind_words(uint32_t object)
+{
+    return gatekeeper_kind_of(object) == GATEKEEPER_KIND_PIPE ? "pipe" : "file";
 }
 
 /* A label: its level, and the shop groups that are vouched for. */

@@ -3,7 +3,7 @@
 //!
 //! In `host/rust`: `cargo run --offline --example payday`
 
-use gatekeeper::{Answer, Call, Chain, Front, Handle, Kind, Label, Monitor, Way};
+use gatekeeper::{Answer, Call, Handle, Kind, Label, Monitor, Way};
 use gatekeeper::{ALL_SHOPS, NO_FREEZE, PLACES, SUBJECTS};
 
 // What comes from outside, and the numbers that this host gives to it and to what it makes.
@@ -53,27 +53,10 @@ impl Host {
             }
             Answer::Refused(refusal) => {
                 println!("refused ({}): {}", refusal.number(), refusal.words());
-                if let Some(chain) = self.monitor.why(call) {
-                    self.behind(&chain);
-                }
                 return false;
             }
         }
         true
-    }
-
-    /// Says what stands behind a refusal by the flow rule: the handles by which data could get where it must not.
-    fn behind(&self, Chain { front, file, steps }: &Chain) {
-        let front = match *front {
-            Front::Subject(step) => format!("step {step}"),
-            Front::Object(number) => {
-                let kind = self.monitor.object(number).map_or("nothing", |object| words(object.kind));
-                format!("{kind} {number}")
-            }
-        };
-        let steps: Vec<String> =
-            steps.iter().map(|step| format!("place {} of step {}", step.place, step.subject)).collect();
-        println!("  Data could get from {front} into file {file}, by {}.", steps.join(", "));
     }
 
     /// The same for a call without which this host cannot go on.
