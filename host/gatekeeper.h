@@ -659,7 +659,7 @@ GATEKEEPER_HOLDS(offsetof(struct gatekeeper_chain, kind) == 207);
 /* Writes the chain behind the GATEKEEPER_FLOW with which a call would be refused now over `chain`, and returns how many
  * steps it has, at least 1. Where the call would not be so refused, or `len` is not GATEKEEPER_STATE_BYTES: 0, and `chain`
  * keeps what it has. The code and the numbers are those of gatekeeper_call. No call is made: the monitor stays as it is.
- * Since version 8.1.0. */
+ * New since version 8.0.0. */
 GATEKEEPER_MUST_USE
 uint32_t gatekeeper_why(const uint8_t *state, size_t len, uint64_t code, uint64_t a, uint64_t b, uint64_t c, uint64_t d,
                         uint64_t e, uint64_t f, struct gatekeeper_chain *chain);
