@@ -147,14 +147,14 @@ thread_lines =
     ∷ line 17 (5 ∷ 6 ∷ 30 ∷ 31 ∷ 2 ∷ 3 ∷ []) (A 4) ∷ line 8 (5 ∷ 3 ∷ []) (A 4) ∷ line 10 (6 ∷ 21 ∷ []) (A 4) ∷ line 7 (5 ∷ 2 ∷ []) (R 2) ∷ line 7 (6 ∷ 2 ∷ []) (A 4) ∷ line 5 (6 ∷ 31 ∷ 4 ∷ []) (A 4)
     ∷ []
 
--- labels: a set above 255; a set that falls short by itself, and a level; what is lost at a read, a write, an exec and a map, of labels that do not compare, too;
+-- labels: a set above 255; a set that falls short by itself, of a higher level too, and a level; what is lost at a read, a write, an exec and a map, of labels that do not compare, too;
 -- a freeze, which asks for no set; a need of two files, and without one of them
 unfoldable pub label_lines : List Line
 label_lines =
     line 1 (0 ∷ 9 ∷ 256 ∷ []) (R 6) ∷ line 1 (0 ∷ 16 ∷ 256 ∷ []) (R 6) ∷ line 1 (0 ∷ 9 ∷ []) (A 9) ∷ line 1 (0 ∷ 9 ∷ 256 ∷ []) (R 3) ∷ line 2 (0 ∷ 16 ∷ 0 ∷ []) (R 6) ∷ line 2 (0 ∷ 15 ∷ 256 ∷ []) (R 6) ∷ line 2 (0 ∷ 15 ∷ 255 ∷ []) (A 15) ∷ line 13 (0 ∷ []) (A 15)
     ∷ line 2 (1 ∷ 9 ∷ 3 ∷ []) (A 9) ∷ line 2 (2 ∷ 9 ∷ 5 ∷ []) (A 9) ∷ line 6 (0 ∷ 1 ∷ 0 ∷ []) (R 9) ∷ line 1 (1 ∷ 9 ∷ 7 ∷ []) (A 9) ∷ line 6 (1 ∷ 1 ∷ 0 ∷ []) (A 9) ∷ line 5 (1 ∷ 2 ∷ 1 ∷ []) (R 9) ∷ line 10 (1 ∷ 2 ∷ []) (R 9) ∷ line 14 (1 ∷ 2 ∷ 1 ∷ []) (R 9) ∷ line 11 (1 ∷ 0 ∷ []) (A 9)
     ∷ line 5 (1 ∷ 2 ∷ 1 ∷ []) (A 9) ∷ line 7 (1 ∷ 1 ∷ []) (M 9 1) ∷ line 7 (1 ∷ 1 ∷ []) (A 9) ∷ line 4 (1 ∷ 3 ∷ 2 ∷ 3 ∷ []) (A 9) ∷ line 5 (1 ∷ 1 ∷ 4 ∷ []) (A 9) ∷ line 7 (1 ∷ 4 ∷ []) (M 9 1) ∷ line 8 (1 ∷ 3 ∷ []) (M 9 1) ∷ line 8 (1 ∷ 3 ∷ []) (A 9)
-    ∷ line 2 (4 ∷ 3 ∷ 254 ∷ []) (A 3) ∷ line 10 (1 ∷ 4 ∷ []) (M 3 1) ∷ line 3 (1 ∷ 5 ∷ []) (A 3) ∷ line 6 (1 ∷ 5 ∷ 5 ∷ []) (A 3) ∷ line 16 (3 ∷ []) (A 3) ∷ line 6 (0 ∷ 5 ∷ 0 ∷ []) (R 15) ∷ line 16 (4 ∷ []) (A 4) ∷ line 6 (0 ∷ 5 ∷ 0 ∷ []) (A 3) ∷ line 12 (1 ∷ []) (A 3)
+    ∷ line 2 (4 ∷ 3 ∷ 254 ∷ []) (A 3) ∷ line 6 (0 ∷ 4 ∷ 0 ∷ []) (R 9) ∷ line 10 (1 ∷ 4 ∷ []) (M 3 1) ∷ line 3 (1 ∷ 5 ∷ []) (A 3) ∷ line 6 (1 ∷ 5 ∷ 5 ∷ []) (A 3) ∷ line 16 (3 ∷ []) (A 3) ∷ line 6 (0 ∷ 5 ∷ 0 ∷ []) (R 15) ∷ line 16 (4 ∷ []) (A 4) ∷ line 6 (0 ∷ 5 ∷ 0 ∷ []) (A 3) ∷ line 12 (1 ∷ []) (A 3)
     ∷ line 1 (3 ∷ 9 ∷ 255 ∷ []) (A 9) ∷ line 2 (6 ∷ 2 ∷ 2 ∷ []) (A 2) ∷ line 2 (7 ∷ 3 ∷ 1 ∷ []) (A 3) ∷ line 6 (3 ∷ 6 ∷ 0 ∷ []) (A 2) ∷ line 6 (3 ∷ 7 ∷ 1 ∷ []) (A 3) ∷ line 2 (8 ∷ 3 ∷ 2 ∷ []) (A 3) ∷ line 5 (3 ∷ 8 ∷ 2 ∷ []) (R 9) ∷ line 2 (9 ∷ 2 ∷ 3 ∷ []) (A 2) ∷ line 5 (3 ∷ 9 ∷ 2 ∷ []) (R 9)
     ∷ line 2 (10 ∷ 3 ∷ 3 ∷ []) (A 3) ∷ line 5 (3 ∷ 10 ∷ 2 ∷ []) (A 3) ∷ line 7 (3 ∷ 2 ∷ []) (M 3 6) ∷ line 9 (3 ∷ 4 ∷ []) (A 3) ∷ line 11 (3 ∷ 0 ∷ []) (A 3) ∷ line 11 (3 ∷ 2 ∷ []) (A 3) ∷ line 2 (11 ∷ 3 ∷ 1 ∷ []) (A 3) ∷ line 5 (3 ∷ 11 ∷ 2 ∷ []) (A 3) ∷ line 5 (4 ∷ 11 ∷ 3 ∷ []) (R 9) ∷ line 14 (3 ∷ 11 ∷ 3 ∷ []) (M 3 1) ∷ line 18 (3 ∷ 5 ∷ []) (A 3) ∷ line 3 (5 ∷ 12 ∷ []) (A 3) ∷ line 6 (5 ∷ 10 ∷ 0 ∷ []) (R 9)
     ∷ []
