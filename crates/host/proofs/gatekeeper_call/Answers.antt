@@ -1,5 +1,5 @@
 -- `host::gatekeeper_call` meets its contract. Assumes nothing.
-use mathlib.Core.Path.{sym, ◌∙◌}
+use native.Mathlib.Omega.{arith}
 use Rattle.model.specs.Calls.{decode}
 use Rattle.gatekeeper.specs.View.{direct}
 use Rattle.host.proofs.Calling.{made, called_refused, called_moved, called_unsized}
@@ -16,7 +16,7 @@ returns-then-letter-eq82 c =
     let call = direct a.code a.a a.b a.c a.d a.e a.f in
     let p = made a.state.now {c = decode call} c.load_monitor-m.ensures c.load_tally-tally.ensures k.ensures.0 k.ensures.1 in
     let n = c.to_number-r.ensures in
-    called_refused {r = call} p long (record { number = n.number; back = n.back }) (sym c.letter.ensures ∙ c.if-letter-eq82.true)
+    called_refused {r = call} p long (record { number = n.number; back = n.back }) (omega (arith, c.letter.ensures, c.if-letter-eq82.true))
 
 pub returns : goal.returns
 returns c =
@@ -27,4 +27,4 @@ returns c =
     let p = made a.state.now {c = decode call} c.load_monitor-m.ensures c.load_tally-tally.ensures k.ensures.0 k.ensures.1 in
     let n = c.to_number-r.ensures in
     called_moved {r = call} p long (record { number = n.number; back = n.back })
-    (λ e. c.if-letter-eq82.false (c.letter.ensures ∙ e)) c.store.ensures
+    (λ e. c.if-letter-eq82.false (omega (arith, c.letter.ensures, e))) c.store.ensures

@@ -1,4 +1,5 @@
 -- `journal::read_numbers` meets its contract: each way through it is a law of `Bodies`. Assumes nothing.
+use Rattle.std.proofs.Common.{arith}
 use Rattle.std.proofs.Math.Option.{none, some}
 use Rattle.journal.specs.Answers.{numbers_of}
 use Rattle.journal.specs.Calls.{filled}
@@ -7,10 +8,10 @@ use Rattle.journal.proofs.+read_numbers.Goals as goal
 
 pub returns-then-body-eq0 : goal.returns-then-body-eq0
 unfolding filled
-returns-then-body-eq0 t c = arguments_none _ _ c.if-n-eq0.true c.if-body-eq0.true
+returns-then-body-eq0 t c = arguments_none _ _ c.if-n-eq0.true (omega (arith, c.if-body-eq0.true))
 
 pub returns-then-n-eq0 : goal.returns-then-n-eq0
-returns-then-n-eq0 t c = arguments_left _ _ c.if-n-eq0.true c.if-body-eq0.false
+returns-then-n-eq0 t c = arguments_left _ _ c.if-n-eq0.true (λ e. c.if-body-eq0.false (omega (arith, e)))
 
 pub slice_bounds-read_numbers-count : goal.slice_bounds-read_numbers-count
 slice_bounds-read_numbers-count t c = used_within _ _ _ c.in-Good.ensures

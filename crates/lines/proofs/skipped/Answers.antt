@@ -14,7 +14,7 @@ returns-then-b-ne32 c =
     let l = c.loop-i in
     let line = c.args.line.now in
     record {
-      rest = sym (skip_stop line l.i (omega (arith, c.loop-i-test.true)) c.if-b-ne32.true) ∙ l.invariant.0;
+      rest = sym (skip_stop line l.i (omega (arith, c.loop-i-test.true)) (λ e. c.if-b-ne32.true (omega (arith, e)))) ∙ l.invariant.0;
       on = l.invariant.1;
       within = l.invariant.2;
     }

@@ -1,9 +1,12 @@
 -- `replay::run` meets its contract: a journal that is too long is not run, and any other is. Assumes nothing.
 use mathlib.Core.Path.{subst}
+use Prim.Native.Nat.{◌<◌}
 use native.Mathlib.Omega.{arith}
+use lib.ListN.{length}
 use Rattle.number.specs.Answers.{writing}
 use Rattle.gatekeeper.specs.View.{view}
 use Rattle.replay.proofs.Demand3.Laws.{none_ended}
+use Rattle.replay.specs.Replay.{largest_journal}
 use Rattle.replay.specs.Stage.{Ends, reply_long, reply_whole}
 use Rattle.replay.proofs.run.Goals as goal
 
@@ -11,7 +14,7 @@ pub returns-then-journal-gt-LARGEST_JOURNAL : goal.returns-then-journal-gt-LARGE
 returns-then-journal-gt-LARGEST_JOURNAL c =
     let a = c.args in
     let k = c.too_long-written in
-    let long = c.if-journal-gt-LARGEST_JOURNAL.true in
+    let long : largest_journal < length a.journal.now = omega (arith, c.if-journal-gt-LARGEST_JOURNAL.true) in
     let e = subst (λ x. Ends x a.out.now k.new.out (writing k.result)) (reply_long a.journal.now long) k.ensures in
     record {
       answer = e.0;

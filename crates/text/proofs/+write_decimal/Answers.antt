@@ -26,25 +26,25 @@ returns-then-n-lt10-clause-buffer t c =
     rw e (over_put (byte_after (untouched 0 c.args.out.now (omega arith)) (c.args.n + 48) (omega (arith, ap length e))))
 
 pub write_decimal-at-requires : goal.write_decimal-at-requires
-write_decimal-at-requires t c = (omega arith, omega (arith, length_more c.args.n c.if-n-lt10.false))
+write_decimal-at-requires t c = (omega arith, omega (arith, length_more c.args.n (omega (arith, c.if-n-lt10.false))))
 
 pub bounds-out-at : goal.bounds-out-at
 bounds-out-at t c =
     let w = c.write_decimal-at in
-    let (o, room) = begun c.args.n c.args.out.now c.if-n-lt10.false (omega arith) _ w.ensures.count _ w.ensures.buffer in
+    let (o, room) = begun c.args.n c.args.out.now (omega (arith, c.if-n-lt10.false)) (omega arith) _ w.ensures.count _ w.ensures.buffer in
     omega (arith, o.size, room)
 
 pub overflow_add-result : goal.overflow_add-result
 overflow_add-result t c =
     let w = c.write_decimal-at in
-    let (o, room) = begun c.args.n c.args.out.now c.if-n-lt10.false (omega arith) _ w.ensures.count _ w.ensures.buffer in
+    let (o, room) = begun c.args.n c.args.out.now (omega (arith, c.if-n-lt10.false)) (omega arith) _ w.ensures.count _ w.ensures.buffer in
     omega (arith, room, c.well_formed)
 
 pub returns-clause-count : goal.returns-clause-count
-returns-clause-count t c = omega (arith, c.write_decimal-at.ensures.count, length_more c.args.n c.if-n-lt10.false)
+returns-clause-count t c = omega (arith, c.write_decimal-at.ensures.count, length_more c.args.n (omega (arith, c.if-n-lt10.false)))
 
 pub returns-clause-buffer : goal.returns-clause-buffer
 returns-clause-buffer t c =
     let w = c.write_decimal-at in
-    let (o, room) = begun c.args.n c.args.out.now c.if-n-lt10.false (omega arith) _ w.ensures.count _ w.ensures.buffer in
-    rw (decimal_more c.args.n c.if-n-lt10.false) (over_put (byte_after o (c.args.n % 10 + 48) room))
+    let (o, room) = begun c.args.n c.args.out.now (omega (arith, c.if-n-lt10.false)) (omega arith) _ w.ensures.count _ w.ensures.buffer in
+    rw (decimal_more c.args.n (omega (arith, c.if-n-lt10.false))) (over_put (byte_after o (c.args.n % 10 + 48) room))

@@ -2,6 +2,7 @@
 use mathlib.Core.Path.{refl, subst}
 use mathlib.Core.Logic.{inl, inr}
 use mathlib.Core.List.{List}
+use native.Mathlib.Omega.{arith}
 use Rattle.tables.specs.declared.Object.{Object}
 use Rattle.tables.specs.Slots.{Found}
 use Rattle.gatekeeper.specs.View.{once}
@@ -17,7 +18,7 @@ returns-then-i-ge-OBJECT_NUMBERS c =
     let g = owned_long m c.well_formed.0 in
     let f = subst (λ (l : List Object). Found l m.numbers c.args.o c.slot_of-i.result) c.single-single.ensures c.slot_of-i.ensures in
     let z = told_need m g.objects (read_wf (once m) (once_long m g))
-    c.args.o c.slot_of-i.result 0 f (inr (c.if-i-ge-OBJECT_NUMBERS.true, refl)) in
+    c.args.o c.slot_of-i.result 0 f (inr (omega (arith, c.if-i-ge-OBJECT_NUMBERS.true), refl)) in
     record { kept = z.0; right = z.1 }
 
 pub returns : goal.returns
@@ -26,5 +27,5 @@ returns c =
     let g = owned_long m c.well_formed.0 in
     let f = subst (λ (l : List Object). Found l m.numbers c.args.o c.slot_of-i.result) c.single-single.ensures c.slot_of-i.ensures in
     let z = told_need m g.objects (read_wf (once m) (once_long m g))
-    c.args.o c.slot_of-i.result c.of_object.result f (inl (c.if-i-ge-OBJECT_NUMBERS.false, c.of_object.ensures)) in
+    c.args.o c.slot_of-i.result c.of_object.result f (inl (omega (arith, c.if-i-ge-OBJECT_NUMBERS.false), c.of_object.ensures)) in
     record { kept = z.0; right = z.1 }
