@@ -1,9 +1,10 @@
 -- Renumberings for the slots of a call: where each object that the call names has its slot, the call by number is the call by slot, renumbered. Assumes nothing.
+use Rattle.std.proofs.Common.{◌≢◌}
 use mathlib.Core.Path.{◌≡◌, refl, sym, ◌∙◌, ap, ap₂, subst}
 use mathlib.Core.Bool.{Bool, true, false, not, ◌||◌, cond}
 use mathlib.Core.Logic.{◌⊎◌, inl, inr}
 use mathlib.Core.Option.{none, some, none-ne-some}
-use mathlib.Core.List.{List}
+use mathlib.Core.List.{List, [], ◌∷◌}
 use Prim.Native.Nat.{ℕ, ◌+◌, ◌%◌, ◌≤◌, ◌<◌}
 use native.Mathlib.Omega.{arith}
 use native.Mathlib.Decide.{ℕ_discrete, dec_lt}
@@ -15,8 +16,10 @@ use Rattle.model.specs.Lists.{In, insert}
 use Rattle.model.specs.Lists.Rising.{Rising, insert_in, insert_new, insert_old, insert_rising, insert_length, one_missing, at_least, each_rising, each_of, each_has}
 use Rattle.model.specs.Label.{label}
 use Rattle.model.specs.Flow.{object}
-use Rattle.model.specs.Tables.{file, pipe, entry, Tables}
-use Rattle.model.specs.Calls.{Call, connect, roomy, broken, made, steps}
+use Rattle.model.specs.Tables.{file, pipe, reading, writing, entry, Tables}
+use Rattle.model.specs.Calls.{Call, admit, create, make_pipe, opens, maps, access, connect, fork, thread, exec, close, mark, exit, freeze, unknown, decode, sheds, roomy, broken, made, steps}
+use Rattle.model.proofs.Calls.Codes.{decode_by}
+use Rattle.model.proofs.Calls.Listed.{writes_none}
 use Rattle.model.proofs.Calls.Renaming.{Renumbers, call}
 use Rattle.model.specs.Tables.Numbers.{Distinct}
 use Rattle.model.proofs.Calls.Slots.{to, from, renumbers, placed, reseat, unseat, reseats, reseat_here, reseat_there}
@@ -24,7 +27,7 @@ use Rattle.tables.specs.declared.Object.{Object}
 use Rattle.tables.specs.Records.{object_entry, no_object}
 use Rattle.refusals.specs.Refusing.{Room}
 use Rattle.tables.specs.Slots.{slot_used, Absent, Here, Found, Free, Seated}
-use Rattle.gatekeeper.specs.View.{used_slots}
+use Rattle.gatekeeper.specs.View.{used_slots, direct}
 use Rattle.gatekeeper.specs.Numbering.{noted, Both, Lift}
 
 -- a renumbering that gives each slot in use its number
@@ -179,6 +182,10 @@ module _ (os : List Object) (lo : length os ≡ 64) where
     ]
 
 -- ── calls ──
+pub only_one : (i j : ℕ) → (i ≡ j) ⊎ ⊥ → i ≡ j
+only_one i j (inl q) = q
+only_one i j (inr q) = absurd q
+
 module _ (os : List Object) (ns : List ℕ) (lo : length os ≡ 64) (ln : length ns ≡ 64) (d : Distinct (slot_used os) (λ i. get_or ns i 0) 64) where
   base : Names os ns
   base = record {
@@ -331,3 +338,58 @@ module _ (os : List Object) (ns : List ℕ) (lo : length os ≡ 64) (ln : length
                     in_case : Here os ns e z ⊎ (Absent os ns e × Free os x z) → ⊥
                     in_case (inl h) = clash h.0 h.1 h.2
                     in_case (inr h) = free h.1.is
+
+  -- ── by code ──
+  -- the codes whose calls name objects
+  abbrev pub naming : List ℕ
+  naming = 2 ∷ 3 ∷ 4 ∷ 5 ∷ 6 ∷ 10 ∷ 13 ∷ 14 ∷ 17 ∷ []
+
+  -- no other call does
+  pub lift_rest : (n a b c d' e f : ℕ) → (In n naming → ⊥) → Lift os ns (decode (direct n a b c d' e f)) (decode (direct n a b c d' e f)) ns
+  lift_rest n a b c d' e f h = decode_by (λ k. Lift os ns k k ns) (direct n a b c d' e f) (
+    λ q. lift_none (admit a (label b c)) (λ ρ σ v l. refl) (λ t i z. z) (λ t. tt),
+    (λ q. absurd (h (inl (sym q))), (λ q. absurd (h (inr (inl (sym q)))), (λ q. absurd (h (inr (inr (inl (sym q))))), (
+      λ q. absurd (h (inr (inr (inr (inl (sym q)))))),
+      (λ q. absurd (h (inr (inr (inr (inr (inl (sym q))))))), (
+        λ q. lift_none (access reading a b) (λ ρ σ v l. refl) (λ t i z. z) (λ t. tt),
+        (λ q. lift_none (access writing a b) (λ ρ σ v l. refl) (λ t i z. writes_none t a b i z) (λ t. tt), (
+          λ q. lift_none (fork a b) (λ ρ σ v l. refl) (λ t i z. z) (λ t. tt),
+          (λ q. absurd (h (inr (inr (inr (inr (inr (inl (sym q)))))))), (
+            λ q. lift_none (close a b) (λ ρ σ v l. refl) (λ t i z. z) (λ t. tt),
+            (λ q. lift_none (exit a) (λ ρ σ v l. refl) (λ t i z. z) (λ t. tt), (
+              λ q. absurd (h (inr (inr (inr (inr (inr (inr (inl (sym q))))))))),
+              (λ q. absurd (h (inr (inr (inr (inr (inr (inr (inr (inl (sym q)))))))))), (
+                λ q. lift_none (mark a b) (λ ρ σ v l. refl) (λ t i z. z) (λ t. tt),
+                (λ q. lift_none (freeze a) (λ ρ σ v l. refl) (λ t i z. z) (λ t. tt), (
+                  λ q. absurd (h (inr (inr (inr (inr (inr (inr (inr (inr (inl (sym q))))))))))),
+                  (λ q. lift_none (thread a b) (λ ρ σ v l. refl) (λ t i z. z) (λ t. tt), tt),
+                )),
+              )),
+            )),
+          )),
+        )),
+      )),
+    )))),
+  ) (λ m. lift_none unknown (λ ρ σ v l. refl) (λ t i z. z) (λ t. tt))
+
+  -- calls 3 and 4 make an object by their second number, in slot i
+  pub lift_second_made : (n a b c d' e f i : ℕ) → (n ≢ 3 → n ≡ 4) → Seated os ns b 64 i
+      → Lift os ns (decode (direct n a b c d' e f)) (decode (direct n a i c d' e f)) (noted ns i b)
+  unfolding decode
+  lift_second_made n a b c d' e f i h s = go (ℕ_discrete n 3)
+    where
+      go : Dec (n ≡ 3) → Lift os ns (decode (direct n a b c d' e f)) (decode (direct n a i c d' e f)) (noted ns i b)
+      go (yes q) = rw q (lift_made (λ (o : ℕ). create a o) b i s (λ ρ σ v l j. refl) (λ t j z. only_one _ _ z) (λ t r. r))
+      go (no q) = rw (h q) (lift_made (λ (o : ℕ). make_pipe a o c d') b i s (λ ρ σ v l j. refl) (λ t j z. only_one _ _ z) (λ t r. r))
+
+  -- calls 5, 6, 10 and 14 name a live one by theirs
+  pub lift_second_named : (n a b c d' e f i : ℕ) → (n ≢ 5 → n ≢ 6 → n ≢ 10 → n ≡ 14) → Found os ns b i
+      → Lift os ns (decode (direct n a b c d' e f)) (decode (direct n a i c d' e f)) ns
+  unfolding decode sheds
+  lift_second_named n a b c d' e f i h s = go (ℕ_discrete n 5) (ℕ_discrete n 6) (ℕ_discrete n 10)
+    where
+      go : Dec (n ≡ 5) → Dec (n ≡ 6) → Dec (n ≡ 10) → Lift os ns (decode (direct n a b c d' e f)) (decode (direct n a i c d' e f)) ns
+      go (yes q) k l = rw q (lift_named (λ (o : ℕ). opens reading a o c) b i s (λ ρ σ v l j. refl) (λ t j z. z) (λ t. tt))
+      go (no q) (yes k) l = rw k (lift_named (λ (o : ℕ). opens writing a o c) b i s (λ ρ σ v l j. refl) (λ t j z. z) (λ t. tt))
+      go (no q) (no k) (yes l) = rw l (lift_named (λ (o : ℕ). exec a o) b i s (λ ρ σ v l j. refl) (λ t j z. z) (λ t. tt))
+      go (no q) (no k) (no l) = rw (h q k l) (lift_named (λ (o : ℕ). maps a o c) b i s (λ ρ σ v l j. refl) (λ t j z. z) (λ t. tt))
