@@ -58,12 +58,13 @@ impl Monitor {
         let sank = is_less(looks::object_label(put), looks::object_label(y));
         let lost = labels::lost(y.shops, put.shops);
         let lower = mappings::is_lower(before, readers);
+        let fell = sank || lower;
         let rest = looks::with_object(self.objects, number, put);
         self.subjects = readers;
         self.objects = rest;
         Reply {
             monitor: self,
-            answer: answers::not_refused(sank || lower, put.level, lost),
+            answer: answers::not_refused(fell, put.level, lost),
         }
     }
 

@@ -3,6 +3,7 @@ use mathlib.Core.Path.{refl, ◌∙◌, ap}
 use Prim.Native.Nat.{ℕ}
 use Rattle.tables.specs.Working.{joining}
 use Rattle.tables.specs.Records.{tables_of}
+use Rattle.gatekeeper.specs.View.{slots}
 use Rattle.gatekeeper.proofs.Acting.{stops, ends}
 use Rattle.gatekeeper.proofs.Owned.{owned_long}
 use Rattle.gatekeeper.proofs.Storing.{open_late, opens_acts, opens_keeps}
@@ -18,7 +19,7 @@ returns-in-Err-last-clause-acts c =
     let i = c.joining-put.ensures ∙ ap (λ (i : ℕ). joining i c.args.o) c.way_of.ensures in
     let z = c.in_default.ensures _ _ _ _ firm.wf c.subject-x.ensures c.object-y.ensures.stands c.handle-h.ensures in
     ends (c.in-Err-last.ensures _ _ z (open_late _ (owned_long _ c.well_formed.0) _ _ _ _ _ _ _ _ _ firm.wf z c.object-y.ensures.stands i c.with_handle-next.ensures c.opened-w.ensures
-    firm.safe _ (c.is_frozen-frozen.ensures _ _ refl c.object-y.ensures.stands))) c.refuse-in-Err-last.ensures
+    firm.safe _ (c.is_frozen-frozen.ensures (slots c.args.self) _ refl c.object-y.ensures.stands))) c.refuse-in-Err-last.ensures
 
 pub returns-clause-acts : goal.returns-clause-acts
 unfolding tables_of
@@ -29,7 +30,7 @@ returns-clause-acts c =
     let z = c.in_default.ensures _ _ _ _ firm.wf c.subject-x.ensures c.object-y.ensures.stands c.handle-h.ensures in
     opens_acts _ g _ _ _ _ _ _ _ _ _ firm.wf z c.object-y.ensures.stands i c.with_handle-next.ensures c.opened-w.ensures
     (c.in_default-last.ensures _ _ z (open_late _ g _ _ _ _ _ _ _ _ _ firm.wf z c.object-y.ensures.stands i c.with_handle-next.ensures c.opened-w.ensures
-    firm.safe _ (c.is_frozen-frozen.ensures _ _ refl c.object-y.ensures.stands))).is
+    firm.safe _ (c.is_frozen-frozen.ensures (slots c.args.self) _ refl c.object-y.ensures.stands))).is
 
 pub returns-clause-keeps : goal.returns-clause-keeps
 returns-clause-keeps c =
