@@ -4,7 +4,7 @@ use mathlib.Core.Path.{◌≡◌, refl, sym, ◌∙◌, ap, ap₂, subst}
 use mathlib.Core.Bool.{Bool, true, false, not, ◌||◌, cond}
 use mathlib.Core.Logic.{◌⊎◌, inl, inr}
 use mathlib.Core.Option.{none, some, none-ne-some}
-use mathlib.Core.List.{List, [], ◌∷◌}
+use mathlib.Core.List.{List}
 use Prim.Native.Nat.{ℕ, ◌+◌, ◌%◌, ◌≤◌, ◌<◌}
 use native.Mathlib.Omega.{arith}
 use native.Mathlib.Decide.{ℕ_discrete, dec_lt}
@@ -17,7 +17,7 @@ use Rattle.model.specs.Lists.Rising.{Rising, insert_in, insert_new, insert_old, 
 use Rattle.model.specs.Label.{label}
 use Rattle.model.specs.Flow.{object}
 use Rattle.model.specs.Tables.{file, pipe, reading, writing, entry, Tables}
-use Rattle.model.specs.Calls.{Call, admit, create, make_pipe, opens, maps, access, connect, fork, thread, exec, close, mark, exit, freeze, unknown, decode, sheds, roomy, broken, made, steps}
+use Rattle.model.specs.Calls.{Call, admit, register, create, make_pipe, opens, maps, access, connect, fork, thread, exec, close, mark, exit, retire, freeze, unknown, decode, sheds, roomy, broken, made, steps}
 use Rattle.model.proofs.Calls.Codes.{decode_by}
 use Rattle.model.proofs.Calls.Listed.{writes_none}
 use Rattle.model.proofs.Calls.Renaming.{Renumbers, call}
@@ -186,6 +186,26 @@ pub only_one : (i j : ℕ) → (i ≡ j) ⊎ ⊥ → i ≡ j
 only_one i j (inl q) = q
 only_one i j (inr q) = absurd q
 
+-- a call that names no object
+abbrev nameless : Call → Bool
+nameless (admit s n) = true
+nameless (access d s p) = true
+nameless (fork s c) = true
+nameless (thread s c) = true
+nameless (close s p) = true
+nameless (mark s p) = true
+nameless (exit s) = true
+nameless (freeze n) = true
+nameless unknown = true
+nameless (register o n) = false
+nameless (create s o) = false
+nameless (make_pipe s o r w) = false
+nameless (connect s u a b p q) = false
+nameless (opens d s o p) = false
+nameless (maps s o p) = false
+nameless (exec s o) = false
+nameless (retire o) = false
+
 module _ (os : List Object) (ns : List ℕ) (lo : length os ≡ 64) (ln : length ns ≡ 64) (d : Distinct (slot_used os) (λ i. get_or ns i 0) 64) where
   base : Names os ns
   base = record {
@@ -340,37 +360,35 @@ module _ (os : List Object) (ns : List ℕ) (lo : length os ≡ 64) (ln : length
                     in_case (inr h) = free h.1.is
 
   -- ── by code ──
-  -- the codes whose calls name objects
-  abbrev pub naming : List ℕ
-  naming = 2 ∷ 3 ∷ 4 ∷ 5 ∷ 6 ∷ 10 ∷ 13 ∷ 14 ∷ 17 ∷ []
+  -- a call that names no object is the same by slot
+  lift_same : (k : Call) → T (nameless k) → Lift os ns k k ns
+  lift_same (admit s n) h = lift_none (admit s n) (λ ρ σ v l. refl) (λ t i z. z) (λ t. tt)
+  lift_same (access reading s p) h = lift_none (access reading s p) (λ ρ σ v l. refl) (λ t i z. z) (λ t. tt)
+  lift_same (access writing s p) h = lift_none (access writing s p) (λ ρ σ v l. refl) (λ t i z. writes_none t s p i z) (λ t. tt)
+  lift_same (fork s c) h = lift_none (fork s c) (λ ρ σ v l. refl) (λ t i z. z) (λ t. tt)
+  lift_same (thread s c) h = lift_none (thread s c) (λ ρ σ v l. refl) (λ t i z. z) (λ t. tt)
+  lift_same (close s p) h = lift_none (close s p) (λ ρ σ v l. refl) (λ t i z. z) (λ t. tt)
+  lift_same (mark s p) h = lift_none (mark s p) (λ ρ σ v l. refl) (λ t i z. z) (λ t. tt)
+  lift_same (exit s) h = lift_none (exit s) (λ ρ σ v l. refl) (λ t i z. z) (λ t. tt)
+  lift_same (freeze n) h = lift_none (freeze n) (λ ρ σ v l. refl) (λ t i z. z) (λ t. tt)
+  lift_same unknown h = lift_none unknown (λ ρ σ v l. refl) (λ t i z. z) (λ t. tt)
+  lift_same (register o n) h = absurd h
+  lift_same (create s o) h = absurd h
+  lift_same (make_pipe s o r w) h = absurd h
+  lift_same (connect s u c d' p q) h = absurd h
+  lift_same (opens d' s o p) h = absurd h
+  lift_same (maps s o p) h = absurd h
+  lift_same (exec s o) h = absurd h
+  lift_same (retire o) h = absurd h
 
-  -- no other call does
-  pub lift_rest : (n a b c d' e f : ℕ) → (In n naming → ⊥) → Lift os ns (decode (direct n a b c d' e f)) (decode (direct n a b c d' e f)) ns
-  lift_rest n a b c d' e f h = decode_by (λ k. Lift os ns k k ns) (direct n a b c d' e f) (
-    λ q. lift_none (admit a (label b c)) (λ ρ σ v l. refl) (λ t i z. z) (λ t. tt),
-    (λ q. absurd (h (inl (sym q))), (λ q. absurd (h (inr (inl (sym q)))), (λ q. absurd (h (inr (inr (inl (sym q))))), (
-      λ q. absurd (h (inr (inr (inr (inl (sym q)))))),
-      (λ q. absurd (h (inr (inr (inr (inr (inl (sym q))))))), (
-        λ q. lift_none (access reading a b) (λ ρ σ v l. refl) (λ t i z. z) (λ t. tt),
-        (λ q. lift_none (access writing a b) (λ ρ σ v l. refl) (λ t i z. writes_none t a b i z) (λ t. tt), (
-          λ q. lift_none (fork a b) (λ ρ σ v l. refl) (λ t i z. z) (λ t. tt),
-          (λ q. absurd (h (inr (inr (inr (inr (inr (inl (sym q)))))))), (
-            λ q. lift_none (close a b) (λ ρ σ v l. refl) (λ t i z. z) (λ t. tt),
-            (λ q. lift_none (exit a) (λ ρ σ v l. refl) (λ t i z. z) (λ t. tt), (
-              λ q. absurd (h (inr (inr (inr (inr (inr (inr (inl (sym q))))))))),
-              (λ q. absurd (h (inr (inr (inr (inr (inr (inr (inr (inl (sym q)))))))))), (
-                λ q. lift_none (mark a b) (λ ρ σ v l. refl) (λ t i z. z) (λ t. tt),
-                (λ q. lift_none (freeze a) (λ ρ σ v l. refl) (λ t i z. z) (λ t. tt), (
-                  λ q. absurd (h (inr (inr (inr (inr (inr (inr (inr (inr (inl (sym q))))))))))),
-                  (λ q. lift_none (thread a b) (λ ρ σ v l. refl) (λ t i z. z) (λ t. tt), tt),
-                )),
-              )),
-            )),
-          )),
-        )),
-      )),
-    )))),
-  ) (λ m. lift_none unknown (λ ρ σ v l. refl) (λ t i z. z) (λ t. tt))
+  -- so are those of all codes but nine
+  pub lift_rest : (n a b c d' e f : ℕ) → n ≢ 2 → n ≢ 3 → n ≢ 4 → n ≢ 5 → n ≢ 6 → n ≢ 10 → n ≢ 13 → n ≢ 14 → n ≢ 17
+      → Lift os ns (decode (direct n a b c d' e f)) (decode (direct n a b c d' e f)) ns
+  lift_rest n a b c d' e f n2 n3 n4 n5 n6 n10 n13 n14 n17 = lift_same (decode (direct n a b c d' e f)) (decode_by (λ k. T (nameless k)) (direct n a b c d' e f)
+      (ok, (n2, (n3, (n4, (n5, (n6, (ok, (ok, (ok, (n10, (ok, (ok, (n13, (n14, (ok, (ok, (n17, (ok, tt)))))))))))))))))) (λ m. tt))
+    where
+      ok : {k : ℕ} → n ≡ k → Unit {0}
+      ok q = tt
 
   -- calls 3 and 4 make an object by their second number, in slot i
   pub lift_second_made : (n a b c d' e f i : ℕ) → (n ≢ 3 → n ≡ 4) → Seated os ns b 64 i

@@ -11,8 +11,8 @@ ghost use Rattle.gatekeeper.specs.Acting.{Firm, Acts, Keeps};
 ghost use Rattle.tables.specs.Slots.{single};
 ghost use Rattle.refusals.specs.Refusing.{Room};
 
-use answers::Refusal;
 use crate::{Monitor, Reply, SURE, seats};
+use answers::Refusal;
 use tables::slots;
 
 impl Monitor {

@@ -19,13 +19,28 @@ impl Monitor {
         if let Err(refusal) = refusals::of_held(x, h) {
             return self.refuse(refusal);
         }
-        let handles = looks::with_handle(self.handles, s, p, Handle { way: EMPTY, object: 0, mark: 0 });
+        let handles = looks::with_handle(
+            self.handles,
+            s,
+            p,
+            Handle {
+                way: EMPTY,
+                object: 0,
+                mark: 0,
+            },
+        );
         let number = h.object as u64;
         let y = self.object(number);
         let left = handles::outlived(handles, y, h.object);
         let rest = looks::with_object(self.objects, number, left);
         let needs = keeping::closed(
-            self.needs, self.subjects, self.groups, self.objects, handles, s, h,
+            self.needs,
+            self.subjects,
+            self.groups,
+            self.objects,
+            handles,
+            s,
+            h,
         );
         self.objects = rest;
         self.handles = handles;
@@ -46,7 +61,15 @@ impl Monitor {
         }
         let after = handles::vacated(self.handles, s);
         let left = handles::reaped(self.objects, self.handles, after);
-        let rest = looks::with_subject(self.subjects, s, Subject { live: 0, level: 0, shops: 0 });
+        let rest = looks::with_subject(
+            self.subjects,
+            s,
+            Subject {
+                live: 0,
+                level: 0,
+                shops: 0,
+            },
+        );
         let needs = keeping::vacated(self.needs, rest, self.groups, self.objects, after, s);
         self.subjects = rest;
         self.objects = left;
@@ -70,7 +93,15 @@ impl Monitor {
         if let Err(refusal) = refusals::last(false, busy, false) {
             return self.refuse(refusal);
         }
-        let rest = looks::with_object(self.objects, o, Object { kind: FREE, level: 0, shops: 0 });
+        let rest = looks::with_object(
+            self.objects,
+            o,
+            Object {
+                kind: FREE,
+                level: 0,
+                shops: 0,
+            },
+        );
         self.objects = rest;
         Reply {
             monitor: self,

@@ -129,7 +129,14 @@ impl Monitor {
         let next = looks::with_handle(self.handles, s, p, put);
         let sure = self.sure == SURE;
         let w = keeping::opened(
-            sure, self.needs, self.subjects, self.groups, self.objects, next, s, put,
+            sure,
+            self.needs,
+            self.subjects,
+            self.groups,
+            self.objects,
+            next,
+            s,
+            put,
         );
         let frozen = refusals::is_frozen(self.freeze, reads, y);
         if let Err(refusal) = refusals::last(w.short, false, frozen) {

@@ -118,15 +118,22 @@ impl Monitor {
         let next = looks::with_handle(self.handles, s, p, opened);
         let sure = self.sure == SURE;
         let w = keeping::opened(
-            sure, self.needs, self.subjects, self.groups, self.objects, next, s, opened,
+            sure,
+            self.needs,
+            self.subjects,
+            self.groups,
+            self.objects,
+            next,
+            s,
+            opened,
         );
         if let Err(refusal) = refusals::last(w.short, false, false) {
             return self.refuse(refusal);
         }
         let needs = w.needs;
         let put = looks::fallen(x, y.level, y.shops);
-        let t = mappings::taken(self.subjects, self.groups, s, y.level, y.shops);
-        let after = t.subjects;
+        let fell = mappings::taken(self.subjects, self.groups, s, y.level, y.shops);
+        let after = fell.subjects;
         let all = looks::with_handle(self.handles, s, p, looks::joining(MAPS, o));
         self.subjects = after;
         self.handles = all;
@@ -134,7 +141,7 @@ impl Monitor {
         let lost = labels::lost(x.shops, put.shops);
         Reply {
             monitor: self,
-            answer: answers::not_refused(t.lower, put.level, lost),
+            answer: answers::not_refused(fell.lower, put.level, lost),
         }
     }
 }

@@ -82,5 +82,11 @@ pub fn located(
         17 => (c, d) = makes_both(objects, &mut numbers, c, d),
         _ => {}
     }
-    Seats { numbers, a, b, c, d }
+    Seats {
+        numbers,
+        a,
+        b,
+        c,
+        d,
+    }
 }

@@ -8,4 +8,4 @@ pub returns-in-Err : goal.returns-in-Err
 returns-in-Err c = λ w. stops (c.in-Err.ensures _ w) c.refuse.ensures
 
 pub returns : goal.returns
-returns c = λ w. freezes _ (owned_long _ c.well_formed.0) _ w (c.in_default.ensures _ w).said 
+returns c = λ w. freezes _ (owned_long _ c.well_formed.0) _ w (c.in_default.ensures _ w).said

@@ -27,8 +27,8 @@ returns-clause-acts c =
     let all = c.with_handle-all.ensures ∙ ap (set a.self.handles (a.s % 32 * 16 + a.p % 16)) c.joining.ensures in
     maps_acts _ g _ _ _ _ _ _ _ _ firm.wf z c.object-y.ensures.stands c.joining-opened.ensures c.with_handle-next.ensures c.opened-w.ensures _ _ _ _ _ _ c.subject-x.ensures
     (c.in_default-last.ensures _ _ z (map_late _ g _ _ _ _ _ _ _ _ firm.wf z c.object-y.ensures.stands c.joining-opened.ensures c.with_handle-next.ensures
-    c.opened-w.ensures firm.safe)).is c.fallen-put.ensures (c.taken-t.ensures.tables, (c.taken-t.ensures.lower, c.taken-t.ensures.live)) all
-    (c.not_refused.ensures ∙ ap (outcome c.taken-t.result.lower c.fallen-put.result.level) c.lost-lost.ensures)
+    c.opened-w.ensures firm.safe)).is c.fallen-put.ensures (c.taken-fell.ensures.tables, (c.taken-fell.ensures.lower, c.taken-fell.ensures.live)) all
+    (c.not_refused.ensures ∙ ap (outcome c.taken-fell.result.lower c.fallen-put.result.level) c.lost-lost.ensures)
 
 pub returns-clause-keeps : goal.returns-clause-keeps
 returns-clause-keeps c =
@@ -37,4 +37,4 @@ returns-clause-keeps c =
     let z = c.in_default.ensures _ _ _ w c.subject-x.ensures c.object-y.ensures.stands c.handle-h.ensures in
     let all = c.with_handle-all.ensures ∙ ap (set a.self.handles (a.s % 32 * 16 + a.p % 16)) c.joining.ensures in
     maps_keeps _ (owned_long _ c.well_formed.0) _ _ _ _ _ _ _ _ w z c.object-y.ensures.stands c.joining-opened.ensures c.with_handle-next.ensures c.opened-w.ensures _ _ _
-    (c.taken-t.ensures.tables, (c.taken-t.ensures.lower, c.taken-t.ensures.live)) all
+    (c.taken-fell.ensures.tables, (c.taken-fell.ensures.lower, c.taken-fell.ensures.live)) all

@@ -52,11 +52,13 @@ returns-in_default c =
     let a = c.args in
     let lo : length a.objects ≡ 64 = omega arith in
     let ln : length a.numbers ≡ 64 = omega arith in
-    λ e f dd. lift_rest a.objects a.numbers lo ln dd a.code a.a a.b a.c a.d e f (λ h. grind arith)
+    λ e f dd. lift_rest a.objects a.numbers lo ln dd a.code a.a a.b a.c a.d e f
+    (omega arith) (omega arith) (omega arith) (omega arith) (omega arith) (omega arith) (omega arith) (omega arith) (omega arith)
 
 pub returns-in_default-2 : goal.returns-in_default-2
 returns-in_default-2 c =
     let a = c.args in
     let lo : length a.objects ≡ 64 = omega arith in
     let ln : length a.numbers ≡ 64 = omega arith in
-    λ e f dd. lift_rest a.objects a.numbers lo ln dd a.code a.a a.b a.c a.d e f (λ h. grind arith)
+    λ e f dd. lift_rest a.objects a.numbers lo ln dd a.code a.a a.b a.c a.d e f
+    (omega arith) (omega arith) (omega arith) (omega arith) (omega arith) (grind arith) (omega arith) (grind arith) (omega arith)
