@@ -1,19 +1,18 @@
--- `host::lent::step` meets its contract. Assumes nothing.
+-- `host::lent::gatekeeper_monitor_call` meets its contract. Assumes nothing.
 use mathlib.Core.Path.{◌≡◌, sym, ap, ap₂, ◌∙◌, subst}
 use Prim.Native.Nat.{ℕ}
 use Rattle.model.specs.Calls.{Raw, decode, Answer}
 use Rattle.model.specs.Promise.{Meets}
-use Rattle.gatekeeper.specs.View.{monitors, direct}
+use Rattle.gatekeeper.specs.View.{monitors}
 use Rattle.gatekeeper.specs.declared.Monitor.{Monitor}
 use Rattle.tally.specs.declared.Tally.{Tally}
 use Rattle.tally.specs.Counting.{Tallies}
 use Rattle.host.specs.declared.lent.State.{State}
 use Rattle.host.specs.Numbers.{answer_number, answer_in}
 use Rattle.host.specs.Lending.{lent_kind, Lends}
-use Rattle.host.proofs.lent.step.Goals as goal
+use Rattle.host.proofs.lent.gatekeeper_monitor_call.Goals as goal
 
 -- a counted call from x to y, of which the answer a crosses as the number n
-
 lends : {x y : State} {r : Raw} {n : ℕ} (a : Answer) → Meets monitors x.monitor (decode r) a y.monitor
     → Tallies x.monitor x.tally (decode r) a y.tally → n ≡ answer_number a → answer_in n ≡ a → Lends x r n y
 lends {x = x} {y = y} {r = r} a p q e back = record {
@@ -33,7 +32,6 @@ lends {x = x} {y = y} {r = r} a p q e back = record {
 
 pub returns : goal.returns
 returns c =
-    let a = c.args in
-    let k = c.counted_call-counted.ensures in
-    let n = c.to_number-number.ensures in
-    lends {r = direct a.code a.a a.b a.c a.d a.e a.f} _ k.0 k.1 n.number n.back
+    let k = c.lent_call-reply.ensures in
+    let n = c.to_number.ensures in
+    lends _ k.0 k.1 n.number n.back
