@@ -1,7 +1,8 @@
 -- How far a reply has come: what has been written, and what is left. The inner loop of the replay keeps it; no caller needs it. Assumes nothing.
 use Rattle.std.specs.Prelude.{◌≡◌, refl, Bool, true, false, cond, List, [], ◌∷◌, ◌++◌, ℕ, zero, suc, ◌+◌, ◌*◌, ◌-◌, ◌≤◌, ◌<◌, length, take, drop}
 use Rattle.std.proofs.Common.{sym, ◌∙◌, ap, subst, append_assoc, append-nil, arith, add-one, lt-ltb, le-ltb, length-append, take_at}
-use Rattle.std.proofs.Math.Option.{Option, none, some, none-ne-some}
+use Rattle.std.specs.Prelude.{Option, Some, None}
+use Rattle.std.proofs.lemmas.Option.{none-some}
 use borrow.Rule.Slice.PartMut.{put_mid}
 use Rattle.model.specs.Tables.{Tables, empty}
 use Rattle.model.specs.Invariant.{Kept}
@@ -58,22 +59,22 @@ same_begun whole first = record { count = 0; front = refl; after = refl }
 abbrev pub Ends : (text first out : List ℕ) → Option ℕ → Type 0
 Ends text first out answer =
     (answer ≡ fitted text first)
-    × (((k : ℕ) → answer ≡ some k → out ≡ put text first) × (Begun text first out × (reply_room ≤ length first → length text ≤ length first)))
+    × (((k : ℕ) → answer ≡ Some k → out ≡ put text first) × (Begun text first out × (reply_room ≤ length first → length text ≤ length first)))
 
 -- all of the text is written
-pub all_ends : (text first out : List ℕ) (n : ℕ) → Over first text n out → Ends text first out (some n)
+pub all_ends : (text first out : List ℕ) (n : ℕ) → Over first text n out → Ends text first out (Some n)
 all_ends text first out n v =
-    let fit : some n ≡ fitted text first = ap some (over_count v) ∙ sym (fitted_fits text first (omega (arith, over_count v, v.within))) in
+    let fit : Some n ≡ fitted text first = ap Some (over_count v) ∙ sym (fitted_fits text first (omega (arith, over_count v, v.within))) in
     (fit, (λ k z. over_put v, (over_begun text first text [] out n v (append-nil text), λ _. (fits text first n (sym fit)).1)))
 
 -- there is no room for all of it, and what stands there is its front
-pub none_ends : (text first out : List ℕ) → none ≡ fitted text first → Begun text first out → (reply_room ≤ length first → ⊥)
-    → Ends text first out none
-none_ends text first out short begun full = (short, (λ k z. absurd (none-ne-some k z), (begun, λ room. absurd (full room))))
+pub none_ends : (text first out : List ℕ) → None ≡ fitted text first → Begun text first out → (reply_room ≤ length first → ⊥)
+    → Ends text first out None
+none_ends text first out short begun full = (short, (λ k z. absurd (none-some k z), (begun, λ room. absurd (full room))))
 
 -- there is room for what is no longer than `most`, where that much is left
 room_left : (first done out e : List ℕ) (used most : ℕ) → Over first done used out → length e ≤ most → used + most ≤ length first
-    → none ≡ fitted e (take (length out - used) (drop used out)) → ⊥
+    → None ≡ fitted e (take (length out - used) (drop used out)) → ⊥
 room_left first done out e used most v short h answer =
     omega (arith, rest_length v, fits_not e (take (length out - used) (drop used out)) (sym answer), v.size)
 
@@ -87,7 +88,7 @@ module _ (j first out : List ℕ) (p used : ℕ) where
     rejoined = ap (λ (k : List ℕ). g.done ++ k) (sym (left_more m n y z code a g.kept p s l plain o)) ∙ g.sum
 
     -- the record's line is written
-    pub more : (ys : List ℕ) (k : ℕ) → some k ≡ fitted e (take (length out - used) (drop used out))
+    pub more : (ys : List ℕ) (k : ℕ) → Some k ≡ fitted e (take (length out - used) (drop used out))
         → ys ≡ put e (take (length out - used) (drop used out))
         → Stage j first (put_mid used (length out - used) out ys) (view n) z (suc p) (used + k) l
     more ys k answer wrote = record {
@@ -100,14 +101,14 @@ module _ (j first out : List ℕ) (p used : ℕ) where
     }
 
     -- there is no room for it, and so none for the whole
-    pub no_more : none ≡ fitted e (take (length out - used) (drop used out)) → none ≡ fitted (whole j) first
+    pub no_more : None ≡ fitted e (take (length out - used) (drop used out)) → None ≡ fitted (whole j) first
     no_more answer = sym (fitted_none (whole j) first (omega (arith, length-append g.done (e ++ left (suc p) (view n) z l), length-append e (left (suc p) (view n) z l), ap length rejoined, over_count g.over, rest_length g.over, fits_not e (take (length out - used) (drop used out)) (sym answer), g.over.within)))
 
   -- what comes next, of at most `most` bytes, has no room: the buffer stays as it is, and was shorter than any reply needs
   pub short_ends : (t : Tables) (y : Tally) (rest : List Said) (g : Stage j first out t y p used rest) (e : List ℕ) (most : ℕ) → length e ≤ most
-      → (reply_room ≤ length first → used + most ≤ length first) → none ≡ fitted (whole j) first
-      → (ys : List ℕ) → none ≡ fitted e (take (length out - used) (drop used out)) → ys ≡ put e (take (length out - used) (drop used out))
-      → Ends (whole j) first (put_mid used (length out - used) out ys) none
+      → (reply_room ≤ length first → used + most ≤ length first) → None ≡ fitted (whole j) first
+      → (ys : List ℕ) → None ≡ fitted e (take (length out - used) (drop used out)) → ys ≡ put e (take (length out - used) (drop used out))
+      → Ends (whole j) first (put_mid used (length out - used) out ys) None
   short_ends t y rest g e most thin room short ys answer wrote = none_ends (whole j) first (put_mid used (length out - used) out ys) short
       (subst (λ (b : List ℕ). Begun (whole j) first b) (sym (none_after g.over e ys answer wrote))
       (over_begun (whole j) first g.done (left p t y rest) out used g.over g.sum))
@@ -115,14 +116,14 @@ module _ (j first out : List ℕ) (p used : ℕ) where
 
   module _ (t : Tables) (y : Tally) (g : Stage j first out t y p used []) where
     -- the last line is written, and the whole with it
-    pub ended : (ys : List ℕ) (k : ℕ) → some k ≡ fitted (last_line y) (take (length out - used) (drop used out))
+    pub ended : (ys : List ℕ) (k : ℕ) → Some k ≡ fitted (last_line y) (take (length out - used) (drop used out))
         → ys ≡ put (last_line y) (take (length out - used) (drop used out))
-        → Ends (whole j) first (put_mid used (length out - used) out ys) (some (used + k))
+        → Ends (whole j) first (put_mid used (length out - used) out ys) (Some (used + k))
     ended ys k answer wrote = all_ends (whole j) first (put_mid used (length out - used) out ys) (used + k)
         (subst (λ (d : List ℕ). Over first d (used + k) (put_mid used (length out - used) out ys)) g.sum
         (put_after g.over (last_line y) ys k answer wrote))
 
-    not_ended : none ≡ fitted (last_line y) (take (length out - used) (drop used out)) → none ≡ fitted (whole j) first
+    not_ended : None ≡ fitted (last_line y) (take (length out - used) (drop used out)) → None ≡ fitted (whole j) first
     not_ended answer = sym (fitted_none (whole j) first (omega (arith, length-append g.done (last_line y), ap length g.sum, over_count g.over, rest_length g.over, fits_not (last_line y) (take (length out - used) (drop used out)) (sym answer), g.over.within)))
 
 -- ── the loop ──
@@ -162,7 +163,7 @@ module _ (j first out : List ℕ) (at p used : ℕ) (m : Monitor) (y : Tally) (g
 
     module _ (n : Monitor) (z : Tally) (code : ℕ) (a : Answer) (o : Turned m y s code a n z)
         (thin : length (answer_line p code a) ≤ longest_line) where
-      pub record_turn : (ys : List ℕ) (k : ℕ) → some k ≡ fitted (answer_line p code a) (take (length out - used) (drop used out))
+      pub record_turn : (ys : List ℕ) (k : ℕ) → Some k ≡ fitted (answer_line p code a) (take (length out - used) (drop used out))
           → ys ≡ put (answer_line p code a) (take (length out - used) (drop used out))
           → Going j first (put_mid used (length out - used) out ys) (view n) z next (p + 1) (used + k) true
       record_turn ys k answer wrote = let (i, far, g') = here in record {
@@ -182,16 +183,16 @@ module _ (j first out : List ℕ) (at p used : ℕ) (m : Monitor) (y : Tally) (g
             (sym (add-one p)) (more j first out p used m n y z s (records i j next) code a (body_plain (take len (drop start j))) o g' ys k answer wrote);
       }
 
-      record_short : none ≡ fitted (answer_line p code a) (take (length out - used) (drop used out))
-          → none ≡ fitted (whole j) first
+      record_short : None ≡ fitted (answer_line p code a) (take (length out - used) (drop used out))
+          → None ≡ fitted (whole j) first
       record_short answer =
           let (i, far, g') = here in
           no_more j first out p used m n y z s (records i j next) code a (body_plain (take len (drop start j))) o g' answer
 
       pub record_ends : length j ≤ largest_journal → (ys : List ℕ)
-          → none ≡ fitted (answer_line p code a) (take (length out - used) (drop used out))
+          → None ≡ fitted (answer_line p code a) (take (length out - used) (drop used out))
           → ys ≡ put (answer_line p code a) (take (length out - used) (drop used out))
-          → Ends (whole j) first (put_mid used (length out - used) out ys) none
+          → Ends (whole j) first (put_mid used (length out - used) out ys) None
       record_ends small ys answer = short_ends j first out p used (view m) y (records g.most j at) g.stage (answer_line p code a)
           longest_line thin (λ room. omega (arith, g.short, room, small, entry_next j at start len next e)) (record_short answer) ys answer
 
@@ -205,18 +206,18 @@ module _ (j first out : List ℕ) (at p used : ℕ) (m : Monitor) (y : Tally) (g
         go (suc i) q = subst (λ (x : List Said). Stage j first out (view m) y p used x) (ap (λ (k : ℕ). records k j at) q ∙ records_stop i j at 11 e)
             g.stage
 
-    pub broken_turn : (ys : List ℕ) (k : ℕ) → some k ≡ fitted (line p 0 82 11 0) (take (length out - used) (drop used out)) → ys ≡ put (line p 0 82 11 0)
+    pub broken_turn : (ys : List ℕ) (k : ℕ) → Some k ≡ fitted (line p 0 82 11 0) (take (length out - used) (drop used out)) → ys ≡ put (line p 0 82 11 0)
         (take (length out - used) (drop used out))
         → Going j first (put_mid used (length out - used) out ys) (view m) y at p (used + k) false
     broken_turn ys k answer wrote = stopped j first (put_mid used (length out - used) out ys) (view m) y at p (suc p) (used + k) g.inside g.early
         (omega (arith, g.short, thin, (fits (line p 0 82 11 0) (take (length out - used) (drop used out)) k (sym answer)).0))
         (more j first out p used m m y y (said 0 (bad 11)) [] 0 (refused 11) eleven_plain (refl, refl, refl, refl) there ys k answer wrote)
 
-    broken_short : none ≡ fitted (line p 0 82 11 0) (take (length out - used) (drop used out)) → none ≡ fitted (whole j) first
+    broken_short : None ≡ fitted (line p 0 82 11 0) (take (length out - used) (drop used out)) → None ≡ fitted (whole j) first
     broken_short answer = no_more j first out p used m m y y (said 0 (bad 11)) [] 0 (refused 11) eleven_plain (refl, refl, refl, refl) there answer
 
-    pub broken_ends : length j ≤ largest_journal → (ys : List ℕ) → none ≡ fitted (line p 0 82 11 0) (take (length out - used) (drop used out))
-        → ys ≡ put (line p 0 82 11 0) (take (length out - used) (drop used out)) → Ends (whole j) first (put_mid used (length out - used) out ys) none
+    pub broken_ends : length j ≤ largest_journal → (ys : List ℕ) → None ≡ fitted (line p 0 82 11 0) (take (length out - used) (drop used out))
+        → ys ≡ put (line p 0 82 11 0) (take (length out - used) (drop used out)) → Ends (whole j) first (put_mid used (length out - used) out ys) None
     broken_ends small ys answer = short_ends j first out p used (view m) y (records g.most j at) g.stage (line p 0 82 11 0) longest_line thin
         (λ room. omega (arith, g.short, room, small)) (broken_short answer) ys answer
 
@@ -233,40 +234,40 @@ module _ (j first out : List ℕ) (at p used : ℕ) (m : Monitor) (y : Tally) (g
 -- the last line has no room
 pub end_short : (j first out : List ℕ) (t : Tables) (y : Tally) (at p used : ℕ) → Going j first out t y at p used false
     → length (last_line y) ≤ longest_end → length j ≤ largest_journal
-    → (ys : List ℕ) → none ≡ fitted (last_line y) (take (length out - used) (drop used out)) → ys ≡ put (last_line y)
+    → (ys : List ℕ) → None ≡ fitted (last_line y) (take (length out - used) (drop used out)) → ys ≡ put (last_line y)
     (take (length out - used) (drop used out))
-    → Ends (whole j) first (put_mid used (length out - used) out ys) none
+    → Ends (whole j) first (put_mid used (length out - used) out ys) None
 end_short j first out t y at p used g thin small ys answer = short_ends j first out p used t y [] g.stage (last_line y) longest_end thin
     (λ room. omega (arith, g.short, room, small)) (not_ended j first out p used t y g.stage answer) ys answer
 
 -- ── two lines, one after the other ──
 module _ (d e first : List ℕ) (thin : length (d ++ e) ≤ reply_room) where
-  no_room : none ≡ fitted (d ++ e) first → reply_room ≤ length first → ⊥
+  no_room : None ≡ fitted (d ++ e) first → reply_room ≤ length first → ⊥
   no_room answer room = omega (arith, thin, room, fits_not (d ++ e) first (sym answer))
 
-  pub first_short : (out : List ℕ) → none ≡ fitted d first → out ≡ put d first → Ends (d ++ e) first out none
+  pub first_short : (out : List ℕ) → None ≡ fitted d first → out ≡ put d first → Ends (d ++ e) first out None
   first_short out answer wrote =
       let short = sym (fitted_none (d ++ e) first (omega (arith, length-append d e, fits_not d first (sym answer)))) in
       none_ends (d ++ e) first out short
       (subst (λ (b : List ℕ). Begun (d ++ e) first b) (sym (wrote ∙ put_none d first (fits_not d first (sym answer)))) (same_begun (d ++ e) first))
       (no_room short)
 
-  module _ (out : List ℕ) (n : ℕ) (answer : some n ≡ fitted d first) (wrote : out ≡ put d first) where
+  module _ (out : List ℕ) (n : ℕ) (answer : Some n ≡ fitted d first) (wrote : out ≡ put d first) where
     written : Over first d n out
     written = let (count, room) = fits d first n (sym answer) in put_over d first out n count (omega arith) wrote
 
     pub begun_inside : n ≤ length out
     begun_inside = omega (arith, written.within, written.size)
 
-    pub second_short : (ys : List ℕ) → none ≡ fitted e (take (length out - n) (drop n out)) → ys ≡ put e (take (length out - n) (drop n out))
-        → Ends (d ++ e) first (put_mid n (length out - n) out ys) none
+    pub second_short : (ys : List ℕ) → None ≡ fitted e (take (length out - n) (drop n out)) → ys ≡ put e (take (length out - n) (drop n out))
+        → Ends (d ++ e) first (put_mid n (length out - n) out ys) None
     second_short ys q w =
         let short = sym (fitted_none (d ++ e) first (omega (arith, length-append d e, over_count written, rest_length written, fits_not e (take (length out - n) (drop n out)) (sym q), written.within))) in
         none_ends (d ++ e) first (put_mid n (length out - n) out ys) short
         (subst (λ (b : List ℕ). Begun (d ++ e) first b) (sym (none_after written e ys q w)) (over_begun (d ++ e) first d e out n written refl))
         (no_room short)
 
-    pub both_over : (ys : List ℕ) (k : ℕ) → some k ≡ fitted e (take (length out - n) (drop n out)) → ys ≡ put e (take (length out - n) (drop n out))
+    pub both_over : (ys : List ℕ) (k : ℕ) → Some k ≡ fitted e (take (length out - n) (drop n out)) → ys ≡ put e (take (length out - n) (drop n out))
         → Over first (d ++ e) (n + k) (put_mid n (length out - n) out ys)
     both_over ys k q w = put_after written e ys k q w
 
