@@ -1,7 +1,6 @@
 -- How far a reply has come: what has been written, and what is left. The inner loop of the replay keeps it; no caller needs it. Assumes nothing.
-use Rattle.std.specs.Prelude.{◌≡◌, refl, Bool, true, false, cond, List, [], ◌∷◌, ◌++◌, ℕ, zero, suc, ◌+◌, ◌*◌, ◌-◌, ◌≤◌, ◌<◌, length, take, drop}
+use Rattle.std.specs.Prelude.{◌≡◌, refl, List, [], ◌∷◌, ◌++◌, ℕ, zero, suc, ◌+◌, ◌*◌, ◌-◌, ◌≤◌, ◌<◌, length, take, drop, Option, Some, None}
 use Rattle.std.proofs.Common.{sym, ◌∙◌, ap, subst, append_assoc, append-nil, arith, add-one, lt-ltb, le-ltb, length-append, take_at}
-use Rattle.std.specs.Prelude.{Option, Some, None}
 use Rattle.std.proofs.lemmas.Option.{none-some}
 use borrow.Rule.Slice.PartMut.{put_mid}
 use Rattle.model.specs.Tables.{Tables, empty}
@@ -127,28 +126,25 @@ module _ (j first out : List ℕ) (p used : ℕ) where
     not_ended answer = sym (fitted_none (whole j) first (omega (arith, length-append g.done (last_line y), ap length g.sum, over_count g.over, rest_length g.over, fits_not (last_line y) (take (length out - used) (drop used out)) (sym answer), g.over.within)))
 
 -- ── the loop ──
--- the next record is looked for at `at`, or the run has stopped
-pub record Going (j first out : List ℕ) (t : Tables) (y : Tally) (at position used : ℕ) (going : Bool) : Type 0 where
+-- the next record is looked for at `at`
+pub record Going (j first out : List ℕ) (t : Tables) (y : Tally) (at position used : ℕ) : Type 0 where
   pub most : ℕ
   pub enough : length j ≤ at + most
   pub inside : at ≤ length j
   pub early : position ≤ at + 1
-  pub short : used ≤ longest_line * cond going at (length j)
-  pub stage : Stage j first out t y position used (cond going (records most j at) [])
+  pub short : used ≤ longest_line * at
+  pub stage : Stage j first out t y position used (records most j at)
 
--- as a test of `going` showed it
-pub at_test : {j first out : List ℕ} {t : Tables} {y : Tally} {at p used : ℕ} {b d : Bool} → b ≡ d → Going j first out t y at p used b
-    → Going j first out t y at p used d
-at_test {j} {first} {out} {t} {y} {at} {p} {used} e g = subst (λ (b : Bool). Going j first out t y at p used b) e g
+-- the run has stopped: no record is left
+pub record Stopped (j first out : List ℕ) (t : Tables) (y : Tally) (used : ℕ) : Type 0 where
+  pub position : ℕ
+  pub short : used ≤ longest_line * length j
+  pub stage : Stage j first out t y position used []
 
-pub going_begun : (j first : List ℕ) (t : Tables) → t ≡ empty → Going j first first t zeroed 0 1 0 true
+pub going_begun : (j first : List ℕ) (t : Tables) → t ≡ empty → Going j first first t zeroed 0 1 0
 going_begun j first t e = record { most = length j; enough = omega arith; inside = omega arith; early = omega arith; short = omega arith; stage = begun j first t e }
 
-pub stopped : (j first out : List ℕ) (t : Tables) (y : Tally) (at p q used : ℕ) → at ≤ length j → p ≤ at + 1 → used ≤ longest_line * length j
-    → Stage j first out t y q used [] → Going j first out t y at p used false
-stopped j first out t y at p q used inside early short g = record { most = length j; enough = omega arith; inside = inside; early = early; short = short; stage = record { kept = g.kept; done = g.done; over = g.over; sum = g.sum; leads = g.leads; counts = g.counts } }
-
-module _ (j first out : List ℕ) (at p used : ℕ) (m : Monitor) (y : Tally) (g : Going j first out (view m) y at p used true) where
+module _ (j first out : List ℕ) (at p used : ℕ) (m : Monitor) (y : Tally) (g : Going j first out (view m) y at p used) where
   -- a record stands at `at`
   module _ (start len next : ℕ) (e : entry_at j at ≡ reads (body start len next)) where
     abbrev s : Said
@@ -165,7 +161,7 @@ module _ (j first out : List ℕ) (at p used : ℕ) (m : Monitor) (y : Tally) (g
         (thin : length (answer_line p code a) ≤ longest_line) where
       pub record_turn : (ys : List ℕ) (k : ℕ) → Some k ≡ fitted (answer_line p code a) (take (length out - used) (drop used out))
           → ys ≡ put (answer_line p code a) (take (length out - used) (drop used out))
-          → Going j first (put_mid used (length out - used) out ys) (view n) z next (p + 1) (used + k) true
+          → Going j first (put_mid used (length out - used) out ys) (view n) z next (p + 1) (used + k)
       record_turn ys k answer wrote = let (i, far, g') = here in record {
         most = i;
         enough = far;
@@ -208,10 +204,12 @@ module _ (j first out : List ℕ) (at p used : ℕ) (m : Monitor) (y : Tally) (g
 
     pub broken_turn : (ys : List ℕ) (k : ℕ) → Some k ≡ fitted (line p 0 82 11 0) (take (length out - used) (drop used out)) → ys ≡ put (line p 0 82 11 0)
         (take (length out - used) (drop used out))
-        → Going j first (put_mid used (length out - used) out ys) (view m) y at p (used + k) false
-    broken_turn ys k answer wrote = stopped j first (put_mid used (length out - used) out ys) (view m) y at p (suc p) (used + k) g.inside g.early
-        (omega (arith, g.short, thin, (fits (line p 0 82 11 0) (take (length out - used) (drop used out)) k (sym answer)).0))
-        (more j first out p used m m y y (said 0 (bad 11)) [] 0 (refused 11) eleven_plain (refl, refl, refl, refl) there ys k answer wrote)
+        → Stopped j first (put_mid used (length out - used) out ys) (view m) y (used + k)
+    broken_turn ys k answer wrote = record {
+      position = suc p;
+      short = omega (arith, g.short, thin, h, (fits (line p 0 82 11 0) (take (length out - used) (drop used out)) k (sym answer)).0);
+      stage = more j first out p used m m y y (said 0 (bad 11)) [] 0 (refused 11) eleven_plain (refl, refl, refl, refl) there ys k answer wrote;
+    }
 
     broken_short : None ≡ fitted (line p 0 82 11 0) (take (length out - used) (drop used out)) → None ≡ fitted (whole j) first
     broken_short answer = no_more j first out p used m m y y (said 0 (bad 11)) [] 0 (refused 11) eleven_plain (refl, refl, refl, refl) there answer
@@ -222,23 +220,25 @@ module _ (j first out : List ℕ) (at p used : ℕ) (m : Monitor) (y : Tally) (g
         (λ room. omega (arith, g.short, room, small)) (broken_short answer) ys answer
 
   -- the journal ends at `at`
-  pub end_turn : entry_at j at ≡ reads end → Going j first out (view m) y at p used false
-  end_turn e = go g.most refl
+  pub end_turn : entry_at j at ≡ reads end → Stopped j first out (view m) y used
+  end_turn e = record {
+    position = p;
+    short = omega (arith, g.short, g.inside);
+    stage = subst (λ (x : List Said). Stage j first out (view m) y p used x) (none_left g.most) g.stage;
+  }
     where
-      go : (i : ℕ) → g.most ≡ i → Going j first out (view m) y at p used false
-      go zero q = stopped j first out (view m) y at p p used g.inside g.early (omega (arith, g.short, g.inside))
-          (subst (λ (x : List Said). Stage j first out (view m) y p used x) (ap (λ (k : ℕ). records k j at) q) g.stage)
-      go (suc i) q = stopped j first out (view m) y at p p used g.inside g.early (omega (arith, g.short, g.inside))
-          (subst (λ (x : List Said). Stage j first out (view m) y p used x) (ap (λ (k : ℕ). records k j at) q ∙ records_end i j at e) g.stage)
+      none_left : (i : ℕ) → records i j at ≡ []
+      none_left zero = refl
+      none_left (suc i) = records_end i j at e
 
 -- the last line has no room
-pub end_short : (j first out : List ℕ) (t : Tables) (y : Tally) (at p used : ℕ) → Going j first out t y at p used false
+pub end_short : (j first out : List ℕ) (t : Tables) (y : Tally) (used : ℕ) → Stopped j first out t y used
     → length (last_line y) ≤ longest_end → length j ≤ largest_journal
     → (ys : List ℕ) → None ≡ fitted (last_line y) (take (length out - used) (drop used out)) → ys ≡ put (last_line y)
     (take (length out - used) (drop used out))
     → Ends (whole j) first (put_mid used (length out - used) out ys) None
-end_short j first out t y at p used g thin small ys answer = short_ends j first out p used t y [] g.stage (last_line y) longest_end thin
-    (λ room. omega (arith, g.short, room, small)) (not_ended j first out p used t y g.stage answer) ys answer
+end_short j first out t y used g thin small ys answer = short_ends j first out g.position used t y [] g.stage (last_line y) longest_end thin
+    (λ room. omega (arith, g.short, room, small)) (not_ended j first out g.position used t y g.stage answer) ys answer
 
 -- ── two lines, one after the other ──
 module _ (d e first : List ℕ) (thin : length (d ++ e) ≤ reply_room) where

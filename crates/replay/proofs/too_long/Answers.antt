@@ -1,5 +1,4 @@
 -- `replay::too_long` meets its contract. Assumes nothing.
-use mathlib.Core.Path.{◌∙◌}
 use native.Mathlib.Omega.{arith}
 use Rattle.text.specs.Reply.{line, ending}
 use Rattle.replay.specs.Stage.{all_ends, begun_inside, first_short, second_short, both_over, refusal_thin}

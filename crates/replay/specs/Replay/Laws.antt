@@ -1,8 +1,7 @@
 -- A reply, record by record. In order: the records of a journal; a record whose code is no call's, which changes nothing; what is left of the text, of the
 -- calls and of the tally before a record, and after it. Assumes nothing.
-use Rattle.std.specs.Prelude.{◌≡◌, refl, List, [], ◌∷◌, ◌++◌, Bool, true, false, cond, ℕ, zero, suc, ◌+◌, ◌<◌, T, ltb, eqb, length, take, drop}
+use Rattle.std.specs.Prelude.{◌≡◌, refl, List, [], ◌∷◌, ◌++◌, Bool, true, false, cond, ℕ, zero, suc, ◌+◌, ◌<◌, T, ltb, eqb, length, take, drop, Option, Some, None}
 use Rattle.std.proofs.Common.{sym, ◌∙◌, ap, subst, append_assoc, arith, ltb-true, eqb-true}
-use Rattle.std.specs.Prelude.{Option, Some, None}
 use Rattle.model.specs.Tables.{Tables, clean}
 use Rattle.model.specs.Invariant.{Kept}
 use Rattle.model.proofs.Invariant.Laws.{clean_same}
