@@ -1,10 +1,10 @@
 -- What the journal's functions answer (RULES G9): a refusal has its number of RULES R1 to R13, and any other case its
 -- values. Assumes nothing.
 use Rattle.std.specs.Prelude.{ℕ, List, [], ◌∷◌, Option, Some, None, Result, Ok, Err}
-use Rattle.journal.specs.declared.Numbers.{Numbers}
+use Rattle.calls.specs.declared.Numbers.{Numbers}
 use Rattle.journal.specs.declared.Record.{Record}
 use Rattle.journal.specs.declared.Broken.{Broken}
-use Rattle.journal.specs.declared.Call.{Call}
+use Rattle.calls.specs.declared.Call.{Call}
 use Rattle.journal.specs.declared.BadBody.{BadBody}
 use Rattle.journal.specs.declared.BadBody.TheVariants.{Unknown, Malformed}
 use Rattle.journal.specs.declared.RecordError.{RecordError}

@@ -10,6 +10,8 @@ ghost use Rattle.journal.specs.Calls.{most_numbers, arity_of};
 ghost use Rattle.journal.specs.Record.{encodes, fitting, recording, recorded};
 ghost use Rattle.journal.specs.Journal.{Part, entry_at, arguments_in, body_in};
 
+use calls::{Call, Numbers};
+
 // The longest record, in bytes: a buffer of this size is never too short.
 pub const LONGEST_RECORD: usize = 62;
 
@@ -128,24 +130,6 @@ impl<'a> Reader<'a> {
     {
         body_at(self.journal, start, len)
     }
-}
-
-// The numbers of a call, 0 for those that its code does not use.
-#[derive(Clone, Copy, Debug, Default, PartialEq, Eq)]
-pub struct Numbers {
-    pub a: u64,
-    pub b: u64,
-    pub c: u64,
-    pub d: u64,
-    pub e: u64,
-    pub f: u64,
-}
-
-// A call, as it stands in a record and as a direct call takes it.
-#[derive(Clone, Copy, Debug, PartialEq, Eq)]
-pub struct Call {
-    pub code: u64,
-    pub numbers: Numbers,
 }
 
 // Why a body says no call.

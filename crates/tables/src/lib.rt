@@ -45,7 +45,7 @@ pub const MAPS: u8 = 3;
 // of eight shop groups. A handle's `object` is the slot of its object, whose number stands
 // beside the slot.
 #[repr(C)]
-#[derive(Clone, Copy)]
+#[derive(Clone, Copy, Default)]
 pub struct Subject {
     pub live: u8,
     pub level: u8,
@@ -53,7 +53,7 @@ pub struct Subject {
 }
 
 #[repr(C)]
-#[derive(Clone, Copy)]
+#[derive(Clone, Copy, Default)]
 pub struct Object {
     pub kind: u8,
     pub level: u8,
@@ -61,7 +61,7 @@ pub struct Object {
 }
 
 #[repr(C)]
-#[derive(Clone, Copy)]
+#[derive(Clone, Copy, Default)]
 pub struct Handle {
     pub way: u8,
     pub object: u8,

@@ -1,7 +1,7 @@
 -- `journal::write_record` meets its contract: what is written is the length of the body, then the body. Assumes nothing.
 use Rattle.std.proofs.Common.{ℕ, zero, suc, ◌≤◌, sym, ◌∙◌, subst, arith, length-take}
 use Rattle.number.specs.Leb.{AtMost, largest}
-use Rattle.journal.specs.declared.Numbers.{Numbers}
+use Rattle.calls.specs.declared.Numbers.{Numbers}
 use Rattle.journal.specs.Answers.{Answer, numbers_of, length_in}
 use Rattle.journal.specs.Calls.Laws.{arity_most}
 use Rattle.journal.specs.Record.{longest_record}
