@@ -3,8 +3,7 @@ use mathlib.Core.Path.{◌∙◌, ap₂}
 use mathlib.Core.Bool.{Bool, not}
 use Prim.Native.Nat.{ℕ}
 use Rattle.model.specs.Label.{Label, leq}
-use Rattle.model.specs.Calls.{exec, outcome}
-use Rattle.gatekeeper.specs.View.{slots}
+use Rattle.model.specs.Calls.{outcome}
 use Rattle.gatekeeper.proofs.Acting.{stops, ends}
 use Rattle.gatekeeper.proofs.Owned.{owned_long, remains_long}
 use Rattle.gatekeeper.proofs.Storing.{exec_late, execs}
