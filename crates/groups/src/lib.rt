@@ -10,6 +10,7 @@ ghost use Rattle.model.specs.Calls.{sheds};
 ghost use Rattle.tables.specs.declared.Subject.{Subject};
 ghost use Rattle.tables.specs.declared.Object.{Object};
 ghost use Rattle.tables.specs.Records.{no_subject, no_handle, hands, tables_of};
+ghost use Rattle.handles.specs.Handing.{Handed};
 ghost use Rattle.handles.specs.Working.{Hits};
 ghost use Rattle.groups.specs.Groups.{stands, kin_of, mate_of, Leads, Fresh, taken_by, ousted_by};
 
@@ -40,12 +41,11 @@ pub fn with(groups: [u8; SUBJECTS], s: u64, g: u8) -> [u8; SUBJECTS]
 
 // ---- who is in a group
 
-// Subjects a and b are in one group.
-fn is_kin(subjects: &[Subject; SUBJECTS], groups: &[u8; SUBJECTS], a: usize, b: usize) -> bool
-    requires { (a < 32) × (b < 32) }
-    ensures { result ≡ kin_of subjects.now groups.now a b }
+// Subjects a and b, whose records are x and y and whose bytes are g and h, are in one group.
+fn is_kin(a: usize, b: usize, x: Subject, y: Subject, g: u8, h: u8) -> bool
+    ensures { result ≡ (eqb a b || (not (eqb x.live 0) && (not (eqb y.live 0) && eqb g h))) }
 {
-    a == b || (subjects[a].live != 0 && subjects[b].live != 0 && groups[a] == groups[b])
+    a == b || (x.live != 0 && y.live != 0 && g == h)
 }
 
 // Of each subject, whether it is in the group of s.
@@ -53,7 +53,9 @@ pub fn members(subjects: [Subject; SUBJECTS], groups: [u8; SUBJECTS], s: u64) ->
     ensures { (a : ℕ) → a < 32 → get_or result a false ≡ kin_of subjects groups (s % 32) a }
 {
     let i = s as usize % SUBJECTS;
-    array::from_fn(|a| is_kin(&subjects, &groups, i, a))
+    let x = subjects[i];
+    let g = groups[i];
+    array::from_fn(|a| is_kin(i, a, x, subjects[a], g, groups[a]))
 }
 
 // And whether it is a mate of s: in the group, and not s.
@@ -151,8 +153,7 @@ fn unless_closed(h: Handle, goes: bool) -> Handle
 
 // The handles without those of these subjects.
 pub fn closed(handles: [Handle; HANDLES], gone: [bool; SUBJECTS]) -> [Handle; HANDLES]
-    ensures { (rest : Tables) (ss : List Subject) (os : List Object) →
-        tables_of rest ss os result ≡ with_hand (tables_of rest ss os handles) (λ s p. cond (get_or gone s false) none (hands handles s p)) }
+    ensures { Handed handles result (λ s p. cond (get_or gone s false) none (hands handles s p)) }
 {
     array::from_fn(|i| unless_closed(handles[i], gone[i / PLACES]))
 }
