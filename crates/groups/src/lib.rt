@@ -30,11 +30,10 @@ pub fn of(groups: [u8; SUBJECTS], s: u64) -> u8
     groups[s as usize % SUBJECTS]
 }
 
-pub fn with(mut groups: [u8; SUBJECTS], s: u64, g: u8) -> [u8; SUBJECTS]
+pub fn with(groups: [u8; SUBJECTS], s: u64, g: u8) -> [u8; SUBJECTS]
     ensures { result ≡ set groups (s % 32) g }
 {
-    groups[s as usize % SUBJECTS] = g;
-    groups
+    looks::with(groups, s, g)
 }
 
 // ---- who is in a group
