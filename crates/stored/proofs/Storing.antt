@@ -1,19 +1,20 @@
--- Storing into bytes: a loop that stores an array of records of bytes, from the front (`Laid`), and of numbers (`Listed`); all of a state, part after part; a loop that
--- stores a number, from its lowest byte up (`Spelt`); and one that stores zeros. Assumes nothing.
-use mathlib.Core.Path.{◌≡◌, refl, sym, ap, ◌∙◌, subst}
+-- Storing into bytes: a loop that stores the values of a part, from the front (`Laid`); all of a state, part after part; and a loop that stores zeros. Assumes nothing.
+use mathlib.Core.Path.{◌≡◌, refl, sym, ap, ap₂, ◌∙◌}
 use mathlib.Core.List.{List, [], ◌∷◌, ◌++◌, append_assoc, append-nil}
-use Prim.Native.Nat.{ℕ, suc, ◌+◌, ◌*◌, ◌-◌, ◌/◌, ◌%◌, ◌^◌, ◌≤◌, ◌<◌}
+use Prim.Native.Nat.{ℕ, suc, ◌+◌, ◌*◌, ◌≤◌, ◌<◌}
 use native.Mathlib.Omega.{arith}
 use native.Mathlib.Nat.{mul-suc, mul-le-mul_left}
 use native.Mathlib.Numerals.{add-one}
-use native.Mathlib.Decide.{ℕ_discrete}
 use lib.ListN.{length, take, drop, get_or, set, replicate, length-append, length-replicate, get_or-replicate}
-use lib.Seq.{length-take-le, take-suc, take_all, drop-cons, sets, sets-eq}
+use lib.Seq.{length-take-le, take-suc, take_all, sets, sets-eq, drop-drop}
+use Rattle.std.proofs.Common.{length-drop, drop_of_length-le}
+use borrow.Rule.Slice.PartMut.{put_mid}
 use Rattle.gatekeeper.specs.declared.Monitor.{Monitor}
 use Rattle.tally.specs.declared.Tally.{Tally}
 use Rattle.stored.specs.State.{state_bytes, objects_at, handles_at, made_at, gone_at, freeze_at, needs_at, numbers_at, groups_at}
-use Rattle.stored.specs.State.{flat, byte_record, digits, subject_bytes, object_bytes, handle_bytes, need_bytes, number_bytes, group_bytes, Narrow, bytes_of}
-use Rattle.stored.specs.State.Laws.{length_flat, flat_append, length_digits, Long, narrow_of, subjects_count, objects_count, handles_count, needs_count, numbers_count, bytes_length}
+use Rattle.stored.specs.State.{flat, byte_record, digits, subject_bytes, object_bytes, handle_bytes, need_bytes, number_bytes, group_bytes, bytes_of}
+use Rattle.stored.specs.Widths.{length_digits}
+use Rattle.stored.specs.State.Laws.{length_flat, flat_append, Long, subjects_count, objects_count, handles_count, needs_count, numbers_count, groups_count, bytes_length}
 use Rattle.stored.specs.Over.{over}
 use Rattle.stored.specs.Over.Laws.{over_none, over_length, over_next, over_all}
 
@@ -30,6 +31,11 @@ stores_sets s at (u ∷ e) = stores_sets (set s at u) (at + 1) e ∙ ap (λ (k :
 pub stores_over : (s : List ℕ) (at : ℕ) (e : List ℕ) → at + length e ≤ length s → stores s at e ≡ over at e s
 unfolding over
 stores_over s at e h = stores_sets s at e ∙ sets-eq e s at h ∙ append_assoc (take at s) e (drop (at + length e) s)
+
+-- bytes copied into their place
+pub copied : (s : List ℕ) (at k : ℕ) (e : List ℕ) → k ≡ length e → put_mid at k s e ≡ over at e s
+unfolding over
+copied s at k e h = ap (λ (t : List ℕ). take at s ++ (e ++ t)) (drop-drop k at s ∙ ap (λ (j : ℕ). drop (at + j) s) h)
 
 -- the first i of the n elements of l, w bytes each, were stored over o, from index b on, which is now s
 pub record Laid {A : Type 0} (g : A → List ℕ) (w b n : ℕ) (l : List A) (o s : List ℕ) (i : ℕ) : Type 0 where
@@ -89,105 +95,89 @@ module _ {A : Type 0} {g : A → List ℕ} {w b n : ℕ} {l : List A} {o s : Lis
   pub laid_all : n ≤ i → s ≡ over b (flat g l) o
   laid_all h = p.is ∙ ap (λ (y : List A). over b (flat g y) o) (take_all i l (omega (arith, p.long)))
 
--- ── an array of numbers ──
--- the first i of the n numbers of l, of w bits and in k bytes each, were stored over o, from index b on, which is now s
-pub record Listed (k w b n : ℕ) (l o s : List ℕ) (i : ℕ) : Type 0 where
-  pub laid : Laid (digits k) k b n l o s i
-  pub narrow : (j : ℕ) → j < i → get_or l j 0 < 2 ^ w
-
-pub listed_none : (k w b n : ℕ) (l o : List ℕ) → length l ≡ n → b + k * n ≤ length o → Listed k w b n l o o 0
-listed_none k w b n l o h r = record { laid = laid_none (digits k) k b n l o (length_digits k) h r; narrow = λ j lj. absurd (omega arith) }
-
-module _ {k w b n : ℕ} {l o s : List ℕ} {i : ℕ} (p : Listed k w b n l o s i) where
-  pub listed_long : length s ≡ length o
-  listed_long = laid_long p.laid
-
-  pub listed_more : (at : ℕ) (s' : List ℕ) → i < n → at ≡ b + k * i → s' ≡ over at (digits k (get_or l i 0)) s → get_or l i 0 < 2 ^ w → Listed k w b n l o s' (i + 1)
-  listed_more at s' h ha q small = record {
-    laid = laid_over p.laid at (digits k (get_or l i 0)) 0 s' h ha refl q;
-    narrow = λ j lj. go j lj (ℕ_discrete j i);
-  }
-    where
-      go : (j : ℕ) → j < i + 1 → Dec (j ≡ i) → get_or l j 0 < 2 ^ w
-      go j lj (yes e) = subst (λ (x : ℕ). get_or l x 0 < 2 ^ w) (sym e) small
-      go j lj (no ne) = p.narrow j (omega arith)
-
-  pub listed_all : n ≤ i → s ≡ over b (flat (digits k) l) o
-  listed_all h = laid_all p.laid h
-
-  pub listed_narrow : n ≤ i → Narrow w l
-  listed_narrow h = narrow_of w l (λ j lj. p.narrow j (omega (arith, p.laid.long)))
-
 -- ── all of a state ──
+-- two numbers, one behind the other
+pub both_flat : (i j : ℕ) (o : List ℕ) → over 0 (flat (digits 8) (i ∷ j ∷ [])) o ≡ over 0 (digits 8 i ++ digits 8 j) o
+unfolding flat
+both_flat i j o = ap (λ (l : List ℕ). over 0 (digits 8 i ++ l) o) (append-nil (digits 8 j))
+
+-- the first n bytes of o had e stored over them, and now e' is, behind it
+pub part_next : (n at k : ℕ) (e e' o s p : List ℕ) → length o ≡ n → at + k ≡ n → length e ≡ at → at + length e' ≤ n → s ≡ over 0 e o
+    → p ≡ over 0 e' (take k (drop at s)) → put_mid at k s p ≡ over 0 (e ++ e') o
+unfolding over
+part_next n at k e e' o s p lo ak le room es ep =
+    let ls : length s ≡ n = ap length es ∙ over_length 0 e o (omega arith) ∙ lo in
+    let all : take k (drop at s) ≡ drop at s = take_all k (drop at s) (omega (arith, length-drop at s)) in
+    let none : drop k (drop at s) ≡ [] = drop_of_length-le (drop at s) {i = k} (omega (arith, length-drop at s)) in
+    let z : 0 + length e' ≡ length e' = omega arith in
+    let is : put_mid at k s p ≡ over at e' s =
+    ap₂ (λ (x y : List ℕ). take at s ++ (x ++ y)) (ep ∙ ap (over 0 e') all) none
+    ∙ ap (λ (x : List ℕ). take at s ++ x) (append-nil (e' ++ drop (0 + length e') (drop at s)) ∙ ap (λ (x : List ℕ). e' ++ x) (ap (λ (j : ℕ). drop j (drop at s)) z ∙ drop-drop (length e') at s)) in
+    is ∙ over_next 0 at e e' o s (omega arith) (omega arith) es
+
 module _ (m : Monitor) (y : Tally) (long : Long m) (o : List ℕ) (size : length o ≡ state_bytes) where
-  pub laid_whole : (s₁ s₂ s₃ s₄ s₅ s₆ s₇ s₈ s₉ : List ℕ) → s₁ ≡ over 0 (subject_bytes m.subjects) o → s₂ ≡ over objects_at (object_bytes m.objects) s₁
-      → s₃ ≡ over handles_at (handle_bytes m.handles) s₂
-      → s₄ ≡ over made_at (digits 8 y.made) s₃ → s₅ ≡ over gone_at (digits 8 y.gone) s₄
-      → s₆ ≡ set s₅ freeze_at m.freeze → s₇ ≡ over needs_at (need_bytes m.needs) s₆ → s₈ ≡ over numbers_at (number_bytes m.numbers) s₇
-      → s₉ ≡ over groups_at (group_bytes m.groups) s₈ → s₉ ≡ bytes_of m y
+  pub laid_whole : (p₁ p₂ p₃ p₄ p₅ p₆ p₇ : List ℕ) →
+      let s₁ = put_mid 0 2577 o p₁ in
+      let s₂ = put_mid objects_at 2481 s₁ p₂ in
+      let s₃ = put_mid handles_at 2289 s₂ p₃ in
+      let s₄ = put_mid made_at 753 s₃ p₄ in
+      let s₅ = set s₄ freeze_at m.freeze in
+      let s₆ = put_mid needs_at 736 s₅ p₅ in
+      let s₇ = put_mid numbers_at 544 s₆ p₆ in
+      let s₈ = put_mid groups_at 32 s₇ p₇ in
+      p₁ ≡ over 0 (subject_bytes m.subjects) (take 2577 (drop 0 o))
+      → p₂ ≡ over 0 (object_bytes m.objects) (take 2481 (drop objects_at s₁))
+      → p₃ ≡ over 0 (handle_bytes m.handles) (take 2289 (drop handles_at s₂))
+      → p₄ ≡ over 0 (digits 8 y.made ++ digits 8 y.gone) (take 753 (drop made_at s₃))
+      → p₅ ≡ over 0 (need_bytes m.needs) (take 736 (drop needs_at s₅))
+      → p₆ ≡ over 0 (number_bytes m.numbers) (take 544 (drop numbers_at s₆))
+      → p₇ ≡ over 0 (group_bytes m.groups) (take 32 (drop groups_at s₇))
+      → s₈ ≡ bytes_of m y
   unfolding bytes_of
-  laid_whole s₁ s₂ s₃ s₄ s₅ s₆ s₇ s₈ s₉ e₁ e₂ e₃ e₄ e₅ e₆ e₇ e₈ e₉ =
+  laid_whole p₁ p₂ p₃ p₄ p₅ p₆ p₇ e₁ e₂ e₃ e₄ e₅ e₆ e₇ =
       let a = subject_bytes m.subjects in
       let b = object_bytes m.objects in
       let c = handle_bytes m.handles in
       let d = digits 8 y.made in
       let e = digits 8 y.gone in
       let f = m.freeze ∷ [] in
+      let g = need_bytes m.needs in
+      let h = number_bytes m.numbers in
+      let i = group_bytes m.groups in
       let la : length a ≡ objects_at = subjects_count m y long in
       let lb : length (a ++ b) ≡ handles_at = omega (arith, length-append a b, objects_count m y long) in
       let lc : length (a ++ b ++ c) ≡ made_at = omega (arith, length-append (a ++ b) c, handles_count m y long) in
       let ld : length (a ++ b ++ c ++ d) ≡ gone_at = omega (arith, length-append (a ++ b ++ c) d, length_digits 8 y.made) in
       let le : length (a ++ b ++ c ++ d ++ e) ≡ freeze_at = omega (arith, length-append (a ++ b ++ c ++ d) e, length_digits 8 y.gone) in
-      let q₂ : s₂ ≡ over 0 (a ++ b) o = e₂ ∙ over_next 0 objects_at a b o s₁ (omega arith) (omega arith) e₁ in
-      let q₃ : s₃ ≡ over 0 (a ++ b ++ c) o = e₃ ∙ over_next 0 handles_at (a ++ b) c o s₂ (omega arith) (omega arith) q₂ in
-      let q₄ : s₄ ≡ over 0 (a ++ b ++ c ++ d) o = e₄ ∙ over_next 0 made_at (a ++ b ++ c) d o s₃ (omega arith) (omega arith) q₃ in
-      let q₅ : s₅ ≡ over 0 (a ++ b ++ c ++ d ++ e) o = e₅ ∙ over_next 0 gone_at (a ++ b ++ c ++ d) e o s₄ (omega arith) (omega arith) q₄ in
-      let room : freeze_at + 1 ≤ length s₅ = omega (arith, ap length q₅, over_length 0 (a ++ b ++ c ++ d ++ e) o (omega arith)) in
-      let q₆ : s₆ ≡ over 0 (a ++ b ++ c ++ d ++ e ++ f) o = e₆ ∙ stores_over s₅ freeze_at f room
-      ∙ over_next 0 freeze_at (a ++ b ++ c ++ d ++ e) f o s₅ (omega arith) (omega arith) q₅ in
       let lf : length (a ++ b ++ c ++ d ++ e ++ f) ≡ needs_at = omega (arith, length-append (a ++ b ++ c ++ d ++ e) f) in
-      let g = need_bytes m.needs in
-      let q₇ : s₇ ≡ over 0 (a ++ b ++ c ++ d ++ e ++ f ++ g) o = e₇ ∙ over_next 0 needs_at (a ++ b ++ c ++ d ++ e ++ f) g o s₆ (omega arith) (omega arith) q₆ in
       let lg : length (a ++ b ++ c ++ d ++ e ++ f ++ g) ≡ numbers_at = omega (arith, length-append (a ++ b ++ c ++ d ++ e ++ f) g, needs_count m y long) in
-      let h = number_bytes m.numbers in
-      let q₈ : s₈ ≡ over 0 (a ++ b ++ c ++ d ++ e ++ f ++ g ++ h) o = e₈ ∙ over_next 0 numbers_at (a ++ b ++ c ++ d ++ e ++ f ++ g) h o s₇ (omega arith) (omega arith) q₇ in
       let lh : length (a ++ b ++ c ++ d ++ e ++ f ++ g ++ h) ≡ groups_at = omega (arith, length-append (a ++ b ++ c ++ d ++ e ++ f ++ g) h, numbers_count m y long) in
-      e₉
-      ∙ over_next 0 groups_at (a ++ b ++ c ++ d ++ e ++ f ++ g ++ h) (group_bytes m.groups) o s₈ (omega arith) (omega arith) q₈
-      ∙ over_all (a ++ b ++ c ++ d ++ e ++ f ++ g ++ h ++ group_bytes m.groups) o (bytes_length m y long ∙ sym size)
+      let li : length i ≡ 32 = groups_count m y long in
+      let s₁ = put_mid 0 2577 o p₁ in
+      let s₂ = put_mid objects_at 2481 s₁ p₂ in
+      let s₃ = put_mid handles_at 2289 s₂ p₃ in
+      let s₄ = put_mid made_at 753 s₃ p₄ in
+      let s₅ = set s₄ freeze_at m.freeze in
+      let s₆ = put_mid needs_at 736 s₅ p₅ in
+      let s₇ = put_mid numbers_at 544 s₆ p₆ in
+      let q₁ : s₁ ≡ over 0 a o = part_next 2577 0 2577 [] a o o p₁ size refl refl (omega arith) (sym (over_none 0 o)) e₁ in
+      let q₂ : s₂ ≡ over 0 (a ++ b) o = part_next 2577 objects_at 2481 a b o s₁ p₂ size refl la (omega (arith, lb, length-append a b)) q₁ e₂ in
+      let q₃ : s₃ ≡ over 0 (a ++ b ++ c) o = part_next 2577 handles_at 2289 (a ++ b) c o s₂ p₃ size refl lb (omega (arith, lc, length-append (a ++ b) c)) q₂ e₃ in
+      let q₄ : s₄ ≡ over 0 (a ++ b ++ c ++ d ++ e) o = part_next 2577 made_at 753 (a ++ b ++ c) (d ++ e) o s₃ p₄ size refl lc (omega (arith, le, ld, lc, length-append d e, length_digits 8 y.made, length_digits 8 y.gone)) q₃ e₄
+      ∙ ap (λ (l : List ℕ). over 0 l o) (sym (append_assoc (a ++ b ++ c) d e)) in
+      let room : freeze_at + 1 ≤ length s₄ = omega (arith, ap length q₄, over_length 0 (a ++ b ++ c ++ d ++ e) o (omega arith)) in
+      let q₅ : s₅ ≡ over 0 (a ++ b ++ c ++ d ++ e ++ f) o = stores_over s₄ freeze_at f room
+      ∙ over_next 0 freeze_at (a ++ b ++ c ++ d ++ e) f o s₄ (omega arith) (omega arith) q₄ in
+      let q₆ : s₆ ≡ over 0 (a ++ b ++ c ++ d ++ e ++ f ++ g) o = part_next 2577 needs_at 736 (a ++ b ++ c ++ d ++ e ++ f) g o s₅ p₅ size refl lf (omega (arith, needs_count m y long)) q₅ e₅ in
+      let q₇ : s₇ ≡ over 0 (a ++ b ++ c ++ d ++ e ++ f ++ g ++ h) o = part_next 2577 numbers_at 544 (a ++ b ++ c ++ d ++ e ++ f ++ g) h o s₆ p₆ size refl lg (omega (arith, numbers_count m y long)) q₆ e₆ in
+      part_next 2577 groups_at 32 (a ++ b ++ c ++ d ++ e ++ f ++ g ++ h) i o s₇ p₇ size refl lh (omega (arith, li)) q₇ e₇
+      ∙ over_all (a ++ b ++ c ++ d ++ e ++ f ++ g ++ h ++ i) o (bytes_length m y long ∙ sym size)
 
 -- ── bytes one by one ──
 flat_byte : (l : List ℕ) → flat byte_record l ≡ l
 unfolding flat
 flat_byte [] = refl
 flat_byte (b ∷ l) = ap (λ (t : List ℕ). b ∷ t) (flat_byte l)
-
--- the first k of the eight bytes of n were stored over o, from index `at` on, which is now s; `rest` is what is left of n
-pub record Spelt (n at : ℕ) (o s : List ℕ) (rest k : ℕ) : Type 0 where
-  pub laid : Laid byte_record 1 at 8 (digits 8 n) o s k
-  pub left : drop k (digits 8 n) ≡ digits (8 - k) rest
-
-pub spelt_none : (n at : ℕ) (o : List ℕ) → at + 8 ≤ length o → Spelt n at o o n 0
-spelt_none n at o h = record { laid = laid_none byte_record 1 at 8 (digits 8 n) o (λ x. refl) (length_digits 8 n) h; left = refl }
-
-module _ {n at : ℕ} {o s : List ℕ} {rest k : ℕ} (p : Spelt n at o s rest k) where
-  pub spelt_long : length s ≡ length o
-  spelt_long = laid_long p.laid
-
-  pub spelt_more : (place b : ℕ) → k < 8 → place ≡ at + k → b ≡ rest % 256 → Spelt n at o (set s place b) (rest / 256) (k + 1)
-  unfolding digits
-  spelt_more place b h hp hb =
-      let l = digits 8 n in
-      let one : 8 - k ≡ suc (8 - (k + 1)) = omega arith in
-      let next : get_or l k 0 ∷ drop (suc k) l ≡ rest % 256 ∷ digits (8 - (k + 1)) (rest / 256) =
-      sym (drop-cons l k 0 (omega (arith, length_digits 8 n))) ∙ p.left ∙ ap (λ (j : ℕ). digits j rest) one in
-      record {
-        laid = laid_more p.laid place (b ∷ []) 0 h (omega arith) (ap byte_record (hb ∙ sym (ap (λ (t : List ℕ). get_or t 0 0) next)));
-        left = ap (λ (j : ℕ). drop j l) (add-one k) ∙ ap (drop 1) next;
-      }
-
-  pub spelt_all : 8 ≤ k → s ≡ over at (digits 8 n) o
-  spelt_all h = laid_all p.laid h ∙ ap (λ (t : List ℕ). over at t o) (flat_byte (digits 8 n))
 
 -- the first i of the bytes of o are now 0, in s
 abbrev pub Zeroed : List ℕ → List ℕ → ℕ → Type 0

@@ -1,11 +1,12 @@
 // A monitor and its tally as bytes that a host keeps (RULES H4 to H10, H15, H16, H26, H30): loaded from them and stored into them. They are laid out as in specs/State.antt. Every byte
-// string of the length is a monitor. That the bytes have that length is what a caller owes: whoever is handed bytes tests it once (crate `host`).
+// string of the length is a monitor. That the bytes have that length is what their type says: whoever is handed bytes tests it once (crate `host`).
 #![tactic(auto)]
 
-ghost use Rattle.std.specs.Prelude.{◌≡◌, ◌+◌, ◌^◌, ◌≤◌, ◌<◌, length, take, drop};
-ghost use Rattle.stored.specs.State.{objects_at, handles_at, needs_at, numbers_at, groups_at, Sized, live_of, sort_of, live_byte, sort_byte, whole, digits};
-ghost use Rattle.stored.specs.State.{subjects_of, objects_of, handles_of, needs_of, numbers_of, groups_of, monitor_of, tally_of};
-ghost use Rattle.stored.specs.State.{subject_bytes, object_bytes, handle_bytes, need_bytes, number_bytes, group_bytes, Narrow, Stands};
+ghost use Rattle.std.specs.Prelude.{◌≡◌, ◌*◌, ◌≤◌, ◌<◌, List, [], ℕ, length, take, refl, if◌then◌else◌, nat_lt, slice_index_or};
+ghost use Rattle.stored.specs.State.{records, flat, kinds, ways, whole, digits, monitor_of, tally_of, Stands};
+ghost use Rattle.stored.specs.State.{subject_of, subject_record, object_of, object_record, handle_of, handle_record, byte_of, byte_record};
+ghost use Rattle.stored.specs.Widths.{length_digits};
+ghost use Rattle.std.proofs.Common.{rules};
 ghost use Rattle.stored.specs.Over.{over};
 
 use gatekeeper::Monitor;
@@ -35,373 +36,226 @@ pub const GROUPS_AT: usize = NUMBERS_AT + 8 * OBJECTS;
 // How many bytes a monitor and its tally take.
 pub const STATE_BYTES: usize = GROUPS_AT + SUBJECTS;
 
-// ---- one record, from bytes and to bytes
+// ---- one value, from its bytes and to them
 
-pub const KINDS: u8 = 3;
+// What is kept as W bytes.
+pub trait Kept<const W: usize>: Copy {
+    // What bytes stand for, and as which bytes a value is stored.
+    ghost of: { List ℕ → Self };
 
-pub const WAYS: u8 = 4;
+    ghost to: { Self → List ℕ };
 
-// What the first byte of a record means: of a subject 1 is live; of an object 1 is a file and 2 a pipe; of a handle 1 reads, 2 writes and 3 is a mapping. Of
-// a handle's third byte 1 is a mark. Objects have KINDS such bytes and handles WAYS; anything else is 0.
-pub fn to_live(b: u8) -> u8
-    ensures { result ≡ live_of b }
+    fn from_bytes(bytes: &[u8; W]) -> Self
+        ensures { result ≡ of bytes.now };
+
+    fn to_bytes(self) -> [u8; W]
+        ensures { result ≡ to self };
+
+    // Few bytes, and as many for each value.
+    ghost few: { (0 < W) × (W ≤ 8) };
+
+    ghost wide: { (x : Self) → length (to x) ≡ W };
+}
+
+// The first byte of a record of an object is one of KINDS that mean something: 1 is a file and 2 a pipe. That of a handle is one of WAYS: 1 reads, 2 writes and 3 is a mapping.
+const KINDS: u8 = 3;
+
+const WAYS: u8 = 4;
+
+// A byte that means something, which is one below `known`, and `other` in the place of any that does not.
+fn known_or(known: u8, b: u8, other: u8) -> u8
+    ensures { result ≡ (if nat_lt b known then b else other) }
 {
-    if b == 1 {
-        return 1;
+    if b < known { b } else { other }
+}
+
+impl Kept<3> for Subject {
+    ghost of = { subject_of };
+
+    ghost to = { subject_record };
+
+    ghost few = { (Prim.search rules, Prim.search rules) };
+
+    ghost wide = { λ _. refl };
+
+    fn from_bytes(bytes: &[u8; 3]) -> Subject {
+        let [live, level, shops] = *bytes;
+        Subject {
+            live: u8::from(live == 1),
+            level,
+            shops,
+        }
     }
-    0
-}
 
-pub fn to_sort(known: u8, b: u8) -> u8
-    ensures { result ≡ sort_of known b }
-{
-    if b < known {
-        return b;
+    fn to_bytes(self) -> [u8; 3] {
+        [u8::from(self.live != 0), self.level, self.shops]
     }
-    0
 }
 
-// And as what byte it is stored.
-pub fn from_live(live: u8) -> u8
-    ensures { result ≡ live_byte live }
-{
-    if live == 0 {
-        return 0;
+impl Kept<3> for Object {
+    ghost of = { object_of };
+
+    ghost to = { object_record };
+
+    ghost few = { (Prim.search rules, Prim.search rules) };
+
+    ghost wide = { λ _. refl };
+
+    fn from_bytes(bytes: &[u8; 3]) -> Object {
+        let [kind, level, shops] = *bytes;
+        Object {
+            kind: known_or(KINDS, kind, 0),
+            level,
+            shops,
+        }
     }
-    1
-}
 
-pub fn from_sort(known: u8, b: u8) -> u8
-    ensures { result ≡ sort_byte known b }
-{
-    if b < known {
-        return b;
+    fn to_bytes(self) -> [u8; 3] {
+        [known_or(KINDS, self.kind, 2), self.level, self.shops]
     }
-    2
 }
 
-fn wide(b: u8) -> u64
-    ensures { result ≡ b }
-{
-    b as u64
-}
+impl Kept<3> for Handle {
+    ghost of = { handle_of };
 
-// ---- from bytes
+    ghost to = { handle_record };
 
-pub fn load_subjects(state: &[u8]) -> [Subject; SUBJECTS]
-    requires { Sized state.now }
-    ensures { result ≡ subjects_of state.now }
-{
-    let mut r = [Subject {
-        live: 0,
-        level: 0,
-        shops: 0,
-    }; SUBJECTS];
-    let mut i: usize = 0;
-    while i < SUBJECTS {
-        let at = SUBJECTS_AT + 3 * i;
-        let live = to_live(state[at]);
-        let next = at + 1;
-        let level = state[next];
-        let last = next + 1;
-        let shops = state[last];
-        r[i] = Subject { live, level, shops };
-        i += 1;
+    ghost few = { (Prim.search rules, Prim.search rules) };
+
+    ghost wide = { λ _. refl };
+
+    fn from_bytes(bytes: &[u8; 3]) -> Handle {
+        let [way, object, mark] = *bytes;
+        Handle {
+            way: known_or(WAYS, way, 0),
+            object,
+            mark: u8::from(mark == 1),
+        }
     }
-    r
-}
 
-pub fn load_objects(state: &[u8]) -> [Object; OBJECTS]
-    requires { Sized state.now }
-    ensures { result ≡ objects_of state.now }
-{
-    let mut r = [Object {
-        kind: 0,
-        level: 0,
-        shops: 0,
-    }; OBJECTS];
-    let mut i: usize = 0;
-    while i < OBJECTS {
-        let at = OBJECTS_AT + 3 * i;
-        let kind = to_sort(KINDS, state[at]);
-        let next = at + 1;
-        let level = state[next];
-        let last = next + 1;
-        let shops = state[last];
-        r[i] = Object { kind, level, shops };
-        i += 1;
+    fn to_bytes(self) -> [u8; 3] {
+        [
+            known_or(WAYS, self.way, 2),
+            self.object,
+            u8::from(self.mark != 0),
+        ]
     }
-    r
 }
 
-pub fn load_handles(state: &[u8]) -> [Handle; HANDLES]
-    requires { Sized state.now }
-    ensures { result ≡ handles_of state.now }
-{
-    let mut r = [Handle {
-        way: 0,
-        object: 0,
-        mark: 0,
-    }; HANDLES];
-    let mut i: usize = 0;
-    while i < HANDLES {
-        let at = HANDLES_AT + 3 * i;
-        let way = to_sort(WAYS, state[at]);
-        let next = at + 1;
-        let object = state[next];
-        let last = next + 1;
-        let mark = to_live(state[last]);
-        r[i] = Handle { way, object, mark };
-        i += 1;
+// A group is one byte, as it is.
+impl Kept<1> for u8 {
+    ghost of = { byte_of };
+
+    ghost to = { byte_record };
+
+    ghost few = { (Prim.search rules, Prim.search rules) };
+
+    ghost wide = { λ _. refl };
+
+    fn from_bytes(bytes: &[u8; 1]) -> u8 {
+        bytes[0]
     }
-    r
-}
 
-// The label in the two bytes at an offset: its set, and then its level.
-pub fn load_label(state: &[u8], at: usize) -> u16
-    requires { at + 2 ≤ length state.now }
-    ensures { result ≡ whole (take 2 (drop at state.now)) }
-{
-    let shops = state[at];
-    let next = at + 1;
-    let level = state[next];
-    256 * (level as u16) + shops as u16
-}
-
-pub fn load_needs(state: &[u8]) -> [u16; THINGS]
-    requires { Sized state.now }
-    ensures { result ≡ needs_of state.now }
-{
-    let mut r = [0u16; THINGS];
-    let mut i: usize = 0;
-    while i < THINGS {
-        let at = NEEDS_AT + 2 * i;
-        let n = load_label(state, at);
-        r[i] = n;
-        i += 1;
+    fn to_bytes(self) -> [u8; 1] {
+        [self]
     }
-    r
 }
 
-pub fn load_numbers(state: &[u8]) -> [u64; OBJECTS]
-    requires { Sized state.now }
-    ensures { result ≡ numbers_of state.now }
-{
-    let mut r = [0u64; OBJECTS];
-    let mut i: usize = 0;
-    while i < OBJECTS {
-        let at = NUMBERS_AT + 8 * i;
-        let n = load_number(state, at);
-        r[i] = n;
-        i += 1;
+// A label is its set, and then its level; a number its bytes, lowest first.
+impl Kept<2> for u16 {
+    ghost of = { whole };
+
+    ghost to = { digits 2 };
+
+    ghost few = { (Prim.search rules, Prim.search rules) };
+
+    ghost wide = { length_digits 2 };
+
+    fn from_bytes(bytes: &[u8; 2]) -> u16 {
+        u16::from_le_bytes(*bytes)
     }
-    r
-}
 
-pub fn load_groups(state: &[u8]) -> [u8; SUBJECTS]
-    requires { Sized state.now }
-    ensures { result ≡ groups_of state.now }
-{
-    let mut r = [0u8; SUBJECTS];
-    let mut i: usize = 0;
-    while i < SUBJECTS {
-        let at = GROUPS_AT + i;
-        r[i] = state[at];
-        i += 1;
+    fn to_bytes(self) -> [u8; 2] {
+        u16::to_le_bytes(self)
     }
-    r
 }
 
-pub fn load_monitor(state: &[u8]) -> Monitor
-    requires { Sized state.now }
+impl Kept<8> for u64 {
+    ghost of = { whole };
+
+    ghost to = { digits 8 };
+
+    ghost few = { (Prim.search rules, Prim.search rules) };
+
+    ghost wide = { length_digits 8 };
+
+    fn from_bytes(bytes: &[u8; 8]) -> u64 {
+        u64::from_le_bytes(*bytes)
+    }
+
+    fn to_bytes(self) -> [u8; 8] {
+        u64::to_le_bytes(self)
+    }
+}
+
+// ---- a part, from its bytes and to them
+
+// The values in the first bytes.
+pub fn load_part<T: Kept<W>, const W: usize, const N: usize>(from: &[u8]) -> [T; N]
+    requires { W * N ≤ length from.now }
+    ensures { result ≡ records T.of W N from.now }
+{
+    let (chunks, _) = from.as_chunks::<W>();
+    std::array::from_fn(
+        |i: usize| -> T
+            requires { i < length chunks.now }
+            ensures { result ≡ T.of (slice_index_or chunks.entry.now i []) }
+        { T::from_bytes(&chunks[i]) },
+    )
+}
+
+pub fn store_part<T: Kept<W>, const W: usize, const N: usize>(to: &mut [u8], part: [T; N])
+    requires { W * N ≤ length to.old }
+    ensures { to.new ≡ over 0 (flat T.to part) to.old }
+{
+    for (i, x) in part.iter().enumerate() {
+        to[W * i..W * i + W].copy_from_slice(&x.to_bytes());
+    }
+}
+
+// ---- a monitor and its tally
+
+pub fn load_monitor(state: &[u8; STATE_BYTES]) -> Monitor
     ensures { result ≡ monitor_of state.now }
 {
-    let subjects = load_subjects(state);
-    let objects = load_objects(state);
-    let handles = load_handles(state);
-    let freeze = state[FREEZE_AT];
-    let needs = load_needs(state);
-    let numbers = load_numbers(state);
-    let groups = load_groups(state);
     Monitor {
-        numbers: numbers,
-        subjects: subjects,
-        objects: objects,
-        handles: handles,
-        freeze: freeze,
-        needs: needs,
-        groups: groups,
+        numbers: load_part(&state[NUMBERS_AT..]),
+        subjects: load_part(&state[SUBJECTS_AT..]),
+        objects: load_part(&state[OBJECTS_AT..]),
+        handles: load_part(&state[HANDLES_AT..]),
+        freeze: state[FREEZE_AT],
+        needs: load_part(&state[NEEDS_AT..]),
+        groups: load_part(&state[GROUPS_AT..]),
         sure: 0,
     }
 }
 
-// The number in the eight bytes at an offset, from the highest down.
-pub fn load_number(state: &[u8], at: usize) -> u64
-    requires { at + 8 ≤ length state.now }
-    ensures { result ≡ whole (take 8 (drop at state.now)) }
-{
-    let mut n: u64 = 0;
-    let mut left: usize = 8;
-    while 0 < left {
-        left = left - 1;
-        n = 256 * n + wide(state[at + left]);
-    }
-    n
-}
-
-pub fn load_tally(state: &[u8]) -> Tally
-    requires { Sized state.now }
+pub fn load_tally(state: &[u8; STATE_BYTES]) -> Tally
     ensures { result ≡ tally_of state.now }
 {
-    let made = load_number(state, MADE_AT);
-    let gone = load_number(state, GONE_AT);
-    Tally {
-        made: made,
-        gone: gone,
-    }
+    let [made, gone]: [u64; 2] = load_part(&state[MADE_AT..]);
+    Tally { made, gone }
 }
 
-// ---- to bytes
-
-pub fn store_subjects(state: &mut [u8], subjects: [Subject; SUBJECTS])
-    requires { Sized state.old }
-    ensures { state.new ≡ over 0 (subject_bytes subjects) state.old }
-{
-    let mut i: usize = 0;
-    while i < SUBJECTS {
-        let x = subjects[i];
-        let place = SUBJECTS_AT + 3 * i;
-        let next = place + 1;
-        let last = next + 1;
-        state[place] = from_live(x.live);
-        state[next] = x.level;
-        state[last] = x.shops;
-        i += 1;
-    }
-}
-
-pub fn store_objects(state: &mut [u8], objects: [Object; OBJECTS])
-    requires { Sized state.old }
-    ensures { state.new ≡ over objects_at (object_bytes objects) state.old }
-{
-    let mut i: usize = 0;
-    while i < OBJECTS {
-        let x = objects[i];
-        let kind = x.kind;
-        let place = OBJECTS_AT + 3 * i;
-        let next = place + 1;
-        let last = next + 1;
-        state[place] = from_sort(KINDS, kind);
-        state[next] = x.level;
-        state[last] = x.shops;
-        i += 1;
-    }
-}
-
-pub fn store_handles(state: &mut [u8], handles: [Handle; HANDLES])
-    requires { Sized state.old }
-    ensures { state.new ≡ over handles_at (handle_bytes handles) state.old }
-{
-    let mut i: usize = 0;
-    while i < HANDLES {
-        let x = handles[i];
-        let way = x.way;
-        let mark = x.mark;
-        let place = HANDLES_AT + 3 * i;
-        let next = place + 1;
-        let last = next + 1;
-        state[place] = from_sort(WAYS, way);
-        state[next] = x.object;
-        state[last] = from_live(mark);
-        i += 1;
-    }
-}
-
-// A number into the eight bytes at an offset, lowest first.
-pub fn store_number(state: &mut [u8], at: usize, number: u64)
-    requires { at + 8 ≤ length state.old }
-    ensures bytes { state.new ≡ over at (digits 8 number) state.old }
-    ensures narrow { number < 2 ^ 64 }
-{
-    let mut rest = number;
-    let mut k: usize = 0;
-    while k < 8 {
-        let place = at + k;
-        state[place] = (rest % 256) as u8;
-        rest = rest / 256;
-        k += 1;
-    }
-}
-
-// A label into the two bytes at an offset: its set, and then its level.
-pub fn store_label(state: &mut [u8], at: usize, label: u16)
-    requires { at + 2 ≤ length state.old }
-    ensures bytes { state.new ≡ over at (digits 2 label) state.old }
-    ensures narrow { label < 2 ^ 16 }
-{
-    let next = at + 1;
-    state[at] = (label % 256) as u8;
-    state[next] = (label / 256) as u8;
-}
-
-pub fn store_needs(state: &mut [u8], needs: [u16; THINGS])
-    requires { Sized state.old }
-    ensures bytes { state.new ≡ over needs_at (need_bytes needs) state.old }
-    ensures all { length needs ≡ 96 }
-    ensures narrow { Narrow 16 needs }
-{
-    let mut i: usize = 0;
-    while i < THINGS {
-        let n = needs[i];
-        let place = NEEDS_AT + 2 * i;
-        store_label(state, place, n);
-        i += 1;
-    }
-}
-
-pub fn store_numbers(state: &mut [u8], numbers: [u64; OBJECTS])
-    requires { Sized state.old }
-    ensures bytes { state.new ≡ over numbers_at (number_bytes numbers) state.old }
-    ensures narrow { Narrow 64 numbers }
-{
-    let mut i: usize = 0;
-    while i < OBJECTS {
-        let n = numbers[i];
-        let place = NUMBERS_AT + 8 * i;
-        store_number(state, place, n);
-        i += 1;
-    }
-}
-
-pub fn store_groups(state: &mut [u8], groups: [u8; SUBJECTS])
-    requires { Sized state.old }
-    ensures { state.new ≡ over groups_at (group_bytes groups) state.old }
-{
-    let mut i: usize = 0;
-    while i < SUBJECTS {
-        let place = GROUPS_AT + i;
-        state[place] = groups[i];
-        i += 1;
-    }
-}
-
-pub fn store(state: &mut [u8], monitor: Monitor, tally: Tally)
-    requires { Sized state.old }
+pub fn store(state: &mut [u8; STATE_BYTES], monitor: Monitor, tally: Tally)
     ensures { Stands state.new monitor tally }
 {
-    let subjects = monitor.subjects;
-    let objects = monitor.objects;
-    let handles = monitor.handles;
-    let needs = monitor.needs;
-    let numbers = monitor.numbers;
-    let groups = monitor.groups;
-    store_subjects(state, subjects);
-    store_objects(state, objects);
-    store_handles(state, handles);
-    store_number(state, MADE_AT, tally.made);
-    store_number(state, GONE_AT, tally.gone);
+    store_part(&mut state[SUBJECTS_AT..], monitor.subjects);
+    store_part(&mut state[OBJECTS_AT..], monitor.objects);
+    store_part(&mut state[HANDLES_AT..], monitor.handles);
+    store_part(&mut state[MADE_AT..], [tally.made, tally.gone]);
     state[FREEZE_AT] = monitor.freeze;
-    store_needs(state, needs);
-    store_numbers(state, numbers);
-    store_groups(state, groups);
+    store_part(&mut state[NEEDS_AT..], monitor.needs);
+    store_part(&mut state[NUMBERS_AT..], monitor.numbers);
+    store_part(&mut state[GROUPS_AT..], monitor.groups);
 }

@@ -1,17 +1,26 @@
 -- `stored::load_monitor` meets its contract. Assumes nothing.
-use Rattle.stored.specs.State.{freeze_of}
+use Rattle.std.proofs.Common.{◌≡◌, ◌∙◌, List, ℕ}
+use Rattle.stored.specs.State.{subjects_of, objects_of, handles_of, freeze_of, needs_of, numbers_of, groups_of}
+use Rattle.stored.proofs.Loading.{in_part}
 use Rattle.stored.proofs.load_monitor.Goals as goal
 
 pub returns : goal.returns
-unfolding freeze_of
+unfolding subjects_of objects_of handles_of freeze_of needs_of numbers_of groups_of
 returns c =
+    let s : List ℕ = c.args.state.now in
+    let numbers : c.load_part.result ≡ numbers_of s = c.load_part.ensures ∙ in_part _ _ _ 2033 544 s c.told-state in
+    let subjects : c.load_part-2.result ≡ subjects_of s = c.load_part-2.ensures ∙ in_part _ _ _ 0 2577 s c.told-state in
+    let objects : c.load_part-3.result ≡ objects_of s = c.load_part-3.ensures ∙ in_part _ _ _ 96 2481 s c.told-state in
+    let handles : c.load_part-4.result ≡ handles_of s = c.load_part-4.ensures ∙ in_part _ _ _ 288 2289 s c.told-state in
+    let needs : c.load_part-5.result ≡ needs_of s = c.load_part-5.ensures ∙ in_part _ _ _ 1841 736 s c.told-state in
+    let groups : c.load_part-6.result ≡ groups_of s = c.load_part-6.ensures ∙ in_part _ _ _ 2545 32 s c.told-state in
     λ i. record {
-      numbers = c.load_numbers-numbers.ensures i;
-      subjects = c.load_subjects-subjects.ensures i;
-      objects = c.load_objects-objects.ensures i;
-      handles = c.load_handles-handles.ensures i;
-      freeze = freeze_of c.args.state.now;
-      needs = c.load_needs-needs.ensures i;
-      groups = c.load_groups-groups.ensures i;
+      numbers = numbers i;
+      subjects = subjects i;
+      objects = objects i;
+      handles = handles i;
+      freeze = freeze_of s;
+      needs = needs i;
+      groups = groups i;
       sure = 0;
     }

@@ -36,6 +36,7 @@ use Rattle.groups.specs.Groups.{stands, kin_of}
 use Rattle.groups.specs.Groups.Laws.{kin_live}
 use Rattle.gatekeeper.proofs.Numbered.{empty_view}
 use Rattle.tally.specs.Counting.{counts_of}
+use Rattle.stored.specs.Widths.{length_digits}
 use Rattle.stored.specs.State.{state_bytes, subject_width, object_width, handle_width, objects_at, handles_at, made_at, gone_at, freeze_at, needs_at, numbers_at, groups_at, byte_width, need_width, number_width}
 use Rattle.stored.specs.State.{records, flat, live_of, sort_of, kinds, ways, live_byte, sort_byte, subject_of, subject_record, object_of, object_record}
 use Rattle.stored.specs.State.{handle_of, handle_record, byte_of, byte_record, whole, digits}
@@ -87,11 +88,6 @@ module _ {A : Type 0} (g : A → List ℕ) where
         ∙ ap (λ (q : List A). f (g x) ∷ q) (records_flat f l t)
 
 -- ── numbers ──
-pub length_digits : (k n : ℕ) → length (digits k n) ≡ k
-unfolding digits
-length_digits zero n = refl
-length_digits (suc k) n = ap suc (length_digits k (n / 256))
-
 pub whole_digits : (k n : ℕ) → n < 256 ^ k → whole (digits k n) ≡ n
 unfolding whole digits
 whole_digits zero n h = omega arith
