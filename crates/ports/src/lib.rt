@@ -14,7 +14,7 @@ ghost use Rattle.ports.specs.Ports.{words, Sending, Saying};
 use std::io;
 use std::io::{Read, Stderr, Stdin, Stdout};
 
-// The numbers by which the host knows its three ports, POSIX's.
+// The numbers by which the host knows its three ports, POSIX's. Numbers, and no match on the port: `number_of` promises them.
 const STDIN_FILENO: i32 = 0;
 
 const STDOUT_FILENO: i32 = 1;
@@ -36,7 +36,7 @@ pub enum Port {
     Error,
 }
 
-// What a read came to.
+// What a read came to. Three cases, and no `Result` of a count, in which 0 would have to stand for the end.
 #[derive(Clone, Copy)]
 pub enum Step {
     // It failed.
@@ -56,7 +56,7 @@ pub struct Intake {
     last: Step,
 }
 
-// What reading came to, once it is over.
+// What reading came to, once it is over. Three cases, and no `Result`: its `Ok` would hold two of them still.
 #[derive(Clone, Copy)]
 pub enum Filled {
     // So many bytes stand at the start of the buffer, and then the input ended.
@@ -111,9 +111,9 @@ pub fn host_of(input: Stdin, output: Stdout, error: Stderr) -> Host
     ensures told { result.error ≡ error }
 {
     Host {
-        input: input,
-        output: output,
-        error: error,
+        input,
+        output,
+        error,
     }
 }
 
@@ -162,8 +162,7 @@ fn step_of(number: isize) -> Step
         return Step::Failed;
     }
     if number > 0 {
-        let count = number as usize;
-        return Step::Brought(count);
+        return Step::Brought(number as usize);
     }
     Step::Ended
 }
@@ -172,8 +171,7 @@ fn brought(last: Step) -> usize
     ensures { result ≡ brought_by last }
 {
     match last {
-        Step::Failed => 0,
-        Step::Ended => 0,
+        Step::Failed | Step::Ended => 0,
         Step::Brought(n) => n,
     }
 }
@@ -183,7 +181,7 @@ pub fn start(from: Port) -> Intake
     ensures { result ≡ begun from }
 {
     Intake {
-        from: from,
+        from,
         done: 0,
         last: Step::Brought(0),
     }
@@ -198,11 +196,10 @@ pub fn more(host: Host, at: Intake, buf: &mut [u8]) -> Intake
     let done = at.done;
     let number = read(host, descriptor(from), &mut buf[done..]);
     let last = step_of(number);
-    let reached = done + brought(last);
     Intake {
-        from: from,
-        done: reached,
-        last: last,
+        from,
+        done: done + brought(last),
+        last,
     }
 }
 
@@ -210,11 +207,9 @@ pub fn more(host: Host, at: Intake, buf: &mut [u8]) -> Intake
 pub fn goes_on(at: Intake, room: usize) -> bool
     ensures { result ≡ goes at room }
 {
-    let last = at.last;
-    match last {
-        Step::Failed => false,
-        Step::Ended => false,
-        Step::Brought(n) => at.done < room,
+    match at.last {
+        Step::Failed | Step::Ended => false,
+        Step::Brought(_) => at.done < room,
     }
 }
 
@@ -222,11 +217,10 @@ pub fn goes_on(at: Intake, room: usize) -> bool
 pub fn came_to(at: Intake) -> Filled
     ensures { result ≡ filled at }
 {
-    let last = at.last;
-    match last {
+    match at.last {
         Step::Failed => Filled::Failed,
         Step::Ended => Filled::Ended(at.done),
-        Step::Brought(n) => Filled::Full,
+        Step::Brought(_) => Filled::Full,
     }
 }
 
@@ -237,10 +231,10 @@ pub fn send(host: Host, to: Port, text: &[u8], journal: &[u8]) -> Sent
 {
     let whole = write(host, descriptor(to), text);
     Sent {
-        to: to,
+        to,
         read: journal.len(),
         wrote: text.len(),
-        whole: whole,
+        whole,
     }
 }
 
@@ -256,8 +250,5 @@ pub fn say(host: Host, to: Port, text: &[u8], message: Message) -> Said
     ensures { Saying to message result }
 {
     write(host, descriptor(to), text);
-    Said {
-        to: to,
-        message: message,
-    }
+    Said { to, message }
 }

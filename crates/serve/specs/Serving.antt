@@ -2,7 +2,7 @@
 -- free here: what the reads bring, and whether the writes take all that they are handed. What is made of the bytes that
 -- were read, what is handed to which port, and what is said is settled. In order: reading that is over; the reply to some
 -- bytes; a run. The ports are in Ports, the laws in Serving/Laws. Assumes nothing.
-use Rattle.std.specs.Prelude.{ℕ, ◌+◌, ◌≤◌, ◌<◌, ◌≡◌, true, false, List, length, take}
+use Rattle.std.specs.Prelude.{ℕ, ◌+◌, ◌≤◌, ◌<◌, ◌≡◌, true, false, List, Result, Ok, Err, length, take}
 use Rattle.number.specs.Put.{put}
 use Rattle.replay.specs.Replay.{reply, Begun, largest_journal, reply_room}
 use Rattle.ports.specs.Ports.{goes, filled, Sending, Saying}
@@ -11,11 +11,15 @@ use Rattle.ports.specs.declared.Intake.{Intake}
 use Rattle.ports.specs.declared.Sent.{Sent}
 use Rattle.ports.specs.declared.Filled.{Filled}
 use Rattle.ports.specs.declared.Filled.TheVariants.{Ended, Full, Failed}
-use Rattle.ports.specs.declared.Message.TheVariants as message-is
+use Rattle.ports.specs.declared.Message.TheVariants as message_is
 use Rattle.serve.specs.declared.Run.{Run}
-use Rattle.serve.specs.declared.Served.{Served}
-use Rattle.serve.specs.declared.Served.TheVariants.{Replied, Unwritten, NoRoom, Unended, Unread}
+use Rattle.serve.specs.declared.Failure.{Failure}
+use Rattle.serve.specs.declared.Failure.TheVariants.{Unwritten, NoRoom, Unended, Unread}
 pub mod Laws
+
+-- what came of what was read: a reply that was written, or why there is none
+abbrev pub Served : Type 0
+Served = Result Sent Failure
 
 -- ── reading that is over ──
 -- bytes that were read before the input ended lie inside the buffer, and do not fill it
@@ -49,29 +53,29 @@ Handed n s journal = Sending Output n (length (reply (take n journal))) s
 
 -- a run that replies to these n bytes, and to no others. RULES P16: what fails is said on standard error
 abbrev pub Replying : ℕ → Served → (journal first out : List ℕ) → Type 0
-Replying n (Replied s) journal first out = (s.whole ≡ true) × Handed n s journal × Whole n journal first out
-Replying n (Unwritten s d) journal first out =
-    (s.whole ≡ false) × Saying Error message-is.Unwritten d × Handed n s journal × Whole n journal first out
-Replying n (NoRoom m d) journal first out = (m ≡ n) × Saying Error message-is.NoRoom d × Cut n journal first out
-Replying n (Unended d) journal first out = ⊥
-Replying n (Unread d) journal first out = ⊥
+Replying n (Ok s) journal first out = (s.whole ≡ true) × Handed n s journal × Whole n journal first out
+Replying n (Err (Unwritten s d)) journal first out =
+    (s.whole ≡ false) × Saying Error message_is.Unwritten d × Handed n s journal × Whole n journal first out
+Replying n (Err (NoRoom m d)) journal first out = (m ≡ n) × Saying Error message_is.NoRoom d × Cut n journal first out
+Replying n (Err (Unended d)) journal first out = ⊥
+Replying n (Err (Unread d)) journal first out = ⊥
 
 -- ── a run ──
 -- the journal's buffer is full and too short to tell: that is said, and nothing is run
 abbrev pub Stopped : Served → (first out : List ℕ) → Type 0
-Stopped (Replied s) first out = ⊥
-Stopped (Unwritten s d) first out = ⊥
-Stopped (NoRoom m d) first out = ⊥
-Stopped (Unended d) first out = Saying Error message-is.Unended d × (out ≡ first)
-Stopped (Unread d) first out = ⊥
+Stopped (Ok s) first out = ⊥
+Stopped (Err (Unwritten s d)) first out = ⊥
+Stopped (Err (NoRoom m d)) first out = ⊥
+Stopped (Err (Unended d)) first out = Saying Error message_is.Unended d × (out ≡ first)
+Stopped (Err (Unread d)) first out = ⊥
 
 -- RULES P15: a read failed: that is said, and nothing is run
 abbrev pub Blind : Served → (first out : List ℕ) → Type 0
-Blind (Replied s) first out = ⊥
-Blind (Unwritten s d) first out = ⊥
-Blind (NoRoom m d) first out = ⊥
-Blind (Unended d) first out = ⊥
-Blind (Unread d) first out = Saying Error message-is.Unread d × (out ≡ first)
+Blind (Ok s) first out = ⊥
+Blind (Err (Unwritten s d)) first out = ⊥
+Blind (Err (NoRoom m d)) first out = ⊥
+Blind (Err (Unended d)) first out = ⊥
+Blind (Err (Unread d)) first out = Saying Error message_is.Unread d × (out ≡ first)
 
 -- RULES P1, P15, P17, P18: by what reading came to. A full buffer is a journal that is too long, or says nothing of where
 -- the journal ends
@@ -108,11 +112,11 @@ pub record Ran (r : Run) : Type 0 where
 
 -- RULES P19, P21: a run that never lacks room, for the journal or for the reply
 abbrev pub RoomyBy : Served → Type 0
-RoomyBy (Replied s) = Unit {0}
-RoomyBy (Unwritten s d) = Unit {0}
-RoomyBy (NoRoom m d) = ⊥
-RoomyBy (Unended d) = ⊥
-RoomyBy (Unread d) = Unit {0}
+RoomyBy (Ok s) = Unit {0}
+RoomyBy (Err (Unwritten s d)) = Unit {0}
+RoomyBy (Err (NoRoom m d)) = ⊥
+RoomyBy (Err (Unended d)) = ⊥
+RoomyBy (Err (Unread d)) = Unit {0}
 
 abbrev pub Roomy : Run → Type 0
 Roomy r = RoomyBy r.came

@@ -7,7 +7,6 @@ ghost use Rattle.std.specs.Prelude.{◌≤◌, length};
 ghost use Rattle.replay.specs.Replay.{reply_room};
 ghost use Rattle.serve.specs.Serving.{Finished, journal_room, Sized, Replying, Answering, Serving, Ran, Roomy};
 
-use number::Written;
 use ports::{Filled, Host, Intake, Message, Port, Said, Sent};
 use replay::LARGEST_JOURNAL;
 use std::io::{Stderr, Stdin, Stdout};
@@ -15,12 +14,10 @@ use std::io::{Stderr, Stdin, Stdout};
 // Room for the longest journal and one byte more, by which a longer one is known.
 const JOURNAL_ROOM: usize = LARGEST_JOURNAL + 1;
 
-// What came of what was read.
+// Why a run replied nothing, or not all; each was said.
 #[derive(Clone, Copy)]
-pub enum Served {
-    // The reply to it was written.
-    Replied(Sent),
-    // A write of the reply to it failed, and that was said.
+pub enum Failure {
+    // A write of the reply failed.
     Unwritten { sent: Sent, said: Said },
     // The reply to so many bytes has no room in its buffer.
     NoRoom { read: usize, said: Said },
@@ -30,6 +27,9 @@ pub enum Served {
     // A read failed.
     Unread(Said),
 }
+
+// What came of what was read: the reply to it was written, or why not.
+pub type Served = Result<Sent, Failure>;
 
 // What came of a run: how far reading came, and what was made of what was read.
 #[derive(Clone, Copy)]
@@ -54,36 +54,26 @@ fn respond(host: Host, journal: &[u8], n: usize, out: &mut [u8]) -> Served
     requires { n ≤ length journal.now }
     ensures { Replying n result journal.now out.old out.new }
 {
-    match replay::replay(&journal[..n], out) {
-        Written::Bytes(k) => {
-            let sent = ports::send(host, Port::Output, &out[..k], &journal[..n]);
-            if ports::is_whole(sent) {
-                return Served::Replied(sent);
-            }
-            let said = ports::say(
-                host,
-                Port::Error,
-                b"payrun: standard output could not be written\n",
-                Message::Unwritten,
-            );
-            Served::Unwritten {
-                sent: sent,
-                said: said,
-            }
-        }
-        Written::NoRoom => {
-            let said = ports::say(
-                host,
-                Port::Error,
-                b"payrun: the reply is longer than the room for it\n",
-                Message::NoRoom,
-            );
-            Served::NoRoom {
-                read: n,
-                said: said,
-            }
-        }
+    let Some(k) = replay::replay(&journal[..n], out) else {
+        let said = ports::say(
+            host,
+            Port::Error,
+            b"payrun: the reply is longer than the room for it\n",
+            Message::NoRoom,
+        );
+        return Err(Failure::NoRoom { read: n, said });
+    };
+    let sent = ports::send(host, Port::Output, &out[..k], &journal[..n]);
+    if !ports::is_whole(sent) {
+        let said = ports::say(
+            host,
+            Port::Error,
+            b"payrun: standard output could not be written\n",
+            Message::Unwritten,
+        );
+        return Err(Failure::Unwritten { sent, said });
     }
+    Ok(sent)
 }
 
 // What the program makes of its input, once that is read: all of the program but the read.
@@ -101,7 +91,7 @@ fn answer(host: Host, journal: &[u8], read: Intake, out: &mut [u8]) -> Served
                     b"payrun: the journal may go on after the room for it\n",
                     Message::Unended,
                 );
-                return Served::Unended(said);
+                return Err(Failure::Unended(said));
             }
             respond(host, journal, journal.len(), out)
         }
@@ -112,7 +102,7 @@ fn answer(host: Host, journal: &[u8], read: Intake, out: &mut [u8]) -> Served
                 b"payrun: standard input could not be read\n",
                 Message::Unread,
             );
-            Served::Unread(said)
+            Err(Failure::Unread(said))
         }
     }
 }
@@ -124,10 +114,7 @@ pub fn serve(host: Host, journal: &mut [u8], out: &mut [u8]) -> Run
 {
     let read = fill(host, journal);
     let came = answer(host, journal, read, out);
-    Run {
-        read: read,
-        came: came,
-    }
+    Run { read, came }
 }
 
 fn journal_space() -> [u8; JOURNAL_ROOM]

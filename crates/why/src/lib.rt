@@ -10,7 +10,7 @@ ghost use Rattle.gatekeeper.specs.View.{view, Honest, direct};
 ghost use Rattle.why.specs.Why.{Explains, no_chain};
 ghost use Rattle.why.specs.Working.{DueTells, seeking, number_at, told_by, nine_in};
 
-use answers::Answer;
+use answers::{Answer, Refusal};
 use gatekeeper::{Monitor, seats};
 use tables::{HANDLES, Handle, MAPS, OBJECTS, Object, READS, SUBJECTS, Subject, WRITES, looks};
 use ways::Way;
@@ -49,8 +49,7 @@ fn behind_open(
 ) -> Way
     ensures { (way ≡ 0 → ⊥) → DueTells subjects groups objects handles (seeking way s o p) result }
 {
-    let put = looks::joining(way, o);
-    let next = looks::with_handle(handles, s, p, put);
+    let next = looks::with_handle(handles, s, p, looks::joining(way, o));
     let leads = groups::leads(subjects, groups);
     ways::nearest(subjects, objects, next, leads)
 }
@@ -67,20 +66,14 @@ fn behind_exec(
     ensures { DueTells subjects groups objects handles (exec s o) result }
 {
     let rest = groups::alone(subjects, groups, handles, s);
-    let left = rest.subjects;
     let next = rest.handles;
-    let leads = groups::leads(left, groups);
+    let leads = groups::leads(rest.subjects, groups);
     let y = looks::object_of(objects, o);
     let label = looks::object_label(y);
     let w = ways::nearest_from(objects, next, leads, s as usize, label);
-    let steps = w.steps;
-    let slot = (o % OBJECTS as u64) as usize;
-    let start = SUBJECTS + slot;
     Way {
-        start: start,
-        end: w.end,
-        steps: steps,
-        count: w.count,
+        start: SUBJECTS + (o % OBJECTS as u64) as usize,
+        ..w
     }
 }
 
@@ -170,21 +163,19 @@ fn numbered(numbers: [u64; OBJECTS], w: Way) -> Chain
     let high = number_of(numbers, w.end);
     let count = (w.count % (STEPS + 1)) as u8;
     if w.start < SUBJECTS {
-        let first = steps[0] as u64;
         return Chain {
-            low: first / 16,
-            high: high,
-            steps: steps,
-            count: count,
+            low: steps[0] as u64 / 16,
+            high,
+            steps,
+            count,
             kind: A_SUBJECT,
         };
     }
-    let low = number_of(numbers, w.start);
     Chain {
-        low: low,
-        high: high,
-        steps: steps,
-        count: count,
+        low: number_of(numbers, w.start),
+        high,
+        steps,
+        count,
         kind: AN_OBJECT,
     }
 }
@@ -193,9 +184,7 @@ fn numbered(numbers: [u64; OBJECTS], w: Way) -> Chain
 fn is_nine(a: Answer) -> bool
     ensures { result ≡ nine_in (told a) }
 {
-    let refused = answers::is_refused(a);
-    let nine = answers::value(a) == 9;
-    looks::both(refused, nine)
+    matches!(a, Err(Refusal::Flow))
 }
 
 // The chain behind this call, which is not made: one with the fewest handles where the call is refused with 9 on this monitor, in which no label is below its need and
@@ -205,19 +194,13 @@ pub fn why(m: Monitor, code: u64, a: u64, b: u64, c: u64, d: u64, e: u64, f: u64
     ensures explains { Honest m → Explains (clean (view m)) (decode (direct code a b c d e f)) result }
 {
     let reply = m.call(code, a, b, c, d, e, f);
-    let answer = reply.answer;
-    if !is_nine(answer) {
+    if !is_nine(reply.answer) {
         return none();
     }
     let t = m.assured();
-    let objects = t.objects;
-    let numbers = t.numbers;
-    let s = seats::located(objects, numbers, code, a, b, c, d);
-    let subjects = t.subjects;
-    let groups = t.groups;
-    let handles = t.handles;
+    let s = seats::located(t.objects, t.numbers, code, a, b, c, d);
     let w = behind(
-        subjects, groups, objects, handles, code, s.a, s.b, s.c, s.d, e, f,
+        t.subjects, t.groups, t.objects, t.handles, code, s.a, s.b, s.c, s.d, e, f,
     );
-    numbered(numbers, w)
+    numbered(t.numbers, w)
 }

@@ -9,6 +9,6 @@ returns c =
     let a = c.args in record {
       tables = λ rest os hs d low k e. group_read rest a.subjects os hs a.groups a.s a.level a.shops d c.lowered-after.result c.members-members.result low k e
           (search (rules, unmapped)) (search (rules, unmapped)) c.members-members.ensures c.lowered-after.ensures;
-      lower = c.is_lower-lower.ensures;
+      lower = c.is_lower.ensures;
       live = taken_live a.subjects c.lowered-after.result c.members-members.result a.level a.shops (search (rules, unmapped)) (search (rules, unmapped)) c.lowered-after.ensures;
     }

@@ -1,8 +1,7 @@
 -- Laws of the program's buffers. In order: zeros of any number; reading, step by step; the reply, as it is handed on; a
 -- run with room for everything. Assumes nothing.
-use Rattle.std.specs.Prelude.{ℕ, zero, suc, ◌+◌, ◌≤◌, ◌<◌, ◌≡◌, refl, Bool, true, false, List, leb, ℤ, pos, negsuc, length, take, drop, replicate}
+use Rattle.std.specs.Prelude.{ℕ, zero, suc, ◌+◌, ◌≤◌, ◌<◌, ◌≡◌, refl, Bool, true, false, Some, None, Ok, Err, List, leb, ℤ, pos, negsuc, length, take, drop, replicate}
 use Rattle.std.proofs.Common.{zero-le, arith, sym, ap, subst, ◌∙◌, leb-true, leb-false, take_at, length-take-le}
-use Rattle.std.proofs.Math.Option.{none, some}
 use Rattle.std.proofs.lemmas.List.{length-replicate}
 use Rattle.number.specs.Put.{put, fitted}
 use Rattle.number.specs.Put.Laws.{fits, fits_not, put_fits}
@@ -15,9 +14,8 @@ use Rattle.ports.specs.declared.Intake.{Intake}
 use Rattle.ports.specs.declared.Filled.{Filled}
 use Rattle.ports.specs.declared.Filled.TheVariants.{Ended, Full, Failed}
 use Rattle.serve.specs.declared.Run.{Run}
-use Rattle.serve.specs.declared.Served.{Served}
-use Rattle.serve.specs.declared.Served.TheVariants.{Replied, Unwritten, NoRoom, Unended, Unread}
-use Rattle.serve.specs.Serving.{Within, Finished, Whole, Cut, Handed, Replying, Blind, AnsweringBy}
+use Rattle.serve.specs.declared.Failure.TheVariants.{Unwritten, NoRoom, Unended, Unread}
+use Rattle.serve.specs.Serving.{Served, Within, Finished, Whole, Cut, Handed, Replying, Blind, AnsweringBy}
 use Rattle.serve.specs.Serving.{Sized, Ran, Roomy, RoomyBy}
 
 pub zeros_sized : (n : ℕ) → Sized n (replicate n 0)
@@ -57,7 +55,7 @@ reading_over at buf₀ buf h e = record { from = h.from; over = e; room = h.room
 module _ (n : ℕ) (journal first out : List ℕ) where
   -- it was written, and has k bytes
   abbrev pub Put : ℕ → Type 0
-  Put k = (some k ≡ fitted (reply (take n journal)) first) × (out ≡ put (reply (take n journal)) first)
+  Put k = (Some k ≡ fitted (reply (take n journal)) first) × (out ≡ put (reply (take n journal)) first)
 
   -- what is handed to the write
   pub sent_is : (k : ℕ) → Put k → take k out ≡ reply (take n journal)
@@ -74,7 +72,7 @@ module _ (n : ℕ) (journal first out : List ℕ) where
     let (count, room) = fits (reply (take n journal)) first k (sym w.0) in record { fits = room; wrote = w.1 },
   )
 
-  pub cut_as : none ≡ fitted (reply (take n journal)) first → Begun (reply (take n journal)) first out
+  pub cut_as : None ≡ fitted (reply (take n journal)) first → Begun (reply (take n journal)) first out
       → (reply_room ≤ length first → length (reply (take n journal)) ≤ length first) → Cut n journal first out
   cut_as answer begun room =
       let long = fits_not (reply (take n journal)) first (sym answer) in
@@ -89,18 +87,18 @@ module _ (n : ℕ) (journal first out : List ℕ) where
 
 -- ── a run with room for everything ──
 replying_roomy : (n : ℕ) (r : Served) (journal first out : List ℕ) → Replying n r journal first out → reply_room ≡ length first → RoomyBy r
-replying_roomy n (Replied s) journal first out a e = tt
-replying_roomy n (Unwritten s d) journal first out a e = tt
-replying_roomy n (NoRoom m d) journal first out a e = absurd (omega (arith, a.2.small, e))
-replying_roomy n (Unended d) journal first out a e = a
-replying_roomy n (Unread d) journal first out a e = tt
+replying_roomy n (Ok s) journal first out a e = tt
+replying_roomy n (Err (Unwritten s d)) journal first out a e = tt
+replying_roomy n (Err (NoRoom m d)) journal first out a e = absurd (omega (arith, a.2.small, e))
+replying_roomy n (Err (Unended d)) journal first out a e = a
+replying_roomy n (Err (Unread d)) journal first out a e = tt
 
 blind_roomy : (r : Served) (first out : List ℕ) → Blind r first out → RoomyBy r
-blind_roomy (Replied s) first out a = tt
-blind_roomy (Unwritten s d) first out a = tt
-blind_roomy (NoRoom m d) first out a = a
-blind_roomy (Unended d) first out a = a
-blind_roomy (Unread d) first out a = tt
+blind_roomy (Ok s) first out a = tt
+blind_roomy (Err (Unwritten s d)) first out a = tt
+blind_roomy (Err (NoRoom m d)) first out a = a
+blind_roomy (Err (Unended d)) first out a = a
+blind_roomy (Err (Unread d)) first out a = tt
 
 pub ran_roomy : (r : Run) → Ran r → Roomy r
 ran_roomy r n = go (filled r.read) n.served.answered

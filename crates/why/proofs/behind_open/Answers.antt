@@ -15,5 +15,5 @@ returns c =
     let lo : length a.objects ≡ 64 = search (c.well_formed.1.1.0, rules, unmapped) in
     let lh : length a.handles ≡ 512 = search (c.well_formed.1.1.1.0, rules, unmapped) in
     λ n rest. open_tells rest a.subjects a.groups a.objects a.handles ls lo lh a.way a.s a.o a.p n c.with_handle-next.result
-    (c.with_handle-next.ensures ∙ ap (λ (h : Handle). set a.handles (a.s % 32 * 16 + a.p % 16) h) c.joining-put.ensures) c.leads-leads.result c.leads-leads.ensures
+    (c.with_handle-next.ensures ∙ ap (λ (h : Handle). set a.handles (a.s % 32 * 16 + a.p % 16) h) c.joining.ensures) c.leads-leads.result c.leads-leads.ensures
     c.nearest.result c.nearest.ensures
