@@ -1,5 +1,5 @@
 // The record at any number that a call names, what its way says, and what a record becomes where something falls.
-ghost use Rattle.std.specs.Prelude.{◌≡◌, ◌&&◌, ◌||◌, ◌+◌, ◌*◌, ◌%◌, get_or, set};
+ghost use Rattle.std.specs.Prelude.{◌≡◌, ◌&&◌, ◌||◌, ◌+◌, ◌*◌, ◌%◌, ◌<◌, get_or, set};
 ghost use Rattle.model.specs.Label.{label};
 ghost use Rattle.labels.specs.Codes.{coded};
 ghost use Rattle.tables.specs.Records.{reads_by, no_subject, no_object, no_handle};
@@ -47,13 +47,13 @@ pub fn handle_at(s: u64, p: u64, h: Handle) -> Handle
 pub fn subject_of(subjects: [Subject; SUBJECTS], s: u64) -> Subject
     ensures { result ≡ subject_at s (get_or subjects (s % 32) no_subject) }
 {
-    subject_at(s, subjects[s as usize % SUBJECTS])
+    subjects.get(s as usize).copied().unwrap_or_default()
 }
 
 pub fn object_of(objects: [Object; OBJECTS], o: u64) -> Object
     ensures { result ≡ object_at o (get_or objects (o % 64) no_object) }
 {
-    object_at(o, objects[o as usize % OBJECTS])
+    objects.get(o as usize).copied().unwrap_or_default()
 }
 
 // Which handle is that at place p of subject s, each modulo how many there are.
@@ -89,19 +89,26 @@ pub fn with_handle(mut handles: [Handle; HANDLES], s: u64, p: u64, h: Handle) ->
     handles
 }
 
-// The subjects with x at number s, and the objects with y at number o, each modulo how many there are.
-pub fn with_subject(mut subjects: [Subject; SUBJECTS], s: u64, x: Subject) -> [Subject; SUBJECTS]
-    ensures { result ≡ set subjects (s % 32) x }
+// The array with x at index i modulo how many there are.
+pub fn with<T: Copy, const N: usize>(mut xs: [T; N], i: u64, x: T) -> [T; N]
+    requires { 0 < N }
+    ensures { result ≡ set xs (i % N) x }
 {
-    subjects[s as usize % SUBJECTS] = x;
-    subjects
+    xs[i as usize % N] = x;
+    xs
 }
 
-pub fn with_object(mut objects: [Object; OBJECTS], o: u64, y: Object) -> [Object; OBJECTS]
+// The subjects with x at number s, and the objects with y at number o, each modulo how many there are.
+pub fn with_subject(subjects: [Subject; SUBJECTS], s: u64, x: Subject) -> [Subject; SUBJECTS]
+    ensures { result ≡ set subjects (s % 32) x }
+{
+    with(subjects, s, x)
+}
+
+pub fn with_object(objects: [Object; OBJECTS], o: u64, y: Object) -> [Object; OBJECTS]
     ensures { result ≡ set objects (o % 64) y }
 {
-    objects[o as usize % OBJECTS] = y;
-    objects
+    with(objects, o, y)
 }
 
 pub fn both(a: bool, b: bool) -> bool
