@@ -1,22 +1,24 @@
 -- What a host sees of the lent bytes: the record at a number, the entry or handle that it stands for as a number, and the bytes once their kept needs are
 -- put right. Assumes nothing.
-use mathlib.Core.Path.{◌≡◌, refl, sym, ap, ap₂, ◌∙◌, subst}
+use mathlib.Core.Path.{◌≡◌, refl, sym, ap, ap₂, ◌∙◌, subst, subst₂}
 use mathlib.Core.Bool.{Bool, true, false, not, ◌&&◌, ◌||◌, cond}
 use mathlib.Core.Option.{Option, none, some}
 use mathlib.Core.List.{List, [], ◌∷◌, ◌++◌}
-use Prim.Native.Nat.{ℕ, zero, suc, ◌+◌, ◌*◌, ◌/◌, ◌%◌, ◌≤◌, ◌<◌}
+use Prim.Native.Nat.{ℕ, zero, suc, ◌+◌, ◌-◌, ◌*◌, ◌/◌, ◌%◌, ◌≤◌, ◌<◌}
 use native.Mathlib.Omega.{arith}
 use native.Mathlib.Nat.{mul-suc, mul-le-mul_left}
 use borrow.Author.Tests.{eq-eqb, ne_eqb}
 use lib.Dec.{T, eqb, ltb, ltb→lt}
 use lib.ListN.{length, take, drop, get_or, length-take}
-use lib.Seq.{take_at, drop_at, drop-drop, get_or-take, ext_get_or}
+use lib.Seq.{take_at, drop_at, drop-drop, take_all, get_or-take, ext_get_or}
+use Rattle.std.proofs.Common.{length-drop, drop_of_length-le, append-nil}
+use borrow.Rule.Slice.PartMut.{put_mid}
 use Rattle.model.specs.Label.{label, level, shops}
 use Rattle.model.proofs.Label.Laws.{level_label, shops_label}
 use Rattle.model.specs.Lists.{each, keep, from_on}
 use Rattle.model.specs.Lists.Rising.{each_of, each_has, each_rising, from_on_is}
 use Rattle.model.specs.Flow.{Thing, subject, object}
-use Rattle.model.specs.Tables.{running, file, pipe, reading, writing, Entry, entry, Tables, places, in_range, is_some, live, counted, clean}
+use Rattle.model.specs.Tables.{running, file, pipe, reading, writing, Entry, entry, Tables, places, in_range, is_some, live, counted, clean, needs}
 use Rattle.model.proofs.Tables.Laws.{used_is}
 use Rattle.model.proofs.Tables.Laws.{live_of as in_use}
 use Rattle.model.specs.Tables.{Handle as Held}
@@ -33,27 +35,24 @@ use Rattle.groups.specs.Groups.{kin_of, Leads}
 use Rattle.handles.specs.Working.{kept_of}
 use Rattle.handles.proofs.Cleaning.{counted_held, kept_held}
 use Rattle.gatekeeper.specs.declared.Monitor.{Monitor}
-use Rattle.gatekeeper.specs.View.{beside, slots, called, straight_view, once, view, Right, Righted}
+use Rattle.gatekeeper.specs.View.{beside, slots, called, straight_view, once, view, Right, Righted, KeptAt}
 use Rattle.gatekeeper.proofs.Owned.{Long}
 use Rattle.gatekeeper.proofs.Keeping.{read_wf, dead, alive}
 use Rattle.gatekeeper.proofs.Numbered.{single_long, once_long}
 use Rattle.gatekeeper.proofs.Telling.{view_read, told_subject, told_place, told_entry}
 use Rattle.stored.specs.State.{state_bytes, Sized, subject_width, object_width, handle_width, byte_width, need_width, number_width, objects_at, handles_at, made_at, gone_at, freeze_at, needs_at, numbers_at, groups_at}
 use Rattle.stored.specs.State.{records, live_of, sort_of, ways, live_byte, subject_of, object_of, handle_of, byte_of, whole}
-use Rattle.stored.specs.State.{subjects_of, objects_of, handles_of, made_of, gone_of, freeze_of, needs_of, numbers_of, groups_of, monitor_of, tally_of, need_bytes, Narrow, state_view, PutRight}
+use Rattle.stored.specs.State.{subjects_of, objects_of, handles_of, made_of, gone_of, freeze_of, needs_of, numbers_of, groups_of, monitor_of, tally_of, need_bytes, Narrow, state_view, state_right, PutRight}
 use Rattle.stored.specs.State.Laws.{length_records, getD_records, numbers_stored, numbers_loaded}
-use Rattle.host.specs.Numbers.{sized, seen_entry, members, seen_group, seen_handle, seen_object, seen_label}
+use Rattle.host.specs.Numbers.{seen_entry, members, seen_group, seen_handle, seen_object, seen_label, SeenNeed}
 use Rattle.host.specs.Working.{way_number}
 use Rattle.stored.specs.Over.{over}
 use Rattle.stored.specs.Over.Laws.{over_length}
-use Rattle.stored.proofs.Loading.{bytes_at, bytes_taken}
-
--- ── the length ──
-pub sized_is : (s : List ℕ) (a b : ℕ) → Sized s → a ≡ b → a ≡ sized s b 0
-sized_is s a b h q = q ∙ sym (ap (λ (t : Bool). cond t b 0) (eq-eqb (length s) state_bytes h))
-
-pub unsized_is : (s : List ℕ) (b : ℕ) → (Sized s → ⊥) → 0 ≡ sized s b 0
-unsized_is s b h = sym (ap (λ (t : Bool). cond t b 0) (ne_eqb (length s) state_bytes h))
+use Rattle.stored.proofs.Loading.{bytes_at, bytes_taken, chunk_there}
+use Rattle.std.specs.Array.{IsWholeChunk}
+use Rattle.std.specs.Simd.{first_chunks}
+use Rattle.std.proofs.lemmas.List.{get_or_default}
+use Rattle.std.proofs.lemmas.Nat.{le-div}
 
 -- ── the record at a number, from its bytes ──
 fits : (w b n j : ℕ) (s : List ℕ) → j < n → b + w * n ≤ length s → b + w * j + w ≤ length s
@@ -64,34 +63,24 @@ record_in : {A : Type 0} (f : List ℕ → A) (d : A) (w b n j : ℕ) (s : List 
 record_in f d w b n j s h l = getD_records f w n (drop b s) j d h ∙ ap (λ (t : List ℕ). f (take w t)) (drop-drop (w * j) b s)
     ∙ ap f (bytes_taken w (b + w * j) s (fits w b n j s h l))
 
+-- one value, read from the chunk of bytes at its number
+pub one_read : {A : Type 0} (f : List ℕ → A) (w n at i : ℕ) (s b : List ℕ) (cs : List (List ℕ)) (y : A) → 0 < w → i < n → at + w * n ≤ state_bytes → Sized s
+    → cs ≡ first_chunks w (length (take (2577 - at) (drop at s)) / w) (take (2577 - at) (drop at s)) → b ≡ get_or cs i b → y ≡ f b
+    → (d : A) → y ≡ get_or (records f w n (drop at s)) i d
+one_read f w n at i s b cs y pos there room size e q r d =
+    let all : take (2577 - at) (drop at s) ≡ drop at s = take_all (2577 - at) (drop at s) (omega (arith, length-drop at s)) in
+    let k = length (drop at s) / w in
+    let inside : i < k = omega (arith, le-div n (length (drop at s)) w pos (omega (arith, length-drop at s))) in
+    let chunks : cs ≡ first_chunks w k (drop at s) = e ∙ ap (λ (t : List ℕ). first_chunks w (length t / w) t) all in
+    let long : i < length cs = omega (arith, ap length chunks, length_chunks w k (drop at s)) in
+    r ∙ ap f (q ∙ get_or_default cs i b [] long ∙ ap (λ (c : List (List ℕ)). get_or c i []) chunks ∙ chunk_there w k (drop at s) i inside)
+    ∙ sym (getD_records f w n (drop at s) i d there)
+  where
+    length_chunks : (w k : ℕ) (s : List ℕ) → length (first_chunks w k s) ≡ k
+    length_chunks w zero s = refl
+    length_chunks w (suc k) s = ap suc (length_chunks w k (drop w s))
+
 module _ (st : List ℕ) (size : Sized st) where
-  pub subject_read : (s l : ℕ) → l ≡ live_of (get_or st (0 + 3 * (s % 32)) 0)
-      → subject_at s (record { live = l; level = get_or st (0 + 3 * (s % 32) + 1) 0; shops = get_or st (0 + 3 * (s % 32) + 1 + 1) 0 })
-      ≡ subject_at s (get_or (subjects_of st) (s % 32) no_subject)
-  unfolding subjects_of
-  subject_read s l q = ap (subject_at s) (ap (λ (v : ℕ). record { live = v; level = get_or st (0 + 3 * (s % 32) + 1) 0; shops = get_or st (0 + 3 * (s % 32) + 1 + 1) 0 }) q
-      ∙ sym (record_in subject_of no_subject subject_width 0 32 (s % 32) st (omega arith) (omega arith)))
-
-  pub handle_read : (s p i w m : ℕ) → i ≡ s % 32 * 16 + p % 16 → w ≡ sort_of ways (get_or st (handles_at + 3 * i) 0) → m ≡ live_of (get_or st (handles_at + 3 * i + 1 + 1) 0)
-      → handle_at s p (record { way = w; object = get_or st (handles_at + 3 * i + 1) 0; mark = m })
-      ≡ handle_at s p (get_or (handles_of st) (s % 32 * 16 + p % 16) no_handle)
-  unfolding handles_of
-  handle_read s p i w m e q r = ap (handle_at s p) (ap₂ (λ (v k : ℕ). record { way = v; object = get_or st (handles_at + 3 * i + 1) 0; mark = k }) q r
-      ∙ sym (record_in handle_of no_handle handle_width handles_at 512 i st (omega arith) (omega arith))
-      ∙ ap (λ (j : ℕ). get_or (records handle_of handle_width 512 (drop handles_at st)) j no_handle) e)
-
-  -- a number of w bytes, of n that stand from index b on
-  whole_read : (w b n i : ℕ) → i < n → whole (take w (drop (b + w * i) st)) ≡ get_or (records whole w n (drop b st)) i 0
-  whole_read w b n i h = sym (getD_records whole w n (drop b st) i 0 h ∙ ap (λ (t : List ℕ). whole (take w t)) (drop-drop (w * i) b st))
-
-  pub need_read : (i : ℕ) → i < 96 → whole (take 2 (drop (needs_at + 2 * i) st)) ≡ get_or (needs_of st) i 0
-  unfolding needs_of
-  need_read i h = whole_read need_width needs_at 96 i h
-
-  pub number_read : (i : ℕ) → i < 64 → whole (take 8 (drop (numbers_at + 8 * i) st)) ≡ get_or (numbers_of st) i 0
-  unfolding numbers_of
-  number_read i h = whole_read number_width numbers_at 64 i h
-
   -- ── the tables at a number ──
   long_subjects : length (subjects_of st) ≡ 32
   unfolding subjects_of
@@ -260,15 +249,6 @@ need_seen n r h e =
     let low : r / 65536 ≡ n % 256 = omega (arith, h, e) in
     ap₂ label high low
 
--- a way is a small number
-pub way_small : (w n : ℕ) → n ≡ way_number w → n ≤ 3
-way_small w n q = subst (λ (k : ℕ). k ≤ 3) (sym q) (go (eqb w 3) (eqb w 1))
-  where
-    go : (a b : Bool) → cond a 3 (cond b 1 2) ≤ 3
-    go true b = omega arith
-    go false true = omega arith
-    go false false = omega arith
-
 pub seen_held : (k : Handle) → seen_handle (held k) ≡ cond (eqb k.way 0) 0 (65536 * live_byte k.mark + 256 * way_number k.way)
 seen_held k = go (eqb k.way 0) (eqb k.mark 0) (eqb k.way 3) (eqb k.way 1)
   where
@@ -283,6 +263,35 @@ seen_held k = go (eqb k.way 0) (eqb k.mark 0) (eqb k.way 3) (eqb k.way 1)
     go false false false true = refl
     go false false false false = refl
 
+-- what is told of a subject, and of an object, by its record
+module _ (st : List ℕ) (size : Sized st) where
+  module _ (s : ℕ) (x : Subject) (q : x ≡ subject_at s (get_or (subjects_of st) (s % 32) no_subject)) where
+    told : (b : Bool) → eqb x.live 0 ≡ b → seen_entry ((state_view st).at (subject s)) ≡ cond b 0 (65536 * x.shops + 256 + x.level)
+    told b e = ap seen_entry (subject_seen st size s x q) ∙ seen_subject x ∙ ap (λ (t : Bool). cond t 0 (65536 * x.shops + 256 + x.level)) e
+
+    pub subject_none : x.live ≡ 0 → 0 ≡ seen_entry ((state_view st).at (subject s))
+    subject_none e = sym (told true (eq-eqb x.live 0 e))
+
+    pub subject_some : (x.live ≡ 0 → ⊥) → 65536 * x.shops + 256 + x.level ≡ seen_entry ((state_view st).at (subject s))
+    subject_some n = sym (told false (ne_eqb x.live 0 n))
+
+  module _ (o i : ℕ) {os : List Object} {ns : List ℕ} {y : Object} (eo : os ≡ single (objects_of st) (numbers_of st)) (en : ns ≡ numbers_of st) (f : Found os ns o i)
+      (q : y ≡ object_at i (get_or os (i % 64) no_object)) where
+    shown : (b c : Bool) → eqb y.kind 0 ≡ b → eqb y.kind 1 ≡ c
+        → seen_entry ((state_view st).at (object o)) ≡ cond b 0 (cond c (65536 * y.shops + 256 + y.level) (65536 * y.shops + 512 + y.level))
+    shown b c e g = ap seen_entry (object_seen st size o i y (subst₂ (λ (x : List Object) (n : List ℕ). Found x n o i) eo en f)
+        (q ∙ ap (λ (x : List Object). object_at i (get_or x (i % 64) no_object)) eo))
+        ∙ object_number y ∙ ap₂ (λ (u v : Bool). cond u 0 (cond v (65536 * y.shops + 256 + y.level) (65536 * y.shops + 512 + y.level))) e g
+
+    pub object_free : y.kind ≡ 0 → 0 ≡ seen_entry ((state_view st).at (object o))
+    object_free e = sym (shown true (eqb y.kind 1) (eq-eqb y.kind 0 e) refl)
+
+    pub object_file : y.kind ≡ 1 → 65536 * y.shops + 256 + y.level ≡ seen_entry ((state_view st).at (object o))
+    object_file e = sym (shown false true (ne_eqb y.kind 0 (λ z. omega (arith, e, z))) (eq-eqb y.kind 1 e))
+
+    pub object_pipe : (y.kind ≡ 0 → ⊥) → (y.kind ≡ 1 → ⊥) → 65536 * y.shops + 512 + y.level ≡ seen_entry ((state_view st).at (object o))
+    object_pipe n m = sym (shown false false (ne_eqb y.kind 0 n) (ne_eqb y.kind 1 m))
+
 cleaned_at : (t : Tables) (x : Thing) → t.at x ≡ (clean t).at x
 unfolding clean
 cleaned_at t x = refl
@@ -293,12 +302,19 @@ module _ (st : List ℕ) (size : Sized st) (s p : ℕ) (k : Handle) (q : held k 
   by_slot = ap (λ (t : Tables). t.hand s p) (view_read (monitor_of st) (objects_long st size) (state_wf st size)) ∙ told_place (monitor_of st) s p
       ∙ ap (holding (slot_used (single (objects_of st) (numbers_of st))) (called (monitor_of st))) (sym q)
 
-  pub handle_told : seen_handle ((clean (state_view st)).hand s p) ≡ cond (eqb k.way 0) 0 (65536 * live_byte k.mark + 256 * way_number k.way)
+  handle_told : seen_handle ((clean (state_view st)).hand s p) ≡ cond (eqb k.way 0) 0 (65536 * live_byte k.mark + 256 * way_number k.way)
   handle_told = ap seen_handle by_slot ∙ go (held k) ∙ seen_held k
     where
       go : (o : Option Held) → seen_handle (holding (slot_used (single (objects_of st) (numbers_of st))) (called (monitor_of st)) o) ≡ seen_handle o
       go none = refl
       go (some h) = refl
+
+  pub handle_empty : k.way ≡ 0 → 0 ≡ seen_handle ((clean (state_view st)).hand s p)
+  handle_empty e = sym (handle_told ∙ ap (λ (b : Bool). cond b 0 (65536 * live_byte k.mark + 256 * way_number k.way)) (eq-eqb k.way 0 e))
+
+  pub handle_some : (m w : ℕ) → (k.way ≡ 0 → ⊥) → m ≡ live_byte k.mark → w ≡ way_number k.way → 65536 * m + 256 * w + 0 ≡ seen_handle ((clean (state_view st)).hand s p)
+  handle_some m w n em ew = (let z : 65536 * m + 256 * w + 0 ≡ 65536 * m + 256 * w = omega arith in z) ∙ ap₂ (λ (u v : ℕ). 65536 * u + 256 * v) em ew
+      ∙ sym (handle_told ∙ ap (λ (b : Bool). cond b 0 (65536 * live_byte k.mark + 256 * way_number k.way)) (ne_eqb k.way 0 n))
 
   pub handle_none : k.way ≡ 0 → seen_object ((clean (state_view st)).hand s p) ≡ 0
   handle_none e = ap seen_object by_slot ∙ ap (λ (b : Bool). seen_object (holding (slot_used (single (objects_of st) (numbers_of st))) (called (monitor_of st)) (cond b none (some (joins k))))) (eq-eqb k.way 0 e)
@@ -317,6 +333,19 @@ module _ (st : List ℕ) (size : Sized st) (s p : ℕ) (k : Handle) (q : held k 
 
       same : k.object ≡ k.object % 64
       same = omega (arith, low)
+
+-- what is told of a need, of an array of the bytes s
+module _ {s t : List ℕ} (k : IsWholeChunk s t state_bytes) where
+  pub subject_right : (n a : ℕ) → (state_right t → label (n % 256) (n / 65536) ≡ needs (clean (state_view t)) (subject a)) → state_right s
+      → label (n % 256) (n / 65536) ≡ needs (clean (state_view s)) (subject a)
+  subject_right n a f = subst (λ (u : List ℕ). state_right u → label (n % 256) (n / 65536) ≡ needs (clean (state_view u)) (subject a)) k.same f
+
+  pub object_right : (n o : ℕ) → (state_right t → label (n % 256) (n / 65536) ≡ needs (clean (state_view t)) (object o)) → state_right s
+      → label (n % 256) (n / 65536) ≡ needs (clean (state_view s)) (object o)
+  object_right n o f = subst (λ (u : List ℕ). state_right u → label (n % 256) (n / 65536) ≡ needs (clean (state_view u)) (object o)) k.same f
+
+  pub object_kept : {o n r : ℕ} → KeptAt (monitor_of t) o n → r ≡ seen_label n → SeenNeed s o r
+  object_kept {o} {n} {r} a e = (λ _. (n, subst (λ (u : List ℕ). KeptAt (monitor_of u) o n) k.same a, e), λ h. absurd (h k.long))
 
 -- ── kept needs put right ──
 -- what stands before index k goes by the bytes before it
@@ -399,7 +428,7 @@ module _ (s s' : List ℕ) (h : Sized s) (h' : Sized s') (e : take needs_at s' �
       number at l = sym (number_front needs_at s' (omega arith) at l) ∙ ap (λ (t : List ℕ). whole (take 8 (drop at t))) e ∙ number_front needs_at s (omega arith) at l
 
 module _ (s ns : List ℕ) (h : Sized s) (long : length ns ≡ 96) where
-  count : length (need_bytes ns) ≡ 192
+  pub count : length (need_bytes ns) ≡ 192
   unfolding need_bytes
   count = numbers_stored need_width ns 96 long
 
@@ -420,6 +449,16 @@ module _ (s ns : List ℕ) (h : Sized s) (long : length ns ≡ 96) where
   kept_needs : Narrow 16 ns → needs_of (over needs_at (need_bytes ns) s) ≡ ns
   unfolding needs_of over need_bytes
   kept_needs f = ap (records whole need_width 96) (drop_at (take needs_at s) _ needs_at (omega (arith, length-take needs_at s))) ∙ numbers_loaded need_width 16 refl ns 96 _ long f
+
+-- bytes stored over the front of what stands from an index on
+pub placed : (at k : ℕ) (e s p : List ℕ) → length s ≡ at + k → length e ≤ k → p ≡ over 0 e (take k (drop at s)) → put_mid at k s p ≡ over at e s
+unfolding over
+placed at k e s p size fits is =
+    let all : take k (drop at s) ≡ drop at s = take_all k (drop at s) (omega (arith, length-drop at s)) in
+    let none : drop k (drop at s) ≡ [] = drop_of_length-le (drop at s) {i = k} (omega (arith, length-drop at s)) in
+    let z : 0 + length e ≡ length e = omega arith in
+    ap₂ (λ (x y : List ℕ). take at s ++ (x ++ y)) (is ∙ ap (over 0 e) all) none
+    ∙ ap (λ (x : List ℕ). take at s ++ x) (append-nil (e ++ drop (0 + length e) (drop at s)) ∙ ap (λ (x : List ℕ). e ++ x) (ap (λ (j : ℕ). drop j (drop at s)) z ∙ drop-drop (length e) at s))
 
 -- the monitor m was loaded from the bytes s, n is m put right, and its kept needs are stored
 pub put_right : (s s' : List ℕ) (m n : Monitor) → Sized s → m ≡ monitor_of s → Righted m n → length n.needs ≡ 96 → Narrow 16 n.needs

@@ -5,8 +5,8 @@ use Rattle.gatekeeper.specs.View.{Honest}
 use Rattle.stored.specs.State.{state_bytes, Sized, monitor_of}
 use Rattle.host.specs.Numbers.{sized}
 
-pub sized_in : {s t : List ℕ} → IsWholeChunk s t state_bytes → Sized s
-sized_in k = k.long
+pub array_sized : {s t : List ℕ} → IsWholeChunk s t state_bytes → Sized t
+array_sized k = ap length k.same ∙ k.long
 
 -- what is read of the array is read of the bytes
 pub sized_by : {A : Type 0} {s t : List ℕ} {r : A} (f : List ℕ → A) (y : A) → IsWholeChunk s t state_bytes → r ≡ f t → r ≡ sized s (f s) y

@@ -6,7 +6,6 @@ ghost use Rattle.host.specs.Behind.{Left, Tells, WhyBytes, WhyLent};
 
 use crate::lent::State;
 use gatekeeper::Monitor;
-use stored::STATE_BYTES;
 use why::Chain;
 
 // The chain behind a refusal 9 of a call on the monitor m, over the chain that is lent, and how many steps it has; 0 where there is none, and then the lent one stays.
@@ -50,9 +49,9 @@ pub extern "C" fn gatekeeper_why(
 ) -> u32
     ensures { WhyBytes state.now (direct code a b c d e f) chain.old result chain.new }
 {
-    if state.len() != STATE_BYTES {
+    let Some(state) = state.as_array() else {
         return 0;
-    }
+    };
     told(stored::load_monitor(state), code, a, b, c, d, e, f, chain)
 }
 

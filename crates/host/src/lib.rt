@@ -21,7 +21,7 @@ ghost use Rattle.host.specs.Typing.{Types};
 use answers::Answer;
 use journal::{Call, Numbers, Recorded};
 use number::{Number, Written};
-use stored::{FREEZE_AT, GONE_AT, MADE_AT, STATE_BYTES};
+use stored::{FREEZE_AT, STATE_BYTES};
 use tables::NO_FREEZE;
 use typed::Outcome;
 
@@ -102,14 +102,14 @@ pub extern "C" fn gatekeeper_call(
 ) -> u32
     ensures { Called state.old (direct code a b c d e f) result state.new }
 {
-    let Some(state) = state.as_mut_array::<STATE_BYTES>() else {
+    let Some(state) = state.as_mut_array() else {
         return UNSIZED;
     };
-    let monitor = stored::load_monitor(&state[..]);
-    let mut tally = stored::load_tally(&state[..]);
+    let monitor = stored::load_monitor(state);
+    let mut tally = stored::load_tally(state);
     let reply = tally::lent_call(monitor, &mut tally, code, a, b, c, d, e, f);
     if !answers::is_refused(reply.answer) {
-        stored::store(&mut state[..], reply.monitor, tally);
+        stored::store(state, reply.monitor, tally);
     }
     to_number(reply.answer)
 }
@@ -126,7 +126,7 @@ pub extern "C" fn gatekeeper_line(
 ) -> Outcome
     ensures { Types state.old line.now shell child pipe result state.new }
 {
-    let Some(state) = state.as_mut_array::<STATE_BYTES>() else {
+    let Some(state) = state.as_mut_array() else {
         return Outcome {
             allowed: 0,
             lowered: 0,
@@ -134,11 +134,11 @@ pub extern "C" fn gatekeeper_line(
             refusal: UNSIZED_LINE,
         };
     };
-    let monitor = stored::load_monitor(&state[..]);
-    let tally = stored::load_tally(&state[..]);
+    let monitor = stored::load_monitor(state);
+    let tally = stored::load_tally(state);
     let out = typed::counted_line(monitor, tally, line, shell, child, pipe);
     if out.moved {
-        stored::store(&mut state[..], out.monitor, out.tally);
+        stored::store(state, out.monitor, out.tally);
     }
     out.outcome
 }
@@ -148,10 +148,10 @@ pub extern "C" fn gatekeeper_line(
 pub extern "C" fn gatekeeper_made(state: &[u8]) -> u64
     ensures { result ≡ sized state.now (made_of state.now) 0 }
 {
-    let Some(state) = state.as_array::<STATE_BYTES>() else {
+    let Some(state) = state.as_array() else {
         return 0;
     };
-    stored::load_number(state, MADE_AT)
+    stored::load_tally(state).made
 }
 
 // Handles gone, over the history of calls; 0 where the bytes have another length.
@@ -159,10 +159,10 @@ pub extern "C" fn gatekeeper_made(state: &[u8]) -> u64
 pub extern "C" fn gatekeeper_gone(state: &[u8]) -> u64
     ensures { result ≡ sized state.now (gone_of state.now) 0 }
 {
-    let Some(state) = state.as_array::<STATE_BYTES>() else {
+    let Some(state) = state.as_array() else {
         return 0;
     };
-    stored::load_number(state, GONE_AT)
+    stored::load_tally(state).gone
 }
 
 // The reply to a journal, from empty tables: the text's length, or 0 where the buffer has no room for it: then its front stands there. A buffer of

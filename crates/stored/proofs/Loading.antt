@@ -23,7 +23,7 @@ bytes_taken (suc w) at s h = ap (take (suc w)) (drop-cons s at 0 (omega arith) �
 
 -- ── values ──
 -- the j-th of k chunks
-chunk_there : (w k : ℕ) (s : List ℕ) (j : ℕ) → j < k → get_or (first_chunks w k s) j [] ≡ take w (drop (w * j) s)
+pub chunk_there : (w k : ℕ) (s : List ℕ) (j : ℕ) → j < k → get_or (first_chunks w k s) j [] ≡ take w (drop (w * j) s)
 chunk_there w zero s j h = absurd (omega arith)
 chunk_there w (suc k) s zero h = let z : w * 0 ≡ 0 = omega arith in ap (λ (i : ℕ). take w (drop i s)) (sym z)
 chunk_there w (suc k) s (suc j) h =

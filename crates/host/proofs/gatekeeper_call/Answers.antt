@@ -15,6 +15,6 @@ returns c =
     let p = made c.args.state.now (c.load_monitor-monitor.ensures ∙ ap monitor_of h.same) (c.load_tally-tally.ensures ∙ ap tally_of h.same) k.0 k.1 in
     let n = c.to_number.ensures in
     elim c.if-not-is_refused.branch [
-      then-not-is_refused w ↦ called_moved p h.long n.number n.back (sym c.is_refused.ensures ∙ w.if-not-is_refused.true) w.state-is w.store.ensures
+      | then-not-is_refused w ↦ called_moved p h.long n.number n.back (sym c.is_refused.ensures ∙ w.if-not-is_refused.true) w.state-is w.store.ensures
       | else-not-is_refused w ↦ called_refused p h.long n.number n.back (sym c.is_refused.ensures ∙ w.if-not-is_refused.false) (w.state-is ∙ h.same)
     ]

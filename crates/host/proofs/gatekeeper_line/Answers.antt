@@ -12,6 +12,6 @@ returns c =
     let em = c.load_monitor-monitor.ensures ∙ ap monitor_of h.same in
     let ey = c.load_tally-tally.ensures ∙ ap tally_of h.same in
     elim c.if-out.branch [
-      then-out w ↦ types_moved _ _ _ _ _ _ _ _ em ey r.ensures h.long w.if-out.true w.state-is w.store.ensures
+      | then-out w ↦ types_moved _ _ _ _ _ _ _ _ em ey r.ensures h.long w.if-out.true w.state-is w.store.ensures
       | else-out w ↦ types_still _ _ _ _ _ _ _ _ em ey r.ensures h.long w.if-out.false (w.state-is ∙ h.same)
     ]

@@ -1,35 +1,27 @@
 -- `host::seen::gatekeeper_handle` meets its contract. Assumes nothing.
-use mathlib.Core.Path.{sym, ◌∙◌, ap, ap₂}
-use mathlib.Core.Bool.{Bool, cond}
-use Prim.Native.Nat.{ℕ, ◌+◌, ◌*◌}
-use borrow.Author.Tests.{eq-eqb, ne_eqb}
-use Rattle.stored.specs.State.{live_byte}
-use Rattle.host.specs.Working.{way_number}
-use Rattle.host.proofs.Seeing.{sized_is, unsized_is, way_small, handle_told}
-use native.Mathlib.Omega.{arith}
+use Rattle.std.proofs.Common.{◌∙◌, ◌≡◌, Bool, true, false, not, refl, ℕ, cond, eqb}
+use mir.Val.{bool_byte}
+use Rattle.model.specs.Tables.{clean}
+use Rattle.stored.specs.State.{state_view, live_byte}
+use Rattle.host.specs.Numbers.{seen_handle}
+use Rattle.host.proofs.Sizing.{array_sized, sized_by}
+use Rattle.host.proofs.Seeing.{handle_empty, handle_some}
 use Rattle.host.proofs.seen.gatekeeper_handle.Goals as goal
 
-pub returns-then-state-ne-STATE_BYTES : goal.returns-then-state-ne-STATE_BYTES
-returns-then-state-ne-STATE_BYTES c = unsized_is c.args.state.now _ c.if-state-ne-STATE_BYTES.true
+-- a mark as a number
+mark : (n : ℕ) (b : Bool) → eqb n 0 ≡ b → bool_byte (not b) ≡ cond b 0 1
+mark n true e = refl
+mark n false e = refl
 
 pub returns-then-k-eq-EMPTY : goal.returns-then-k-eq-EMPTY
 returns-then-k-eq-EMPTY c =
-    let a = c.args in
-    let k = c.kept_in-k.result in
-    sized_is a.state.now 0 _ c.if-state-ne-STATE_BYTES.false (sym (handle_told a.state.now c.if-state-ne-STATE_BYTES.false a.s a.p k c.kept_in-k.ensures
-    ∙ ap (λ (b : Bool). cond b 0 (65536 * live_byte k.mark + 256 * way_number k.way)) (eq-eqb k.way 0 c.if-k-eq-EMPTY.true)))
-
-pub overflow_mul-result-2 : goal.overflow_mul-result-2
-overflow_mul-result-2 c = omega (arith, way_small c.kept_in-k.result.way c.way_number-way.result c.way_number-way.ensures)
-
-pub overflow_add-result : goal.overflow_add-result
-overflow_add-result c = omega (arith, way_small c.kept_in-k.result.way c.way_number-way.result c.way_number-way.ensures)
+    let k = c.in-Some.ensures.cases in
+    sized_by (λ u. seen_handle ((clean (state_view u)).hand c.args.s c.args.p)) 0 k
+    (handle_empty _ (array_sized k) c.args.s c.args.p c.kept_in-k.result c.kept_in-k.ensures c.if-k-eq-EMPTY.true)
 
 pub returns : goal.returns
 returns c =
-    let a = c.args in
-    let k = c.kept_in-k.result in
-    sized_is a.state.now _ _ c.if-state-ne-STATE_BYTES.false
-    (ap₂ (λ (u v : ℕ). 65536 * u + 256 * v) c.from_live-mark.ensures c.way_number-way.ensures
-    ∙ sym (handle_told a.state.now c.if-state-ne-STATE_BYTES.false a.s a.p k c.kept_in-k.ensures
-    ∙ ap (λ (b : Bool). cond b 0 (65536 * live_byte k.mark + 256 * way_number k.way)) (ne_eqb k.way 0 c.if-k-eq-EMPTY.false)))
+    let k = c.in-Some.ensures.cases in
+    let h = c.kept_in-k.result in
+    sized_by (λ u. seen_handle ((clean (state_view u)).hand c.args.s c.args.p)) 0 k
+    (c.packed.ensures ∙ handle_some _ (array_sized k) c.args.s c.args.p h c.kept_in-k.ensures _ _ c.if-k-eq-EMPTY.false (c.from.ensures ∙ mark h.mark (eqb h.mark 0) refl) c.way_number.ensures)

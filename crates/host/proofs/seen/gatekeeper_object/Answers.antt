@@ -1,38 +1,28 @@
 -- `host::seen::gatekeeper_object` meets its contract. Assumes nothing.
-use mathlib.Core.Path.{sym, ◌∙◌, ap}
-use mathlib.Core.Bool.{Bool, cond}
-use Prim.Native.Nat.{◌+◌, ◌*◌}
-use lib.Dec.{eqb}
-use borrow.Author.Tests.{eq-eqb, ne_eqb}
+use Rattle.std.proofs.Common.{◌∙◌, arith}
+use Rattle.model.specs.Flow.{object}
+use Rattle.stored.specs.State.{state_view}
 use Rattle.host.specs.Numbers.{seen_entry}
-use Rattle.host.proofs.Seeing.{sized_is, unsized_is, object_seen, object_number}
+use Rattle.host.proofs.Sizing.{array_sized, sized_by}
+use Rattle.host.proofs.Seeing.{object_free, object_file, object_pipe}
 use Rattle.host.proofs.seen.gatekeeper_object.Goals as goal
 
-pub returns-then-state-ne-STATE_BYTES : goal.returns-then-state-ne-STATE_BYTES
-returns-then-state-ne-STATE_BYTES c = unsized_is c.args.state.now _ c.if-state-ne-STATE_BYTES.true
+pub returns-in-0 : goal.returns-in-0
+returns-in-0 c =
+    let k = c.in-Some.ensures.cases in
+    let l = c.slots_in.ensures in
+    sized_by (λ u. seen_entry ((state_view u).at (object c.args.o))) 0 k (object_free _ (array_sized k) c.args.o _ l.objects l.numbers c.slot_of.ensures c.object_of-y.ensures c.in-0.is)
 
-pub returns-then-y-eq-FREE : goal.returns-then-y-eq-FREE
-returns-then-y-eq-FREE c =
-    let a = c.args in
-    let y = c.object_in-y.result in
-    sized_is a.state.now 0 _ c.if-state-ne-STATE_BYTES.false
-    (sym (ap seen_entry (object_seen a.state.now c.if-state-ne-STATE_BYTES.false a.o c.slot_in-i.result y c.slot_in-i.ensures c.object_in-y.ensures) ∙ object_number y
-    ∙ ap (λ (b : Bool). cond b 0 (cond (eqb y.kind 1) (65536 * y.shops + 256 + y.level) (65536 * y.shops + 512 + y.level))) (eq-eqb y.kind 0 c.if-y-eq-FREE.true)))
+pub returns-in-1 : goal.returns-in-1
+returns-in-1 c =
+    let k = c.in-Some.ensures.cases in
+    let l = c.slots_in.ensures in
+    sized_by (λ u. seen_entry ((state_view u).at (object c.args.o))) 0 k
+    (c.packed.ensures ∙ object_file _ (array_sized k) c.args.o _ l.objects l.numbers c.slot_of.ensures c.object_of-y.ensures c.in-1.is)
 
-pub returns-then-y-eq-FILE : goal.returns-then-y-eq-FILE
-returns-then-y-eq-FILE c =
-    let a = c.args in
-    let y = c.object_in-y.result in
-    sized_is a.state.now _ _ c.if-state-ne-STATE_BYTES.false
-    (sym (ap seen_entry (object_seen a.state.now c.if-state-ne-STATE_BYTES.false a.o c.slot_in-i.result y c.slot_in-i.ensures c.object_in-y.ensures) ∙ object_number y
-    ∙ ap (λ (b : Bool). cond b 0 (cond (eqb y.kind 1) (65536 * y.shops + 256 + y.level) (65536 * y.shops + 512 + y.level))) (ne_eqb y.kind 0 c.if-y-eq-FREE.false)
-    ∙ ap (λ (b : Bool). cond b (65536 * y.shops + 256 + y.level) (65536 * y.shops + 512 + y.level)) (eq-eqb y.kind 1 c.if-y-eq-FILE.true)))
-
-pub returns : goal.returns
-returns c =
-    let a = c.args in
-    let y = c.object_in-y.result in
-    sized_is a.state.now _ _ c.if-state-ne-STATE_BYTES.false
-    (sym (ap seen_entry (object_seen a.state.now c.if-state-ne-STATE_BYTES.false a.o c.slot_in-i.result y c.slot_in-i.ensures c.object_in-y.ensures) ∙ object_number y
-    ∙ ap (λ (b : Bool). cond b 0 (cond (eqb y.kind 1) (65536 * y.shops + 256 + y.level) (65536 * y.shops + 512 + y.level))) (ne_eqb y.kind 0 c.if-y-eq-FREE.false)
-    ∙ ap (λ (b : Bool). cond b (65536 * y.shops + 256 + y.level) (65536 * y.shops + 512 + y.level)) (ne_eqb y.kind 1 c.if-y-eq-FILE.false)))
+pub returns-in_default-kind : goal.returns-in_default-kind
+returns-in_default-kind c =
+    let k = c.in-Some.ensures.cases in
+    let l = c.slots_in.ensures in
+    sized_by (λ u. seen_entry ((state_view u).at (object c.args.o))) 0 k
+    (c.packed-in_default-kind.ensures ∙ object_pipe _ (array_sized k) c.args.o _ l.objects l.numbers c.slot_of.ensures c.object_of-y.ensures (omega arith) (omega arith))

@@ -1,41 +1,38 @@
 -- `host::seen::gatekeeper_object_need` meets its contract. Assumes nothing.
-use mathlib.Core.Path.{refl, ◌∙◌}
-use mathlib.Core.Logic.{inl, inr}
-use Prim.Native.Nat.{◌+◌, ◌%◌, ◌<◌}
-use native.Mathlib.Omega.{arith}
+use Rattle.std.proofs.Common.{◌∙◌, ◌<◌, ◌≡◌, refl, inl, inr, subst₂, List, ℕ, ◌+◌, ◌%◌, arith}
+use Rattle.tables.specs.declared.Object.{Object}
+use Rattle.tables.specs.Slots.{Found}
 use Rattle.gatekeeper.proofs.Telling.{told_need}
-use Rattle.stored.specs.State.{monitor_of}
-use Rattle.host.proofs.Seeing.{need_read, need_seen, objects_long, state_wf}
+use Rattle.stored.specs.State.{monitor_of, needs_of}
+use Rattle.host.proofs.Sizing.{array_sized}
+use Rattle.host.proofs.Seeing.{need_seen, objects_long, state_wf, object_kept, object_right}
 use Rattle.host.proofs.seen.gatekeeper_object_need.Goals as goal
-
-pub returns-then-state-ne-STATE_BYTES : goal.returns-then-state-ne-STATE_BYTES
-returns-then-state-ne-STATE_BYTES c =
-    record {
-      kept = (λ h. absurd (c.if-state-ne-STATE_BYTES.true h), λ h. refl);
-      right = λ h. absurd (c.if-state-ne-STATE_BYTES.true h);
-    }
 
 pub returns-then-i-ge-OBJECT_NUMBERS : goal.returns-then-i-ge-OBJECT_NUMBERS
 returns-then-i-ge-OBJECT_NUMBERS c =
-    let a = c.args in
-    let l = c.if-state-ne-STATE_BYTES.false in
-    let t = told_need (monitor_of a.state.now) (objects_long a.state.now l) (state_wf a.state.now l) a.o c.slot_in-i.result 0 c.slot_in-i.ensures
-    (inr (c.if-i-ge-OBJECT_NUMBERS.true, refl)) in
+    let k = c.in-Some.ensures.cases in
+    let t = c.in-Some.state.now in
+    let size = array_sized k in
+    let l = c.slots_in.ensures in
+    let found = subst₂ (λ (os : List Object) (ns : List ℕ). Found os ns c.args.o c.slot_of-i.result) l.objects l.numbers c.slot_of-i.ensures in
+    let told = told_need (monitor_of t) (objects_long t size) (state_wf t size) c.args.o c.slot_of-i.result 0 found (inr (c.if-i-ge-OBJECT_NUMBERS.true, refl)) in
     record {
-      kept = (λ h. (0, t.0, refl), λ h. absurd (h l));
-      right = λ h r. t.1 r;
+      kept = object_kept k told.0 refl;
+      right = λ h. object_right k 0 _ (λ r. told.1 r);
     }
 
 pub returns : goal.returns
+unfolding needs_of
 returns c =
-    let a = c.args in
-    let l = c.if-state-ne-STATE_BYTES.false in
-    let i = c.slot_in-i.result in
-    let n = c.load_label.result in
+    let k = c.in-Some.ensures.cases in
+    let t = c.in-Some.state.now in
+    let size = array_sized k in
+    let l = c.slots_in.ensures in
+    let n = c.one_in.result in
     let small : n < 65536 = omega arith in
-    let t = told_need (monitor_of a.state.now) (objects_long a.state.now l) (state_wf a.state.now l) a.o i n c.slot_in-i.ensures
-    (inl (c.if-i-ge-OBJECT_NUMBERS.false, c.load_label.ensures ∙ need_read a.state.now l (32 + i % 64) (omega arith))) in
+    let found = subst₂ (λ (os : List Object) (ns : List ℕ). Found os ns c.args.o c.slot_of-i.result) l.objects l.numbers c.slot_of-i.ensures in
+    let told = told_need (monitor_of t) (objects_long t size) (state_wf t size) c.args.o c.slot_of-i.result n found (inl (c.if-i-ge-OBJECT_NUMBERS.false, c.one_in.ensures 0)) in
     record {
-      kept = (λ h. (n, t.0, c.number_of.ensures), λ h. absurd (h l));
-      right = λ h r. need_seen n _ small c.number_of.ensures ∙ t.1 r;
+      kept = object_kept k told.0 c.number_of.ensures;
+      right = λ h. object_right k _ _ (λ r. need_seen n _ small c.number_of.ensures ∙ told.1 r);
     }
