@@ -15,8 +15,7 @@ ghost use Rattle.gatekeeper.specs.Acting.{back, settled, way_by};
 
 use answers::{Answer, Refusal};
 use tables::{
-    EMPTY, FREE, HANDLES, Handle, NO_FREEZE, OBJECTS, Object, READS, SUBJECTS, Subject, THINGS,
-    WRITES, looks,
+    HANDLES, Handle, NO_FREEZE, OBJECTS, Object, READS, SUBJECTS, Subject, THINGS, WRITES, looks,
 };
 
 mod connected;
@@ -71,27 +70,12 @@ impl Monitor {
         ensures honest { Honest result }
         ensures sure { result.sure ≡ 1 }
     {
-        let subjects = [Subject {
-            live: 0,
-            level: 0,
-            shops: 0,
-        }; SUBJECTS];
-        let objects = [Object {
-            kind: FREE,
-            level: 0,
-            shops: 0,
-        }; OBJECTS];
-        let handles = [Handle {
-            way: EMPTY,
-            object: 0,
-            mark: 0,
-        }; HANDLES];
         Monitor {
             numbers: [0; OBJECTS],
             needs: [0; THINGS],
-            subjects,
-            objects,
-            handles,
+            subjects: [Subject::default(); SUBJECTS],
+            objects: [Object::default(); OBJECTS],
+            handles: [Handle::default(); HANDLES],
             freeze: NO_FREEZE,
             groups: [0; SUBJECTS],
             sure: SURE,
