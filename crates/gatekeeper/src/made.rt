@@ -105,11 +105,8 @@ impl Monitor {
         };
         let after = looks::with_object(self.objects, o, new);
         let joined = handles::with_ends(self.handles, s, r, w, o, o);
-        let needs = keeping::with_need(
-            self.needs,
-            Thing::Object(o),
-            keeping::need(self.needs, Thing::Subject(s)),
-        );
+        let need = keeping::need(self.needs, Thing::Subject(s));
+        let needs = keeping::with_need(self.needs, Thing::Object(o), need);
         self.objects = after;
         self.handles = joined;
         self.needs = needs;
@@ -174,11 +171,8 @@ impl Monitor {
         let all = handles::forked(self.handles, s, c);
         let own = groups::fresh(self.subjects, self.groups);
         let alone = groups::with(self.groups, c, own);
-        let needs = keeping::with_need(
-            self.needs,
-            Thing::Subject(c),
-            keeping::own(self.needs, self.handles, s),
-        );
+        let needed = keeping::own(self.needs, self.handles, s);
+        let needs = keeping::with_need(self.needs, Thing::Subject(c), needed);
         self.subjects = after;
         self.handles = all;
         self.groups = alone;
@@ -205,11 +199,8 @@ impl Monitor {
         };
         let after = looks::with_subject(self.subjects, c, new);
         let joined = groups::with(self.groups, c, groups::of(self.groups, s));
-        let needs = keeping::with_need(
-            self.needs,
-            Thing::Subject(c),
-            keeping::need(self.needs, Thing::Subject(s)),
-        );
+        let shared = keeping::need(self.needs, Thing::Subject(s));
+        let needs = keeping::with_need(self.needs, Thing::Subject(c), shared);
         self.subjects = after;
         self.groups = joined;
         self.needs = needs;
