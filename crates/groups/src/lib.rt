@@ -10,9 +10,11 @@ ghost use Rattle.model.specs.Calls.{sheds};
 ghost use Rattle.tables.specs.declared.Subject.{Subject};
 ghost use Rattle.tables.specs.declared.Object.{Object};
 ghost use Rattle.tables.specs.Records.{no_subject, no_handle, hands, tables_of};
+ghost use Rattle.handles.specs.Handing.{Handed};
 ghost use Rattle.handles.specs.Working.{Hits};
 ghost use Rattle.groups.specs.Groups.{stands, kin_of, mate_of, Leads, Fresh, taken_by, ousted_by};
 
+use labels::Label;
 use std::array;
 use tables::{HANDLES, Handle, PLACES, SUBJECTS, Subject, looks};
 
@@ -25,27 +27,23 @@ pub const BYTES: usize = 256;
 pub fn of(groups: [u8; SUBJECTS], s: u64) -> u8
     ensures { result ≡ get_or groups (s % 32) 0 }
 {
-    let at = s as usize % SUBJECTS;
-    groups[at]
+    groups[s as usize % SUBJECTS]
 }
 
-pub fn with(groups: [u8; SUBJECTS], s: u64, g: u8) -> [u8; SUBJECTS]
+pub fn with(mut groups: [u8; SUBJECTS], s: u64, g: u8) -> [u8; SUBJECTS]
     ensures { result ≡ set groups (s % 32) g }
 {
-    let at = s as usize % SUBJECTS;
-    let mut r = groups;
-    r[at] = g;
-    r
+    groups[s as usize % SUBJECTS] = g;
+    groups
 }
 
 // ---- who is in a group
 
-// Subjects a and b are in one group.
-fn is_kin(subjects: &[Subject; SUBJECTS], groups: &[u8; SUBJECTS], a: usize, b: usize) -> bool
-    requires { (a < 32) × (b < 32) }
-    ensures { result ≡ kin_of subjects.now groups.now a b }
+// Subjects a and b, whose records are x and y and whose bytes are g and h, are in one group.
+fn is_kin(a: usize, b: usize, x: Subject, y: Subject, g: u8, h: u8) -> bool
+    ensures { result ≡ (eqb a b || (not (eqb x.live 0) && (not (eqb y.live 0) && eqb g h))) }
 {
-    a == b || (subjects[a].live != 0 && subjects[b].live != 0 && groups[a] == groups[b])
+    a == b || (x.live != 0 && y.live != 0 && g == h)
 }
 
 // Of each subject, whether it is in the group of s.
@@ -53,7 +51,9 @@ pub fn members(subjects: [Subject; SUBJECTS], groups: [u8; SUBJECTS], s: u64) ->
     ensures { (a : ℕ) → a < 32 → get_or result a false ≡ kin_of subjects groups (s % 32) a }
 {
     let i = s as usize % SUBJECTS;
-    array::from_fn(|a| is_kin(&subjects, &groups, i, a))
+    let x = subjects[i];
+    let g = groups[i];
+    array::from_fn(|a| is_kin(i, a, x, subjects[a], g, groups[a]))
 }
 
 // And whether it is a mate of s: in the group, and not s.
@@ -115,14 +115,13 @@ pub fn fresh(subjects: [Subject; SUBJECTS], groups: [u8; SUBJECTS]) -> u8
 pub fn lowered(
     subjects: [Subject; SUBJECTS],
     takes: [bool; SUBJECTS],
-    level: u8,
-    shops: u8,
+    label: Label,
 ) -> [Subject; SUBJECTS]
-    ensures { (a : ℕ) → a < 32 → get_or result a no_subject ≡ taken_by (get_or subjects a no_subject) (get_or takes a false) level shops }
+    ensures { (a : ℕ) → a < 32 → get_or result a no_subject ≡ taken_by (get_or subjects a no_subject) (get_or takes a false) label.level label.shops }
 {
     array::from_fn(|a| {
         if takes[a] {
-            looks::fallen(subjects[a], level, shops)
+            looks::fallen(subjects[a], label)
         } else {
             subjects[a]
         }
@@ -151,8 +150,7 @@ fn unless_closed(h: Handle, goes: bool) -> Handle
 
 // The handles without those of these subjects.
 pub fn closed(handles: [Handle; HANDLES], gone: [bool; SUBJECTS]) -> [Handle; HANDLES]
-    ensures { (rest : Tables) (ss : List Subject) (os : List Object) →
-        tables_of rest ss os result ≡ with_hand (tables_of rest ss os handles) (λ s p. cond (get_or gone s false) none (hands handles s p)) }
+    ensures { Handed handles result (λ s p. cond (get_or gone s false) none (hands handles s p)) }
 {
     array::from_fn(|i| unless_closed(handles[i], gone[i / PLACES]))
 }

@@ -11,6 +11,7 @@ ghost use Rattle.tables.specs.declared.Subject.{Subject};
 ghost use Rattle.tables.specs.declared.Object.{Object};
 ghost use Rattle.tables.specs.Records.{no_handle, hands, along, tables_of};
 ghost use Rattle.tables.specs.Working.{Outlives};
+ghost use Rattle.handles.specs.Handing.{Handed};
 ghost use Rattle.handles.specs.Working.{kept_of, lasting_of, on, Hits, outlived_by};
 
 use std::array;
@@ -124,8 +125,7 @@ pub fn with_ends(
     from: u64,
     to: u64,
 ) -> [Handle; HANDLES]
-    ensures { (rest : Tables) (ss : List Subject) (os : List Object) →
-        tables_of rest ss os result ≡ with_hand (tables_of rest ss os handles)
+    ensures { Handed handles result
         (place (place (hands handles) (s % 32) (p % 16) (some (handle reading (from % 64)))) (s % 32) (q % 16) (some (handle writing (to % 64)))) }
 {
     let one = looks::with_handle(handles, s, p, looks::joining(READS, from));
@@ -145,14 +145,12 @@ pub fn row_of(handles: [Handle; HANDLES], s: usize) -> [Handle; PLACES]
 }
 
 // The handles with those of subject s made these.
-fn with_row(handles: [Handle; HANDLES], s: usize, places: [Handle; PLACES]) -> [Handle; HANDLES]
+fn with_row(mut handles: [Handle; HANDLES], s: usize, places: [Handle; PLACES]) -> [Handle; HANDLES]
     requires { s < 32 }
-    ensures { (rest : Tables) (ss : List Subject) (os : List Object) →
-        tables_of rest ss os result ≡ with_hand (tables_of rest ss os handles) (row (hands handles) s (along places)) }
+    ensures { Handed handles result (row (hands handles) s (along places)) }
 {
-    let mut r = handles;
-    r[s * PLACES..(s + 1) * PLACES].copy_from_slice(&places);
-    r
+    handles[s * PLACES..(s + 1) * PLACES].copy_from_slice(&places);
+    handles
 }
 
 // A handle record, or an empty one where it is marked or a mapping.
@@ -174,23 +172,20 @@ pub fn lasting(places: [Handle; PLACES]) -> [Handle; PLACES]
 
 // The handles once subject c has those of s at the same places, once s has none, and once s has run a program; each number modulo how many there are.
 pub fn forked(handles: [Handle; HANDLES], s: u64, c: u64) -> [Handle; HANDLES]
-    ensures { (rest : Tables) (ss : List Subject) (os : List Object) →
-        tables_of rest ss os result ≡ with_hand (tables_of rest ss os handles) (row (hands handles) (c % 32) (hands handles (s % 32))) }
+    ensures { Handed handles result (row (hands handles) (c % 32) (hands handles (s % 32))) }
 {
     let places = row_of(handles, s as usize % SUBJECTS);
     with_row(handles, c as usize % SUBJECTS, places)
 }
 
 pub fn vacated(handles: [Handle; HANDLES], s: u64) -> [Handle; HANDLES]
-    ensures { (rest : Tables) (ss : List Subject) (os : List Object) →
-        tables_of rest ss os result ≡ with_hand (tables_of rest ss os handles) (row (hands handles) (s % 32) (λ p. none)) }
+    ensures { Handed handles result (row (hands handles) (s % 32) (λ p. none)) }
 {
     with_row(handles, s as usize % SUBJECTS, [Handle::default(); PLACES])
 }
 
 pub fn shed(handles: [Handle; HANDLES], s: u64) -> [Handle; HANDLES]
-    ensures { (rest : Tables) (ss : List Subject) (os : List Object) →
-        tables_of rest ss os result ≡ with_hand (tables_of rest ss os handles) (row (hands handles) (s % 32) (λ p. lasting (hands handles (s % 32) p))) }
+    ensures { Handed handles result (row (hands handles) (s % 32) (λ p. lasting (hands handles (s % 32) p))) }
 {
     let i = s as usize % SUBJECTS;
     with_row(handles, i, lasting(row_of(handles, i)))
