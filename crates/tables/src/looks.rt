@@ -10,6 +10,7 @@ use crate::{
 };
 use labels::Label;
 
+// (One for each record: `Default` says no value in a contract, so one for all could not say which record it gives.)
 // x, which stands at number s modulo SUBJECTS; one that is not live where s is out of range.
 pub fn subject_at(s: u64, x: Subject) -> Subject
     ensures { result ≡ subject_at s x }
@@ -98,7 +99,7 @@ pub fn with<T: Copy, const N: usize>(mut xs: [T; N], i: u64, x: T) -> [T; N]
     xs
 }
 
-// The subjects with x at number s, and the objects with y at number o, each modulo how many there are.
+// The subjects with x at number s, and the objects with y at number o, each modulo how many there are: `with`, named for callers.
 pub fn with_subject(subjects: [Subject; SUBJECTS], s: u64, x: Subject) -> [Subject; SUBJECTS]
     ensures { result ≡ set subjects (s % 32) x }
 {

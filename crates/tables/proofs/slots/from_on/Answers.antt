@@ -12,7 +12,7 @@ loop-i-preserved c =
     let a = c.args in
     let v = c.loop-i in
     elim c.if-objects-i-ne-FREE.branch [
-      | then-objects-i-ne-FREE+then-o-n+then-is_none_or w ↦ rw w.nearest-is (nearer a.objects a.numbers a.o v.i _ refl v.nearest v.invariant (search (rules, tests)) w.if-o-n.true (λ r q. search (rules, tests)))
+      | then-objects-i-ne-FREE+then-o-n+then-is_none_or w ↦ rw w.nearest-is (nearer a.objects a.numbers a.o v.i _ refl v.nearest v.invariant (search (rules, tests)) (omega (arith, w.if-o-n.true)) (λ r q. search (rules, tests)))
       | else-objects-i-ne-FREE w ↦ rw w.nearest-is (no_nearer a.objects a.numbers a.o v.i _ refl v.nearest v.invariant (λ u l. elim w.else-objects-i-ne-FREE.branch [
         | else-objects-i-ne-FREE-via-then-objects-i-ne-FREE+then-o-n+else-is_none_or z ↦ (λ q. search (rules, tests), λ r q. search (rules, tests))
         | else-objects-i-ne-FREE-via-then-objects-i-ne-FREE+else-o-n z ↦ absurd (omega arith)
