@@ -1,11 +1,19 @@
 -- The flow test: some live thing's label is below its figure exactly where the tables are not safe. Assumes nothing.
-use mathlib.Core.Path.{◌≡◌, refl, sym, ◌∙◌, ap, subst}
+use mathlib.Core.Path.{◌≡◌, refl, sym, ◌∙◌, ap, ap₂, subst}
 use mathlib.Core.Bool.{Bool, true, false, not, ◌||◌, cond}
 use mathlib.Core.Logic.{◌⊎◌, inl, inr}
 use mathlib.Core.Option.{Option, none, some, none-ne-some, some-injective}
 use mathlib.Core.List.{List}
-use Prim.Native.Nat.{ℕ, ◌+◌}
-use lib.ListN.{length, get_or}
+use Prim.Native.Nat.{ℕ, zero, suc, ◌+◌, ◌≤◌}
+use native.Mathlib.Omega.{arith}
+use native.Mathlib.Numerals.{add-one}
+use lib.ListN.{length, get_or, take, drop, length-drop}
+use lib.Seq.{get_or-drop}
+use Rattle.std.specs.Prelude.{fold, zip}
+use Rattle.flows.specs.Short.{some_folded}
+use Rattle.std.proofs.lemmas.List.{take_all}
+use Rattle.std.proofs.lemmas.List.Sums.{fold_more}
+use Rattle.std.proofs.lemmas.Slice.Zip.{length-zip, get_or-zip}
 use lib.Dec.{T, T_not, ltb→lt, lt→ltb, eqb}
 use Rattle.model.specs.Bools.{test, both, or_cases, or_left, or_right}
 use Rattle.model.specs.Lists.{In}
@@ -25,7 +33,7 @@ use Rattle.tables.specs.Records.Laws.{slot_low}
 use Rattle.tables.specs.Needs.{figure_of}
 use Rattle.tables.specs.Working.{some_below}
 use Rattle.passes.specs.Working.{low_by, short_subject, short_object}
-use Rattle.tables.proofs.Below.{some_of_below, below_some, same_test}
+use Rattle.tables.proofs.Below.{some_of_below, below_some, below_same, same_test}
 
 -- ── one thing ──
 -- the thing has an entry, and its label is not at least v
@@ -48,6 +56,25 @@ subject_as x v = low_as (eqb x.live 0) running (label x.level x.shops) v
 
 object_as : (x : Object) (v : Label) → As (short_object x v) (Low v (object_entry x))
 object_as x v = low_as (eqb x.kind 0) (cond (eqb x.kind 1) file pipe) (label x.level x.shops) v
+
+-- ── a test of each of some things with its figure ──
+folded_below : {X : Type 0} (f : X → ℕ → Bool) (xs : List X) (n : List ℕ) (d : X) (e : ℕ) → length xs ≤ length n
+    → fold (λ (low : Bool) (p : X × ℕ). low || f p.0 p.1) false (zip xs n) ≡ some_below (length xs) (λ i. f (get_or xs i d) (get_or n i e))
+folded_below {X} f xs n d e l = ap (λ (l : List (X × ℕ)). fold step false l) (sym (take_all (length xs) ps (omega (arith, long)))) ∙ go (length xs) (omega arith)
+  where
+    ps : List (X × ℕ)
+    ps = zip xs n
+
+    step : Bool → X × ℕ → Bool
+    step low p = low || f p.0 p.1
+
+    long : length ps ≡ length xs
+    long = length-zip xs n ∙ omega arith
+
+    go : (k : ℕ) → k ≤ length xs → fold step false (take k ps) ≡ some_below k (λ i. f (get_or xs i d) (get_or n i e))
+    go zero h = refl
+    go (suc k) h = ap (λ (z : ℕ). fold step false (take z ps)) (sym (add-one k)) ∙ fold_more step false ps k (d, e) (omega (arith, long))
+        ∙ ap₂ ◌||◌ (go k (omega arith)) (ap (λ (p : X × ℕ). f p.0 p.1) (get_or-zip xs n k (d, e) (omega arith) (omega arith)))
 
 -- ── all things ──
 module _ (rest : Tables) (ss : List Subject) (os : List Object) (hs : List Handle) (n : List ℕ) (w : Wf (tables_of rest ss os hs))
@@ -113,12 +140,21 @@ module _ (rest : Tables) (ss : List Subject) (os : List Object) (hs : List Handl
       (λ h. let r = (not_safe t).0 h in let g = found r.0 r.1 r.2 in to_either r.0 g.0 g.1)
 
   -- the two tests, one after the other
-  pub short_first : some_below 32 (λ i. short_subject (get_or ss i no_subject) (coded (get_or n i 0))) ≡ true
-      → true ≡ not (safe (tables_of rest ss os hs))
-  unfolding fs fo
-  short_first q = ap (λ (b : Bool). b || some_below 64 fo) (sym q) ∙ short_is
+  module _ (ls : length ss ≡ 32) (ln : length n ≡ 96) where
+    subjects_as : some_folded short_subject ss n ≡ some_below 32 fs
+    unfolding fs
+    subjects_as = folded_below (λ x v. short_subject x (coded v)) ss n no_subject 0 (omega arith)
+        ∙ ap (λ (k : ℕ). some_below k (λ i. short_subject (get_or ss i no_subject) (coded (get_or n i 0)))) ls
 
-  pub short_second : some_below 32 (λ i. short_subject (get_or ss i no_subject) (coded (get_or n i 0))) ≡ false
-      → some_below 64 (λ i. short_object (get_or os i no_object) (coded (get_or n (32 + i) 0))) ≡ not (safe (tables_of rest ss os hs))
-  unfolding fs fo
-  short_second q = ap (λ (b : Bool). b || some_below 64 fo) (sym q) ∙ short_is
+    objects_as : some_folded short_object os (take 64 (drop 32 n)) ≡ some_below 64 fo
+    unfolding fo
+    objects_as = ap (some_folded short_object os) (take_all 64 (drop 32 n) (omega (arith, length-drop 32 n)))
+        ∙ folded_below (λ x v. short_object x (coded v)) os (drop 32 n) no_object 0 (omega (arith, length-drop 32 n))
+        ∙ ap (λ (k : ℕ). some_below k (λ i. short_object (get_or os i no_object) (coded (get_or (drop 32 n) i 0)))) lo
+        ∙ below_same 64 _ _ (λ i l. ap (λ (v : ℕ). short_object (get_or os i no_object) (coded v)) (get_or-drop 32 n i 0))
+
+    pub short_first : some_folded short_subject ss n ≡ true → true ≡ not (safe (tables_of rest ss os hs))
+    short_first q = ap (λ (b : Bool). b || some_below 64 fo) (sym q ∙ subjects_as) ∙ short_is
+
+    pub short_second : some_folded short_subject ss n ≡ false → some_folded short_object os (take 64 (drop 32 n)) ≡ not (safe (tables_of rest ss os hs))
+    short_second q = objects_as ∙ ap (λ (b : Bool). b || some_below 64 fo) (sym q ∙ subjects_as) ∙ short_is

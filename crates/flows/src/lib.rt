@@ -2,7 +2,8 @@
 // the flows are in the crate `passes`, needs that are kept in `keeping`.
 #![tactic(auto)]
 
-ghost use Rattle.std.specs.Prelude.{◌≡◌, not, List, ◌+◌, ◌<◌, get_or};
+ghost use Rattle.std.specs.Prelude.{◌≡◌, Bool, not, List};
+ghost use Rattle.model.specs.Label.{Label};
 ghost use Rattle.model.specs.Tables.{Tables, safe};
 ghost use Rattle.model.specs.Invariant.{Wf};
 ghost use Rattle.tables.specs.declared.Subject.{Subject};
@@ -14,6 +15,7 @@ ghost use Rattle.tables.specs.Working.{some_below};
 ghost use Rattle.groups.specs.Groups.{kin_of};
 ghost use Rattle.labels.specs.Codes.{coded};
 ghost use Rattle.passes.specs.Working.{demanded_by, Started, Spread, low_by, short_subject, short_object};
+ghost use Rattle.flows.specs.Short.{some_folded};
 
 use tables::{FILE, FREE, HANDLES, Handle, OBJECTS, Object, SUBJECTS, Subject, THINGS, looks};
 
@@ -32,12 +34,8 @@ pub fn starts(objects: [Object; OBJECTS]) -> [u16; THINGS]
     ensures { Started objects result 64 }
 {
     let mut r = [0u16; THINGS];
-    let mut i: usize = 0;
-    while i < OBJECTS {
-        let object = objects[i];
-        let at = SUBJECTS + i;
-        r[at] = demanded(object);
-        i += 1;
+    for (i, object) in objects.iter().enumerate() {
+        r[SUBJECTS + i] = demanded(*object);
     }
     r
 }
@@ -47,11 +45,8 @@ pub fn spread(n: [u16; THINGS], leads: [u8; SUBJECTS]) -> [u16; THINGS]
     ensures { Spread leads n result }
 {
     let mut r = n;
-    let mut s: usize = 0;
-    while s < SUBJECTS {
-        let lead = leads[s] as usize % SUBJECTS;
-        r[s] = n[lead];
-        s += 1;
+    for (s, lead) in leads.iter().enumerate() {
+        r[s] = n[*lead as usize % SUBJECTS];
     }
     r
 }
@@ -66,57 +61,46 @@ pub fn figures(
     ensures { (rest : Tables) → rest.kin ≡ kin_of subjects groups → Wf (tables_of rest subjects objects handles) →
         Needed (tables_of rest subjects objects handles) result }
 {
-    let start = starts(objects);
     let leads = groups::leads(subjects, groups);
-    let e = passes::listed(handles, leads);
-    let w = passes::worked(e, start, false, 0, 0);
-    let led = w.figures;
-    spread(led, leads)
+    let edges = passes::listed(handles, leads);
+    let mut needs = starts(objects);
+    passes::worked(&edges, &mut needs, None);
+    spread(needs, leads)
 }
 
-// In use, and of a label that is not at least v.
-fn is_low(used: bool, label: u16, v: u16) -> bool
-    ensures { result ≡ low_by used (coded label) (coded v) }
-{
-    if used {
-        let enough = labels::is_at_most(v, label);
-        return !enough;
-    }
-    false
+// What may be in use, and has a label: a subject, or an object.
+trait Labelled: Copy {
+    ghost short: { Self → Label → Bool };
+
+    // It is in use, and its label is not at least v.
+    fn is_short(self, v: u16) -> bool
+        ensures { result ≡ short self (coded v) };
 }
 
-// Some live subject's label, or some live object's, is below its figure. (All are looked at: without a way out the compiler takes many at a time.)
-fn subjects_short(subjects: [Subject; SUBJECTS], n: [u16; THINGS]) -> bool
-    ensures { result ≡ some_below 32 (λ i. short_subject (get_or subjects i no_subject) (coded (get_or n i 0))) }
-{
-    let mut found = false;
-    let mut i: usize = 0;
-    while i < SUBJECTS {
-        let x = subjects[i];
-        let used = x.live != 0;
-        let label = looks::subject_label(x);
-        let low = is_low(used, label, n[i]);
-        found = looks::either(found, low);
-        i += 1;
+impl Labelled for Subject {
+    ghost short = { short_subject };
+
+    fn is_short(self, v: u16) -> bool {
+        self.live != 0 && !labels::is_at_most(v, looks::subject_label(self))
     }
-    found
 }
 
-fn objects_short(objects: [Object; OBJECTS], n: [u16; THINGS]) -> bool
-    ensures { result ≡ some_below 64 (λ i. short_object (get_or objects i no_object) (coded (get_or n (32 + i) 0))) }
-{
-    let mut found = false;
-    let mut i: usize = 0;
-    while i < OBJECTS {
-        let x = objects[i];
-        let used = x.kind != FREE;
-        let at = SUBJECTS + i;
-        let label = looks::object_label(x);
-        let low = is_low(used, label, n[at]);
-        found = looks::either(found, low);
-        i += 1;
+impl Labelled for Object {
+    ghost short = { short_object };
+
+    fn is_short(self, v: u16) -> bool {
+        self.kind != FREE && !labels::is_at_most(v, looks::object_label(self))
     }
-    found
+}
+
+// Some of these has a label below its figure. (All are looked at: without a way out the compiler takes many at a time.)
+fn some_short<T: Labelled>(things: &[T], n: &[u16]) -> bool
+    ensures { result ≡ some_folded T.short things.now n.now }
+{
+    things
+        .iter()
+        .zip(n)
+        .fold(false, |some, (x, v)| some | x.is_short(*v))
 }
 
 // Some live thing's label is below its need, of which n is the figure, in tables in which nothing dangles.
@@ -124,8 +108,5 @@ pub fn is_short(subjects: [Subject; SUBJECTS], objects: [Object; OBJECTS], n: [u
     ensures { (rest : Tables) (hs : List Handle) → Wf (tables_of rest subjects objects hs) → Ready (tables_of rest subjects objects hs) (figure_of n) →
         result ≡ not (safe (tables_of rest subjects objects hs)) }
 {
-    if subjects_short(subjects, n) {
-        return true;
-    }
-    objects_short(objects, n)
+    some_short(&subjects, &n) || some_short(&objects, &n[SUBJECTS..])
 }

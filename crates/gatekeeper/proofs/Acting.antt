@@ -7,7 +7,6 @@ use mathlib.Core.List.{List}
 use Prim.Native.Nat.{ℕ, ◌+◌, ◌*◌, ◌<◌}
 use native.Mathlib.Omega.{arith}
 use native.Mathlib.Decide.{dec_lt}
-use borrow.Author.Tests.{eq-eqb, ne_eqb}
 use Rattle.model.specs.Lists.{In}
 use Rattle.model.specs.Lists.Rising.{each_rising, each_of, each_has}
 use Rattle.model.specs.Label.{label}
@@ -20,7 +19,7 @@ use Rattle.tables.specs.Records.{joins, held, object_entry, no_object, tables_of
 use Rattle.tables.specs.Slots.{slot_used}
 use lib.Dec.{T, eqb, ltb}
 use lib.ListN.{length, get_or, get_or-eq_default}
-use Rattle.model.specs.Calls.{Call, made, steps, stepped, tests, first, refusal, effect, refused, allowed, lowered, answer}
+use Rattle.model.specs.Calls.{Call, made, steps, stepped, refusal, effect, refused, allowed, lowered, answer}
 use Rattle.model.proofs.Calls.Listed.{Listed, listed_same, made_or, stepped_left, effect_listed, effect_is, effect_at}
 use Rattle.model.specs.Calls.{Answer as Told}
 use Rattle.model.proofs.Calls.Refusals.{answered_refused}
@@ -149,10 +148,6 @@ unroomed z = both (λ w r. z w)
 
 pub either : {m n : Monitor} {c : Call} {a : Told} {R : Type 0} → (Firm m → Acts m c a n) × (Wf (slots m) → Keeps m c n) → (Firm m → R → Acts m c a n) × (Wf (slots m) → R → Keeps m c n)
 either z = (λ f r. z.0 f, λ w r. z.1 w)
-
--- by a refusal
-pub back_keeps : {m : Monitor} {c : Call} {e : Refusal} {r : Reply} → r ≡ back m e → Wf (slots m) → Keeps m c r.monitor
-back_keeps {m} {c} q w = subst (λ (x : Reply). Keeps m c x.monitor) (sym q) (record { whole = w; kept = λ h. h; says = refl; numbered = refl; came = λ i u. inl u })
 
 -- ── steady tables ──
 -- a mapping is a reading handle, whatever the bytes are

@@ -12,7 +12,7 @@ use lib.Dec.{T, T_not, eqb, eqb_refl}
 use Rattle.model.specs.Lists.{In, inserts}
 use Rattle.model.specs.Lists.Rising.{Rising, insert_length, inserts_in, inserts_new, inserts_rising, each_rising, each_of, each_has}
 use Rattle.model.specs.Flow.{Thing, object}
-use Rattle.model.specs.Tables.{Entry, Tables, empty, with_numbers, is_some, clean, needs}
+use Rattle.model.specs.Tables.{Entry, Tables, empty, with_numbers, is_some, clean}
 use Rattle.model.proofs.Tables.Laws.{used_is, live_of, some_is}
 use Rattle.model.specs.Invariant.{Wf}
 use Rattle.model.proofs.Invariant.Laws.{clean_same, empty_wf}

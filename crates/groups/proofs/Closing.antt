@@ -3,7 +3,7 @@ use mathlib.Core.Path.{◌≡◌, refl, ◌∙◌, ap, fun_ext}
 use mathlib.Core.Bool.{Bool, true, false, cond}
 use mathlib.Core.Option.{Option, none}
 use mathlib.Core.List.{List}
-use Prim.Native.Nat.{ℕ, ◌+◌, ◌*◌, ◌/◌, ◌≤◌, ◌<◌}
+use Prim.Native.Nat.{ℕ, ◌+◌, ◌*◌, ◌/◌, ◌<◌}
 use native.Mathlib.Omega.{arith}
 use native.Mathlib.Decide.{dec_lt}
 use borrow.Author.Tests.{ltb-true}
@@ -15,13 +15,12 @@ use Rattle.tables.specs.declared.Subject.{Subject}
 use Rattle.tables.specs.declared.Object.{Object}
 use Rattle.tables.specs.declared.Handle.{Handle}
 use Rattle.tables.specs.Records.{held, no_handle, hands, tables_of}
-use Rattle.tables.proofs.Maps.{Mapped}
 
-pub closed_tables : (rest : Tables) (ss : List Subject) (os : List Object) (hs r : List Handle) (i : ℕ) (gone : List Bool) → 512 ≤ i
-    → Mapped no_handle (λ j x. cond (get_or gone (j / 16) false) no_handle x) hs r i → length hs ≡ 512
+pub closed_tables : (rest : Tables) (ss : List Subject) (os : List Object) (hs r : List Handle) (gone : List Bool) → length hs ≡ 512 → length r ≡ 512
+    → ((j : ℕ) → j < 512 → get_or r j no_handle ≡ cond (get_or gone (j / 16) false) no_handle (get_or hs j no_handle))
     → tables_of rest ss os r ≡ with_hand (tables_of rest ss os hs) (λ s p. cond (get_or gone s false) none (hands hs s p))
 unfolding tables_of
-closed_tables rest ss os hs r i gone full m lh = ap (with_hand (tables_of rest ss os hs)) (fun_ext (λ s. fun_ext (λ p. at s p (ltb p 16) refl)))
+closed_tables rest ss os hs r gone lh lr m = ap (with_hand (tables_of rest ss os hs)) (fun_ext (λ s. fun_ext (λ p. at s p (ltb p 16) refl)))
   where
     emptied : (b : Bool) (h : Handle) → held (cond b no_handle h) ≡ cond b none (held h)
     emptied true h = refl
@@ -33,9 +32,9 @@ closed_tables rest ss os hs r i gone full m lh = ap (with_hand (tables_of rest s
 
     inside : (s p : ℕ) → p < 16 → Dec (s * 16 + p < 512) → held (get_or r (s * 16 + p) no_handle) ≡ cond (get_or gone s false) none (held (get_or hs (s * 16 + p) no_handle))
     inside s p l (yes h) = let q : (s * 16 + p) / 16 ≡ s = omega arith in
-        ap held (m.done (s * 16 + p) (omega arith)) ∙ ap (λ (z : ℕ). held (cond (get_or gone z false) no_handle (get_or hs (s * 16 + p) no_handle))) q
+        ap held (m (s * 16 + p) (omega arith)) ∙ ap (λ (z : ℕ). held (cond (get_or gone z false) no_handle (get_or hs (s * 16 + p) no_handle))) q
         ∙ emptied (get_or gone s false) (get_or hs (s * 16 + p) no_handle)
-    inside s p l (no h) = rw (get_or-eq_default r no_handle {n = s * 16 + p} (omega (arith, m.long)), get_or-eq_default hs no_handle {n = s * 16 + p} (omega arith))
+    inside s p l (no h) = rw (get_or-eq_default r no_handle {n = s * 16 + p} (omega arith), get_or-eq_default hs no_handle {n = s * 16 + p} (omega arith))
         (none_either (get_or gone s false))
 
     at : (s p : ℕ) (b : Bool) → ltb p 16 ≡ b → cond b (held (get_or r (s * 16 + p) no_handle)) none ≡ cond (get_or gone s false) none (cond b (held (get_or hs (s * 16 + p) no_handle)) none)

@@ -1,149 +1,133 @@
 -- The lowest number in the group of each subject, worked out by one walk over the subjects: of each byte, the first live subject that has it. Assumes nothing.
-use mathlib.Core.Path.{◌≡◌, refl, sym, ◌∙◌, ap, subst}
-use mathlib.Core.Bool.{Bool, true, false, not, cond}
+use Rattle.std.proofs.Common.{◌≡◌, refl, sym, ◌∙◌, ap, subst, ℕ, ◌+◌, ◌≤◌, ◌<◌, List, length, get_or, arith, Option, None, Some}
+use Rattle.std.specs.Option.{unwrap_or}
+use mathlib.Core.Bool.{not}
 use mathlib.Core.Logic.{◌⊎◌, inl, inr}
-use mathlib.Core.List.{List}
-use Prim.Native.Nat.{ℕ, ◌+◌, ◌≤◌, ◌<◌}
-use native.Mathlib.Omega.{arith}
 use native.Mathlib.Decide.{ℕ_discrete}
-use borrow.Author.Tests.{ne_eqb}
-use lib.ListN.{length, get_or, set, length-set, replicate, length-replicate, get_or-replicate}
+use lib.ListN.{set, length-set, replicate, length-replicate, get_or-replicate}
 use lib.Seq.{get_or-set_same, get_or-set_other}
-use lib.Dec.{T, eqb, eqb→eq, eqb_refl}
-use Rattle.model.specs.Bools.{test, is_true, is_false}
+use lib.Dec.{T, T_not, eqb, eqb→eq, eqb_refl}
+use Rattle.model.specs.Bools.{test}
 use Rattle.tables.specs.declared.Subject.{Subject}
-use Rattle.tables.specs.Records.{no_subject}
 use Rattle.groups.specs.Groups.{stands, kin_of, Leads}
 use Rattle.groups.specs.Groups.Laws.{kin_cases, kin_same, kin_two}
 
--- the first i subjects are looked at: `first` has for each byte the lowest live one of them that has it, 32 for none, and r the lead of each
-pub record Led (ss : List Subject) (gs first r : List ℕ) (i : ℕ) : Type 0 where
+-- the first i subjects are looked at: `first` has for each byte the lowest live one of them that has it, and r the lead of each
+pub record Led (ss : List Subject) (gs : List ℕ) (first : List (Option ℕ)) (r : List ℕ) (i : ℕ) : Type 0 where
   pub first_long : length first ≡ 256
   pub leads_long : length r ≡ 32
-  pub found : (v : ℕ) → v < 256 → (get_or first v 0 ≡ 32) ⊎ ((get_or first v 0 < i) × T (stands ss (get_or first v 0)) × (get_or gs (get_or first v 0) 0 ≡ v))
-  pub least : (a : ℕ) → a < i → T (stands ss a) → get_or first (get_or gs a 0) 0 ≤ a
-  pub lead : (a : ℕ) → a < i → get_or r a 0 ≡ cond (stands ss a) (get_or first (get_or gs a 0) 0) a
+  pub found : (v l : ℕ) → v < 256 → get_or first v None ≡ Some l → (l < i) × T (stands ss l) × (get_or gs l 0 ≡ v)
+  pub lead : (a : ℕ) → a < i → T (stands ss a) → (get_or first (get_or gs a 0) None ≡ Some (get_or r a 0)) × (get_or r a 0 ≤ a)
+  pub off : (a : ℕ) → a < i → T (not (stands ss a)) → get_or r a 0 ≡ a
 
-pub led_none : (ss : List Subject) (gs : List ℕ) → Led ss gs (replicate 256 32) (replicate 32 0) 0
+pub led_none : (ss : List Subject) (gs : List ℕ) → Led ss gs (replicate 256 None) (replicate 32 0) 0
 led_none ss gs = record {
-  first_long = length-replicate {A = ℕ} 256 32;
+  first_long = length-replicate {A = Option ℕ} 256 None;
   leads_long = length-replicate {A = ℕ} 32 0;
-  found = λ v l. inl (get_or-replicate {A = ℕ} 256 v 32 0 l);
-  least = λ a l. absurd (omega arith);
-  lead = λ a l. absurd (omega arith);
+  found = λ v l lv e. (let q = get_or-replicate {A = Option ℕ} 256 v None None lv in absurd (none_some l (sym q ∙ e)));
+  lead = λ a la. absurd (omega arith);
+  off = λ a la. absurd (omega arith);
 }
+  where
+    none_some : (l : ℕ) → ◌≡◌ {A = Option ℕ} None (Some l) → ⊥
+    none_some l e = cc
 
-module _ (ss : List Subject) (gs : List ℕ) (low : (a : ℕ) → get_or gs a 0 < 256) (first r : List ℕ) (i : ℕ) (li : i < 32) (p : Led ss gs first r i) where
-  g : ℕ
-  g = get_or gs i 0
+module _ (ss : List Subject) (gs : List ℕ) (low : (a : ℕ) → get_or gs a 0 < 256) (first : List (Option ℕ)) (r : List ℕ) (i : ℕ) (li : i < 32) (p : Led ss gs first r i) where
+  -- a subject that is not live leads itself
+  pub led_off : T (not (stands ss i)) → Led ss gs first (set r i i) (i + 1)
+  led_off h = record {
+    first_long = p.first_long;
+    leads_long = simp length-set p.leads_long;
+    found = λ v l lv e. let q = p.found v l lv e in (omega (arith, q.0), q.1, q.2);
+    lead = λ a la s. elim (ℕ_discrete a i) [
+      | yes e ↦ absurd (T_not (stands ss i) h (subst (λ (z : ℕ). T (stands ss z)) e s))
+      | no ne ↦ rw (get_or-set_other r i a i 0 ne) (p.lead a (omega arith) s)
+    ];
+    off = λ a la s. elim (ℕ_discrete a i) [
+      | yes e ↦ rw (e, get_or-set_same r i i 0 (omega (arith, p.leads_long)))
+      | no ne ↦ get_or-set_other r i a i 0 ne ∙ p.off a (omega arith) s
+    ];
+  }
 
-  f : ℕ
-  f = get_or first (get_or gs i 0) 0
-
-  -- the byte's entry stays, but where the subject is the first that has it
-  led_by : (l n : ℕ) → l ≡ cond (stands ss i) n i → (T (not (stands ss i)) → n ≡ f) → (T (stands ss i) → (f ≡ 32 → n ≡ i) × ((f ≡ 32 → ⊥) → n ≡ f))
-      → Led ss gs (set first (get_or gs i 0) n) (set r i l) (i + 1)
-  unfolding g f
-  led_by l n el off on = record {
+  -- one that is live is led by the first that has its byte
+  pub led_on : T (stands ss i) → (l : ℕ) → l ≡ unwrap_or (get_or first (get_or gs i 0) None) i → Led ss gs (set first (get_or gs i 0) (Some l)) (set r i l) (i + 1)
+  led_on h l el = record {
     first_long = simp length-set p.first_long;
     leads_long = simp length-set p.leads_long;
-    found = λ v lv. elim (ℕ_discrete v (get_or gs i 0)) [ yes e ↦ here v e | no ne ↦ there v lv ne ];
-    least = λ a la s. elim (ℕ_discrete (get_or gs a 0) (get_or gs i 0)) [
-      | yes e ↦ rw (e, at_g) (under a la s e)
-      | no ne ↦ rw (off_g (get_or gs a 0) ne) (p.least a (elim (ℕ_discrete a i) [ yes q ↦ absurd (ne (ap (λ (z : ℕ). get_or gs z 0) q)) | no nq ↦ omega arith ]) s)
+    found = λ v n lv e. elim (ℕ_discrete v (get_or gs i 0)) [
+      | yes q ↦ here v n q (subst (λ (z : ℕ). get_or (set first (get_or gs i 0) (Some l)) z None ≡ Some n) q e)
+      | no nq ↦ (let k = p.found v n lv (sym (off_g v nq) ∙ e) in (omega (arith, k.0), k.1, k.2))
     ];
-    lead = λ a la. elim (ℕ_discrete a i) [ yes e ↦ own a e | no ne ↦ other a ne (omega arith) ];
+    lead = λ a la s. elim (ℕ_discrete a i) [
+      | yes e ↦ rw (e, get_or-set_same r i l 0 (omega (arith, p.leads_long))) (at_g, below)
+      | no ne ↦ (let k = p.lead a (omega arith) s in rw (get_or-set_other r i a l 0 ne) (elim (ℕ_discrete (get_or gs a 0) (get_or gs i 0)) [
+        | yes q ↦ (rw (q, at_g) (ap Some (same a (subst (λ (z : ℕ). get_or first z None ≡ Some (get_or r a 0)) q k.0))), k.1)
+        | no nq ↦ (off_g (get_or gs a 0) nq ∙ k.0, k.1)
+      ]))
+    ];
+    off = λ a la s. elim (ℕ_discrete a i) [
+      | yes e ↦ absurd (T_not (stands ss i) (subst (λ (z : ℕ). T (not (stands ss z))) e s) h)
+      | no ne ↦ get_or-set_other r i a l 0 ne ∙ p.off a (omega arith) s
+    ];
   }
     where
-      at_g : get_or (set first (get_or gs i 0) n) (get_or gs i 0) 0 ≡ n
-      at_g = get_or-set_same first (get_or gs i 0) n 0 (omega (arith, low i, p.first_long))
+      at_g : get_or (set first (get_or gs i 0) (Some l)) (get_or gs i 0) None ≡ Some l
+      at_g = get_or-set_same first (get_or gs i 0) (Some l) None (omega (arith, low i, p.first_long))
 
-      off_g : (v : ℕ) → (v ≡ get_or gs i 0 → ⊥) → get_or (set first (get_or gs i 0) n) v 0 ≡ get_or first v 0
-      off_g v ne = get_or-set_other first (get_or gs i 0) v n 0 ne
+      off_g : (v : ℕ) → (v ≡ get_or gs i 0 → ⊥) → get_or (set first (get_or gs i 0) (Some l)) v None ≡ get_or first v None
+      off_g v ne = get_or-set_other first (get_or gs i 0) v (Some l) None ne
 
-      -- what n is
-      n_is : (n ≡ get_or first (get_or gs i 0) 0) ⊎ (T (stands ss i) × (get_or first (get_or gs i 0) 0 ≡ 32) × (n ≡ i))
-      n_is = elim (test (stands ss i)) [
-        | inl s ↦ elim (ℕ_discrete (get_or first (get_or gs i 0) 0) 32) [ yes e ↦ inr (s, e, (on s).0 e) | no ne ↦ inl ((on s).1 ne) ]
-        | inr s ↦ inl (off s)
-      ]
-
-      there : (v : ℕ) → v < 256 → (v ≡ get_or gs i 0 → ⊥) → (get_or (set first (get_or gs i 0) n) v 0 ≡ 32) ⊎ ((get_or (set first (get_or gs i 0) n) v 0 < i + 1)
-          × T (stands ss (get_or (set first (get_or gs i 0) n) v 0)) × (get_or gs (get_or (set first (get_or gs i 0) n) v 0) 0 ≡ v))
-      there v lv ne = rw (off_g v ne) (elim (p.found v lv) [ inl z ↦ inl z | inr z ↦ inr (omega (arith, z.0), z.1, z.2) ])
-
-      here : (v : ℕ) → v ≡ get_or gs i 0 → (get_or (set first (get_or gs i 0) n) v 0 ≡ 32) ⊎ ((get_or (set first (get_or gs i 0) n) v 0 < i + 1)
-          × T (stands ss (get_or (set first (get_or gs i 0) n) v 0)) × (get_or gs (get_or (set first (get_or gs i 0) n) v 0) 0 ≡ v))
-      here v e = rw (e, at_g) (elim n_is [
-        | inl q ↦ rw q (elim (p.found (get_or gs i 0) (low i)) [ inl z ↦ inl z | inr z ↦ inr (omega (arith, z.0), z.1, z.2) ])
-        | inr q ↦ rw q.2 (inr (omega arith, q.0, refl))
-      ])
-
-      under : (a : ℕ) → a < i + 1 → T (stands ss a) → get_or gs a 0 ≡ get_or gs i 0 → n ≤ a
-      under a la s e = elim (ℕ_discrete a i) [
-        | yes q ↦ elim n_is [
-          | inl z ↦ elim (p.found (get_or gs i 0) (low i)) [
-            | inl y ↦ absurd (omega (arith, (on (subst (λ (k : ℕ). T (stands ss k)) q s)).0 y, y, z, li))
-            | inr y ↦ omega (arith, y.0, z, q)
-          ]
-          | inr z ↦ omega (arith, z.2, q)
-        ]
-        | no nq ↦ (let m : get_or first (get_or gs i 0) 0 ≤ a = subst (λ (k : ℕ). get_or first k 0 ≤ a) e (p.least a (omega arith) s) in
-            elim n_is [ inl z ↦ omega (arith, m, z) | inr z ↦ absurd (omega (arith, m, z.1, li)) ])
-      ]
-
-      own : (a : ℕ) → a ≡ i → get_or (set r i l) a 0 ≡ cond (stands ss a) (get_or (set first (get_or gs i 0) n) (get_or gs a 0) 0) a
-      own a e = rw (e, get_or-set_same r i l 0 (omega (arith, p.leads_long)), at_g) el
-
-      other : (a : ℕ) → (a ≡ i → ⊥) → a < i → get_or (set r i l) a 0 ≡ cond (stands ss a) (get_or (set first (get_or gs i 0) n) (get_or gs a 0) 0) a
-      other a ne la = get_or-set_other r i a l 0 ne ∙ p.lead a la ∙ elim (test (stands ss a)) [
-        | inl s ↦ ap (λ (z : ℕ). cond (stands ss a) z a) (same a la s)
-        | inr s ↦ rw (is_false (stands ss a) s)
-      ]
+      -- what l is
+      l_is : (get_or first (get_or gs i 0) None ≡ Some l) ⊎ ((get_or first (get_or gs i 0) None ≡ None) × (l ≡ i))
+      l_is = go (get_or first (get_or gs i 0) None) refl
         where
-          same : (a : ℕ) → a < i → T (stands ss a) → get_or first (get_or gs a 0) 0 ≡ get_or (set first (get_or gs i 0) n) (get_or gs a 0) 0
-          same a la s = elim (ℕ_discrete (get_or gs a 0) (get_or gs i 0)) [
-            | yes e ↦ (let m : get_or first (get_or gs i 0) 0 ≤ a = subst (λ (k : ℕ). get_or first k 0 ≤ a) e (p.least a la s) in
-                rw (e, at_g) (elim n_is [ inl z ↦ sym z | inr z ↦ absurd (omega (arith, m, z.1, li, la)) ]))
-            | no nq ↦ sym (off_g (get_or gs a 0) nq)
-          ]
+          go : (o : Option ℕ) → get_or first (get_or gs i 0) None ≡ o → (get_or first (get_or gs i 0) None ≡ Some l) ⊎ ((get_or first (get_or gs i 0) None ≡ None) × (l ≡ i))
+          go None q = inr (q, el ∙ ap (λ (z : Option ℕ). unwrap_or z i) q)
+          go (Some k) q = inl (q ∙ ap Some (sym (el ∙ ap (λ (z : Option ℕ). unwrap_or z i) q)))
 
-  pub led_more : (l n : ℕ) → l ≡ cond (eqb (get_or ss i no_subject).live 0) i (cond (eqb (get_or first (get_or gs i 0) 0) 32) i (get_or first (get_or gs i 0) 0))
-      → n ≡ cond (eqb (get_or ss i no_subject).live 0) (get_or first (get_or gs i 0) 0) l → Led ss gs (set first (get_or gs i 0) n) (set r i l) (i + 1)
-  unfolding f
-  led_more l n el en = go (eqb (get_or ss i no_subject).live 0) refl
-    where
-      go : (b : Bool) → eqb (get_or ss i no_subject).live 0 ≡ b → Led ss gs (set first (get_or gs i 0) n) (set r i l) (i + 1)
-      go true q = led_by l n (rw q at el ∙ sym (rw q)) (λ h. rw q at en) (λ h. absurd (rw q at h))
-      go false q = led_by l n (rw q (sym (rw q at en))) (λ h. absurd (rw q at h)) (λ h. (
-        λ z. (rw q at en) ∙ (rw (q, z) at el),
-        λ z. (rw q at en) ∙ (rw (q, ne_eqb (get_or first (get_or gs i 0) 0) 32 z) at el),
-      ))
+      found_l : (l < i + 1) × T (stands ss l) × (get_or gs l 0 ≡ get_or gs i 0)
+      found_l = elim l_is [
+        | inl q ↦ (let k = p.found (get_or gs i 0) l (low i) q in (omega (arith, k.0), k.1, k.2))
+        | inr q ↦ rw q.1 (omega arith, h, refl)
+      ]
+
+      below : l ≤ i
+      below = omega (arith, found_l.0)
+
+      here : (v n : ℕ) → v ≡ get_or gs i 0 → get_or (set first (get_or gs i 0) (Some l)) (get_or gs i 0) None ≡ Some n → (n < i + 1) × T (stands ss n) × (get_or gs n 0 ≡ v)
+      here v n q e = let z : l ≡ n = some_same l n (sym at_g ∙ e) in rw (q, ← z) found_l
+        where
+          some_same : (a b : ℕ) → ◌≡◌ {A = Option ℕ} (Some a) (Some b) → a ≡ b
+          some_same a b w = cc
+
+      same : (a : ℕ) → get_or first (get_or gs i 0) None ≡ Some (get_or r a 0) → l ≡ get_or r a 0
+      same a e = elim l_is [ inl q ↦ one l (get_or r a 0) (sym q ∙ e) | inr q ↦ absurd (two (get_or r a 0) (sym q.0 ∙ e)) ]
+        where
+          one : (a b : ℕ) → ◌≡◌ {A = Option ℕ} (Some a) (Some b) → a ≡ b
+          one a b w = cc
+
+          two : (l : ℕ) → ◌≡◌ {A = Option ℕ} None (Some l) → ⊥
+          two l e = cc
 
 -- all are looked at
-module _ (ss : List Subject) (gs : List ℕ) (low : (a : ℕ) → get_or gs a 0 < 256) (first r : List ℕ) (i : ℕ) (full : 32 ≤ i) (p : Led ss gs first r i) where
-  led_there : (s : ℕ) → s < 32 → T (stands ss s) → (get_or r s 0 ≡ get_or first (get_or gs s 0) 0) × (get_or r s 0 ≤ s)
-  led_there s l h = let q : get_or r s 0 ≡ get_or first (get_or gs s 0) 0 = p.lead s (omega arith) ∙ rw (is_true (stands ss s) h) in (q, omega (arith, q, p.least s (omega arith) h))
-
-  led_off : (s : ℕ) → s < 32 → T (not (stands ss s)) → get_or r s 0 ≡ s
-  led_off s l h = p.lead s (omega arith) ∙ rw (is_false (stands ss s) h)
-
+module _ (ss : List Subject) (gs : List ℕ) (low : (a : ℕ) → get_or gs a 0 < 256) (first : List (Option ℕ)) (r : List ℕ) (i : ℕ) (full : 32 ≤ i) (p : Led ss gs first r i) where
   pub led_leads : Leads (kin_of ss gs) r
   led_leads = record {
-    low = λ s l. elim (test (stands ss s)) [ inl h ↦ omega (arith, (led_there s l h).1) | inr h ↦ omega (arith, led_off s l h) ];
+    low = λ s l. omega (arith, under s l);
     member = λ s l. elim (test (stands ss s)) [
-      | inl h ↦ member s l h
-      | inr h ↦ kin_same ss gs s (get_or r s 0) (sym (led_off s l h))
+      | inl h ↦ (let k = p.lead s (omega arith) h in let f = p.found (get_or gs s 0) (get_or r s 0) (low s) k.0 in
+          kin_two ss gs s (get_or r s 0) h f.1 (subst (λ (y : ℕ). T (eqb (get_or gs s 0) y)) (sym f.2) (eqb_refl (get_or gs s 0))))
+      | inr h ↦ kin_same ss gs s (get_or r s 0) (sym (p.off s (omega arith) h))
     ];
     lowest = λ s a l la k. elim (kin_cases ss gs s a k) [
-      | inl e ↦ elim (test (stands ss s)) [ inl h ↦ omega (arith, (led_there s l h).1, e) | inr h ↦ omega (arith, led_off s l h, e) ]
-      | inr e ↦ (let q = (led_there s l e.0).0 in let z = eqb→eq (get_or gs s 0) (get_or gs a 0) e.2 in
-          let m : get_or first (get_or gs s 0) 0 ≤ a = subst (λ (y : ℕ). get_or first y 0 ≤ a) (sym z) (p.least a (omega arith) e.1) in omega (arith, q, m))
+      | inl e ↦ omega (arith, under s l, e)
+      | inr e ↦ (let q = p.lead s (omega arith) e.0 in let z = p.lead a (omega arith) e.1 in
+          let w = one (get_or r s 0) (get_or r a 0) (sym q.0 ∙ ap (λ (y : ℕ). get_or first y None) (eqb→eq (get_or gs s 0) (get_or gs a 0) e.2) ∙ z.0) in omega (arith, z.1, w))
     ];
   }
     where
-      member : (s : ℕ) → s < 32 → T (stands ss s) → T (kin_of ss gs s (get_or r s 0))
-      member s l h = let q = led_there s l h in elim (p.found (get_or gs s 0) (low s)) [
-        | inl z ↦ absurd (omega (arith, q.0, q.1, z))
-        | inr z ↦ rw q.0 (kin_two ss gs s (get_or first (get_or gs s 0) 0) h z.1 (subst (λ (y : ℕ). T (eqb (get_or gs s 0) y)) (sym z.2) (eqb_refl (get_or gs s 0))))
-      ]
+      one : (a b : ℕ) → ◌≡◌ {A = Option ℕ} (Some a) (Some b) → a ≡ b
+      one a b w = cc
+
+      under : (s : ℕ) → s < 32 → get_or r s 0 ≤ s
+      under s l = elim (test (stands ss s)) [ inl h ↦ (p.lead s (omega arith) h).1 | inr h ↦ omega (arith, p.off s (omega arith) h) ]

@@ -3,7 +3,7 @@ use mathlib.Core.Path.{◌≡◌, refl, sym, ◌∙◌, ap, fun_ext}
 use mathlib.Core.Bool.{Bool, true, false, not, ◌&&◌, cond}
 use mathlib.Core.Option.{Option, none, some}
 use mathlib.Core.List.{List}
-use Prim.Native.Nat.{ℕ, ◌+◌, ◌*◌, ◌/◌, ◌%◌, ◌≤◌, ◌<◌}
+use Prim.Native.Nat.{ℕ, ◌+◌, ◌*◌, ◌/◌, ◌%◌, ◌<◌}
 use native.Mathlib.Omega.{arith}
 use native.Mathlib.Decide.{dec_lt}
 use borrow.Author.Tests.{lt-ltb, le-ltb, ltb-true, ltb-false}
@@ -18,7 +18,6 @@ use Rattle.tables.specs.declared.Object.{Object}
 use Rattle.tables.specs.declared.Handle.{Handle}
 use Rattle.tables.specs.Records.{joins, held, no_subject, no_object, no_handle, hands, tables_of}
 use Rattle.handles.specs.Working.{kept_of}
-use Rattle.tables.proofs.Maps.{Mapped}
 
 -- handle record j, kept or emptied
 abbrev pub kept_at : List Subject → List Object → ℕ → Handle → Handle
@@ -48,8 +47,8 @@ some_cond : {A : Type 0} (b : Bool) (a : A) → is_some (cond b none (some a)) �
 some_cond true a = refl
 some_cond false a = refl
 
-module _ (rest : Tables) (ss : List Subject) (os : List Object) (hs r : List Handle) (i : ℕ) (full : 512 ≤ i) (m : Mapped no_handle (kept_at ss os) hs r i)
-    (lh : length hs ≡ 512) (lo : length os ≡ 64) where
+module _ (rest : Tables) (ss : List Subject) (os : List Object) (hs r : List Handle) (lr : length r ≡ 512) (lo : length os ≡ 64)
+    (m : (j : ℕ) → j < 512 → get_or r j no_handle ≡ kept_at ss os j (get_or hs j no_handle)) where
   f : ℕ → Bool
   f o = live (tables_of rest ss os hs) (object o)
 
@@ -68,13 +67,13 @@ module _ (rest : Tables) (ss : List Subject) (os : List Object) (hs r : List Han
       (held (get_or hs (s * 16 + q) no_handle))
   unfolding f tables_of
   at_place s q lq (yes h) = let d : (s * 16 + q) / 16 ≡ s = omega arith in
-      rw (m.done (s * 16 + q) (omega arith), d, lt-ltb s 32 h, used_is (tables_of rest ss os hs) (subject s), some_cond (eqb (get_or ss s no_subject).live 0))
+      rw (m (s * 16 + q) (omega arith), d, lt-ltb s 32 h, used_is (tables_of rest ss os hs) (subject s), some_cond (eqb (get_or ss s no_subject).live 0))
       (kept_held k (eqb (get_or ss s no_subject).live 0) (ltb k.object 64) (eqb (get_or os (k.object % 64) no_object).kind 0)
       ∙ sym (counted_held k (not (eqb (get_or ss s no_subject).live 0)) _ f (named k)))
     where
       k : Handle
       k = get_or hs (s * 16 + q) no_handle
-  at_place s q lq (no n) = rw (le-ltb s 32 (omega arith), get_or-eq_default r no_handle {n = s * 16 + q} (omega (arith, m.long)))
+  at_place s q lq (no n) = rw (le-ltb s 32 (omega arith), get_or-eq_default r no_handle {n = s * 16 + q} (omega arith))
       (sym (counted_held (get_or hs (s * 16 + q) no_handle) false _ f refl))
 
   hand_is : (s q : ℕ) (b : Bool) → ltb q 16 ≡ b → hands r s q ≡ counted (ltb q places && live (tables_of rest ss os hs) (subject s)) f (hands hs s q)

@@ -7,9 +7,9 @@ use mathlib.Core.List.{List}
 use Prim.Native.Nat.{ℕ, zero, suc, ◌≤◌, ◌<◌}
 use native.Mathlib.Omega.{arith}
 use native.Mathlib.Decide.{dec_lt}
-use borrow.Author.Tests.{le-ltb, ne_eqb, ltb-true, ltb-false}
+use borrow.Author.Tests.{le-ltb, ne_eqb}
 use lib.ListN.{length, get_or, get_or-eq_default}
-use lib.Dec.{ltb, eqb}
+use lib.Dec.{eqb}
 use Rattle.model.specs.Label.{label}
 use Rattle.model.specs.Flow.{Thing, subject, object}
 use Rattle.model.specs.Tables.{pipe, entry, Tables, empty, with_at, with_hand, handles, open_on}
@@ -19,32 +19,22 @@ use Rattle.tables.specs.declared.Subject.{Subject}
 use Rattle.tables.specs.declared.Object.{Object}
 use Rattle.tables.specs.declared.Handle.{Handle}
 use Rattle.tables.specs.Records.{object_entry, no_object, no_handle, entries, hands, tables_of}
-use Rattle.handles.specs.Working.{on, slot_of, Hits, outlived_by}
-use Rattle.tables.proofs.Maps.{Mapped}
-use Rattle.tables.proofs.Below.{below_same}
+use Rattle.handles.specs.Working.{on, Hits, outlived_by}
 use Rattle.handles.proofs.Opening.{open_is}
 
 -- ── the map of open objects ──
-slot_on : (h : Handle) (o : ℕ) → o < 64 → eqb (slot_of h) o ≡ on h o
-slot_on h o l = go (eqb h.way 0) (ltb h.object 64) refl
+-- a record off the objects is on none of them
+pub on_none : (h : Handle) (o : ℕ) → o < 64 → 64 ≤ h.object → on h o ≡ false
+on_none h o l g = go (eqb h.way 0)
   where
-    go : (v b : Bool) → ltb h.object 64 ≡ b → eqb (cond v 64 (cond b h.object 64)) o ≡ cond v false (eqb h.object o)
-    go true b q = ne_eqb 64 o (λ e. omega arith)
-    go false true q = refl
-    go false false q = ne_eqb 64 o (λ e. omega arith) ∙ sym (ne_eqb h.object o (λ e. omega (arith, ltb-false h.object 64 q)))
-
-pub slot_low : (h : Handle) → slot_of h < 65
-slot_low h = go (eqb h.way 0) (ltb h.object 64) refl
-  where
-    go : (v b : Bool) → ltb h.object 64 ≡ b → cond v 64 (cond b h.object 64) < 65
-    go true b q = omega arith
-    go false true q = omega (arith, ltb-true h.object 64 q)
-    go false false q = omega arith
+    go : (v : Bool) → cond v false (eqb h.object o) ≡ false
+    go true = refl
+    go false = ne_eqb h.object o (λ e. omega arith)
 
 -- what is marked is what is open
-pub open_hits : (hs : List Handle) (r : List Bool) → Hits (λ j. slot_of (get_or hs j no_handle)) 65 r 512 → (o : ℕ) → o < 64
+pub open_hits : (hs : List Handle) (r : List Bool) → Hits (λ j. on (get_or hs j no_handle)) 64 r 512 → (o : ℕ) → o < 64
     → get_or r o false ≡ open_on (handles (with_hand empty (hands hs))) o
-open_hits hs r m o l = m.at o (omega arith) ∙ below_same 512 _ _ (λ i h. slot_on (get_or hs i no_handle) o l) ∙ open_is hs o
+open_hits hs r m o l = m.at o l ∙ open_is hs o
 
 -- ── the end of a pipe ──
 ended_entry : (before after : List Held) (n : ℕ) (x : Object) (was is : Bool) → was ≡ open_on before n → is ≡ open_on after n
@@ -77,12 +67,13 @@ ended_entry before after n x was is p q =
 abbrev pub left_at : List Bool → List Bool → ℕ → Object → Object
 left_at was is j x = outlived_by x (get_or was j false) (get_or is j false)
 
-pub reaped_tables : (rest : Tables) (ss : List Subject) (os r : List Object) (hs₀ hs : List Handle) (before : List Held) (was is : List Bool) (i : ℕ) → 64 ≤ i
-    → Mapped no_object (left_at was is) os r i → length os ≡ 64 → Hits (λ j. slot_of (get_or hs₀ j no_handle)) 65 was 512 → Hits (λ j. slot_of (get_or hs j no_handle)) 65 is 512
+pub reaped_tables : (rest : Tables) (ss : List Subject) (os r : List Object) (hs₀ hs : List Handle) (before : List Held) (was is : List Bool) → length os ≡ 64 → length r ≡ 64
+    → ((o : ℕ) → o < 64 → get_or r o no_object ≡ left_at was is o (get_or os o no_object))
+    → Hits (λ j. on (get_or hs₀ j no_handle)) 64 was 512 → Hits (λ j. on (get_or hs j no_handle)) 64 is 512
     → before ≡ handles (with_hand empty (hands hs₀))
     → tables_of rest ss r hs ≡ reap before (tables_of rest ss os hs)
 unfolding tables_of handles ended
-reaped_tables rest ss os r hs₀ hs before was is i full m lo pw pi eb = ap (with_at (tables_of rest ss os hs)) (fun_ext at)
+reaped_tables rest ss os r hs₀ hs before was is lo lr m pw pi eb = ap (with_at (tables_of rest ss os hs)) (fun_ext at)
   where
     after : List Held
     after = handles (tables_of rest ss os hs)
@@ -96,6 +87,6 @@ reaped_tables rest ss os r hs₀ hs before was is i full m lo pw pi eb = ap (wit
       where
         go : Dec (n < 64) → object_entry (get_or r n no_object) ≡ cond (ended before after (object n) (object_entry (get_or os n no_object))) none
             (object_entry (get_or os n no_object))
-        go (yes l) = ap object_entry (m.done n (omega arith)) ∙ ended_entry before after n (get_or os n no_object) (get_or was n false) (get_or is n false)
+        go (yes l) = ap object_entry (m n l) ∙ ended_entry before after n (get_or os n no_object) (get_or was n false) (get_or is n false)
             (open_before n l) (open_hits hs is pi n l)
-        go (no nl) = rw (get_or-eq_default r no_object {n = n} (omega (arith, m.long)), get_or-eq_default os no_object {n = n} (omega arith))
+        go (no nl) = rw (get_or-eq_default r no_object {n = n} (omega arith), get_or-eq_default os no_object {n = n} (omega arith))

@@ -6,8 +6,12 @@ use mathlib.Core.List.{List}
 use Prim.Native.Nat.{ℕ, ◌+◌, ◌*◌, ◌/◌, ◌%◌, ◌<◌}
 use native.Mathlib.Omega.{arith}
 use borrow.Author.Tests.{lt-ltb, eq-eqb}
-use lib.ListN.{get_or}
+use lib.ListN.{length, get_or}
 use lib.Dec.{T, eqb, eqb→eq}
+use Rattle.std.specs.List.{list_any}
+use Rattle.std.proofs.lemmas.List.{get_or_default}
+use Rattle.std.proofs.lemmas.List.Folds.{list_any_at, Any-from_list_any}
+use Rattle.model.specs.Bools.{is_true}
 use Rattle.model.specs.Tables.{empty, with_hand, handles, open_on}
 use Rattle.model.specs.Tables.{Handle as Held}
 use Rattle.model.proofs.Tables.Laws.{open_here, open_at}
@@ -52,3 +56,16 @@ module _ (hs : List Handle) (o : ℕ) where
   -- .. or there is none
   pub none_found : ((i : ℕ) → i < 512 → on (get_or hs i no_handle) o ≡ false) → false ≡ open_on (handles (with_hand empty (hands hs))) o
   none_found h = sym (none_below 512 (λ j. on (get_or hs j no_handle) o) h) ∙ open_is
+
+  -- one of the records is on o, or none is
+  pub any_open : length hs ≡ 512 → list_any (λ h. on h o) hs ≡ open_on (handles (with_hand empty (hands hs))) o
+  any_open l = same_test _ _ there back ∙ open_is
+    where
+      there : T (list_any (λ h. on h o) hs) → T (open_by hs 512 o)
+      there t = let (i, h, b, e, q) = Any-from_list_any (λ h. on h o) hs (is_true (list_any (λ h. on h o) hs) t) in
+          below_some 512 (λ j. on (get_or hs j no_handle) o) i (omega arith)
+          (subst (λ (x : Handle). T (on x o)) (sym e ∙ get_or_default hs i h no_handle b) (subst T (sym q) tt))
+
+      back : T (open_by hs 512 o) → T (list_any (λ h. on h o) hs)
+      back t = let (i, b, q) = some_of_below 512 (λ j. on (get_or hs j no_handle) o) t in
+          subst T (sym (list_any_at (λ h. on h o) hs i no_handle (omega arith) (is_true (on (get_or hs i no_handle) o) q))) tt

@@ -1,4 +1,4 @@
--- The row of one subject: sixteen places read one by one are its handles, and stored one by one are a row of the tables; and two of its places
+-- The row of one subject: sixteen places without those that an exec drops, and sixteen stored that are a row of the tables; and two of its places
 -- stored as the ends of pipes. Assumes nothing.
 use mathlib.Core.Path.{◌≡◌, refl, sym, ◌∙◌, ap, ap₂, fun_ext}
 use mathlib.Core.Bool.{Bool, true, false, not, ◌||◌, cond}
@@ -22,16 +22,6 @@ use Rattle.tables.specs.Records.{joins, held, no_handle, hands, along, tables_of
 use Rattle.tables.specs.Working.{joining}
 use Rattle.handles.specs.Working.{lasting_of}
 use Rattle.tables.specs.Records.Laws.{store_handle}
-use Rattle.tables.proofs.Maps.{Mapped, Rowed}
-
--- ── reading ──
-pub row_along : (hs l r : List Handle) (s i : ℕ) → 16 ≤ i → Mapped no_handle (λ j x. get_or hs (s * 16 + j) no_handle) l r i
-    → (p : ℕ) → along r p ≡ hands hs s p
-row_along hs l r s i full m p = go (ltb p 16) refl
-  where
-    go : (b : Bool) → ltb p 16 ≡ b → along r p ≡ hands hs s p
-    go true e = rw (e, m.done p (omega (arith, ltb-true p 16 e)))
-    go false e = rw e
 
 -- ── without those that an exec drops ──
 lasting_held : (h : Handle) → held (lasting_of h) ≡ lasting (held h)
@@ -51,20 +41,21 @@ lasting_held h = go (eqb h.mark 0) (eqb h.way 3) ∙ sym (dropped (eqb h.way 0))
     go true false = refl
     go false d = refl
 
-pub lasting_along : (l r : List Handle) (i : ℕ) → 16 ≤ i → Mapped no_handle (λ j x. lasting_of x) l r i → (p : ℕ) → along r p ≡ lasting (along l p)
-lasting_along l r i full m p = go (ltb p 16) refl
+pub lasting_along : (l r : List Handle) → ((p : ℕ) → p < 16 → get_or r p no_handle ≡ lasting_of (get_or l p no_handle)) → (p : ℕ) → along r p ≡ lasting (along l p)
+lasting_along l r m p = go (ltb p 16) refl
   where
     go : (b : Bool) → ltb p 16 ≡ b → along r p ≡ lasting (along l p)
-    go true e = rw (e, m.done p (omega (arith, ltb-true p 16 e))) (lasting_held (get_or l p no_handle))
+    go true e = rw (e, m p (ltb-true p 16 e)) (lasting_held (get_or l p no_handle))
     go false e = rw e
 
 -- ── storing ──
-module _ (hs r places : List Handle) (c i : ℕ) (full : i ≡ 16) (m : Rowed no_handle (λ q. get_or places q no_handle) hs r (c * 16) i) where
+module _ (hs r places : List Handle) (c : ℕ) (inside : (q : ℕ) → q < 16 → get_or r (c * 16 + q) no_handle ≡ get_or places q no_handle)
+    (outside : (j : ℕ) → (j < c * 16) ⊎ (c * 16 + 16 ≤ j) → get_or r j no_handle ≡ get_or hs j no_handle) where
   row_at : (s q : ℕ) (b : Bool) → ltb q 16 ≡ b → Dec (c ≡ s) → hands r s q ≡ row (hands hs) c (along places) s q
-  row_at s q true e (yes z) = rw (← z, eq-eqb c c refl, e, m.inside q (omega (arith, ltb-true q 16 e)))
-  row_at s q true e (no nz) = rw (ne_eqb c s nz, e, m.outside (s * 16 + q) (apart (ltb-true q 16 e)))
+  row_at s q true e (yes z) = rw (← z, eq-eqb c c refl, e, inside q (ltb-true q 16 e))
+  row_at s q true e (no nz) = rw (ne_eqb c s nz, e, outside (s * 16 + q) (apart (ltb-true q 16 e)))
     where
-      apart : q < 16 → (s * 16 + q < c * 16) ⊎ (c * 16 + i ≤ s * 16 + q)
+      apart : q < 16 → (s * 16 + q < c * 16) ⊎ (c * 16 + 16 ≤ s * 16 + q)
       apart l = elim (dec_lt s c) [ yes h ↦ inl (omega arith) | no h ↦ inr (omega arith) ]
   row_at s q false e (yes z) = rw (← z, eq-eqb c c refl, e)
   row_at s q false e (no nz) = rw (ne_eqb c s nz, e)

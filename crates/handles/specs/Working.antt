@@ -17,17 +17,14 @@ lasting_of h = cond (eqb h.mark 0) (cond (eqb h.way 3) no_handle h) no_handle
 abbrev pub on : Handle → ℕ → Bool
 on h o = cond (eqb h.way 0) false (eqb h.object o)
 
-abbrev pub slot_of : Handle → ℕ
-slot_of h = cond (eqb h.way 0) 64 (cond (ltb h.object 64) h.object 64)
-
 -- o is open by the first i handle records
 abbrev pub open_by : List Handle → ℕ → ℕ → Bool
 open_by hs i o = some_below i (λ j. on (get_or hs j no_handle) o)
 
--- of the numbers below n, r marks those that g gives for some number below i
-pub record Hits (g : ℕ → ℕ) (n : ℕ) (r : List Bool) (i : ℕ) : Type 0 where
+-- of the numbers below n, r marks those that f finds at some number below i
+pub record Hits (f : ℕ → ℕ → Bool) (n : ℕ) (r : List Bool) (i : ℕ) : Type 0 where
   pub long : length r ≡ n
-  pub at : (x : ℕ) → x < n → get_or r x false ≡ some_below i (λ j. eqb (g j) x)
+  pub at : (x : ℕ) → x < n → get_or r x false ≡ some_below i (λ j. f j x)
 
 abbrev pub outlived_by : Object → Bool → Bool → Object
 outlived_by x was is = cond (ltb x.kind 2) x (cond is x (cond was no_object x))

@@ -11,8 +11,10 @@ ghost use Rattle.tables.specs.declared.Subject.{Subject};
 ghost use Rattle.tables.specs.declared.Object.{Object};
 ghost use Rattle.tables.specs.Records.{no_handle, hands, along, tables_of};
 ghost use Rattle.tables.specs.Working.{Outlives};
-ghost use Rattle.handles.specs.Working.{kept_of, lasting_of, on, slot_of, Hits, outlived_by};
+ghost use Rattle.handles.specs.Handing.{Handed};
+ghost use Rattle.handles.specs.Working.{kept_of, lasting_of, on, Hits, outlived_by};
 
+use std::array;
 use tables::{
     EMPTY, FREE, HANDLES, Handle, MAPS, OBJECTS, Object, PIPE, PLACES, READS, SUBJECTS, Subject,
     WRITES, looks,
@@ -24,26 +26,8 @@ use tables::{
 pub fn kept(h: Handle, subject: Subject, object: Object) -> Handle
     ensures { result ≡ kept_of h subject object }
 {
-    if subject.live == 0 {
-        return Handle {
-            way: EMPTY,
-            object: 0,
-            mark: 0,
-        };
-    }
-    if OBJECTS as u8 <= h.object {
-        return Handle {
-            way: EMPTY,
-            object: 0,
-            mark: 0,
-        };
-    }
-    if object.kind == FREE {
-        return Handle {
-            way: EMPTY,
-            object: 0,
-            mark: 0,
-        };
+    if subject.live == 0 || OBJECTS as u8 <= h.object || object.kind == FREE {
+        return Handle::default();
     }
     h
 }
@@ -56,19 +40,14 @@ pub fn cleaned(
 ) -> [Handle; HANDLES]
     ensures { (rest : Tables) → tables_of rest subjects objects result ≡ clean (tables_of rest subjects objects handles) }
 {
-    let mut r = handles;
-    let mut i: usize = 0;
-    while i < HANDLES {
-        let h = r[i];
-        let s = i / PLACES;
-        let subject = subjects[s];
-        let o = h.object as usize % OBJECTS;
-        let object = objects[o];
-        let k = kept(h, subject, object);
-        r[i] = k;
-        i += 1;
-    }
-    r
+    array::from_fn(|i| {
+        let h = handles[i];
+        kept(
+            h,
+            subjects[i / PLACES],
+            objects[h.object as usize % OBJECTS],
+        )
+    })
 }
 
 // ---- handles on an object, and the end of a pipe ----
@@ -77,68 +56,35 @@ pub fn cleaned(
 fn is_on(h: Handle, o: u8) -> bool
     ensures { result ≡ on h o }
 {
-    if h.way == EMPTY {
-        return false;
-    }
-    h.object == o
+    h.way != EMPTY && h.object == o
 }
 
 // A handle is open on object o.
 pub fn is_open(handles: [Handle; HANDLES], o: u8) -> bool
     ensures { result ≡ open_on (all_handles (with_hand empty (hands handles))) o }
 {
-    let mut i: usize = 0;
-    while i < HANDLES {
-        let h = handles[i];
-        if is_on(h, o) {
-            return true;
-        }
-        i += 1;
-    }
-    false
+    handles.iter().any(|h| is_on(*h, o))
 }
 
 // The record of object o, or a free one where it is a pipe on which no handle is open.
 pub fn outlived(handles: [Handle; HANDLES], object: Object, o: u8) -> Object
     ensures { Outlives handles object o result }
 {
-    if object.kind < PIPE {
+    if object.kind < PIPE || is_open(handles, o) {
         return object;
     }
-    if is_open(handles, o) {
-        return object;
-    }
-    Object {
-        kind: FREE,
-        level: 0,
-        shops: 0,
-    }
+    Object::default()
 }
 
-// The slot that a handle names; OBJECTS for an empty place and for a slot out of range.
-fn slot(h: Handle) -> usize
-    ensures { result ≡ slot_of h }
+// Of each object, whether a handle is open on it.
+fn open_map(handles: [Handle; HANDLES]) -> [bool; OBJECTS]
+    ensures { Hits (λ j. on (get_or handles j no_handle)) 64 result 512 }
 {
-    if h.way == EMPTY {
-        return OBJECTS;
-    }
-    if OBJECTS as u8 <= h.object {
-        return OBJECTS;
-    }
-    h.object as usize
-}
-
-// Of each object, whether a handle is open on it. The last element stands for none.
-fn open_map(handles: [Handle; HANDLES]) -> [bool; OBJECTS + 1]
-    ensures { Hits (λ j. slot_of (get_or handles j no_handle)) 65 result 512 }
-{
-    let mut r = [false; OBJECTS + 1];
-    let mut i: usize = 0;
-    while i < HANDLES {
-        let h = handles[i];
-        let at = slot(h);
-        r[at] = true;
-        i += 1;
+    let mut r = [false; OBJECTS];
+    for h in &handles {
+        if h.way != EMPTY && h.object < OBJECTS as u8 {
+            r[h.object as usize] = true;
+        }
     }
     r
 }
@@ -147,18 +93,8 @@ fn open_map(handles: [Handle; HANDLES]) -> [bool; OBJECTS + 1]
 fn left(x: Object, was: bool, is: bool) -> Object
     ensures { result ≡ outlived_by x was is }
 {
-    if x.kind < PIPE {
-        return x;
-    }
-    if is {
-        return x;
-    }
-    if was {
-        return Object {
-            kind: FREE,
-            level: 0,
-            shops: 0,
-        };
+    if PIPE <= x.kind && was && !is {
+        return Object::default();
     }
     x
 }
@@ -174,15 +110,7 @@ pub fn reaped(
 {
     let was = open_map(before);
     let is = open_map(after);
-    let mut r = objects;
-    let mut i: usize = 0;
-    while i < OBJECTS {
-        let object = r[i];
-        let x = left(object, was[i], is[i]);
-        r[i] = x;
-        i += 1;
-    }
-    r
+    array::from_fn(|i| left(objects[i], was[i], is[i]))
 }
 
 // ---- the ends of pipes
@@ -197,14 +125,11 @@ pub fn with_ends(
     from: u64,
     to: u64,
 ) -> [Handle; HANDLES]
-    ensures { (rest : Tables) (ss : List Subject) (os : List Object) →
-        tables_of rest ss os result ≡ with_hand (tables_of rest ss os handles)
+    ensures { Handed handles result
         (place (place (hands handles) (s % 32) (p % 16) (some (handle reading (from % 64)))) (s % 32) (q % 16) (some (handle writing (to % 64)))) }
 {
-    let reads = looks::joining(READS, from);
-    let writes = looks::joining(WRITES, to);
-    let one = looks::with_handle(handles, s, p, reads);
-    looks::with_handle(one, s, q, writes)
+    let one = looks::with_handle(handles, s, p, looks::joining(READS, from));
+    looks::with_handle(one, s, q, looks::joining(WRITES, to))
 }
 
 // ---- the row of one subject ----
@@ -214,57 +139,26 @@ pub fn row_of(handles: [Handle; HANDLES], s: usize) -> [Handle; PLACES]
     requires { s < 32 }
     ensures { (p : ℕ) → along result p ≡ hands handles s p }
 {
-    let mut r = [Handle {
-        way: EMPTY,
-        object: 0,
-        mark: 0,
-    }; PLACES];
-    let base = s * PLACES;
-    let mut p: usize = 0;
-    while p < PLACES {
-        let at = base + p;
-        let h = handles[at];
-        r[p] = h;
-        p += 1;
-    }
+    let mut r = [Handle::default(); PLACES];
+    r.copy_from_slice(&handles[s * PLACES..(s + 1) * PLACES]);
     r
 }
 
 // The handles with those of subject s made these.
-fn with_row(handles: [Handle; HANDLES], s: usize, places: [Handle; PLACES]) -> [Handle; HANDLES]
+fn with_row(mut handles: [Handle; HANDLES], s: usize, places: [Handle; PLACES]) -> [Handle; HANDLES]
     requires { s < 32 }
-    ensures { (rest : Tables) (ss : List Subject) (os : List Object) →
-        tables_of rest ss os result ≡ with_hand (tables_of rest ss os handles) (row (hands handles) s (along places)) }
+    ensures { Handed handles result (row (hands handles) s (along places)) }
 {
-    let mut r = handles;
-    let base = s * PLACES;
-    let mut p: usize = 0;
-    while p < PLACES {
-        let at = base + p;
-        let h = places[p];
-        r[at] = h;
-        p += 1;
-    }
-    r
+    handles[s * PLACES..(s + 1) * PLACES].copy_from_slice(&places);
+    handles
 }
 
 // A handle record, or an empty one where it is marked or a mapping.
 fn unless_dropped(h: Handle) -> Handle
     ensures { result ≡ lasting_of h }
 {
-    if h.mark != 0 {
-        return Handle {
-            way: EMPTY,
-            object: 0,
-            mark: 0,
-        };
-    }
-    if h.way == MAPS {
-        return Handle {
-            way: EMPTY,
-            object: 0,
-            mark: 0,
-        };
+    if h.mark != 0 || h.way == MAPS {
+        return Handle::default();
     }
     h
 }
@@ -273,47 +167,26 @@ fn unless_dropped(h: Handle) -> Handle
 pub fn lasting(places: [Handle; PLACES]) -> [Handle; PLACES]
     ensures { (p : ℕ) → along result p ≡ lasting (along places p) }
 {
-    let mut r = places;
-    let mut p: usize = 0;
-    while p < PLACES {
-        let h = r[p];
-        let x = unless_dropped(h);
-        r[p] = x;
-        p += 1;
-    }
-    r
+    places.map(unless_dropped)
 }
 
 // The handles once subject c has those of s at the same places, once s has none, and once s has run a program; each number modulo how many there are.
 pub fn forked(handles: [Handle; HANDLES], s: u64, c: u64) -> [Handle; HANDLES]
-    ensures { (rest : Tables) (ss : List Subject) (os : List Object) →
-        tables_of rest ss os result ≡ with_hand (tables_of rest ss os handles) (row (hands handles) (c % 32) (hands handles (s % 32))) }
+    ensures { Handed handles result (row (hands handles) (c % 32) (hands handles (s % 32))) }
 {
-    let i = s as usize % SUBJECTS;
-    let k = c as usize % SUBJECTS;
-    let places = row_of(handles, i);
-    with_row(handles, k, places)
+    let places = row_of(handles, s as usize % SUBJECTS);
+    with_row(handles, c as usize % SUBJECTS, places)
 }
 
 pub fn vacated(handles: [Handle; HANDLES], s: u64) -> [Handle; HANDLES]
-    ensures { (rest : Tables) (ss : List Subject) (os : List Object) →
-        tables_of rest ss os result ≡ with_hand (tables_of rest ss os handles) (row (hands handles) (s % 32) (λ p. none)) }
+    ensures { Handed handles result (row (hands handles) (s % 32) (λ p. none)) }
 {
-    let i = s as usize % SUBJECTS;
-    let places = [Handle {
-        way: EMPTY,
-        object: 0,
-        mark: 0,
-    }; PLACES];
-    with_row(handles, i, places)
+    with_row(handles, s as usize % SUBJECTS, [Handle::default(); PLACES])
 }
 
 pub fn shed(handles: [Handle; HANDLES], s: u64) -> [Handle; HANDLES]
-    ensures { (rest : Tables) (ss : List Subject) (os : List Object) →
-        tables_of rest ss os result ≡ with_hand (tables_of rest ss os handles) (row (hands handles) (s % 32) (λ p. lasting (hands handles (s % 32) p))) }
+    ensures { Handed handles result (row (hands handles) (s % 32) (λ p. lasting (hands handles (s % 32) p))) }
 {
     let i = s as usize % SUBJECTS;
-    let places = row_of(handles, i);
-    let left = lasting(places);
-    with_row(handles, i, left)
+    with_row(handles, i, lasting(row_of(handles, i)))
 }

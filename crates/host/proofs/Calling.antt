@@ -1,5 +1,6 @@
 -- What a call leaves in the state's bytes, and what it is answered. Assumes nothing.
 use mathlib.Core.Path.{◌≡◌, refl, sym, ap, ap₂, ◌∙◌, subst}
+use mathlib.Core.Bool.{true, false, true≢false}
 use mathlib.Core.Option.{some, none-ne-some}
 use mathlib.Core.List.{List}
 use Prim.Native.Nat.{ℕ}
@@ -13,19 +14,19 @@ use Rattle.model.specs.Promise.{Meets}
 use Rattle.model.specs.Tally.{tallied}
 use Rattle.gatekeeper.specs.declared.Monitor.{Monitor}
 use Rattle.tally.specs.declared.Tally.{Tally}
-use Rattle.answers.specs.Telling.{letter_of}
+use Rattle.answers.specs.Telling.{refuses}
 use Rattle.gatekeeper.specs.View.{view, Honest, monitors}
 use Rattle.gatekeeper.specs.View.Laws.{honest_tidy}
 use Rattle.tally.specs.Counting.{counts_of, Tallies}
 use Rattle.stored.specs.State.{state_bytes, Sized, monitor_of, tally_of, Stands, state_view, Stored}
 use Rattle.host.specs.Numbers.{answer_number, answer_in, call_number}
 use Rattle.host.specs.Demand3.{Called}
+use Rattle.host.proofs.Sizing.{state_honest}
 
--- a letter R is that of a refusal
-r_refused : (a : Answer) → letter_of a ≡ 82 → (k : ℕ) × (a ≡ refused k)
-r_refused (allowed l) h = absurd (omega arith)
-r_refused (lowered l k) h = absurd (omega arith)
-r_refused (refused k) h = (k, refl)
+is_refusal : (a : Answer) → refuses a ≡ true → (k : ℕ) × (a ≡ refused k)
+is_refusal (allowed l) h = absurd (cc)
+is_refusal (lowered l k) h = absurd (cc)
+is_refusal (refused k) h = (k, refl)
 
 -- call c was made on the monitor m and the tally y, loaded from the bytes s; it is answered a, and n and z are handed back
 pub record Made (s : List ℕ) (c : Call) (m : Monitor) (y : Tally) (a : Answer) (n : Monitor) (z : Tally) : Type 0 where
@@ -42,12 +43,8 @@ module _ {s : List ℕ} {c : Call} {m : Monitor} {y : Tally} {a : Answer} {n : M
   abbrev t : Tables
   t = clean (state_view s)
 
-  -- what is loaded says nothing of itself
-  honest : Honest (monitor_of s)
-  honest e = absurd (let z : ◌≡◌ {A = ℕ} 0 1 = e in omega arith)
-
   honest_here : Honest m
-  honest_here = subst Honest (sym p.from_monitor) honest
+  honest_here = subst Honest (sym p.from_monitor) (state_honest s)
 
   answered : a ≡ answer t c
   answered = p.meets.answered honest_here ∙ ap (λ (x : Monitor). answer (clean (view x)) c) p.from_monitor
@@ -60,10 +57,10 @@ module _ {s : List ℕ} {c : Call} {m : Monitor} {y : Tally} {a : Answer} {n : M
   meets_here = subst (λ (x : Monitor). Meets monitors x c a n) p.from_monitor p.meets
 
   -- a refused call leaves every byte
-  call_refused : Sized s → letter_of a ≡ 82 → Stored s c s
+  call_refused : Sized s → refuses a ≡ true → Stored s c s
   unfolding tallied
   call_refused size h =
-      let (k, r) = r_refused a h in
+      let (k, r) = is_refusal a h in
       let q : refusal t c ≡ some k = (answered_refused t c k).0 (sym answered ∙ r) in
       record {
         size = size;
@@ -73,18 +70,18 @@ module _ {s : List ℕ} {c : Call} {m : Monitor} {y : Tally} {a : Answer} {n : M
       }
 
   -- any other leaves the bytes of what was handed back
-  call_moved : (letter_of a ≡ 82 → ⊥) → {s' : List ℕ} → Stands s' n z → Stored s c s'
+  call_moved : refuses a ≡ false → {s' : List ℕ} → Stands s' n z → Stored s c s'
   call_moved h k = record {
     size = k.size;
     meets = record {
-      unchanged = λ j w. absurd (h (ap letter_of (answered ∙ w)));
+      unchanged = λ j w. absurd (true≢false (sym (ap refuses (answered ∙ w)) ∙ h));
       answered = λ u. refl;
-      moved = λ u w. k.tables ∙ meets_here.moved honest w;
-      emptied = λ u f. k.whole (meets_here.emptied (honest_tidy (monitor_of s) honest) (λ j e. f j (sym answered ∙ e)));
+      moved = λ u w. k.tables ∙ meets_here.moved (state_honest s) w;
+      emptied = λ u f. k.whole (meets_here.emptied (honest_tidy (monitor_of s) (state_honest s)) (λ j e. f j (sym answered ∙ e)));
       stays = λ u. u;
       neat = λ u. u;
       says = λ u. refl;
-      kept = λ u r. k.right (meets_here.kept (honest_tidy (monitor_of s) honest) r);
+      kept = λ u r. k.right (meets_here.kept (honest_tidy (monitor_of s) (state_honest s)) r);
     };
     counts = ap counts_of k.tally
         ∙ p.counts.counts honest_here
@@ -93,20 +90,16 @@ module _ {s : List ℕ} {c : Call} {m : Monitor} {y : Tally} {a : Answer} {n : M
   }
 
 -- what is returned of a, and read off it
-pub record Numbered (a : Answer) (n : ℕ) : Type 0 where
-  pub number : n ≡ answer_number a
-  pub back : answer_in n ≡ a
-
 module _ {s : List ℕ} {r : Raw} {m : Monitor} {y : Tally} {a : Answer} {n : Monitor} {z : Tally} {k : ℕ}
-    (p : Made s (decode r) m y a n z) (h : Sized s) (e : Numbered a k) where
+    (p : Made s (decode r) m y a n z) (h : Sized s) (number : k ≡ answer_number a) (back : answer_in k ≡ a) where
   called : {s' : List ℕ} → Stored s (decode r) s' → Called s r k s'
-  called q = record { returned = call_answered p k h e.number; told = λ w. e.back ∙ answered p; stored = λ w. q; other = λ w. absurd (w h) }
+  called q = record { returned = call_answered p k h number; told = λ w. back ∙ answered p; stored = λ w. q; other = λ w. absurd (w h) }
 
-  pub called_refused : letter_of a ≡ 82 → Called s r k s
-  called_refused l = called (call_refused p h l)
+  pub called_refused : refuses a ≡ true → {s' : List ℕ} → s' ≡ s → Called s r k s'
+  called_refused l {s'} q = subst (Called s r k) (sym q) (called (call_refused p h l))
 
-  pub called_moved : (letter_of a ≡ 82 → ⊥) → {s' : List ℕ} → Stands s' n z → Called s r k s'
-  called_moved l q = called (call_moved p l q)
+  pub called_moved : refuses a ≡ false → {s' u : List ℕ} → s' ≡ u → Stands u n z → Called s r k s'
+  called_moved l {s'} q w = subst (Called s r k) (sym q) (called (call_moved p l w))
 
 -- bytes of another length
 pub called_unsized : (s : List ℕ) (r : Raw) → (Sized s → ⊥) → Called s r 0 s

@@ -1,5 +1,5 @@
 -- What a typed line leaves in the state's bytes, and what it comes to. Assumes nothing.
-use mathlib.Core.Path.{◌≡◌, refl, sym, ◌∙◌, ap, subst₂}
+use mathlib.Core.Path.{◌≡◌, refl, sym, ◌∙◌, ap, subst, subst₂}
 use mathlib.Core.Bool.{Bool, true, false, true≢false}
 use mathlib.Core.Option.{some}
 use mathlib.Core.List.{List}
@@ -31,6 +31,7 @@ use Rattle.typed.specs.declared.Hand.{Hand}
 use Rattle.typed.specs.Typed.{outcome_of, refused_line, moves, Ran, Handed}
 use Rattle.typed.specs.Typed.Laws.{made_runs, made_rules, made_tables, made_same, made_whole}
 use Rattle.host.specs.Typing.{read_tables, Leaves, Types}
+use Rattle.host.proofs.Sizing.{state_honest}
 
 -- ── bytes as a monitor ──
 module _ (s : List ℕ) where
@@ -63,10 +64,6 @@ module _ (s : List ℕ) where
       ranged : (x : Thing) (e : Entry) → (state_view s).at x ≡ some e → T (in_range x)
       ranged (subject n) e q = by_slot n e (sym (told_subject (monitor_of s) n) ∙ q)
       ranged (object o) e q = tt
-
-  -- what is loaded says nothing of itself
-  state_honest : Honest (monitor_of s)
-  state_honest e = absurd (let z : ◌≡◌ {A = ℕ} 0 1 = e in omega (arith, z))
 
 contrary : {b : Bool} → b ≡ true → b ≡ false → ⊥
 contrary p q = true≢false (sym p ∙ q)
@@ -117,8 +114,8 @@ module _ (s bs : List ℕ) (shell child pipe : ℕ) (m : Monitor) (y : Tally) (r
   here : Handed (monitor_of s) (tally_of s) bs shell child pipe r
   here = subst₂ (λ (x : Monitor) (v : Tally). Handed x v bs shell child pipe r) em ey p
 
-  pub types_still : r.moved ≡ false → Types s bs shell child pipe r.outcome s
-  types_still q = record {
+  still : r.moved ≡ false → Types s bs shell child pipe r.outcome s
+  still q = record {
     no_line = λ _ n. ((here.typed.no_line n).0, refl);
     too_long = λ _ l w e. ((here.typed.too_long l w e).0, refl);
     ran = λ _ l w e. leaves_still s (calls_of shell child pipe l) r.outcome r.monitor r.tally (here.typed.ran l w e) h (sym (here.moved l w e) ∙ q);
@@ -129,13 +126,19 @@ module _ (s bs : List ℕ) (shell child pipe : ℕ) (m : Monitor) (y : Tally) (r
   not_refused : (k : ℕ) → (k ≡ 0 → ⊥) → r.moved ≡ true → r.outcome ≡ refused_line k → ⊥
   not_refused k n q e = contrary q (here.still (λ z. n (sym (ap (λ (o : Outcome). o.refusal) e) ∙ z)))
 
-  pub types_moved : (s' : List ℕ) → Stands s' r.monitor r.tally → r.moved ≡ true → Types s bs shell child pipe r.outcome s'
-  types_moved s' u q = record {
+  moved : r.moved ≡ true → (s' : List ℕ) → Stands s' r.monitor r.tally → Types s bs shell child pipe r.outcome s'
+  moved q s' u = record {
     no_line = λ _ n. absurd (not_refused 18 (λ e. omega (arith, e)) q (here.typed.no_line n).0);
     too_long = λ _ l w e. absurd (not_refused 19 (λ z. omega (arith, z)) q (here.typed.too_long l w e).0);
     ran = λ _ l w e. leaves_moved s (calls_of shell child pipe l) r.outcome r.monitor r.tally (here.typed.ran l w e) s' u (sym (here.moved l w e) ∙ q);
     other = λ n. absurd (n h);
   }
+
+  pub types_still : r.moved ≡ false → {s' : List ℕ} → s' ≡ s → Types s bs shell child pipe r.outcome s'
+  types_still q {s'} e = subst (Types s bs shell child pipe r.outcome) (sym e) (still q)
+
+  pub types_moved : r.moved ≡ true → {s' u : List ℕ} → s' ≡ u → Stands u r.monitor r.tally → Types s bs shell child pipe r.outcome s'
+  types_moved q {s'} e w = subst (Types s bs shell child pipe r.outcome) (sym e) (moved q _ w)
 
 -- bytes of another length
 pub types_unsized : (s bs : List ℕ) (shell child pipe : ℕ) → (Sized s → ⊥) → Types s bs shell child pipe (refused_line 255) s

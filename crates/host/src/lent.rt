@@ -18,91 +18,6 @@ pub struct State {
     pub tally: Tally,
 }
 
-// What a call hands back: the next state, and the answer as a number.
-#[derive(Clone, Copy)]
-struct Stepped {
-    state: State,
-    number: u32,
-}
-
-// The work of a call, with the state by value.
-fn step(state: State, code: u64, a: u64, b: u64, c: u64, d: u64, e: u64, f: u64) -> Stepped
-    ensures { Lends state (direct code a b c d e f) result.number result.state }
-{
-    let m = state.monitor;
-    let t = state.tally;
-    let counted = tally::counted_call(m, t, code, a, b, c, d, e, f);
-    let reply = counted.reply;
-    let answer = reply.answer;
-    let number = crate::to_number(answer);
-    let monitor = reply.monitor;
-    let after = counted.tally;
-    let next = State {
-        monitor: monitor,
-        tally: after,
-    };
-    Stepped {
-        state: next,
-        number: number,
-    }
-}
-
-// What a typed line hands back: the next state, and what the line came to.
-#[derive(Clone, Copy)]
-struct Lined {
-    state: State,
-    outcome: Outcome,
-}
-
-// The work of a typed line, with the state by value.
-fn line_step(state: State, line: &[u8], shell: u64, child: u64, pipe: u64) -> Lined
-    ensures { LendsLine state line.now shell child pipe result.outcome result.state }
-{
-    let m = state.monitor;
-    let t = state.tally;
-    let out = typed::counted_line(m, t, line, shell, child, pipe);
-    let left = out.monitor;
-    let counts = out.tally;
-    let outcome = out.outcome;
-    let next = State {
-        monitor: left,
-        tally: counts,
-    };
-    Lined {
-        state: next,
-        outcome: outcome,
-    }
-}
-
-// The work of `gatekeeper_monitor_assure`, with the state by value.
-fn assured(state: State) -> Stepped
-    ensures { Assures state result.number result.state }
-{
-    let m = state.monitor;
-    let t = state.tally;
-    let monitor = m.assured();
-    let number = monitor.sure as u32;
-    let next = State {
-        monitor: monitor,
-        tally: t,
-    };
-    Stepped {
-        state: next,
-        number: number,
-    }
-}
-
-// The empty tables, without a freeze, and a zero tally.
-fn begun() -> State
-    ensures { Begins result }
-{
-    let monitor = Monitor::empty();
-    State {
-        monitor: monitor,
-        tally: Tally { made: 0, gone: 0 },
-    }
-}
-
 // ---- exported
 
 // The empty tables, without a freeze, and a zero tally, whatever stood there.
@@ -110,8 +25,10 @@ fn begun() -> State
 pub extern "C" fn gatekeeper_monitor_empty(state: &mut State)
     ensures { Begins state.new }
 {
-    let out = begun();
-    *state = out;
+    *state = State {
+        monitor: Monitor::empty(),
+        tally: Tally { made: 0, gone: 0 },
+    };
 }
 
 // The direct counted call on the monitor and the tally that are lent.
@@ -128,10 +45,9 @@ pub extern "C" fn gatekeeper_monitor_call(
 ) -> u32
     ensures { Lends state.old (direct code a b c d e f) result state.new }
 {
-    let was = *state;
-    let out = step(was, code, a, b, c, d, e, f);
-    *state = out.state;
-    out.number
+    let reply = tally::lent_call(state.monitor, &mut state.tally, code, a, b, c, d, e, f);
+    state.monitor = reply.monitor;
+    crate::to_number(reply.answer)
 }
 
 // A typed line on the monitor and the tally that are lent: its calls, made one after the other, or nothing where it is refused.
@@ -145,10 +61,9 @@ pub extern "C" fn gatekeeper_monitor_line(
 ) -> Outcome
     ensures { LendsLine state.old line.now shell child pipe result state.new }
 {
-    let was = *state;
-    let out = line_step(was, line, shell, child, pipe);
-    *state = out.state;
-    out.outcome
+    let replied = typed::lent_line(state.monitor, &mut state.tally, line, shell, child, pipe);
+    state.monitor = replied.monitor;
+    replied.outcome
 }
 
 // A state that says nothing of itself, as one that was loaded from kept bytes or changed by the host, made one that calls may rely on: what dangles is emptied, a slot that repeats a number freed, the needs are
@@ -157,10 +72,8 @@ pub extern "C" fn gatekeeper_monitor_line(
 pub extern "C" fn gatekeeper_monitor_assure(state: &mut State) -> u32
     ensures { Assures state.old result state.new }
 {
-    let was = *state;
-    let out = assured(was);
-    *state = out.state;
-    out.number
+    state.monitor = state.monitor.assured();
+    u32::from(state.monitor.sure)
 }
 
 // An open (code 5 or 6), or a close, that changes no need, done in place on the parts of the struct as they lie in memory; 0, and nothing is touched, where it is not that simple: then

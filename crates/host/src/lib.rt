@@ -5,7 +5,7 @@
 // is lent it crosses in `lent`.
 #![tactic(auto)]
 
-ghost use Rattle.std.specs.Prelude.{◌≡◌, ◌∷◌, [], ◌≤◌, ◌<◌, eqb, length};
+ghost use Rattle.std.specs.Prelude.{◌≡◌, ◌∷◌, [], ◌+◌, ◌*◌, ◌≤◌, ◌<◌, eqb, length};
 ghost use Rattle.std.proofs.Math.Option.{get_or};
 ghost use Rattle.number.specs.Leb.{largest, number};
 ghost use Rattle.number.specs.Put.{put, fitted};
@@ -40,15 +40,19 @@ const UNSIZED_LINE: u64 = 255;
 
 // ---- answers as numbers
 
-// 65,536 times the number of marks lost, 256 times the letter's byte, and the level or the number of the refusal.
+// Three bytes in one number: 65,536 times the first, 256 times the second, and the third.
+fn packed(high: u8, middle: u8, low: u8) -> u32
+    ensures { result ≡ 65536 * high + 256 * middle + low }
+{
+    65536 * u32::from(high) + 256 * u32::from(middle) + u32::from(low)
+}
+
+// The number of marks lost, the letter's byte, and the level or the number of the refusal.
 fn to_number(a: Answer) -> u32
     ensures number { result ≡ answer_number (told a) }
     ensures back { answer_in result ≡ told a }
 {
-    let letter = answers::letter(a);
-    let value = answers::value(a);
-    let lost = answers::lost(a);
-    65536 * (lost as u32) + 256 * (letter as u32) + value as u32
+    packed(answers::lost(a), answers::letter(a), answers::value(a))
 }
 
 // ---- exported
@@ -76,14 +80,10 @@ pub extern "C" fn gatekeeper_empty(state: &mut [u8]) -> bool
     ensures buffer { state.new ≡ sized state.old blank_bytes state.old }
     ensures tables { Sized state.old → Blank state.new }
 {
-    if state.len() != STATE_BYTES {
+    let Some(state) = state.as_mut_array::<STATE_BYTES>() else {
         return false;
-    }
-    let mut i: usize = 0;
-    while i < state.len() {
-        state[i] = 0;
-        i += 1;
-    }
+    };
+    state.fill(0);
     state[FREEZE_AT] = NO_FREEZE;
     true
 }
@@ -102,22 +102,16 @@ pub extern "C" fn gatekeeper_call(
 ) -> u32
     ensures { Called state.old (direct code a b c d e f) result state.new }
 {
-    if state.len() != STATE_BYTES {
+    let Some(state) = state.as_mut_array::<STATE_BYTES>() else {
         return UNSIZED;
+    };
+    let monitor = stored::load_monitor(&state[..]);
+    let mut tally = stored::load_tally(&state[..]);
+    let reply = tally::lent_call(monitor, &mut tally, code, a, b, c, d, e, f);
+    if !answers::is_refused(reply.answer) {
+        stored::store(&mut state[..], reply.monitor, tally);
     }
-    let m = stored::load_monitor(&state[..]);
-    let tally = stored::load_tally(&state[..]);
-    let counted = tally::counted_call(m, tally, code, a, b, c, d, e, f);
-    let reply = counted.reply;
-    let answer = reply.answer;
-    let r = to_number(answer);
-    if answers::letter(answer) == b'R' {
-        return r;
-    }
-    let monitor = reply.monitor;
-    let after = counted.tally;
-    stored::store(state, monitor, after);
-    r
+    to_number(reply.answer)
 }
 
 // A typed line on the monitor and the tally that the bytes stand for: its calls, made one after the other, or nothing where it is refused; `UNSIZED_LINE`, and nothing is touched,
@@ -132,25 +126,21 @@ pub extern "C" fn gatekeeper_line(
 ) -> Outcome
     ensures { Types state.old line.now shell child pipe result state.new }
 {
-    if state.len() != STATE_BYTES {
+    let Some(state) = state.as_mut_array::<STATE_BYTES>() else {
         return Outcome {
             allowed: 0,
             lowered: 0,
             refused: 0,
             refusal: UNSIZED_LINE,
         };
-    }
-    let m = stored::load_monitor(&state[..]);
+    };
+    let monitor = stored::load_monitor(&state[..]);
     let tally = stored::load_tally(&state[..]);
-    let out = typed::counted_line(m, tally, line, shell, child, pipe);
-    let outcome = out.outcome;
-    if !out.moved {
-        return outcome;
+    let out = typed::counted_line(monitor, tally, line, shell, child, pipe);
+    if out.moved {
+        stored::store(&mut state[..], out.monitor, out.tally);
     }
-    let monitor = out.monitor;
-    let counts = out.tally;
-    stored::store(state, monitor, counts);
-    outcome
+    out.outcome
 }
 
 // Handles made, over the history of calls; 0 where the bytes have another length.
@@ -158,9 +148,9 @@ pub extern "C" fn gatekeeper_line(
 pub extern "C" fn gatekeeper_made(state: &[u8]) -> u64
     ensures { result ≡ sized state.now (made_of state.now) 0 }
 {
-    if state.len() != STATE_BYTES {
+    let Some(state) = state.as_array::<STATE_BYTES>() else {
         return 0;
-    }
+    };
     stored::load_number(state, MADE_AT)
 }
 
@@ -169,9 +159,9 @@ pub extern "C" fn gatekeeper_made(state: &[u8]) -> u64
 pub extern "C" fn gatekeeper_gone(state: &[u8]) -> u64
     ensures { result ≡ sized state.now (gone_of state.now) 0 }
 {
-    if state.len() != STATE_BYTES {
+    let Some(state) = state.as_array::<STATE_BYTES>() else {
         return 0;
-    }
+    };
     stored::load_number(state, GONE_AT)
 }
 

@@ -3,11 +3,12 @@ use mathlib.Core.Path.{◌≡◌, refl, sym, ap, ◌∙◌}
 use Prim.Native.Nat.{ℕ, zero, suc, ◌-◌, ◌≤◌}
 use native.Mathlib.Omega.{arith}
 use native.Mathlib.Numerals.{sub-one}
+use Rattle.std.specs.Prelude.{Option, Some, None}
+use Rattle.std.specs.Option.{option_map}
 use mathlib.Core.Bool.{Bool, cond}
 use mathlib.Core.List.{List, [], ◌∷◌}
-use mathlib.Core.Option.{Option, none, some, map}
 use lib.ListN.{length, take, drop}
-use Rattle.number.specs.Leb.{largest, Reading, good, malformed, number}
+use Rattle.number.specs.Leb.{largest, Reading, good, number}
 use Rattle.number.specs.Leb.Laws.{number_within}
 use Rattle.number.specs.Put.Laws.{rest_is}
 use Rattle.journal.specs.Answers.{refused, said}
@@ -24,13 +25,13 @@ used_within s v u e = (number_within largest s v u (sym e)).1
 
 -- ---- a call's numbers
 
-pub arguments_none : (n : ℕ) (s : List ℕ) → n ≡ 0 → length s ≡ 0 → some (filled most_numbers []) ≡ arguments_in n s
+pub arguments_none : (n : ℕ) (s : List ℕ) → n ≡ 0 → length s ≡ 0 → Some (filled most_numbers []) ≡ arguments_in n s
 unfolding arguments_in numbers_in
 arguments_none zero [] z e = refl
 arguments_none zero (b ∷ s) z e = absurd (omega arith)
 arguments_none (suc n) s z e = absurd (omega arith)
 
-pub arguments_left : (n : ℕ) (s : List ℕ) → n ≡ 0 → (length s ≡ 0 → ⊥) → none ≡ arguments_in n s
+pub arguments_left : (n : ℕ) (s : List ℕ) → n ≡ 0 → (length s ≡ 0 → ⊥) → None ≡ arguments_in n s
 unfolding arguments_in numbers_in
 arguments_left zero [] z e = absurd (e refl)
 arguments_left zero (b ∷ s) z e = refl
@@ -41,33 +42,33 @@ unfolding numbers_in
 numbers_step zero s z = absurd (z refl)
 numbers_step (suc n) s z = ap (λ (k : ℕ). and_then (number largest s) s (numbers_in k)) (sym (sub-one (suc n)))
 
-pub arguments_malformed : (n : ℕ) (s : List ℕ) → (n ≡ 0 → ⊥) → malformed ≡ number largest s → none ≡ arguments_in n s
+pub arguments_malformed : (n : ℕ) (s : List ℕ) → (n ≡ 0 → ⊥) → None ≡ number largest s → None ≡ arguments_in n s
 unfolding arguments_in
 arguments_malformed n s z e =
-    ap (λ (r : Reading). map (filled most_numbers) (and_then r s (numbers_in (n - 1)))) e ∙ ap (map (filled most_numbers))
+    ap (λ (r : Reading). option_map (filled most_numbers) (and_then r s (numbers_in (n - 1)))) e ∙ ap (option_map (filled most_numbers))
     (sym (numbers_step n s z))
 
 -- a number v of u bytes was read, and o is what was found after it
 pub arguments_next : (n : ℕ) (s : List ℕ) → (n ≡ 0 → ⊥) → (v u : ℕ) → good v u ≡ number largest s
     → (o : Option (List ℕ)) → o ≡ arguments_in (n - 1) (after u s)
-    → map (λ (ns : List ℕ). take most_numbers (v ∷ ns)) o ≡ arguments_in n s
+    → option_map (λ (ns : List ℕ). take most_numbers (v ∷ ns)) o ≡ arguments_in n s
 unfolding arguments_in
 arguments_next n s z v u e o q =
-    ap (map (λ (ns : List ℕ). take most_numbers (v ∷ ns))) q
+    ap (option_map (λ (ns : List ℕ). take most_numbers (v ∷ ns))) q
     ∙ by_rest (numbers_in (n - 1) (after u s))
-    ∙ ap (λ (t : List ℕ). map (filled most_numbers) (map (λ (ns : List ℕ). v ∷ ns) (numbers_in (n - 1) t))) (rest_is u s)
-    ∙ ap (λ (r : Reading). map (filled most_numbers) (and_then r s (numbers_in (n - 1)))) e
-    ∙ ap (map (filled most_numbers)) (sym (numbers_step n s z))
+    ∙ ap (λ (t : List ℕ). option_map (filled most_numbers) (option_map (λ (ns : List ℕ). v ∷ ns) (numbers_in (n - 1) t))) (rest_is u s)
+    ∙ ap (λ (r : Reading). option_map (filled most_numbers) (and_then r s (numbers_in (n - 1)))) e
+    ∙ ap (option_map (filled most_numbers)) (sym (numbers_step n s z))
   where
     by_rest : (o : Option (List ℕ))
-        → map (λ (ns : List ℕ). take most_numbers (v ∷ ns)) (map (filled most_numbers) o)
-        ≡ map (filled most_numbers) (map (λ (ns : List ℕ). v ∷ ns) o)
-    by_rest none = refl
-    by_rest (some ns) = ap some (sym (filled_next most_numbers v ns))
+        → option_map (λ (ns : List ℕ). take most_numbers (v ∷ ns)) (option_map (filled most_numbers) o)
+        ≡ option_map (filled most_numbers) (option_map (λ (ns : List ℕ). v ∷ ns) o)
+    by_rest None = refl
+    by_rest (Some ns) = ap Some (sym (filled_next most_numbers v ns))
 
 -- ---- a body
 
-pub body_malformed : (s : List ℕ) → malformed ≡ number largest s → said 0 (refused 12) ≡ body_in s
+pub body_malformed : (s : List ℕ) → None ≡ number largest s → said 0 (refused 12) ≡ body_in s
 unfolding body_in
 body_malformed s e = ap (λ (r : Reading). coded r s) e
 

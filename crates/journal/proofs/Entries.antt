@@ -3,10 +3,11 @@
 use mathlib.Core.Path.{◌≡◌, sym, ap, ◌∙◌}
 use Prim.Native.Nat.{ℕ, ◌+◌, ◌-◌, ◌≤◌, ◌<◌}
 use native.Mathlib.Omega.{arith}
+use Rattle.std.specs.Prelude.{None}
 use mathlib.Core.List.{List}
 use lib.ListN.{length, take, drop, length-drop}
 use borrow.Author.Tests.{lt-ltb, le-ltb}
-use Rattle.number.specs.Leb.{largest, Reading, good, malformed, number}
+use Rattle.number.specs.Leb.{largest, Reading, good, number}
 use Rattle.number.specs.Leb.Laws.{number_within}
 use Rattle.number.specs.Put.Laws.{rest_is}
 use Rattle.journal.specs.Answers.{answers, refused, body, end}
@@ -29,7 +30,7 @@ module _ {s : List ℕ} {at : ℕ} {r : Reading} (read : Read s at r) where
   unfolding entry_at
   entry_is = simp (lt-ltb at (length s) read.full) (ap (sized s at) here)
 
-pub entry_malformed : {s : List ℕ} {at : ℕ} → Read s at malformed → refused 11 ≡ entry_at s at
+pub entry_malformed : {s : List ℕ} {at : ℕ} → Read s at None → refused 11 ≡ entry_at s at
 entry_malformed read = entry_is read
 
 module _ {s : List ℕ} {at len k : ℕ} (read : Read s at (good len k)) where

@@ -3,9 +3,9 @@
 use mathlib.Core.Path.{◌≡◌, sym, ap, ◌∙◌}
 use Prim.Native.Nat.{ℕ, suc, ◌+◌, ◌-◌, ◌≤◌, ◌<◌}
 use native.Mathlib.Omega.{arith}
+use Rattle.std.specs.Prelude.{Option, Some}
+use Rattle.std.proofs.lemmas.Option.{same_Some}
 use mathlib.Core.List.{List, ◌∷◌, ◌++◌, append_assoc}
-use mathlib.Core.Option
-use mathlib.Core.Option.{Option}
 use lib.ListN.{length, take, drop, get_or, length-append, length-drop}
 use lib.Seq.{take_at, drop_at, drop-drop}
 use borrow.Author.Tests.{lt-ltb, le-ltb}
@@ -57,13 +57,18 @@ module _ {ns b : List ℕ} {i : ℕ} {out : List ℕ} {at : ℕ} (g : Going ns b
   room_left : length one ≤ length (drop at out)
   room_left = omega (arith, fits, out_length, length-drop at out)
 
-  pub next_count : (w : Option ℕ) → w ≡ fitted (encode (get_or ns i 0)) (take (length out - at) (drop at out))
-      → at + Option.get_or w 0 ≡ length (encodes (take (i + 1) ns))
+  -- how many bytes the writer of one number answers
+  pub next_wrote : (w : Option ℕ) → w ≡ fitted (encode (get_or ns i 0)) (take (length out - at) (drop at out))
+      → w ≡ Some (length (encode (get_or ns i 0)))
   unfolding so_far one
-  next_count w q =
-      let answer = q ∙ ap (fitted one) (rest_is at out) ∙ fitted_fits one (drop at out) room_left in
-      let k : Option.get_or w 0 ≡ length one = ap (λ (x : Option ℕ). Option.get_or x 0) answer in
-      omega (arith, k, ap length next_is, length-append so_far one, g.count)
+  next_wrote w q = q ∙ ap (fitted one) (rest_is at out) ∙ fitted_fits one (drop at out) room_left
+
+  pub next_count : (k : ℕ) → Some k ≡ fitted (encode (get_or ns i 0)) (take (length out - at) (drop at out))
+      → at + k ≡ length (encodes (take (i + 1) ns))
+  unfolding so_far one
+  next_count k q =
+      let wrote : k ≡ length one = same_Some k (length one) (next_wrote (Some k) q) in
+      omega (arith, wrote, ap length next_is, length-append so_far one, g.count)
 
   pub next_out : (ys : List ℕ) → ys ≡ put (encode (get_or ns i 0)) (take (length out - at) (drop at out))
       → put_mid at (length out - at) out ys ≡ put (encodes (take (i + 1) ns)) b

@@ -1,16 +1,14 @@
--- What the journal's functions answer, and what each case of their enums means (RULES G9): a refusal has its number of
--- RULES R1 to R13, and any other case its values. Assumes nothing.
-use Rattle.std.specs.Prelude.{ℕ, List, [], ◌∷◌}
-use Rattle.std.proofs.Math.Option.{Option, none, some}
-use Rattle.journal.specs.declared.Numbers.{Numbers}
-use Rattle.journal.specs.declared.Entry.{Entry}
-use Rattle.journal.specs.declared.Entry.TheVariants.{Record, Broken, End}
-use Rattle.journal.specs.declared.Args.{Args}
-use Rattle.journal.specs.declared.Args.TheVariants.{All, Bad as BadArgs}
-use Rattle.journal.specs.declared.Body.{Body}
-use Rattle.journal.specs.declared.Body.TheVariants.{Whole, Unknown, Bad}
-use Rattle.journal.specs.declared.Recorded.{Recorded}
-use Rattle.journal.specs.declared.Recorded.TheVariants.{Length, Unknown as UnknownCode, TooLong}
+-- What the journal's functions answer (RULES G9): a refusal has its number of RULES R1 to R13, and any other case its
+-- values. Assumes nothing.
+use Rattle.std.specs.Prelude.{ℕ, List, [], ◌∷◌, Option, Some, None, Result, Ok, Err}
+use Rattle.calls.specs.declared.Numbers.{Numbers}
+use Rattle.journal.specs.declared.Record.{Record}
+use Rattle.journal.specs.declared.Broken.{Broken}
+use Rattle.calls.specs.declared.Call.{Call}
+use Rattle.journal.specs.declared.BadBody.{BadBody}
+use Rattle.journal.specs.declared.BadBody.TheVariants.{Unknown, Malformed}
+use Rattle.journal.specs.declared.RecordError.{RecordError}
+use Rattle.journal.specs.declared.RecordError.TheVariants.{UnknownCode, TooLong}
 
 -- RULES R101: what was asked for, or the refusal's number
 pub data Answer (A : Type 0) : Type 0 where
@@ -25,10 +23,10 @@ pub data Next : Type 0 where
   body : (start len next : ℕ) → Next
   end : Next
 
-abbrev pub entry-answer : Entry → Answer Next
-entry-answer (Record start len next) = answers (body start len next)
-entry-answer Broken = refused 11
-entry-answer End = answers end
+abbrev pub entry_answer : Result (Option Record) Broken → Answer Next
+entry_answer (Ok (Some r)) = answers (body r.start r.len r.next)
+entry_answer (Ok None) = answers end
+entry_answer (Err broken) = refused 11
 
 -- ---- the body reader
 
@@ -39,25 +37,20 @@ pub data Said : Type 0 where
 abbrev pub numbers_of : Numbers → List ℕ
 numbers_of ns = ns.a ∷ ns.b ∷ ns.c ∷ ns.d ∷ ns.e ∷ ns.f ∷ []
 
-abbrev pub body-answer : Body → Said
-body-answer (Whole call) = said call.code (answers (numbers_of call.numbers))
-body-answer (Unknown code) = said code (refused 1)
-body-answer (Bad code) = said code (refused 12)
-
--- the numbers alone; none where one is malformed or missing, or bytes are left
-abbrev pub args-answer : Args → Option (List ℕ)
-args-answer (All ns) = some (numbers_of ns)
-args-answer BadArgs = none
+abbrev pub body_answer : Result Call BadBody → Said
+body_answer (Ok call) = said call.code (answers (numbers_of call.numbers))
+body_answer (Err (Unknown code)) = said code (refused 1)
+body_answer (Err (Malformed code)) = said code (refused 12)
 
 -- ---- the record writer
 
 -- RULES J22: the record's length
-abbrev pub record-answer : Recorded → Answer ℕ
-record-answer (Length n) = answers n
-record-answer UnknownCode = refused 1
-record-answer TooLong = refused 13
+abbrev pub record_answer : Result ℕ RecordError → Answer ℕ
+record_answer (Ok n) = answers n
+record_answer (Err UnknownCode) = refused 1
+record_answer (Err TooLong) = refused 13
 
 -- 0 where nothing was written
-abbrev pub length-in : Answer ℕ → ℕ
-length-in (answers n) = n
-length-in (refused r) = 0
+abbrev pub length_in : Answer ℕ → ℕ
+length_in (answers n) = n
+length_in (refused r) = 0

@@ -1,9 +1,9 @@
 -- Records as the reader finds them. States RULES J8 to J17 and J19, and RULES R1, R11 and R12 of a record. In
 -- order: what stands at an offset of a journal; a part of it; what a body says; both together. The laws are in Journal/Laws. Assumes nothing.
-use Rattle.std.specs.Prelude.{◌≡◌, ℕ, zero, suc, ◌+◌, ◌≤◌, cond, List, [], ◌∷◌, ltb, length, take, drop}
-use Rattle.std.proofs.Math.Option.{Option, none, some, map}
+use Rattle.std.specs.Prelude.{◌≡◌, ℕ, zero, suc, ◌+◌, ◌≤◌, cond, Option, Some, None, List, [], ◌∷◌, ltb, length, take, drop}
+use Rattle.std.specs.Option.{option_map}
 use Rattle.std.specs.Borrow.{Bor}
-use Rattle.number.specs.Leb.{largest, Reading, good, malformed, number}
+use Rattle.number.specs.Leb.{largest, Reading, number}
 use Rattle.journal.specs.Answers.{Answer, answers, refused, Next, body, end, Said, said}
 use Rattle.journal.specs.Calls.{most_numbers, arity_of, known, filled}
 pub mod Laws
@@ -12,9 +12,9 @@ pub mod Laws
 
 -- RULES R11, J10: a length that is malformed or leads beyond the last byte is refused; the next record is where the body ends
 abbrev pub sized : List ℕ → ℕ → Reading → Answer Next
-sized journal at (good len used) =
+sized journal at (Some (len, used)) =
     cond (ltb (length journal) (at + used + len)) (refused 11) (answers (body (at + used) len (at + used + len)))
-sized journal at malformed = refused 11
+sized journal at None = refused 11
 
 -- RULES J8, J11, J12: the record at an offset; from the end of the journal on there is none
 unfoldable pub entry_at : List ℕ → ℕ → Answer Next
@@ -31,28 +31,28 @@ pub record Part (journal : Bor (List ℕ)) (start len : ℕ) (part : Bor (List �
 
 -- a number, then what f finds after it; a number that is missing is cut off
 abbrev pub and_then : Reading → List ℕ → (List ℕ → Option (List ℕ)) → Option (List ℕ)
-and_then (good n used) bs f = map (λ ns. n ∷ ns) (f (drop used bs))
-and_then malformed bs f = none
+and_then (Some (n, used)) bs f = option_map (λ ns. n ∷ ns) (f (drop used bs))
+and_then None bs f = None
 
 -- RULES J15, J16: k numbers; none where one is malformed or missing, or bytes are left
 unfoldable pub numbers_in : ℕ → List ℕ → Option (List ℕ)
-numbers_in zero [] = some []
-numbers_in zero (b ∷ bs) = none
+numbers_in zero [] = Some []
+numbers_in zero (b ∷ bs) = None
 numbers_in (suc k) bs = and_then (number largest bs) bs (numbers_in k)
 
 -- RULES J17: the same as the numbers of a direct call
 unfoldable pub arguments_in : ℕ → List ℕ → Option (List ℕ)
-arguments_in k bs = map (filled most_numbers) (numbers_in k bs)
+arguments_in k bs = option_map (filled most_numbers) (numbers_in k bs)
 
 -- RULES R12: refused where there are none
 abbrev pub call_with : Option (List ℕ) → Answer (List ℕ)
-call_with none = refused 12
-call_with (some ns) = answers ns
+call_with None = refused 12
+call_with (Some ns) = answers ns
 
 -- RULES J13, J14, R107: without a good code refused with 12; an unknown code with 1, and what follows is not looked at
 abbrev pub coded : Reading → List ℕ → Said
-coded (good code used) bs = said code (cond (known code) (call_with (arguments_in (arity_of code) (drop used bs))) (refused 1))
-coded malformed bs = said 0 (refused 12)
+coded (Some (code, used)) bs = said code (cond (known code) (call_with (arguments_in (arity_of code) (drop used bs))) (refused 1))
+coded None bs = said 0 (refused 12)
 
 unfoldable pub body_in : List ℕ → Said
 body_in bs = coded (number largest bs) bs

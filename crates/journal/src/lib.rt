@@ -3,24 +3,20 @@
 #![tactic(auto)]
 
 ghost use Rattle.std.specs.Prelude.{◌≡◌, ◌+◌, ◌≤◌, length};
-ghost use Rattle.std.proofs.Math.Option.{get_or};
+ghost use Rattle.std.specs.Option.{option_map};
 ghost use Rattle.number.specs.Put.{put};
-ghost use Rattle.number.specs.Answers.{writing};
-ghost use Rattle.journal.specs.Answers.{numbers_of, entry-answer, args-answer, body-answer, record-answer, length-in};
+ghost use Rattle.journal.specs.Answers.{numbers_of, entry_answer, body_answer, record_answer, length_in};
 ghost use Rattle.journal.specs.Calls.{most_numbers, arity_of};
 ghost use Rattle.journal.specs.Record.{encodes, fitting, recording, recorded};
 ghost use Rattle.journal.specs.Journal.{Part, entry_at, arguments_in, body_in};
 
-use number::{Number, Written};
+use calls::{Call, Numbers};
 
 // The longest record, in bytes: a buffer of this size is never too short.
 pub const LONGEST_RECORD: usize = 62;
 
-// One more than the largest code.
-const CODES: usize = 19;
-
 // How many numbers the call of each code takes, from code 0 on; every call takes one, and 0 says that there is no such call.
-const ARITIES: [usize; CODES] = [
+const ARITIES: [usize; 19] = [
     0, // no call
     3, // admit s, level, set
     3, // register o, level, set
@@ -46,46 +42,41 @@ const ARITIES: [usize; CODES] = [
 fn arity(code: u64) -> usize
     ensures { result ≡ arity_of code }
 {
-    let row = code as usize;
-    if row < CODES { ARITIES[row] } else { 0 }
+    ARITIES.get(code as usize).copied().unwrap_or(0)
 }
 
 // ---- reading
 
-// What stands at an offset of a journal.
-#[derive(Clone, Copy)]
-pub enum Entry {
-    // A record: its body starts at `start` and has `len` bytes, and the next record is at `next`.
-    Record {
-        start: usize,
-        len: usize,
-        next: usize,
-    },
-    // Refusal 11: a length that is malformed, or that runs past the end.
-    Broken,
-    // No record is left.
-    End,
+// A record of a journal: its body starts at `start` and has `len` bytes, and the next record is at `next`.
+#[derive(Clone, Copy, Debug, PartialEq, Eq)]
+pub struct Record {
+    pub start: usize,
+    pub len: usize,
+    pub next: usize,
 }
 
-// What stands at the offset `at`, which may be any number.
-fn record_at(journal: &[u8], at: usize) -> Entry
-    ensures { entry-answer result ≡ entry_at journal.now at }
+// Refusal 11: a length that is malformed, or that runs past the end.
+#[derive(Clone, Copy, Debug, PartialEq, Eq)]
+pub struct Broken;
+
+// The record at the offset `at` of a journal, which may be any number; none where no record is left. Every caller with a journal and
+// an offset of its own asks this.
+pub fn entry_at(journal: &[u8], at: usize) -> Result<Option<Record>, Broken>
+    ensures { entry_answer result ≡ entry_at journal.now at }
 {
     if journal.len() <= at {
-        return Entry::End;
+        return Ok(None);
     }
-    match number::read_number(&journal[at..]) {
-        Number::Good { value, used } => {
-            let start = at + used;
-            let len = value as usize;
-            if journal.len() - start < len {
-                return Entry::Broken;
-            }
-            let next = start + len;
-            Entry::Record { start, len, next }
-        }
-        Number::Malformed => Entry::Broken,
+    let Some((value, used)) = number::read_number(&journal[at..]) else {
+        return Err(Broken);
+    };
+    let start = at + used;
+    let len = value as usize;
+    if journal.len() - start < len {
+        return Err(Broken);
     }
+    let next = start + len;
+    Ok(Some(Record { start, len, next }))
 }
 
 // The `len` bytes from `start`, or as many of them as the journal has: a part of the journal, and no copy.
@@ -116,11 +107,11 @@ impl<'a> Reader<'a> {
         Reader { journal, at: 0 }
     }
 
-    // What stands at its offset.
-    pub fn next(self) -> Entry
-        ensures { entry-answer result ≡ entry_at self.entry.journal.now self.entry.at }
+    // The record at its offset; none where no record is left.
+    pub fn next(self) -> Result<Option<Record>, Broken>
+        ensures { entry_answer result ≡ entry_at self.entry.journal.now self.entry.at }
     {
-        record_at(self.journal, self.at)
+        entry_at(self.journal, self.at)
     }
 
     // The reader of the same journal, moved on.
@@ -141,113 +132,61 @@ impl<'a> Reader<'a> {
     }
 }
 
-// What a reader finds at an offset of a journal, which may be any number. Every caller with a journal and an offset of its own asks this.
-pub fn entry_at(journal: &[u8], at: usize) -> Entry
-    ensures { entry-answer result ≡ entry_at journal.now at }
-{
-    Reader { journal, at }.next()
-}
-
-// The numbers of a call, 0 for those that its code does not use.
-#[derive(Clone, Copy)]
-pub struct Numbers {
-    pub a: u64,
-    pub b: u64,
-    pub c: u64,
-    pub d: u64,
-    pub e: u64,
-    pub f: u64,
-}
-
-// A call, as it stands in a record and as a direct call takes it.
-#[derive(Clone, Copy)]
-pub struct Call {
-    pub code: u64,
-    pub numbers: Numbers,
-}
-
-// What a body says.
-#[derive(Clone, Copy)]
-pub enum Body {
-    // A call, with exactly its numbers.
-    Whole(Call),
+// Why a body says no call.
+#[derive(Clone, Copy, Debug, PartialEq, Eq)]
+pub enum BadBody {
     // Refusal 1: a code that is no call's. The rest of the body is skipped.
     Unknown(u64),
     // Refusal 12: a number is malformed, missing or left over. The code is 0 where none was read.
-    Bad(u64),
+    Malformed(u64),
 }
 
-// The numbers of a call, or that one is malformed, missing or left over.
-#[derive(Clone, Copy)]
-enum Args {
-    All(Numbers),
-    Bad,
-}
-
-// `n` numbers and nothing after them.
-fn read_numbers(body: &[u8], n: usize) -> Args
-    ensures { args-answer result ≡ arguments_in n body.now }
+// `n` numbers and nothing after them; none where one is malformed, missing or left over.
+fn read_numbers(body: &[u8], n: usize) -> Option<Numbers>
+    ensures { option_map numbers_of result ≡ arguments_in n body.now }
 {
     if n == 0 {
         if body.len() == 0 {
-            return Args::All(Numbers {
-                a: 0,
-                b: 0,
-                c: 0,
-                d: 0,
-                e: 0,
-                f: 0,
-            });
+            return Some(Numbers::default());
         }
-        return Args::Bad;
+        return None;
     }
-    match number::read_number(body) {
-        Number::Good { value, used } => match read_numbers(&body[used..], n - 1) {
-            Args::All(rest) => Args::All(Numbers {
-                a: value,
-                b: rest.a,
-                c: rest.b,
-                d: rest.c,
-                e: rest.d,
-                f: rest.e,
-            }),
-            Args::Bad => Args::Bad,
-        },
-        Number::Malformed => Args::Bad,
-    }
+    let (value, used) = number::read_number(body)?;
+    let rest = read_numbers(&body[used..], n - 1)?;
+    Some(Numbers {
+        a: value,
+        b: rest.a,
+        c: rest.b,
+        d: rest.c,
+        e: rest.d,
+        f: rest.e,
+    })
 }
 
-// What the bytes of a body say.
-pub fn read_body(body: &[u8]) -> Body
-    ensures { body-answer result ≡ body_in body.now }
+// The call that a body says, with exactly its numbers.
+pub fn read_body(body: &[u8]) -> Result<Call, BadBody>
+    ensures { body_answer result ≡ body_in body.now }
 {
-    match number::read_number(body) {
-        Number::Good { value, used } => {
-            let n = arity(value);
-            if n == 0 {
-                return Body::Unknown(value);
-            }
-            match read_numbers(&body[used..], n) {
-                Args::All(numbers) => Body::Whole(Call {
-                    code: value,
-                    numbers,
-                }),
-                Args::Bad => Body::Bad(value),
-            }
-        }
-        Number::Malformed => Body::Bad(0),
+    let Some((code, used)) = number::read_number(body) else {
+        return Err(BadBody::Malformed(0));
+    };
+    let n = arity(code);
+    if n == 0 {
+        return Err(BadBody::Unknown(code));
     }
+    let Some(numbers) = read_numbers(&body[used..], n) else {
+        return Err(BadBody::Malformed(code));
+    };
+    Ok(Call { code, numbers })
 }
 
 // ---- writing
 
-// What writing a record answers.
-#[derive(Clone, Copy)]
-pub enum Recorded {
-    // The record's length in bytes.
-    Length(usize),
+// Why no record is written.
+#[derive(Clone, Copy, Debug, PartialEq, Eq)]
+pub enum RecordError {
     // Refusal 1: a code that is no call's.
-    Unknown,
+    UnknownCode,
     // Refusal 13: the record is longer than the buffer.
     TooLong,
 }
@@ -258,22 +197,10 @@ fn numbers_len(numbers: &[u64]) -> usize
     ensures { result ≡ length (encodes numbers.now) }
 {
     let mut sum: usize = 0;
-    let mut i = 0;
-    while i < numbers.len() {
-        sum = sum + number::number_len(numbers[i]);
-        i += 1;
+    for n in numbers {
+        sum += number::number_len(*n);
     }
     sum
-}
-
-// How many bytes were written.
-fn byte_count(w: Written) -> usize
-    ensures { result ≡ get_or (writing w) 0 }
-{
-    match w {
-        Written::Bytes(k) => k,
-        Written::NoRoom => 0,
-    }
 }
 
 // Writes some numbers, one after the other, where there is room for them all: the rest of the buffer is lent for each.
@@ -283,39 +210,34 @@ fn write_numbers(out: &mut [u8], numbers: &[u64]) -> usize
     ensures buffer { out.new ≡ put (encodes numbers.now) out.old }
 {
     let mut at: usize = 0;
-    let mut i = 0;
-    while i < numbers.len() {
-        let n = numbers[i];
-        let w = number::write_number(&mut out[at..], n);
-        at = at + byte_count(w);
-        i += 1;
+    for n in numbers {
+        at += number::write_number(&mut out[at..], *n).unwrap();
     }
     at
 }
 
 // Writes some numbers, one after the other, or nothing where the buffer is too short for them all.
-fn write_all(out: &mut [u8], numbers: &[u64]) -> Recorded
+fn write_all(out: &mut [u8], numbers: &[u64]) -> Result<usize, RecordError>
     requires { length numbers.now ≤ 2 + most_numbers }
-    ensures answer { record-answer result ≡ fitting (encodes numbers.now) out.old }
+    ensures answer { record_answer result ≡ fitting (encodes numbers.now) out.old }
     ensures buffer { out.new ≡ put (encodes numbers.now) out.old }
 {
-    let total = numbers_len(numbers);
-    if out.len() < total {
-        return Recorded::TooLong;
+    if out.len() < numbers_len(numbers) {
+        return Err(RecordError::TooLong);
     }
-    Recorded::Length(write_numbers(out, numbers))
+    Ok(write_numbers(out, numbers))
 }
 
-// Writes the record of a call over the front of `out`; the bytes after it keep their values.
-pub fn write_record(out: &mut [u8], call: Call) -> Recorded
-    ensures answer { record-answer result ≡ recording call.code (numbers_of call.numbers) out.old }
+// Writes the record of a call over the front of `out`, and says how many bytes it has; the bytes after it keep their values.
+pub fn write_record(out: &mut [u8], call: Call) -> Result<usize, RecordError>
+    ensures answer { record_answer result ≡ recording call.code (numbers_of call.numbers) out.old }
     ensures buffer { out.new ≡ recorded call.code (numbers_of call.numbers) out.old }
-    ensures short { length-in (record-answer result) ≤ LONGEST_RECORD }
+    ensures short { length_in (record_answer result) ≤ LONGEST_RECORD }
 {
     let code = call.code;
     let n = arity(code);
     if n == 0 {
-        return Recorded::Unknown;
+        return Err(RecordError::UnknownCode);
     }
     let numbers = call.numbers;
     let body = [

@@ -4,12 +4,13 @@ use mathlib.Core.Bool.{Bool, true, false, not, cond}
 use mathlib.Core.Logic.{◌⊎◌, inl, inr}
 use mathlib.Core.Option.{none, some}
 use mathlib.Core.List.{List, [], ◌∷◌}
-use Prim.Native.Nat.{ℕ, zero, suc, ◌+◌, ◌*◌, ◌%◌, ◌<◌}
+use Prim.Native.Nat.{ℕ, zero, suc, ◌+◌, ◌-◌, ◌*◌, ◌%◌, ◌<◌}
 use native.Mathlib.Omega.{arith}
 use native.Mathlib.Decide.{ℕ_discrete}
 use native.Mathlib.Numerals.{add-one}
 use borrow.Author.Tests.{lt-ltb}
-use lib.ListN.{length, get_or}
+use lib.ListN.{length, get_or, take, drop, length-take, length-drop}
+use lib.Seq.{get_or-take, get_or-drop}
 use lib.Dec.{T, eqb}
 use Rattle.model.specs.Lists.{In, each}
 use Rattle.model.specs.Lists.Laws.{in_each, each_in}
@@ -49,6 +50,17 @@ below_least (suc n) f v h = join_lub (below_least n f v (λ j l. h j (omega arit
 -- one more is joined, as numbers
 pub joined_more : (f : ℕ → Label) (v p w u : ℕ) → coded v ≡ all_below p f → coded w ≡ f p → coded u ≡ join (coded v) (coded w) → coded u ≡ all_below (p + 1) f
 joined_more f v p w u h e q = q ∙ ap₂ join h e ∙ ap (λ (i : ℕ). all_below i f) (sym (add-one p))
+
+-- ── the places of subject s ──
+-- as a slice of the handles
+abbrev pub places_of : List Handle → ℕ → List Handle
+places_of hs s = take (s * 16 + 16 - s * 16) (drop (s * 16) hs)
+
+pub places_long : (hs : List Handle) (s : ℕ) → length hs ≡ 512 → s < 32 → length (places_of hs s) ≡ 16
+places_long hs s l h = simp (length-take, length-drop) (omega arith)
+
+pub place_at : (hs : List Handle) (s p : ℕ) → length hs ≡ 512 → s < 32 → p < length (places_of hs s) → get_or (places_of hs s) p no_handle ≡ get_or hs (s * 16 + p) no_handle
+place_at hs s p l h i = get_or-take _ (drop (s * 16) hs) p no_handle (omega (arith, places_long hs s l h)) ∙ get_or-drop (s * 16) hs p no_handle
 
 -- ── what a subject writes ──
 -- the figure of what the handle at place p of subject s writes

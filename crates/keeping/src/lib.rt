@@ -19,41 +19,45 @@ ghost use Rattle.tables.specs.Needs.{figure_of};
 ghost use Rattle.tables.specs.Working.{writes_by};
 ghost use Rattle.groups.specs.Groups.{kin_of};
 ghost use Rattle.passes.specs.Working.{spare_by, backed_by, upheld_by, beside_of, falls_by, source_of, end_of};
+ghost use Rattle.keeping.specs.Things.{place_of};
 
 use labels::SETS;
+use passes::Target;
 use tables::{HANDLES, Handle, OBJECTS, Object, PLACES, SUBJECTS, Subject, THINGS, looks};
 
-// The figure of subject s, and of object o, each modulo how many there are.
-pub fn of_subject(n: [u16; THINGS], s: u64) -> u16
-    ensures { result ≡ get_or n (s % 32) 0 }
-{
-    let at = s as usize % SUBJECTS;
-    n[at]
+// A subject, or an object, by its number modulo how many there are.
+#[derive(Clone, Copy, Debug, PartialEq, Eq)]
+pub enum Thing {
+    Subject(u64),
+    Object(u64),
 }
 
-pub fn of_object(n: [u16; THINGS], o: u64) -> u16
-    ensures { result ≡ get_or n (32 + o % 64) 0 }
-{
-    let at = SUBJECTS + o as usize % OBJECTS;
-    n[at]
+impl Thing {
+    // Where its figure stands.
+    pub fn place(self) -> usize
+        ensures is { result ≡ place_of self }
+        ensures low { result < 96 }
+    {
+        match self {
+            Thing::Subject(s) => s as usize % SUBJECTS,
+            Thing::Object(o) => SUBJECTS + o as usize % OBJECTS,
+        }
+    }
 }
 
-// The figures with v for subject s, and for object o.
-pub fn with_subject(n: [u16; THINGS], s: u64, v: u16) -> [u16; THINGS]
-    ensures { result ≡ set n (s % 32) v }
+// The figure of thing x.
+pub fn need(n: [u16; THINGS], x: Thing) -> u16
+    ensures { result ≡ get_or n (place_of x) 0 }
 {
-    let at = s as usize % SUBJECTS;
+    n[x.place()]
+}
+
+// The figures with v for thing x.
+pub fn with_need(n: [u16; THINGS], x: Thing, v: u16) -> [u16; THINGS]
+    ensures { result ≡ set n (place_of x) v }
+{
     let mut r = n;
-    r[at] = v;
-    r
-}
-
-pub fn with_object(n: [u16; THINGS], o: u64, v: u16) -> [u16; THINGS]
-    ensures { result ≡ set n (32 + o % 64) v }
-{
-    let at = SUBJECTS + o as usize % OBJECTS;
-    let mut r = n;
-    r[at] = v;
+    r[x.place()] = v;
     r
 }
 
@@ -64,21 +68,21 @@ pub fn falls(reads: bool, mine: u16, its: u16) -> bool
     ensures { result ≡ falls_by reads (coded mine) (coded its) }
 {
     if reads {
-        return labels::is_at_most(mine, its);
+        labels::is_at_most(mine, its)
+    } else {
+        labels::is_at_most(its, mine)
     }
-    labels::is_at_most(its, mine)
 }
 
 // The figures are known to be right, and the flow of handle h of subject s falls by them.
 fn is_quiet(sure: bool, n: [u16; THINGS], s: u64, h: Handle) -> bool
     ensures { result ≡ (sure && falls_by (reads_by h.way) (coded (get_or n (s % 32) 0)) (coded (get_or n (32 + h.object % 64) 0))) }
 {
-    let number = h.object as u64;
-    let mine = of_subject(n, s);
-    let its = of_object(n, number);
-    let reads = looks::is_reading(h.way);
-    let down = falls(reads, mine, its);
-    looks::both(sure, down)
+    sure && falls(
+        looks::is_reading(h.way),
+        need(n, Thing::Subject(s)),
+        need(n, Thing::Object(h.object as u64)),
+    )
 }
 
 // Figures, and whether some live thing's label is below its own.
@@ -113,10 +117,7 @@ pub fn opened(
     }
     let needs = flows::figures(subjects, groups, objects, handles);
     let short = flows::is_short(subjects, objects, needs);
-    Opening {
-        needs: needs,
-        short: short,
-    }
+    Opening { needs, short }
 }
 
 // ---- handles go
@@ -134,8 +135,7 @@ pub fn is_spare(end: u16, source: u16, own: u16) -> bool
     let level = end / SETS;
     let lower = level < source / SETS;
     let held = level <= own / SETS;
-    let enough = looks::either(lower, held);
-    looks::both(within, enough)
+    within && (lower || held)
 }
 
 // What the source of the flow of handle h, which is on object y, demands by itself: a file that is read its label; a subject nothing.
@@ -143,9 +143,10 @@ pub fn backing(h: Handle, y: Object) -> u16
     ensures { coded result ≡ backed_by h y }
 {
     if looks::is_reading(h.way) {
-        return flows::demanded(y);
+        flows::demanded(y)
+    } else {
+        0
     }
-    0
 }
 
 // What object y, on which handle h is, demands of the handle's subject: where h writes and y is a file, its label.
@@ -153,9 +154,10 @@ fn upheld(h: Handle, y: Object) -> u16
     ensures { coded result ≡ upheld_by h y }
 {
     if looks::is_writing(h.way) {
-        return flows::demanded(y);
+        flows::demanded(y)
+    } else {
+        0
     }
-    0
 }
 
 // All that the files demand which subject s writes by these handles.
@@ -164,16 +166,10 @@ fn beside(objects: [Object; OBJECTS], handles: [Handle; HANDLES], s: usize) -> u
     ensures { coded result ≡ beside_of objects handles s 16 }
 {
     let base = s * PLACES;
-    let mut all: u16 = 0;
-    let mut p: usize = 0;
-    while p < PLACES {
-        let at = base + p;
-        let h = handles[at];
-        let o = h.object as usize % OBJECTS;
-        let y = objects[o];
-        let w = upheld(h, y);
-        all = labels::joined(all, w);
-        p += 1;
+    let mut all = 0;
+    for h in &handles[base..base + PLACES] {
+        let y = objects[h.object as usize % OBJECTS];
+        all = labels::joined(all, upheld(*h, y));
     }
     all
 }
@@ -183,9 +179,10 @@ fn source(h: Handle, s: u64) -> usize
     ensures { result ≡ source_of h s }
 {
     if looks::is_reading(h.way) {
-        return SUBJECTS + h.object as usize % OBJECTS;
+        SUBJECTS + h.object as usize % OBJECTS
+    } else {
+        s as usize % SUBJECTS
     }
-    s as usize % SUBJECTS
 }
 
 // The figures once subject s has closed handle h, whose flow led to what needed this much: worked out anew from the handles that are left, until they say
@@ -204,21 +201,16 @@ fn sunk(
         tables_of rest subjects objects handles ≡ apply (hold s p none) t → Ready t (figure_of n) → need ≡ get_or n (end_of h s) 0 →
         Ready (tables_of rest subjects objects handles) (figure_of result) }
 {
-    let start = flows::starts(objects);
     let leads = groups::leads(subjects, groups);
-    let lead = groups::of(leads, s);
-    let at = source(h, lead as u64);
-    let e = passes::listed(handles, leads);
-    let b = passes::pass_back(e, start);
-    let v = b.figures;
-    let first = v[at];
-    if labels::is_at_most(need, first) {
+    let at = source(h, groups::of(leads, s) as u64);
+    let edges = passes::listed(handles, leads);
+    let mut needs = flows::starts(objects);
+    passes::pass_back(&edges, &mut needs);
+    if labels::is_at_most(need, needs[at]) {
         return n;
     }
-    let w = passes::worked(e, v, true, at, need);
-    if w.still {
-        let led = w.figures;
-        return flows::spread(led, leads);
+    if passes::worked(&edges, &mut needs, Some(Target { at, enough: need })) {
+        return flows::spread(needs, leads);
     }
     n
 }
@@ -248,11 +240,10 @@ pub fn closed(
         tables_of rest subjects objects handles ≡ apply (hold s p none) t → Ready t (figure_of n) → Ready (tables_of rest subjects objects handles) (figure_of result) }
 {
     let number = h.object as u64;
-    let mine = of_subject(n, s);
-    let its = of_object(n, number);
+    let mine = need(n, Thing::Subject(s));
+    let its = need(n, Thing::Object(number));
     let reads = looks::is_reading(h.way);
-    let source = chosen(reads, its, mine);
-    let end = chosen(reads, mine, its);
+    let (source, end) = if reads { (its, mine) } else { (mine, its) };
     let y = looks::object_of(objects, number);
     let own = backing(h, y);
     if is_spare(end, source, own) {
@@ -280,8 +271,7 @@ pub fn vacated(
         tables_of rest subjects objects handles ≡ apply (quits (same (subject s))) t → Ready t (figure_of n) →
         Ready (tables_of rest subjects objects handles) (figure_of result) }
 {
-    let mine = of_subject(n, s);
-    if mine == 0 {
+    if need(n, Thing::Subject(s)) == 0 {
         return n;
     }
     flows::figures(subjects, groups, objects, handles)
@@ -294,10 +284,10 @@ fn written(n: [u16; THINGS], h: Handle) -> u16
     ensures { result ≡ cond (writes_by h.way) (get_or n (32 + h.object % 64) 0) 0 }
 {
     if looks::is_writing(h.way) {
-        let number = h.object as u64;
-        return of_object(n, number);
+        need(n, Thing::Object(h.object as u64))
+    } else {
+        0
     }
-    0
 }
 
 // All that the objects need which subject s, modulo SUBJECTS, writes: what it needs by its own handles, without those of its mates.
@@ -306,14 +296,9 @@ pub fn own(n: [u16; THINGS], handles: [Handle; HANDLES], s: u64) -> u16
         Ready (tables_of rest ss os handles) (figure_of n) → coded result ≡ own_need (tables_of rest ss os handles) s }
 {
     let base = s as usize % SUBJECTS * PLACES;
-    let mut v: u16 = 0;
-    let mut p: usize = 0;
-    while p < PLACES {
-        let at = base + p;
-        let h = handles[at];
-        let w = written(n, h);
-        v = labels::joined(v, w);
-        p += 1;
+    let mut all = 0;
+    for h in &handles[base..base + PLACES] {
+        all = labels::joined(all, written(n, *h));
     }
-    v
+    all
 }

@@ -1,5 +1,5 @@
 // Labels as numbers: a level and a set of shop marks are one number of 16 bits, 256 times the level and the set. What a call names and what a record holds
-// are the two bytes apart; a need is one number.
+// are the two bytes apart (`Label`); a need is one number.
 #![tactic(auto)]
 
 ghost use Rattle.std.specs.Prelude.{◌≡◌};
@@ -13,11 +13,27 @@ pub const SETS: u16 = 256;
 // The largest set that a call may name, as a number of 64 bits: the marks of all eight shop groups.
 pub const EVERY_SHOP: u64 = 255;
 
+// A level, and a set of shop marks.
+#[derive(Clone, Copy, Default, Debug, PartialEq, Eq)]
+pub struct Label {
+    pub level: u8,
+    pub shops: u8,
+}
+
+impl Label {
+    // The label as one number.
+    pub fn code(self) -> u16
+        ensures { coded result ≡ label self.level self.shops }
+    {
+        self.level as u16 * SETS + self.shops as u16
+    }
+}
+
 // The number of a level and a set.
 pub fn code(level: u8, shops: u8) -> u16
     ensures { coded result ≡ label level shops }
 {
-    level as u16 * SETS + shops as u16
+    Label { level, shops }.code()
 }
 
 // Label b is at least label a: its level is, and its set includes that of a. (Where b has every binary digit of a, it is so by both at once: this is asked
@@ -25,32 +41,16 @@ pub fn code(level: u8, shops: u8) -> u16
 pub fn is_at_most(a: u16, b: u16) -> bool
     ensures { result ≡ leq (coded a) (coded b) }
 {
-    let both = a & b;
-    if both == a {
-        return true;
-    }
     let x = a % SETS;
     let y = b % SETS;
-    let common = x & y;
-    if b / SETS < a / SETS {
-        return false;
-    }
-    common == x
+    a & b == a || a / SETS <= b / SETS && x & y == x
 }
 
 // The higher level, and all marks of both.
 pub fn joined(a: u16, b: u16) -> u16
     ensures { coded result ≡ join (coded a) (coded b) }
 {
-    let x = a % SETS;
-    let y = b % SETS;
-    let all = x | y;
-    let mine = a / SETS;
-    let its = b / SETS;
-    if mine < its {
-        return its * SETS + all;
-    }
-    mine * SETS + all
+    (a / SETS).max(b / SETS) * SETS + (a % SETS | b % SETS)
 }
 
 // How many marks a set has lost that fell to another: those that it had and has no more are counted.
@@ -58,6 +58,5 @@ pub fn lost(had: u8, has: u8) -> u8
     ensures { result ≡ lost had has }
 {
     let left = had & has;
-    let gone = had ^ left;
-    u8::count_ones(gone) as u8
+    (had ^ left).count_ones() as u8
 }

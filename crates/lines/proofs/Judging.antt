@@ -1,97 +1,74 @@
 -- The pipelines of a line, looked at one by one: whether it is a line, and whether one of them is too long. Assumes nothing.
-use mathlib.Core.Path.{◌≡◌, refl, sym, ◌∙◌, ap, subst}
-use mathlib.Core.Bool.{Bool, true, false, not, ◌&&◌, cond}
+use Rattle.std.proofs.Common.{◌≡◌, Bool, true, false, not, ◌||◌, ◌&&◌, cond, leb, nat_lt, arith, List, ℕ, length, refl, sym, ◌∙◌, ap, subst}
+use Rattle.std.proofs.lemmas.Bool.Decides.{nat_tests}
 use mathlib.Core.Option.{Option, none, some, none-ne-some, some-injective}
-use mathlib.Core.List.{List}
-use Prim.Native.Nat.{ℕ, ◌≤◌, ◌<◌}
-use native.Mathlib.Omega.{arith}
-use lib.Dec.{leb}
-use lib.ListN.{length, drop}
-use borrow.Author.Tests.{le-leb, lt-leb}
 use Rattle.lines.specs.Line.{one, more, all, Reading, most_stages, short, Judges, no_line, a_line}
 use Rattle.lines.specs.Line.{Pipeline as Stages}
 use Rattle.lines.specs.Reading.{Pipelined, Lined, last, then}
 use Rattle.lines.proofs.Reading.Laws.{lined_line, line_lined, pipelined_one}
-use Rattle.lines.specs.Told.{Counts, wrong, closed, parted}
-use Rattle.lines.specs.declared.Pipeline.{Pipeline}
 
--- ── tests ──
-pub now_long : (long : Bool) (n : ℕ) → most_stages < n → false ≡ (not long && leb n most_stages)
-now_long true n h = refl
-now_long false n h = sym (lt-leb n most_stages h)
+-- pipelines stand before the rest, of which one is too long or none: no line is read where none is read of the rest, and what is read of the rest is read behind them
+pub record Judged (bs : List ℕ) (long : Bool) (rest : List ℕ) : Type 0 where
+  pub nothing : ((k : Reading) → Lined rest k → ⊥) → (l : Reading) → Lined bs l → ⊥
+  pub longer : (k : Reading) → Lined rest k → (l : Reading) × Lined bs l × (short l ≡ (not long && short k))
 
-pub still : (long : Bool) (n : ℕ) → n ≤ most_stages → not long ≡ (not long && leb n most_stages)
-still true n h = refl
-still false n h = sym (le-leb n most_stages h)
+pub judged_none : (bs : List ℕ) → Judged bs false bs
+judged_none bs = record { nothing = λ h. h; longer = λ k w. (k, w, refl) }
 
-and_then : (a b c : Bool) → (a && (b && c)) ≡ ((a && b) && c)
-and_then true b c = refl
-and_then false b c = refl
+-- whether one is too long, once one more of n stages has come to those before it
+abbrev pub is_long : Bool → ℕ → Bool
+is_long long n = long || nat_lt most_stages n
 
--- ── what was counted, by what stands behind the pipeline ──
-module _ (line : List ℕ) (at : ℕ) (r : Pipeline) where
-  pub counted_wrong : Counts line at r → r.end ≡ 0 → (p : Stages) (e : Option (List ℕ)) → Pipelined (drop at line) p e → ⊥
-  counted_wrong (wrong e h) q = h
-  counted_wrong (closed p e w s) q = absurd (omega (arith, e, q))
-  counted_wrong (parted p e w s) q = absurd (omega (arith, e, q))
+more_than : (n : ℕ) → nat_lt most_stages n ≡ not (leb n most_stages)
+more_than n = grind (arith, nat_tests)
 
-  pub counted_closed : Counts line at r → r.end ≡ 3 → (p : Stages) × Pipelined (drop at line) p none × (r.stages ≡ length (all p))
-  counted_closed (wrong e h) q = absurd (omega (arith, e, q))
-  counted_closed (closed p e w s) q = (p, w, s)
-  counted_closed (parted p e w s) q = absurd (omega (arith, e, q))
+is_short : (long : Bool) (n : ℕ) (p : Stages) → n ≡ length (all p) → is_long long n ≡ (long || not (leb (length (all p)) most_stages))
+is_short long n p e = ap (λ (b : Bool). long || b) (more_than n ∙ ap (λ (m : ℕ). not (leb m most_stages)) e)
 
-  pub counted_parted : Counts line at r → (r.end ≡ 0 → ⊥) → (r.end ≡ 3 → ⊥) → (p : Stages) × Pipelined (drop at line) p (some (drop r.at line)) × (r.stages ≡ length (all p))
-  counted_parted (wrong e h) z t = absurd (z e)
-  counted_parted (closed p e w s) z t = absurd (t e)
-  counted_parted (parted p e w s) z t = (p, w, s)
+and_then : (b s : Bool) (c : Bool) → (not b && (s && c)) ≡ (not (b || not s) && c)
+and_then true s c = refl
+and_then false true c = refl
+and_then false false c = refl
 
--- ── the line so far ──
--- pipelines stand before place i, of which one is too long or none: no line is read where none is read from i on, and what is read from i on is read behind them
-pub record Judged (line : List ℕ) (long : Bool) (i : ℕ) : Type 0 where
-  pub nothing : ((k : Reading) → Lined (drop i line) k → ⊥) → (l : Reading) → Lined line l → ⊥
-  pub longer : (k : Reading) → Lined (drop i line) k → (l : Reading) × Lined line l × (short l ≡ (not long && short k))
+turned : (b s : Bool) → ◌≡◌ {A = ℕ} (cond (b || not s) 19 0) (cond (not b && s) 0 19)
+turned true s = refl
+turned false true = refl
+turned false false = refl
 
-pub judged_none : (line : List ℕ) → Judged line false 0
-judged_none line = record { nothing = λ h. h; longer = λ k w. (k, w, refl) }
-
-module _ (line : List ℕ) (long : Bool) (i : ℕ) (j : Judged line long i) (r : Pipeline) (c : Counts line i r) where
+module _ (bs : List ℕ) (long : Bool) (rest : List ℕ) (j : Judged bs long rest) where
   -- no pipeline can be read
-  pub judged_wrong : r.end ≡ 0 → Judges line 18
-  judged_wrong z = no_line (λ l w. j.nothing stuck l (line_lined line l w)) refl
+  pub judged_wrong : ((p : Stages) (e : Option (List ℕ)) → Pipelined rest p e → ⊥) → Judges bs 18
+  judged_wrong h = no_line (λ l w. j.nothing stuck l (line_lined bs l w)) refl
     where
-      stuck : (k : Reading) → Lined (drop i line) k → ⊥
-      stuck k (last {p = p} w) = counted_wrong line i r c z p none w
-      stuck k (then {rest = b} {p = p} w v) = counted_wrong line i r c z p (some b) w
+      stuck : (k : Reading) → Lined rest k → ⊥
+      stuck k (last {p = p} w) = h p none w
+      stuck k (then {rest = b} {p = p} w v) = h p (some b) w
 
-  module _ (now : Bool) (is-now : not now ≡ (not long && leb r.stages most_stages)) where
+  -- a pipeline of n stages
+  module _ (n : ℕ) (p : Stages) (e : n ≡ length (all p)) where
     -- the last one
-    pub judged_last : (n : ℕ) → r.end ≡ 3 → n ≡ cond now 19 0 → Judges line n
-    judged_last n z e =
-        let f = counted_closed line i r c z in
-        let g = j.longer (one f.0) (last f.1) in
-        a_line g.0 (lined_line line g.0 g.1) (e ∙ turned now ∙ ap (λ (b : Bool). cond b 0 19) (is-now ∙ ap (λ (s : ℕ). not long && leb s most_stages) f.2 ∙ sym g.2))
-      where
-        turned : (b : Bool) → ◌≡◌ {A = ℕ} (cond b 19 0) (cond (not b) 0 19)
-        turned true = refl
-        turned false = refl
+    last_by : Pipelined rest p none → (b : Bool) → is_long long n ≡ b → Judges bs (cond b 19 0)
+    last_by w b q =
+        let g = j.longer (one p) (last w) in
+        a_line g.0 (lined_line bs g.0 g.1)
+        (ap (λ (t : Bool). cond t 19 0) (sym q ∙ is_short long n p e) ∙ turned long (leb (length (all p)) most_stages) ∙ ap (λ (t : Bool). cond t 0 19) (sym g.2))
+
+    pub judged_long : Pipelined rest p none → is_long long n ≡ true → Judges bs 19
+    judged_long w q = last_by w true q
+
+    pub judged_short : Pipelined rest p none → is_long long n ≡ false → Judges bs 0
+    judged_short w q = last_by w false q
 
     -- one more
-    module _ (z : r.end ≡ 0 → ⊥) (t : r.end ≡ 3 → ⊥) where
-      pub judged_more : Judged line now r.at
-      judged_more = record { nothing = λ h. j.nothing (back h); longer = λ k w. let g = j.longer (more p k) (then has w) in (g.0, g.1, g.2 ∙ and_then (not long) (leb (length (all p)) most_stages) (short k) ∙ ap (λ (b : Bool). b && short k) (ap (λ (s : ℕ). not long && leb s most_stages) (sym long_p) ∙ sym is-now)) }
-        where
-          f : (p : Stages) × Pipelined (drop i line) p (some (drop r.at line)) × (r.stages ≡ length (all p))
-          f = counted_parted line i r c z t
+    pub judged_more : (l : List ℕ) → Pipelined rest p (some l) → Judged bs (is_long long n) l
+    judged_more l has = record {
+      nothing = λ h. j.nothing (back h);
+      longer = λ k w. let g = j.longer (more p k) (then has w) in (g.0, g.1, g.2 ∙ and_then long (leb (length (all p)) most_stages) (short k) ∙ ap (λ (b : Bool). not b && short k) (sym (is_short long n p e)));
+    }
+      where
+        back : ((k : Reading) → Lined l k → ⊥) → (k : Reading) → Lined rest k → ⊥
+        back h k (last w) = none-ne-some _ (pipelined_one w has).1
+        back h k (then {rest = b} {l = m} w v) = h m (subst (λ (x : List ℕ). Lined x m) (some-injective _ _ (pipelined_one w has).1) v)
 
-          p : Stages
-          p = f.0
-
-          has : Pipelined (drop i line) p (some (drop r.at line))
-          has = f.1
-
-          long_p : r.stages ≡ length (all p)
-          long_p = f.2
-
-          back : ((k : Reading) → Lined (drop r.at line) k → ⊥) → (k : Reading) → Lined (drop i line) k → ⊥
-          back h k (last w) = none-ne-some _ (pipelined_one w has).1
-          back h k (then {rest = b} {l = l} w v) = h l (subst (λ (bs : List ℕ). Lined bs l) (some-injective _ _ (pipelined_one w has).1) v)
+-- what `lines::verdict` goes by
+pub ruleset judging = (judged_wrong, judged_more)

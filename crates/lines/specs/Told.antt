@@ -1,43 +1,67 @@
--- What the structs of the reader stand for. What the functions below `verdict` cite, two of them public for crate `typed`. Assumes nothing.
-use Rattle.std.specs.Prelude.{◌≡◌, Bool, false, cond, List, ℕ, eqb, length, drop}
+-- What the values of the reader stand for. What the functions below `verdict` cite, two of them public for crate `typed`. Assumes nothing.
+use Rattle.std.specs.Prelude.{◌≡◌, List, ℕ, ◌+◌, ◌*◌, length, Some, None, Result, Ok, Err, if◌then◌else◌}
+use Rattle.std.specs.Prelude.{Option as Maybe}
+use denote.Ref.{Bor}
 use Rattle.std.proofs.Math.Option.{Option, none, some}
 use Rattle.lines.specs.Line.{all}
 use Rattle.lines.specs.Line.{Stage as Stage-read}
 use Rattle.lines.specs.Line.{Pipeline as Stages}
-use Rattle.lines.specs.Reading.{Got, got, End, at_bar, at_semicolon, at_end, Staged, with_end, Pipelined}
-use Rattle.lines.specs.declared.Numeral.{Numeral}
-use Rattle.lines.specs.declared.Signed.{Signed}
-use Rattle.lines.specs.declared.Ended.{Ended}
+use Rattle.lines.specs.Reading.{Got, got, at_bar, at_semicolon, at_end, grows, Staged, Pipelined}
+use Rattle.lines.specs.Reading.{End as Ended}
+use Rattle.lines.specs.declared.End.{End}
+use Rattle.lines.specs.declared.End.TheVariants.{Bar, Semicolon, Nothing}
 use Rattle.lines.specs.declared.Stage.{Stage}
-use Rattle.lines.specs.declared.Pipeline.{Pipeline}
+use Rattle.lines.specs.declared.LineError.{LineError}
+use Rattle.lines.specs.declared.LineError.TheVariants.{NotALine, TooLong}
 
-abbrev pub number_told : List ℕ → Numeral → Option (Got ℕ)
-number_told line r = cond r.good (some (got r.value (drop r.at line))) none
+abbrev pub optional : {A : Type 0} → Maybe A → Option A
+optional None = none
+optional (Some x) = some x
 
-abbrev pub optional : Bool → ℕ → Option ℕ
-optional given n = cond given (some n) none
+-- ── a number, and what a sign has ──
+abbrev pub grown_to : ℕ → ℕ → Maybe ℕ
+grown_to v d = if grows v d then Some (v * 10 + d) else None
 
-abbrev pub given_told : List ℕ → Signed → Option (Got (Option ℕ))
-given_told line r = cond r.good (some (got (optional r.given r.value) (drop r.at line))) none
+abbrev pub numeral_of : Maybe (ℕ × Bor (List ℕ)) → Option (Got ℕ)
+numeral_of None = none
+numeral_of (Some r) = some (got r.0 r.1.now)
 
--- by the numbers of the code's constants
-abbrev pub end_by : ℕ → List ℕ → Option End
-end_by n rest = cond (eqb n 1) (some (at_bar rest)) (cond (eqb n 2) (some (at_semicolon rest)) (cond (eqb n 3) (some at_end) none))
+abbrev pub signed_of : Maybe (Maybe ℕ × Bor (List ℕ)) → Option (Got (Option ℕ))
+signed_of None = none
+signed_of (Some r) = some (got (optional r.0) r.1.now)
 
-abbrev pub end_told : List ℕ → Ended → Option End
-end_told line r = end_by r.end (drop r.at line)
+-- ── a stage and what ends it ──
+abbrev pub ending : End → Ended
+ending (Bar l) = at_bar l.now
+ending (Semicolon l) = at_semicolon l.now
+ending Nothing = at_end
 
-abbrev pub unread : Stage
-unread = record { end = 0; program = 0; reads = false; from = 0; writes = false; into = 0; at = 0 }
+abbrev pub end_of : Maybe End → Option Ended
+end_of None = none
+end_of (Some e) = some (ending e)
 
 abbrev pub stage_of : Stage → Stage-read
-stage_of r = record { program = r.program; from = optional r.reads r.from; into = optional r.writes r.into }
+stage_of r = record { program = r.program; from = optional r.from; into = optional r.into }
 
-abbrev pub stage_told : List ℕ → Stage → Option Staged
-stage_told line r = with_end (stage_of r) (end_by r.end (drop r.at line))
+abbrev pub staged_of : Maybe (Stage × End) → Option Staged
+staged_of None = none
+staged_of (Some r) = some (record { stage = stage_of r.0; end = ending r.1 })
 
--- what is counted of the pipeline that the line has from a place on
-pub data Counts (line : List ℕ) (at : ℕ) (r : Pipeline) : Type 0 where
-  wrong : r.end ≡ 0 → ((p : Stages) (e : Option (List ℕ)) → Pipelined (drop at line) p e → ⊥) → Counts line at r
-  closed : (p : Stages) → r.end ≡ 3 → Pipelined (drop at line) p none → r.stages ≡ length (all p) → Counts line at r
-  parted : (p : Stages) → r.end ≡ 2 → Pipelined (drop at line) p (some (drop r.at line)) → r.stages ≡ length (all p) → Counts line at r
+-- ── pipelines, and the line ──
+abbrev pub rest_of : Maybe (Bor (List ℕ)) → Option (List ℕ)
+rest_of None = none
+rest_of (Some l) = some l.now
+
+-- what is counted of the pipeline that the bytes begin with
+abbrev pub Counts : List ℕ → Maybe (ℕ × Maybe (Bor (List ℕ))) → Type 0
+Counts bs None = (p : Stages) (e : Option (List ℕ)) → Pipelined bs p e → ⊥
+Counts bs (Some r) = (p : Stages) × Pipelined bs p (rest_of r.1) × (r.0 ≡ length (all p))
+
+-- RULES R18, R19, R125
+abbrev pub number_of : LineError → ℕ
+number_of NotALine = 18
+number_of TooLong = 19
+
+abbrev pub said : Result Unit LineError → ℕ
+said (Ok _) = 0
+said (Err e) = number_of e

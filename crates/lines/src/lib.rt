@@ -2,339 +2,195 @@
 // asked for. What is read is in specs/Line.antt, how in specs/Reading.antt.
 #![tactic(auto)]
 
-ghost use Rattle.std.specs.Prelude.{◌≡◌, true, not, ◌&&◌, ◌≤◌, ◌<◌, leb, length, drop};
-ghost use Rattle.lines.specs.Line.{most_stages, Judges};
-ghost use Rattle.lines.specs.Reading.{is_digit, grows, skip, digits, numeral, signed, ended_at, staged};
-ghost use Rattle.lines.specs.Told.{number_told, given_told, end_told, unread, stage_told, Counts};
+ghost use Rattle.std.specs.Prelude.{◌≡◌, Some, None, ◌-◌, ◌≤◌, ◌<◌, length, IfSome, if◌then◌else◌};
+ghost use Rattle.lines.specs.Line.{Judges};
+ghost use Rattle.lines.specs.Reading.{is_digit, skip, digits, numeral, signed, behind, ended_at, staged};
+ghost use Rattle.lines.specs.Told.{numeral_of, signed_of, end_of, ending, staged_of, grown_to, Counts, number_of, said};
 
-// The refusals of a line.
-pub const NOT_A_LINE: u64 = 18;
+// Why a line is refused, with the rules' numbers.
+#[derive(Clone, Copy, Debug, PartialEq, Eq)]
+pub enum LineError {
+    NotALine = 18,
+    TooLong = 19,
+}
 
-pub const TOO_LONG: u64 = 19;
+impl LineError {
+    pub fn number(self) -> u64
+        ensures { result ≡ number_of self }
+    {
+        self as u64
+    }
+}
 
 // The most stages that a pipeline may have.
 pub const MOST_STAGES: usize = 8;
 
-// What stands behind a stage or a pipeline: nothing that belongs there, or no stage was read at all; a bar, a semicolon, or the end.
-pub const WRONG: u8 = 0;
-
-pub const BAR: u8 = 1;
-
-pub const SEMICOLON: u8 = 2;
-
-pub const END: u8 = 3;
-
-// A number and the place behind it; `good` is false where there is none.
+// What stands behind a stage: a bar or a semicolon, with the bytes behind it, or nothing.
 #[derive(Clone, Copy)]
-struct Numeral {
-    good: bool,
-    value: u64,
-    at: usize,
+pub enum End<'a> {
+    Bar(&'a [u8]),
+    Semicolon(&'a [u8]),
+    Nothing,
 }
 
-// A number behind a sign, where that is there.
-#[derive(Clone, Copy)]
-struct Signed {
-    good: bool,
-    given: bool,
-    value: u64,
-    at: usize,
-}
-
-// What stands behind a stage, and the place behind that.
-#[derive(Clone, Copy)]
-struct Ended {
-    end: u8,
-    at: usize,
-}
-
-// A stage, what stands behind it, and the place behind that. Free is what `from` and `into` have where `reads` and `writes` are false, the place where the end is END, and all
-// else where it is WRONG.
+// A stage: its program, and the numbers of `<` and `>` where it has them.
 #[derive(Clone, Copy)]
 pub struct Stage {
-    pub end: u8,
     pub program: u64,
-    pub reads: bool,
-    pub from: u64,
-    pub writes: bool,
-    pub into: u64,
-    pub at: usize,
+    pub from: Option<u64>,
+    pub into: Option<u64>,
 }
 
-// How many stages a pipeline has, what stands behind it, and the place behind that. Free is the place where the end is END, and all else where it is WRONG.
-#[derive(Clone, Copy)]
-pub struct Pipeline {
-    pub end: u8,
-    pub stages: usize,
-    pub at: usize,
-}
+// Each reader below takes the bytes that are left, and gives what stands first in them and the bytes behind it, or None where it does not stand there.
 
 // ---- a number
 
-fn is_digit(b: u8) -> bool
-    ensures { result ≡ is_digit b }
+// The value of a digit.
+fn digit(b: u8) -> Option<u64>
+    ensures { result ≡ (if is_digit b then Some (b - 48) else None) }
 {
-    if b < b'0' {
-        return false;
+    match b {
+        b'0'..=b'9' => Some((b - b'0') as u64),
+        _ => None,
     }
-    b <= b'9'
 }
 
-// Whether digit d may follow those that gave v.
-fn grown(v: u64, d: u64) -> bool
-    ensures { d < 10 → result ≡ grows v d }
+// The number that digit d makes of v: no zero stands in front, and no number has more than 64 bits.
+fn grown(v: u64, d: u64) -> Option<u64>
+    ensures { result ≡ grown_to v d }
 {
     if v == 0 {
-        return false;
+        return None;
     }
-    if v < 1844674407370955161 {
-        return true;
-    }
-    if 1844674407370955161 < v {
-        return false;
-    }
-    d <= 5
+    v.checked_mul(10)?.checked_add(d)
 }
 
-// The first place from `at` on where no space stands.
-fn skipped(line: &[u8], at: usize) -> usize
-    ensures rest { drop result line.now ≡ skip (drop at line.now) }
-    ensures on { at ≤ result }
-    ensures within { at ≤ length line.now → result ≤ length line.now }
+// The bytes from the first one on that is no space.
+fn skipped(line: &[u8]) -> &[u8]
+    ensures rest { result.now ≡ skip line.now }
+    ensures within { length result.now ≤ length line.now }
 {
-    let mut i = at;
-    while i < line.len() {
-        let b = line[i];
-        if b != b' ' {
-            return i;
-        }
-        i += 1;
+    let mut rest = line;
+    while let Some((b' ', behind)) = rest.split_first() {
+        rest = behind;
     }
-    i
+    rest
 }
 
-// The number whose first digits gave v and whose others stand from `at` on.
-fn more_digits(line: &[u8], at: usize, v: u64) -> Numeral
-    ensures read { number_told line.now result ≡ digits v (drop at line.now) }
-    ensures on { at ≤ result.at }
-    ensures within { at ≤ length line.now → result.at ≤ length line.now }
+// The number whose first digits gave v.
+fn more_digits(line: &[u8], v: u64) -> Option<(u64, &[u8])>
+    ensures read { numeral_of result ≡ digits v line.now }
+    ensures within { IfSome result (λ r. length r.1.now ≤ length line.now) }
 {
     let mut n = v;
-    let mut i = at;
-    while i < line.len() {
-        let b = line[i];
-        if !is_digit(b) {
-            return Numeral {
-                good: true,
-                value: n,
-                at: i,
-            };
-        }
-        let d = (b - b'0') as u64;
-        if !grown(n, d) {
-            return Numeral {
-                good: false,
-                value: 0,
-                at: i,
-            };
-        }
-        n = n * 10 + d;
-        i += 1;
+    let mut rest = line;
+    while let Some((b, behind)) = rest.split_first() {
+        let Some(d) = digit(*b) else {
+            break;
+        };
+        n = grown(n, d)?;
+        rest = behind;
     }
-    Numeral {
-        good: true,
-        value: n,
-        at: i,
-    }
+    Some((n, rest))
 }
 
-// The number that stands at a place.
-fn number_at(line: &[u8], at: usize) -> Numeral
-    ensures read { number_told line.now result ≡ numeral (drop at line.now) }
-    ensures on { at ≤ result.at }
-    ensures some { result.good ≡ true → (at < result.at) × (result.at ≤ length line.now) }
-    ensures within { at ≤ length line.now → result.at ≤ length line.now }
+fn read_number(line: &[u8]) -> Option<(u64, &[u8])>
+    ensures read { numeral_of result ≡ numeral line.now }
+    ensures shorter { IfSome result (λ r. length r.1.now < length line.now) }
 {
-    if at < line.len() {
-        let b = line[at];
-        if is_digit(b) {
-            let d = (b - b'0') as u64;
-            let next = at + 1;
-            return more_digits(line, next, d);
-        }
-    }
-    Numeral {
-        good: false,
-        value: 0,
-        at: at,
-    }
+    let (b, behind) = line.split_first()?;
+    more_digits(behind, digit(*b)?)
 }
 
 // ---- a stage
 
-// The sign and its number, where the sign is next.
-fn signed_at(line: &[u8], at: usize, sign: u8) -> Signed
-    ensures read { given_told line.now result ≡ signed sign (drop at line.now) }
-    ensures on { at ≤ result.at }
-    ensures within { at ≤ length line.now → result.at ≤ length line.now }
+// A sign and its number, where the sign is next.
+fn read_sign(line: &[u8], sign: u8) -> Option<(Option<u64>, &[u8])>
+    ensures read { signed_of result ≡ signed sign line.now }
+    ensures within { IfSome result (λ r. length r.1.now ≤ length line.now) }
 {
-    let i = skipped(line, at);
-    if i < line.len() {
-        let b = line[i];
-        if b == sign {
-            let next = i + 1;
-            let j = skipped(line, next);
-            let n = number_at(line, j);
-            return Signed {
-                good: n.good,
-                given: true,
-                value: n.value,
-                at: n.at,
-            };
+    let rest = skipped(line);
+    match rest.split_first() {
+        Some((b, behind)) if *b == sign => {
+            let (n, behind) = read_number(skipped(behind))?;
+            Some((Some(n), behind))
         }
-    }
-    Signed {
-        good: true,
-        given: false,
-        value: 0,
-        at: i,
+        _ => Some((None, rest)),
     }
 }
 
-// What stands at a place behind a stage, and the place behind that.
-fn end_at(line: &[u8], at: usize) -> Ended
-    ensures read { end_told line.now result ≡ ended_at (drop at line.now) }
-    ensures kind { result.end ≤ 3 }
-    ensures on { at ≤ result.at }
-    ensures within { at ≤ length line.now → result.at ≤ length line.now }
+fn read_end(line: &[u8]) -> Option<End>
+    ensures read { end_of result ≡ ended_at line.now }
+    ensures within { IfSome result (λ e. length (behind (ending e)) ≤ length line.now) }
 {
-    if at < line.len() {
-        let b = line[at];
-        let behind = at + 1;
-        if b == b'|' {
-            return Ended {
-                end: BAR,
-                at: behind,
-            };
-        }
-        if b == b';' {
-            return Ended {
-                end: SEMICOLON,
-                at: behind,
-            };
-        }
-        return Ended { end: WRONG, at: at };
-    }
-    Ended { end: END, at: at }
-}
-
-// No stage.
-fn no_stage() -> Stage
-    ensures { result ≡ unread }
-{
-    Stage {
-        end: WRONG,
-        program: 0,
-        reads: false,
-        from: 0,
-        writes: false,
-        into: 0,
-        at: 0,
+    match line.split_first() {
+        None => Some(End::Nothing),
+        Some((b'|', behind)) => Some(End::Bar(behind)),
+        Some((b';', behind)) => Some(End::Semicolon(behind)),
+        Some(_) => None,
     }
 }
 
-// The stage that stands from a place on, with spaces before it.
-pub fn stage_at(line: &[u8], at: usize) -> Stage
-    ensures read { stage_told line.now result ≡ staged (drop at line.now) }
-    ensures kind { result.end ≤ 3 }
-    ensures on { 0 < result.end → (at < result.at) × (result.at ≤ length line.now) }
+// A stage, with spaces before it, and what stands behind it.
+#[tactic(auto, unfolding(crate::specs::Reading::staged))]
+pub fn read_stage(line: &[u8]) -> Option<(Stage, End)>
+    ensures read { staged_of result ≡ staged line.now }
+    ensures shorter { IfSome result (λ r. length (behind (ending r.1)) < length line.now) }
 {
-    let i = skipped(line, at);
-    let p = number_at(line, i);
-    if !p.good {
-        return no_stage();
-    }
-    let f = signed_at(line, p.at, b'<');
-    if !f.good {
-        return no_stage();
-    }
-    let t = signed_at(line, f.at, b'>');
-    if !t.good {
-        return no_stage();
-    }
-    let j = skipped(line, t.at);
-    let e = end_at(line, j);
-    Stage {
-        end: e.end,
-        program: p.value,
-        reads: f.given,
-        from: f.value,
-        writes: t.given,
-        into: t.value,
-        at: e.at,
-    }
+    let (program, rest) = read_number(skipped(line))?;
+    let (from, rest) = read_sign(rest, b'<')?;
+    let (into, rest) = read_sign(rest, b'>')?;
+    let end = read_end(skipped(rest))?;
+    Some((
+        Stage {
+            program,
+            from,
+            into,
+        },
+        end,
+    ))
 }
 
 // ---- pipelines, and the line
 
-// The pipeline that stands from a place on.
-pub fn pipeline_at(line: &[u8], at: usize) -> Pipeline
-    ensures read { Counts line.now at result }
-    ensures on { 0 < result.end → (at < result.at) × (result.at ≤ length line.now) }
+// How many stages the first pipeline has, and the bytes behind the semicolon that ends it, where one does.
+#[tactic(auto, using(crate::proofs::Counting::counting))]
+pub fn read_pipeline(line: &[u8]) -> Option<(usize, Option<&[u8]>)>
+    ensures read { Counts line.now result }
+    ensures shorter { IfSome result (λ r. IfSome r.1 (λ l. length l.now < length line.now)) }
 {
-    let mut n: usize = 0;
-    let mut i = at;
+    let mut stages = 0;
+    let mut rest = line;
     loop {
-        let s = stage_at(line, i);
-        let end = s.end;
-        if end == WRONG {
-            return Pipeline {
-                end: WRONG,
-                stages: n,
-                at: i,
-            };
-        }
-        n += 1;
-        i = s.at;
-        if end != BAR {
-            return Pipeline {
-                end: end,
-                stages: n,
-                at: i,
-            };
+        let (_, end) = read_stage(rest)?;
+        stages += 1;
+        match end {
+            End::Bar(behind) => rest = behind,
+            End::Semicolon(behind) => return Some((stages, Some(behind))),
+            End::Nothing => return Some((stages, None)),
         }
     }
 }
 
-// Whether some pipeline is too long, once one of n stages has come to those before it.
-fn is_long(long: bool, n: usize) -> bool
-    ensures { not result ≡ (not long && leb n most_stages) }
-{
-    if MOST_STAGES < n {
-        return true;
-    }
-    long
-}
-
-// What is said of bytes before any call is made: NOT_A_LINE, TOO_LONG, or 0.
-pub fn verdict(line: &[u8]) -> u64
-    ensures { Judges line.now result }
+// What is said of bytes before any call is made.
+#[tactic(auto, using(crate::proofs::Judging::judging))]
+pub fn verdict(line: &[u8]) -> Result<(), LineError>
+    ensures { Judges line.now (said result) }
 {
     let mut long = false;
-    let mut i: usize = 0;
+    let mut rest = line;
     loop {
-        let p = pipeline_at(line, i);
-        let end = p.end;
-        if end == WRONG {
-            return NOT_A_LINE;
+        let Some((stages, behind)) = read_pipeline(rest) else {
+            return Err(LineError::NotALine);
+        };
+        long |= MOST_STAGES < stages;
+        match behind {
+            Some(behind) => rest = behind,
+            None => break,
         }
-        long = is_long(long, p.stages);
-        if end == END {
-            if long {
-                return TOO_LONG;
-            }
-            return 0;
-        }
-        i = p.at;
     }
+    if long {
+        return Err(LineError::TooLong);
+    }
+    Ok(())
 }

@@ -8,7 +8,10 @@ use mathlib.Core.List.{List}
 use Prim.Native.Nat.{ℕ, zero, suc, ◌+◌, ◌*◌, ◌/◌, ◌%◌, ◌<◌, min}
 use native.Mathlib.Omega.{arith}
 use native.Mathlib.Decide.{dec_lt}
-use borrow.Author.Tests.{lt-ltb, eq-eqb, ne_eqb}
+use borrow.Author.Tests.{lt-ltb, ne_eqb}
+use Rattle.std.specs.Bool.{MatchBool}
+use Rattle.std.specs.List.{zip, AllWithin, HoldsAt}
+use Rattle.std.proofs.lemmas.Slice.Zip.{length-zip, get_or-zip}
 use lib.ListN.{length, get_or, get_or-eq_default}
 use lib.Bits.{bit_and}
 use lib.Dec.{T, eqb, eqb→eq, eqb_refl, lt→ltb}
@@ -32,25 +35,12 @@ use Rattle.tables.proofs.Below.{some_of_below, below_some, none_below, same_test
 use Rattle.handles.specs.Working.{Hits}
 use Rattle.groups.specs.Groups.{stands, kin_of, Leads, taken_by}
 use Rattle.groups.specs.Groups.Laws.{kin_back, kin_on, one_lead, lead_kin}
-use Rattle.mappings.specs.Working.{reader_slot, sank_by}
+use Rattle.mappings.specs.Working.{maps_on, sank_by}
 
 -- ── who has it mapped ──
-pub slot_below : (h : Handle) (o s : ℕ) → s < 32 → reader_slot h o s < 33
-slot_below h o s l = go (eqb h.way 3) (eqb h.object o)
-  where
-    go : (a b : Bool) → cond a (cond b s 32) 32 < 33
-    go true true = omega arith
-    go true false = omega arith
-    go false b = omega arith
-
--- a record that gives a subject is a mapping on o
-slot_maps : (h : Handle) (o n s : ℕ) → s < 32 → T (eqb (reader_slot h o n) s) → (n ≡ s) × (eqb h.way 3 ≡ true) × (h.object ≡ o)
-slot_maps h o n s l t = go (eqb h.way 3) refl (eqb h.object o) (eqb→eq h.object o) (eqb→eq (reader_slot h o n) s t)
-  where
-    go : (a : Bool) → eqb h.way 3 ≡ a → (b : Bool) → (T b → h.object ≡ o) → cond a (cond b n 32) 32 ≡ s → (n ≡ s) × (eqb h.way 3 ≡ true) × (h.object ≡ o)
-    go true q true f e = (e, q, f tt)
-    go true q false f e = absurd (omega arith)
-    go false q b f e = absurd (omega arith)
+-- a record that is a mapping on o
+slot_maps : (h : Handle) (o : ℕ) → T (maps_on h o) → (eqb h.way 3 ≡ true) × (h.object ≡ o)
+slot_maps h o t = let (w, q) = both_of (eqb h.way 3) (eqb h.object o) t in (is_true (eqb h.way 3) w, eqb→eq h.object o q)
 
 module _ (rest : Tables) (ss : List Subject) (os : List Object) (hs : List Handle) (o : ℕ) where
   abbrev t : Tables
@@ -75,19 +65,17 @@ module _ (rest : Tables) (ss : List Subject) (os : List Object) (hs : List Handl
           (let e : h.way ≡ 3 = eqb→eq h.way 3 (subst T (sym w) tt) in ne_eqb h.way 0 (λ z. omega arith))
 
   -- and back
-  mapped_slot : (s p n : ℕ) (k : Held) → p < 16 → t.hand s p ≡ some k → T k.mapped → k.to ≡ o → T (eqb (reader_slot (get_or hs (s * 16 + p) no_handle) o n) n)
-  mapped_slot s p n k lp q m e = go (eqb h.way 0) (sym (at_place s p lp) ∙ q)
+  mapped_slot : (s p : ℕ) (k : Held) → p < 16 → t.hand s p ≡ some k → T k.mapped → k.to ≡ o → T (maps_on (get_or hs (s * 16 + p) no_handle) o)
+  mapped_slot s p k lp q m e = go (eqb h.way 0) (sym (at_place s p lp) ∙ q)
     where
       h : Handle
       h = get_or hs (s * 16 + p) no_handle
 
-      go : (b : Bool) → cond b none (some (joins h)) ≡ some k → T (eqb (reader_slot h o n) n)
+      go : (b : Bool) → cond b none (some (joins h)) ≡ some k → T (maps_on h o)
       go true z = absurd (none-ne-some k z)
       go false z = let j = some-injective (joins h) k z in
-          rw (
-            is_true (eqb h.way 3) (subst (λ (i : Held). T i.mapped) (sym j) m),
-            eq-eqb h.object o (ap (λ (i : Held). i.to) j ∙ e),
-          ) (eqb_refl n)
+          both (eqb h.way 3) (eqb h.object o) (subst (λ (i : Held). T i.mapped) (sym j) m)
+          (subst (λ (n : ℕ). T (eqb n o)) (sym (ap (λ (i : Held). i.to) j ∙ e)) (eqb_refl o))
 
   -- who took it in is found below a bound, and no object did
   took_below : (n : ℕ) (y : Thing) → took t o n y ≡ some_below n (λ s. has_mapped t (object o) s && whole t (cell t s) y)
@@ -108,18 +96,20 @@ module _ (rest : Tables) (ss : List Subject) (os : List Object) (hs : List Handl
     unfolding tables_of whole cell
     whole_kin a b = ap (λ (f : ℕ → ℕ → Bool). f a b) kin
 
-    abbrev slot : ℕ → ℕ
-    slot j = reader_slot (get_or hs j no_handle) o (get_or ld (j / 16) 0 % 32)
+    abbrev slot : ℕ → ℕ → Bool
+    slot j s = maps_on (get_or hs j no_handle) o && eqb (get_or ld (j / 16) 0 % 32) s
 
-    pub readers_lead : (r : List Bool) → Hits slot 33 r 512 → (a : ℕ) → a < 32 → get_or r (get_or ld a 0 % 32) false ≡ took t o 32 (subject a)
+    pub readers_lead : (r : List Bool) → Hits slot 32 r 512 → (a : ℕ) → a < 32 → get_or r (get_or ld a 0 % 32) false ≡ took t o 32 (subject a)
     readers_lead r m a l = m.at (get_or ld a 0 % 32) (omega arith)
-        ∙ same_test _ _ (λ h. there (some_of_below 512 (λ j. eqb (slot j) (get_or ld a 0 % 32)) h)) (λ h. back (some_of_below 32 takes (subst T (took_below 32 (subject a)) h)))
+        ∙ same_test _ _ (λ h. there (some_of_below 512 (λ j. slot j (get_or ld a 0 % 32)) h)) (λ h. back (some_of_below 32 takes (subst T (took_below 32 (subject a)) h)))
       where
         takes : ℕ → Bool
         takes s = has_mapped t (object o) s && whole t (cell t s) (subject a)
 
-        there : (j : ℕ) × (j < 512) × T (eqb (slot j) (get_or ld a 0 % 32)) → T (took t o 32 (subject a))
-        there (j, lj, h) = let (d, w, q) = slot_maps (get_or hs j no_handle) o (get_or ld (j / 16) 0 % 32) (get_or ld a 0 % 32) (omega arith) h in
+        there : (j : ℕ) × (j < 512) × T (slot j (get_or ld a 0 % 32)) → T (took t o 32 (subject a))
+        there (j, lj, h) = let (m, z) = both_of (maps_on (get_or hs j no_handle) o) (eqb (get_or ld (j / 16) 0 % 32) (get_or ld a 0 % 32)) h in
+            let (w, q) = slot_maps (get_or hs j no_handle) o m in
+            let d : get_or ld (j / 16) 0 % 32 ≡ get_or ld a 0 % 32 = eqb→eq (get_or ld (j / 16) 0 % 32) (get_or ld a 0 % 32) z in
             let n : j / 16 < 32 = omega arith in
             let e : (j / 16) * 16 + j % 16 ≡ j = omega arith in
             subst T (sym (took_below 32 (subject a))) (below_some 32 takes (j / 16) n
@@ -127,13 +117,14 @@ module _ (rest : Tables) (ss : List Subject) (os : List Object) (hs : List Handl
             (subst T (sym (whole_kin (j / 16) a)) (lead_kin (kin_of ss gs) (kin_back ss gs) (kin_on ss gs) ld leads (j / 16) a n l
             (omega (arith, d, leads.low (j / 16) n, leads.low a l))))))
 
-        back : (s : ℕ) × (s < 32) × T (takes s) → T (some_below 512 (λ j. eqb (slot j) (get_or ld a 0 % 32)))
+        back : (s : ℕ) × (s < 32) × T (takes s) → T (some_below 512 (λ j. slot j (get_or ld a 0 % 32)))
         back (s, ls, h) = let (i, k) = both_of (has_mapped t (object o) s) (whole t (cell t s) (subject a)) h in
             let v = has_mapped_at t (object o) s i in
             let d : (s * 16 + v.place) / 16 ≡ s = omega (arith, v.low) in
             let e = one_lead (kin_of ss gs) (kin_back ss gs) (kin_on ss gs) ld leads s a ls l (subst T (whole_kin s a) k) in
-            below_some 512 (λ j. eqb (slot j) (get_or ld a 0 % 32)) (s * 16 + v.place) (omega (arith, v.low))
-            (rw (d, sym e) (mapped_slot s v.place (get_or ld s 0 % 32) v.handle v.low v.held v.maps (number v.on)))
+            below_some 512 (λ j. slot j (get_or ld a 0 % 32)) (s * 16 + v.place) (omega (arith, v.low))
+            (both (maps_on (get_or hs (s * 16 + v.place) no_handle) o) (eqb (get_or ld ((s * 16 + v.place) / 16) 0 % 32) (get_or ld a 0 % 32))
+            (mapped_slot s v.place v.handle v.low v.held v.maps (number v.on)) (rw (d, e) (eqb_refl (get_or ld a 0 % 32))))
           where
             number : {a b : ℕ} → object a ≡ object b → a ≡ b
             number q = cc
@@ -293,3 +284,13 @@ module _ (rest : Tables) (before after : List Subject) (os : List Object) (hs : 
           go : Dec (n < 32) → e.label ⊑ d.label
           go (yes l) = kept (get_or before n no_subject) (get_or after n no_subject) e d (f n l) p r
           go (no h) = absurd (none-ne-some e (sym (ap subject_entry (get_or-eq_default before no_subject {n = n} (omega arith))) ∙ p))
+
+  -- one of the pairs of records sank, or none did
+  pub any_lower : (r : Bool) → length before ≡ 32 → length after ≡ 32
+      → MatchBool r ((k : ℕ) × (k < length (zip before after)) × HoldsAt (λ p. sank_by p.0 p.1 ≡ true) (zip before after) k)
+      (AllWithin (λ p. sank_by p.0 p.1 ≡ false) (zip before after) 0 (length (zip before after)))
+      → lowers (tables_of rest before os hs) (tables_of rest after os hs) ≡ r
+  any_lower true lb la (k, l, h) = let n : k < 32 = omega (arith, length-zip before after, l) in
+      found_lower k n (rw (get_or-zip before after k (no_subject, no_subject) (omega arith) (omega arith)) at (h (no_subject, no_subject)))
+  any_lower false lb la h = none_lower lb (λ s l. rw (get_or-zip before after s (no_subject, no_subject) (omega arith) (omega arith)) at
+      (h s (no_subject, no_subject) (omega arith) (omega (arith, length-zip before after))))

@@ -1,12 +1,12 @@
 -- What the inner functions of this crate work out, on records. No caller needs these. Assumes nothing.
-use Rattle.std.specs.Prelude.{Bool, false, not, cond, ℕ, eqb}
+use Rattle.std.specs.Prelude.{Bool, false, not, ◌&&◌, cond, ℕ, eqb}
 use Rattle.model.specs.Label.{label, leq}
 use Rattle.tables.specs.declared.Subject.{Subject}
 use Rattle.tables.specs.declared.Handle.{Handle}
 
--- s where h is a mapping on object o, 32 where it is not
-abbrev pub reader_slot : Handle → ℕ → ℕ → ℕ
-reader_slot h o s = cond (eqb h.way 3) (cond (eqb h.object o) s 32) 32
+-- h is a mapping on object o
+abbrev pub maps_on : Handle → ℕ → Bool
+maps_on h o = eqb h.way 3 && eqb h.object o
 
 -- x and y are live, and the label of y is not at least that of x
 abbrev pub sank_by : Subject → Subject → Bool

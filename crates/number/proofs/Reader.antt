@@ -7,30 +7,32 @@ use Prim.Native.Nat.{ℕ, zero, suc, ◌+◌, ◌-◌, ◌*◌, ◌/◌, ◌%◌
 use native.Mathlib.Omega.{arith}
 use native.Mathlib.Numerals.{add-one}
 use mathlib.Core.Bool.{Bool, true, false, cond, ◌||◌}
+use Rattle.std.specs.Prelude.{Option, Some, None}
+use Rattle.std.specs.Option.{option_map}
 use mathlib.Core.List.{List, [], ◌∷◌}
-use mathlib.Core.Option.{Option, none, some, map}
 use lib.Dec.{ltb, leb-suc-suc}
 use lib.ListN.{length, take, drop, get_or, length-take, length-drop}
 use lib.Seq.{get_or-take, get_or-drop}
 use borrow.Author.Tests.{lt-ltb, le-ltb}
-use Rattle.number.specs.Leb.{largest, longest, encode, Reading, good, malformed, numeral, value, padded, judged, number}
+use Rattle.std.proofs.lemmas.Option.{some_pair_parts}
+use Rattle.number.specs.Leb.{largest, longest, encode, Reading, good, numeral, value, padded, judged, number}
 use Rattle.number.specs.Leb.Laws.{split, clash, encode_one, encode_next, numeral_some, number_within, number_take}
 use Rattle.number.specs.Put.Laws.{rest_is}
 
 -- ---- nothing to read, and a last group
 
-pub number_nil : (most : ℕ) (s : List ℕ) → length s ≡ 0 → number most s ≡ malformed
+pub number_nil : (most : ℕ) (s : List ℕ) → length s ≡ 0 → number most s ≡ None
 unfolding number numeral
 number_nil most [] e = refl
 number_nil most (b ∷ s) e = absurd (omega arith)
 
-judged_one : (most b : ℕ) → b < 128 → judged most (some (b ∷ [])) ≡ cond (ltb most b) malformed (good b 1)
+judged_one : (most b : ℕ) → b < 128 → judged most (Some (b ∷ [])) ≡ cond (ltb most b) None (good b 1)
 unfolding value padded
 judged_one most b l =
     let worth : b % 128 + 128 * 0 ≡ b = omega arith in
     rw worth (rw (encode_one b l) (by_test (ltb most b)))
   where
-    by_test : (t : Bool) → cond (t || ltb 1 1) malformed (good b 1) ≡ cond t malformed (good b 1)
+    by_test : (t : Bool) → cond (t || ltb 1 1) None (good b 1) ≡ cond t None (good b 1)
     by_test true = refl
     by_test false = refl
 
@@ -44,11 +46,11 @@ number_one most (b ∷ s) h l fits = simp (lt-ltb b 128 l) (judged_one most b l 
 
 -- RULES J3: the first group and 128 times the value of the rest, which is not 0
 abbrev joined : ℕ → Reading → Reading
-joined g malformed = malformed
-joined g (good zero k) = malformed
-joined g (good (suc v) k) = good (g + 128 * suc v) (k + 1)
+joined g None = None
+joined g (Some (zero, k)) = None
+joined g (Some (suc v, k)) = good (g + 128 * suc v) (k + 1)
 
-joined_zero : (g v k : ℕ) → v < 1 → joined g (good v k) ≡ malformed
+joined_zero : (g v k : ℕ) → v < 1 → joined g (good v k) ≡ None
 joined_zero g zero k h = refl
 joined_zero g (suc v) k h = absurd (omega arith)
 
@@ -58,9 +60,9 @@ joined_some g (suc v) k h = refl
 
 -- what is joined so is not 0
 joined_worth : (g : ℕ) (r : Reading) (v k : ℕ) → joined g r ≡ good v k → 0 < v
-joined_worth g malformed v k e = clash (cc)
-joined_worth g (good zero j) v k e = clash (cc)
-joined_worth g (good (suc w) j) v k e = let same : g + 128 * suc w ≡ v = cc in omega arith
+joined_worth g None v k e = clash (cc)
+joined_worth g (Some (zero, j)) v k e = clash (cc)
+joined_worth g (Some (suc w, j)) v k e = omega (arith, (some_pair_parts (g + 128 * suc w) v (j + 1) k e).0)
 
 -- what is left of a limit for the rest
 over_rest : (most g v : ℕ) → g ≤ most → ltb most (g + 128 * v) ≡ ltb ((most - g) / 128) v
@@ -71,7 +73,7 @@ over_rest most g v h = ⊎_elim
 
 -- the tests of a number pass where those of its rest do, and the rest is not 0
 judged_more : (most g : ℕ) (bs : List ℕ) → g < 128 → g ≤ most → 0 < length bs
-    → judged most (some ((g + 128) ∷ bs)) ≡ joined g (judged ((most - g) / 128) (some bs))
+    → judged most (Some ((g + 128) ∷ bs)) ≡ joined g (judged ((most - g) / 128) (Some bs))
 unfolding value padded
 judged_more most g bs small fits full = rw worth (⊎_elim nothing something (split (value bs) 1))
   where
@@ -79,16 +81,16 @@ judged_more most g bs small fits full = rw worth (⊎_elim nothing something (sp
     worth = omega arith
 
     whole : ℕ → Reading
-    whole n = cond (ltb most n || ltb (length (encode n)) (suc (length bs))) malformed (good n (suc (length bs)))
+    whole n = cond (ltb most n || ltb (length (encode n)) (suc (length bs))) None (good n (suc (length bs)))
 
     rest : Reading
-    rest = judged ((most - g) / 128) (some bs)
+    rest = judged ((most - g) / 128) (Some bs)
 
-    either : (over : Bool) (r : Reading) → cond (over || true) malformed r ≡ malformed
+    either : (over : Bool) (r : Reading) → cond (over || true) None r ≡ None
     either true r = refl
     either false r = refl
 
-    zero_rest : (t : Bool) → value bs < 1 → malformed ≡ joined g (cond t malformed (good (value bs) (length bs)))
+    zero_rest : (t : Bool) → value bs < 1 → None ≡ joined g (cond t None (good (value bs) (length bs)))
     zero_rest true z = refl
     zero_rest false z = sym (joined_zero g (value bs) (length bs) z)
 
@@ -101,7 +103,7 @@ judged_more most g bs small fits full = rw worth (⊎_elim nothing something (sp
         ∙ zero_rest (ltb ((most - g) / 128) (value bs) || ltb (length (encode (value bs))) (length bs)) z))
 
     some_rest : (t : Bool) → 1 ≤ value bs
-        → cond t malformed (good (g + 128 * value bs) (suc (length bs))) ≡ joined g (cond t malformed (good (value bs) (length bs)))
+        → cond t None (good (g + 128 * value bs) (suc (length bs))) ≡ joined g (cond t None (good (value bs) (length bs)))
     some_rest true p = refl
     some_rest false p = ap (good (g + 128 * value bs)) (sym (add-one (length bs))) ∙ sym (joined_some g (value bs) (length bs) p)
 
@@ -120,14 +122,14 @@ number_more most [] h l byte fits = absurd (omega arith)
 number_more most (b ∷ s) h l byte fits = simp (le-ltb b 128 l) (by_numeral (numeral s) refl)
   where
     by_numeral : (o : Option (List ℕ)) → numeral s ≡ o
-        → judged most (map (λ (t : List ℕ). b ∷ t) o) ≡ joined (b - 128) (judged ((most - (b - 128)) / 128) o)
-    by_numeral none q = refl
-    by_numeral (some bs) q =
-        ap (λ (x : ℕ). judged most (some (x ∷ bs))) (omega arith) ∙ judged_more most (b - 128) bs (omega arith) fits (numeral_some s bs q)
+        → judged most (option_map (λ (t : List ℕ). b ∷ t) o) ≡ joined (b - 128) (judged ((most - (b - 128)) / 128) o)
+    by_numeral None q = refl
+    by_numeral (Some bs) q =
+        ap (λ (x : ℕ). judged most (Some (x ∷ bs))) (omega arith) ∙ judged_more most (b - 128) bs (omega arith) fits (numeral_some s bs q)
 
 -- ---- two bytes
 
-pub number_cut : (most : ℕ) (s : List ℕ) → length s ≡ 1 → 128 ≤ get_or s 0 0 → number most s ≡ malformed
+pub number_cut : (most : ℕ) (s : List ℕ) → length s ≡ 1 → 128 ≤ get_or s 0 0 → number most s ≡ None
 unfolding number numeral
 number_cut most [] e l = absurd (omega arith)
 number_cut most (b ∷ []) e l = simp (le-ltb b 128 l)
@@ -160,7 +162,7 @@ module _ {s : List ℕ} (b : Begun s) where
       (omega (arith, second s, b.byte))
       ∙ ap (λ (x : ℕ). good x 1) (second s)
 
-  pub number_padded : get_or s 1 0 ≡ 0 → number largest s ≡ malformed
+  pub number_padded : get_or s 1 0 ≡ 0 → number largest s ≡ None
   number_padded z =
       begun_more (good (get_or s 1 0) 1) (rest_one (omega arith)) ∙ joined_zero (group s) (get_or s 1 0) 1 (omega arith)
 
@@ -171,32 +173,32 @@ module _ {s : List ℕ} (b : Begun s) where
 
 -- what is read within a larger limit, held to a smaller one
 abbrev held : ℕ → Reading → Reading
-held less malformed = malformed
-held less (good v k) = cond (ltb less v) malformed (good v k)
+held less None = None
+held less (Some (v, k)) = cond (ltb less v) None (good v k)
 
 number_held : (less most : ℕ) (s : List ℕ) → less ≤ most → number less s ≡ held less (number most s)
 unfolding number
 number_held less most s h = by_numeral (numeral s)
   where
     by_tests : (bs : List ℕ) (long : Bool)
-        → cond (ltb less (value bs) || long) malformed (good (value bs) (length bs))
-        ≡ held less (cond (ltb most (value bs) || long) malformed (good (value bs) (length bs)))
+        → cond (ltb less (value bs) || long) None (good (value bs) (length bs))
+        ≡ held less (cond (ltb most (value bs) || long) None (good (value bs) (length bs)))
     by_tests bs long = ⊎_elim
         (λ over. simp (lt-ltb most (value bs) over, lt-ltb less (value bs) (omega arith)))
         (λ fits. simp (le-ltb most (value bs) fits) (by_test long (ltb less (value bs)) refl))
         (split most (value bs))
       where
         by_test : (long over : Bool) → ltb less (value bs) ≡ over
-            → cond (over || long) malformed (good (value bs) (length bs))
-            ≡ held less (cond long malformed (good (value bs) (length bs)))
+            → cond (over || long) None (good (value bs) (length bs))
+            ≡ held less (cond long None (good (value bs) (length bs)))
         by_test true true q = refl
         by_test true false q = refl
         by_test false true q = simp q
         by_test false false q = simp q
 
     by_numeral : (o : Option (List ℕ)) → judged less o ≡ held less (judged most o)
-    by_numeral none = refl
-    by_numeral (some bs) = by_tests bs (padded bs)
+    by_numeral None = refl
+    by_numeral (Some bs) = by_tests bs (padded bs)
 
 -- ---- the rest, as the call of itself reads it
 
@@ -234,11 +236,11 @@ module _ {s : List ℕ} (b : Begun s) where
       ∙ ap (joined (group s)) (sym (number_held (left s) largest (rest s) (omega arith)) ∙ reached)
       ∙ sym (begun_more b (number (left s) (drop 1 s)) refl)
 
-  pub rest_malformed : malformed ≡ number largest (rest s) → malformed ≡ number largest s
-  rest_malformed e = number_rest malformed e
+  pub rest_malformed : None ≡ number largest (rest s) → None ≡ number largest s
+  rest_malformed e = number_rest None e
 
   module _ (v u : ℕ) (e : good v u ≡ number largest (rest s)) where
-    pub rest_over : left s < v → malformed ≡ number largest s
+    pub rest_over : left s < v → None ≡ number largest s
     rest_over over = simp (lt-ltb (left s) v over) at (number_rest (good v u) e)
 
     pub rest_used : u < length s

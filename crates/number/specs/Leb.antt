@@ -1,8 +1,8 @@
 -- The journal's numbers: unsigned LEB128 as in DWARF 5. States RULES J1 to J7.
 -- In order: bytes; the two constants of the format; the coding of a number; what stands at the front of some bytes. A byte is
 -- a number below 256. The laws are in Leb/Laws. Assumes nothing.
-use Rattle.std.specs.Prelude.{ℕ, zero, suc, ◌+◌, ◌*◌, ◌/◌, ◌%◌, ◌≤◌, Bool, cond, ◌||◌, List, [], ◌∷◌, ltb, length, get_or}
-use Rattle.std.proofs.Math.Option.{Option, none, some, map}
+use Rattle.std.specs.Prelude.{ℕ, zero, suc, ◌+◌, ◌*◌, ◌/◌, ◌%◌, ◌≤◌, Bool, cond, ◌||◌, Option, Some, None, List, [], ◌∷◌, ltb, length, get_or}
+use Rattle.std.specs.Option.{option_map}
 pub mod Laws
 
 -- numbers of at most m; bytes
@@ -36,15 +36,17 @@ encode n = groups n n
 
 -- ---- reading
 
--- what reading finds: a good number, with how many bytes it takes, or a malformed one
-pub data Reading : Type 0 where
-  good : (value used : ℕ) → Reading
-  malformed : Reading
+-- what reading finds: a good number's value and how many bytes it takes; none where it is malformed
+abbrev pub Reading : Type 0
+Reading = Option (ℕ × ℕ)
+
+abbrev pub good : ℕ → ℕ → Reading
+good v k = Some (v, k)
 
 -- RULES J2, J4: the number's bytes, to the first whose top bit is 0; none where it is cut off
 unfoldable pub numeral : List ℕ → Option (List ℕ)
-numeral [] = none
-numeral (b ∷ bs) = cond (ltb b 128) (some (b ∷ [])) (map (λ rest. b ∷ rest) (numeral bs))
+numeral [] = None
+numeral (b ∷ bs) = cond (ltb b 128) (Some (b ∷ [])) (option_map (λ rest. b ∷ rest) (numeral bs))
 
 -- RULES J3
 unfoldable pub value : List ℕ → ℕ
@@ -57,8 +59,8 @@ padded bs = ltb (length (encode (value bs))) (length bs)
 
 -- RULES J4, J5, J6, J7: malformed if cut off, too large or padded; else good
 abbrev pub judged : ℕ → Option (List ℕ) → Reading
-judged most none = malformed
-judged most (some bs) = cond (ltb most (value bs) || padded bs) malformed (good (value bs) (length bs))
+judged most None = None
+judged most (Some bs) = cond (ltb most (value bs) || padded bs) None (good (value bs) (length bs))
 
 -- the number of at most `most` at the front of some bytes
 unfoldable pub number : ℕ → List ℕ → Reading

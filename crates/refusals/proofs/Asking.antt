@@ -1,6 +1,6 @@
 -- For each call the number of its refusal, from what the records that it looks at say. Assumes nothing.
 use mathlib.Core.Path.{◌≡◌, refl, sym, ◌∙◌, subst}
-use mathlib.Core.Bool.{Bool, true, false, not, ◌||◌, cond}
+use mathlib.Core.Bool.{Bool, false, not, ◌||◌, cond}
 use mathlib.Core.List.{[], ◌∷◌}
 use Prim.Native.Nat.{ℕ}
 use borrow.Author.Tests.{eq-eqb}
@@ -9,7 +9,7 @@ use Rattle.model.specs.Label.{label, in_scale}
 use Rattle.model.specs.Flow.{subject, object}
 use Rattle.model.specs.Tables.{Tables, Dir, reading, writing}
 use Rattle.model.specs.Invariant.{Wf}
-use Rattle.model.specs.Calls.{Call, admit, register, create, make_pipe, opens, access, fork, thread, exec, close, exit, retire, maps, mark, freeze, connect, alive, new, taken}
+use Rattle.model.specs.Calls.{admit, register, create, make_pipe, opens, access, fork, thread, exec, close, exit, retire, maps, mark, freeze, connect, alive, new, taken}
 use Rattle.tables.specs.declared.Subject.{Subject}
 use Rattle.tables.specs.declared.Object.{Object}
 use Rattle.tables.specs.declared.Handle.{Handle}
@@ -81,26 +81,28 @@ of_pipe o r w x y h k e t s f q v i j room = finds (record {
   eight = refl;
 }) e
 
-pub of_connect : {n : ℕ} (s u a b p q : ℕ) (x z : Subject) (y v : Object) (h k i j : Handle)
-    → n ≡ cond (eqb x.live 0 || eqb z.live 0) 2 (cond (eqb s u) 16 (cond ((used_object y || used_object v) || eqb a b) 3
-    (cond (leb 64 a || leb 64 b) 17 (cond (((used_place p h || used_place q k) || (used_place p i || used_place q j)) || eqb p q) 7 0))))
+-- (of each condition is told what it comes to, so that each is worked out for itself)
+pub of_connect : (s u a b p q : ℕ) (x z : Subject) (y v : Object) (h k i j : Handle) {b2 b16 b3 b17 b7 : Bool}
+    → (eqb x.live 0 || eqb z.live 0) ≡ b2 → eqb s u ≡ b16 → ((used_object y || used_object v) || eqb a b) ≡ b3 → (leb 64 a || leb 64 b) ≡ b17
+    → (((used_place p h || used_place q k) || (used_place p i || used_place q j)) || eqb p q) ≡ b7
     → (t : Tables) → Wf t → t.at (subject s) ≡ subject_entry x → t.at (subject u) ≡ subject_entry z → t.at (object a) ≡ object_entry y → t.at (object b) ≡ object_entry v
-    → t.hand s p ≡ held h → t.hand s q ≡ held k → t.hand u p ≡ held i → t.hand u q ≡ held j → Room t (connect s u a b p q) → Refuses t (connect s u a b p q) n
-of_connect s u a b p q x z y v h k i j e t w sx uz ay bv sh sk ui uj room = finds (record {
+    → t.hand s p ≡ held h → t.hand s q ≡ held k → t.hand u p ≡ held i → t.hand u q ≡ held j → Room t (connect s u a b p q)
+    → Refuses t (connect s u a b p q) (cond b2 2 (cond b16 16 (cond b3 3 (cond b17 17 (cond b7 7 0)))))
+of_connect s u a b p q x z y v h k i j l e g f m t w sx uz ay bv sh sk ui uj room = finds (record {
   one = refl;
-  two = both (alive_is t w s x sx) (alive_is t w u z uz) refl;
-  sixteen = alone {a = eqb s u} refl;
-  three = places (eqb a b) (new_object_is t a y ay) (new_object_is t b v bv) refl refl;
+  two = both (alive_is t w s x sx) (alive_is t w u z uz) (sym l);
+  sixteen = alone {a = eqb s u} e;
+  three = places (eqb a b) (new_object_is t a y ay) (new_object_is t b v bv) refl (sym g);
   seventeen = λ n.
-      let g = or-false (used_object y || used_object v) (eqb a b) n in
-      let f = or-false (used_object y) (used_object v) g.0 in
-      alone (room (free_is t a y _ ay refl f.0) (free_is t b v _ bv refl f.1) (λ d. absurd (subst T (sym (eq-eqb a b d) ∙ g.1) tt)));
+      let d = or-false (used_object y || used_object v) (eqb a b) (g ∙ n) in
+      let c = or-false (used_object y) (used_object v) d.0 in
+      alone (room (free_is t a y _ ay refl c.0) (free_is t b v _ bv refl c.1) (λ o. absurd (subst T (sym (eq-eqb a b o) ∙ d.1) tt)) ∙ f);
   four = refl;
   five = refl;
   six = refl;
-  seven = four_places (eqb p q) (vacant_is t s p h sh) (vacant_is t s q k sk) (vacant_is t u p i ui) (vacant_is t u q j uj) refl refl refl refl;
+  seven = four_places (eqb p q) (vacant_is t s p h sh) (vacant_is t s q k sk) (vacant_is t u p i ui) (vacant_is t u q j uj) refl refl refl (sym m);
   eight = refl;
-}) e
+}) refl
 
 pub of_open : {n : ℕ} (p : ℕ) (x : Subject) (y : Object) (h : Handle) → n ≡ cond (eqb x.live 0) 2 (cond (eqb y.kind 0) 4 (cond (used_place p h) 7 0))
     → (t : Tables) (d : Dir) (s o : ℕ) → Wf t → t.at (subject s) ≡ subject_entry x → t.at (object o) ≡ object_entry y → t.hand s p ≡ held h → Refuses t (opens d s o p) n

@@ -11,7 +11,7 @@ use Rattle.model.specs.Calls.{Call, Test, tests, order, breaks, first, refusal}
 use Rattle.answers.specs.declared.Refusal.{Refusal}
 use Rattle.answers.specs.Telling.{number_of}
 use Rattle.answers.proofs.Numbers.{number_not_0}
-use Rattle.refusals.specs.Refusing.{late, Refuses, Late, Refused}
+use Rattle.refusals.specs.Refusing.{late, Refuses, Refused}
 
 -- the test of a number that has one test alone
 pub alone : {a b : Bool} → a ≡ b → (a || false) ≡ b

@@ -57,13 +57,10 @@ fn is_off(level: u64, shops: u64) -> bool
     HIGHEST < level || EVERY_SHOP < shops
 }
 
-// RULES R2, R3 and R17 of a call by which x makes an object; y stands in the slot.
-fn made(slot: u64, x: Subject, y: Object) -> Result<(), Refusal>
-    ensures { number_in result ≡ cond (eqb x.live 0) 2 (cond (used_object y) 3 (cond (leb 64 slot) 17 0)) }
+// RULES R3 and R17 of a new object; y stands in the slot.
+fn room(slot: u64, y: Object) -> Result<(), Refusal>
+    ensures { number_in result ≡ cond (used_object y) 3 (cond (leb 64 slot) 17 0) }
 {
-    if x.live == 0 {
-        return Err(Refusal::NoSubject);
-    }
     if is_object_used(y) {
         return Err(Refusal::NumberTaken);
     }
@@ -71,6 +68,16 @@ fn made(slot: u64, x: Subject, y: Object) -> Result<(), Refusal>
         return Err(Refusal::TooManyObjects);
     }
     Ok(())
+}
+
+// RULES R2, R3 and R17 of a call by which x makes an object; y stands in the slot.
+fn made(slot: u64, x: Subject, y: Object) -> Result<(), Refusal>
+    ensures { number_in result ≡ cond (eqb x.live 0) 2 (cond (used_object y) 3 (cond (leb 64 slot) 17 0)) }
+{
+    if x.live == 0 {
+        return Err(Refusal::NoSubject);
+    }
+    room(slot, y)
 }
 
 // Call 1; x stands at s.
@@ -91,12 +98,7 @@ pub fn of_register(o: u64, level: u64, shops: u64, y: Object) -> Result<(), Refu
     ensures { (t : Tables) → Wf t → t.at (object o) ≡ object_entry y → Room t (register o (label level shops)) →
         Refuses t (register o (label level shops)) (number_in result) }
 {
-    if is_object_used(y) {
-        return Err(Refusal::NumberTaken);
-    }
-    if OBJECT_NUMBERS <= o {
-        return Err(Refusal::TooManyObjects);
-    }
+    room(o, y)?;
     if is_off(level, shops) {
         return Err(Refusal::LevelTooHigh);
     }

@@ -1,7 +1,7 @@
 -- How far a reply has come: what has been written, and what is left. The inner loop of the replay keeps it; no caller needs it. Assumes nothing.
-use Rattle.std.specs.Prelude.{◌≡◌, refl, Bool, true, false, cond, List, [], ◌∷◌, ◌++◌, ℕ, zero, suc, ◌+◌, ◌*◌, ◌-◌, ◌≤◌, ◌<◌, length, take, drop}
+use Rattle.std.specs.Prelude.{◌≡◌, refl, List, [], ◌∷◌, ◌++◌, ℕ, zero, suc, ◌+◌, ◌*◌, ◌-◌, ◌≤◌, ◌<◌, length, take, drop, Option, Some, None}
 use Rattle.std.proofs.Common.{sym, ◌∙◌, ap, subst, append_assoc, append-nil, arith, add-one, lt-ltb, le-ltb, length-append, take_at}
-use Rattle.std.proofs.Math.Option.{Option, none, some, none-ne-some}
+use Rattle.std.proofs.lemmas.Option.{none-some}
 use borrow.Rule.Slice.PartMut.{put_mid}
 use Rattle.model.specs.Tables.{Tables, empty}
 use Rattle.model.specs.Invariant.{Kept}
@@ -58,22 +58,22 @@ same_begun whole first = record { count = 0; front = refl; after = refl }
 abbrev pub Ends : (text first out : List ℕ) → Option ℕ → Type 0
 Ends text first out answer =
     (answer ≡ fitted text first)
-    × (((k : ℕ) → answer ≡ some k → out ≡ put text first) × (Begun text first out × (reply_room ≤ length first → length text ≤ length first)))
+    × (((k : ℕ) → answer ≡ Some k → out ≡ put text first) × (Begun text first out × (reply_room ≤ length first → length text ≤ length first)))
 
 -- all of the text is written
-pub all_ends : (text first out : List ℕ) (n : ℕ) → Over first text n out → Ends text first out (some n)
+pub all_ends : (text first out : List ℕ) (n : ℕ) → Over first text n out → Ends text first out (Some n)
 all_ends text first out n v =
-    let fit : some n ≡ fitted text first = ap some (over_count v) ∙ sym (fitted_fits text first (omega (arith, over_count v, v.within))) in
+    let fit : Some n ≡ fitted text first = ap Some (over_count v) ∙ sym (fitted_fits text first (omega (arith, over_count v, v.within))) in
     (fit, (λ k z. over_put v, (over_begun text first text [] out n v (append-nil text), λ _. (fits text first n (sym fit)).1)))
 
 -- there is no room for all of it, and what stands there is its front
-pub none_ends : (text first out : List ℕ) → none ≡ fitted text first → Begun text first out → (reply_room ≤ length first → ⊥)
-    → Ends text first out none
-none_ends text first out short begun full = (short, (λ k z. absurd (none-ne-some k z), (begun, λ room. absurd (full room))))
+pub none_ends : (text first out : List ℕ) → None ≡ fitted text first → Begun text first out → (reply_room ≤ length first → ⊥)
+    → Ends text first out None
+none_ends text first out short begun full = (short, (λ k z. absurd (none-some k z), (begun, λ room. absurd (full room))))
 
 -- there is room for what is no longer than `most`, where that much is left
 room_left : (first done out e : List ℕ) (used most : ℕ) → Over first done used out → length e ≤ most → used + most ≤ length first
-    → none ≡ fitted e (take (length out - used) (drop used out)) → ⊥
+    → None ≡ fitted e (take (length out - used) (drop used out)) → ⊥
 room_left first done out e used most v short h answer =
     omega (arith, rest_length v, fits_not e (take (length out - used) (drop used out)) (sym answer), v.size)
 
@@ -87,7 +87,7 @@ module _ (j first out : List ℕ) (p used : ℕ) where
     rejoined = ap (λ (k : List ℕ). g.done ++ k) (sym (left_more m n y z code a g.kept p s l plain o)) ∙ g.sum
 
     -- the record's line is written
-    pub more : (ys : List ℕ) (k : ℕ) → some k ≡ fitted e (take (length out - used) (drop used out))
+    pub more : (ys : List ℕ) (k : ℕ) → Some k ≡ fitted e (take (length out - used) (drop used out))
         → ys ≡ put e (take (length out - used) (drop used out))
         → Stage j first (put_mid used (length out - used) out ys) (view n) z (suc p) (used + k) l
     more ys k answer wrote = record {
@@ -100,14 +100,14 @@ module _ (j first out : List ℕ) (p used : ℕ) where
     }
 
     -- there is no room for it, and so none for the whole
-    pub no_more : none ≡ fitted e (take (length out - used) (drop used out)) → none ≡ fitted (whole j) first
+    pub no_more : None ≡ fitted e (take (length out - used) (drop used out)) → None ≡ fitted (whole j) first
     no_more answer = sym (fitted_none (whole j) first (omega (arith, length-append g.done (e ++ left (suc p) (view n) z l), length-append e (left (suc p) (view n) z l), ap length rejoined, over_count g.over, rest_length g.over, fits_not e (take (length out - used) (drop used out)) (sym answer), g.over.within)))
 
   -- what comes next, of at most `most` bytes, has no room: the buffer stays as it is, and was shorter than any reply needs
   pub short_ends : (t : Tables) (y : Tally) (rest : List Said) (g : Stage j first out t y p used rest) (e : List ℕ) (most : ℕ) → length e ≤ most
-      → (reply_room ≤ length first → used + most ≤ length first) → none ≡ fitted (whole j) first
-      → (ys : List ℕ) → none ≡ fitted e (take (length out - used) (drop used out)) → ys ≡ put e (take (length out - used) (drop used out))
-      → Ends (whole j) first (put_mid used (length out - used) out ys) none
+      → (reply_room ≤ length first → used + most ≤ length first) → None ≡ fitted (whole j) first
+      → (ys : List ℕ) → None ≡ fitted e (take (length out - used) (drop used out)) → ys ≡ put e (take (length out - used) (drop used out))
+      → Ends (whole j) first (put_mid used (length out - used) out ys) None
   short_ends t y rest g e most thin room short ys answer wrote = none_ends (whole j) first (put_mid used (length out - used) out ys) short
       (subst (λ (b : List ℕ). Begun (whole j) first b) (sym (none_after g.over e ys answer wrote))
       (over_begun (whole j) first g.done (left p t y rest) out used g.over g.sum))
@@ -115,39 +115,36 @@ module _ (j first out : List ℕ) (p used : ℕ) where
 
   module _ (t : Tables) (y : Tally) (g : Stage j first out t y p used []) where
     -- the last line is written, and the whole with it
-    pub ended : (ys : List ℕ) (k : ℕ) → some k ≡ fitted (last_line y) (take (length out - used) (drop used out))
+    pub ended : (ys : List ℕ) (k : ℕ) → Some k ≡ fitted (last_line y) (take (length out - used) (drop used out))
         → ys ≡ put (last_line y) (take (length out - used) (drop used out))
-        → Ends (whole j) first (put_mid used (length out - used) out ys) (some (used + k))
+        → Ends (whole j) first (put_mid used (length out - used) out ys) (Some (used + k))
     ended ys k answer wrote = all_ends (whole j) first (put_mid used (length out - used) out ys) (used + k)
         (subst (λ (d : List ℕ). Over first d (used + k) (put_mid used (length out - used) out ys)) g.sum
         (put_after g.over (last_line y) ys k answer wrote))
 
-    not_ended : none ≡ fitted (last_line y) (take (length out - used) (drop used out)) → none ≡ fitted (whole j) first
+    not_ended : None ≡ fitted (last_line y) (take (length out - used) (drop used out)) → None ≡ fitted (whole j) first
     not_ended answer = sym (fitted_none (whole j) first (omega (arith, length-append g.done (last_line y), ap length g.sum, over_count g.over, rest_length g.over, fits_not (last_line y) (take (length out - used) (drop used out)) (sym answer), g.over.within)))
 
 -- ── the loop ──
--- the next record is looked for at `at`, or the run has stopped
-pub record Going (j first out : List ℕ) (t : Tables) (y : Tally) (at position used : ℕ) (going : Bool) : Type 0 where
+-- the next record is looked for at `at`
+pub record Going (j first out : List ℕ) (t : Tables) (y : Tally) (at position used : ℕ) : Type 0 where
   pub most : ℕ
   pub enough : length j ≤ at + most
   pub inside : at ≤ length j
   pub early : position ≤ at + 1
-  pub short : used ≤ longest_line * cond going at (length j)
-  pub stage : Stage j first out t y position used (cond going (records most j at) [])
+  pub short : used ≤ longest_line * at
+  pub stage : Stage j first out t y position used (records most j at)
 
--- as a test of `going` showed it
-pub at_test : {j first out : List ℕ} {t : Tables} {y : Tally} {at p used : ℕ} {b d : Bool} → b ≡ d → Going j first out t y at p used b
-    → Going j first out t y at p used d
-at_test {j} {first} {out} {t} {y} {at} {p} {used} e g = subst (λ (b : Bool). Going j first out t y at p used b) e g
+-- the run has stopped: no record is left
+pub record Stopped (j first out : List ℕ) (t : Tables) (y : Tally) (used : ℕ) : Type 0 where
+  pub position : ℕ
+  pub short : used ≤ longest_line * length j
+  pub stage : Stage j first out t y position used []
 
-pub going_begun : (j first : List ℕ) (t : Tables) → t ≡ empty → Going j first first t zeroed 0 1 0 true
+pub going_begun : (j first : List ℕ) (t : Tables) → t ≡ empty → Going j first first t zeroed 0 1 0
 going_begun j first t e = record { most = length j; enough = omega arith; inside = omega arith; early = omega arith; short = omega arith; stage = begun j first t e }
 
-pub stopped : (j first out : List ℕ) (t : Tables) (y : Tally) (at p q used : ℕ) → at ≤ length j → p ≤ at + 1 → used ≤ longest_line * length j
-    → Stage j first out t y q used [] → Going j first out t y at p used false
-stopped j first out t y at p q used inside early short g = record { most = length j; enough = omega arith; inside = inside; early = early; short = short; stage = record { kept = g.kept; done = g.done; over = g.over; sum = g.sum; leads = g.leads; counts = g.counts } }
-
-module _ (j first out : List ℕ) (at p used : ℕ) (m : Monitor) (y : Tally) (g : Going j first out (view m) y at p used true) where
+module _ (j first out : List ℕ) (at p used : ℕ) (m : Monitor) (y : Tally) (g : Going j first out (view m) y at p used) where
   -- a record stands at `at`
   module _ (start len next : ℕ) (e : entry_at j at ≡ reads (body start len next)) where
     abbrev s : Said
@@ -162,9 +159,9 @@ module _ (j first out : List ℕ) (at p used : ℕ) (m : Monitor) (y : Tally) (g
 
     module _ (n : Monitor) (z : Tally) (code : ℕ) (a : Answer) (o : Turned m y s code a n z)
         (thin : length (answer_line p code a) ≤ longest_line) where
-      pub record_turn : (ys : List ℕ) (k : ℕ) → some k ≡ fitted (answer_line p code a) (take (length out - used) (drop used out))
+      pub record_turn : (ys : List ℕ) (k : ℕ) → Some k ≡ fitted (answer_line p code a) (take (length out - used) (drop used out))
           → ys ≡ put (answer_line p code a) (take (length out - used) (drop used out))
-          → Going j first (put_mid used (length out - used) out ys) (view n) z next (p + 1) (used + k) true
+          → Going j first (put_mid used (length out - used) out ys) (view n) z next (p + 1) (used + k)
       record_turn ys k answer wrote = let (i, far, g') = here in record {
         most = i;
         enough = far;
@@ -182,16 +179,16 @@ module _ (j first out : List ℕ) (at p used : ℕ) (m : Monitor) (y : Tally) (g
             (sym (add-one p)) (more j first out p used m n y z s (records i j next) code a (body_plain (take len (drop start j))) o g' ys k answer wrote);
       }
 
-      record_short : none ≡ fitted (answer_line p code a) (take (length out - used) (drop used out))
-          → none ≡ fitted (whole j) first
+      record_short : None ≡ fitted (answer_line p code a) (take (length out - used) (drop used out))
+          → None ≡ fitted (whole j) first
       record_short answer =
           let (i, far, g') = here in
           no_more j first out p used m n y z s (records i j next) code a (body_plain (take len (drop start j))) o g' answer
 
       pub record_ends : length j ≤ largest_journal → (ys : List ℕ)
-          → none ≡ fitted (answer_line p code a) (take (length out - used) (drop used out))
+          → None ≡ fitted (answer_line p code a) (take (length out - used) (drop used out))
           → ys ≡ put (answer_line p code a) (take (length out - used) (drop used out))
-          → Ends (whole j) first (put_mid used (length out - used) out ys) none
+          → Ends (whole j) first (put_mid used (length out - used) out ys) None
       record_ends small ys answer = short_ends j first out p used (view m) y (records g.most j at) g.stage (answer_line p code a)
           longest_line thin (λ room. omega (arith, g.short, room, small, entry_next j at start len next e)) (record_short answer) ys answer
 
@@ -205,68 +202,72 @@ module _ (j first out : List ℕ) (at p used : ℕ) (m : Monitor) (y : Tally) (g
         go (suc i) q = subst (λ (x : List Said). Stage j first out (view m) y p used x) (ap (λ (k : ℕ). records k j at) q ∙ records_stop i j at 11 e)
             g.stage
 
-    pub broken_turn : (ys : List ℕ) (k : ℕ) → some k ≡ fitted (line p 0 82 11 0) (take (length out - used) (drop used out)) → ys ≡ put (line p 0 82 11 0)
+    pub broken_turn : (ys : List ℕ) (k : ℕ) → Some k ≡ fitted (line p 0 82 11 0) (take (length out - used) (drop used out)) → ys ≡ put (line p 0 82 11 0)
         (take (length out - used) (drop used out))
-        → Going j first (put_mid used (length out - used) out ys) (view m) y at p (used + k) false
-    broken_turn ys k answer wrote = stopped j first (put_mid used (length out - used) out ys) (view m) y at p (suc p) (used + k) g.inside g.early
-        (omega (arith, g.short, thin, (fits (line p 0 82 11 0) (take (length out - used) (drop used out)) k (sym answer)).0))
-        (more j first out p used m m y y (said 0 (bad 11)) [] 0 (refused 11) eleven_plain (refl, refl, refl, refl) there ys k answer wrote)
+        → Stopped j first (put_mid used (length out - used) out ys) (view m) y (used + k)
+    broken_turn ys k answer wrote = record {
+      position = suc p;
+      short = omega (arith, g.short, thin, h, (fits (line p 0 82 11 0) (take (length out - used) (drop used out)) k (sym answer)).0);
+      stage = more j first out p used m m y y (said 0 (bad 11)) [] 0 (refused 11) eleven_plain (refl, refl, refl, refl) there ys k answer wrote;
+    }
 
-    broken_short : none ≡ fitted (line p 0 82 11 0) (take (length out - used) (drop used out)) → none ≡ fitted (whole j) first
+    broken_short : None ≡ fitted (line p 0 82 11 0) (take (length out - used) (drop used out)) → None ≡ fitted (whole j) first
     broken_short answer = no_more j first out p used m m y y (said 0 (bad 11)) [] 0 (refused 11) eleven_plain (refl, refl, refl, refl) there answer
 
-    pub broken_ends : length j ≤ largest_journal → (ys : List ℕ) → none ≡ fitted (line p 0 82 11 0) (take (length out - used) (drop used out))
-        → ys ≡ put (line p 0 82 11 0) (take (length out - used) (drop used out)) → Ends (whole j) first (put_mid used (length out - used) out ys) none
+    pub broken_ends : length j ≤ largest_journal → (ys : List ℕ) → None ≡ fitted (line p 0 82 11 0) (take (length out - used) (drop used out))
+        → ys ≡ put (line p 0 82 11 0) (take (length out - used) (drop used out)) → Ends (whole j) first (put_mid used (length out - used) out ys) None
     broken_ends small ys answer = short_ends j first out p used (view m) y (records g.most j at) g.stage (line p 0 82 11 0) longest_line thin
         (λ room. omega (arith, g.short, room, small)) (broken_short answer) ys answer
 
   -- the journal ends at `at`
-  pub end_turn : entry_at j at ≡ reads end → Going j first out (view m) y at p used false
-  end_turn e = go g.most refl
+  pub end_turn : entry_at j at ≡ reads end → Stopped j first out (view m) y used
+  end_turn e = record {
+    position = p;
+    short = omega (arith, g.short, g.inside);
+    stage = subst (λ (x : List Said). Stage j first out (view m) y p used x) (none_left g.most) g.stage;
+  }
     where
-      go : (i : ℕ) → g.most ≡ i → Going j first out (view m) y at p used false
-      go zero q = stopped j first out (view m) y at p p used g.inside g.early (omega (arith, g.short, g.inside))
-          (subst (λ (x : List Said). Stage j first out (view m) y p used x) (ap (λ (k : ℕ). records k j at) q) g.stage)
-      go (suc i) q = stopped j first out (view m) y at p p used g.inside g.early (omega (arith, g.short, g.inside))
-          (subst (λ (x : List Said). Stage j first out (view m) y p used x) (ap (λ (k : ℕ). records k j at) q ∙ records_end i j at e) g.stage)
+      none_left : (i : ℕ) → records i j at ≡ []
+      none_left zero = refl
+      none_left (suc i) = records_end i j at e
 
 -- the last line has no room
-pub end_short : (j first out : List ℕ) (t : Tables) (y : Tally) (at p used : ℕ) → Going j first out t y at p used false
+pub end_short : (j first out : List ℕ) (t : Tables) (y : Tally) (used : ℕ) → Stopped j first out t y used
     → length (last_line y) ≤ longest_end → length j ≤ largest_journal
-    → (ys : List ℕ) → none ≡ fitted (last_line y) (take (length out - used) (drop used out)) → ys ≡ put (last_line y)
+    → (ys : List ℕ) → None ≡ fitted (last_line y) (take (length out - used) (drop used out)) → ys ≡ put (last_line y)
     (take (length out - used) (drop used out))
-    → Ends (whole j) first (put_mid used (length out - used) out ys) none
-end_short j first out t y at p used g thin small ys answer = short_ends j first out p used t y [] g.stage (last_line y) longest_end thin
-    (λ room. omega (arith, g.short, room, small)) (not_ended j first out p used t y g.stage answer) ys answer
+    → Ends (whole j) first (put_mid used (length out - used) out ys) None
+end_short j first out t y used g thin small ys answer = short_ends j first out g.position used t y [] g.stage (last_line y) longest_end thin
+    (λ room. omega (arith, g.short, room, small)) (not_ended j first out g.position used t y g.stage answer) ys answer
 
 -- ── two lines, one after the other ──
 module _ (d e first : List ℕ) (thin : length (d ++ e) ≤ reply_room) where
-  no_room : none ≡ fitted (d ++ e) first → reply_room ≤ length first → ⊥
+  no_room : None ≡ fitted (d ++ e) first → reply_room ≤ length first → ⊥
   no_room answer room = omega (arith, thin, room, fits_not (d ++ e) first (sym answer))
 
-  pub first_short : (out : List ℕ) → none ≡ fitted d first → out ≡ put d first → Ends (d ++ e) first out none
+  pub first_short : (out : List ℕ) → None ≡ fitted d first → out ≡ put d first → Ends (d ++ e) first out None
   first_short out answer wrote =
       let short = sym (fitted_none (d ++ e) first (omega (arith, length-append d e, fits_not d first (sym answer)))) in
       none_ends (d ++ e) first out short
       (subst (λ (b : List ℕ). Begun (d ++ e) first b) (sym (wrote ∙ put_none d first (fits_not d first (sym answer)))) (same_begun (d ++ e) first))
       (no_room short)
 
-  module _ (out : List ℕ) (n : ℕ) (answer : some n ≡ fitted d first) (wrote : out ≡ put d first) where
+  module _ (out : List ℕ) (n : ℕ) (answer : Some n ≡ fitted d first) (wrote : out ≡ put d first) where
     written : Over first d n out
     written = let (count, room) = fits d first n (sym answer) in put_over d first out n count (omega arith) wrote
 
     pub begun_inside : n ≤ length out
     begun_inside = omega (arith, written.within, written.size)
 
-    pub second_short : (ys : List ℕ) → none ≡ fitted e (take (length out - n) (drop n out)) → ys ≡ put e (take (length out - n) (drop n out))
-        → Ends (d ++ e) first (put_mid n (length out - n) out ys) none
+    pub second_short : (ys : List ℕ) → None ≡ fitted e (take (length out - n) (drop n out)) → ys ≡ put e (take (length out - n) (drop n out))
+        → Ends (d ++ e) first (put_mid n (length out - n) out ys) None
     second_short ys q w =
         let short = sym (fitted_none (d ++ e) first (omega (arith, length-append d e, over_count written, rest_length written, fits_not e (take (length out - n) (drop n out)) (sym q), written.within))) in
         none_ends (d ++ e) first (put_mid n (length out - n) out ys) short
         (subst (λ (b : List ℕ). Begun (d ++ e) first b) (sym (none_after written e ys q w)) (over_begun (d ++ e) first d e out n written refl))
         (no_room short)
 
-    pub both_over : (ys : List ℕ) (k : ℕ) → some k ≡ fitted e (take (length out - n) (drop n out)) → ys ≡ put e (take (length out - n) (drop n out))
+    pub both_over : (ys : List ℕ) (k : ℕ) → Some k ≡ fitted e (take (length out - n) (drop n out)) → ys ≡ put e (take (length out - n) (drop n out))
         → Over first (d ++ e) (n + k) (put_mid n (length out - n) out ys)
     both_over ys k q w = put_after written e ys k q w
 

@@ -3,10 +3,8 @@
 #![tactic(auto)]
 
 ghost use Rattle.std.specs.Prelude.{◌≡◌, ℕ, ◌≤◌, length};
-ghost use Rattle.std.proofs.Math.Option.{some};
 ghost use Rattle.model.specs.Tally.{difference};
 ghost use Rattle.number.specs.Put.{put, fitted};
-ghost use Rattle.number.specs.Answers.{writing};
 ghost use Rattle.journal.specs.Journal.{body_in};
 ghost use Rattle.answers.specs.Telling.{told};
 ghost use Rattle.gatekeeper.specs.View.{view, Honest, Right};
@@ -18,17 +16,12 @@ ghost use Rattle.replay.specs.Stage.{whole, refusal, Ends};
 
 use answers::Answer;
 use gatekeeper::Monitor;
-use journal::{Body, Entry};
-use number::Written;
+use journal::{BadBody, Broken, Record};
 use tally::Tally;
+use text::{LONGEST_END, LONGEST_LINE};
 
 // The longest journal that is run, in bytes. It has no more records than bytes.
 pub const LARGEST_JOURNAL: usize = 65536;
-
-// The longest line of a reply, and the longest last line, in bytes.
-const LONGEST_LINE: usize = 42;
-
-const LONGEST_END: usize = 67;
 
 // Room for the longest reply.
 pub const REPLY_ROOM: usize = LONGEST_LINE * LARGEST_JOURNAL + LONGEST_END;
@@ -47,31 +40,26 @@ pub fn one(m: Monitor, tally: Tally, body: &[u8]) -> Replied
     ensures { One m tally (body_in body.now) result.code (told result.answer) result.monitor result.tally }
 {
     match journal::read_body(body) {
-        Body::Whole(call) => {
-            let code = call.code;
+        Ok(call) => {
             let ns = call.numbers;
-            let c = tally::counted_call(m, tally, code, ns.a, ns.b, ns.c, ns.d, ns.e, ns.f);
-            let reply = c.reply;
-            let answer = reply.answer;
-            let monitor = reply.monitor;
-            let after = c.tally;
+            let c = tally::counted_call(m, tally, call.code, ns.a, ns.b, ns.c, ns.d, ns.e, ns.f);
             Replied {
-                monitor: monitor,
-                tally: after,
-                code: code,
-                answer: answer,
+                monitor: c.reply.monitor,
+                tally: c.tally,
+                code: call.code,
+                answer: c.reply.answer,
             }
         }
-        Body::Unknown(code) => Replied {
+        Err(BadBody::Unknown(code)) => Replied {
             monitor: m,
-            tally: tally,
-            code: code,
+            tally,
+            code,
             answer: Answer::Refused(1),
         },
-        Body::Bad(code) => Replied {
+        Err(BadBody::Malformed(code)) => Replied {
             monitor: m,
-            tally: tally,
-            code: code,
+            tally,
+            code,
             answer: Answer::Refused(12),
         },
     }
@@ -81,26 +69,23 @@ pub fn one(m: Monitor, tally: Tally, body: &[u8]) -> Replied
 fn open_now(tally: Tally) -> u64
     ensures { result ≡ difference (counts_of tally) }
 {
-    if tally.gone <= tally.made {
-        return tally.made - tally.gone;
-    }
-    u64::MAX - (tally.gone - tally.made) + 1
+    tally.made.wrapping_sub(tally.gone)
 }
 
-// A journal that was run: how many bytes its reply has, or that there is no room for it; and the monitor and the tally at the end.
+// A journal that was run: the monitor and the tally at the end, and how many bytes its reply has; none where there is no room for it.
 #[derive(Clone, Copy)]
 pub struct Ran {
     pub monitor: Monitor,
     pub tally: Tally,
-    pub written: Written,
+    pub written: Option<usize>,
 }
 
 // Answers the records of a journal one after the other, from empty tables, and writes the text. Where there is no room for all of it, its first
 // lines stand in the buffer, and the run stops there.
 fn records(journal: &[u8], out: &mut [u8]) -> Ran
     requires { length journal.now ≤ largest_journal }
-    ensures text { Ends (whole journal.now) out.old out.new (writing result.written) }
-    ensures end { (k : ℕ) → writing result.written ≡ some k → Ended journal.now (view result.monitor) (counts_of result.tally) }
+    ensures text { Ends (whole journal.now) out.old out.new result.written }
+    ensures end { (k : ℕ) → result.written ≡ Some k → Ended journal.now (view result.monitor) (counts_of result.tally) }
     ensures right { Right result.monitor }
     ensures honest { Honest result.monitor }
     ensures sure { result.monitor.sure ≡ 1 }
@@ -110,115 +95,99 @@ fn records(journal: &[u8], out: &mut [u8]) -> Ran
     let mut at: usize = 0;
     let mut position: u32 = 1;
     let mut used: usize = 0;
-    let mut going = true;
-    while going {
+    loop {
         match journal::entry_at(journal, at) {
-            Entry::Record { start, len, next } => {
+            Ok(Some(Record { start, len, next })) => {
                 let r = one(m, tally, journal::body_at(journal, start, len));
-                let answer = r.answer;
-                let letter = answers::letter(answer);
-                let value = answers::value(answer);
-                let lost = answers::lost(answer);
-                match text::write_line(&mut out[used..], position, r.code, letter, value, lost) {
-                    Written::Bytes(n) => {
-                        used = used + n;
-                        at = next;
-                        position = position + 1;
-                        m = r.monitor;
-                        tally = r.tally;
-                    }
-                    Written::NoRoom => {
-                        return Ran {
-                            monitor: m,
-                            tally: tally,
-                            written: Written::NoRoom,
-                        };
-                    }
-                }
+                let letter = answers::letter(r.answer);
+                let value = answers::value(r.answer);
+                let lost = answers::lost(r.answer);
+                let Some(n) = text::write_line(
+                    &mut out[used..],
+                    position,
+                    r.code,
+                    letter,
+                    value,
+                    lost,
+                ) else {
+                    return Ran {
+                        monitor: m,
+                        tally,
+                        written: None,
+                    };
+                };
+                used += n;
+                at = next;
+                position += 1;
+                m = r.monitor;
+                tally = r.tally;
             }
-            Entry::Broken => {
-                match text::write_line(&mut out[used..], position, 0, b'R', 11, 0) {
-                    Written::Bytes(n) => {
-                        used = used + n;
-                        going = false;
-                    }
-                    Written::NoRoom => {
-                        return Ran {
-                            monitor: m,
-                            tally: tally,
-                            written: Written::NoRoom,
-                        };
-                    }
-                }
+            Err(Broken) => {
+                let Some(n) = text::write_line(&mut out[used..], position, 0, b'R', 11, 0) else {
+                    return Ran {
+                        monitor: m,
+                        tally,
+                        written: None,
+                    };
+                };
+                used += n;
+                break;
             }
-            Entry::End => {
-                going = false;
-            }
+            Ok(None) => break,
         }
     }
-    match text::write_end(&mut out[used..], tally.made, tally.gone, open_now(tally)) {
-        Written::Bytes(n) => {
-            let total = used + n;
-            Ran {
-                monitor: m,
-                tally: tally,
-                written: Written::Bytes(total),
-            }
-        }
-        Written::NoRoom => Ran {
+    let Some(n) = text::write_end(&mut out[used..], tally.made, tally.gone, open_now(tally)) else {
+        return Ran {
             monitor: m,
-            tally: tally,
-            written: Written::NoRoom,
-        },
+            tally,
+            written: None,
+        };
+    };
+    Ran {
+        monitor: m,
+        tally,
+        written: Some(used + n),
     }
 }
 
 // Writes the two lines for a journal that is too long.
-fn too_long(out: &mut [u8]) -> Written
-    ensures { Ends refusal out.old out.new (writing result) }
+fn too_long(out: &mut [u8]) -> Option<usize>
+    ensures { Ends refusal out.old out.new result }
 {
-    match text::write_line(out, 1, 0, b'R', 14, 0) {
-        Written::Bytes(n) => {
-            match text::write_end(&mut out[n..], 0, 0, 0) {
-                Written::Bytes(k) => Written::Bytes(n + k),
-                Written::NoRoom => Written::NoRoom,
-            }
-        }
-        Written::NoRoom => Written::NoRoom,
-    }
+    let n = text::write_line(out, 1, 0, b'R', 14, 0)?;
+    let k = text::write_end(&mut out[n..], 0, 0, 0)?;
+    Some(n + k)
 }
 
 // A journal, run from empty tables: the text of its reply, how many bytes that has, and the monitor and tally at the end. Where the buffer has no
 // room for all of the text, that is the answer, and its first lines stand there; which monitor and tally are then handed back is left open, but that
 // the monitor is sure, honest and right. A buffer of REPLY_ROOM bytes has room for every reply.
 pub fn run(journal: &[u8], out: &mut [u8]) -> Ran
-    ensures answer { writing result.written ≡ fitted (reply journal.now) out.old }
-    ensures buffer { (k : ℕ) → writing result.written ≡ some k → out.new ≡ put (reply journal.now) out.old }
+    ensures answer { result.written ≡ fitted (reply journal.now) out.old }
+    ensures buffer { (k : ℕ) → result.written ≡ Some k → out.new ≡ put (reply journal.now) out.old }
     ensures begun { Begun (reply journal.now) out.old out.new }
     ensures room { REPLY_ROOM ≤ length out.old → length (reply journal.now) ≤ length out.old }
-    ensures end { (k : ℕ) → writing result.written ≡ some k → Ended journal.now (view result.monitor) (counts_of result.tally) }
+    ensures end { (k : ℕ) → result.written ≡ Some k → Ended journal.now (view result.monitor) (counts_of result.tally) }
     ensures right { Right result.monitor }
     ensures honest { Honest result.monitor }
     ensures sure { result.monitor.sure ≡ 1 }
 {
     if LARGEST_JOURNAL < journal.len() {
-        let written = too_long(out);
         return Ran {
             monitor: Monitor::empty(),
             tally: Tally { made: 0, gone: 0 },
-            written: written,
+            written: too_long(out),
         };
     }
     records(journal, out)
 }
 
 // The reply alone.
-pub fn replay(journal: &[u8], out: &mut [u8]) -> Written
-    ensures answer { writing result ≡ fitted (reply journal.now) out.old }
-    ensures buffer { (k : ℕ) → writing result ≡ some k → out.new ≡ put (reply journal.now) out.old }
+pub fn replay(journal: &[u8], out: &mut [u8]) -> Option<usize>
+    ensures answer { result ≡ fitted (reply journal.now) out.old }
+    ensures buffer { (k : ℕ) → result ≡ Some k → out.new ≡ put (reply journal.now) out.old }
     ensures begun { Begun (reply journal.now) out.old out.new }
     ensures room { REPLY_ROOM ≤ length out.old → length (reply journal.now) ≤ length out.old }
 {
-    let r = run(journal, out);
-    r.written
+    run(journal, out).written
 }

@@ -5,6 +5,10 @@
 // rules (crate `model`).
 #![tactic(auto)]
 
+ghost use Rattle.std.specs.Prelude.{◌≡◌};
+
+use labels::Label;
+
 pub mod looks;
 pub mod slots;
 
@@ -45,7 +49,7 @@ pub const MAPS: u8 = 3;
 // of eight shop groups. A handle's `object` is the slot of its object, whose number stands
 // beside the slot.
 #[repr(C)]
-#[derive(Clone, Copy)]
+#[derive(Clone, Copy, Default, Debug, PartialEq, Eq)]
 pub struct Subject {
     pub live: u8,
     pub level: u8,
@@ -53,15 +57,33 @@ pub struct Subject {
 }
 
 #[repr(C)]
-#[derive(Clone, Copy)]
+#[derive(Clone, Copy, Default, Debug, PartialEq, Eq)]
 pub struct Object {
     pub kind: u8,
     pub level: u8,
     pub shops: u8,
 }
 
+impl Subject {
+    pub fn label(self) -> Label
+        ensures { result ≡ record { level = self.level; shops = self.shops } }
+    {
+        let Subject { level, shops, .. } = self;
+        Label { level, shops }
+    }
+}
+
+impl Object {
+    pub fn label(self) -> Label
+        ensures { result ≡ record { level = self.level; shops = self.shops } }
+    {
+        let Object { level, shops, .. } = self;
+        Label { level, shops }
+    }
+}
+
 #[repr(C)]
-#[derive(Clone, Copy)]
+#[derive(Clone, Copy, Default, Debug, PartialEq, Eq)]
 pub struct Handle {
     pub way: u8,
     pub object: u8,

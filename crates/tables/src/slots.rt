@@ -4,7 +4,7 @@ ghost use Rattle.tables.specs.Slots.{slot_used, Found, Free, Seated, First, Home
 ghost use Rattle.tables.specs.Records.{no_object};
 ghost use Rattle.tables.specs.Working.{some_below};
 
-use crate::{FREE, OBJECT_NUMBERS, OBJECTS, Object, looks};
+use crate::{FREE, OBJECT_NUMBERS, OBJECTS, Object};
 
 // Slot i modulo OBJECTS is in use.
 fn is_used(objects: [Object; OBJECTS], i: u64) -> bool
@@ -19,9 +19,7 @@ fn is_used(objects: [Object; OBJECTS], i: u64) -> bool
 fn is_same(y: Object, n: u64, o: u64) -> bool
     ensures { result ≡ (not (eqb y.kind 0) && eqb n o) }
 {
-    let used = y.kind != FREE;
-    let same = n == o;
-    looks::both(used, same)
+    y.kind != FREE && n == o
 }
 
 // The slot of object o, which is looked for at o modulo OBJECTS first; OBJECTS where it is not live.
@@ -51,10 +49,7 @@ pub fn slot_of(objects: [Object; OBJECTS], numbers: [u64; OBJECTS], o: u64) -> u
 fn is_free(objects: [Object; OBJECTS], i: u64, but: u64) -> bool
     ensures { result ≡ (not (eqb i but) && not (slot_used objects (i % 64))) }
 {
-    let other = i != but;
-    let used = is_used(objects, i);
-    let free = !used;
-    looks::both(other, free)
+    i != but && !is_used(objects, i)
 }
 
 // A free slot, but not the slot `but`: o modulo OBJECTS where that is free, else the lowest that is, else OBJECTS.
@@ -107,24 +102,18 @@ fn is_before(objects: [Object; OBJECTS], numbers: [u64; OBJECTS], i: u64, o: u64
 fn once(again: bool, y: Object) -> Object
     ensures { result ≡ cond (not (eqb y.kind 0) && again) no_object y }
 {
-    let used = y.kind != FREE;
-    if looks::both(used, again) {
-        return Object {
-            kind: FREE,
-            level: 0,
-            shops: 0,
-        };
+    if y.kind != FREE && again {
+        Object::default()
+    } else {
+        y
     }
-    y
 }
 
 // Slot i, with the object y and the number n, is in use, and not the slot at which n is looked for first.
 fn is_away(y: Object, n: u64, i: u64) -> bool
     ensures { result ≡ (not (eqb y.kind 0) && not (eqb (n % 64) i)) }
 {
-    let used = y.kind != FREE;
-    let away = n % OBJECT_NUMBERS != i;
-    looks::both(used, away)
+    y.kind != FREE && n % OBJECT_NUMBERS != i
 }
 
 // Every object stands in the slot at which its number is looked for first: then no two have one number.
@@ -169,12 +158,7 @@ pub fn single(objects: [Object; OBJECTS], numbers: [u64; OBJECTS]) -> [Object; O
 fn is_nearer(found: bool, nearest: u64, used: bool, n: u64, o: u64) -> bool
     ensures { result ≡ ((used && leb o n) && (not found || ltb n nearest)) }
 {
-    let reached = o <= n;
-    let none = !found;
-    let below = n < nearest;
-    let there = looks::both(used, reached);
-    let better = looks::either(none, below);
-    looks::both(there, better)
+    used && o <= n && (!found || n < nearest)
 }
 
 // The lowest number from o on that a slot in use has; 0 where none has one.

@@ -4,7 +4,7 @@ use mathlib.Core.Path.{◌≡◌, sym, ap, ◌∙◌}
 use Prim.Native.Nat.{ℕ, ◌+◌, ◌-◌, ◌≤◌, ◌<◌}
 use native.Mathlib.Omega.{arith}
 use mathlib.Core.List.{List, ◌++◌}
-use mathlib.Core.Option.{none, some}
+use Rattle.std.specs.Prelude.{Some, None}
 use lib.ListN.{length, take, drop, length-append, length-drop}
 use borrow.Rule.Slice.PartMut.{put_mid}
 use Rattle.number.specs.Put.{put, fitted}
@@ -57,10 +57,10 @@ four_written {d} {e} {f} {g} {b} fits {i} {j} {k} {l} {u} {v} {w} {x} ci pu cj p
 -- ---- a line e of at most `most` bytes
 
 module _ (e b : List ℕ) (most : ℕ) (short : length e ≤ most) where
-  pub no_room : length b < length e → (none ≡ fitted e b) × ((b ≡ put e b) × (length e ≤ most))
+  pub no_room : length b < length e → (None ≡ fitted e b) × ((b ≡ put e b) × (length e ≤ most))
   no_room h = (sym (fitted_none e b h), (sym (put_none e b h), short))
 
-  pub all_written : (at : ℕ) (out : List ℕ) → Over b e at out → (some at ≡ fitted e b) × ((out ≡ put e b) × (length e ≤ most))
+  pub all_written : (at : ℕ) (out : List ℕ) → Over b e at out → (Some at ≡ fitted e b) × ((out ≡ put e b) × (length e ≤ most))
   all_written at out o =
       let count = over_count o in
-      (ap some count ∙ sym (fitted_fits e b (omega (arith, o.within))), (over_put o, short))
+      (ap Some count ∙ sym (fitted_fits e b (omega (arith, o.within))), (over_put o, short))

@@ -4,11 +4,8 @@
 
 ghost use Rattle.std.specs.Prelude.{◌≡◌, ◌+◌, ◌*◌, ◌≤◌, ◌++◌, length, drop};
 ghost use Rattle.number.specs.Put.{put, fitted};
-ghost use Rattle.number.specs.Answers.{writing};
 ghost use Rattle.text.specs.Decimal.{decimal, most_digits};
 ghost use Rattle.text.specs.Reply.{field, last_fields, line, ending};
-
-use number::Written;
 
 // The longest line of a record, in bytes: a buffer of this size is never too short.
 pub const LONGEST_LINE: usize = 42;
@@ -93,8 +90,9 @@ fn write_last(out: &mut [u8], letter: u8, value: u64, lost: u64) -> usize
     at + write_field(&mut out[at..], lost, NEWLINE)
 }
 
-// Writes the line of a record over the front of `out`; the bytes after it keep their values. `lost`, how many marks were lost,
-// stands in it where the letter is an L. Its size is compared first, so that nothing has changed where it does not fit.
+// Writes the line of a record over the front of `out`, and says how many bytes it has; the bytes after it keep their values.
+// `lost`, how many marks were lost, stands in it where the letter is an L. None where it does not fit: its size is compared first,
+// so that nothing has changed then.
 pub fn write_line(
     out: &mut [u8],
     position: u32,
@@ -102,8 +100,8 @@ pub fn write_line(
     letter: u8,
     value: u8,
     lost: u8,
-) -> Written
-    ensures answer { writing result ≡ fitted (line position code letter value lost) out.old }
+) -> Option<usize>
+    ensures answer { result ≡ fitted (line position code letter value lost) out.old }
     ensures buffer { out.new ≡ put (line position code letter value lost) out.old }
     ensures short { length (line position code letter value lost) ≤ LONGEST_LINE }
 {
@@ -113,29 +111,29 @@ pub fn write_line(
     // With the digits and the last fields stand three spaces and the letter.
     let size = decimal_len(position) + decimal_len(code) + last_len(letter, value, lost) + 4;
     if out.len() < size {
-        return Written::NoRoom;
+        return None;
     }
     let at = write_field(out, position, SPACE);
     let at = at + write_field(&mut out[at..], code, SPACE);
     let at = at + copy(&[letter, SPACE], &mut out[at..]);
     let at = at + write_last(&mut out[at..], letter, value, lost);
-    Written::Bytes(at)
+    Some(at)
 }
 
 // Writes the last line over the front of `out`, as `write_line` does; `held` is how many handles are open.
-pub fn write_end(out: &mut [u8], made: u64, gone: u64, held: u64) -> Written
-    ensures answer { writing result ≡ fitted (ending made gone held) out.old }
+pub fn write_end(out: &mut [u8], made: u64, gone: u64, held: u64) -> Option<usize>
+    ensures answer { result ≡ fitted (ending made gone held) out.old }
     ensures buffer { out.new ≡ put (ending made gone held) out.old }
     ensures short { length (ending made gone held) ≤ LONGEST_END }
 {
     // With the digits stand the word, three spaces and the newline.
     let size = decimal_len(made) + decimal_len(gone) + decimal_len(held) + 7;
     if out.len() < size {
-        return Written::NoRoom;
+        return None;
     }
     let at = copy(b"end ", out);
     let at = at + write_field(&mut out[at..], made, SPACE);
     let at = at + write_field(&mut out[at..], gone, SPACE);
     let at = at + write_field(&mut out[at..], held, NEWLINE);
-    Written::Bytes(at)
+    Some(at)
 }

@@ -1,27 +1,25 @@
 -- `groups::fresh` meets its contract. Assumes nothing.
-use mathlib.Core.Path.{◌≡◌}
+use Rattle.std.proofs.Common.{rules, ◌≡◌, arith, take, sym}
+use Rattle.std.proofs.lemmas.List.{length-take-le}
+use borrow.Author.Tests.{tests}
 use mathlib.Core.Bool.{true, false}
-use Prim.Native.Nat.{ℕ}
-use native.Mathlib.Omega.{arith}
-use borrow.Author.Rules.{rules}
-use lib.ListN.{get_or}
+use Rattle.std.proofs.lemmas.Iterator.{YieldsList-from_slice, IsFirst-from_position}
 use Rattle.tables.proofs.Maps.{unmapped}
-use Rattle.tables.proofs.Seating.{further}
-use Rattle.groups.proofs.Counting.{not_taken, all_taken}
+use Rattle.groups.proofs.Counting.{first_low, first_free}
 use Rattle.groups.proofs.fresh.Goals as goal
 
-pub loop-v-init : goal.loop-v-init
-loop-v-init c = (omega arith, λ u l. absurd (omega arith))
+pub slice_bounds-iter-end : goal.slice_bounds-iter-end
+slice_bounds-iter-end c = sym (length-take-le 32 c.taken-used.result (omega (arith, c.taken-used.ensures.long)))
 
-pub returns-then-not-used-v : goal.returns-then-not-used-v
-returns-then-not-used-v c =
-    let a = c.args in
-    not_taken a.subjects a.groups _ c.taken-used.ensures (search (rules, unmapped)) _ (omega arith) c.if-not-used-v.true
-
-pub loop-v-preserved : goal.loop-v-preserved
-loop-v-preserved c = (omega arith, further (λ (z : ℕ). get_or c.taken-used.result z false ≡ true) _ c.loop-v.invariant.1 c.if-not-used-v.false)
+pub overflow_cast-result : goal.overflow_cast-result
+overflow_cast-result c = let a = c.args in
+    let e = IsFirst-from_position _ _ c.position-lowest.result (λ u. u ≡ false) (λ u. u ≡ true) c.position-lowest.ensures.ran
+    (YieldsList-from_slice (take 32 c.taken-used.result) cc) (λ x q k. search (rules, tests)) (λ x q k. search (rules, tests)) in
+    let l = first_low a.subjects a.groups c.taken-used.result c.taken-used.ensures (search (rules, unmapped)) c.position-lowest.result e in
+    record { fits = omega (arith, l, c.unwrap_or.ensures) }
 
 pub returns : goal.returns
-returns c =
-    let a = c.args in
-    all_taken a.subjects a.groups _ c.taken-used.ensures (search (rules, unmapped)) (λ u l. c.loop-v.invariant.1 u (omega arith))
+returns c = let a = c.args in
+    let e = IsFirst-from_position _ _ c.position-lowest.result (λ u. u ≡ false) (λ u. u ≡ true) c.position-lowest.ensures.ran
+    (YieldsList-from_slice (take 32 c.taken-used.result) cc) (λ x q k. search (rules, tests)) (λ x q k. search (rules, tests)) in
+    rw c.unwrap_or.ensures (first_free a.subjects a.groups c.taken-used.result c.taken-used.ensures (search (rules, unmapped)) c.position-lowest.result e)

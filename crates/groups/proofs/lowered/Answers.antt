@@ -1,18 +1,11 @@
 -- `groups::lowered` meets its contract. Assumes nothing.
-use native.Mathlib.Omega.{arith}
-use borrow.Author.Rules.{rules}
+use Rattle.std.proofs.Common.{rules, get_or}
+use mathlib.Core.Bool.{false}
 use Rattle.tables.specs.Records.{no_subject}
-use Rattle.tables.proofs.Maps.{mapped_none, mapped_more, unmapped}
+use Rattle.tables.proofs.Making.{made}
+use Rattle.groups.specs.Groups.{taken_by}
 use Rattle.groups.proofs.lowered.Goals as goal
 
-pub loop-a-init : goal.loop-a-init
-loop-a-init c = (omega arith, mapped_none no_subject _ _)
-
-pub loop-a-preserved : goal.loop-a-preserved
-loop-a-preserved c = (
-  omega arith,
-  mapped_more no_subject _ _ _ _ _ c.loop-a.invariant.1 (search (rules, unmapped)) c.taken_in-put.ensures,
-)
-
 pub returns : goal.returns
-returns c = λ a l. c.loop-a.invariant.1.done a (omega arith)
+returns c = let a = c.args in
+    λ b l. made c.from_fn.ensures.items (λ i. taken_by (get_or a.subjects i no_subject) (get_or a.takes i false) a.label.level a.label.shops) (λ i r f k. search rules) b l no_subject

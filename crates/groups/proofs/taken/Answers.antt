@@ -1,32 +1,20 @@
 -- `groups::taken` meets its contract. Assumes nothing.
-use mathlib.Core.Path.{◌≡◌}
-use native.Mathlib.Omega.{arith}
-use borrow.Author.Rules.{rules}
-use mir.Syntax.{w8}
-use mir.Val.{Fits}
-use lib.ListN.{get_or}
-use Rattle.handles.proofs.Hitting.{hits_none, hits_more}
-use Rattle.groups.proofs.Counting.{byte_of, byte_below}
+use Rattle.std.proofs.Common.{◌≡◌, arith, get_or}
+use borrow.Author.Tests.{eq-eqb, ne_eqb}
+use Rattle.tables.specs.declared.Subject.{Subject}
+use Rattle.tables.specs.Records.{no_subject}
+use Rattle.handles.proofs.Hitting.{hits_none, hits_pass, hits_more}
 use Rattle.groups.proofs.taken.Goals as goal
+use Rattle.groups.proofs.taken.Goals.{then-x-ne0, else-x-ne0}
 
 pub loop-s-init : goal.loop-s-init
-loop-s-init c = (omega arith, hits_none _ 257)
-
-pub bounds-r-at : goal.bounds-r-at
-bounds-r-at c =
-    let i = c.loop-s.s in
-    let a = c.args in
-    let f : Fits w8 (get_or a.groups i 0) = search rules in
-    omega (arith, byte_below a.subjects a.groups i (omega arith), c.byte-at.ensures)
+loop-s-init c = hits_none _ 256
 
 pub loop-s-preserved : goal.loop-s-preserved
-loop-s-preserved c =
-    let i = c.loop-s.s in
-    let a = c.args in
-    let f : Fits w8 (get_or a.groups i 0) = search rules in (
-      omega arith,
-      let p = hits_more (byte_of a.subjects a.groups) 257 _ i (byte_below a.subjects a.groups i (omega arith)) c.loop-s.invariant.1 in rw c.byte-at.ensures p,
-    )
+loop-s-preserved c = let x : Subject = get_or c.args.subjects c.loop-s.s no_subject in elim c.if-x-ne0.branch [
+  | then-x-ne0 w ↦ rw w.r-is (hits_more _ 256 _ _ (get_or c.args.groups c.loop-s.s 0) (λ v l. rw (ne_eqb x.live 0 w.if-x-ne0.true)) c.loop-s.invariant)
+  | else-x-ne0 w ↦ rw w.r-is (hits_pass _ 256 _ _ (λ v l. rw (eq-eqb x.live 0 w.if-x-ne0.false)) c.loop-s.invariant)
+]
 
 pub returns : goal.returns
-returns c = let e : c.loop-s.s ≡ 32 = omega arith in rw e at c.loop-s.invariant.1
+returns c = let e : c.loop-s.s ≡ 32 = omega arith in rw e at c.loop-s.invariant

@@ -1,11 +1,10 @@
 -- `groups::taken` meets its contract. Assumes nothing.
-use Prim.Native.Nat.{◌-◌, ◌≤◌}
+use mathlib.Core.Bool.{◌&&◌}
+use lib.ListN.{get_or}
+use lib.Dec.{eqb}
 use Rattle.handles.specs.Working.{Hits}
-use Rattle.groups.proofs.Counting.{byte_of}
+use Rattle.groups.specs.Groups.{stands}
 use Rattle.groups.proofs.taken.Given as goal
 
 abbrev pub invariant-loop-s : goal.invariant-loop-s
-invariant-loop-s l = (l.s ≤ 32) × Hits (byte_of l.subjects l.groups) 257 l.r l.s
-
-abbrev pub decreases-loop-s : goal.decreases-loop-s
-decreases-loop-s l = 32 - l.s
+invariant-loop-s l = Hits (λ j v. stands l.x-items j && eqb (get_or l.groups j 0) v) 256 l.r l.s

@@ -1,21 +1,14 @@
 -- `handles::is_open` meets its contract. Assumes nothing.
-use mathlib.Core.Path.{sym, ◌∙◌}
-use mathlib.Core.Bool.{false}
-use native.Mathlib.Omega.{arith}
-use borrow.Author.Count.{below_more}
-use Rattle.handles.proofs.Opening.{found, none_found}
+use Rattle.std.proofs.Common.{rules, ◌∙◌}
+use borrow.Author.Tests.{tests}
+use Rattle.std.proofs.lemmas.Iterator.{YieldsList-from_slice}
+use Rattle.std.proofs.lemmas.Iterator.Search.{any_from_yields_List}
+use Rattle.tables.proofs.Maps.{unmapped}
+use Rattle.handles.specs.Working.{on}
+use Rattle.handles.proofs.Opening.{any_open}
 use Rattle.handles.proofs.is_open.Goals as goal
 
-pub loop-i-init : goal.loop-i-init
-loop-i-init c = (omega arith, λ j h. absurd (omega arith))
-
-pub returns-then-is_on : goal.returns-then-is_on
-returns-then-is_on c =
-    found c.args.handles c.args.o
-    c.loop-i.i (omega arith) (sym c.is_on.ensures ∙ c.if-is_on.true)
-
-pub loop-i-preserved : goal.loop-i-preserved
-loop-i-preserved c = (omega arith, below_more _ _ c.loop-i.invariant.1 (sym c.is_on.ensures ∙ c.if-is_on.false))
-
 pub returns : goal.returns
-returns c = none_found c.args.handles c.args.o (λ j h. c.loop-i.invariant.1 j (omega arith))
+returns c = let a = c.args in
+    any_from_yields_List (λ h. on h a.o) _ _ _ c.any.ensures.ran (YieldsList-from_slice a.handles cc) (λ x b q k. search (rules, tests))
+    ∙ any_open a.handles a.o (search (rules, unmapped))

@@ -1,25 +1,24 @@
 -- `handles::open_map` meets its contract. Assumes nothing.
-use mathlib.Core.Path.{◌≡◌}
-use native.Mathlib.Omega.{arith}
-use lib.ListN.{get_or}
+use Rattle.std.proofs.Common.{◌≡◌, arith, get_or}
+use Rattle.tables.specs.declared.Handle.{Handle}
 use Rattle.tables.specs.Records.{no_handle}
-use Rattle.handles.specs.Working.{slot_of}
-use Rattle.handles.proofs.Ending.{slot_low}
-use Rattle.handles.proofs.Hitting.{hits_none, hits_more}
+use borrow.Author.Tests.{eq-eqb, ne_eqb}
+use Rattle.handles.proofs.Hitting.{hits_none, hits_pass, hits_more}
+use Rattle.handles.proofs.Ending.{on_none}
 use Rattle.handles.proofs.open_map.Goals as goal
+use Rattle.handles.proofs.open_map.Goals.{then-h-ne-EMPTY+then-h, else-h-ne-EMPTY, else-h-ne-EMPTY-via-then-h-ne-EMPTY+else-h, else-h-ne-EMPTY-via-else-h-ne-EMPTY}
 
-pub loop-i-init : goal.loop-i-init
-loop-i-init c = (omega arith, hits_none _ 65)
+pub loop-h-init : goal.loop-h-init
+loop-h-init c = hits_none _ 64
 
-pub bounds-r-at : goal.bounds-r-at
-bounds-r-at c = omega (arith, slot_low (get_or c.args.handles c.loop-i.i no_handle), c.slot-at.ensures)
-
-pub loop-i-preserved : goal.loop-i-preserved
-loop-i-preserved c = (
-  omega arith,
-  let p = hits_more (λ j. slot_of (get_or c.args.handles j no_handle)) 65 _ _ (slot_low (get_or c.args.handles c.loop-i.i no_handle)) c.loop-i.invariant.1 in
-      rw c.slot-at.ensures p,
-)
+pub loop-h-preserved : goal.loop-h-preserved
+loop-h-preserved c = let h : Handle = get_or c.args.handles c.loop-h.h-index no_handle in elim c.if-h-ne-EMPTY.branch [
+  | then-h-ne-EMPTY+then-h w ↦ rw w.r-is (hits_more _ 64 _ _ h.object (λ x l. rw (ne_eqb h.way 0 w.if-h-ne-EMPTY.true)) c.loop-h.invariant)
+  | else-h-ne-EMPTY w ↦ rw w.r-is (hits_pass _ 64 _ _ (λ x l. elim w.else-h-ne-EMPTY.branch [
+    | else-h-ne-EMPTY-via-then-h-ne-EMPTY+else-h v ↦ on_none h x l v.if-h.false
+    | else-h-ne-EMPTY-via-else-h-ne-EMPTY v ↦ rw (eq-eqb h.way 0 v.if-h-ne-EMPTY.false)
+  ]) c.loop-h.invariant)
+]
 
 pub returns : goal.returns
-returns c = let e : c.loop-i.i ≡ 512 = omega arith in rw e at c.loop-i.invariant.1
+returns c = let e : c.loop-h.h-index ≡ 512 = omega arith in rw e at c.loop-h.invariant

@@ -15,5 +15,5 @@ returns c =
     let a = c.args in
     λ rest ss os. ap (tables_of rest ss os) (c.with_handle.ensures
     ∙ ap₂ (λ (l : List Handle) (h : Handle). set l (a.s % 32 * 16 + a.q % 16) h)
-    (c.with_handle-one.ensures ∙ ap (set a.handles (a.s % 32 * 16 + a.p % 16)) c.joining-reads.ensures) c.joining-writes.ensures)
+    (c.with_handle-one.ensures ∙ ap (set a.handles (a.s % 32 * 16 + a.p % 16)) c.joining.ensures) c.joining-2.ensures)
     ∙ ends_tables rest ss os a.handles a.s a.p a.q a.from a.to (search (rules, unmapped))

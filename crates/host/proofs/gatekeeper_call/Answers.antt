@@ -1,30 +1,20 @@
 -- `host::gatekeeper_call` meets its contract. Assumes nothing.
-use native.Mathlib.Omega.{arith}
-use Rattle.model.specs.Calls.{decode}
-use Rattle.gatekeeper.specs.View.{direct}
+use Rattle.std.proofs.Common.{sym, ap, ◌∙◌}
+use Rattle.stored.specs.State.{monitor_of, tally_of}
 use Rattle.host.proofs.Calling.{made, called_refused, called_moved, called_unsized}
 use Rattle.host.proofs.gatekeeper_call.Goals as goal
+use Rattle.host.proofs.gatekeeper_call.Goals.{then-not-is_refused, else-not-is_refused}
 
-pub returns-then-state-ne-STATE_BYTES : goal.returns-then-state-ne-STATE_BYTES
-returns-then-state-ne-STATE_BYTES c = called_unsized _ _ c.if-state-ne-STATE_BYTES.true
-
-pub returns-then-letter-eq82 : goal.returns-then-letter-eq82
-returns-then-letter-eq82 c =
-    let long = c.if-state-ne-STATE_BYTES.false in
-    let a = c.args in
-    let k = c.counted_call-counted in
-    let call = direct a.code a.a a.b a.c a.d a.e a.f in
-    let p = made a.state.now {c = decode call} c.load_monitor-m.ensures c.load_tally-tally.ensures k.ensures.0 k.ensures.1 in
-    let n = c.to_number-r.ensures in
-    called_refused {r = call} p long (record { number = n.number; back = n.back }) (omega (arith, c.letter.ensures, c.if-letter-eq82.true))
+pub returns-in_default : goal.returns-in_default
+returns-in_default c = called_unsized _ _ c.in_default.ensures.cases
 
 pub returns : goal.returns
 returns c =
-    let long = c.if-state-ne-STATE_BYTES.false in
-    let a = c.args in
-    let k = c.counted_call-counted in
-    let call = direct a.code a.a a.b a.c a.d a.e a.f in
-    let p = made a.state.now {c = decode call} c.load_monitor-m.ensures c.load_tally-tally.ensures k.ensures.0 k.ensures.1 in
-    let n = c.to_number-r.ensures in
-    called_moved {r = call} p long (record { number = n.number; back = n.back })
-    (λ e. c.if-letter-eq82.false (omega (arith, c.letter.ensures, e))) c.store.ensures
+    let h = c.in-Some.ensures.cases in
+    let k = c.lent_call-reply.ensures in
+    let p = made c.args.state.now (c.load_monitor-monitor.ensures ∙ ap monitor_of h.same) (c.load_tally-tally.ensures ∙ ap tally_of h.same) k.0 k.1 in
+    let n = c.to_number.ensures in
+    elim c.if-not-is_refused.branch [
+      then-not-is_refused w ↦ called_moved p h.long n.number n.back (sym c.is_refused.ensures ∙ w.if-not-is_refused.true) w.state-is w.store.ensures
+      | else-not-is_refused w ↦ called_refused p h.long n.number n.back (sym c.is_refused.ensures ∙ w.if-not-is_refused.false) (w.state-is ∙ h.same)
+    ]

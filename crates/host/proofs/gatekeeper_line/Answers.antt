@@ -1,21 +1,17 @@
 -- `host::gatekeeper_line` meets its contract. Assumes nothing.
-use borrow.Author.Tests.{not-true, not-false}
+use Rattle.std.proofs.Common.{ap, ◌∙◌}
+use Rattle.stored.specs.State.{monitor_of, tally_of}
 use Rattle.host.proofs.Typing.{types_still, types_moved, types_unsized}
 use Rattle.host.proofs.gatekeeper_line.Goals as goal
-
-pub returns-then-state-ne-STATE_BYTES : goal.returns-then-state-ne-STATE_BYTES
-returns-then-state-ne-STATE_BYTES c = let a = c.args in types_unsized a.state.now a.line.now a.shell a.child a.pipe c.if-state-ne-STATE_BYTES.true
-
-pub returns-then-not-out : goal.returns-then-not-out
-returns-then-not-out c =
-    let a = c.args in
-    let r = c.counted_line-out in
-    types_still a.state.now a.line.now a.shell a.child a.pipe _ _ r.result c.load_monitor-m.ensures c.load_tally-tally.ensures r.ensures c.if-state-ne-STATE_BYTES.false
-    (not-true r.result.moved c.if-not-out.true)
+use Rattle.host.proofs.gatekeeper_line.Goals.{then-out, else-out}
 
 pub returns : goal.returns
 returns c =
-    let a = c.args in
+    let h = c.in-Some.ensures.cases in
     let r = c.counted_line-out in
-    types_moved a.state.now a.line.now a.shell a.child a.pipe _ _ r.result c.load_monitor-m.ensures c.load_tally-tally.ensures r.ensures c.if-state-ne-STATE_BYTES.false
-    _ c.store.ensures (not-false r.result.moved c.if-not-out.false)
+    let em = c.load_monitor-monitor.ensures ∙ ap monitor_of h.same in
+    let ey = c.load_tally-tally.ensures ∙ ap tally_of h.same in
+    elim c.if-out.branch [
+      then-out w ↦ types_moved _ _ _ _ _ _ _ _ em ey r.ensures h.long w.if-out.true w.state-is w.store.ensures
+      | else-out w ↦ types_still _ _ _ _ _ _ _ _ em ey r.ensures h.long w.if-out.false (w.state-is ∙ h.same)
+    ]

@@ -6,22 +6,22 @@ use Rattle.journal.specs.Record.{encodes}
 use Rattle.journal.specs.Record.Laws.{encodes_suc}
 use Rattle.journal.proofs.numbers_len.Goals as goal
 
-pub loop-i-init : goal.loop-i-init
+pub loop-n-init : goal.loop-n-init
 unfolding encodes
-loop-i-init c = (omega arith, refl, omega arith)
+loop-n-init c = (refl, omega arith)
 
 pub overflow_add-sum : goal.overflow_add-sum
 overflow_add-sum c =
     let a = c.args.numbers.now in
-    let i = c.loop-i.i in
+    let i = c.loop-n.n-index in
     let bytes = encode_bytes (get_or a i 0) (omega (arith, c.type_inv.numbers i)) in
     omega (arith, bytes, c.number_len-sum.ensures, c.requires)
 
-pub loop-i-preserved : goal.loop-i-preserved
-loop-i-preserved c =
+pub loop-n-preserved : goal.loop-n-preserved
+loop-n-preserved c =
     let a = c.args.numbers.now in
-    let i = c.loop-i.i in
+    let i = c.loop-n.n-index in
     let bytes = encode_bytes (get_or a i 0) (omega (arith, c.type_inv.numbers i)) in
-    let more = encodes_suc a i c.loop-i-test.true in
+    let more = encodes_suc a i c.loop-n-test.true in
     let next = ap length more ∙ length-append (encodes (take i a)) (encode (get_or a i 0)) in
-    (omega arith, omega (arith, next, c.number_len-sum.ensures), omega (arith, bytes, c.number_len-sum.ensures))
+    (omega (arith, next, c.number_len-sum.ensures), omega (arith, bytes, c.number_len-sum.ensures))

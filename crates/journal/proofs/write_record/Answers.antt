@@ -1,8 +1,8 @@
 -- `journal::write_record` meets its contract: what is written is the length of the body, then the body. Assumes nothing.
 use Rattle.std.proofs.Common.{ℕ, zero, suc, ◌≤◌, sym, ◌∙◌, subst, arith, length-take}
 use Rattle.number.specs.Leb.{AtMost, largest}
-use Rattle.journal.specs.declared.Numbers.{Numbers}
-use Rattle.journal.specs.Answers.{Answer, numbers_of, length-in}
+use Rattle.calls.specs.declared.Numbers.{Numbers}
+use Rattle.journal.specs.Answers.{Answer, numbers_of, length_in}
 use Rattle.journal.specs.Calls.Laws.{arity_most}
 use Rattle.journal.specs.Record.{longest_record}
 use Rattle.journal.specs.Record.Laws.{recording_length}
@@ -72,4 +72,4 @@ returns-clause-short c =
     let is = record_is code ns _ c.arity-n.ensures len.result len.ensures in
     let answered = c.write_all.ensures.answer ∙ (record_fitted code ns _ c.arity-n.ensures _ c.args.out.now c.if-n-eq0.false is).0 in
     let short = recording_length code ns c.args.out.now (numbers c.args.call.numbers (omega arith) (omega arith) (omega arith) (omega arith) (omega arith) (omega arith)) in
-    subst (λ (r : Answer ℕ). length-in r ≤ longest_record) (sym answered) short
+    subst (λ (r : Answer ℕ). length_in r ≤ longest_record) (sym answered) short

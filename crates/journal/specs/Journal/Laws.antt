@@ -1,13 +1,13 @@
 -- Laws of reading a journal. In order: what a record says of the offsets; numbers and bodies that were written are read back,
 -- and nothing else reads as they do; then the two laws to quote, that a record written is read as its call, at any offset
 -- and with anything after it, and that only one record stands for a call. Assumes nothing.
-use Rattle.std.specs.Prelude.{◌≡◌, refl, ℕ, zero, suc, ◌+◌, ◌-◌, ◌≤◌, ◌<◌, Bool, true, false, cond, ltb, take, drop}
+use Rattle.std.specs.Prelude.{◌≡◌, refl, ℕ, zero, suc, ◌+◌, ◌-◌, ◌≤◌, ◌<◌, Bool, true, false, cond, Option, Some, None, ltb, take, drop}
+use Rattle.std.specs.Option.{option_map}
 use Rattle.std.proofs.Common.{sym, ap, ◌∙◌, subst, arith, length-drop, take-append-drop, take-add, drop-drop, length-take-le, ltb-false, lt-ltb, le-ltb}
 use mathlib.Core.List.{List, [], ◌∷◌, ◌++◌, append_assoc}
-use Rattle.std.proofs.Math.Option.{Option, none, some, map}
 use Rattle.std.proofs.Math.ListN.{length, length-append}
 use Rattle.std.proofs.Math.Seq.{take-append_seam, drop-append_seam}
-use Rattle.number.specs.Leb.{AtMost, AreBytes, largest, encode, Reading, good, malformed, number}
+use Rattle.number.specs.Leb.{AtMost, AreBytes, largest, encode, Reading, good, number}
 use Rattle.number.specs.Leb.Laws.{clash, at_most_take, at_most_drop, encode_some, number_encode, number_only, number_within}
 use Rattle.journal.specs.Answers.{answers, refused, body, end, said}
 use Rattle.journal.specs.Calls.{most_numbers, arity_of, known, filled, arguments_of}
@@ -50,8 +50,8 @@ entry_stands journal at start len next = by_end (ltb at (length journal))
         )
 
     by_length : (r : Reading) → number largest (drop at journal) ≡ r → sized journal at r ≡ answers (body start len next) → Found
-    by_length (good l k) g e = by_room l k g (ltb (length journal) (at + k + l)) refl e
-    by_length malformed g e = clash (cc)
+    by_length (Some (l, k)) g e = by_room l k g (ltb (length journal) (at + k + l)) refl e
+    by_length None g e = clash (cc)
 
     by_end : (t : Bool) → cond t (sized journal at (number largest (drop at journal))) (answers end) ≡ answers (body start len next) → Found
     by_end true e = by_length (number largest (drop at journal)) refl e
@@ -66,19 +66,19 @@ entry_next journal at start len next e =
 
 -- ---- numbers, one after the other
 
-numbers_back : (ns : List ℕ) → AtMost largest ns → numbers_in (length ns) (encodes ns) ≡ some ns
+numbers_back : (ns : List ℕ) → AtMost largest ns → numbers_in (length ns) (encodes ns) ≡ Some ns
 unfolding numbers_in encodes
 numbers_back [] are = refl
 numbers_back (n ∷ ns) are =
     ap (λ (r : Reading). and_then r (encode n ++ encodes ns) (numbers_in (length ns))) (number_encode largest n (encodes ns) (are 0))
-    ∙ ap (λ (t : List ℕ). map (λ (ms : List ℕ). n ∷ ms) (numbers_in (length ns) t)) (drop-append_seam (encode n) (encodes ns))
-    ∙ ap (map (λ (ms : List ℕ). n ∷ ms)) (numbers_back ns (λ i. are (suc i)))
+    ∙ ap (λ (t : List ℕ). option_map (λ (ms : List ℕ). n ∷ ms) (numbers_in (length ns) t)) (drop-append_seam (encode n) (encodes ns))
+    ∙ ap (option_map (λ (ms : List ℕ). n ∷ ms)) (numbers_back ns (λ i. are (suc i)))
 
 -- the coding of the first number, then that of the others
 front_and_rest : (most : ℕ) (bs : List ℕ) → AreBytes bs → (n k : ℕ) → number most bs ≡ good n k → bs ≡ encode n ++ drop k bs
 front_and_rest most bs are n k e = sym (take-append-drop k bs) ∙ ap (λ (t : List ℕ). t ++ drop k bs) (number_only most bs are n k e)
 
-numbers_only : (k : ℕ) (bs : List ℕ) → AreBytes bs → (ns : List ℕ) → numbers_in k bs ≡ some ns → (bs ≡ encodes ns) × (length ns ≡ k)
+numbers_only : (k : ℕ) (bs : List ℕ) → AreBytes bs → (ns : List ℕ) → numbers_in k bs ≡ Some ns → (bs ≡ encodes ns) × (length ns ≡ k)
 unfolding numbers_in encodes
 numbers_only zero [] are [] e = (refl, refl)
 numbers_only zero [] are (n ∷ ns) e = clash (cc)
@@ -86,20 +86,20 @@ numbers_only zero (b ∷ bs) are ns e = clash (cc)
 numbers_only (suc k) bs are ns e = by_number (λ u ms q. numbers_only k (drop u bs) (at_most_drop 255 u bs are) ms q) (number largest bs) refl e
   where
     Rest : ℕ → Type 0
-    Rest u = (ms : List ℕ) → numbers_in k (drop u bs) ≡ some ms → (drop u bs ≡ encodes ms) × (length ms ≡ k)
+    Rest u = (ms : List ℕ) → numbers_in k (drop u bs) ≡ Some ms → (drop u bs ≡ encodes ms) × (length ms ≡ k)
 
     by_rest : (n u : ℕ) → number largest bs ≡ good n u → Rest u → (o : Option (List ℕ)) → numbers_in k (drop u bs) ≡ o
-        → map (λ (ms : List ℕ). n ∷ ms) o ≡ some ns → (bs ≡ encodes ns) × (length ns ≡ suc k)
-    by_rest n u g ih none q e = clash (cc)
-    by_rest n u g ih (some ms) q e =
+        → option_map (λ (ms : List ℕ). n ∷ ms) o ≡ Some ns → (bs ≡ encodes ns) × (length ns ≡ suc k)
+    by_rest n u g ih None q e = clash (cc)
+    by_rest n u g ih (Some ms) q e =
         let (rest, count) = ih ms q in
         let p : n ∷ ms ≡ ns = cc in
         (front_and_rest largest bs are n u g ∙ ap (λ (t : List ℕ). encode n ++ t) rest ∙ ap encodes p, sym (ap length p) ∙ ap suc count)
 
-    by_number : ((u : ℕ) → Rest u) → (r : Reading) → number largest bs ≡ r → and_then r bs (numbers_in k) ≡ some ns
+    by_number : ((u : ℕ) → Rest u) → (r : Reading) → number largest bs ≡ r → and_then r bs (numbers_in k) ≡ Some ns
         → (bs ≡ encodes ns) × (length ns ≡ suc k)
-    by_number ih (good n u) g e = by_rest n u g (ih u) (numbers_in k (drop u bs)) refl e
-    by_number ih malformed g e = clash (cc)
+    by_number ih (Some (n, u)) g e = by_rest n u g (ih u) (numbers_in k (drop u bs)) refl e
+    by_number ih None g e = clash (cc)
 
 -- ---- bodies
 
@@ -114,16 +114,16 @@ body_back code ns k l enough are =
     ∙ ap (λ (t : List ℕ). said code (cond (known code) (call_with (arguments_in (arity_of code) t)) (refused 1)))
     (drop-append_seam (encode code) (encodes numbers))
     ∙ ap (λ (t : Bool). said code (cond t (call_with (arguments_in (arity_of code) (encodes numbers))) (refused 1))) k
-    ∙ ap (λ (o : Option (List ℕ)). said code (call_with (map (filled most_numbers) o))) back
+    ∙ ap (λ (o : Option (List ℕ)). said code (call_with (option_map (filled most_numbers) o))) back
 
 body_only : (bs : List ℕ) → AreBytes bs → (code : ℕ) (ns : List ℕ) → body_in bs ≡ said code (answers ns) → bs ≡ body_of code ns
 unfolding body_in body_of encodes arguments_in
 body_only bs are code ns = by_number (number largest bs) refl
   where
     by_numbers : (co u : ℕ) → number largest bs ≡ good co u → (o : Option (List ℕ)) → numbers_in (arity_of co) (drop u bs) ≡ o
-        → said co (call_with (map (filled most_numbers) o)) ≡ said code (answers ns) → bs ≡ encode code ++ encodes (take (arity_of code) ns)
-    by_numbers co u g none q e = clash (cc)
-    by_numbers co u g (some ms) q e =
+        → said co (call_with (option_map (filled most_numbers) o)) ≡ said code (answers ns) → bs ≡ encode code ++ encodes (take (arity_of code) ns)
+    by_numbers co u g None q e = clash (cc)
+    by_numbers co u g (Some ms) q e =
         let (rest, count) = numbers_only (arity_of co) (drop u bs) (at_most_drop 255 u bs are) ms q in
         let same : co ≡ code = cc in
         let full : filled most_numbers ms ≡ ns = cc in
@@ -141,8 +141,8 @@ body_only bs are code ns = by_number (number largest bs) refl
     by_code co u g false e = clash (cc)
 
     by_number : (r : Reading) → number largest bs ≡ r → coded r bs ≡ said code (answers ns) → bs ≡ encode code ++ encodes (take (arity_of code) ns)
-    by_number (good co u) g e = by_code co u g (known co) e
-    by_number malformed g e = clash (cc)
+    by_number (Some (co, u)) g e = by_code co u g (known co) e
+    by_number None g e = clash (cc)
 
 -- ---- records
 

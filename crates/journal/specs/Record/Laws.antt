@@ -5,7 +5,7 @@ use Rattle.std.proofs.Common.{sym, ap, ◌∙◌, arith, add-one, append_assoc, 
 use Rattle.number.specs.Leb.{AtMost, largest, longest, encode}
 use Rattle.number.specs.Leb.Laws.{clash, at_most_take, encode_length, encode_bytes}
 use Rattle.number.specs.Put.Laws.{put_fits}
-use Rattle.journal.specs.Answers.{answers, refused, length-in}
+use Rattle.journal.specs.Answers.{answers, refused, length_in}
 use Rattle.journal.specs.Calls.{most_numbers, arity_of, known}
 use Rattle.journal.specs.Calls.Laws.{arity_most, known_code}
 use Rattle.journal.specs.Record.{longest_record, encodes, body_of, record_of, fitting, recording, recorded}
@@ -81,14 +81,14 @@ unfolding recorded
 recorded_made code ns out k room = simp k (put_fits (record_of code ns) out room)
 
 -- a length that it answers with is at most that of the longest record
-pub recording_length : (code : ℕ) (ns out : List ℕ) → AtMost largest ns → length-in (recording code ns out) ≤ longest_record
+pub recording_length : (code : ℕ) (ns out : List ℕ) → AtMost largest ns → length_in (recording code ns out) ≤ longest_record
 unfolding recording fitting
 recording_length code ns out are = by_code (known code) refl
   where
-    by_size : (t : Bool) → known code ≡ true → length-in (cond t (refused 13) (answers (length (record_of code ns)))) ≤ longest_record
+    by_size : (t : Bool) → known code ≡ true → length_in (cond t (refused 13) (answers (length (record_of code ns)))) ≤ longest_record
     by_size true k = omega arith
     by_size false k = record_length code ns k are
 
-    by_code : (t : Bool) → known code ≡ t → length-in (cond t (fitting (record_of code ns) out) (refused 1)) ≤ longest_record
+    by_code : (t : Bool) → known code ≡ t → length_in (cond t (fitting (record_of code ns) out) (refused 1)) ≤ longest_record
     by_code true k = by_size (ltb (length out) (length (record_of code ns))) k
     by_code false k = omega arith

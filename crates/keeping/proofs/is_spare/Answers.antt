@@ -1,12 +1,13 @@
 -- `keeping::is_spare` meets its contract. Assumes nothing.
-use mathlib.Core.Path.{sym, ◌∙◌, ap}
-use mathlib.Core.Bool.{◌&&◌}
-use Prim.Native.Nat.{◌%◌}
-use Rattle.model.specs.Sets.{within}
+use borrow.Author.Tests.{eq-eqb, ne_eqb, lt-ltb, le-ltb}
 use Rattle.keeping.proofs.Closing.{spare_coded}
 use Rattle.keeping.proofs.is_spare.Goals as goal
 
-pub returns : goal.returns
-returns c =
-    let a = c.args in
-    c.both.ensures ∙ ap (λ b. within (a.end % 256) (a.own % 256) && b) c.either-enough.ensures ∙ sym (spare_coded a.end a.source a.own)
+pub returns-then-lower : goal.returns-then-lower
+returns-then-lower c = rw (spare_coded c.args.end c.args.source c.args.own, eq-eqb _ _ c.if-within.true, lt-ltb _ _ c.if-lower.true)
+
+pub returns-else-lower : goal.returns-else-lower
+returns-else-lower c = rw (spare_coded c.args.end c.args.source c.args.own, eq-eqb _ _ c.if-within.true, le-ltb _ _ c.if-lower.false)
+
+pub returns-else-within : goal.returns-else-within
+returns-else-within c = rw (spare_coded c.args.end c.args.source c.args.own, ne_eqb _ _ c.if-within.false)

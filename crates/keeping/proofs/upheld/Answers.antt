@@ -3,8 +3,5 @@ use mathlib.Core.Path.{sym, ◌∙◌}
 use Rattle.labels.specs.Codes.Laws.{coded_zero}
 use Rattle.keeping.proofs.upheld.Goals as goal
 
-pub returns-then-is_writing : goal.returns-then-is_writing
-returns-then-is_writing c = rw (sym c.is_writing.ensures ∙ c.if-is_writing.true) c.demanded.ensures
-
-pub returns : goal.returns
-returns c = rw (sym c.is_writing.ensures ∙ c.if-is_writing.false) coded_zero
+pub returns-else-is_writing : goal.returns-else-is_writing
+returns-else-is_writing c = rw (sym c.is_writing.ensures ∙ c.if-is_writing.false) coded_zero

@@ -7,11 +7,11 @@ use Rattle.tables.specs.Needs.{figure_of}
 use Rattle.keeping.proofs.Closing.{anew, vacate_ready, vacate_wf}
 use Rattle.keeping.proofs.vacated.Goals as goal
 
-pub returns-then-mine-eq0 : goal.returns-then-mine-eq0
-returns-then-mine-eq0 c =
+pub returns-then-need-eq0 : goal.returns-then-need-eq0
+returns-then-need-eq0 c =
     let a = c.args in
     λ rest t m w l q k. subst (λ (u : Tables). Ready u (figure_of a.n)) (sym q)
-    (vacate_ready a.n t a.s w l k (sym c.of_subject-mine.ensures ∙ c.if-mine-eq0.true))
+    (vacate_ready a.n t a.s w l k (sym c.need.ensures ∙ c.if-need-eq0.true))
 
 pub returns : goal.returns
 returns c =

@@ -1,12 +1,10 @@
 -- `lines::more_digits` meets its contract. Assumes nothing.
-use mathlib.Core.Path.{◌≡◌}
-use Prim.Native.Nat.{◌-◌, ◌≤◌}
-use lib.ListN.{length, drop}
+use Rattle.std.proofs.Common.{◌≡◌, ◌≤◌, length}
 use Rattle.lines.specs.Reading.{digits}
 use Rattle.lines.proofs.more_digits.Given as goal
 
-abbrev pub invariant-loop-i : goal.invariant-loop-i
-invariant-loop-i l = (digits l.n (drop l.i l.line) ≡ digits l.v (drop l.at l.line)) × (l.at ≤ l.i) × (l.at ≤ length l.line → l.i ≤ length l.line)
+abbrev pub invariant-loop-b : goal.invariant-loop-b
+invariant-loop-b l = (digits l.n l.rest ≡ digits l.v l.line) × (length l.rest ≤ length l.line)
 
-abbrev pub decreases-loop-i : goal.decreases-loop-i
-decreases-loop-i l = length l.line - l.i
+abbrev pub decreases-loop-b : goal.decreases-loop-b
+decreases-loop-b l = length l.rest

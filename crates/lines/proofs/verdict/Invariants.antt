@@ -1,11 +1,10 @@
 -- `lines::verdict` meets its contract. Assumes nothing.
-use Prim.Native.Nat.{◌-◌}
-use lib.ListN.{length}
+use Rattle.std.proofs.Common.{length}
 use Rattle.lines.proofs.Judging.{Judged}
 use Rattle.lines.proofs.verdict.Given as goal
 
-abbrev pub invariant-loop-p : goal.invariant-loop-p
-invariant-loop-p l = Judged l.line l.long l.i
+abbrev pub invariant-loop-stages : goal.invariant-loop-stages
+invariant-loop-stages l = Judged l.line l.long l.rest
 
-abbrev pub decreases-loop-p : goal.decreases-loop-p
-decreases-loop-p l = length l.line - l.i
+abbrev pub decreases-loop-stages : goal.decreases-loop-stages
+decreases-loop-stages l = length l.rest

@@ -1,26 +1,15 @@
 -- `mappings::is_lower` meets its contract. Assumes nothing.
-use mathlib.Core.Path.{sym, ◌∙◌}
-use mathlib.Core.Bool.{false}
-use native.Mathlib.Omega.{arith}
-use borrow.Author.Rules.{rules}
-use borrow.Author.Count.{below_more}
+use Rattle.std.proofs.Common.{rules, ◌≡◌}
+use mathlib.Core.Bool.{true, false}
+use borrow.Author.Tests.{tests}
+use Rattle.std.proofs.lemmas.Iterator.{YieldsList-from_slice, YieldsList-from_zip, cases_from_any}
 use Rattle.tables.proofs.Maps.{unmapped}
-use Rattle.mappings.proofs.Reading.{found_lower, none_lower}
+use Rattle.mappings.specs.Working.{sank_by}
+use Rattle.mappings.proofs.Reading.{any_lower}
 use Rattle.mappings.proofs.is_lower.Goals as goal
 
-pub loop-s-init : goal.loop-s-init
-loop-s-init c = (omega arith, λ j h. absurd (omega arith))
-
-pub returns-then-sank : goal.returns-then-sank
-returns-then-sank c =
-    λ rest os hs.
-    let a = c.args in
-    found_lower rest a.before a.after os hs c.loop-s.s (omega arith) (sym c.sank.ensures ∙ c.if-sank.true)
-
-pub loop-s-preserved : goal.loop-s-preserved
-loop-s-preserved c = (omega arith, below_more _ _ c.loop-s.invariant.1 (sym c.sank.ensures ∙ c.if-sank.false))
-
 pub returns : goal.returns
-returns c =
-    λ rest os hs.
-    none_lower rest c.args.before c.args.after os hs (search (rules, unmapped)) (λ j h. c.loop-s.invariant.1 j (omega arith))
+returns c = let a = c.args in
+    λ rest os hs. any_lower rest a.before a.after os hs c.any.result (search (rules, unmapped)) (search (rules, unmapped))
+    (cases_from_any c.any.new.self _ c.any.result (λ p. sank_by p.0 p.1 ≡ true) (λ p. sank_by p.0 p.1 ≡ false) c.any.ensures.ran
+    (YieldsList-from_zip (YieldsList-from_slice a.before cc) (YieldsList-from_slice a.after cc)) (λ x q k. search (rules, tests)) (λ x q k. search (rules, tests)))

@@ -1,16 +1,8 @@
 -- `mappings::led` meets its contract. Assumes nothing.
-use mathlib.Core.Path.{refl}
+use Rattle.std.proofs.Common.{rules, get_or, ◌%◌}
 use mathlib.Core.Bool.{false}
-use native.Mathlib.Omega.{arith}
-use borrow.Author.Rules.{rules}
-use Rattle.tables.proofs.Maps.{mapped_none, mapped_more}
+use Rattle.tables.proofs.Making.{made}
 use Rattle.mappings.proofs.led.Goals as goal
 
-pub loop-a-init : goal.loop-a-init
-loop-a-init c = (omega arith, mapped_none false _ _)
-
-pub loop-a-preserved : goal.loop-a-preserved
-loop-a-preserved c = (omega arith, mapped_more false _ _ _ _ _ c.loop-a.invariant.1 (search rules) refl)
-
 pub returns : goal.returns
-returns c = λ a l. c.loop-a.invariant.1.done a (omega arith)
+returns c = let a = c.args in λ b l. made c.from_fn.ensures.items (λ i. get_or a.reads (get_or a.leads i 0 % 32) false) (λ i r f k. search rules) b l false

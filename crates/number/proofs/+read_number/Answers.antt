@@ -7,7 +7,7 @@ use Rattle.number.proofs.+read_number.Goals as goal
 
 -- where the first byte is not the last, and another stands behind it
 begun : (s : List ℕ) → 0 < length s → 128 ≤ get_or s 0 0 → (length s ≡ 1 → ⊥) → get_or s 0 0 < 256 → Begun s
-begun s some long more byte = record { full = omega arith; long = long; byte = byte }
+begun s Some long more byte = record { full = omega arith; long = long; byte = byte }
 
 -- what the call on the rest answered
 called : (s : List ℕ) (r : Reading) (k : ℕ) → r ≡ number largest (take (k - 1) (drop 1 s)) → k ≡ length (take longest s)
@@ -35,26 +35,26 @@ returns-then-second-lt128 t c =
     let b = begun s (omega arith) (omega arith) c.if-from-eq1.false (omega (arith, c.type_inv.from 0)) in
     sym (number_two b (omega arith) (omega arith))
 
+pub returns : goal.returns
+returns t c =
+    let s = c.args.from.now in
+    let b = begun s (omega arith) (omega arith) c.if-from-eq1.false (omega (arith, c.type_inv.from 0)) in
+    rest_good b _ _ (called s _ _ c.in_ok-value.ensures c.reach-end.ensures) (omega arith) (omega (arith, c.type_inv.from 1)) (omega arith)
+
 pub returns-then-group-value : goal.returns-then-group-value
 returns-then-group-value t c =
     let s = c.args.from.now in
     let b = begun s (omega arith) (omega arith) c.if-from-eq1.false (omega (arith, c.type_inv.from 0)) in
-    rest_over b _ _ (called s _ _ c.in-Good.ensures c.reach-end.ensures) (omega arith)
+    rest_over b _ _ (called s _ _ c.in_ok-value.ensures c.reach-end.ensures) (omega arith)
 
-pub overflow_add-bytes : goal.overflow_add-bytes
-overflow_add-bytes t c =
+pub overflow_add-result-3 : goal.overflow_add-result-3
+overflow_add-result-3 t c =
     let s = c.args.from.now in
     let b = begun s (omega arith) (omega arith) c.if-from-eq1.false (omega (arith, c.type_inv.from 0)) in
-    omega (arith, rest_used b _ _ (called s _ _ c.in-Good.ensures c.reach-end.ensures), c.well_formed)
+    omega (arith, rest_used b _ _ (called s _ _ c.in_ok-value.ensures c.reach-end.ensures), c.well_formed)
 
-pub returns-else-group-value : goal.returns-else-group-value
-returns-else-group-value t c =
+pub returns-in_err-value : goal.returns-in_err-value
+returns-in_err-value t c =
     let s = c.args.from.now in
     let b = begun s (omega arith) (omega arith) c.if-from-eq1.false (omega (arith, c.type_inv.from 0)) in
-    rest_good b _ _ (called s _ _ c.in-Good.ensures c.reach-end.ensures) (omega arith) (omega (arith, c.type_inv.from 1)) (omega arith)
-
-pub returns-in-Malformed : goal.returns-in-Malformed
-returns-in-Malformed t c =
-    let s = c.args.from.now in
-    let b = begun s (omega arith) (omega arith) c.if-from-eq1.false (omega (arith, c.type_inv.from 0)) in
-    rest_malformed b (called s _ _ c.in-Malformed.ensures c.reach-end.ensures)
+    c.from_residual.ensures ∙ rest_malformed b (called s _ _ c.in_err-value.ensures c.reach-end.ensures)

@@ -1,5 +1,5 @@
 -- `number::write_number` meets its contract: each way through it is a law of `Writer`. Assumes nothing.
-use Rattle.std.proofs.Common.{◌+◌, ◌/◌, ◌%◌, arith}
+use Rattle.std.proofs.Common.{◌+◌, ◌/◌, ◌%◌, ◌∙◌, arith}
 use Rattle.number.specs.Leb.{encode}
 use Rattle.number.specs.Leb.Laws.{encode_one, encode_more, encode_some}
 use Rattle.number.proofs.Writer.{no_room, one_byte, Lent, lent_none, lent_fits, lent_wrote}
@@ -19,27 +19,27 @@ pub returns-then-n-lt128-clause-buffer : goal.returns-then-n-lt128-clause-buffer
 returns-then-n-lt128-clause-buffer t c =
     rw (encode_one c.args.n c.if-n-lt128.true) ((one_byte c.args.n c.args.out.now (omega arith)).1)
 
-pub overflow_add-bytes : goal.overflow_add-bytes
-overflow_add-bytes t c =
+pub returns-clause-buffer : goal.returns-clause-buffer
+returns-clause-buffer t c =
     let l : Lent (encode (c.args.n / 128)) c.args.out.now c.write_number.new.out = record { full = omega arith; wrote = c.write_number.ensures.buffer } in
-    omega (arith, lent_fits l _ c.in-Bytes.ensures.answer, c.well_formed)
+    rw (encode_more c.args.n c.if-n-lt128.false) ((lent_wrote l _ c.in_ok-rest.ensures.answer (c.args.n % 128 + 128)).1)
 
-pub returns-in-Bytes-clause-answer : goal.returns-in-Bytes-clause-answer
-returns-in-Bytes-clause-answer t c =
+pub returns-clause-answer : goal.returns-clause-answer
+returns-clause-answer t c =
     let l : Lent (encode (c.args.n / 128)) c.args.out.now c.write_number.new.out = record { full = omega arith; wrote = c.write_number.ensures.buffer } in
-    rw (encode_more c.args.n c.if-n-lt128.false) ((lent_wrote l _ c.in-Bytes.ensures.answer (c.args.n % 128 + 128)).0)
+    rw (encode_more c.args.n c.if-n-lt128.false) ((lent_wrote l _ c.in_ok-rest.ensures.answer (c.args.n % 128 + 128)).0)
 
-pub returns-in-Bytes-clause-buffer : goal.returns-in-Bytes-clause-buffer
-returns-in-Bytes-clause-buffer t c =
+pub returns-in_err-rest-clause-answer : goal.returns-in_err-rest-clause-answer
+returns-in_err-rest-clause-answer t c =
     let l : Lent (encode (c.args.n / 128)) c.args.out.now c.write_number.new.out = record { full = omega arith; wrote = c.write_number.ensures.buffer } in
-    rw (encode_more c.args.n c.if-n-lt128.false) ((lent_wrote l _ c.in-Bytes.ensures.answer (c.args.n % 128 + 128)).1)
+    rw (encode_more c.args.n c.if-n-lt128.false) (c.from_residual.ensures ∙ (lent_none l c.in_err-rest.ensures.answer (c.args.n % 128 + 128)).0)
 
-pub returns-in-NoRoom-clause-answer : goal.returns-in-NoRoom-clause-answer
-returns-in-NoRoom-clause-answer t c =
+pub returns-in_err-rest-clause-buffer : goal.returns-in_err-rest-clause-buffer
+returns-in_err-rest-clause-buffer t c =
     let l : Lent (encode (c.args.n / 128)) c.args.out.now c.write_number.new.out = record { full = omega arith; wrote = c.write_number.ensures.buffer } in
-    rw (encode_more c.args.n c.if-n-lt128.false) ((lent_none l c.in-NoRoom.ensures.answer (c.args.n % 128 + 128)).0)
+    rw (encode_more c.args.n c.if-n-lt128.false) ((lent_none l c.in_err-rest.ensures.answer (c.args.n % 128 + 128)).1)
 
-pub returns-in-NoRoom-clause-buffer : goal.returns-in-NoRoom-clause-buffer
-returns-in-NoRoom-clause-buffer t c =
+pub overflow_add-result : goal.overflow_add-result
+overflow_add-result t c =
     let l : Lent (encode (c.args.n / 128)) c.args.out.now c.write_number.new.out = record { full = omega arith; wrote = c.write_number.ensures.buffer } in
-    rw (encode_more c.args.n c.if-n-lt128.false) ((lent_none l c.in-NoRoom.ensures.answer (c.args.n % 128 + 128)).1)
+    omega (arith, lent_fits l _ c.in_ok-rest.ensures.answer, c.well_formed)

@@ -2,12 +2,13 @@
 -- number at the front of others; a number that was written is read back, whatever follows it; what a good reading says; bytes
 -- that read as a number are its one coding; no byte past the longest good number matters; the bounds of the format.
 -- Assumes nothing.
-use Rattle.std.specs.Prelude.{◌≡◌, refl, ◌⊎◌, ℕ, zero, suc, ◌+◌, ◌*◌, ◌/◌, ◌%◌, ◌^◌, ◌≤◌, ◌<◌, Bool, true, false, cond, ◌||◌, List, [], ◌∷◌, ◌++◌, leb, ltb, length, take, drop}
+use Rattle.std.specs.Prelude.{◌≡◌, refl, ◌⊎◌, ℕ, zero, suc, ◌+◌, ◌*◌, ◌/◌, ◌%◌, ◌^◌, ◌≤◌, ◌<◌, Bool, true, false, cond, ◌||◌, Option, Some, None, List, [], ◌∷◌, ◌++◌, leb, ltb, length, take, drop}
+use Rattle.std.specs.Option.{option_map}
 use Rattle.std.proofs.Common.{sym, ap, ◌∙◌, subst, inl, inr, ⊎_elim, arith, div-lt_iff_lt-mul, pow-suc, get_or-drop, ltb-true, ltb-false, leb-false, lt-ltb, le-ltb, le-leb}
-use Rattle.std.proofs.Math.Option.{Option, none, some, map}
 use Rattle.std.proofs.Math.Dec.{leb-suc-suc}
 use Rattle.std.proofs.lemmas.Bool.{lt-leb}
-use Rattle.number.specs.Leb.{AtMost, AreBytes, largest, longest, groups, encode, good, malformed, numeral, value, padded, judged, number}
+use Rattle.std.proofs.lemmas.Option.{some_pair_parts}
+use Rattle.number.specs.Leb.{AtMost, AreBytes, largest, longest, groups, encode, good, numeral, value, padded, judged, number}
 
 -- ---- two numbers, in order or not
 
@@ -93,18 +94,18 @@ data Front : List ℕ → List ℕ → Type 0 where
   last : {b : ℕ} {s : List ℕ} → b < 128 → Front (b ∷ s) (b ∷ [])
   more : {b : ℕ} {s bs : List ℕ} → 128 ≤ b → Front s bs → Front (b ∷ s) (b ∷ bs)
 
-numeral_front : (s bs : List ℕ) → numeral s ≡ some bs → Front s bs
+numeral_front : (s bs : List ℕ) → numeral s ≡ Some bs → Front s bs
 unfolding numeral
 numeral_front [] bs e = clash (cc)
 numeral_front (b ∷ s) bs e = by_test (λ ns q. numeral_front s ns q) (ltb b 128) refl e
   where
-    by_rest : ((ns : List ℕ) → numeral s ≡ some ns → Front s ns) → 128 ≤ b → (o : Option (List ℕ)) → numeral s ≡ o
-        → map (λ (t : List ℕ). b ∷ t) o ≡ some bs → Front (b ∷ s) bs
-    by_rest ih l none q e = clash (cc)
-    by_rest ih l (some ns) q e = let p : b ∷ ns ≡ bs = cc in subst (Front (b ∷ s)) p (more l (ih ns q))
+    by_rest : ((ns : List ℕ) → numeral s ≡ Some ns → Front s ns) → 128 ≤ b → (o : Option (List ℕ)) → numeral s ≡ o
+        → option_map (λ (t : List ℕ). b ∷ t) o ≡ Some bs → Front (b ∷ s) bs
+    by_rest ih l None q e = clash (cc)
+    by_rest ih l (Some ns) q e = let p : b ∷ ns ≡ bs = cc in subst (Front (b ∷ s)) p (more l (ih ns q))
 
-    by_test : ((ns : List ℕ) → numeral s ≡ some ns → Front s ns) → (t : Bool) → ltb b 128 ≡ t
-        → cond t (some (b ∷ [])) (map (λ (t : List ℕ). b ∷ t) (numeral s)) ≡ some bs → Front (b ∷ s) bs
+    by_test : ((ns : List ℕ) → numeral s ≡ Some ns → Front s ns) → (t : Bool) → ltb b 128 ≡ t
+        → cond t (Some (b ∷ [])) (option_map (λ (t : List ℕ). b ∷ t) (numeral s)) ≡ Some bs → Front (b ∷ s) bs
     by_test ih true q e = let p : b ∷ [] ≡ bs = cc in subst (Front (b ∷ s)) p (last (ltb-true b 128 q))
     by_test ih false q e = by_rest ih (ltb-false b 128 q) (numeral s) refl e
 
@@ -112,7 +113,7 @@ front_some : {s bs : List ℕ} → Front s bs → 0 < length bs
 front_some (last l) = omega arith
 front_some (more l f) = omega arith
 
-pub numeral_some : (s bs : List ℕ) → numeral s ≡ some bs → 0 < length bs
+pub numeral_some : (s bs : List ℕ) → numeral s ≡ Some bs → 0 < length bs
 numeral_some s bs e = front_some (numeral_front s bs e)
 
 front_take : {s bs : List ℕ} → Front s bs → take (length bs) s ≡ bs
@@ -131,12 +132,12 @@ value_encode = by_groups (λ n. value (encode n) ≡ n)
     (λ n l. rw (encode_one n l) (omega arith))
     (λ n l e. rw (encode_more n l) (omega (arith, e)))
 
-numeral_encode : (rest : List ℕ) (n : ℕ) → numeral (encode n ++ rest) ≡ some (encode n)
+numeral_encode : (rest : List ℕ) (n : ℕ) → numeral (encode n ++ rest) ≡ Some (encode n)
 unfolding numeral
-numeral_encode rest = by_groups (λ n. numeral (encode n ++ rest) ≡ some (encode n))
+numeral_encode rest = by_groups (λ n. numeral (encode n ++ rest) ≡ Some (encode n))
     (λ n l. rw (encode_one n l) (simp (lt-ltb n 128 l)))
     (λ n l e. rw (encode_more n l)
-    (simp (le-ltb (n % 128 + 128) 128 (omega arith)) (ap (map (λ (t : List ℕ). (n % 128 + 128) ∷ t)) e)))
+    (simp (le-ltb (n % 128 + 128) 128 (omega arith)) (ap (option_map (λ (t : List ℕ). (n % 128 + 128) ∷ t)) e)))
 
 pub number_encode : (most n : ℕ) (rest : List ℕ) → n ≤ most → number most (encode n ++ rest) ≡ good n (length (encode n))
 unfolding number padded
@@ -149,7 +150,7 @@ number_encode most n rest h =
 
 -- the number's bytes bs at the front of s, and that they pass
 pub record IsGood (most : ℕ) (s : List ℕ) (n k : ℕ) (bs : List ℕ) : Type 0 where
-  pub front : numeral s ≡ some bs
+  pub front : numeral s ≡ Some bs
   pub worth : value bs ≡ n
   pub bytes : length bs ≡ k
   pub fits : n ≤ most
@@ -159,14 +160,13 @@ pub number_good : (most : ℕ) (s : List ℕ) (n k : ℕ) → number most s ≡ 
 unfolding number padded
 number_good most s n k = by_numeral (numeral s) refl
   where
-    by_tests : (bs : List ℕ) → numeral s ≡ some bs → (over long : Bool) → ltb most (value bs) ≡ over
+    by_tests : (bs : List ℕ) → numeral s ≡ Some bs → (over long : Bool) → ltb most (value bs) ≡ over
         → ltb (length (encode (value bs))) (length bs) ≡ long
-        → cond (over || long) malformed (good (value bs) (length bs)) ≡ good n k → (ns : List ℕ) × IsGood most s n k ns
+        → cond (over || long) None (good (value bs) (length bs)) ≡ good n k → (ns : List ℕ) × IsGood most s n k ns
     by_tests bs q true long o l e = clash (cc)
     by_tests bs q false true o l e = clash (cc)
     by_tests bs q false false o l e =
-        let v : value bs ≡ n = cc in
-        let u : length bs ≡ k = cc in (
+        let (v, u) = some_pair_parts (value bs) n (length bs) k (cc) in (
           bs,
           record {
             front = q;
@@ -178,8 +178,8 @@ number_good most s n k = by_numeral (numeral s) refl
         )
 
     by_numeral : (o : Option (List ℕ)) → numeral s ≡ o → judged most o ≡ good n k → (ns : List ℕ) × IsGood most s n k ns
-    by_numeral none q e = clash (cc)
-    by_numeral (some bs) q e = by_tests bs q (ltb most (value bs)) (ltb (length (encode (value bs))) (length bs)) refl refl e
+    by_numeral None q e = clash (cc)
+    by_numeral (Some bs) q e = by_tests bs q (ltb most (value bs)) (ltb (length (encode (value bs))) (length bs)) refl refl e
 
 -- ---- bytes that read as a number are its one coding
 
@@ -215,14 +215,14 @@ number_only most s are n k e =
 
 -- a number of more than k bytes is cut off in the first k
 abbrev kept : ℕ → Option (List ℕ) → Option (List ℕ)
-kept k none = none
-kept k (some bs) = cond (leb (length bs) k) (some bs) none
+kept k None = None
+kept k (Some bs) = cond (leb (length bs) k) (Some bs) None
 
-kept_map : (k b : ℕ) (o : Option (List ℕ)) → map (λ (t : List ℕ). b ∷ t) (kept k o) ≡ kept (suc k) (map (λ (t : List ℕ). b ∷ t) o)
-kept_map k b none = refl
-kept_map k b (some bs) = rw (leb-suc-suc (length bs) k) (by_test (leb (length bs) k))
+kept_map : (k b : ℕ) (o : Option (List ℕ)) → option_map (λ (t : List ℕ). b ∷ t) (kept k o) ≡ kept (suc k) (option_map (λ (t : List ℕ). b ∷ t) o)
+kept_map k b None = refl
+kept_map k b (Some bs) = rw (leb-suc-suc (length bs) k) (by_test (leb (length bs) k))
   where
-    by_test : (t : Bool) → map (λ (t : List ℕ). b ∷ t) (cond t (some bs) none) ≡ cond t (some (b ∷ bs)) none
+    by_test : (t : Bool) → option_map (λ (t : List ℕ). b ∷ t) (cond t (Some bs) None) ≡ cond t (Some (b ∷ bs)) None
     by_test true = refl
     by_test false = refl
 
@@ -230,13 +230,13 @@ numeral_take : (k : ℕ) (s : List ℕ) → numeral (take k s) ≡ kept k (numer
 unfolding numeral
 numeral_take zero s = by_numeral (numeral s) refl
   where
-    by_numeral : (o : Option (List ℕ)) → numeral s ≡ o → none ≡ kept 0 o
-    by_numeral none q = refl
-    by_numeral (some bs) q = simp (lt-leb (length bs) 0 (numeral_some s bs q))
+    by_numeral : (o : Option (List ℕ)) → numeral s ≡ o → None ≡ kept 0 o
+    by_numeral None q = refl
+    by_numeral (Some bs) q = simp (lt-leb (length bs) 0 (numeral_some s bs q))
 numeral_take (suc k) [] = refl
 numeral_take (suc k) (b ∷ s) = ⊎_elim
     (λ l. simp (lt-ltb b 128 l, le-leb 1 (suc k) (omega arith)))
-    (λ l. simp (le-ltb b 128 l) (ap (map (λ (t : List ℕ). b ∷ t)) (numeral_take k s) ∙ kept_map k b (numeral s)))
+    (λ l. simp (le-ltb b 128 l) (ap (option_map (λ (t : List ℕ). b ∷ t)) (numeral_take k s) ∙ kept_map k b (numeral s)))
     (split b 128)
 
 -- k bytes are enough where the limit is below 128 to the power k
@@ -244,7 +244,7 @@ pub number_take : (most k : ℕ) (s : List ℕ) → 0 < k → most < 128 ^ k →
 unfolding number padded
 number_take most k s p h = ap (judged most) (numeral_take k s) ∙ by_numeral (numeral s)
   where
-    too_long : (bs : List ℕ) → k < length bs → malformed ≡ judged most (some bs)
+    too_long : (bs : List ℕ) → k < length bs → None ≡ judged most (Some bs)
     too_long bs l = ⊎_elim
         (λ over. simp (lt-ltb most (value bs) over))
         (λ fits.
@@ -253,13 +253,13 @@ number_take most k s p h = ap (judged most) (numeral_take k s) ∙ by_numeral (n
         simp (le-ltb most (value bs) fits, lt-ltb (length (encode (value bs))) (length bs) short))
         (split most (value bs))
 
-    by_test : (bs : List ℕ) (t : Bool) → leb (length bs) k ≡ t → judged most (cond t (some bs) none) ≡ judged most (some bs)
+    by_test : (bs : List ℕ) (t : Bool) → leb (length bs) k ≡ t → judged most (cond t (Some bs) None) ≡ judged most (Some bs)
     by_test bs true e = refl
     by_test bs false e = too_long bs (leb-false (length bs) k e)
 
     by_numeral : (o : Option (List ℕ)) → judged most (kept k o) ≡ judged most o
-    by_numeral none = refl
-    by_numeral (some bs) = by_test bs (leb (length bs) k) refl
+    by_numeral None = refl
+    by_numeral (Some bs) = by_test bs (leb (length bs) k) refl
 
 -- ---- the bounds of the format
 

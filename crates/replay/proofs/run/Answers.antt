@@ -3,7 +3,6 @@ use mathlib.Core.Path.{subst}
 use Prim.Native.Nat.{◌<◌}
 use native.Mathlib.Omega.{arith}
 use lib.ListN.{length}
-use Rattle.number.specs.Answers.{writing}
 use Rattle.gatekeeper.specs.View.{view}
 use Rattle.replay.proofs.Demand3.Laws.{none_ended}
 use Rattle.replay.specs.Replay.{largest_journal}
@@ -13,9 +12,9 @@ use Rattle.replay.proofs.run.Goals as goal
 pub returns-then-journal-gt-LARGEST_JOURNAL : goal.returns-then-journal-gt-LARGEST_JOURNAL
 returns-then-journal-gt-LARGEST_JOURNAL c =
     let a = c.args in
-    let k = c.too_long-written in
+    let k = c.too_long in
     let long : largest_journal < length a.journal.now = omega (arith, c.if-journal-gt-LARGEST_JOURNAL.true) in
-    let e = subst (λ x. Ends x a.out.now k.new.out (writing k.result)) (reply_long a.journal.now long) k.ensures in
+    let e = subst (λ x. Ends x a.out.now k.new.out k.result) (reply_long a.journal.now long) k.ensures in
     record {
       answer = e.0;
       buffer = e.1.0;
@@ -32,7 +31,7 @@ returns c =
     let a = c.args in
     let k = c.records in
     let short = reply_whole a.journal.now (omega (arith, c.if-journal-gt-LARGEST_JOURNAL.false)) in
-    let e = subst (λ x. Ends x a.out.now k.new.out (writing k.result.written)) short k.ensures.text in
+    let e = subst (λ x. Ends x a.out.now k.new.out k.result.written) short k.ensures.text in
     record {
       answer = e.0;
       buffer = e.1.0;

@@ -1,8 +1,7 @@
 -- A reply, record by record. In order: the records of a journal; a record whose code is no call's, which changes nothing; what is left of the text, of the
 -- calls and of the tally before a record, and after it. Assumes nothing.
-use Rattle.std.specs.Prelude.{◌≡◌, refl, List, [], ◌∷◌, ◌++◌, Bool, true, false, cond, ℕ, zero, suc, ◌+◌, ◌<◌, T, ltb, eqb, length, take, drop}
+use Rattle.std.specs.Prelude.{◌≡◌, refl, List, [], ◌∷◌, ◌++◌, Bool, true, false, cond, ℕ, zero, suc, ◌+◌, ◌<◌, T, ltb, eqb, length, take, drop, Option, Some, None}
 use Rattle.std.proofs.Common.{sym, ◌∙◌, ap, subst, append_assoc, arith, ltb-true, eqb-true}
-use Rattle.std.proofs.Math.Option.{Option, none, some}
 use Rattle.model.specs.Tables.{Tables, clean}
 use Rattle.model.specs.Invariant.{Kept}
 use Rattle.model.proofs.Invariant.Laws.{clean_same}
@@ -11,7 +10,7 @@ use Rattle.model.proofs.Calls.Codes.{decode_unknown}
 use Rattle.model.proofs.Calls.Kept.{next_kept}
 use Rattle.model.specs.Tally.{Tally, tallied, tally}
 use Rattle.model.proofs.Demand3.Laws.{meets_next}
-use Rattle.number.specs.Leb.{number, largest, Reading, good, malformed}
+use Rattle.number.specs.Leb.{number, largest, Reading}
 use Rattle.journal.specs.Answers.{Said, said, Next, body, end}
 use Rattle.journal.specs.Answers.{Answer as Read, answers as reads, refused as bad}
 use Rattle.journal.specs.Calls.{arity_of, known}
@@ -67,16 +66,16 @@ unfolding body_in
 body_plain bs = by_number (number largest bs)
   where
     by_numbers : (code : ℕ) (o : Option (List ℕ)) → Plain (said code (call_with o))
-    by_numbers code none = λ e. absurd (omega arith)
-    by_numbers code (some ns) = tt
+    by_numbers code None = λ e. absurd (omega arith)
+    by_numbers code (Some ns) = tt
 
     by_code : (code used : ℕ) (b : Bool) → known code ≡ b → Plain (said code (cond b (call_with (arguments_in (arity_of code) (drop used bs))) (bad 1)))
     by_code code used true q = by_numbers code (arguments_in (arity_of code) (drop used bs))
     by_code code used false q = λ e. decode_none code q
 
     by_number : (r : Reading) → Plain (coded r bs)
-    by_number (good code used) = by_code code used (known code) refl
-    by_number malformed = λ e. absurd (omega arith)
+    by_number (Some (code, used)) = by_code code used (known code) refl
+    by_number None = λ e. absurd (omega arith)
 
 -- the refusal of a length is 11
 pub eleven_plain : Plain (said 0 (bad 11))
@@ -93,8 +92,8 @@ records_plain (suc most) journal at = by_place (λ n. records_plain most journal
     by_room rest false start len next = (body_plain (take len (drop start journal)), rest next)
 
     by_length : ((n : ℕ) → Plains (records most journal n)) → (r : Reading) → Plains (followed (records most journal) journal (sized journal at r))
-    by_length rest (good len used) = by_room rest (ltb (length journal) (at + used + len)) (at + used) len (at + used + len)
-    by_length rest malformed = (eleven_plain, tt)
+    by_length rest (Some (len, used)) = by_room rest (ltb (length journal) (at + used + len)) (at + used) len (at + used + len)
+    by_length rest None = (eleven_plain, tt)
 
     by_place : ((n : ℕ) → Plains (records most journal n)) → (b : Bool)
         → Plains (followed (records most journal) journal (cond b (sized journal at (number largest (drop at journal))) (reads end)))

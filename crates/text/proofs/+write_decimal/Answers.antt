@@ -20,6 +20,15 @@ begun n b h fits at count out wrote =
     let room : at < length b = omega (arith, count, length_more n h, fits) in
     (put_over _ _ _ _ count (omega arith) wrote, room)
 
+pub returns-clause-count : goal.returns-clause-count
+returns-clause-count t c = omega (arith, c.write_decimal-at.ensures.count, length_more c.args.n (omega arith))
+
+pub returns-clause-buffer : goal.returns-clause-buffer
+returns-clause-buffer t c =
+    let w = c.write_decimal-at in
+    let (o, room) = begun c.args.n c.args.out.now (omega arith) (omega arith) _ w.ensures.count _ w.ensures.buffer in
+    rw (decimal_more c.args.n (omega arith)) (over_put (byte_after o (c.args.n % 10 + 48) room))
+
 pub bounds-out-0 : goal.bounds-out-0
 bounds-out-0 t c = omega (arith, ap length (decimal_one c.args.n (omega arith)))
 
@@ -42,12 +51,3 @@ bounds-out-at t c =
 
 pub overflow_add-result : goal.overflow_add-result
 overflow_add-result t c = omega (arith, c.write_decimal-at.ensures.count, tenth_fits c.args.n, c.well_formed)
-
-pub returns-clause-count : goal.returns-clause-count
-returns-clause-count t c = omega (arith, c.write_decimal-at.ensures.count, length_more c.args.n (omega arith))
-
-pub returns-clause-buffer : goal.returns-clause-buffer
-returns-clause-buffer t c =
-    let w = c.write_decimal-at in
-    let (o, room) = begun c.args.n c.args.out.now (omega arith) (omega arith) _ w.ensures.count _ w.ensures.buffer in
-    rw (decimal_more c.args.n (omega arith)) (over_put (byte_after o (c.args.n % 10 + 48) room))

@@ -27,19 +27,6 @@ returns-then-out-size-clause-short c =
 
 -- ---- where it does
 
-pub returns-clause-answer : goal.returns-clause-answer
-unfolding ending
-returns-clause-answer c =
-    let a = c.args in
-    let room : length (ending a.made a.gone a.held) ≤ length a.out.now = omega (arith, ending_length a.made a.gone a.held, c.decimal_len.ensures.count, c.decimal_len-2.ensures.count, c.decimal_len-3.ensures.count, c.if-out-size.false) in
-    let parts = fit end_word (field a.made space) (field a.gone space) (field a.held newline) a.out.now room in
-    let all =
-    four_written parts c.copy-at.ensures.count (copied _ _ _ c.copy-at.ensures.buffer c.copy-at.auto.to)
-    c.write_field.ensures.count c.write_field.ensures.buffer
-    c.write_field-2.ensures.count c.write_field-2.ensures.buffer
-    c.write_field-3.ensures.count c.write_field-3.ensures.buffer in
-    (all_written (ending a.made a.gone a.held) a.out.now longest_end (ending_bytes a.made a.gone a.held (omega arith) (omega arith) (omega arith)) _ _ all).0
-
 pub returns-clause-buffer : goal.returns-clause-buffer
 unfolding ending
 returns-clause-buffer c =
@@ -52,6 +39,19 @@ returns-clause-buffer c =
     c.write_field-2.ensures.count c.write_field-2.ensures.buffer
     c.write_field-3.ensures.count c.write_field-3.ensures.buffer in
     (all_written (ending a.made a.gone a.held) a.out.now longest_end (ending_bytes a.made a.gone a.held (omega arith) (omega arith) (omega arith)) _ _ all).1.0
+
+pub returns-clause-answer : goal.returns-clause-answer
+unfolding ending
+returns-clause-answer c =
+    let a = c.args in
+    let room : length (ending a.made a.gone a.held) ≤ length a.out.now = omega (arith, ending_length a.made a.gone a.held, c.decimal_len.ensures.count, c.decimal_len-2.ensures.count, c.decimal_len-3.ensures.count, c.if-out-size.false) in
+    let parts = fit end_word (field a.made space) (field a.gone space) (field a.held newline) a.out.now room in
+    let all =
+    four_written parts c.copy-at.ensures.count (copied _ _ _ c.copy-at.ensures.buffer c.copy-at.auto.to)
+    c.write_field.ensures.count c.write_field.ensures.buffer
+    c.write_field-2.ensures.count c.write_field-2.ensures.buffer
+    c.write_field-3.ensures.count c.write_field-3.ensures.buffer in
+    (all_written (ending a.made a.gone a.held) a.out.now longest_end (ending_bytes a.made a.gone a.held (omega arith) (omega arith) (omega arith)) _ _ all).0
 
 pub returns-clause-short : goal.returns-clause-short
 returns-clause-short c =

@@ -1,8 +1,7 @@
 -- Laws of writing some bytes after others. In order: before anything is written, and what was put over the front; how much was
 -- written, that it is one put, and one byte more; one part more, put into the rest of the buffer that was lent. Assumes nothing.
-use Rattle.std.specs.Prelude.{◌≡◌, refl, ℕ, ◌+◌, ◌-◌, ◌≤◌, ◌<◌, List, [], ◌∷◌, ◌++◌, length, take, drop, set}
+use Rattle.std.specs.Prelude.{◌≡◌, refl, ℕ, ◌+◌, ◌-◌, ◌≤◌, ◌<◌, List, [], ◌∷◌, ◌++◌, length, take, drop, set, Some, None}
 use Rattle.std.proofs.Common.{sym, ap, ◌∙◌, arith, add-one, length-append, length-take, length-drop, length-set, take-append-drop, take_at, drop_at, take-add, drop-drop, take-suc-set, drop-set-lt}
-use Rattle.std.proofs.Math.Option.{none, some}
 use borrow.Rule.Slice.PartMut.{put_mid}
 use Rattle.number.specs.Put.{put, fitted}
 use Rattle.number.specs.Put.Laws.{rest_is, back, put_fits, put_none, fits, fits_not, length_put}
@@ -76,13 +75,13 @@ module _ {b done : List ℕ} {at : ℕ} {out : List ℕ} (o : Over b done at out
         }
 
     -- the same by what the writer of a line answers: a length, or that there is no room
-    pub put_after : (ys : List ℕ) (k : ℕ) → some k ≡ fitted e (take (length out - at) (drop at out)) → ys ≡ put e (take (length out - at) (drop at out))
+    pub put_after : (ys : List ℕ) (k : ℕ) → Some k ≡ fitted e (take (length out - at) (drop at out)) → ys ≡ put e (take (length out - at) (drop at out))
         → Over b (done ++ e) (at + k) (put_mid at (length out - at) out ys)
     put_after ys k answer =
         let (count, room) = fits e (take (length out - at) (drop at out)) k (sym answer) in
         part_after ys k count (omega (arith, length-append done e, over_count, rest_length, o.within))
 
-    pub none_after : (ys : List ℕ) → none ≡ fitted e (take (length out - at) (drop at out)) → ys ≡ put e (take (length out - at) (drop at out))
+    pub none_after : (ys : List ℕ) → None ≡ fitted e (take (length out - at) (drop at out)) → ys ≡ put e (take (length out - at) (drop at out))
         → put_mid at (length out - at) out ys ≡ out
     none_after ys answer wrote =
         let rest = take (length out - at) (drop at out) in

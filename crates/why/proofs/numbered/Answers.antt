@@ -13,4 +13,4 @@ returns-then-w-lt-SUBJECTS c =
 pub returns : goal.returns
 returns c =
     let a = c.args in
-    from_object a.numbers a.w _ _ c.if-w-eq0.false c.if-w-lt-SUBJECTS.false c.number_of-high.ensures c.number_of-low.ensures
+    from_object a.numbers a.w _ _ c.if-w-eq0.false c.if-w-lt-SUBJECTS.false c.number_of-high.ensures c.number_of.ensures

@@ -1,10 +1,11 @@
 -- `gatekeeper::Monitor::dispatch` meets its contract. Assumes nothing.
 use mathlib.Core.Path.{sym, subst}
+use native.Mathlib.Omega.{arith}
 use Rattle.model.specs.Calls.{Call, unknown, decode}
 use Rattle.model.proofs.Calls.Codes.{decode_unknown, unknown_refused}
 use Rattle.answers.specs.declared.Refusal.TheVariants.{UnknownCode}
 use Rattle.answers.specs.Telling.{told}
-use Rattle.gatekeeper.specs.View.{slots, direct}
+use Rattle.gatekeeper.specs.View.{slots, direct_of}
 use Rattle.gatekeeper.specs.Acting.{Acts}
 use Rattle.gatekeeper.proofs.Acting.{halts, both, unroomed, either}
 use Rattle.gatekeeper.proofs.Monitor.dispatch.Goals as goal
@@ -84,9 +85,61 @@ returns-in-18 c = rw c.in-18.is (let z = unroomed c.thread.ensures in record { a
 pub returns-in_default : goal.returns-in_default
 returns-in_default c =
     let a = c.args in
-    let n = c.in_default.in_default-own.rest in
-    let z = both (λ w r. subst (λ (k : Call). Acts a.self k (told c.refuse.result.answer) c.refuse.result.monitor)
-    (sym (decode_unknown (direct a.code a.a a.b a.c a.d a.e a.f)
-    (n.0.0.0.0.0.0.0.0.0.0.0.0.0.0.0.0.0.1, (n.0.0.0.0.0.0.0.0.0.0.0.0.0.0.0.0.1, (n.0.0.0.0.0.0.0.0.0.0.0.0.0.0.0.1, (n.0.0.0.0.0.0.0.0.0.0.0.0.0.0.1, (n.0.0.0.0.0.0.0.0.0.0.0.0.0.1, (n.0.0.0.0.0.0.0.0.0.0.0.0.1, (n.0.0.0.0.0.0.0.0.0.0.0.1, (n.0.0.0.0.0.0.0.0.0.0.1, (n.0.0.0.0.0.0.0.0.0.1, (n.0.0.0.0.0.0.0.0.1, (n.0.0.0.0.0.0.0.1, (n.0.0.0.0.0.0.1, (n.0.0.0.0.0.1, (n.0.0.0.0.1, (n.0.0.0.1, (n.0.0.1, (n.0.1, (n.1, tt))))))))))))))))))))
+    let e = decode_unknown (direct_of a.call) (
+      omega arith,
+      (
+        omega arith,
+        (
+          omega arith,
+          (
+            omega arith,
+            (
+              omega arith,
+              (
+                omega arith,
+                (
+                  omega arith,
+                  (
+                    omega arith,
+                    (
+                      omega arith,
+                      (
+                        omega arith,
+                        (
+                          omega arith,
+                          (
+                            omega arith,
+                            (
+                              omega arith,
+                              (
+                                omega arith,
+                                (
+                                  omega arith,
+                                  (
+                                    omega arith,
+                                    (
+                                      omega arith,
+                                      (
+                                        omega arith,
+                                        tt,
+                                      ),
+                                    ),
+                                  ),
+                                ),
+                              ),
+                            ),
+                          ),
+                        ),
+                      ),
+                    ),
+                  ),
+                ),
+              ),
+            ),
+          ),
+        ),
+      ),
+    ) in
+    let z = both (λ w r. subst (λ (k : Call). Acts a.self k (told c.refuse.result.answer) c.refuse.result.monitor) (sym e)
     (halts {c = unknown} {e = UnknownCode} (unknown_refused (slots a.self)) c.refuse.ensures)) in
     record { acts = z.0; keeps = z.1 }

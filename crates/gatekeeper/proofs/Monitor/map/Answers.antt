@@ -18,23 +18,18 @@ returns-in-Err-last-clause-acts c =
     ends (c.in-Err-last.ensures _ _ z (map_late _ (owned_long _ c.well_formed.0) _ _ _ _ _ _ _ _ firm.wf z c.object-y.ensures.stands c.joining-opened.ensures c.with_handle-next.ensures
     c.opened-w.ensures firm.safe)) c.refuse-in-Err-last.ensures
 
-pub returns-clause-acts : goal.returns-clause-acts
-returns-clause-acts c =
-    λ firm.
+pub returns : goal.returns
+returns c =
     let a = c.args in
     let g = owned_long _ c.well_formed.0 in
-    let z = c.in_default.ensures _ _ _ firm.wf c.subject-x.ensures c.object-y.ensures.stands c.handle-h.ensures in
+    let y = c.object-y.ensures.stands in
     let all = c.with_handle-all.ensures ∙ ap (set a.self.handles (a.s % 32 * 16 + a.p % 16)) c.joining.ensures in
-    maps_acts _ g _ _ _ _ _ _ _ _ firm.wf z c.object-y.ensures.stands c.joining-opened.ensures c.with_handle-next.ensures c.opened-w.ensures _ _ _ _ _ _ c.subject-x.ensures
-    (c.in_default-last.ensures _ _ z (map_late _ g _ _ _ _ _ _ _ _ firm.wf z c.object-y.ensures.stands c.joining-opened.ensures c.with_handle-next.ensures
-    c.opened-w.ensures firm.safe)).is c.fallen-put.ensures (c.taken-fell.ensures.tables, (c.taken-fell.ensures.lower, c.taken-fell.ensures.live)) all
-    (c.not_refused.ensures ∙ ap (outcome c.taken-fell.result.lower c.fallen-put.result.level) c.lost-lost.ensures)
-
-pub returns-clause-keeps : goal.returns-clause-keeps
-returns-clause-keeps c =
-    λ w.
-    let a = c.args in
-    let z = c.in_default.ensures _ _ _ w c.subject-x.ensures c.object-y.ensures.stands c.handle-h.ensures in
-    let all = c.with_handle-all.ensures ∙ ap (set a.self.handles (a.s % 32 * 16 + a.p % 16)) c.joining.ensures in
-    maps_keeps _ (owned_long _ c.well_formed.0) _ _ _ _ _ _ _ _ w z c.object-y.ensures.stands c.joining-opened.ensures c.with_handle-next.ensures c.opened-w.ensures _ _ _
-    (c.taken-fell.ensures.tables, (c.taken-fell.ensures.lower, c.taken-fell.ensures.live)) all
+    record {
+      acts = λ firm. let z = c.in_default.ensures _ _ _ firm.wf c.subject-x.ensures y c.handle-h.ensures in
+          maps_acts _ g _ _ _ _ _ _ _ _ firm.wf z y c.joining-opened.ensures c.with_handle-next.ensures c.opened-w.ensures _ _ _ _ _ _ c.subject-x.ensures
+          (c.in_default-last.ensures _ _ z (map_late _ g _ _ _ _ _ _ _ _ firm.wf z y c.joining-opened.ensures c.with_handle-next.ensures c.opened-w.ensures
+          firm.safe)).is (rw c.label.ensures at c.fallen-put.ensures) (rw c.label-2.ensures at c.taken-fell.ensures.tables, (c.taken-fell.ensures.lower, c.taken-fell.ensures.live)) all
+          (c.not_refused.ensures ∙ ap (outcome c.taken-fell.result.lower c.fallen-put.result.level) c.lost-lost.ensures);
+      keeps = λ w. maps_keeps _ g _ _ _ _ _ _ _ _ w (c.in_default.ensures _ _ _ w c.subject-x.ensures y c.handle-h.ensures) y c.joining-opened.ensures
+          c.with_handle-next.ensures c.opened-w.ensures _ _ _ (rw c.label-2.ensures at c.taken-fell.ensures.tables, (c.taken-fell.ensures.lower, c.taken-fell.ensures.live)) all;
+    }

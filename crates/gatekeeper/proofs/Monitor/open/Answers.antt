@@ -21,20 +21,17 @@ returns-in-Err-last-clause-acts c =
     ends (c.in-Err-last.ensures _ _ z (open_late _ (owned_long _ c.well_formed.0) _ _ _ _ _ _ _ _ _ firm.wf z c.object-y.ensures.stands i c.with_handle-next.ensures c.opened-w.ensures
     firm.safe _ (c.is_frozen-frozen.ensures (slots c.args.self) _ refl c.object-y.ensures.stands))) c.refuse-in-Err-last.ensures
 
-pub returns-clause-acts : goal.returns-clause-acts
+pub returns : goal.returns
 unfolding tables_of
-returns-clause-acts c =
-    λ firm.
+returns c =
     let g = owned_long _ c.well_formed.0 in
     let i = c.joining-put.ensures ∙ ap (λ (i : ℕ). joining i c.args.o) c.way_of.ensures in
-    let z = c.in_default.ensures _ _ _ _ firm.wf c.subject-x.ensures c.object-y.ensures.stands c.handle-h.ensures in
-    opens_acts _ g _ _ _ _ _ _ _ _ _ firm.wf z c.object-y.ensures.stands i c.with_handle-next.ensures c.opened-w.ensures
-    (c.in_default-last.ensures _ _ z (open_late _ g _ _ _ _ _ _ _ _ _ firm.wf z c.object-y.ensures.stands i c.with_handle-next.ensures c.opened-w.ensures
-    firm.safe _ (c.is_frozen-frozen.ensures (slots c.args.self) _ refl c.object-y.ensures.stands))).is
-
-pub returns-clause-keeps : goal.returns-clause-keeps
-returns-clause-keeps c =
-    λ w.
-    let i = c.joining-put.ensures ∙ ap (λ (i : ℕ). joining i c.args.o) c.way_of.ensures in
-    let z = c.in_default.ensures _ _ _ _ w c.subject-x.ensures c.object-y.ensures.stands c.handle-h.ensures in
-    opens_keeps _ (owned_long _ c.well_formed.0) _ _ _ _ _ _ _ _ _ w z c.object-y.ensures.stands i c.with_handle-next.ensures c.opened-w.ensures
+    let y = c.object-y.ensures.stands in
+    record {
+      acts = λ firm. let z = c.in_default.ensures _ _ _ _ firm.wf c.subject-x.ensures y c.handle-h.ensures in
+          opens_acts _ g _ _ _ _ _ _ _ _ _ firm.wf z y i c.with_handle-next.ensures c.opened-w.ensures
+          (c.in_default-last.ensures _ _ z (open_late _ g _ _ _ _ _ _ _ _ _ firm.wf z y i c.with_handle-next.ensures c.opened-w.ensures
+          firm.safe _ (c.is_frozen-frozen.ensures (slots c.args.self) _ refl y))).is;
+      keeps = λ w. opens_keeps _ g _ _ _ _ _ _ _ _ _ w (c.in_default.ensures _ _ _ _ w c.subject-x.ensures y c.handle-h.ensures) y i
+          c.with_handle-next.ensures c.opened-w.ensures;
+    }

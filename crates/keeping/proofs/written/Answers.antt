@@ -1,9 +1,0 @@
--- `keeping::written` meets its contract. Assumes nothing.
-use mathlib.Core.Path.{sym, ◌∙◌}
-use Rattle.keeping.proofs.written.Goals as goal
-
-pub returns-then-is_writing : goal.returns-then-is_writing
-returns-then-is_writing c = rw (sym c.is_writing.ensures ∙ c.if-is_writing.true) c.of_object.ensures
-
-pub returns : goal.returns
-returns c = rw (sym c.is_writing.ensures ∙ c.if-is_writing.false)

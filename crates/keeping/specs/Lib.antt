@@ -1,0 +1,2 @@
+-- Where the figure of a thing stands. Assumes nothing.
+pub mod Things
