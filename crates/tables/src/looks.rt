@@ -1,5 +1,5 @@
 // The record at any number that a call names, what its way says, and what a record becomes where something falls.
-ghost use Rattle.std.specs.Prelude.{◌≡◌, ◌&&◌, ◌||◌, ◌+◌, ◌*◌, ◌%◌, ◌<◌, get_or, set};
+ghost use Rattle.std.specs.Prelude.{◌≡◌, ◌+◌, ◌*◌, ◌%◌, ◌<◌, get_or, set};
 ghost use Rattle.model.specs.Label.{label};
 ghost use Rattle.labels.specs.Codes.{coded};
 ghost use Rattle.tables.specs.Records.{reads_by, no_subject, no_object, no_handle};
@@ -110,18 +110,6 @@ pub fn with_object(objects: [Object; OBJECTS], o: u64, y: Object) -> [Object; OB
     ensures { result ≡ set objects (o % 64) y }
 {
     with(objects, o, y)
-}
-
-pub fn both(a: bool, b: bool) -> bool
-    ensures { result ≡ (a && b) }
-{
-    a && b
-}
-
-pub fn either(a: bool, b: bool) -> bool
-    ensures { result ≡ (a || b) }
-{
-    a || b
 }
 
 // A handle of this way reads: a mapping does, too.
