@@ -5,6 +5,9 @@
 #![tactic(auto)]
 
 ghost use Rattle.std.specs.Prelude.{◌≡◌, ◌+◌, ◌*◌, ◌%◌, ◌^◌, ◌≤◌, ◌<◌, [], ◌∷◌, true, ◌&&◌, ◌⊎◌, ◌↔◌, if◌then◌else◌, ◌==◌, slice_index, slice_index_or, slice_set};
+ghost use Rattle.std.specs.Prelude.{length, ◌≢◌, IfSome, IsSome, MatchOption};
+ghost use Rattle.std.specs.Borrow.{sem};
+ghost use Rattle.inplace.specs.Counts.{LendsCounts};
 ghost use Rattle.model.specs.Tally.{wrapped};
 ghost use Rattle.tables.specs.Records.{reads_by, no_subject, no_object, no_handle};
 ghost use Rattle.tables.specs.Slots.{slot_used, Found};
@@ -90,6 +93,36 @@ pub fn count(counts: &mut [u64; 2], made: u64, gone: u64)
 }
 
 // ---- what is asked first
+
+// The parts that a call reads and does not change.
+#[derive(Clone, Copy)]
+pub struct Parts<'a> {
+    pub subjects: &'a [u8; SUBJECT_BYTES],
+    pub objects: &'a [u8; OBJECT_BYTES],
+    pub needs: &'a [u16; THINGS],
+}
+
+impl<'a> Parts<'a> {
+    // The parts where they have their lengths.
+    pub fn of(subjects: &'a [u8], objects: &'a [u8], needs: &'a [u16]) -> Option<Parts<'a>>
+        ensures same { IfSome result (λ x. (x.subjects.now ≡ subjects.now) × (x.objects.now ≡ objects.now) × (x.needs.now ≡ needs.now)) }
+        ensures whole { IsSome result ↔ ((length subjects.now ≡ 96) × (length objects.now ≡ 192) × (length needs.now ≡ 96)) }
+    {
+        Some(Parts {
+            subjects: subjects.as_array()?,
+            objects: objects.as_array()?,
+            needs: needs.as_array()?,
+        })
+    }
+}
+
+// The two counts, where there are two.
+pub fn counts_in(counts: &mut [u64]) -> Option<&mut [u64; 2]>
+    ensures* writes_back { sem 𝓛 (LendsCounts counts.entry result) }
+    ensures cases { MatchOption result (length counts.old ≢ 2) (λ x. (length counts.old ≡ 2) × (x.now ≡ counts.old)) }
+{
+    counts.as_mut_array()
+}
 
 // The handle at index i is on object o.
 fn is_on(handles: &[u8; HANDLE_BYTES], i: usize, o: u8) -> bool

@@ -45,12 +45,16 @@ use Rattle.gatekeeper.specs.Acting.{Acts, back}
 use Rattle.gatekeeper.proofs.Owned.{Long}
 use Rattle.gatekeeper.proofs.Lifting.{lift_none}
 use Rattle.gatekeeper.proofs.Doing.{found_live, full_held}
-use Rattle.gatekeeper.proofs.Acting.{stops, goes, acts_keeps}
+use Rattle.gatekeeper.proofs.Acting.{stops, acts_keeps}
 use Rattle.gatekeeper.proofs.Storing.{subject_got, object_got, handle_got, closes}
 use Rattle.inplace.specs.Bytes.{subjects_in, objects_in, handles_in, Beside}
 use Rattle.inplace.specs.Bytes.Laws.{length_objects, length_handles}
-use Rattle.quick.specs.Parts.{Whole, monitor_in, tally_in, Done, Loose, Settles}
-use Rattle.quick.proofs.Doing.{whole_long, refusing, allowing, settles_by, counted_made, counted_gone}
+use Rattle.quick.specs.Parts.{Whole, monitor_in, tally_in, tried_number, Done, Loose, Settles}
+use Rattle.std.specs.Prelude.{Some, Ok, Err}
+use Rattle.answers.specs.declared.Granted.TheVariants.{Allowed}
+use Rattle.answers.specs.declared.Refusal.{Refusal}
+use Rattle.answers.specs.Telling.{number_of}
+use Rattle.quick.proofs.Doing.{goes, whole_long, refusing, allowing, settles_by, counted_made, counted_gone}
 use Rattle.quick.proofs.Renumbering.{close_ren}
 
 close_is : (s p : ℕ) → decode (direct 11 s p 0 0 0 0) ≡ close s p
@@ -84,9 +88,10 @@ module _ (gs : List ℕ) (lg : length gs ≡ 32) (ns sb ob hb nb cs : List ℕ) 
   asked : Wf (slots m) → Refuses (slots m) c n
   asked v = (f (slots m) s p v (subject_got m g s x ex) (handle_got m g s p h eh)).0
 
-  pub close_refused : (n ≡ 0 → ⊥) → (r : ℕ) → r ≡ 20992 + n → n < 256
-      → Done (monitor_in gs ns sb ob hb nb fz su) (tally_in cs) (direct 11 s p 0 0 0 0) r (monitor_in gs ns sb ob hb nb fz su) (tally_in cs)
-  close_refused z = refusing gs lg ns sb ob hb nb cs fz su w one (direct 11 s p 0 0 0 0) c c (close_is s p) lift n (λ firm. stops m c n (back m n) (asked firm.wf) z refl)
+  pub close_refused : (v : Refusal) → n ≡ number_of v
+      → Done (monitor_in gs ns sb ob hb nb fz su) (tally_in cs) (direct 11 s p 0 0 0 0) (tried_number (Some (Err v))) (monitor_in gs ns sb ob hb nb fz su) (tally_in cs)
+  close_refused v z = refusing gs lg ns sb ob hb nb cs fz su w one (direct 11 s p 0 0 0 0) c c (close_is s p) lift v
+      (λ firm. stops {e = v} {r = back m v} (subst (Refuses (slots m) c) z (asked firm.wf)) refl)
 
   -- ── it is left ──
   module _ (z : n ≡ 0) (y : Object) (ey : y ≡ object_at h.object (get_or (objects_in ob) (h.object % 64) no_object)) (i : Honest (monitor_in gs ns sb ob hb nb fz su)) where
@@ -251,7 +256,7 @@ module _ (gs : List ℕ) (lg : length gs ≡ 32) (ns sb ob hb nb cs : List ℕ) 
         low = slot_low (beside m) m.subjects m.objects m.handles g.objects (slots m) h.object refl (found_live (slots m) v c s p h free (inr (inl refl)) there)
 
     pub close_done : (hb' cs' : List ℕ) → handles_in hb' ≡ set (handles_in hb) (s % 32 * 16 + p % 16) no_handle
-        → cs' ≡ set (set cs 0 (wrapped (get_or cs 0 0 + 0))) 1 (wrapped (get_or cs 1 0 + 1)) → (r : ℕ) → r ≡ 16640 + x.level → x.level < 256
-        → Done (monitor_in gs ns sb ob hb nb fz su) (tally_in cs) (direct 11 s p 0 0 0 0) r (monitor_in gs ns sb ob hb' nb fz su) (tally_in cs')
+        → cs' ≡ set (set cs 0 (wrapped (get_or cs 0 0 + 0))) 1 (wrapped (get_or cs 1 0 + 1)) → x.level < 256
+        → Done (monitor_in gs ns sb ob hb nb fz su) (tally_in cs) (direct 11 s p 0 0 0 0) (tried_number (Some (Ok (Allowed x.level)))) (monitor_in gs ns sb ob hb' nb fz su) (tally_in cs')
     close_done hb' cs' put count = allowing gs lg ns sb ob hb nb cs fz su w one (direct 11 s p 0 0 0 0) c c (close_is s p) lift x.level hb' cs' (λ firm. acted hb' put firm.wf) (λ v. acts_keeps v (acted hb' put v))
         (λ t. ap (λ (l : List ℕ). get_or l 0 0) count ∙ counted_made cs w.counts _ _) (λ t. ap (λ (l : List ℕ). get_or l 1 0) count ∙ counted_gone cs w.counts _ _)

@@ -2,6 +2,7 @@
 -- Assumes nothing.
 use mathlib.Core.Path.{◌≡◌, refl, sym, ◌∙◌, ap, ap₂, subst, subst₂}
 use mathlib.Core.Bool.{Bool, true, false, not, ◌||◌}
+use Rattle.std.proofs.Math.Bool.{or-true}
 use mathlib.Core.Logic.{inl, inr}
 use mathlib.Core.Option.{Option, none, some, none-ne-some, some-injective}
 use mathlib.Core.List.{List, [], ◌∷◌}
@@ -36,7 +37,6 @@ use Rattle.tables.specs.Slots.{Found}
 use Rattle.refusals.specs.Refusing.{Refuses, Refused, direction}
 use Rattle.refusals.specs.Refusing.{late as late-rows}
 use Rattle.refusals.proofs.Finding.{alone}
-use Rattle.refusals.proofs.Finding.{ends as found_late}
 use Rattle.tables.specs.Working.{subject_at, object_at, handle_at, joining}
 use Rattle.passes.specs.Working.{falls_by}
 use Rattle.passes.proofs.Raising.{true_false}
@@ -49,12 +49,17 @@ use Rattle.gatekeeper.specs.Acting.{Firm, back, way_by}
 use Rattle.gatekeeper.proofs.Owned.{Long}
 use Rattle.gatekeeper.proofs.Lifting.{lift_named}
 use Rattle.gatekeeper.proofs.Doing.{passed}
-use Rattle.gatekeeper.proofs.Acting.{stops, ends, waits, goes, frees}
+use Rattle.gatekeeper.proofs.Acting.{stops, ends}
 use Rattle.gatekeeper.proofs.Storing.{subject_got, object_got, handle_got, Opening, open_late, opens_acts, opens_keeps}
 use Rattle.inplace.specs.Bytes.{subjects_in, objects_in, handles_in}
 use Rattle.inplace.specs.Bytes.Laws.{length_objects}
-use Rattle.quick.specs.Parts.{Whole, monitor_in, tally_in, Done, NeedsStay, Settles}
-use Rattle.quick.proofs.Doing.{whole_long, refusing, allowing, settles_by, counted_made, counted_gone}
+use Rattle.quick.specs.Parts.{Whole, monitor_in, tally_in, tried_number, Done, NeedsStay, Settles}
+use Rattle.std.specs.Prelude.{Some, Ok, Err}
+use Rattle.answers.specs.declared.Granted.TheVariants.{Allowed}
+use Rattle.answers.specs.declared.Refusal.{Refusal}
+use Rattle.answers.specs.declared.Refusal.TheVariants.{Frozen}
+use Rattle.answers.specs.Telling.{number_of}
+use Rattle.quick.proofs.Doing.{waits, goes, frozen_late, none_late, whole_long, refusing, allowing, settles_by, counted_made, counted_gone}
 use Rattle.quick.proofs.Renumbering.{open_ren}
 
 -- the code says which open it is
@@ -139,6 +144,15 @@ code_opens code (inl q) = subst (λ (k : ℕ). (eqb k 5 || eqb k 6) ≡ true) q 
 code_opens code (inr (inl q)) = subst (λ (k : ℕ). (eqb k 5 || eqb k 6) ≡ true) q refl
 code_opens code (inr (inr q)) = absurd q
 
+pub either_left : (code : ℕ) → eqb code 5 ≡ true → (eqb code 5 || eqb code 6) ≡ true
+either_left code e = ap (λ (b : Bool). b || eqb code 6) e
+
+pub either_right : (code : ℕ) → eqb code 6 ≡ true → (eqb code 5 || eqb code 6) ≡ true
+either_right code e = ap (λ (b : Bool). eqb code 5 || b) e ∙ or-true (eqb code 5)
+
+pub neither : (code : ℕ) → eqb code 5 ≡ false → eqb code 6 ≡ false → (eqb code 5 || eqb code 6) ≡ false
+neither code e f = ap₂ (λ (a b : Bool). a || b) e f
+
 module _ (gs : List ℕ) (lg : length gs ≡ 32) (ns sb ob hb nb cs : List ℕ) (fz su code s n₀ o p : ℕ) (w : Whole ns sb ob hb nb cs) (one : su ≡ 1) (at : Found (objects_in ob) ns n₀ o) (e : (eqb code 5 || eqb code 6) ≡ true)
     (x : Subject) (y : Object) (h : Handle) (n : ℕ) (ex : x ≡ subject_at s (get_or (subjects_in sb) (s % 32) no_subject))
     (ey : y ≡ object_at o (get_or (objects_in ob) (o % 64) no_object)) (eh : h ≡ handle_at s p (get_or (handles_in hb) (s % 32 * 16 + p % 16) no_handle))
@@ -170,9 +184,10 @@ module _ (gs : List ℕ) (lg : length gs ≡ 32) (ns sb ob hb nb cs : List ℕ) 
   asked v = f (slots m) (direction b) s o v (subject_got m g s x ex) there (handle_got m g s p h eh)
 
   -- a row over records refuses it
-  pub open_refused : (n ≡ 0 → ⊥) → (r : ℕ) → r ≡ 20992 + n → n < 256
-      → Done (monitor_in gs ns sb ob hb nb fz su) (tally_in cs) (direct code s n₀ p 0 0 0) r (monitor_in gs ns sb ob hb nb fz su) (tally_in cs)
-  open_refused z = refusing gs lg ns sb ob hb nb cs fz su w one (direct code s n₀ p 0 0 0) (opens (direction b) s n₀ p) c (opens_is code s n₀ p e) lift n (λ firm. stops m c n (back m n) (asked firm.wf) z refl)
+  pub open_refused : (v : Refusal) → n ≡ number_of v
+      → Done (monitor_in gs ns sb ob hb nb fz su) (tally_in cs) (direct code s n₀ p 0 0 0) (tried_number (Some (Err v))) (monitor_in gs ns sb ob hb nb fz su) (tally_in cs)
+  open_refused v z = refusing gs lg ns sb ob hb nb cs fz su w one (direct code s n₀ p 0 0 0) (opens (direction b) s n₀ p) c (opens_is code s n₀ p e) lift v
+      (λ firm. stops {e = v} {r = back m v} (subst (Refuses (slots m) c) z (asked firm.wf)) refl)
 
   -- no row over records refuses it
   module _ (z : n ≡ 0) (frozen : Bool) (ef : (t : Tables) (o : ℕ) → t.freeze ≡ fz → t.at (object o) ≡ object_entry y → broken t (thawed (direction (eqb code 5)) o) ≡ frozen) where
@@ -181,12 +196,10 @@ module _ (gs : List ℕ) (lg : length gs ≡ 32) (ns sb ob hb nb cs : List ℕ) 
     is_frozen = ef (slots m) o refl there
 
     -- it is frozen, whatever the flow
-    pub open_frozen : frozen ≡ true → (r : ℕ) → r ≡ 20992 + 15
-        → Done (monitor_in gs ns sb ob hb nb fz su) (tally_in cs) (direct code s n₀ p 0 0 0) r (monitor_in gs ns sb ob hb nb fz su) (tally_in cs)
-    open_frozen q r f = refusing gs lg ns sb ob hb nb cs fz su w one (direct code s n₀ p 0 0 0) (opens (direction b) s n₀ p) c (opens_is code s n₀ p e) lift 15
-        (λ firm. ends m c 15 (back m 15) (found_late {n = 15} {b9 = breaks (slots m) 9 (tests c)} {b10 = breaks (slots m) 10 (tests c)} {b15 = true} refl (slots m) c
-        (waits (asked firm.wf) z) (record { nine = refl; ten = refl; fifteen = alone (is_frozen ∙ q) })) (λ h. omega arith) refl)
-        r f (omega arith)
+    pub open_frozen : frozen ≡ true
+        → Done (monitor_in gs ns sb ob hb nb fz su) (tally_in cs) (direct code s n₀ p 0 0 0) (tried_number (Some (Err Frozen))) (monitor_in gs ns sb ob hb nb fz su) (tally_in cs)
+    open_frozen q = refusing gs lg ns sb ob hb nb cs fz su w one (direct code s n₀ p 0 0 0) (opens (direction b) s n₀ p) c (opens_is code s n₀ p e) lift Frozen
+        (λ firm. ends {e = Frozen} {r = back m Frozen} (frozen_late (waits (asked firm.wf) z) (alone (is_frozen ∙ q))) refl)
 
     module _ (warm : frozen ≡ false) where
       -- it is left: the flow does not fall
@@ -223,15 +236,15 @@ module _ (gs : List ℕ) (lg : length gs ≡ 32) (ns sb ob hb nb cs : List ℕ) 
 
         said : Firm m → Refused (slots m) c 0
         unfolding next
-        said firm = found_late {n = 0} {b9 = false} {b10 = false} {b15 = false} refl (slots m) c (waits (asked firm.wf) z)
+        said firm = none_late (waits (asked firm.wf) z)
             (open_late m g b s o p y new next nb false firm.wf (waits (asked firm.wf) z) there en refl (quiet next) firm.safe false (is_frozen ∙ warm))
 
         pub open_done : (hb' cs' : List ℕ) → handles_in hb' ≡ set (handles_in hb) (s % 32 * 16 + p % 16) new
-            → cs' ≡ set (set cs 0 (wrapped (get_or cs 0 0 + 1))) 1 (wrapped (get_or cs 1 0 + 0)) → (r : ℕ) → r ≡ 16640 + y.level → y.level < 256
-            → Done (monitor_in gs ns sb ob hb nb fz su) (tally_in cs) (direct code s n₀ p 0 0 0) r (monitor_in gs ns sb ob hb' nb fz su) (tally_in cs')
+            → cs' ≡ set (set cs 0 (wrapped (get_or cs 0 0 + 1))) 1 (wrapped (get_or cs 1 0 + 0)) → y.level < 256
+            → Done (monitor_in gs ns sb ob hb nb fz su) (tally_in cs) (direct code s n₀ p 0 0 0) (tried_number (Some (Ok (Allowed y.level)))) (monitor_in gs ns sb ob hb' nb fz su) (tally_in cs')
         unfolding next
         open_done hb' cs' put count = allowing gs lg ns sb ob hb nb cs fz su w one (direct code s n₀ p 0 0 0) (opens (direction b) s n₀ p) c (opens_is code s n₀ p e) lift y.level hb' cs'
-            (λ firm. opens_acts m g b s o p y new (handles_in hb') nb false firm.wf (waits (asked firm.wf) z) there en put (quiet (handles_in hb')) (frees (said firm) refl))
+            (λ firm. opens_acts m g b s o p y new (handles_in hb') nb false firm.wf (waits (asked firm.wf) z) there en put (quiet (handles_in hb')) ((said firm).is))
             (λ v. opens_keeps m g b s o p y new (handles_in hb') nb false v (waits (asked v) z) there en put (quiet (handles_in hb')))
             (λ t. ap (λ (l : List ℕ). get_or l 0 0) count ∙ counted_made cs w.counts _ _)
             (λ t. ap (λ (l : List ℕ). get_or l 1 0) count ∙ counted_gone cs w.counts _ _)

@@ -1,5 +1,5 @@
 -- A monitor's parts as the bytes that they are in memory, and a call that was done on them. States RULES H24 and H12, and T15, Y9 and R102 of such a call. Assumes nothing.
-use Rattle.std.specs.Prelude.{◌≡◌, List, ℕ, ◌+◌, ◌*◌, ◌<◌, length, get_or, T}
+use Rattle.std.specs.Prelude.{◌≡◌, List, ℕ, ◌+◌, ◌*◌, ◌<◌, length, get_or, T, Option, Some, None}
 use Rattle.std.proofs.Math.Option.{none, some}
 use Rattle.model.specs.Label.{Label, bot}
 use Rattle.model.specs.Lists.{In}
@@ -9,7 +9,7 @@ use Rattle.model.specs.Tables.{Handle as Held}
 use Rattle.model.specs.Calls.{Call, opens, close, Raw, decode, refusal, effect, Answer}
 use Rattle.model.specs.Promise.{Meets}
 use Rattle.passes.specs.Working.{spare_by}
-use Rattle.answers.specs.Telling.{letter_of, value_of, lost_of}
+use Rattle.answers.specs.Telling.{Answered, told, letter_of, value_of, lost_of}
 use Rattle.gatekeeper.specs.declared.Monitor.{Monitor}
 use Rattle.gatekeeper.specs.View.{view, Honest, monitors}
 use Rattle.tally.specs.declared.Tally.{Tally}
@@ -53,6 +53,11 @@ pub record Done (m : Monitor) (y : Tally) (r : Raw) (n : ℕ) (m' : Monitor) (y'
   pub meets : Meets monitors m (decode r) answer m'
   -- RULES Y9, R103
   pub counts : Tallies m y (decode r) answer y'
+
+-- RULES H24, H12: the number that C is told: that of the answer, and 0 where nothing was done
+abbrev pub tried_number : Option Answered → ℕ
+tried_number None = 0
+tried_number (Some a) = 65536 * lost_of (told a) + 256 * letter_of (told a) + value_of (told a)
 
 -- ── what is settled ──
 -- what is live in t needs the same in u

@@ -1,7 +1,7 @@
 -- Storing into bytes: a loop that stores the values of a part, from the front (`Laid`); all of a state, part after part; and a loop that stores zeros. Assumes nothing.
 use mathlib.Core.Path.{◌≡◌, refl, sym, ap, ap₂, ◌∙◌}
 use mathlib.Core.List.{List, [], ◌∷◌, ◌++◌, append_assoc, append-nil}
-use Prim.Native.Nat.{ℕ, suc, ◌+◌, ◌*◌, ◌≤◌, ◌<◌}
+use Prim.Native.Nat.{ℕ, suc, ◌+◌, ◌-◌, ◌*◌, ◌≤◌, ◌<◌}
 use native.Mathlib.Omega.{arith}
 use native.Mathlib.Nat.{mul-suc, mul-le-mul_left}
 use native.Mathlib.Numerals.{add-one}
@@ -117,21 +117,21 @@ part_next n at k e e' o s p lo ak le room es ep =
 
 module _ (m : Monitor) (y : Tally) (long : Long m) (o : List ℕ) (size : length o ≡ state_bytes) where
   pub laid_whole : (p₁ p₂ p₃ p₄ p₅ p₆ p₇ : List ℕ) →
-      let s₁ = put_mid 0 2577 o p₁ in
-      let s₂ = put_mid objects_at 2481 s₁ p₂ in
-      let s₃ = put_mid handles_at 2289 s₂ p₃ in
-      let s₄ = put_mid made_at 753 s₃ p₄ in
+      let s₁ = put_mid 0 state_bytes o p₁ in
+      let s₂ = put_mid objects_at (state_bytes - objects_at) s₁ p₂ in
+      let s₃ = put_mid handles_at (state_bytes - handles_at) s₂ p₃ in
+      let s₄ = put_mid made_at (state_bytes - made_at) s₃ p₄ in
       let s₅ = set s₄ freeze_at m.freeze in
-      let s₆ = put_mid needs_at 736 s₅ p₅ in
-      let s₇ = put_mid numbers_at 544 s₆ p₆ in
-      let s₈ = put_mid groups_at 32 s₇ p₇ in
-      p₁ ≡ over 0 (subject_bytes m.subjects) (take 2577 (drop 0 o))
-      → p₂ ≡ over 0 (object_bytes m.objects) (take 2481 (drop objects_at s₁))
-      → p₃ ≡ over 0 (handle_bytes m.handles) (take 2289 (drop handles_at s₂))
-      → p₄ ≡ over 0 (digits 8 y.made ++ digits 8 y.gone) (take 753 (drop made_at s₃))
-      → p₅ ≡ over 0 (need_bytes m.needs) (take 736 (drop needs_at s₅))
-      → p₆ ≡ over 0 (number_bytes m.numbers) (take 544 (drop numbers_at s₆))
-      → p₇ ≡ over 0 (group_bytes m.groups) (take 32 (drop groups_at s₇))
+      let s₆ = put_mid needs_at (state_bytes - needs_at) s₅ p₅ in
+      let s₇ = put_mid numbers_at (state_bytes - numbers_at) s₆ p₆ in
+      let s₈ = put_mid groups_at (state_bytes - groups_at) s₇ p₇ in
+      p₁ ≡ over 0 (subject_bytes m.subjects) (take state_bytes (drop 0 o))
+      → p₂ ≡ over 0 (object_bytes m.objects) (take (state_bytes - objects_at) (drop objects_at s₁))
+      → p₃ ≡ over 0 (handle_bytes m.handles) (take (state_bytes - handles_at) (drop handles_at s₂))
+      → p₄ ≡ over 0 (digits 8 y.made ++ digits 8 y.gone) (take (state_bytes - made_at) (drop made_at s₃))
+      → p₅ ≡ over 0 (need_bytes m.needs) (take (state_bytes - needs_at) (drop needs_at s₅))
+      → p₆ ≡ over 0 (number_bytes m.numbers) (take (state_bytes - numbers_at) (drop numbers_at s₆))
+      → p₇ ≡ over 0 (group_bytes m.groups) (take (state_bytes - groups_at) (drop groups_at s₇))
       → s₈ ≡ bytes_of m y
   unfolding bytes_of
   laid_whole p₁ p₂ p₃ p₄ p₅ p₆ p₇ e₁ e₂ e₃ e₄ e₅ e₆ e₇ =
@@ -152,25 +152,25 @@ module _ (m : Monitor) (y : Tally) (long : Long m) (o : List ℕ) (size : length
       let lf : length (a ++ b ++ c ++ d ++ e ++ f) ≡ needs_at = omega (arith, length-append (a ++ b ++ c ++ d ++ e) f) in
       let lg : length (a ++ b ++ c ++ d ++ e ++ f ++ g) ≡ numbers_at = omega (arith, length-append (a ++ b ++ c ++ d ++ e ++ f) g, needs_count m y long) in
       let lh : length (a ++ b ++ c ++ d ++ e ++ f ++ g ++ h) ≡ groups_at = omega (arith, length-append (a ++ b ++ c ++ d ++ e ++ f ++ g) h, numbers_count m y long) in
-      let li : length i ≡ 32 = groups_count m y long in
-      let s₁ = put_mid 0 2577 o p₁ in
-      let s₂ = put_mid objects_at 2481 s₁ p₂ in
-      let s₃ = put_mid handles_at 2289 s₂ p₃ in
-      let s₄ = put_mid made_at 753 s₃ p₄ in
+      let li : length i ≡ state_bytes - groups_at = groups_count m y long in
+      let s₁ = put_mid 0 state_bytes o p₁ in
+      let s₂ = put_mid objects_at (state_bytes - objects_at) s₁ p₂ in
+      let s₃ = put_mid handles_at (state_bytes - handles_at) s₂ p₃ in
+      let s₄ = put_mid made_at (state_bytes - made_at) s₃ p₄ in
       let s₅ = set s₄ freeze_at m.freeze in
-      let s₆ = put_mid needs_at 736 s₅ p₅ in
-      let s₇ = put_mid numbers_at 544 s₆ p₆ in
-      let q₁ : s₁ ≡ over 0 a o = part_next 2577 0 2577 [] a o o p₁ size refl refl (omega arith) (sym (over_none 0 o)) e₁ in
-      let q₂ : s₂ ≡ over 0 (a ++ b) o = part_next 2577 objects_at 2481 a b o s₁ p₂ size refl la (omega (arith, lb, length-append a b)) q₁ e₂ in
-      let q₃ : s₃ ≡ over 0 (a ++ b ++ c) o = part_next 2577 handles_at 2289 (a ++ b) c o s₂ p₃ size refl lb (omega (arith, lc, length-append (a ++ b) c)) q₂ e₃ in
-      let q₄ : s₄ ≡ over 0 (a ++ b ++ c ++ d ++ e) o = part_next 2577 made_at 753 (a ++ b ++ c) (d ++ e) o s₃ p₄ size refl lc (omega (arith, le, ld, lc, length-append d e, length_digits 8 y.made, length_digits 8 y.gone)) q₃ e₄
+      let s₆ = put_mid needs_at (state_bytes - needs_at) s₅ p₅ in
+      let s₇ = put_mid numbers_at (state_bytes - numbers_at) s₆ p₆ in
+      let q₁ : s₁ ≡ over 0 a o = part_next state_bytes 0 state_bytes [] a o o p₁ size refl refl (omega arith) (sym (over_none 0 o)) e₁ in
+      let q₂ : s₂ ≡ over 0 (a ++ b) o = part_next state_bytes objects_at (state_bytes - objects_at) a b o s₁ p₂ size refl la (omega (arith, lb, length-append a b)) q₁ e₂ in
+      let q₃ : s₃ ≡ over 0 (a ++ b ++ c) o = part_next state_bytes handles_at (state_bytes - handles_at) (a ++ b) c o s₂ p₃ size refl lb (omega (arith, lc, length-append (a ++ b) c)) q₂ e₃ in
+      let q₄ : s₄ ≡ over 0 (a ++ b ++ c ++ d ++ e) o = part_next state_bytes made_at (state_bytes - made_at) (a ++ b ++ c) (d ++ e) o s₃ p₄ size refl lc (omega (arith, le, ld, lc, length-append d e, length_digits 8 y.made, length_digits 8 y.gone)) q₃ e₄
       ∙ ap (λ (l : List ℕ). over 0 l o) (sym (append_assoc (a ++ b ++ c) d e)) in
       let room : freeze_at + 1 ≤ length s₄ = omega (arith, ap length q₄, over_length 0 (a ++ b ++ c ++ d ++ e) o (omega arith)) in
       let q₅ : s₅ ≡ over 0 (a ++ b ++ c ++ d ++ e ++ f) o = stores_over s₄ freeze_at f room
       ∙ over_next 0 freeze_at (a ++ b ++ c ++ d ++ e) f o s₄ (omega arith) (omega arith) q₄ in
-      let q₆ : s₆ ≡ over 0 (a ++ b ++ c ++ d ++ e ++ f ++ g) o = part_next 2577 needs_at 736 (a ++ b ++ c ++ d ++ e ++ f) g o s₅ p₅ size refl lf (omega (arith, needs_count m y long)) q₅ e₅ in
-      let q₇ : s₇ ≡ over 0 (a ++ b ++ c ++ d ++ e ++ f ++ g ++ h) o = part_next 2577 numbers_at 544 (a ++ b ++ c ++ d ++ e ++ f ++ g) h o s₆ p₆ size refl lg (omega (arith, numbers_count m y long)) q₆ e₆ in
-      part_next 2577 groups_at 32 (a ++ b ++ c ++ d ++ e ++ f ++ g ++ h) i o s₇ p₇ size refl lh (omega (arith, li)) q₇ e₇
+      let q₆ : s₆ ≡ over 0 (a ++ b ++ c ++ d ++ e ++ f ++ g) o = part_next state_bytes needs_at (state_bytes - needs_at) (a ++ b ++ c ++ d ++ e ++ f) g o s₅ p₅ size refl lf (omega (arith, needs_count m y long)) q₅ e₅ in
+      let q₇ : s₇ ≡ over 0 (a ++ b ++ c ++ d ++ e ++ f ++ g ++ h) o = part_next state_bytes numbers_at (state_bytes - numbers_at) (a ++ b ++ c ++ d ++ e ++ f ++ g) h o s₆ p₆ size refl lg (omega (arith, numbers_count m y long)) q₆ e₆ in
+      part_next state_bytes groups_at (state_bytes - groups_at) (a ++ b ++ c ++ d ++ e ++ f ++ g ++ h) i o s₇ p₇ size refl lh (omega (arith, li)) q₇ e₇
       ∙ over_all (a ++ b ++ c ++ d ++ e ++ f ++ g ++ h ++ i) o (bytes_length m y long ∙ sym size)
 
 -- ── bytes one by one ──

@@ -2,8 +2,8 @@
 // string of the length is a monitor. That the bytes have that length is what their type says: whoever is handed bytes tests it once (crate `host`).
 #![tactic(auto)]
 
-ghost use Rattle.std.specs.Prelude.{◌≡◌, ◌*◌, ◌≤◌, ◌<◌, List, [], ℕ, length, take, refl, if◌then◌else◌, nat_lt, slice_index_or};
-ghost use Rattle.stored.specs.State.{records, flat, kinds, ways, whole, digits, monitor_of, tally_of, Stands};
+ghost use Rattle.std.specs.Prelude.{◌≡◌, ◌*◌, ◌≤◌, ◌<◌, List, [], ℕ, length, refl, if◌then◌else◌, nat_lt, slice_index_or};
+ghost use Rattle.stored.specs.State.{records, flat, whole, digits, monitor_of, tally_of, Stands};
 ghost use Rattle.stored.specs.State.{subject_of, subject_record, object_of, object_record, handle_of, handle_record, byte_of, byte_record};
 ghost use Rattle.stored.specs.Widths.{length_digits};
 ghost use Rattle.std.proofs.Common.{rules};

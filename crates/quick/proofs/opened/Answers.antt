@@ -1,93 +1,103 @@
 -- `quick::opened` meets its contract. Assumes nothing.
-use mathlib.Core.Path.{refl, sym, ◌∙◌, ap, ap₂}
-use Prim.Native.Nat.{ℕ}
-use native.Mathlib.Omega.{arith}
-use lib.Dec.{eqb}
+use Rattle.std.proofs.Common.{◌≡◌, ℕ, true, false, ◌||◌, eqb, [], ◌∷◌, refl, sym, ap, ap₂, ◌∙◌, arith, eq-eqb, ne_eqb}
 use Rattle.tables.specs.Working.{joining}
 use Rattle.labels.specs.Codes.{coded}
 use Rattle.passes.specs.Working.{falls_by}
 use Rattle.passes.proofs.Raising.{true_false}
-use Rattle.quick.specs.Parts.{Whole, monitor_in}
-use Rattle.quick.proofs.Doing.{whole_long, done_settles}
-use Rattle.quick.proofs.Opening.{code_opens, open_refused, open_left, open_frozen, open_done}
+use Rattle.answers.specs.Telling.{number_in}
+use Rattle.quick.specs.Parts.{Whole}
+use Rattle.quick.proofs.Doing.{Same, as_arrays, tried_done, tried_left}
+use Rattle.quick.proofs.Opening.{code_opens, either_left, either_right, neither, open_refused, open_left, open_frozen, open_done}
 use Rattle.quick.proofs.opened.Goals as goal
+use Rattle.quick.proofs.opened.Goals.{then-reads, else-reads}
 
-pub returns-then-not-whole : goal.returns-then-not-whole
-returns-then-not-whole c =
-    λ gs lg. (
-      λ l. absurd (omega arith),
-      λ e. (refl, refl),
-      λ i w one h. true_false (sym (c.are_whole-whole.ensures.1 (w.subjects, w.objects, w.handles, w.needs, w.counts)) ∙ c.if-not-whole.true),
-    )
-
-pub returns-then-numbers-ne-OBJECTS : goal.returns-then-numbers-ne-OBJECTS
-returns-then-numbers-ne-OBJECTS c = λ gs lg. (λ l. absurd (omega arith), λ e. (refl, refl), λ i w one h. absurd (c.if-numbers-ne-OBJECTS.true w.numbers))
-
-pub returns-then-sure-ne-SURE : goal.returns-then-sure-ne-SURE
-returns-then-sure-ne-SURE c = λ gs lg. (λ l. absurd (omega arith), λ e. (refl, refl), λ i w one h. absurd (c.if-sure-ne-SURE.true one))
-
-pub returns-then-not-opens : goal.returns-then-not-opens
-returns-then-not-opens c = λ gs lg. (λ l. absurd (omega arith), λ e. (refl, refl), λ i w one h. true_false (sym (code_opens _ i) ∙ sym c.either-opens.ensures ∙ c.if-not-opens.true))
-
-pub subject_in-x-requires : goal.subject_in-x-requires
-subject_in-x-requires c = (c.are_whole-whole.ensures.0 c.if-not-whole.false).0
-
-pub slot_in-i-requires : goal.slot_in-i-requires
-slot_in-i-requires c = ((c.are_whole-whole.ensures.0 c.if-not-whole.false).1, c.if-numbers-ne-OBJECTS.false)
-
-pub object_in-y-requires : goal.object_in-y-requires
-object_in-y-requires c = (c.are_whole-whole.ensures.0 c.if-not-whole.false).1
-
-pub handle_in-h-requires : goal.handle_in-h-requires
-handle_in-h-requires c = (c.are_whole-whole.ensures.0 c.if-not-whole.false).2
-
-pub returns-then-n-ne0 : goal.returns-then-n-ne0
-returns-then-n-ne0 c =
+pub returns-in-Err : goal.returns-in-Err
+returns-in-Err c =
     let a = c.args in
-    let d = sym c.either-opens.ensures ∙ c.if-not-opens.false in
-    let v = c.are_whole-whole.ensures.0 c.if-not-whole.false in
-    λ gs lg. let w : Whole a.numbers.now a.subjects.now a.objects.now a.handles.now a.needs.now a.counts.now = record { numbers = c.if-numbers-ne-OBJECTS.false; subjects = v.0; objects = v.1; handles = v.2; needs = v.3; counts = v.4 } in
-    let done = open_refused gs lg a.numbers.now a.subjects.now a.objects.now a.handles.now a.needs.now a.counts.now a.freeze a.sure a.code a.s a.o c.slot_in-i.result a.p w c.if-sure-ne-SURE.false c.slot_in-i.ensures d c.subject_in-x.result c.object_in-y.result c.handle_in-h.result c.of_open-n.result c.subject_in-x.ensures.there c.object_in-y.ensures.there c.handle_in-h.ensures c.of_open-n.ensures c.if-n-ne0.true _ refl (omega arith) in
-    (λ l. (w, done), λ e. absurd (omega arith), λ i w' one h. done_settles (monitor_in gs a.numbers.now a.subjects.now a.objects.now a.handles.now a.needs.now a.freeze a.sure) (whole_long gs lg a.numbers.now a.subjects.now a.objects.now a.handles.now a.needs.now a.counts.now a.freeze a.sure w) h (omega arith) done)
+    let v = c.in_ok-parts.parts in
+    let sb = v.subjects.now in
+    let ob = v.objects.now in
+    let hb = c.in_ok-handles.handles.now in
+    let nb = v.needs.now in
+    let cs = c.in_ok-counts.counts.now in
+    let l = c.in_ok-parts.ensures.whole.0 refl in
+    let ns = c.in_ok-numbers.numbers.now in
+    let same : Same a.numbers.now a.subjects.now a.objects.now a.handles.now a.needs.now a.counts.now ns sb ob hb nb cs =
+    record { numbers = c.in_ok-numbers.ensures.cases.same; subjects = c.in_ok-parts.ensures.same.0; objects = c.in_ok-parts.ensures.same.1; handles = c.in_ok-handles.ensures.cases.same; needs = c.in_ok-parts.ensures.same.2; counts = c.in_ok-counts.ensures.cases.1 } in
+    let whole : Whole a.numbers.now a.subjects.now a.objects.now a.handles.now a.needs.now a.counts.now =
+    record { numbers = c.in_ok-numbers.ensures.cases.long; subjects = l.0; objects = l.1; handles = c.in_ok-handles.ensures.cases.long; needs = l.2; counts = c.in_ok-counts.ensures.cases.0 } in
+    let opens : (eqb a.code 5 || eqb a.code 6) ≡ true = elim c.if-reads.branch [ then-reads w ↦ either_left a.code (eq-eqb a.code 5 w.if-reads.true) | else-reads w ↦ either_right a.code (sym w.opens-is ∙ c.if-not-opens.false) ] in
+    as_arrays (5 ∷ 6 ∷ []) same whole (λ w. tried_done (5 ∷ 6 ∷ []) w (omega arith) (λ gs lg. open_refused gs lg ns sb ob hb nb cs a.freeze a.sure a.code a.s a.o c.slot_in-i.result a.p w c.if-sure-ne-SURE.false c.slot_in-i.ensures opens c.subject_in-x.result c.object_in-y.result c.handle_in-h.result (number_in c.of_open.result) c.subject_in-x.ensures.there c.object_in-y.ensures.there c.handle_in-h.ensures c.of_open.ensures c.in-Err.refusal (ap number_in c.in-Err.is)))
 
 pub returns-then-frozen : goal.returns-then-frozen
 returns-then-frozen c =
     let a = c.args in
-    let d = sym c.either-opens.ensures ∙ c.if-not-opens.false in
-    let v = c.are_whole-whole.ensures.0 c.if-not-whole.false in
-    λ gs lg. let w : Whole a.numbers.now a.subjects.now a.objects.now a.handles.now a.needs.now a.counts.now = record { numbers = c.if-numbers-ne-OBJECTS.false; subjects = v.0; objects = v.1; handles = v.2; needs = v.3; counts = v.4 } in
-    let done = open_frozen gs lg a.numbers.now a.subjects.now a.objects.now a.handles.now a.needs.now a.counts.now a.freeze a.sure a.code a.s a.o c.slot_in-i.result a.p w c.if-sure-ne-SURE.false c.slot_in-i.ensures d c.subject_in-x.result c.object_in-y.result c.handle_in-h.result c.of_open-n.result c.subject_in-x.ensures.there c.object_in-y.ensures.there c.handle_in-h.ensures c.of_open-n.ensures c.if-n-ne0.false c.is_frozen-frozen.result c.is_frozen-frozen.ensures c.if-frozen.true _ refl in
-    (λ l. (w, done), λ e. absurd (omega arith), λ i w' one h. done_settles (monitor_in gs a.numbers.now a.subjects.now a.objects.now a.handles.now a.needs.now a.freeze a.sure) (whole_long gs lg a.numbers.now a.subjects.now a.objects.now a.handles.now a.needs.now a.counts.now a.freeze a.sure w) h (omega arith) done)
-
-pub subject_need-mine-requires : goal.subject_need-mine-requires
-subject_need-mine-requires c = (c.are_whole-whole.ensures.0 c.if-not-whole.false).3
-
-pub object_need-its-requires : goal.object_need-its-requires
-object_need-its-requires c = (c.are_whole-whole.ensures.0 c.if-not-whole.false).3
+    let v = c.in_ok-parts.parts in
+    let sb = v.subjects.now in
+    let ob = v.objects.now in
+    let hb = c.in_ok-handles.handles.now in
+    let nb = v.needs.now in
+    let cs = c.in_ok-counts.counts.now in
+    let l = c.in_ok-parts.ensures.whole.0 refl in
+    let ns = c.in_ok-numbers.numbers.now in
+    let same : Same a.numbers.now a.subjects.now a.objects.now a.handles.now a.needs.now a.counts.now ns sb ob hb nb cs =
+    record { numbers = c.in_ok-numbers.ensures.cases.same; subjects = c.in_ok-parts.ensures.same.0; objects = c.in_ok-parts.ensures.same.1; handles = c.in_ok-handles.ensures.cases.same; needs = c.in_ok-parts.ensures.same.2; counts = c.in_ok-counts.ensures.cases.1 } in
+    let whole : Whole a.numbers.now a.subjects.now a.objects.now a.handles.now a.needs.now a.counts.now =
+    record { numbers = c.in_ok-numbers.ensures.cases.long; subjects = l.0; objects = l.1; handles = c.in_ok-handles.ensures.cases.long; needs = l.2; counts = c.in_ok-counts.ensures.cases.0 } in
+    let opens : (eqb a.code 5 || eqb a.code 6) ≡ true = elim c.if-reads.branch [ then-reads w ↦ either_left a.code (eq-eqb a.code 5 w.if-reads.true) | else-reads w ↦ either_right a.code (sym w.opens-is ∙ c.if-not-opens.false) ] in
+    as_arrays (5 ∷ 6 ∷ []) same whole (λ w. tried_done (5 ∷ 6 ∷ []) w (omega arith) (λ gs lg. open_frozen gs lg ns sb ob hb nb cs a.freeze a.sure a.code a.s a.o c.slot_in-i.result a.p w c.if-sure-ne-SURE.false c.slot_in-i.ensures opens c.subject_in-x.result c.object_in-y.result c.handle_in-h.result (number_in c.of_open.result) c.subject_in-x.ensures.there c.object_in-y.ensures.there c.handle_in-h.ensures c.of_open.ensures (ap number_in c.in_default.is) c.is_frozen-frozen.result c.is_frozen-frozen.ensures c.if-frozen.true))
 
 pub returns-then-not-down : goal.returns-then-not-down
 returns-then-not-down c =
     let a = c.args in
-    let d = sym c.either-opens.ensures ∙ c.if-not-opens.false in
-    let up = sym (c.falls-down.ensures ∙ ap₂ (λ (i j : ℕ). falls_by (eqb a.code 5) (coded i) (coded j)) c.subject_need-mine.ensures c.object_need-its.ensures) ∙ c.if-not-down.true in λ gs lg. (
-      λ l. absurd (omega arith),
-      λ e. (refl, refl),
-      λ i w one. open_left gs lg a.numbers.now a.subjects.now a.objects.now a.handles.now a.needs.now a.counts.now a.freeze a.sure a.code a.s a.o c.slot_in-i.result a.p w one c.slot_in-i.ensures d c.subject_in-x.result c.object_in-y.result c.handle_in-h.result c.of_open-n.result c.subject_in-x.ensures.there c.object_in-y.ensures.there c.handle_in-h.ensures c.of_open-n.ensures c.if-n-ne0.false c.is_frozen-frozen.result c.is_frozen-frozen.ensures c.if-frozen.false up,
-    )
-
-pub put-requires : goal.put-requires
-put-requires c = (c.are_whole-whole.ensures.0 c.if-not-whole.false).2
-
-pub count-requires : goal.count-requires
-count-requires c = (c.are_whole-whole.ensures.0 c.if-not-whole.false).4
+    let v = c.in_ok-parts.parts in
+    let sb = v.subjects.now in
+    let ob = v.objects.now in
+    let hb = c.in_ok-handles.handles.now in
+    let nb = v.needs.now in
+    let cs = c.in_ok-counts.counts.now in
+    let l = c.in_ok-parts.ensures.whole.0 refl in
+    let ns = c.in_ok-numbers.numbers.now in
+    let same : Same a.numbers.now a.subjects.now a.objects.now a.handles.now a.needs.now a.counts.now ns sb ob hb nb cs =
+    record { numbers = c.in_ok-numbers.ensures.cases.same; subjects = c.in_ok-parts.ensures.same.0; objects = c.in_ok-parts.ensures.same.1; handles = c.in_ok-handles.ensures.cases.same; needs = c.in_ok-parts.ensures.same.2; counts = c.in_ok-counts.ensures.cases.1 } in
+    let whole : Whole a.numbers.now a.subjects.now a.objects.now a.handles.now a.needs.now a.counts.now =
+    record { numbers = c.in_ok-numbers.ensures.cases.long; subjects = l.0; objects = l.1; handles = c.in_ok-handles.ensures.cases.long; needs = l.2; counts = c.in_ok-counts.ensures.cases.0 } in
+    let opens : (eqb a.code 5 || eqb a.code 6) ≡ true = elim c.if-reads.branch [ then-reads w ↦ either_left a.code (eq-eqb a.code 5 w.if-reads.true) | else-reads w ↦ either_right a.code (sym w.opens-is ∙ c.if-not-opens.false) ] in
+    as_arrays (5 ∷ 6 ∷ []) same whole (λ w. tried_left (5 ∷ 6 ∷ []) (λ gs lg i one. open_left gs lg ns sb ob hb nb cs a.freeze a.sure a.code a.s a.o c.slot_in-i.result a.p w one c.slot_in-i.ensures opens c.subject_in-x.result c.object_in-y.result c.handle_in-h.result (number_in c.of_open.result) c.subject_in-x.ensures.there c.object_in-y.ensures.there c.handle_in-h.ensures c.of_open.ensures (ap number_in c.in_default.is) c.is_frozen-frozen.result c.is_frozen-frozen.ensures c.if-frozen.false (sym (c.falls-down.ensures ∙ ap₂ (λ (i j : ℕ). falls_by (eqb a.code 5) (coded i) (coded j)) c.subject_need-mine.ensures c.object_need-its.ensures) ∙ c.if-not-down.true)))
 
 pub returns : goal.returns
 returns c =
     let a = c.args in
-    let d = sym c.either-opens.ensures ∙ c.if-not-opens.false in
-    let v = c.are_whole-whole.ensures.0 c.if-not-whole.false in
-    λ gs lg. let w : Whole a.numbers.now a.subjects.now a.objects.now a.handles.now a.needs.now a.counts.now = record { numbers = c.if-numbers-ne-OBJECTS.false; subjects = v.0; objects = v.1; handles = v.2; needs = v.3; counts = v.4 } in
-    let down = sym (c.falls-down.ensures ∙ ap₂ (λ (i j : ℕ). falls_by (eqb a.code 5) (coded i) (coded j)) c.subject_need-mine.ensures c.object_need-its.ensures) ∙ c.if-not-down.false in
-    let done = open_done gs lg a.numbers.now a.subjects.now a.objects.now a.handles.now a.needs.now a.counts.now a.freeze a.sure a.code a.s a.o c.slot_in-i.result a.p w c.if-sure-ne-SURE.false c.slot_in-i.ensures d c.subject_in-x.result c.object_in-y.result c.handle_in-h.result c.of_open-n.result c.subject_in-x.ensures.there c.object_in-y.ensures.there c.handle_in-h.ensures c.of_open-n.ensures c.if-n-ne0.false c.is_frozen-frozen.result c.is_frozen-frozen.ensures c.if-frozen.false c.joining-new.result
-    (c.joining-new.ensures ∙ ap (λ (i : ℕ). joining i c.slot_in-i.result) c.way_of-way.ensures) down c.put.new.handles c.count.new.counts c.put.ensures.put c.count.ensures _ refl c.object_in-y.ensures.byte in
-    (λ l. (w, done), λ e. absurd (omega arith), λ i w' one h. done_settles (monitor_in gs a.numbers.now a.subjects.now a.objects.now a.handles.now a.needs.now a.freeze a.sure) (whole_long gs lg a.numbers.now a.subjects.now a.objects.now a.handles.now a.needs.now a.counts.now a.freeze a.sure w) h (omega arith) done)
+    let v = c.in_ok-parts.parts in
+    let sb = v.subjects.now in
+    let ob = v.objects.now in
+    let hb = c.in_ok-handles.handles.now in
+    let nb = v.needs.now in
+    let cs = c.in_ok-counts.counts.now in
+    let l = c.in_ok-parts.ensures.whole.0 refl in
+    let ns = c.in_ok-numbers.numbers.now in
+    let same : Same a.numbers.now a.subjects.now a.objects.now a.handles.now a.needs.now a.counts.now ns sb ob hb nb cs =
+    record { numbers = c.in_ok-numbers.ensures.cases.same; subjects = c.in_ok-parts.ensures.same.0; objects = c.in_ok-parts.ensures.same.1; handles = c.in_ok-handles.ensures.cases.same; needs = c.in_ok-parts.ensures.same.2; counts = c.in_ok-counts.ensures.cases.1 } in
+    let whole : Whole a.numbers.now a.subjects.now a.objects.now a.handles.now a.needs.now a.counts.now =
+    record { numbers = c.in_ok-numbers.ensures.cases.long; subjects = l.0; objects = l.1; handles = c.in_ok-handles.ensures.cases.long; needs = l.2; counts = c.in_ok-counts.ensures.cases.0 } in
+    let opens : (eqb a.code 5 || eqb a.code 6) ≡ true = elim c.if-reads.branch [ then-reads w ↦ either_left a.code (eq-eqb a.code 5 w.if-reads.true) | else-reads w ↦ either_right a.code (sym w.opens-is ∙ c.if-not-opens.false) ] in
+    as_arrays (5 ∷ 6 ∷ []) same whole (λ w. tried_done (5 ∷ 6 ∷ []) w (omega arith) (λ gs lg. open_done gs lg ns sb ob hb nb cs a.freeze a.sure a.code a.s a.o c.slot_in-i.result a.p w c.if-sure-ne-SURE.false c.slot_in-i.ensures opens c.subject_in-x.result c.object_in-y.result c.handle_in-h.result (number_in c.of_open.result) c.subject_in-x.ensures.there c.object_in-y.ensures.there c.handle_in-h.ensures c.of_open.ensures (ap number_in c.in_default.is) c.is_frozen-frozen.result c.is_frozen-frozen.ensures c.if-frozen.false c.joining-new.result
+    (c.joining-new.ensures ∙ ap (λ (i : ℕ). joining i c.slot_in-i.result) c.way_of.ensures) (sym (c.falls-down.ensures ∙ ap₂ (λ (i j : ℕ). falls_by (eqb a.code 5) (coded i) (coded j)) c.subject_need-mine.ensures c.object_need-its.ensures) ∙ c.if-not-down.false) c.put.new.handles c.count.new.counts c.put.ensures c.count.ensures c.object_in-y.ensures.byte))
+
+pub returns-then-not-opens : goal.returns-then-not-opens
+returns-then-not-opens c =
+    let a = c.args in
+    let v = c.in_ok-parts.parts in
+    let sb = v.subjects.now in
+    let ob = v.objects.now in
+    let hb = c.in_ok-handles.handles.now in
+    let nb = v.needs.now in
+    let cs = c.in_ok-counts.counts.now in
+    let l = c.in_ok-parts.ensures.whole.0 refl in
+    let ns = c.in_ok-numbers.numbers.now in
+    let same : Same a.numbers.now a.subjects.now a.objects.now a.handles.now a.needs.now a.counts.now ns sb ob hb nb cs =
+    record { numbers = c.in_ok-numbers.ensures.cases.same; subjects = c.in_ok-parts.ensures.same.0; objects = c.in_ok-parts.ensures.same.1; handles = c.in_ok-handles.ensures.cases.same; needs = c.in_ok-parts.ensures.same.2; counts = c.in_ok-counts.ensures.cases.1 } in
+    let whole : Whole a.numbers.now a.subjects.now a.objects.now a.handles.now a.needs.now a.counts.now =
+    record { numbers = c.in_ok-numbers.ensures.cases.long; subjects = l.0; objects = l.1; handles = c.in_ok-handles.ensures.cases.long; needs = l.2; counts = c.in_ok-counts.ensures.cases.0 } in
+    let shut : (eqb a.code 5 || eqb a.code 6) ≡ false = elim c.if-reads.branch [ then-reads w ↦ true_false (sym (eq-eqb a.code 5 w.if-reads.true) ∙ sym w.opens-is ∙ c.if-not-opens.true) | else-reads w ↦ neither a.code (ne_eqb a.code 5 w.if-reads.false) (sym w.opens-is ∙ c.if-not-opens.true) ] in
+    as_arrays (5 ∷ 6 ∷ []) same whole (λ w. tried_left (5 ∷ 6 ∷ []) (λ gs lg i one h. true_false (sym (code_opens a.code i) ∙ shut)))
