@@ -29,13 +29,6 @@ impl Label {
     }
 }
 
-// The number of a level and a set.
-pub fn code(level: u8, shops: u8) -> u16
-    ensures { coded result ≡ label level shops }
-{
-    Label { level, shops }.code()
-}
-
 // Label b is at least label a: its level is, and its set includes that of a. (Where b has every binary digit of a, it is so by both at once: this is asked
 // first, since most often the two are one, or a is the least label.)
 pub fn is_at_most(a: u16, b: u16) -> bool

@@ -1,11 +1,12 @@
 -- A test that holds of some of the first n numbers, or of none. Assumes nothing.
-use mathlib.Core.Path.{◌≡◌, refl, sym, ap₂, subst}
+use mathlib.Core.Path.{◌≡◌, refl, sym, ◌∙◌, ap, ap₂, subst}
 use mathlib.Core.Bool.{Bool, true, false, ◌||◌}
 use mathlib.Core.Logic.{◌⊎◌, inl, inr}
-use Prim.Native.Nat.{ℕ, zero, suc, ◌<◌}
+use Prim.Native.Nat.{ℕ, zero, suc, ◌+◌, ◌<◌}
 use native.Mathlib.Omega.{arith}
 use native.Mathlib.Decide.{ℕ_discrete}
 use lib.Dec.{T, not_T}
+use Rattle.std.specs.List.{list_any, range_with_len}
 use Rattle.model.specs.Bools.{or_cases, or_left, or_right, is_true, is_false}
 use Rattle.tables.specs.Working.{some_below}
 
@@ -41,3 +42,24 @@ same_test true true f g = refl
 same_test true false f g = absurd (f tt)
 same_test false true f g = absurd (g tt)
 same_test false false f g = refl
+
+-- the first number is tested first
+front : (n : ℕ) (f : ℕ → Bool) → some_below (suc n) f ≡ (f 0 || some_below n (λ j. f (suc j)))
+front zero f = go (f 0)
+  where
+    go : (b : Bool) → (false || b) ≡ (b || false)
+    go true = refl
+    go false = refl
+front (suc n) f = ap (λ (b : Bool). b || f (suc n)) (front n f) ∙ go (f 0) (some_below n (λ j. f (suc j))) (f (suc n))
+  where
+    go : (a b d : Bool) → ((a || b) || d) ≡ (a || (b || d))
+    go true b d = refl
+    go false b d = refl
+
+any_from : (a n : ℕ) (f : ℕ → Bool) → list_any f (range_with_len a n) ≡ some_below n (λ j. f (a + j))
+any_from a zero f = refl
+any_from a (suc n) f = ap₂ (λ (x y : Bool). x || y) (let e : a ≡ a + 0 = omega arith in ap f e) (any_from (a + 1) n f ∙ below_same n (λ j. f (a + 1 + j)) (λ j. f (a + suc j)) (λ j l. let e : a + 1 + j ≡ a + suc j = omega arith in ap f e))
+    ∙ sym (front n (λ j. f (a + j)))
+
+pub any_below : (n : ℕ) (f : ℕ → Bool) → list_any f (range_with_len 0 n) ≡ some_below n f
+any_below n f = any_from 0 n f ∙ below_same n (λ j. f (0 + j)) f (λ j l. let e : 0 + j ≡ j = omega arith in ap f e)

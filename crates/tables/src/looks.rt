@@ -1,5 +1,5 @@
 // The record at any number that a call names, what its way says, and what a record becomes where something falls.
-ghost use Rattle.std.specs.Prelude.{◌≡◌, ◌&&◌, ◌||◌, ◌+◌, ◌*◌, ◌%◌, ◌<◌, get_or, set};
+ghost use Rattle.std.specs.Prelude.{◌≡◌, ◌+◌, ◌*◌, ◌%◌, ◌<◌, get_or, set};
 ghost use Rattle.model.specs.Label.{label};
 ghost use Rattle.labels.specs.Codes.{coded};
 ghost use Rattle.tables.specs.Records.{reads_by, no_subject, no_object, no_handle};
@@ -10,6 +10,7 @@ use crate::{
 };
 use labels::Label;
 
+// (One for each record: `Default` says no value in a contract, so one for all could not say which record it gives.)
 // x, which stands at number s modulo SUBJECTS; one that is not live where s is out of range.
 pub fn subject_at(s: u64, x: Subject) -> Subject
     ensures { result ≡ subject_at s x }
@@ -98,7 +99,7 @@ pub fn with<T: Copy, const N: usize>(mut xs: [T; N], i: u64, x: T) -> [T; N]
     xs
 }
 
-// The subjects with x at number s, and the objects with y at number o, each modulo how many there are.
+// The subjects with x at number s, and the objects with y at number o, each modulo how many there are: `with`, named for callers.
 pub fn with_subject(subjects: [Subject; SUBJECTS], s: u64, x: Subject) -> [Subject; SUBJECTS]
     ensures { result ≡ set subjects (s % 32) x }
 {
@@ -109,18 +110,6 @@ pub fn with_object(objects: [Object; OBJECTS], o: u64, y: Object) -> [Object; OB
     ensures { result ≡ set objects (o % 64) y }
 {
     with(objects, o, y)
-}
-
-pub fn both(a: bool, b: bool) -> bool
-    ensures { result ≡ (a && b) }
-{
-    a && b
-}
-
-pub fn either(a: bool, b: bool) -> bool
-    ensures { result ≡ (a || b) }
-{
-    a || b
 }
 
 // A handle of this way reads: a mapping does, too.

@@ -1,13 +1,10 @@
 -- `tables::slots::slot_of` meets its contract. Assumes nothing.
 use mathlib.Core.Path.{◌≡◌}
-use Prim.Native.Nat.{ℕ, ◌-◌, ◌≤◌, ◌<◌}
+use Prim.Native.Nat.{ℕ, ◌<◌}
 use lib.Dec.{T}
 use lib.ListN.{get_or}
 use Rattle.tables.specs.Slots.{slot_used}
 use Rattle.tables.proofs.slots.slot_of.Given as goal
 
 abbrev pub invariant-loop-i : goal.invariant-loop-i
-invariant-loop-i l = (l.i ≤ 64) × ((j : ℕ) → j < l.i → T (slot_used l.objects j) → get_or l.numbers j 0 ≡ l.o → ⊥)
-
-abbrev pub decreases-loop-i : goal.decreases-loop-i
-decreases-loop-i l = 64 - l.i
+invariant-loop-i l = (j : ℕ) → j < l.i → T (slot_used l.objects j) → get_or l.numbers j 0 ≡ l.o → ⊥
