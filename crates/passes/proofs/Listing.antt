@@ -22,27 +22,15 @@ use Rattle.passes.specs.Working.{alike, end_by, lead_of, source, target}
 use Rattle.passes.specs.Listing.{start_at, end_at, Flow, Listed}
 
 -- ── one handle ──
-module _ (ld : List ℕ) (hs : List Handle) (i : ℕ) where
-  abbrev h : Handle
-  h = get_or hs i no_handle
+pub empty_end : (h : Handle) (s : ℕ) (start : Bool) → h.way ≡ 0 → end_by h s start ≡ 0
+empty_end h s start z = ap (λ (b : Bool). cond b 0 (cond (alike (reads_by h.way) start) (32 + h.object % 64) s)) (eq-eqb h.way 0 z)
 
-  pub nowhere : h.way ≡ 0 → source ld hs i ≡ target ld hs i
-  nowhere z = at true ∙ sym (at false)
-    where
-      at : (start : Bool) → end_by h (lead_of ld (i / 16)) start ≡ 0
-      at start = ap (λ (b : Bool). cond b 0 (cond (alike (reads_by h.way) start) (32 + h.object % 64) (lead_of ld (i / 16)))) (eq-eqb h.way 0 z)
+pub open_end : (h : Handle) (s : ℕ) (start : Bool) {r : Bool} → (h.way ≡ 0 → ⊥) → r ≡ reads_by h.way → end_by h s start ≡ cond (alike r start) (32 + h.object % 64) s
+open_end h s start ne q = ap (λ (b : Bool). cond b 0 (cond (alike (reads_by h.way) start) (32 + h.object % 64) s)) (ne_eqb h.way 0 ne)
+    ∙ ap (λ (b : Bool). cond (alike b start) (32 + h.object % 64) s) (sym q)
 
-  module _ (ne : h.way ≡ 0 → ⊥) where
-    at_end : (r start : Bool) → reads_by h.way ≡ r → end_by h (lead_of ld (i / 16)) start ≡ cond (alike r start) (32 + h.object % 64) (lead_of ld (i / 16))
-    at_end r start q = ap (λ (b : Bool). cond b 0 (cond (alike (reads_by h.way) start) (32 + h.object % 64) (lead_of ld (i / 16)))) (ne_eqb h.way 0 ne)
-        ∙ ap (λ (b : Bool). cond (alike b start) (32 + h.object % 64) (lead_of ld (i / 16))) q
-
-    -- both ends, as the code works them out
-    pub reads : {ends : ℕ × ℕ} → reads_by h.way ≡ true → ends ≡ (32 + h.object % 64, lead_of ld (i / 16)) → (ends.0 ≡ source ld hs i) × (ends.1 ≡ target ld hs i)
-    reads q e = (ap (λ (z : ℕ × ℕ). z.0) e ∙ sym (at_end true true q), ap (λ (z : ℕ × ℕ). z.1) e ∙ sym (at_end true false q))
-
-    pub writes : {ends : ℕ × ℕ} → reads_by h.way ≡ false → ends ≡ (lead_of ld (i / 16), 32 + h.object % 64) → (ends.0 ≡ source ld hs i) × (ends.1 ≡ target ld hs i)
-    writes q e = (ap (λ (z : ℕ × ℕ). z.0) e ∙ sym (at_end false true q), ap (λ (z : ℕ × ℕ). z.1) e ∙ sym (at_end false false q))
+pub nowhere : (ld : List ℕ) (hs : List Handle) (i : ℕ) → (get_or hs i no_handle).way ≡ 0 → source ld hs i ≡ target ld hs i
+nowhere ld hs i z = let h = get_or hs i no_handle in empty_end h _ true z ∙ sym (empty_end h _ false z)
 
 -- ── the list, handle by handle ──
 pub none_listed : (ld : List ℕ) (hs : List Handle) → Listed ld hs [] 0

@@ -1,5 +1,5 @@
 // A flow in a list of them.
-ghost use Rattle.std.specs.Prelude.{◌<◌};
+ghost use Rattle.std.specs.Prelude.{◌≡◌, ◌<◌};
 
 // It leads from a thing to a thing.
 #[derive(Clone, Copy)]
@@ -12,6 +12,8 @@ pub struct Edge {
 
 // An edge from thing 0 to itself, which raises nothing.
 impl Default for Edge {
+    ghost is_default = { λ e. (e.from ≡ 0) × (e.to ≡ 0) };
+
     fn default() -> Self {
         Edge { from: 0, to: 0 }
     }

@@ -9,11 +9,34 @@ ghost use Rattle.model.specs.Label.{◌⊑◌};
 ghost use Rattle.labels.specs.Codes.{coded};
 ghost use Rattle.passes.specs.Least.{figure, Settled, Between, Passed, Before};
 ghost use Rattle.passes.specs.Listing.{start_at, end_at, Listed};
-ghost use Rattle.passes.specs.Working.{Taken};
+ghost use Rattle.passes.specs.Working.{end_by, Taken};
 
 use arrayvec::ArrayVec;
 pub use edge::Edge;
 use tables::{EMPTY, HANDLES, Handle, OBJECTS, PLACES, SUBJECTS, THINGS, looks};
+
+// The flow of handle h, where `lead` is the lead of its subject; thing 0 to itself for an empty place.
+pub fn flow(h: Handle, lead: u8) -> Edge
+    requires { lead < 32 }
+    ensures start { result.from ≡ end_by h lead true }
+    ensures end { result.to ≡ end_by h lead false }
+{
+    if h.way == EMPTY {
+        return Edge::default();
+    }
+    let object = (SUBJECTS + h.object as usize % OBJECTS) as u8;
+    if looks::is_reading(h.way) {
+        Edge {
+            from: object,
+            to: lead,
+        }
+    } else {
+        Edge {
+            from: lead,
+            to: object,
+        }
+    }
+}
 
 // The flows of the handles, in the order of their places. A subject counts as its lead, modulo SUBJECTS, so that a group is one thing. (Both ends are worked
 // out once here, and not in each pass.)
@@ -23,14 +46,7 @@ pub fn listed(handles: [Handle; HANDLES], leads: [u8; SUBJECTS]) -> ArrayVec<Edg
     let mut edges = ArrayVec::new();
     for (i, h) in handles.iter().enumerate() {
         if h.way != EMPTY {
-            let lead = leads[i / PLACES] % SUBJECTS as u8;
-            let object = (SUBJECTS + h.object as usize % OBJECTS) as u8;
-            let (from, to) = if looks::is_reading(h.way) {
-                (object, lead)
-            } else {
-                (lead, object)
-            };
-            edges.push(Edge { from, to });
+            edges.push(flow(*h, leads[i / PLACES] % SUBJECTS as u8));
         }
     }
     edges

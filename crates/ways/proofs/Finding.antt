@@ -19,14 +19,16 @@ use Rattle.ways.specs.declared.Way.{Way}
 use Rattle.ways.specs.Paths.{Path, end, via, Stands, Is, Goal, Trail, Found}
 use Rattle.ways.specs.Near.{figure, Ways, Sloped, First, Walk, there, along, Walked}
 use Rattle.ways.specs.Working.{Drawn, Aimed, live_at, label_at, Alone, Below, shorter_by}
-use Rattle.ways.proofs.Drawing.{empty_end}
+use Rattle.passes.specs.declared.edge.Edge.{Edge}
+use Rattle.passes.specs.Listing.{start_at, end_at}
+use Rattle.passes.proofs.Listing.{empty_end}
 use Rattle.ways.proofs.Aiming.{goal_zero, goal_or_far, stands_live, live_stands}
 use Rattle.ways.proofs.Nearing.{true_false}
 
 -- ── walks and chains ──
-module _ {ld : List ℕ} {hs : List Handle} {from to : List ℕ} (p : Drawn ld hs from to 512) where
+module _ {ld : List ℕ} {hs : List Handle} {es : List Edge} (p : Drawn ld hs es 512) where
   -- a step leads to another thing, so that its place is not empty
-  open_step : (d : ℕ → ℕ) {x : ℕ} (i : ℕ) → First (figure from) (figure to) d x i → T (not (eqb (get_or hs i no_handle).way 0))
+  open_step : (d : ℕ → ℕ) {x : ℕ} (i : ℕ) → First (start_at es) (end_at es) d x i → T (not (eqb (get_or hs i no_handle).way 0))
   open_step d {x} i f = not_T (eqb (get_or hs i no_handle).way 0) (λ z. loops (eqb→eq (get_or hs i no_handle).way 0 z))
     where
       loops : (get_or hs i no_handle).way ≡ 0 → ⊥
@@ -36,20 +38,20 @@ module _ {ld : List ℕ} {hs : List Handle} {from to : List ℕ} (p : Drawn ld h
           at_0 = sym f.leaves ∙ p.starts i f.low ∙ empty_end (get_or hs i no_handle) _ true z
 
   -- so that a walk is a chain
-  walk_path : (d : ℕ → ℕ) {x y : ℕ} {l : List ℕ} → Walk (figure from) (figure to) d x l y → Path ld hs x l y
+  walk_path : (d : ℕ → ℕ) {x y : ℕ} {l : List ℕ} → Walk (start_at es) (end_at es) d x l y → Path ld hs x l y
   walk_path d (there e) = end e
   walk_path d {y = y} (along {l = l} i f w) = via i f.low (open_step d i f) (sym (p.starts i f.low) ∙ f.leaves)
       (subst (λ (z : ℕ). Path ld hs z l y) (p.ends i f.low) (walk_path d w))
 
   -- at rest, what a chain of n handles leads to a goal is at most n from it
-  path_near : (g r : List ℕ) → Ways (figure from) (figure to) g r → {x y : ℕ} {l : List ℕ} → Path ld hs x l y → figure r y ≡ 0 → figure r x ≤ length l
+  path_near : (g r : List ℕ) → Ways (start_at es) (end_at es) g r → {x y : ℕ} {l : List ℕ} → Path ld hs x l y → figure r y ≡ 0 → figure r x ≤ length l
   path_near g r w (end e) z = subst (λ (v : ℕ). figure r v ≤ 0) (sym e) (omega (arith, z))
   path_near g r w (via {l = l} i h o s c) z = subst (λ (v : ℕ). figure r v ≤ suc (length l)) (p.starts i h ∙ s)
       (omega (arith, w.settled i h, ap (figure r) (p.ends i h), path_near g r w c z))
 
 -- ── one start ──
-module _ {ld : List ℕ} {hs : List Handle} {os : List Object} {a : Label} {from to g r : List ℕ} (p : Drawn ld hs from to 512) (q : Aimed os a g 64)
-    (w : Ways (figure from) (figure to) g r) where
+module _ {ld : List ℕ} {hs : List Handle} {os : List Object} {a : Label} {es : List Edge} {g r : List ℕ} (p : Drawn ld hs es 512) (q : Aimed os a g 64)
+    (w : Ways (start_at es) (end_at es) g r) where
   -- what is at no distance is a goal
   zero_goal : (y : ℕ) → y < 96 → figure r y ≡ 0 → Goal os a y
   zero_goal y l z = elim (goal_or_far q y l) [
@@ -58,7 +60,7 @@ module _ {ld : List ℕ} {hs : List Handle} {os : List Object} {a : Label} {from
   ]
 
   -- what is at some distance has a step
-  pub sloped : Sloped (figure from) (figure to) (figure r)
+  pub sloped : Sloped (start_at es) (end_at es) (figure r)
   sloped = record {
     settled = w.settled;
     steps = λ x l ne b. elim (w.falls.stepped x) [
@@ -84,7 +86,7 @@ module _ {ld : List ℕ} {hs : List Handle} {os : List Object} {a : Label} {from
   }
 
   pub walked_found : (x start count stop : ℕ) (steps : List ℕ) → x < 96 → (Goal os a x → ⊥) → figure r x ≤ 95
-      → Walked (figure from) (figure to) (figure r) x start steps count stop → Found (Is x a) os ld hs start steps count stop
+      → Walked (start_at es) (end_at es) (figure r) x start steps count stop → Found (Is x a) os ld hs start steps count stop
   walked_found x start count stop steps l off h k = record {
     few = omega (arith, h, k.long);
     none = λ z. absurd (off (zero_goal x l (sym k.long ∙ z)));

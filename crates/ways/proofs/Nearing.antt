@@ -4,14 +4,12 @@ use mathlib.Core.Path.{◌≡◌, refl, sym, subst, ◌∙◌}
 use mathlib.Core.Bool.{Bool, true, false}
 use mathlib.Core.Logic.{◌⊎◌, inl, inr}
 use mathlib.Core.List.{List, [], ◌∷◌}
-use Prim.Native.Nat.{ℕ, zero, suc, ◌+◌, ◌-◌, ◌≤◌, ◌<◌}
+use Prim.Native.Nat.{ℕ, zero, suc, ◌+◌, ◌≤◌, ◌<◌}
 use native.Mathlib.Omega.{arith}
-use native.Mathlib.Decide.{ℕ_discrete, dec_lt}
+use native.Mathlib.Decide.{ℕ_discrete}
 use native.Mathlib.Nat.{le_refl, le_trans}
-use borrow.Author.Tests.{lt-ltb, le-ltb, ltb-true, ltb-false}
 use lib.ListN.{length, get_or, set, length-set}
 use lib.Seq.{get_or-set_same, get_or-set_other}
-use lib.Dec.{ltb}
 use Rattle.ways.specs.Near.{figure, Step, Falls, sum, Neared}
 
 sum_set : (l : List ℕ) (i v : ℕ) → i < length l → sum (set l i v) + get_or l i 0 ≡ sum l + v
@@ -30,20 +28,6 @@ set_cases P l i v x h p q = go (ℕ_discrete x i)
     go (yes e) = subst (λ (y : ℕ). P y (get_or (set l i v) y 0)) (sym e) (subst (λ (w : ℕ). P i w) (sym (get_or-set_same l i v 0 h)) p)
     go (no ne) = subst (λ (w : ℕ). P x w) (sym (get_or-set_other l i x v 0 ne)) q
 
--- ── the test ──
-pub nearer_test : (n f : ℕ) → (f ≡ 0 → ⊥) → ltb n (f - 1) ≡ ltb (n + 1) f
-nearer_test n f h = go (dec_lt (n + 1) f)
-  where
-    go : Dec (n + 1 < f) → ltb n (f - 1) ≡ ltb (n + 1) f
-    go (yes l) = rw (lt-ltb n (f - 1) (omega (arith, l)), lt-ltb (n + 1) f l) refl
-    go (no l) = rw (le-ltb n (f - 1) (omega (arith, l, h)), le-ltb (n + 1) f (omega (arith, l))) refl
-
-pub no_nearer : {b : Bool} (n f : ℕ) → b ≡ false → b ≡ ltb (n + 1) f → f ≤ n + 1
-no_nearer n f e q = ltb-false (n + 1) f (sym q ∙ e)
-
-pub yes_nearer : {b : Bool} (n f : ℕ) → b ≡ true → b ≡ ltb (n + 1) f → n + 1 < f
-yes_nearer n f e q = ltb-true (n + 1) f (sym q ∙ e)
-
 -- ── one pass ──
 pub none_fell : (from to : ℕ → ℕ) (v : List ℕ) → Falls from to v v
 none_fell from to v = record { long = refl; lower = λ x. le_refl _; stepped = λ x. inl refl }
@@ -57,7 +41,7 @@ step_on from to d c x h e s = record { arc = s.arc; low = s.low; leaves = s.leav
 
 module _ (from to : ℕ → ℕ) (v m : List ℕ) (k : ℕ) (b : Bool) (p : Neared from to v m k b) where
   -- arc k brings nothing nearer
-  pub keep : figure m (from k) ≤ figure m (to k) + 1 → Neared from to v m (k + 1) b
+  keep : figure m (from k) ≤ figure m (to k) + 1 → Neared from to v m (k + 1) b
   keep h = record { falls = p.falls; total = p.total; fell = p.fell; still = λ e i l. at e i l (ℕ_discrete i k) }
     where
       at : b ≡ false → (i : ℕ) → i < k + 1 → Dec (i ≡ k) → figure m (from i) ≤ figure m (to i) + 1
@@ -65,7 +49,7 @@ module _ (from to : ℕ → ℕ) (v m : List ℕ) (k : ℕ) (b : Bool) (p : Near
       at e i l (no n) = p.still e i (omega arith)
 
   -- arc k brings its start nearer
-  pub shrink : (more : ℕ) → k < 512 → from k < length m → figure m (to k) + 1 < figure m (from k) → Neared from to v (set m (from k) (figure m (to k) + 1)) more true
+  shrink : (more : ℕ) → k < 512 → from k < length m → figure m (to k) + 1 < figure m (from k) → Neared from to v (set m (from k) (figure m (to k) + 1)) more true
   shrink more hk ha h = record {
     falls = record {
       long = simp length-set p.falls.long;
@@ -103,6 +87,13 @@ module _ (from to : ℕ → ℕ) (v m : List ℕ) (k : ℕ) (b : Bool) (p : Near
             | inl q ↦ inl (other ne ∙ q)
             | inr s ↦ inr (step_on from to (figure m) (figure (set m (from k) w)) x less (other ne) s)
           ]
+
+  -- by the two things that the code has in hand
+  pub keep_at : (a c : ℕ) → a ≡ from k → c ≡ to k → figure m a ≤ figure m c + 1 → Neared from to v m (k + 1) b
+  keep_at a c ea ec h = keep (rw (sym ea, sym ec) h)
+
+  pub shrink_at : (a c : ℕ) → a ≡ from k → c ≡ to k → k < 512 → a < length m → figure m c + 1 < figure m a → Neared from to v (set m a (figure m c + 1)) (k + 1) true
+  shrink_at a c ea ec hk ha h = rw (ea, ec) (shrink (k + 1) hk (rw (sym ea) ha) (rw (sym ea, sym ec) h))
 
 -- the code's variables are these
 pub neared_as : {from to : ℕ → ℕ} {v m m' : List ℕ} {k : ℕ} {b b' : Bool} → m' ≡ m → b' ≡ b → Neared from to v m k b → Neared from to v m' k b'

@@ -1,34 +1,16 @@
 -- The scan for the lowest arc that leads nearer, and the walk, step by step. Assumes nothing.
 use mathlib.Core.Path.{◌≡◌, refl, sym, ap, subst, ◌∙◌}
-use mathlib.Core.Bool.{Bool, true, false, ◌&&◌}
 use mathlib.Core.List.{List, [], ◌∷◌, ◌++◌}
 use Prim.Native.Nat.{ℕ, ◌+◌, ◌≤◌, ◌<◌}
 use native.Mathlib.Omega.{arith}
 use native.Mathlib.Numerals.{add-one}
 use native.Mathlib.Decide.{ℕ_discrete}
 use native.Mathlib.Nat.{le_refl}
-use borrow.Author.Tests.{eq-eqb, ne_eqb, ltb-true, ltb-false}
 use lib.ListN.{length, set, take, length-set}
 use lib.Seq.{get_or-set_same, take-suc, take-set-le}
-use lib.Dec.{ltb, eqb}
-use Rattle.ways.specs.Near.{Step, First, Walk, there, along}
-use Rattle.ways.proofs.Nearing.{true_false}
+use Rattle.ways.specs.Near.{NoneBelow, Step, First, Walk, there, along}
 
 -- ── the scan ──
--- no arc below i leads nearer from a
-abbrev pub NoneBelow : (ℕ → ℕ) → (ℕ → ℕ) → (ℕ → ℕ) → ℕ → ℕ → Type 0
-NoneBelow from to d a i = (j : ℕ) → j < i → from j ≡ a → d a ≤ d (to j)
-
-pub is_one : {b : Bool} (from a near far : ℕ) → b ≡ true → b ≡ (eqb from a && ltb near far) → (from ≡ a) × (near < far)
-is_one from a near far e q = go (ℕ_discrete from a)
-  where
-    go : Dec (from ≡ a) → (from ≡ a) × (near < far)
-    go (yes z) = (z, ltb-true near far (sym (ap (λ (x : Bool). x && ltb near far) (eq-eqb from a z)) ∙ sym q ∙ e))
-    go (no z) = true_false (sym e ∙ q ∙ ap (λ (x : Bool). x && ltb near far) (ne_eqb from a z))
-
-pub is_none : {b : Bool} (from a near far : ℕ) → b ≡ false → b ≡ (eqb from a && ltb near far) → from ≡ a → far ≤ near
-is_none from a near far e q z = ltb-false near far (sym (ap (λ (x : Bool). x && ltb near far) (eq-eqb from a z)) ∙ sym q ∙ e)
-
 pub scan_more : (from to d : ℕ → ℕ) (a i : ℕ) → NoneBelow from to d a i → (from i ≡ a → d a ≤ d (to i)) → NoneBelow from to d a (i + 1)
 scan_more from to d a i f h j l = go (ℕ_discrete j i)
   where

@@ -6,11 +6,6 @@ use Rattle.std.specs.Prelude.{◌≡◌, Bool, true, false, ◌⊎◌, List, [],
 abbrev pub figure : List ℕ → ℕ → ℕ
 figure l x = get_or l x 0
 
--- each arc is between two of the 96 things
-pub record Bounded (from to : ℕ → ℕ) : Type 0 where
-  pub starts : (i : ℕ) → i < 512 → from i < 96
-  pub ends : (i : ℕ) → i < 512 → to i < 96
-
 -- of the first k arcs none brings its start nearer
 abbrev pub Settled : (ℕ → ℕ) → (ℕ → ℕ) → (ℕ → ℕ) → ℕ → Type 0
 Settled from to d k = (i : ℕ) → i < k → d (from i) ≤ d (to i) + 1
@@ -21,6 +16,10 @@ pub record Step (from to d : ℕ → ℕ) (x : ℕ) : Type 0 where
   pub low : arc < 512
   pub leaves : from arc ≡ x
   pub nearer : d (to arc) < d x
+
+-- no arc below i leads nearer from a
+abbrev pub NoneBelow : (ℕ → ℕ) → (ℕ → ℕ) → (ℕ → ℕ) → ℕ → ℕ → Type 0
+NoneBelow from to d a i = (j : ℕ) → j < i → from j ≡ a → d a ≤ d (to j)
 
 -- figures that fell from v to m: each is as it was, or some arc leads nearer
 pub record Falls (from to : ℕ → ℕ) (v m : List ℕ) : Type 0 where

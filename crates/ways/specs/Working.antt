@@ -6,15 +6,16 @@ use Rattle.tables.specs.declared.Subject.{Subject}
 use Rattle.tables.specs.declared.Object.{Object}
 use Rattle.tables.specs.declared.Handle.{Handle}
 use Rattle.tables.specs.Records.{no_subject, no_object}
+use Rattle.passes.specs.declared.edge.Edge.{Edge}
+use Rattle.passes.specs.Listing.{start_at, end_at}
 use Rattle.passes.specs.Working.{source, target}
 use Rattle.ways.specs.Near.{figure}
 
 -- each of the first k arcs is the flow of the handle with its slot
-pub record Drawn (ld : List ℕ) (hs : List Handle) (from to : List ℕ) (k : ℕ) : Type 0 where
-  pub starts_long : length from ≡ 512
-  pub ends_long : length to ≡ 512
-  pub starts : (i : ℕ) → i < k → figure from i ≡ source ld hs i
-  pub ends : (i : ℕ) → i < k → figure to i ≡ target ld hs i
+pub record Drawn (ld : List ℕ) (hs : List Handle) (es : List Edge) (k : ℕ) : Type 0 where
+  pub long : length es ≡ 512
+  pub starts : (i : ℕ) → i < k → start_at es i ≡ source ld hs i
+  pub ends : (i : ℕ) → i < k → end_at es i ≡ target ld hs i
 
 -- the figure to start from, of an object: 0 for a file whose label is not at most a
 abbrev pub goal_by : Object → Label → ℕ

@@ -3,24 +3,26 @@
 // down the distances is the chain.
 #![tactic(auto)]
 
-ghost use Rattle.std.specs.Prelude.{◌≡◌, true, false, ◌&&◌, cond, ◌+◌, ◌%◌, ◌≤◌, ◌<◌, eqb, ltb};
+ghost use Rattle.std.specs.Prelude.{◌≡◌, true, false, cond, ◌%◌, ◌≤◌, ◌<◌, MatchOption};
 ghost use Rattle.labels.specs.Codes.{coded};
-ghost use Rattle.passes.specs.Working.{alike, end_by};
+ghost use Rattle.passes.specs.Listing.{start_at, end_at};
 ghost use Rattle.ways.specs.Paths.{Stands, Is, Goal, Found};
-ghost use Rattle.ways.specs.Near.{figure, Bounded, Step, Neared, Ways, Sloped, First, Walked};
+ghost use Rattle.ways.specs.Near.{figure, NoneBelow, Neared, Ways, Sloped, First, Walked};
 ghost use Rattle.ways.specs.Working.{Drawn, goal_by, Aimed, live_at, label_at, Alone, shorter_by};
 
+use passes::Edge;
 use tables::{
-    EMPTY, FILE, FREE, HANDLES, Handle, OBJECTS, Object, PLACES, SUBJECTS, Subject, THINGS, looks,
+    FILE, FREE, HANDLES, Handle, OBJECTS, Object, PLACES, SUBJECTS, Subject, THINGS, looks,
 };
 
 // The most handles of a chain, which comes to each of the other things at most once.
 pub const STEPS: usize = THINGS - 1;
 
-// The distance of what reaches no goal.
+// The distance of what reaches no goal. (A number above all others, so that distances compare as numbers: an Option would be taken apart at each comparison.)
 const FAR: u8 = 255;
 
-// The first `count` of the steps are the slots of the handles of a chain, which leads from thing `start` to thing `end`. A count of 0 says that there is none.
+// The first `count` of the steps are the slots of the handles of a chain, which leads from thing `start` to thing `end`. A count of 0 says that there is none. (As
+// in the promise `Found` and in the chain that C gets; and the core has no heap, so that the count stands beside an array.)
 #[derive(Clone, Copy)]
 pub struct Way {
     pub start: usize,
@@ -29,76 +31,26 @@ pub struct Way {
     pub count: usize,
 }
 
-// Where the arc of each handle starts, and where it ends.
-#[derive(Clone, Copy)]
-struct Arcs {
-    pub from: [u8; HANDLES],
-    pub to: [u8; HANDLES],
-}
-
-// Distances after a pass, and whether one of them fell.
-#[derive(Clone, Copy)]
-struct Round {
-    pub dist: [u8; THINGS],
-    pub fell: bool,
-}
-
-// Both hold, or neither.
-fn is_alike(a: bool, b: bool) -> bool
-    ensures { result ≡ alike a b }
-{
-    if a {
-        return b;
-    }
-    !b
-}
-
-// The thing at which the flow of handle h starts, or else the one at which it ends, where `lead` is the lead of its subject; thing 0 for an empty place.
-fn end_of(h: Handle, lead: u8, start: bool) -> u8
-    ensures { result ≡ end_by h lead start }
-{
-    if h.way == EMPTY {
-        return 0;
-    }
-    let reads = looks::is_reading(h.way);
-    if is_alike(reads, start) {
-        let o = SUBJECTS + h.object as usize % OBJECTS;
-        return o as u8;
-    }
-    lead
-}
-
 // The arcs of the handles. A subject counts as its lead, modulo SUBJECTS. An empty place leads from thing 0 to itself, which brings nothing nearer.
-fn drawn(handles: [Handle; HANDLES], leads: [u8; SUBJECTS]) -> Arcs
-    ensures { Drawn leads handles result.from result.to 512 }
+fn drawn(handles: [Handle; HANDLES], leads: [u8; SUBJECTS]) -> [Edge; HANDLES]
+    ensures { Drawn leads handles result 512 }
 {
-    let mut from = [0u8; HANDLES];
-    let mut to = [0u8; HANDLES];
-    let mut i: usize = 0;
-    while i < HANDLES {
-        let h = handles[i];
-        let s = i / PLACES;
-        let lead = (leads[s] as usize % SUBJECTS) as u8;
-        from[i] = end_of(h, lead, true);
-        to[i] = end_of(h, lead, false);
-        i += 1;
+    let mut arcs = [Edge { from: 0, to: 0 }; HANDLES];
+    for (i, h) in handles.iter().enumerate() {
+        arcs[i] = passes::flow(*h, leads[i / PLACES] % SUBJECTS as u8);
     }
-    Arcs { from: from, to: to }
+    arcs
 }
 
 // The distance of an object to start from, for what has this label: 0 for a file whose label it is not at least.
 fn goal(x: Object, label: u16) -> u8
     ensures { result ≡ goal_by x (coded label) }
 {
-    if x.kind != FILE {
-        return FAR;
+    if x.kind == FILE && !labels::is_at_most(looks::object_label(x), label) {
+        0
+    } else {
+        FAR
     }
-    let its = looks::object_label(x);
-    let enough = labels::is_at_most(its, label);
-    if !enough {
-        return 0;
-    }
-    FAR
 }
 
 // And of all things: no subject is a goal.
@@ -106,120 +58,71 @@ fn goals(objects: [Object; OBJECTS], label: u16) -> [u8; THINGS]
     ensures { Aimed objects (coded label) result 64 }
 {
     let mut r = [FAR; THINGS];
-    let mut i: usize = 0;
-    while i < OBJECTS {
-        let object = objects[i];
-        let at = SUBJECTS + i;
-        r[at] = goal(object, label);
-        i += 1;
+    for (i, object) in objects.iter().enumerate() {
+        r[SUBJECTS + i] = goal(*object, label);
     }
     r
 }
 
-// One step more than `near` is less than `far`.
-fn is_nearer(near: u8, far: u8) -> bool
-    ensures { result ≡ ltb (near + 1) far }
+// One pass over the arcs: the start of each is one step farther than its end, where that is nearer than it was. Whether a distance fell.
+fn nearer(arcs: &[Edge; HANDLES], dist: &mut [u8; THINGS]) -> bool
+    ensures { Neared (start_at arcs.now) (end_at arcs.now) dist.old dist.new 512 result }
 {
-    if far == 0 {
-        return false;
-    }
-    near < far - 1
-}
-
-// One pass over the arcs: the start of each is one step farther than its end, where that is nearer than it was.
-fn nearer(e: Arcs, dist: [u8; THINGS]) -> Round
-    requires { Bounded (figure e.from) (figure e.to) }
-    ensures { Neared (figure e.from) (figure e.to) dist result.dist 512 result.fell }
-{
-    let mut next = dist;
     let mut fell = false;
-    let mut i: usize = 0;
-    while i < HANDLES {
-        let a = e.from[i] as usize;
-        let b = e.to[i] as usize;
-        let far = next[a];
-        let near = next[b];
-        if is_nearer(near, far) {
-            next[a] = near + 1;
+    for e in arcs {
+        let far = dist[e.from as usize];
+        let near = dist[e.to as usize];
+        if far != 0 && near < far - 1 {
+            dist[e.from as usize] = near + 1;
             fell = true;
         }
-        i += 1;
     }
-    Round {
-        dist: next,
-        fell: fell,
-    }
+    fell
 }
 
 // Passes until nothing falls: how many arcs each thing is from a goal.
-fn distances(e: Arcs, goals: [u8; THINGS]) -> [u8; THINGS]
-    requires { Bounded (figure e.from) (figure e.to) }
-    ensures { Ways (figure e.from) (figure e.to) goals result }
+fn distances(arcs: &[Edge; HANDLES], goals: [u8; THINGS]) -> [u8; THINGS]
+    ensures { Ways (start_at arcs.now) (end_at arcs.now) goals result }
 {
     let mut dist = goals;
-    loop {
-        let p = nearer(e, dist);
-        let next = p.dist;
-        if !p.fell {
-            return next;
-        }
-        dist = next;
-    }
-}
-
-// An arc from thing `from` to a thing at `near` leaves a, and leads nearer.
-fn is_step(from: usize, a: usize, near: u8, far: u8) -> bool
-    ensures { result ≡ (eqb from a && ltb near far) }
-{
-    if from == a {
-        return near < far;
-    }
-    false
+    while nearer(arcs, &mut dist) {}
+    dist
 }
 
 // The lowest arc that leads nearer from thing a.
-fn step(e: Arcs, dist: [u8; THINGS], a: usize) -> usize
-    requires bounded { Bounded (figure e.from) (figure e.to) }
-    requires low { a < 96 }
-    requires there { Step (figure e.from) (figure e.to) (figure dist) a }
-    ensures { First (figure e.from) (figure e.to) (figure dist) a result }
+fn step(arcs: &[Edge; HANDLES], dist: &[u8; THINGS], a: usize) -> Option<usize>
+    requires { a < 96 }
+    ensures { MatchOption result (NoneBelow (start_at arcs.now) (end_at arcs.now) (figure dist.now) a 512) (First (start_at arcs.now) (end_at arcs.now) (figure dist.now) a) }
 {
     let far = dist[a];
-    let mut arc: usize = 0;
-    while arc < HANDLES {
-        let from = e.from[arc] as usize;
-        let to = e.to[arc] as usize;
-        let near = dist[to];
-        if is_step(from, a, near, far) {
-            return arc;
+    for (i, e) in arcs.iter().enumerate() {
+        if e.from as usize == a && dist[e.to as usize] < far {
+            return Some(i);
         }
-        arc += 1;
     }
-    0
+    None
 }
 
 // From thing x down the distances to a goal.
-fn walk(e: Arcs, dist: [u8; THINGS], x: usize) -> Way
-    requires bounded { Bounded (figure e.from) (figure e.to) }
-    requires sloped { Sloped (figure e.from) (figure e.to) (figure dist) }
+fn walk(arcs: &[Edge; HANDLES], dist: &[u8; THINGS], x: usize) -> Way
+    requires sloped { Sloped (start_at arcs.now) (end_at arcs.now) (figure dist.now) }
     requires low { x < 96 }
-    requires near { figure dist x ≤ 95 }
-    ensures { Walked (figure e.from) (figure e.to) (figure dist) x result.start result.steps result.count result.end }
+    requires near { figure dist.now x ≤ 95 }
+    ensures { Walked (start_at arcs.now) (end_at arcs.now) (figure dist.now) x result.start result.steps result.count result.end }
 {
     let mut steps = [0u16; STEPS];
     let mut at = x;
-    let mut k: usize = 0;
-    while dist[at] != 0 {
-        let i = step(e, dist, at);
-        steps[k] = i as u16;
-        at = e.to[i] as usize;
-        k += 1;
+    let mut count: usize = 0;
+    while let Some(i) = step(arcs, dist, at) {
+        steps[count] = i as u16;
+        at = arcs[i].to as usize;
+        count += 1;
     }
     Way {
         start: x,
         end: at,
-        steps: steps,
-        count: k,
+        steps,
+        count,
     }
 }
 
@@ -246,14 +149,13 @@ fn way_from(
     requires off { Goal objects (coded label) x → ⊥ }
     ensures { Found (Is x (coded label)) objects leads handles result.start result.steps result.count result.end }
 {
-    let start = goals(objects, label);
-    let e = drawn(handles, leads);
-    let dist = distances(e, start);
-    let far = dist[x];
-    if STEPS < far as usize {
+    let arcs = drawn(handles, leads);
+    let dist = distances(&arcs, goals(objects, label));
+    let far = dist[x] as usize;
+    if STEPS < far {
         return no_way();
     }
-    walk(e, dist, x)
+    walk(&arcs, &dist, x)
 }
 
 // Behind an exec: a shortest chain from subject s, modulo SUBJECTS, for this label. (A file may be a goal itself, where a chain has no handle: a subject never is.)
@@ -266,36 +168,29 @@ pub fn nearest_from(
 ) -> Way
     ensures { Found (Is (s % 32) (coded label)) objects leads handles result.start result.steps result.count result.end }
 {
-    let x = s % SUBJECTS;
-    way_from(objects, handles, leads, x, label)
+    way_from(objects, handles, leads, s % SUBJECTS, label)
 }
 
-// Thing x is in use.
-fn is_live(subjects: [Subject; SUBJECTS], objects: [Object; OBJECTS], x: usize) -> bool
+// The label of thing x, as one number, where it is in use.
+fn label_of(subjects: [Subject; SUBJECTS], objects: [Object; OBJECTS], x: usize) -> Option<u16>
     requires { x < 96 }
-    ensures { result ≡ live_at subjects objects x }
+    ensures { MatchOption result (live_at subjects objects x ≡ false) (λ l. (live_at subjects objects x ≡ true) × (coded l ≡ label_at subjects objects x)) }
 {
     if x < SUBJECTS {
         let s = subjects[x];
-        return s.live != 0;
+        if s.live == 0 {
+            None
+        } else {
+            Some(looks::subject_label(s))
+        }
+    } else {
+        let o = objects[x - SUBJECTS];
+        if o.kind == FREE {
+            None
+        } else {
+            Some(looks::object_label(o))
+        }
     }
-    let i = x - SUBJECTS;
-    let o = objects[i];
-    o.kind != FREE
-}
-
-// Its label, as one number.
-fn label_of(subjects: [Subject; SUBJECTS], objects: [Object; OBJECTS], x: usize) -> u16
-    requires { x < 96 }
-    ensures { coded result ≡ label_at subjects objects x }
-{
-    if x < SUBJECTS {
-        let s = subjects[x];
-        return looks::subject_label(s);
-    }
-    let i = x - SUBJECTS;
-    let o = objects[i];
-    looks::object_label(o)
 }
 
 // A shortest chain from thing x, for its own label, where it is live.
@@ -309,32 +204,21 @@ fn way_of(
     requires { x < 96 }
     ensures { Found (Alone x (Stands subjects objects)) objects leads handles result.start result.steps result.count result.end }
 {
-    if is_live(subjects, objects, x) {
-        let label = label_of(subjects, objects, x);
-        return way_from(objects, handles, leads, x, label);
+    match label_of(subjects, objects, x) {
+        Some(label) => way_from(objects, handles, leads, x, label),
+        None => no_way(),
     }
-    no_way()
-}
-
-// A chain of n handles is shorter than one of m, or the only one of the two.
-fn is_shorter(n: usize, m: usize) -> bool
-    ensures { result ≡ shorter_by n m }
-{
-    let some = n != 0;
-    let first = m == 0;
-    let fewer = n < m;
-    let better = looks::either(first, fewer);
-    looks::both(some, better)
 }
 
 // The shorter of two ways, a where they are as long.
 fn shorter(a: Way, b: Way) -> Way
     ensures { result ≡ cond (shorter_by b.count a.count) b a }
 {
-    if is_shorter(b.count, a.count) {
-        return b;
+    if b.count != 0 && (a.count == 0 || b.count < a.count) {
+        b
+    } else {
+        a
     }
-    a
 }
 
 // Behind an open, a map or a connect: a shortest chain from any live thing, for its own label; of those as short the one from the lowest thing.
@@ -347,11 +231,8 @@ pub fn nearest(
     ensures { Found (Stands subjects objects) objects leads handles result.start result.steps result.count result.end }
 {
     let mut best = no_way();
-    let mut x: usize = 0;
-    while x < THINGS {
-        let w = way_of(subjects, objects, handles, leads, x);
-        best = shorter(best, w);
-        x += 1;
+    for x in 0..THINGS {
+        best = shorter(best, way_of(subjects, objects, handles, leads, x));
     }
     best
 }

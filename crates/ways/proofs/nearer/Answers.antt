@@ -1,51 +1,27 @@
 -- `ways::nearer` meets its contract. Assumes nothing.
-use mathlib.Core.Path.{◌≡◌, sym}
 use native.Mathlib.Omega.{arith}
-use borrow.Author.Rules.{rules}
-use lib.ListN.{length, get_or}
-use mir.Syntax.{w8}
-use mir.Val.{Fits}
-use Rattle.ways.specs.Near.{figure}
-use Rattle.ways.proofs.Nearing.{start, keep, shrink, neared_as, no_nearer, yes_nearer}
+use mathlib.Core.Path.{sym}
+use lib.ListN.{get_or}
+use Rattle.std.proofs.lemmas.List.{get_or-map}
+use Rattle.ways.proofs.Nearing.{keep_at, shrink_at, neared_as}
 use Rattle.ways.proofs.nearer.Goals as goal
+use Rattle.ways.proofs.nearer.Goals.{then-far-ne0+then-near-far, else-far-ne0, else-far-ne0-via-then-far-ne0+else-near-far, else-far-ne0-via-else-far-ne0}
 
-pub loop-i-init : goal.loop-i-init
-loop-i-init c = (omega arith, start _ _ _)
-
-pub bounds-next-a : goal.bounds-next-a
-bounds-next-a c = c.requires.starts _ c.loop-i-test.true
-
-pub bounds-next-b : goal.bounds-next-b
-bounds-next-b c = c.requires.ends _ c.loop-i-test.true
-
-pub is_nearer-requires : goal.is_nearer-requires
-is_nearer-requires c = tt
-
-pub overflow_add-next : goal.overflow_add-next
-overflow_add-next c =
-    let e = c.args.e in
-    let a = figure e.from c.loop-i.i in
-    let m = figure c.loop-i.next in
-    let f : Fits w8 (get_or c.args.dist a 0) = search rules in
-    let q = yes_nearer (m (figure e.to c.loop-i.i)) (m a) c.if-is_nearer.true c.is_nearer.ensures in
-    record { fits = omega (arith, q, c.loop-i.invariant.1.falls.lower a, f.fits) }
-
-pub bounds-next-a-then-is_nearer : goal.bounds-next-a-then-is_nearer
-bounds-next-a-then-is_nearer c = c.requires.starts _ c.loop-i-test.true
-
-pub loop-i-preserved : goal.loop-i-preserved
-loop-i-preserved c =
-    let p = c.loop-i.invariant.1 in
-    let lo = c.loop-i-test.true in
-    let near = c.is_nearer.ensures in
-    let l : length c.args.dist ≡ 96 = search rules in (
-      omega arith,
-      elim c.if-is_nearer.branch [
-        | goal.then-is_nearer w ↦ neared_as w.next-is w.fell-is
-            (shrink _ _ _ _ _ _ p _ lo (omega (arith, l, p.falls.long, c.requires.starts c.loop-i.i lo)) (yes_nearer _ _ w.if-is_nearer.true near))
-        | goal.else-is_nearer w ↦ neared_as w.next-is w.fell-is (keep _ _ _ _ _ _ p (no_nearer _ _ w.if-is_nearer.false near))
-      ],
-    )
-
-pub returns : goal.returns
-returns c = let e : c.loop-i.i ≡ 512 = omega (arith, c.loop-i.invariant.0, c.loop-i-test.false) in rw (sym e) c.loop-i.invariant.1
+pub loop-e-preserved : goal.loop-e-preserved
+loop-e-preserved c =
+    let es = c.args.arcs.now in
+    let i = c.loop-e.e-index in
+    let r = c.e-item.result in
+    let e = get_or es i r in
+    let p = c.loop-e.invariant in
+    let from = sym (get_or-map (λ x. x.from) es i r 0 (omega arith)) in
+    let to = sym (get_or-map (λ x. x.to) es i r 0 (omega arith)) in
+    elim c.if-far-ne0.branch [
+      | then-far-ne0+then-near-far w ↦ neared_as w.dist-is w.fell-is
+          (shrink_at _ _ _ _ _ _ p e.from e.to from to c.loop-e-test.true (omega (arith, c.told-dist, p.falls.long, e.starts)) (omega (arith, w.if-near-far.true)))
+      | else-far-ne0 w ↦ neared_as w.dist-is w.fell-is (keep_at _ _ _ _ _ _ p e.from e.to from to
+          (elim w.else-far-ne0.branch [
+            | else-far-ne0-via-then-far-ne0+else-near-far u ↦ omega (arith, u.if-near-far.false)
+            | else-far-ne0-via-else-far-ne0 u ↦ omega (arith, u.if-far-ne0.false)
+          ]))
+    ]

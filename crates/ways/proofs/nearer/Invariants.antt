@@ -1,10 +1,7 @@
 -- `ways::nearer` meets its contract. Assumes nothing.
-use Prim.Native.Nat.{◌-◌, ◌≤◌}
-use Rattle.ways.specs.Near.{figure, Neared}
+use Rattle.passes.specs.Listing.{start_at, end_at}
+use Rattle.ways.specs.Near.{Neared}
 use Rattle.ways.proofs.nearer.Given as goal
 
-abbrev pub invariant-loop-i : goal.invariant-loop-i
-invariant-loop-i l = (l.i ≤ 512) × Neared (figure l.e.from) (figure l.e.to) l.initial.next l.next l.i l.fell
-
-abbrev pub decreases-loop-i : goal.decreases-loop-i
-decreases-loop-i l = 512 - l.i
+abbrev pub invariant-loop-e : goal.invariant-loop-e
+invariant-loop-e l = Neared (start_at l.fn.arcs) (end_at l.fn.arcs) l.initial.dist l.dist l.e-index l.fell

@@ -1,34 +1,21 @@
 -- `ways::step` meets its contract. Assumes nothing.
+use mathlib.Core.Path.{sym, ◌∙◌, subst}
+use Prim.Native.Nat.{ℕ, ◌≤◌}
 use native.Mathlib.Omega.{arith}
+use Rattle.std.proofs.lemmas.List.{get_or-map}
+use Rattle.passes.specs.Listing.{start_at, end_at}
 use Rattle.ways.specs.Near.{figure}
-use Rattle.ways.proofs.Walking.{is_one, is_none, scan_more, scan_none}
+use Rattle.ways.proofs.Walking.{scan_more}
 use Rattle.ways.proofs.step.Goals as goal
+use Rattle.ways.proofs.step.Goals.{else-e-a-via-then-e-a+else-dist-e, else-e-a-via-else-e-a}
 
-pub bounds-dist-a : goal.bounds-dist-a
-bounds-dist-a c = c.requires.low
-
-pub loop-arc-init : goal.loop-arc-init
-loop-arc-init c = (omega arith, λ j l. absurd (omega arith))
-
-pub bounds-dist-to : goal.bounds-dist-to
-bounds-dist-to c = c.requires.bounded.ends _ c.loop-arc-test.true
-
-pub is_step-requires : goal.is_step-requires
-is_step-requires c = tt
-
-pub returns-then-is_step : goal.returns-then-is_step
-returns-then-is_step c =
-    let q = is_one _ _ _ _ c.if-is_step.true c.is_step.ensures in
-    record { low = c.loop-arc-test.true; leaves = q.0; nearer = q.1; lowest = c.loop-arc.invariant.1 }
-
-pub loop-arc-preserved : goal.loop-arc-preserved
-loop-arc-preserved c =
-    let a = c.args in
-    let i = c.loop-arc.arc in (
-      omega arith,
-      scan_more (figure a.e.from) (figure a.e.to) (figure a.dist) a.a i c.loop-arc.invariant.1
-          (is_none (figure a.e.from i) a.a (figure a.dist (figure a.e.to i)) (figure a.dist a.a) c.if-is_step.false c.is_step.ensures),
-    )
-
-pub returns : goal.returns
-returns c = scan_none _ _ _ _ _ c.loop-arc.invariant.1 (omega (arith, c.loop-arc-test.false)) c.requires.there
+pub loop-i-preserved : goal.loop-i-preserved
+loop-i-preserved c =
+    let es = c.args.arcs.now in
+    let i = c.loop-i.i in
+    let e = c.index-arcs-i.result in
+    let d = c.args.dist.now in
+    scan_more (start_at es) (end_at es) (figure d) c.args.a i c.loop-i.invariant (λ q. elim c.else-e-a.branch [
+      | else-e-a-via-then-e-a+else-dist-e w ↦ subst (λ (y : ℕ). figure d c.args.a ≤ figure d y) (sym (get_or-map (λ x. x.to) es i e 0 (omega arith))) w.if-dist-e.false
+      | else-e-a-via-else-e-a w ↦ absurd (w.if-e-a.false (sym (get_or-map (λ x. x.from) es i e 0 (omega arith)) ∙ q))
+    ])

@@ -2,12 +2,17 @@
 use mathlib.Core.Path.{◌≡◌}
 use Prim.Native.Nat.{◌+◌, ◌<◌}
 use lib.ListN.{length, take}
+use Rattle.passes.specs.Listing.{start_at, end_at}
 use Rattle.ways.specs.Near.{figure, Walk}
 use Rattle.ways.proofs.walk.Given as goal
 
-abbrev pub invariant-loop-at : goal.invariant-loop-at
-invariant-loop-at l = (l.at < 96) × (l.k + figure l.dist l.at ≡ figure l.dist l.x) × (length l.steps ≡ 95)
-    × Walk (figure l.e.from) (figure l.e.to) (figure l.dist) l.x (take l.k l.steps) l.at
+abbrev pub invariant-loop-i : goal.invariant-loop-i
+invariant-loop-i l = record {
+  low : l.at < 96;
+  so_far : l.count + figure l.fn.dist l.at ≡ figure l.fn.dist l.fn.x;
+  long : length l.steps ≡ 95;
+  walked : Walk (start_at l.fn.arcs) (end_at l.fn.arcs) (figure l.fn.dist) l.fn.x (take l.count l.steps) l.at;
+}
 
-abbrev pub decreases-loop-at : goal.decreases-loop-at
-decreases-loop-at l = figure l.dist l.at
+abbrev pub decreases-loop-i : goal.decreases-loop-i
+decreases-loop-i l = figure l.fn.dist l.at
