@@ -1,25 +1,19 @@
--- Answers as numbers: of a call, from its letter, its value and the marks lost; of the journal's functions, a result r that the code took apart, and the case x that it
--- found. Assumes nothing.
+-- Answers as numbers: of a call, from its letter, its value and the marks lost; of the journal's functions. Assumes nothing.
 use mathlib.Core.Path.{◌≡◌, refl, sym, ap, ◌∙◌, subst}
 use mathlib.Core.Bool.{Bool, true, false, cond}
-use mathlib.Core.Option.{Option, get_or}
+use Rattle.std.specs.Prelude.{Option, Some, None}
+use Rattle.std.specs.Option.{unwrap_or}
 use mathlib.Core.List.{List}
 use Prim.Native.Nat.{ℕ, ◌+◌, ◌*◌, ◌≤◌, ◌<◌}
 use native.Mathlib.Omega.{arith}
 use lib.ListN.{length}
 use borrow.Author.Tests.{le-ltb}
 use Rattle.model.specs.Calls.{Answer as Told}
-use Rattle.number.specs.declared.Number.{Number}
-use Rattle.number.specs.declared.Number.TheVariants.{Good}
-use Rattle.number.specs.declared.Written.{Written}
-use Rattle.number.specs.Leb.{AtMost, Reading, largest, longest, number}
+use Rattle.number.specs.Leb.{AtMost, largest, longest, number}
 use Rattle.number.specs.Leb.Laws.{number_bytes}
-use Rattle.number.specs.Answers.{reading, writing}
 use Rattle.number.specs.Put.{fitted}
 use Rattle.number.specs.Put.Laws.{fitted_fits}
-use Rattle.journal.specs.declared.Recorded.{Recorded}
-use Rattle.journal.specs.declared.Recorded.TheVariants.{Length}
-use Rattle.journal.specs.Answers.{Answer, answers, refused, record-answer, length-in}
+use Rattle.journal.specs.Answers.{answers, refused}
 use Rattle.journal.specs.Calls.{known}
 use Rattle.journal.specs.Record.{longest_record, record_of, fitting, recording}
 use Rattle.journal.specs.Record.Laws.{record_length}
@@ -35,13 +29,6 @@ call_numbered a l v k p q r h =
     (e, ap answer_in e ∙ answer_back a (omega (arith, q, h)))
 
 -- ── records ──
--- a record that was written is short
-pub record_short : (most : ℕ) (r : Recorded) (n : ℕ) → r ≡ Length n → length-in (record-answer r) ≤ most → n ≤ most
-record_short most r n e h = subst (λ (x : Recorded). length-in (record-answer x) ≤ most) e h
-
-pub record_numbered : {r x : Recorded} {a : Answer ℕ} → r ≡ x → record-answer r ≡ a → record_number (record-answer x) ≡ record_number a
-record_numbered e q = ap (λ (z : Recorded). record_number (record-answer z)) (sym e) ∙ ap record_number q
-
 -- where there is room for the longest record, the code alone decides
 pub record_roomy : (code : ℕ) (ns out : List ℕ) → AtMost largest ns → longest_record ≤ length out
     → record_number (recording code ns out) ≡ roomy_number code ns
@@ -56,17 +43,19 @@ record_roomy code ns out are room = by_code (known code) refl
 
 -- ── numbers ──
 -- a good number is short
-pub number_short : (r : Number) (bytes : List ℕ) (v k : ℕ) → r ≡ Good v k → reading r ≡ number largest bytes → k ≤ longest
-number_short r bytes v k e h = (number_bytes bytes v k (sym h ∙ ap reading e)).1
-
-pub reading_told : {r x : Number} {a : Reading} → r ≡ x → reading r ≡ a → reading x ≡ a
-reading_told e q = ap reading (sym e) ∙ q
+pub number_short : (bytes : List ℕ) (r : ℕ × ℕ) → Some r ≡ number largest bytes → r.1 ≤ longest
+number_short bytes r e = (number_bytes bytes r.0 r.1 (sym e)).1
 
 -- ── replies ──
-pub reply_numbered : {r x : Written} {a : Option ℕ} → r ≡ x → writing r ≡ a → get_or (writing x) 0 ≡ get_or a 0
-reply_numbered e q = ap (λ (z : Written). get_or (writing z) 0) (sym e) ∙ ap (λ (o : Option ℕ). get_or o 0) q
-
 -- where there is room for every reply, the answer is the text's length
-pub reply_roomy : (text out : List ℕ) (most r : ℕ) → r ≡ get_or (fitted text out) 0 → (most ≤ length out → length text ≤ length out)
+pub reply_roomy : (text out : List ℕ) (most r : ℕ) → r ≡ unwrap_or (fitted text out) 0 → (most ≤ length out → length text ≤ length out)
     → most ≤ length out → r ≡ length text
-reply_roomy text out most r e f h = e ∙ ap (λ (o : Option ℕ). get_or o 0) (fitted_fits text out (f h))
+reply_roomy text out most r e f h = e ∙ ap (λ (o : Option ℕ). unwrap_or o 0) (fitted_fits text out (f h))
+
+-- and where some of it was written, it was written whole
+pub reply_whole : (text out : List ℕ) (r : ℕ) → r ≡ unwrap_or (fitted text out) 0 → 0 < r → fitted text out ≡ Some r
+reply_whole text out r e h = go (fitted text out) e
+  where
+    go : (o : Option ℕ) → r ≡ unwrap_or o 0 → o ≡ Some r
+    go None q = absurd (omega (arith, q, h))
+    go (Some k) q = ap Some (sym q)

@@ -14,7 +14,10 @@ use Rattle.model.specs.Promise.{Meets}
 use Rattle.model.specs.Tally.{tallied}
 use Rattle.gatekeeper.specs.declared.Monitor.{Monitor}
 use Rattle.tally.specs.declared.Tally.{Tally}
-use Rattle.answers.specs.Telling.{refuses}
+use Rattle.std.specs.Prelude.{Ok, Err}
+use Rattle.std.specs.Result.{is_ok}
+use Rattle.answers.specs.declared.Granted.TheVariants.{Allowed, Lowered}
+use Rattle.answers.specs.Telling.{Answered, told, refuses}
 use Rattle.gatekeeper.specs.View.{view, Honest, monitors}
 use Rattle.gatekeeper.specs.View.Laws.{honest_tidy}
 use Rattle.tally.specs.Counting.{counts_of, Tallies}
@@ -22,6 +25,16 @@ use Rattle.stored.specs.State.{state_bytes, Sized, monitor_of, tally_of, Stands,
 use Rattle.host.specs.Numbers.{answer_number, answer_in, call_number}
 use Rattle.host.specs.Demand3.{Called}
 use Rattle.host.proofs.Sizing.{state_honest}
+
+-- an answer is one of a call that is not refused, or of one that is
+pub granted : (a : Answered) → is_ok a ≡ true → refuses (told a) ≡ false
+granted (Ok (Allowed l)) h = refl
+granted (Ok (Lowered l k)) h = refl
+granted (Err r) h = absurd (cc)
+
+pub denied : (a : Answered) → is_ok a ≡ false → refuses (told a) ≡ true
+denied (Ok g) h = absurd (cc)
+denied (Err r) h = refl
 
 is_refusal : (a : Answer) → refuses a ≡ true → (k : ℕ) × (a ≡ refused k)
 is_refusal (allowed l) h = absurd (cc)

@@ -65,10 +65,10 @@ record_in f d w b n j s h l = getD_records f w n (drop b s) j d h ∙ ap (λ (t 
 
 -- one value, read from the chunk of bytes at its number
 pub one_read : {A : Type 0} (f : List ℕ → A) (w n at i : ℕ) (s b : List ℕ) (cs : List (List ℕ)) (y : A) → 0 < w → i < n → at + w * n ≤ state_bytes → Sized s
-    → cs ≡ first_chunks w (length (take (2577 - at) (drop at s)) / w) (take (2577 - at) (drop at s)) → b ≡ get_or cs i b → y ≡ f b
+    → cs ≡ first_chunks w (length (take (state_bytes - at) (drop at s)) / w) (take (state_bytes - at) (drop at s)) → b ≡ get_or cs i b → y ≡ f b
     → (d : A) → y ≡ get_or (records f w n (drop at s)) i d
 one_read f w n at i s b cs y pos there room size e q r d =
-    let all : take (2577 - at) (drop at s) ≡ drop at s = take_all (2577 - at) (drop at s) (omega (arith, length-drop at s)) in
+    let all : take (state_bytes - at) (drop at s) ≡ drop at s = take_all (state_bytes - at) (drop at s) (omega (arith, length-drop at s)) in
     let k = length (drop at s) / w in
     let inside : i < k = omega (arith, le-div n (length (drop at s)) w pos (omega (arith, length-drop at s))) in
     let chunks : cs ≡ first_chunks w k (drop at s) = e ∙ ap (λ (t : List ℕ). first_chunks w (length t / w) t) all in

@@ -2,7 +2,7 @@
 -- States RULES H11 to H14, H17 to H20, H22, H27 and H31, by RULES G9.
 --
 -- For a wrong length of the lent bytes the rules have no answer: it is 0, which is no answer's number. The laws are in Numbers/Laws. Assumes nothing.
-use Rattle.std.specs.Prelude.{◌≡◌, cond, List, [], ℕ, ◌+◌, ◌*◌, ◌/◌, ◌%◌, eqb, ltb, length}
+use Rattle.std.specs.Prelude.{◌≡◌, cond, Some, None, List, [], ℕ, ◌+◌, ◌*◌, ◌/◌, ◌%◌, eqb, ltb, length}
 use Rattle.std.proofs.Math.Option.{Option, none, some}
 use Rattle.model.specs.Label.{level, shops}
 use Rattle.model.specs.Lists.{each, keep, from_on}
@@ -10,7 +10,7 @@ use Rattle.model.specs.Flow.{subject}
 use Rattle.model.specs.Tables.{Kind, running, file, pipe, Dir, reading, writing, Entry, Handle, Tables, no_freeze, subjects, live, clean}
 use Rattle.model.specs.Calls.{Call, Answer, allowed, lowered, answer}
 use Rattle.model.specs.Calls.{refused as no}
-use Rattle.number.specs.Leb.{Reading, good, malformed}
+use Rattle.number.specs.Leb.{Reading}
 use Rattle.journal.specs.Answers.{answers, refused}
 use Rattle.journal.specs.Answers.{Answer as Recording}
 use Rattle.journal.specs.Calls.{known}
@@ -64,12 +64,12 @@ roomy_number code ns = cond (known code) (256 + length (record_of code ns)) 1
 
 -- RULES H14: in how many bytes the number stands, and its value, which is left as it was where there is none
 abbrev pub reading_used : Reading → ℕ
-reading_used (good value used) = used
-reading_used malformed = 0
+reading_used None = 0
+reading_used (Some r) = r.1
 
 abbrev pub reading_value : Reading → ℕ → ℕ
-reading_value (good value used) before = value
-reading_value malformed before = before
+reading_value None before = before
+reading_value (Some r) before = r.0
 
 -- ── what a host sees ──
 -- RULES H17: 0 where there is none; else 65,536 times the set, 256 times the kind, 1 for a subject and for a file, 2 for a pipe, and the level

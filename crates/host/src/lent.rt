@@ -96,9 +96,12 @@ pub extern "C" fn gatekeeper_quick_open(
     ensures { Tried (5 ∷ 6 ∷ []) numbers.now subjects.now objects.now handles.old needs.now counts.old freeze sure
         (direct code s o p 0 0 0) result handles.new counts.new }
 {
-    quick::opened(
+    match quick::opened(
         numbers, subjects, objects, handles, needs, counts, freeze, sure, code, s, o, p,
-    )
+    ) {
+        Some(answer) => crate::to_number(answer),
+        None => 0,
+    }
 }
 
 #[unsafe(no_mangle)]
@@ -116,7 +119,10 @@ pub extern "C" fn gatekeeper_quick_close(
     ensures { (ns : List ℕ) → length ns ≡ 64 → Tried (11 ∷ []) ns subjects.now objects.now handles.old needs.now counts.old freeze sure
         (direct 11 s p 0 0 0 0) result handles.new counts.new }
 {
-    quick::closed(
+    match quick::closed(
         subjects, objects, handles, needs, counts, freeze, sure, s, p,
-    )
+    ) {
+        Some(answer) => crate::to_number(answer),
+        None => 0,
+    }
 }

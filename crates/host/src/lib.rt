@@ -6,7 +6,7 @@
 #![tactic(auto)]
 
 ghost use Rattle.std.specs.Prelude.{◌≡◌, ◌∷◌, [], ◌+◌, ◌*◌, ◌≤◌, ◌<◌, eqb, length};
-ghost use Rattle.std.proofs.Math.Option.{get_or};
+ghost use Rattle.std.specs.Option.{unwrap_or};
 ghost use Rattle.number.specs.Leb.{largest, number};
 ghost use Rattle.number.specs.Put.{put, fitted};
 ghost use Rattle.journal.specs.Record.{longest_record, recording, recorded};
@@ -19,8 +19,8 @@ ghost use Rattle.host.specs.Demand3.{Called};
 ghost use Rattle.host.specs.Typing.{Types};
 
 use answers::Answer;
-use journal::{Call, Numbers, Recorded};
-use number::{Number, Written};
+use calls::{Call, Numbers};
+use journal::RecordError;
 use stored::{FREEZE_AT, STATE_BYTES};
 use tables::NO_FREEZE;
 use typed::Outcome;
@@ -108,7 +108,7 @@ pub extern "C" fn gatekeeper_call(
     let monitor = stored::load_monitor(state);
     let mut tally = stored::load_tally(state);
     let reply = tally::lent_call(monitor, &mut tally, code, a, b, c, d, e, f);
-    if !answers::is_refused(reply.answer) {
+    if reply.answer.is_ok() {
         stored::store(state, reply.monitor, tally);
     }
     to_number(reply.answer)
@@ -128,10 +128,8 @@ pub extern "C" fn gatekeeper_line(
 {
     let Some(state) = state.as_mut_array() else {
         return Outcome {
-            allowed: 0,
-            lowered: 0,
-            refused: 0,
             refusal: UNSIZED_LINE,
+            ..Outcome::default()
         };
     };
     let monitor = stored::load_monitor(state);
@@ -169,15 +167,12 @@ pub extern "C" fn gatekeeper_gone(state: &[u8]) -> u64
 // replay::REPLY_ROOM bytes has room for every reply.
 #[unsafe(no_mangle)]
 pub extern "C" fn gatekeeper_replay(journal: &[u8], out: &mut [u8]) -> usize
-    ensures answer { result ≡ get_or (fitted (reply journal.now) out.old) 0 }
+    ensures answer { result ≡ unwrap_or (fitted (reply journal.now) out.old) 0 }
     ensures buffer { 0 < result → out.new ≡ put (reply journal.now) out.old }
     ensures begun { Begun (reply journal.now) out.old out.new }
     ensures room { reply_room ≤ length out.old → result ≡ length (reply journal.now) }
 {
-    match replay::replay(journal, out) {
-        Written::Bytes(n) => n,
-        Written::NoRoom => 0,
-    }
+    replay::replay(journal, out).unwrap_or(0)
 }
 
 // The record of a call over the front of a buffer: its length in bytes and 256, or the number of the refusal, where nothing is touched. A buffer of
@@ -199,9 +194,9 @@ pub extern "C" fn gatekeeper_record(
 {
     let numbers = Numbers { a, b, c, d, e, f };
     match journal::write_record(out, Call { code, numbers }) {
-        Recorded::Length(n) => 256 + n as u32,
-        Recorded::Unknown => 1,
-        Recorded::TooLong => 13,
+        Ok(n) => 256 + n as u32,
+        Err(RecordError::UnknownCode) => 1,
+        Err(RecordError::TooLong) => 13,
     }
 }
 
@@ -211,11 +206,9 @@ pub extern "C" fn gatekeeper_number(bytes: &[u8], value: &mut u64) -> u32
     ensures answer { result ≡ reading_used (number largest bytes.now) }
     ensures value { value.new ≡ reading_value (number largest bytes.now) value.old }
 {
-    match number::read_number(bytes) {
-        Number::Good { value: n, used } => {
-            *value = n;
-            used as u32
-        }
-        Number::Malformed => 0,
-    }
+    let Some((n, used)) = number::read_number(bytes) else {
+        return 0;
+    };
+    *value = n;
+    used as u32
 }

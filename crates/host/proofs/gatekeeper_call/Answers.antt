@@ -1,9 +1,9 @@
 -- `host::gatekeeper_call` meets its contract. Assumes nothing.
 use Rattle.std.proofs.Common.{sym, ap, ◌∙◌}
 use Rattle.stored.specs.State.{monitor_of, tally_of}
-use Rattle.host.proofs.Calling.{made, called_refused, called_moved, called_unsized}
+use Rattle.host.proofs.Calling.{made, granted, denied, called_refused, called_moved, called_unsized}
 use Rattle.host.proofs.gatekeeper_call.Goals as goal
-use Rattle.host.proofs.gatekeeper_call.Goals.{then-not-is_refused, else-not-is_refused}
+use Rattle.host.proofs.gatekeeper_call.Goals.{then-is_ok, else-is_ok}
 
 pub returns-in_default : goal.returns-in_default
 returns-in_default c = called_unsized _ _ c.in_default.ensures.cases
@@ -14,7 +14,7 @@ returns c =
     let k = c.lent_call-reply.ensures in
     let p = made c.args.state.now (c.load_monitor-monitor.ensures ∙ ap monitor_of h.same) (c.load_tally-tally.ensures ∙ ap tally_of h.same) k.0 k.1 in
     let n = c.to_number.ensures in
-    elim c.if-not-is_refused.branch [
-      | then-not-is_refused w ↦ called_moved p h.long n.number n.back (sym c.is_refused.ensures ∙ w.if-not-is_refused.true) w.state-is w.store.ensures
-      | else-not-is_refused w ↦ called_refused p h.long n.number n.back (sym c.is_refused.ensures ∙ w.if-not-is_refused.false) (w.state-is ∙ h.same)
+    elim c.if-is_ok.branch [
+      | then-is_ok w ↦ called_moved p h.long n.number n.back (granted _ (sym c.is_ok.ensures.value ∙ w.if-is_ok.true)) w.state-is w.store.ensures
+      | else-is_ok w ↦ called_refused p h.long n.number n.back (denied _ (sym c.is_ok.ensures.value ∙ w.if-is_ok.false)) (w.state-is ∙ h.same)
     ]

@@ -1,13 +1,13 @@
 -- `host::gatekeeper_empty` meets its contract. Assumes nothing.
 use Rattle.std.proofs.Common.{◌≡◌, ℕ, List, length, ◌∙◌, ap}
 use Rattle.std.proofs.Math.ListN.{replicate, set}
-use Rattle.stored.specs.State.{blank_bytes}
+use Rattle.stored.specs.State.{state_bytes, freeze_at, blank_bytes}
 use Rattle.stored.specs.State.Laws.{zeros_set, bytes_blank}
 use Rattle.std.specs.Array.{IsWholeChunk}
 use Rattle.host.proofs.Sizing.{sized_by}
 use Rattle.host.proofs.gatekeeper_empty.Goals as goal
 
-blank : {s t u : List ℕ} → IsWholeChunk s t 2577 → u ≡ replicate (length t) 0 → set u 1840 16 ≡ blank_bytes
+blank : {s t u : List ℕ} → IsWholeChunk s t state_bytes → u ≡ replicate (length t) 0 → set u freeze_at 16 ≡ blank_bytes
 blank k e = zeros_set _ (e ∙ ap (λ n. replicate n 0) (ap length k.same ∙ k.long))
 
 pub returns-clause-buffer : goal.returns-clause-buffer

@@ -1,12 +1,16 @@
 -- `host::gatekeeper_record` meets its contract. Assumes nothing.
-use mathlib.Core.Path.{◌∙◌}
+use mathlib.Core.Path.{◌∙◌, ap, sym}
+use Rattle.std.specs.Prelude.{Err}
+use Rattle.journal.specs.declared.RecordError.{RecordError}
+use Rattle.journal.specs.Answers.{record_answer}
 use mathlib.Core.List.{[], ◌∷◌}
 use Prim.Native.Nat.{ℕ, zero, suc}
 use mir.Val.{Fits}
 use mir.Syntax.{w64}
 use native.Mathlib.Omega.{arith}
 use Rattle.number.specs.Leb.{AtMost, largest}
-use Rattle.host.proofs.Answering.{record_short, record_numbered, record_roomy}
+use Rattle.host.specs.Numbers.{record_number}
+use Rattle.host.proofs.Answering.{record_roomy}
 use Rattle.host.proofs.gatekeeper_record.Goals as goal
 
 -- the six numbers are 64-bit ones
@@ -19,38 +23,35 @@ numbers ga gb gc gd ge gf (suc (suc (suc (suc zero)))) = omega (arith, ge.fits)
 numbers ga gb gc gd ge gf (suc (suc (suc (suc (suc zero))))) = omega (arith, gf.fits)
 numbers ga gb gc gd ge gf (suc (suc (suc (suc (suc (suc i)))))) = omega arith
 
-pub overflow_cast-result : goal.overflow_cast-result
-overflow_cast-result c = omega (arith, record_short 62 _ _ c.in-Length.is c.write_record.ensures.short)
-
 pub overflow_add-result : goal.overflow_add-result
-overflow_add-result c = omega (arith, record_short 62 _ _ c.in-Length.is c.write_record.ensures.short)
+overflow_add-result c = omega (arith, c.in-Ok.ensures.short)
 
-pub returns-in-Length : goal.returns-in-Length
-returns-in-Length c =
-    let w = c.write_record in
-    let answered = record_numbered c.in-Length.is w.ensures.answer in
+pub returns-in-Ok : goal.returns-in-Ok
+returns-in-Ok c =
+    let w = c.in-Ok.ensures in
+    let answered = ap record_number w.answer in
     record {
       answer = answered;
-      buffer = w.ensures.buffer;
+      buffer = w.buffer;
       room = λ h. answered ∙ record_roomy _ _ _ (numbers c.ranges.a c.ranges.b c.ranges.c c.ranges.d c.ranges.e c.ranges.f) h;
     }
 
-pub returns-in-Unknown : goal.returns-in-Unknown
-returns-in-Unknown c =
-    let w = c.write_record in
-    let answered = record_numbered c.in-Unknown.is w.ensures.answer in
+pub returns-in-Err-UnknownCode : goal.returns-in-Err-UnknownCode
+returns-in-Err-UnknownCode c =
+    let w = c.in-Err-UnknownCode.ensures in
+    let answered = ap (λ (e : RecordError). record_number (record_answer (Err e))) (sym c.in-Err-UnknownCode.field-0-is) ∙ ap record_number w.answer in
     record {
       answer = answered;
-      buffer = w.ensures.buffer;
+      buffer = w.buffer;
       room = λ h. answered ∙ record_roomy _ _ _ (numbers c.ranges.a c.ranges.b c.ranges.c c.ranges.d c.ranges.e c.ranges.f) h;
     }
 
-pub returns-in-TooLong : goal.returns-in-TooLong
-returns-in-TooLong c =
-    let w = c.write_record in
-    let answered = record_numbered c.in-TooLong.is w.ensures.answer in
+pub returns-in-Err-TooLong : goal.returns-in-Err-TooLong
+returns-in-Err-TooLong c =
+    let w = c.in-Err-TooLong.ensures in
+    let answered = ap (λ (e : RecordError). record_number (record_answer (Err e))) (sym c.in-Err-TooLong.field-0-is) ∙ ap record_number w.answer in
     record {
       answer = answered;
-      buffer = w.ensures.buffer;
+      buffer = w.buffer;
       room = λ h. answered ∙ record_roomy _ _ _ (numbers c.ranges.a c.ranges.b c.ranges.c c.ranges.d c.ranges.e c.ranges.f) h;
     }

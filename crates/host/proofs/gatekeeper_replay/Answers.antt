@@ -1,30 +1,18 @@
 -- `host::gatekeeper_replay` meets its contract. Assumes nothing.
-use mathlib.Core.Path.{ap}
-use native.Mathlib.Omega.{arith}
-use Rattle.number.specs.Answers.{writing}
+use Rattle.std.proofs.Common.{ap, ◌∙◌}
+use Rattle.std.specs.Prelude.{Option, ℕ}
+use Rattle.std.specs.Option.{unwrap_or}
 use Rattle.replay.specs.Replay.{reply_room}
-use Rattle.host.proofs.Answering.{reply_numbered, reply_roomy}
+use Rattle.host.proofs.Answering.{reply_roomy, reply_whole}
 use Rattle.host.proofs.gatekeeper_replay.Goals as goal
 
-pub returns-in-Bytes : goal.returns-in-Bytes
-returns-in-Bytes c =
-    let n = c.in-Bytes.is in
-    let w = c.replay in
-    let answered = reply_numbered n w.ensures.answer in
+pub returns : goal.returns
+returns c =
+    let w = c.replay.ensures in
+    let answered = c.unwrap_or.ensures ∙ ap (λ (o : Option ℕ). unwrap_or o 0) w.answer in
     record {
       answer = answered;
-      buffer = λ h. w.ensures.buffer _ (ap writing n);
-      begun = w.ensures.begun;
-      room = reply_roomy _ _ reply_room _ answered w.ensures.room;
-    }
-
-pub returns-in-NoRoom : goal.returns-in-NoRoom
-returns-in-NoRoom c =
-    let w = c.replay in
-    let answered = reply_numbered c.in-NoRoom.is w.ensures.answer in
-    record {
-      answer = answered;
-      buffer = λ h. absurd (omega arith);
-      begun = w.ensures.begun;
-      room = reply_roomy _ _ reply_room _ answered w.ensures.room;
+      buffer = λ h. w.buffer _ (w.answer ∙ reply_whole _ _ _ answered h);
+      begun = w.begun;
+      room = reply_roomy _ _ reply_room _ answered w.room;
     }
