@@ -8,13 +8,12 @@ ghost use Rattle.model.specs.Tables.{Tables, safe};
 ghost use Rattle.model.specs.Invariant.{Wf};
 ghost use Rattle.tables.specs.declared.Subject.{Subject};
 ghost use Rattle.tables.specs.declared.Handle.{Handle};
-ghost use Rattle.tables.specs.Records.{no_subject, no_object, tables_of};
+ghost use Rattle.tables.specs.Records.{tables_of};
 ghost use Rattle.model.specs.Figures.{Ready};
 ghost use Rattle.tables.specs.Needs.{figure_of, Needed};
-ghost use Rattle.tables.specs.Working.{some_below};
 ghost use Rattle.groups.specs.Groups.{kin_of};
 ghost use Rattle.labels.specs.Codes.{coded};
-ghost use Rattle.passes.specs.Working.{demanded_by, Started, Spread, low_by, short_subject, short_object};
+ghost use Rattle.passes.specs.Working.{demanded_by, Started, Spread, short_subject, short_object};
 ghost use Rattle.flows.specs.Short.{some_folded};
 
 use tables::{FILE, FREE, HANDLES, Handle, OBJECTS, Object, SUBJECTS, Subject, THINGS, looks};

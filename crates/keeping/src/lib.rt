@@ -85,7 +85,7 @@ fn is_quiet(sure: bool, n: [u16; THINGS], s: u64, h: Handle) -> bool
     )
 }
 
-// Figures, and whether some live thing's label is below its own.
+// Figures, and whether some live thing's label is below its own. (Two answers, and no Option: what `opened` promises of the figures holds of short ones, too.)
 #[derive(Clone, Copy)]
 pub struct Opening {
     pub needs: [u16; THINGS],
@@ -215,7 +215,7 @@ fn sunk(
     n
 }
 
-// a where `yes`, else b: of the needs of a subject and an object, that at one end of their flow.
+// (For `inplace`, which calls it.) a where `yes`, else b: of the needs of a subject and an object, that at one end of their flow.
 pub fn chosen(yes: bool, a: u16, b: u16) -> u16
     ensures { result ≡ cond yes a b }
 {
