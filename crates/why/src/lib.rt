@@ -19,7 +19,7 @@ use ways::Way;
 // How many handles a chain has at most.
 pub const STEPS: usize = 95;
 
-// What `kind` says of the thing at the front: a subject, or an object. In no chain it is 0.
+// What `kind` says of the thing at the front: a subject, or an object. In no chain it is 0. (Numbers, and a count beside the places: C programs read this struct.)
 pub const A_SUBJECT: u8 = 1;
 
 pub const AN_OBJECT: u8 = 2;
