@@ -31,45 +31,34 @@ use Rattle.model.proofs.Invariant.Laws.{clean_same}
 use Rattle.model.specs.Figures.{Ready}
 use Rattle.model.specs.Promise.{Meets}
 use Rattle.tables.specs.Needs.{figure_of}
-use Rattle.refusals.specs.Refusing.{late, Refuses, Refused}
+use Rattle.refusals.specs.Refusing.{Refuses, Refused}
+use Rattle.refusals.proofs.Finding.{refused_by, ended_by}
 use Rattle.gatekeeper.specs.declared.Monitor.{Monitor}
 use Rattle.gatekeeper.specs.declared.Reply.{Reply}
-use Rattle.answers.specs.Telling.{told, refuses}
+use Rattle.answers.specs.declared.Refusal.{Refusal}
+use Rattle.answers.specs.Telling.{number_of, told, refuses}
 use Rattle.gatekeeper.specs.View.{used_slots, beside, slots, Steady}
 use Rattle.gatekeeper.specs.Acting.{Fit, Sound, Neat, slotted, Firm, Acts, Keeps, back, settled}
 use Rattle.gatekeeper.proofs.Doing.{Does}
 
 -- ── refused ──
--- by a row that asks whole tables
-pub halts : (m : Monitor) (c : Call) (n : ℕ) (r : Reply) → refusal (slots m) c ≡ some n → r ≡ back m n → Acts m c (told r.answer) r.monitor
-halts m c n r e q = record {
-  answered = ap (λ (z : Reply). told z.answer) q ∙ sym ((answered_refused (slots m) c n).1 e);
-  unchanged = λ k z. ap (λ (z : Reply). z.monitor) q;
-  moved = λ z. absurd (none-ne-some n (sym z ∙ e));
-  kept = λ h. subst (λ (z : Reply). Ready (slots z.monitor) (figure_of z.monitor.needs)) (sym q) h;
-  says = ap (λ (z : Reply). z.monitor.sure) q;
-  numbered = ap (λ (z : Reply). z.monitor.numbers) q;
+-- the monitor goes back as it came
+pub halts : {m : Monitor} {c : Call} {e : Refusal} {r : Reply} → refusal (slots m) c ≡ some (number_of e) → r ≡ back m e → Acts m c (told r.answer) r.monitor
+halts {m} {c} {e} {r} z q = record {
+  answered = ap (λ (x : Reply). told x.answer) q ∙ sym ((answered_refused (slots m) c (number_of e)).1 z);
+  unchanged = λ k i. ap (λ (x : Reply). x.monitor) q;
+  moved = λ i. absurd (none-ne-some (number_of e) (sym i ∙ z));
+  kept = λ h. subst (λ (x : Reply). Ready (slots x.monitor) (figure_of x.monitor.needs)) (sym q) h;
+  says = ap (λ (x : Reply). x.monitor.sure) q;
+  numbered = ap (λ (x : Reply). x.monitor.numbers) q;
 }
 
--- by a row over records
-pub stops : (m : Monitor) (c : Call) (n : ℕ) (r : Reply) → Refuses (slots m) c n → (n ≡ 0 → ⊥) → r ≡ back m n → Acts m c (told r.answer) r.monitor
-stops m c n r z h = halts m c n r (z.said ∙ ap (λ (b : Bool). cond b (first (slots m) (tests c) late) (some n)) (ne_eqb n 0 h))
+-- by a row over records, and by a late one
+pub stops : {m : Monitor} {c : Call} {e : Refusal} {r : Reply} → Refuses (slots m) c (number_of e) → r ≡ back m e → Acts m c (told r.answer) r.monitor
+stops {e = e} z = halts (refused_by e z)
 
--- by a late row
-pub ends : (m : Monitor) (c : Call) (n : ℕ) (r : Reply) → Refused (slots m) c n → (n ≡ 0 → ⊥) → r ≡ back m n → Acts m c (told r.answer) r.monitor
-ends m c n r z h = halts m c n r (z.is ∙ ap (λ (b : Bool). cond b none (some n)) (ne_eqb n 0 h))
-
--- ── allowed ──
--- no row over records refuses: what is left are the late rows
-pub waits : {t : Tables} {c : Call} {n : ℕ} → Refuses t c n → n ≡ 0 → Refuses t c 0
-waits {t} {c} z h = subst (Refuses t c) h z
-
-pub goes : {t : Tables} {c : Call} {n : ℕ} → Refuses t c n → n ≡ 0 → refusal t c ≡ first t (tests c) late
-goes z h = (waits z h).said
-
--- nor does a late row refuse
-pub frees : {t : Tables} {c : Call} {n : ℕ} → Refused t c n → n ≡ 0 → refusal t c ≡ none
-frees {n = n} z h = z.is ∙ ap (λ (b : Bool). cond b none (some n)) (eq-eqb n 0 h)
+pub ends : {m : Monitor} {c : Call} {e : Refusal} {r : Reply} → Refused (slots m) c (number_of e) → r ≡ back m e → Acts m c (told r.answer) r.monitor
+ends {e = e} z = halts (ended_by e z)
 
 -- ── a slot in use, and its entry ──
 pub used_entry : (os : List Object) (i : ℕ) → T (slot_used os i) → T (is_some (object_entry (get_or os i no_object)))
@@ -162,8 +151,8 @@ pub either : {m n : Monitor} {c : Call} {a : Told} {R : Type 0} → (Firm m → 
 either z = (λ f r. z.0 f, λ w r. z.1 w)
 
 -- by a refusal
-pub back_keeps : (m : Monitor) (c : Call) (n : ℕ) (r : Reply) → r ≡ back m n → Wf (slots m) → Keeps m c r.monitor
-back_keeps m c n r q w = subst (λ (x : Reply). Keeps m c x.monitor) (sym q) (record { whole = w; kept = λ h. h; says = refl; numbered = refl; came = λ i u. inl u })
+pub back_keeps : {m : Monitor} {c : Call} {e : Refusal} {r : Reply} → r ≡ back m e → Wf (slots m) → Keeps m c r.monitor
+back_keeps {m} {c} q w = subst (λ (x : Reply). Keeps m c x.monitor) (sym q) (record { whole = w; kept = λ h. h; says = refl; numbered = refl; came = λ i u. inl u })
 
 -- ── steady tables ──
 -- a mapping is a reading handle, whatever the bytes are

@@ -1,4 +1,5 @@
 -- Renumberings for the slots of a call: where each object that the call names has its slot, the call by number is the call by slot, renumbered. Assumes nothing.
+use Rattle.std.proofs.Common.{◌≢◌}
 use mathlib.Core.Path.{◌≡◌, refl, sym, ◌∙◌, ap, ap₂, subst}
 use mathlib.Core.Bool.{Bool, true, false, not, ◌||◌, cond}
 use mathlib.Core.Logic.{◌⊎◌, inl, inr}
@@ -15,8 +16,10 @@ use Rattle.model.specs.Lists.{In, insert}
 use Rattle.model.specs.Lists.Rising.{Rising, insert_in, insert_new, insert_old, insert_rising, insert_length, one_missing, at_least, each_rising, each_of, each_has}
 use Rattle.model.specs.Label.{label}
 use Rattle.model.specs.Flow.{object}
-use Rattle.model.specs.Tables.{file, pipe, entry, Tables}
-use Rattle.model.specs.Calls.{Call, connect, roomy, broken, made, steps}
+use Rattle.model.specs.Tables.{file, pipe, reading, writing, entry, Tables}
+use Rattle.model.specs.Calls.{Call, admit, register, create, make_pipe, opens, maps, access, connect, fork, thread, exec, close, mark, exit, retire, freeze, unknown, decode, sheds, roomy, broken, made, steps}
+use Rattle.model.proofs.Calls.Codes.{decode_by}
+use Rattle.model.proofs.Calls.Listed.{writes_none}
 use Rattle.model.proofs.Calls.Renaming.{Renumbers, call}
 use Rattle.model.specs.Tables.Numbers.{Distinct}
 use Rattle.model.proofs.Calls.Slots.{to, from, renumbers, placed, reseat, unseat, reseats, reseat_here, reseat_there}
@@ -24,7 +27,7 @@ use Rattle.tables.specs.declared.Object.{Object}
 use Rattle.tables.specs.Records.{object_entry, no_object}
 use Rattle.refusals.specs.Refusing.{Room}
 use Rattle.tables.specs.Slots.{slot_used, Absent, Here, Found, Free, Seated}
-use Rattle.gatekeeper.specs.View.{used_slots}
+use Rattle.gatekeeper.specs.View.{used_slots, direct}
 use Rattle.gatekeeper.specs.Numbering.{noted, Both, Lift}
 
 -- a renumbering that gives each slot in use its number
@@ -179,6 +182,30 @@ module _ (os : List Object) (lo : length os ≡ 64) where
     ]
 
 -- ── calls ──
+pub only_one : (i j : ℕ) → (i ≡ j) ⊎ ⊥ → i ≡ j
+only_one i j (inl q) = q
+only_one i j (inr q) = absurd q
+
+-- a call that names no object
+abbrev nameless : Call → Bool
+nameless (admit s n) = true
+nameless (access d s p) = true
+nameless (fork s c) = true
+nameless (thread s c) = true
+nameless (close s p) = true
+nameless (mark s p) = true
+nameless (exit s) = true
+nameless (freeze n) = true
+nameless unknown = true
+nameless (register o n) = false
+nameless (create s o) = false
+nameless (make_pipe s o r w) = false
+nameless (connect s u a b p q) = false
+nameless (opens d s o p) = false
+nameless (maps s o p) = false
+nameless (exec s o) = false
+nameless (retire o) = false
+
 module _ (os : List Object) (ns : List ℕ) (lo : length os ≡ 64) (ln : length ns ≡ 64) (d : Distinct (slot_used os) (λ i. get_or ns i 0) 64) where
   base : Names os ns
   base = record {
@@ -331,3 +358,56 @@ module _ (os : List Object) (ns : List ℕ) (lo : length os ≡ 64) (ln : length
                     in_case : Here os ns e z ⊎ (Absent os ns e × Free os x z) → ⊥
                     in_case (inl h) = clash h.0 h.1 h.2
                     in_case (inr h) = free h.1.is
+
+  -- ── by code ──
+  -- a call that names no object is the same by slot
+  lift_same : (k : Call) → T (nameless k) → Lift os ns k k ns
+  lift_same (admit s n) h = lift_none (admit s n) (λ ρ σ v l. refl) (λ t i z. z) (λ t. tt)
+  lift_same (access reading s p) h = lift_none (access reading s p) (λ ρ σ v l. refl) (λ t i z. z) (λ t. tt)
+  lift_same (access writing s p) h = lift_none (access writing s p) (λ ρ σ v l. refl) (λ t i z. writes_none t s p i z) (λ t. tt)
+  lift_same (fork s c) h = lift_none (fork s c) (λ ρ σ v l. refl) (λ t i z. z) (λ t. tt)
+  lift_same (thread s c) h = lift_none (thread s c) (λ ρ σ v l. refl) (λ t i z. z) (λ t. tt)
+  lift_same (close s p) h = lift_none (close s p) (λ ρ σ v l. refl) (λ t i z. z) (λ t. tt)
+  lift_same (mark s p) h = lift_none (mark s p) (λ ρ σ v l. refl) (λ t i z. z) (λ t. tt)
+  lift_same (exit s) h = lift_none (exit s) (λ ρ σ v l. refl) (λ t i z. z) (λ t. tt)
+  lift_same (freeze n) h = lift_none (freeze n) (λ ρ σ v l. refl) (λ t i z. z) (λ t. tt)
+  lift_same unknown h = lift_none unknown (λ ρ σ v l. refl) (λ t i z. z) (λ t. tt)
+  lift_same (register o n) h = absurd h
+  lift_same (create s o) h = absurd h
+  lift_same (make_pipe s o r w) h = absurd h
+  lift_same (connect s u c d' p q) h = absurd h
+  lift_same (opens d' s o p) h = absurd h
+  lift_same (maps s o p) h = absurd h
+  lift_same (exec s o) h = absurd h
+  lift_same (retire o) h = absurd h
+
+  -- so are those of all codes but nine
+  pub lift_rest : (n a b c d' e f : ℕ) → n ≢ 2 → n ≢ 3 → n ≢ 4 → n ≢ 5 → n ≢ 6 → n ≢ 10 → n ≢ 13 → n ≢ 14 → n ≢ 17
+      → Lift os ns (decode (direct n a b c d' e f)) (decode (direct n a b c d' e f)) ns
+  lift_rest n a b c d' e f n2 n3 n4 n5 n6 n10 n13 n14 n17 = lift_same (decode (direct n a b c d' e f)) (decode_by (λ k. T (nameless k)) (direct n a b c d' e f)
+      (ok, (n2, (n3, (n4, (n5, (n6, (ok, (ok, (ok, (n10, (ok, (ok, (n13, (n14, (ok, (ok, (n17, (ok, tt)))))))))))))))))) (λ m. tt))
+    where
+      ok : {k : ℕ} → n ≡ k → Unit {0}
+      ok q = tt
+
+  -- calls 3 and 4 make an object by their second number, in slot i
+  pub lift_second_made : (n a b c d' e f i : ℕ) → (n ≢ 3 → n ≡ 4) → Seated os ns b 64 i
+      → Lift os ns (decode (direct n a b c d' e f)) (decode (direct n a i c d' e f)) (noted ns i b)
+  unfolding decode
+  lift_second_made n a b c d' e f i h s = go (ℕ_discrete n 3)
+    where
+      go : Dec (n ≡ 3) → Lift os ns (decode (direct n a b c d' e f)) (decode (direct n a i c d' e f)) (noted ns i b)
+      go (yes q) = rw q (lift_made (λ (o : ℕ). create a o) b i s (λ ρ σ v l j. refl) (λ t j z. only_one _ _ z) (λ t r. r))
+      go (no q) = rw (h q) (lift_made (λ (o : ℕ). make_pipe a o c d') b i s (λ ρ σ v l j. refl) (λ t j z. only_one _ _ z) (λ t r. r))
+
+  -- calls 5, 6, 10 and 14 name a live one by theirs
+  pub lift_second_named : (n a b c d' e f i : ℕ) → (n ≢ 5 → n ≢ 6 → n ≢ 10 → n ≡ 14) → Found os ns b i
+      → Lift os ns (decode (direct n a b c d' e f)) (decode (direct n a i c d' e f)) ns
+  unfolding decode sheds
+  lift_second_named n a b c d' e f i h s = go (ℕ_discrete n 5) (ℕ_discrete n 6) (ℕ_discrete n 10)
+    where
+      go : Dec (n ≡ 5) → Dec (n ≡ 6) → Dec (n ≡ 10) → Lift os ns (decode (direct n a b c d' e f)) (decode (direct n a i c d' e f)) ns
+      go (yes q) k l = rw q (lift_named (λ (o : ℕ). opens reading a o c) b i s (λ ρ σ v l j. refl) (λ t j z. z) (λ t. tt))
+      go (no q) (yes k) l = rw k (lift_named (λ (o : ℕ). opens writing a o c) b i s (λ ρ σ v l j. refl) (λ t j z. z) (λ t. tt))
+      go (no q) (no k) (yes l) = rw l (lift_named (λ (o : ℕ). exec a o) b i s (λ ρ σ v l j. refl) (λ t j z. z) (λ t. tt))
+      go (no q) (no k) (no l) = rw (h q k l) (lift_named (λ (o : ℕ). maps a o c) b i s (λ ρ σ v l j. refl) (λ t j z. z) (λ t. tt))

@@ -1,5 +1,5 @@
 -- A call on tables in which nothing dangles, and how its reply is settled for any monitor. No caller of a public function needs these. Assumes nothing.
-use Rattle.std.specs.Prelude.{◌≡◌, Bool, cond, ◌⊎◌, T, ℕ}
+use Rattle.std.specs.Prelude.{◌≡◌, Bool, cond, ◌⊎◌, T, ℕ, Err}
 use Rattle.std.proofs.Math.Option.{none, some}
 use Rattle.model.specs.Lists.{In}
 use Rattle.model.specs.Tables.{clean}
@@ -12,7 +12,7 @@ use Rattle.tables.specs.Needs.{figure_of}
 use Rattle.tables.specs.Slots.{slot_used}
 use Rattle.gatekeeper.specs.declared.Monitor.{Monitor}
 use Rattle.gatekeeper.specs.declared.Reply.{Reply}
-use Rattle.answers.specs.declared.Answer.TheVariants.{Refused}
+use Rattle.answers.specs.declared.Refusal.{Refusal}
 use Rattle.answers.specs.Telling.{told, refuses}
 use Rattle.gatekeeper.specs.View.{slots, Steady}
 
@@ -53,9 +53,9 @@ pub record Keeps (m : Monitor) (c : Call) (n : Monitor) : Type 0 where
   -- a slot that is in use was so, or c makes an object there
   pub came : (i : ℕ) → T (slot_used n.objects i) → T (slot_used m.objects i) ⊎ In i (made (steps (slots m) c))
 
--- a refusal: its number, and the monitor as it came
-abbrev pub back : Monitor → ℕ → Reply
-back m n = record { monitor = m; answer = Refused n }
+-- a refusal, and the monitor as it came
+abbrev pub back : Monitor → Refusal → Reply
+back m e = record { monitor = m; answer = Err e }
 
 -- the reply, or the monitor as it came where that is a refusal
 abbrev pub settled : Monitor → Reply → Reply

@@ -10,16 +10,11 @@ use Rattle.tables.specs.declared.Object.{Object}
 use Rattle.tables.specs.Records.{object_entry, no_object}
 use Rattle.refusals.specs.Refusing.{Room}
 use Rattle.tables.specs.Slots.{slot_used, Seated}
-use Rattle.gatekeeper.specs.declared.seats.Seats.{Seats}
 use Rattle.gatekeeper.specs.View.{used_slots}
 
 -- RULES T39, T42: the numbers ns, but o beside slot i where that is one of the 64
 abbrev pub noted : List ℕ → ℕ → ℕ → List ℕ
 noted ns i o = cond (ltb i 64) (set ns (i % 64) o) ns
-
--- slots for the numbers of a call
-abbrev pub seats : List ℕ → ℕ → ℕ → ℕ → ℕ → Seats
-seats ns a b c d = record { numbers = ns; a = a; b = b; c = c; d = d }
 
 -- two slots for two new objects: one where they have one number, and else two
 pub record Both (os : List Object) (ns : List ℕ) (c d x y : ℕ) : Type 0 where

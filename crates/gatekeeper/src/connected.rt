@@ -7,7 +7,7 @@ ghost use Rattle.gatekeeper.specs.Acting.{Acts};
 ghost use Rattle.refusals.specs.Refusing.{Room};
 
 use crate::{Monitor, Reply};
-use answers::Answer;
+use answers::Granted;
 use tables::{Object, PIPE, looks};
 
 impl Monitor {
@@ -15,20 +15,16 @@ impl Monitor {
     pub(crate) fn connect(mut self, s: u64, u: u64, a: u64, b: u64, p: u64, q: u64) -> Reply
         ensures { Wf (slots self) → Room (slots self) (connect s u a b p q) → Acts self (connect s u a b p q) (told result.answer) result.monitor }
     {
-        let subjects = self.subjects;
-        let objects = self.objects;
-        let held = self.handles;
-        let x = looks::subject_of(subjects, s);
-        let z = looks::subject_of(subjects, u);
-        let y = looks::object_of(objects, a);
-        let v = looks::object_of(objects, b);
-        let h = looks::handle_of(held, s, p);
-        let k = looks::handle_of(held, s, q);
-        let i = looks::handle_of(held, u, p);
-        let j = looks::handle_of(held, u, q);
-        let n = refusals::of_connect(s, u, a, b, p, q, x, z, y, v, h, k, i, j);
-        if n != 0 {
-            return self.refuse(n);
+        let x = self.subject(s);
+        let z = self.subject(u);
+        let y = self.object(a);
+        let v = self.object(b);
+        let h = self.handle(s, p);
+        let k = self.handle(s, q);
+        let i = self.handle(u, p);
+        let j = self.handle(u, q);
+        if let Err(refusal) = refusals::of_connect(s, u, a, b, p, q, x, z, y, v, h, k, i, j) {
+            return self.refuse(refusal);
         }
         let pipe_a = Object {
             kind: PIPE,
@@ -40,23 +36,21 @@ impl Monitor {
             level: z.level,
             shops: z.shops,
         };
-        let one = looks::with_object(objects, a, pipe_a);
+        let one = looks::with_object(self.objects, a, pipe_a);
         let both = looks::with_object(one, b, pipe_b);
-        let joined = handles::with_ends(held, s, p, q, b, a);
+        let joined = handles::with_ends(self.handles, s, p, q, b, a);
         let next = handles::with_ends(joined, u, p, q, a, b);
-        let groups = self.groups;
-        let needs = flows::figures(subjects, groups, both, next);
-        let short = flows::is_short(subjects, both, needs);
-        let late = refusals::last(short, false, false);
-        if late != 0 {
-            return self.refuse(late);
+        let needs = flows::figures(self.subjects, self.groups, both, next);
+        let short = flows::is_short(self.subjects, both, needs);
+        if let Err(refusal) = refusals::last(short, false, false) {
+            return self.refuse(refusal);
         }
         self.objects = both;
         self.handles = next;
         self.needs = needs;
         Reply {
             monitor: self,
-            answer: Answer::Allowed(x.level),
+            answer: Ok(Granted::Allowed(x.level)),
         }
     }
 }

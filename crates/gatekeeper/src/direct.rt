@@ -12,6 +12,7 @@ ghost use Rattle.tables.specs.Slots.{single};
 ghost use Rattle.refusals.specs.Refusing.{Room};
 
 use crate::{Monitor, Reply, SURE, seats};
+use answers::Refusal;
 use tables::slots;
 
 impl Monitor {
@@ -26,12 +27,8 @@ impl Monitor {
         if self.sure == SURE {
             return self;
         }
-        let subjects = self.subjects;
-        let objects = self.objects;
-        let handles = self.handles;
-        let numbers = self.numbers;
-        let single = slots::single(objects, numbers);
-        let kept = handles::cleaned(subjects, single, handles);
+        let single = slots::single(self.objects, self.numbers);
+        let kept = handles::cleaned(self.subjects, single, self.handles);
         self.objects = single;
         self.handles = kept;
         self
@@ -61,7 +58,7 @@ impl Monitor {
             16 => self.freeze(a),
             17 => self.connect(a, b, c, d, e, f),
             18 => self.thread(a, b),
-            _ => self.refuse(1),
+            _ => self.refuse(Refusal::UnknownCode),
         }
     }
 
@@ -73,11 +70,9 @@ impl Monitor {
         ensures { Meets monitors self (decode (direct code a b c d e f)) (told result.answer) result.monitor }
     {
         let mut t = self.readied();
-        let objects = t.objects;
-        let numbers = t.numbers;
-        let s = seats::located(objects, numbers, code, a, b, c, d);
-        let all = s.numbers;
-        t.numbers = all;
+        let s = seats::located(t.objects, t.numbers, code, a, b, c, d);
+        let numbers = s.numbers;
+        t.numbers = numbers;
         let r = t.dispatch(code, s.a, s.b, s.c, s.d, e, f);
         self.settle(r)
     }

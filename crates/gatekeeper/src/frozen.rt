@@ -6,22 +6,20 @@ ghost use Rattle.gatekeeper.specs.View.{slots};
 ghost use Rattle.gatekeeper.specs.Acting.{Acts};
 
 use crate::{Monitor, Reply};
-use answers::Answer;
+use answers::Granted;
 
 impl Monitor {
     // Call 16: the freeze is this number, in place of the one before it.
     pub(crate) fn freeze(mut self, level: u64) -> Reply
         ensures { Wf (slots self) → Acts self (freeze level) (told result.answer) result.monitor }
     {
-        let n = refusals::of_freeze(level);
-        if n != 0 {
-            return self.refuse(n);
+        if let Err(refusal) = refusals::of_freeze(level) {
+            return self.refuse(refusal);
         }
-        let l = (level % 256) as u8;
-        self.freeze = l;
+        self.freeze = (level % 256) as u8;
         Reply {
             monitor: self,
-            answer: Answer::Allowed(l),
+            answer: Ok(Granted::Allowed(self.freeze)),
         }
     }
 }

@@ -6,7 +6,7 @@ ghost use Rattle.gatekeeper.specs.View.{slots};
 ghost use Rattle.gatekeeper.specs.Acting.{Acts};
 
 use crate::{Monitor, Reply};
-use answers::Answer;
+use answers::Granted;
 use tables::{EMPTY, FREE, Handle, OBJECT_NUMBERS, Object, Subject, looks};
 
 impl Monitor {
@@ -14,34 +14,40 @@ impl Monitor {
     pub(crate) fn close(mut self, s: u64, p: u64) -> Reply
         ensures { Wf (slots self) → Acts self (close s p) (told result.answer) result.monitor }
     {
-        let subjects = self.subjects;
-        let objects = self.objects;
-        let held = self.handles;
-        let x = looks::subject_of(subjects, s);
-        let h = looks::handle_of(held, s, p);
-        let n = refusals::of_held(x, h);
-        if n != 0 {
-            return self.refuse(n);
+        let x = self.subject(s);
+        let h = self.handle(s, p);
+        if let Err(refusal) = refusals::of_held(x, h) {
+            return self.refuse(refusal);
         }
-        let gone = Handle {
-            way: EMPTY,
-            object: 0,
-            mark: 0,
-        };
-        let handles = looks::with_handle(held, s, p, gone);
+        let handles = looks::with_handle(
+            self.handles,
+            s,
+            p,
+            Handle {
+                way: EMPTY,
+                object: 0,
+                mark: 0,
+            },
+        );
         let number = h.object as u64;
-        let y = looks::object_of(objects, number);
+        let y = self.object(number);
         let left = handles::outlived(handles, y, h.object);
-        let rest = looks::with_object(objects, number, left);
-        let had = self.needs;
-        let groups = self.groups;
-        let needs = keeping::closed(had, subjects, groups, objects, handles, s, h);
+        let rest = looks::with_object(self.objects, number, left);
+        let needs = keeping::closed(
+            self.needs,
+            self.subjects,
+            self.groups,
+            self.objects,
+            handles,
+            s,
+            h,
+        );
         self.objects = rest;
         self.handles = handles;
         self.needs = needs;
         Reply {
             monitor: self,
-            answer: Answer::Allowed(x.level),
+            answer: Ok(Granted::Allowed(x.level)),
         }
     }
 
@@ -49,32 +55,29 @@ impl Monitor {
     pub(crate) fn exit(mut self, s: u64) -> Reply
         ensures { Wf (slots self) → Acts self (exit s) (told result.answer) result.monitor }
     {
-        let subjects = self.subjects;
-        let x = looks::subject_of(subjects, s);
-        let n = refusals::of_exit(x);
-        if n != 0 {
-            return self.refuse(n);
+        let x = self.subject(s);
+        if let Err(refusal) = refusals::of_exit(x) {
+            return self.refuse(refusal);
         }
-        let objects = self.objects;
-        let before = self.handles;
-        let after = handles::vacated(before, s);
-        let left = handles::reaped(objects, before, after);
-        let gone = Subject {
-            live: 0,
-            level: 0,
-            shops: 0,
-        };
-        let rest = looks::with_subject(subjects, s, gone);
-        let had = self.needs;
-        let groups = self.groups;
-        let needs = keeping::vacated(had, rest, groups, objects, after, s);
+        let after = handles::vacated(self.handles, s);
+        let left = handles::reaped(self.objects, self.handles, after);
+        let rest = looks::with_subject(
+            self.subjects,
+            s,
+            Subject {
+                live: 0,
+                level: 0,
+                shops: 0,
+            },
+        );
+        let needs = keeping::vacated(self.needs, rest, self.groups, self.objects, after, s);
         self.subjects = rest;
         self.objects = left;
         self.handles = after;
         self.needs = needs;
         Reply {
             monitor: self,
-            answer: Answer::Allowed(x.level),
+            answer: Ok(Granted::Allowed(x.level)),
         }
     }
 
@@ -82,29 +85,27 @@ impl Monitor {
     pub(crate) fn retire(mut self, o: u64) -> Reply
         ensures { Wf (slots self) → Acts self (retire o) (told result.answer) result.monitor }
     {
-        let objects = self.objects;
-        let y = looks::object_of(objects, o);
-        let n = refusals::of_retire(y);
-        if n != 0 {
-            return self.refuse(n);
+        let y = self.object(o);
+        if let Err(refusal) = refusals::of_retire(y) {
+            return self.refuse(refusal);
         }
-        let number = (o % OBJECT_NUMBERS) as u8;
-        let handles = self.handles;
-        let busy = handles::is_open(handles, number);
-        let late = refusals::last(false, busy, false);
-        if late != 0 {
-            return self.refuse(late);
+        let busy = handles::is_open(self.handles, (o % OBJECT_NUMBERS) as u8);
+        if let Err(refusal) = refusals::last(false, busy, false) {
+            return self.refuse(refusal);
         }
-        let gone = Object {
-            kind: FREE,
-            level: 0,
-            shops: 0,
-        };
-        let rest = looks::with_object(objects, o, gone);
+        let rest = looks::with_object(
+            self.objects,
+            o,
+            Object {
+                kind: FREE,
+                level: 0,
+                shops: 0,
+            },
+        );
         self.objects = rest;
         Reply {
             monitor: self,
-            answer: Answer::Allowed(y.level),
+            answer: Ok(Granted::Allowed(y.level)),
         }
     }
 }

@@ -6,16 +6,13 @@ ghost use Rattle.model.specs.Tables.{clean, needs};
 ghost use Rattle.gatekeeper.specs.View.{view, Right, kept_need, KeptAt, Righted, Assured};
 
 use crate::{Monitor, SURE};
-use tables::{OBJECT_NUMBERS, looks, slots};
+use tables::{OBJECT_NUMBERS, slots};
 
 // What a monitor may say of itself, whose needs are right and in which nothing dangles: that it is sure, unless some label is below its need.
 fn earned(short: bool) -> u8
     ensures { result ≡ cond short 0 1 }
 {
-    if short {
-        return 0;
-    }
-    SURE
+    if short { 0 } else { SURE }
 }
 
 impl Monitor {
@@ -24,42 +21,32 @@ impl Monitor {
         ensures kept { result ≡ kept_need self s }
         ensures right { Right self → coded result ≡ needs (clean (view self)) (subject s) }
     {
-        let subjects = self.subjects;
-        let x = looks::subject_of(subjects, s);
+        let x = self.subject(s);
         if x.live == 0 {
             return 0;
         }
-        let n = self.needs;
-        keeping::of_subject(n, s)
+        keeping::of_subject(self.needs, s)
     }
 
     pub fn need_of_object(self, o: u64) -> u16
         ensures kept { KeptAt self o result }
         ensures right { Right self → coded result ≡ needs (clean (view self)) (object o) }
     {
-        let objects = self.objects;
-        let numbers = self.numbers;
-        let single = slots::single(objects, numbers);
-        let i = slots::slot_of(single, numbers, o);
+        let single = slots::single(self.objects, self.numbers);
+        let i = slots::slot_of(single, self.numbers, o);
         if OBJECT_NUMBERS <= i {
             return 0;
         }
-        let n = self.needs;
-        keeping::of_object(n, i)
+        keeping::of_object(self.needs, i)
     }
 
     // This monitor with its needs worked out anew, whatever they were. All else stays as it is, the free part too.
     pub fn righted(mut self) -> Monitor
         ensures { Righted self result }
     {
-        let subjects = self.subjects;
-        let objects = self.objects;
-        let handles = self.handles;
-        let numbers = self.numbers;
-        let single = slots::single(objects, numbers);
-        let counted = handles::cleaned(subjects, single, handles);
-        let groups = self.groups;
-        let needs = flows::figures(subjects, groups, single, counted);
+        let single = slots::single(self.objects, self.numbers);
+        let counted = handles::cleaned(self.subjects, single, self.handles);
+        let needs = flows::figures(self.subjects, self.groups, single, counted);
         self.needs = needs;
         self
     }
@@ -69,15 +56,10 @@ impl Monitor {
     pub fn assured(mut self) -> Monitor
         ensures { Assured self result }
     {
-        let subjects = self.subjects;
-        let objects = self.objects;
-        let handles = self.handles;
-        let numbers = self.numbers;
-        let single = slots::single(objects, numbers);
-        let emptied = handles::cleaned(subjects, single, handles);
-        let groups = self.groups;
-        let needs = flows::figures(subjects, groups, single, emptied);
-        let short = flows::is_short(subjects, single, needs);
+        let single = slots::single(self.objects, self.numbers);
+        let emptied = handles::cleaned(self.subjects, single, self.handles);
+        let needs = flows::figures(self.subjects, self.groups, single, emptied);
+        let short = flows::is_short(self.subjects, single, needs);
         self.objects = single;
         self.handles = emptied;
         self.needs = needs;

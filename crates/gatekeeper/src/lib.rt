@@ -5,15 +5,18 @@
 // names, also for crate `why`, which goes by slot, too; `direct` has the direct call, for every monitor value; `kept` the needs that are kept beside the tables.
 #![tactic(auto)]
 
-ghost use Rattle.std.specs.Prelude.{◌≡◌};
+ghost use Rattle.std.specs.Prelude.{◌≡◌, ◌%◌, get_or};
+ghost use Rattle.model.specs.Flow.{subject, object};
 ghost use Rattle.model.specs.Tables.{empty};
-ghost use Rattle.gatekeeper.specs.View.{view, Honest, Right};
+ghost use Rattle.tables.specs.Records.{subject_entry, object_entry, held, no_object};
+ghost use Rattle.tables.specs.Working.{object_at};
+ghost use Rattle.gatekeeper.specs.View.{view, slots, Honest, Right};
 ghost use Rattle.gatekeeper.specs.Acting.{back, settled, way_by};
 
-use answers::Answer;
+use answers::{Answer, Refusal};
 use tables::{
     EMPTY, FREE, HANDLES, Handle, NO_FREEZE, OBJECTS, Object, READS, SUBJECTS, Subject, THINGS,
-    WRITES,
+    WRITES, looks,
 };
 
 mod connected;
@@ -56,10 +59,7 @@ pub struct Reply {
 fn way_of(reads: bool) -> u8
     ensures { result ≡ way_by reads }
 {
-    if reads {
-        return READS;
-    }
-    WRITES
+    if reads { READS } else { WRITES }
 }
 
 impl Monitor {
@@ -89,22 +89,42 @@ impl Monitor {
         Monitor {
             numbers: [0; OBJECTS],
             needs: [0; THINGS],
-            subjects: subjects,
-            objects: objects,
-            handles: handles,
+            subjects,
+            objects,
+            handles,
             freeze: NO_FREEZE,
             groups: [0; SUBJECTS],
             sure: SURE,
         }
     }
 
+    // The record of subject s, and of the object in slot o, and the one at place p of subject s: one that is not in use where the number is out of range.
+    fn subject(self, s: u64) -> Subject
+        ensures { (slots self).at (subject s) ≡ subject_entry result }
+    {
+        looks::subject_of(self.subjects, s)
+    }
+
+    fn object(self, o: u64) -> Object
+        ensures is { result ≡ object_at o (get_or self.objects (o % 64) no_object) }
+        ensures stands { (slots self).at (object o) ≡ object_entry result }
+    {
+        looks::object_of(self.objects, o)
+    }
+
+    fn handle(self, s: u64, p: u64) -> Handle
+        ensures { (slots self).hand s p ≡ held result }
+    {
+        looks::handle_of(self.handles, s, p)
+    }
+
     // A refusal, with the monitor as it came.
-    fn refuse(self, n: u8) -> Reply
-        ensures { result ≡ back self n }
+    fn refuse(self, refusal: Refusal) -> Reply
+        ensures { result ≡ back self refusal }
     {
         Reply {
             monitor: self,
-            answer: Answer::Refused(n),
+            answer: Err(refusal),
         }
     }
 
@@ -112,12 +132,8 @@ impl Monitor {
     fn settle(self, r: Reply) -> Reply
         ensures { result ≡ settled self r }
     {
-        let answer = r.answer;
-        if answers::is_refused(answer) {
-            return Reply {
-                monitor: self,
-                answer: answer,
-            };
+        if answers::is_refused(r.answer) {
+            return Reply { monitor: self, ..r };
         }
         r
     }

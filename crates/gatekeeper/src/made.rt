@@ -5,43 +5,36 @@ ghost use Rattle.answers.specs.Telling.{told};
 ghost use Rattle.model.specs.Invariant.{Wf};
 ghost use Rattle.gatekeeper.specs.View.{slots};
 ghost use Rattle.gatekeeper.specs.Acting.{Firm, Acts, Keeps};
-ghost use Rattle.refusals.specs.Refusing.{direction};
 ghost use Rattle.refusals.specs.Refusing.{Room, direction};
 
 use crate::{Monitor, Reply, SURE};
-use answers::Answer;
-use tables::{FILE, Handle, Object, PIPE, Subject, looks};
+use answers::Granted;
+use tables::{FILE, Handle, Object, PIPE, READS, Subject, WRITES, looks};
 
 impl Monitor {
     // Call 1: a new subject from outside, in a group of its own, with no handles, and so with no need.
     pub(crate) fn admit(mut self, s: u64, level: u64, shops: u64) -> Reply
         ensures { Wf (slots self) → Acts self (admit s (label level shops)) (told result.answer) result.monitor }
     {
-        let before = self.subjects;
-        let x = looks::subject_of(before, s);
-        let n = refusals::of_admit(s, level, shops, x);
-        if n != 0 {
-            return self.refuse(n);
+        let x = self.subject(s);
+        if let Err(refusal) = refusals::of_admit(s, level, shops, x) {
+            return self.refuse(refusal);
         }
-        let l = (level % 256) as u8;
-        let z = (shops % 256) as u8;
         let new = Subject {
             live: 1,
-            level: l,
-            shops: z,
+            level: (level % 256) as u8,
+            shops: (shops % 256) as u8,
         };
-        let after = looks::with_subject(before, s, new);
-        let groups = self.groups;
-        let own = groups::fresh(before, groups);
-        let alone = groups::with(groups, s, own);
-        let had = self.needs;
-        let needs = keeping::with_subject(had, s, 0);
+        let after = looks::with_subject(self.subjects, s, new);
+        let own = groups::fresh(self.subjects, self.groups);
+        let alone = groups::with(self.groups, s, own);
+        let needs = keeping::with_subject(self.needs, s, 0);
         self.subjects = after;
         self.groups = alone;
         self.needs = needs;
         Reply {
             monitor: self,
-            answer: Answer::Allowed(l),
+            answer: Ok(Granted::Allowed(new.level)),
         }
     }
 
@@ -50,27 +43,22 @@ impl Monitor {
         ensures { Wf (slots self) → Room (slots self) (register o (label level shops)) →
             Acts self (register o (label level shops)) (told result.answer) result.monitor }
     {
-        let before = self.objects;
-        let y = looks::object_of(before, o);
-        let n = refusals::of_register(o, level, shops, y);
-        if n != 0 {
-            return self.refuse(n);
+        let y = self.object(o);
+        if let Err(refusal) = refusals::of_register(o, level, shops, y) {
+            return self.refuse(refusal);
         }
-        let l = (level % 256) as u8;
-        let z = (shops % 256) as u8;
         let new = Object {
             kind: FILE,
-            level: l,
-            shops: z,
+            level: (level % 256) as u8,
+            shops: (shops % 256) as u8,
         };
-        let after = looks::with_object(before, o, new);
-        let had = self.needs;
-        let needs = keeping::with_object(had, o, labels::code(l, z));
+        let after = looks::with_object(self.objects, o, new);
+        let needs = keeping::with_object(self.needs, o, labels::code(new.level, new.shops));
         self.objects = after;
         self.needs = needs;
         Reply {
             monitor: self,
-            answer: Answer::Allowed(l),
+            answer: Ok(Granted::Allowed(new.level)),
         }
     }
 
@@ -78,27 +66,23 @@ impl Monitor {
     pub(crate) fn create(mut self, s: u64, o: u64) -> Reply
         ensures { Wf (slots self) → Room (slots self) (create s o) → Acts self (create s o) (told result.answer) result.monitor }
     {
-        let subjects = self.subjects;
-        let before = self.objects;
-        let x = looks::subject_of(subjects, s);
-        let y = looks::object_of(before, o);
-        let n = refusals::of_create(o, x, y);
-        if n != 0 {
-            return self.refuse(n);
+        let x = self.subject(s);
+        let y = self.object(o);
+        if let Err(refusal) = refusals::of_create(o, x, y) {
+            return self.refuse(refusal);
         }
         let new = Object {
             kind: FILE,
             level: x.level,
             shops: x.shops,
         };
-        let after = looks::with_object(before, o, new);
-        let had = self.needs;
-        let needs = keeping::with_object(had, o, looks::subject_label(x));
+        let after = looks::with_object(self.objects, o, new);
+        let needs = keeping::with_object(self.needs, o, looks::subject_label(x));
         self.objects = after;
         self.needs = needs;
         Reply {
             monitor: self,
-            answer: Answer::Allowed(x.level),
+            answer: Ok(Granted::Allowed(x.level)),
         }
     }
 
@@ -106,32 +90,27 @@ impl Monitor {
     pub(crate) fn pipe(mut self, s: u64, o: u64, r: u64, w: u64) -> Reply
         ensures { Wf (slots self) → Room (slots self) (make_pipe s o r w) → Acts self (make_pipe s o r w) (told result.answer) result.monitor }
     {
-        let subjects = self.subjects;
-        let before = self.objects;
-        let held = self.handles;
-        let x = looks::subject_of(subjects, s);
-        let y = looks::object_of(before, o);
-        let h = looks::handle_of(held, s, r);
-        let k = looks::handle_of(held, s, w);
-        let n = refusals::of_pipe(o, r, w, x, y, h, k);
-        if n != 0 {
-            return self.refuse(n);
+        let x = self.subject(s);
+        let y = self.object(o);
+        let h = self.handle(s, r);
+        let k = self.handle(s, w);
+        if let Err(refusal) = refusals::of_pipe(o, r, w, x, y, h, k) {
+            return self.refuse(refusal);
         }
         let new = Object {
             kind: PIPE,
             level: x.level,
             shops: x.shops,
         };
-        let after = looks::with_object(before, o, new);
-        let joined = handles::with_ends(held, s, r, w, o, o);
-        let had = self.needs;
-        let needs = keeping::with_object(had, o, keeping::of_subject(had, s));
+        let after = looks::with_object(self.objects, o, new);
+        let joined = handles::with_ends(self.handles, s, r, w, o, o);
+        let needs = keeping::with_object(self.needs, o, keeping::of_subject(self.needs, s));
         self.objects = after;
         self.handles = joined;
         self.needs = needs;
         Reply {
             monitor: self,
-            answer: Answer::Allowed(x.level),
+            answer: Ok(Granted::Allowed(x.level)),
         }
     }
 
@@ -140,34 +119,35 @@ impl Monitor {
         ensures acts { Firm self → Acts self (opens (direction reads) s o p) (told result.answer) result.monitor }
         ensures keeps { Wf (slots self) → Keeps self (opens (direction reads) s o p) result.monitor }
     {
-        let subjects = self.subjects;
-        let objects = self.objects;
-        let held = self.handles;
-        let x = looks::subject_of(subjects, s);
-        let y = looks::object_of(objects, o);
-        let h = looks::handle_of(held, s, p);
-        let n = refusals::of_open(p, x, y, h);
-        if n != 0 {
-            return self.refuse(n);
+        let x = self.subject(s);
+        let y = self.object(o);
+        let h = self.handle(s, p);
+        if let Err(refusal) = refusals::of_open(p, x, y, h) {
+            return self.refuse(refusal);
         }
-        let way = crate::way_of(reads);
-        let put = looks::joining(way, o);
-        let next = looks::with_handle(held, s, p, put);
-        let had = self.needs;
+        let put = looks::joining(crate::way_of(reads), o);
+        let next = looks::with_handle(self.handles, s, p, put);
         let sure = self.sure == SURE;
-        let groups = self.groups;
-        let w = keeping::opened(sure, had, subjects, groups, objects, next, s, put);
+        let w = keeping::opened(
+            sure,
+            self.needs,
+            self.subjects,
+            self.groups,
+            self.objects,
+            next,
+            s,
+            put,
+        );
         let frozen = refusals::is_frozen(self.freeze, reads, y);
-        let late = refusals::last(w.short, false, frozen);
-        if late != 0 {
-            return self.refuse(late);
+        if let Err(refusal) = refusals::last(w.short, false, frozen) {
+            return self.refuse(refusal);
         }
         let needs = w.needs;
         self.handles = next;
         self.needs = needs;
         Reply {
             monitor: self,
-            answer: Answer::Allowed(y.level),
+            answer: Ok(Granted::Allowed(y.level)),
         }
     }
 
@@ -175,33 +155,28 @@ impl Monitor {
     pub(crate) fn fork(mut self, s: u64, c: u64) -> Reply
         ensures { Wf (slots self) → Acts self (fork s c) (told result.answer) result.monitor }
     {
-        let before = self.subjects;
-        let x = looks::subject_of(before, s);
-        let z = looks::subject_of(before, c);
-        let n = refusals::of_fork(c, x, z);
-        if n != 0 {
-            return self.refuse(n);
+        let x = self.subject(s);
+        let z = self.subject(c);
+        if let Err(refusal) = refusals::of_fork(c, x, z) {
+            return self.refuse(refusal);
         }
         let new = Subject {
             live: 1,
             level: x.level,
             shops: x.shops,
         };
-        let after = looks::with_subject(before, c, new);
-        let held = self.handles;
-        let all = handles::forked(held, s, c);
-        let groups = self.groups;
-        let own = groups::fresh(before, groups);
-        let alone = groups::with(groups, c, own);
-        let had = self.needs;
-        let needs = keeping::with_subject(had, c, keeping::own(had, held, s));
+        let after = looks::with_subject(self.subjects, c, new);
+        let all = handles::forked(self.handles, s, c);
+        let own = groups::fresh(self.subjects, self.groups);
+        let alone = groups::with(self.groups, c, own);
+        let needs = keeping::with_subject(self.needs, c, keeping::own(self.needs, self.handles, s));
         self.subjects = after;
         self.handles = all;
         self.groups = alone;
         self.needs = needs;
         Reply {
             monitor: self,
-            answer: Answer::Allowed(x.level),
+            answer: Ok(Granted::Allowed(x.level)),
         }
     }
 
@@ -209,29 +184,25 @@ impl Monitor {
     pub(crate) fn thread(mut self, s: u64, c: u64) -> Reply
         ensures { Wf (slots self) → Acts self (thread s c) (told result.answer) result.monitor }
     {
-        let before = self.subjects;
-        let x = looks::subject_of(before, s);
-        let z = looks::subject_of(before, c);
-        let n = refusals::of_fork(c, x, z);
-        if n != 0 {
-            return self.refuse(n);
+        let x = self.subject(s);
+        let z = self.subject(c);
+        if let Err(refusal) = refusals::of_fork(c, x, z) {
+            return self.refuse(refusal);
         }
         let new = Subject {
             live: 1,
             level: x.level,
             shops: x.shops,
         };
-        let after = looks::with_subject(before, c, new);
-        let groups = self.groups;
-        let joined = groups::with(groups, c, groups::of(groups, s));
-        let had = self.needs;
-        let needs = keeping::with_subject(had, c, keeping::of_subject(had, s));
+        let after = looks::with_subject(self.subjects, c, new);
+        let joined = groups::with(self.groups, c, groups::of(self.groups, s));
+        let needs = keeping::with_subject(self.needs, c, keeping::of_subject(self.needs, s));
         self.subjects = after;
         self.groups = joined;
         self.needs = needs;
         Reply {
             monitor: self,
-            answer: Answer::Allowed(x.level),
+            answer: Ok(Granted::Allowed(x.level)),
         }
     }
 
@@ -239,24 +210,16 @@ impl Monitor {
     pub(crate) fn mark(mut self, s: u64, p: u64) -> Reply
         ensures { Wf (slots self) → Acts self (mark s p) (told result.answer) result.monitor }
     {
-        let subjects = self.subjects;
-        let held = self.handles;
-        let x = looks::subject_of(subjects, s);
-        let h = looks::handle_of(held, s, p);
-        let n = refusals::of_held(x, h);
-        if n != 0 {
-            return self.refuse(n);
+        let x = self.subject(s);
+        let h = self.handle(s, p);
+        if let Err(refusal) = refusals::of_held(x, h) {
+            return self.refuse(refusal);
         }
-        let marked = Handle {
-            way: h.way,
-            object: h.object,
-            mark: 1,
-        };
-        let all = looks::with_handle(held, s, p, marked);
+        let all = looks::with_handle(self.handles, s, p, Handle { mark: 1, ..h });
         self.handles = all;
         Reply {
             monitor: self,
-            answer: Answer::Allowed(x.level),
+            answer: Ok(Granted::Allowed(x.level)),
         }
     }
 }

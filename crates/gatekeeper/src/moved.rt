@@ -16,8 +16,7 @@ use tables::{MAPS, READS, looks};
 fn is_less(a: u16, b: u16) -> bool
     ensures { result ≡ not (leq (coded b) (coded a)) }
 {
-    let enough = labels::is_at_most(b, a);
-    !enough
+    !labels::is_at_most(b, a)
 }
 
 impl Monitor {
@@ -25,20 +24,14 @@ impl Monitor {
     pub(crate) fn read(mut self, s: u64, p: u64) -> Reply
         ensures { Wf (slots self) → Acts self (access reading s p) (told result.answer) result.monitor }
     {
-        let before = self.subjects;
-        let held = self.handles;
-        let x = looks::subject_of(before, s);
-        let h = looks::handle_of(held, s, p);
-        let n = refusals::of_read(x, h);
-        if n != 0 {
-            return self.refuse(n);
+        let x = self.subject(s);
+        let h = self.handle(s, p);
+        if let Err(refusal) = refusals::of_read(x, h) {
+            return self.refuse(refusal);
         }
-        let number = h.object as u64;
-        let objects = self.objects;
-        let y = looks::object_of(objects, number);
+        let y = self.object(h.object as u64);
         let put = looks::fallen(x, y.level, y.shops);
-        let groups = self.groups;
-        let t = mappings::taken(before, groups, s, y.level, y.shops);
+        let t = mappings::taken(self.subjects, self.groups, s, y.level, y.shops);
         let after = t.subjects;
         self.subjects = after;
         let lost = labels::lost(x.shops, put.shops);
@@ -52,30 +45,26 @@ impl Monitor {
     pub(crate) fn write(mut self, s: u64, p: u64) -> Reply
         ensures { Wf (slots self) → Acts self (access writing s p) (told result.answer) result.monitor }
     {
-        let before = self.subjects;
-        let held = self.handles;
-        let x = looks::subject_of(before, s);
-        let h = looks::handle_of(held, s, p);
-        let n = refusals::of_write(x, h);
-        if n != 0 {
-            return self.refuse(n);
+        let x = self.subject(s);
+        let h = self.handle(s, p);
+        if let Err(refusal) = refusals::of_write(x, h) {
+            return self.refuse(refusal);
         }
+        let before = self.subjects;
         let number = h.object as u64;
-        let objects = self.objects;
-        let y = looks::object_of(objects, number);
+        let y = self.object(number);
         let put = looks::sunken(y, x.level, x.shops);
-        let groups = self.groups;
-        let readers = mappings::reread(before, groups, held, y, h.object);
+        let readers = mappings::reread(before, self.groups, self.handles, y, h.object);
         let sank = is_less(looks::object_label(put), looks::object_label(y));
         let lost = labels::lost(y.shops, put.shops);
         let lower = mappings::is_lower(before, readers);
-        let either = looks::either(sank, lower);
-        let rest = looks::with_object(objects, number, put);
+        let fell = sank || lower;
+        let rest = looks::with_object(self.objects, number, put);
         self.subjects = readers;
         self.objects = rest;
         Reply {
             monitor: self,
-            answer: answers::not_refused(either, put.level, lost),
+            answer: answers::not_refused(fell, put.level, lost),
         }
     }
 
@@ -84,29 +73,24 @@ impl Monitor {
     pub(crate) fn exec(mut self, s: u64, o: u64) -> Reply
         ensures { Wf (slots self) → Acts self (exec s o) (told result.answer) result.monitor }
     {
-        let subjects = self.subjects;
-        let objects = self.objects;
-        let x = looks::subject_of(subjects, s);
-        let y = looks::object_of(objects, o);
-        let n = refusals::of_exec(x, y);
-        if n != 0 {
-            return self.refuse(n);
+        let x = self.subject(s);
+        let y = self.object(o);
+        if let Err(refusal) = refusals::of_exec(x, y) {
+            return self.refuse(refusal);
         }
         let before = self.handles;
-        let groups = self.groups;
-        let a = groups::alone(subjects, groups, before, s);
+        let a = groups::alone(self.subjects, self.groups, before, s);
         let own = a.subjects;
         let after = a.handles;
-        let needs = flows::figures(own, groups, objects, after);
+        let needs = flows::figures(own, self.groups, self.objects, after);
         let need = keeping::of_subject(needs, s);
         let short = is_less(looks::object_label(y), need);
-        let late = refusals::last(short, false, false);
-        if late != 0 {
-            return self.refuse(late);
+        if let Err(refusal) = refusals::last(short, false, false) {
+            return self.refuse(refusal);
         }
         let put = looks::fallen(x, y.level, y.shops);
         let ran = looks::with_subject(own, s, put);
-        let left = handles::reaped(objects, before, after);
+        let left = handles::reaped(self.objects, before, after);
         self.subjects = ran;
         self.objects = left;
         self.handles = after;
@@ -124,39 +108,40 @@ impl Monitor {
         ensures acts { Firm self → Acts self (maps s o p) (told result.answer) result.monitor }
         ensures keeps { Wf (slots self) → Keeps self (maps s o p) result.monitor }
     {
-        let subjects = self.subjects;
-        let objects = self.objects;
-        let held = self.handles;
-        let x = looks::subject_of(subjects, s);
-        let y = looks::object_of(objects, o);
-        let h = looks::handle_of(held, s, p);
-        let n = refusals::of_map(p, x, y, h);
-        if n != 0 {
-            return self.refuse(n);
+        let x = self.subject(s);
+        let y = self.object(o);
+        let h = self.handle(s, p);
+        if let Err(refusal) = refusals::of_map(p, x, y, h) {
+            return self.refuse(refusal);
         }
         let opened = looks::joining(READS, o);
-        let next = looks::with_handle(held, s, p, opened);
-        let had = self.needs;
+        let next = looks::with_handle(self.handles, s, p, opened);
         let sure = self.sure == SURE;
-        let groups = self.groups;
-        let w = keeping::opened(sure, had, subjects, groups, objects, next, s, opened);
-        let late = refusals::last(w.short, false, false);
-        if late != 0 {
-            return self.refuse(late);
+        let w = keeping::opened(
+            sure,
+            self.needs,
+            self.subjects,
+            self.groups,
+            self.objects,
+            next,
+            s,
+            opened,
+        );
+        if let Err(refusal) = refusals::last(w.short, false, false) {
+            return self.refuse(refusal);
         }
         let needs = w.needs;
         let put = looks::fallen(x, y.level, y.shops);
-        let t = mappings::taken(subjects, groups, s, y.level, y.shops);
-        let after = t.subjects;
-        let mapping = looks::joining(MAPS, o);
-        let all = looks::with_handle(held, s, p, mapping);
+        let fell = mappings::taken(self.subjects, self.groups, s, y.level, y.shops);
+        let after = fell.subjects;
+        let all = looks::with_handle(self.handles, s, p, looks::joining(MAPS, o));
         self.subjects = after;
         self.handles = all;
         self.needs = needs;
         let lost = labels::lost(x.shops, put.shops);
         Reply {
             monitor: self,
-            answer: answers::not_refused(t.lower, put.level, lost),
+            answer: answers::not_refused(fell.lower, put.level, lost),
         }
     }
 }

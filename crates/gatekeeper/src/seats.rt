@@ -1,10 +1,10 @@
 // The slots of the objects that a call names by their numbers.
-ghost use Rattle.std.specs.Prelude.{◌≡◌, ℕ, cond, get_or, ltb};
+ghost use Rattle.std.specs.Prelude.{◌≡◌, ℕ, get_or};
 ghost use Rattle.model.specs.Calls.{decode};
 ghost use Rattle.model.specs.Tables.Numbers.{Distinct};
-ghost use Rattle.tables.specs.Slots.{slot_used, Found, Seated};
+ghost use Rattle.tables.specs.Slots.{slot_used, Seated};
 ghost use Rattle.gatekeeper.specs.View.{direct};
-ghost use Rattle.gatekeeper.specs.Numbering.{noted, seats, Both, Lift};
+ghost use Rattle.gatekeeper.specs.Numbering.{noted, Both, Lift};
 
 use tables::{OBJECT_NUMBERS, OBJECTS, Object, slots};
 
@@ -18,191 +18,75 @@ pub struct Seats {
     pub d: u64,
 }
 
+// The slot of a second new object where none is left for it: that of no other, so that the two differ.
+const NO_SLOT: u64 = OBJECT_NUMBERS + 1;
+
 fn noted(mut numbers: [u64; OBJECTS], i: u64, o: u64) -> [u64; OBJECTS]
     ensures { result ≡ noted numbers i o }
 {
-    if OBJECT_NUMBERS <= i {
-        return numbers;
+    if i < OBJECT_NUMBERS {
+        numbers[i as usize] = o;
     }
-    let j = (i % OBJECT_NUMBERS) as usize;
-    numbers[j] = o;
     numbers
 }
 
-// Slot i, or one that no other slot is.
-fn other(i: u64) -> u64
-    ensures { result ≡ cond (ltb i 64) i 65 }
+// The slot of a new object of number o, which is noted beside it.
+fn makes(objects: [Object; OBJECTS], numbers: &mut [u64; OBJECTS], o: u64) -> u64
+    ensures seat { Seated objects numbers.old o 64 result }
+    ensures noted { numbers.new ≡ noted numbers.old result o }
 {
-    if OBJECT_NUMBERS <= i {
-        return 65;
-    }
+    let i = slots::seat_of(objects, *numbers, o, OBJECT_NUMBERS);
+    *numbers = noted(*numbers, i, o);
     i
 }
 
-// A new object by the first number, or by the second.
-fn makes_first(
-    objects: [Object; OBJECTS],
-    numbers: [u64; OBJECTS],
-    a: u64,
-    b: u64,
-    c: u64,
-    d: u64,
-) -> Seats
-    ensures { (i : ℕ) × Seated objects numbers a 64 i × (result ≡ seats (noted numbers i a) i b c d) }
-{
-    let i = slots::seat_of(objects, numbers, a, OBJECT_NUMBERS);
-    let all = noted(numbers, i, a);
-    Seats {
-        numbers: all,
-        a: i,
-        b: b,
-        c: c,
-        d: d,
-    }
-}
-
-fn makes_second(
-    objects: [Object; OBJECTS],
-    numbers: [u64; OBJECTS],
-    a: u64,
-    b: u64,
-    c: u64,
-    d: u64,
-) -> Seats
-    ensures { (i : ℕ) × Seated objects numbers b 64 i × (result ≡ seats (noted numbers i b) a i c d) }
-{
-    let i = slots::seat_of(objects, numbers, b, OBJECT_NUMBERS);
-    let all = noted(numbers, i, b);
-    Seats {
-        numbers: all,
-        a: a,
-        b: i,
-        c: c,
-        d: d,
-    }
-}
-
-// Two new objects, by the third number and the fourth.
+// The slots of two new objects of the numbers c and d, which are noted beside them.
 fn makes_both(
     objects: [Object; OBJECTS],
-    numbers: [u64; OBJECTS],
-    a: u64,
-    b: u64,
+    numbers: &mut [u64; OBJECTS],
     c: u64,
     d: u64,
-) -> Seats
-    ensures { (x y : ℕ) × Both objects numbers c d x y × (result ≡ seats (noted (noted numbers x c) y d) a b x y) }
+) -> (u64, u64)
+    ensures seats { Both objects numbers.old c d result.0 result.1 }
+    ensures noted { numbers.new ≡ noted (noted numbers.old result.0 c) result.1 d }
 {
-    let x = slots::seat_of(objects, numbers, c, OBJECT_NUMBERS);
-    let one = noted(numbers, x, c);
-    if c == d {
-        let same = noted(one, x, d);
-        return Seats {
-            numbers: same,
-            a: a,
-            b: b,
-            c: x,
-            d: x,
-        };
+    let x = slots::seat_of(objects, *numbers, c, OBJECT_NUMBERS);
+    let mut y = x;
+    if c != d {
+        let z = slots::seat_of(objects, *numbers, d, x);
+        y = if z < OBJECT_NUMBERS { z } else { NO_SLOT };
     }
-    let z = slots::seat_of(objects, numbers, d, x);
-    let y = other(z);
-    let two = noted(one, y, d);
-    Seats {
-        numbers: two,
-        a: a,
-        b: b,
-        c: x,
-        d: y,
-    }
-}
-
-// A live object by the first number, or by the second.
-fn names_first(
-    objects: [Object; OBJECTS],
-    numbers: [u64; OBJECTS],
-    a: u64,
-    b: u64,
-    c: u64,
-    d: u64,
-) -> Seats
-    ensures { (i : ℕ) × Found objects numbers a i × (result ≡ seats numbers i b c d) }
-{
-    let i = slots::slot_of(objects, numbers, a);
-    Seats {
-        numbers: numbers,
-        a: i,
-        b: b,
-        c: c,
-        d: d,
-    }
-}
-
-fn names_second(
-    objects: [Object; OBJECTS],
-    numbers: [u64; OBJECTS],
-    a: u64,
-    b: u64,
-    c: u64,
-    d: u64,
-) -> Seats
-    ensures { (i : ℕ) × Found objects numbers b i × (result ≡ seats numbers a i c d) }
-{
-    let i = slots::slot_of(objects, numbers, b);
-    Seats {
-        numbers: numbers,
-        a: a,
-        b: i,
-        c: c,
-        d: d,
-    }
-}
-
-// No object.
-fn names_none(numbers: [u64; OBJECTS], a: u64, b: u64, c: u64, d: u64) -> Seats
-    ensures { result ≡ seats numbers a b c d }
-{
-    Seats {
-        numbers: numbers,
-        a: a,
-        b: b,
-        c: c,
-        d: d,
-    }
+    *numbers = noted(*numbers, x, c);
+    *numbers = noted(*numbers, y, d);
+    (x, y)
 }
 
 // The slots for the numbers of a call, by its code.
 pub fn located(
     objects: [Object; OBJECTS],
-    numbers: [u64; OBJECTS],
+    mut numbers: [u64; OBJECTS],
     code: u64,
-    a: u64,
-    b: u64,
-    c: u64,
-    d: u64,
+    mut a: u64,
+    mut b: u64,
+    mut c: u64,
+    mut d: u64,
 ) -> Seats
     ensures { (e f : ℕ) → Distinct (slot_used objects) (λ i. get_or numbers i 0) 64 →
         Lift objects numbers (decode (direct code a b c d e f)) (decode (direct code result.a result.b result.c result.d e f)) result.numbers }
 {
     match code {
-        1 => names_none(numbers, a, b, c, d),
-        2 => makes_first(objects, numbers, a, b, c, d),
-        3 => makes_second(objects, numbers, a, b, c, d),
-        4 => makes_second(objects, numbers, a, b, c, d),
-        5 => names_second(objects, numbers, a, b, c, d),
-        6 => names_second(objects, numbers, a, b, c, d),
-        7 => names_none(numbers, a, b, c, d),
-        8 => names_none(numbers, a, b, c, d),
-        9 => names_none(numbers, a, b, c, d),
-        10 => names_second(objects, numbers, a, b, c, d),
-        11 => names_none(numbers, a, b, c, d),
-        12 => names_none(numbers, a, b, c, d),
-        13 => names_first(objects, numbers, a, b, c, d),
-        14 => names_second(objects, numbers, a, b, c, d),
-        15 => names_none(numbers, a, b, c, d),
-        16 => names_none(numbers, a, b, c, d),
-        17 => makes_both(objects, numbers, a, b, c, d),
-        18 => names_none(numbers, a, b, c, d),
-        _ => names_none(numbers, a, b, c, d),
+        2 => a = makes(objects, &mut numbers, a),
+        3 | 4 => b = makes(objects, &mut numbers, b),
+        5 | 6 | 10 | 14 => b = slots::slot_of(objects, numbers, b),
+        13 => a = slots::slot_of(objects, numbers, a),
+        17 => (c, d) = makes_both(objects, &mut numbers, c, d),
+        _ => {}
+    }
+    Seats {
+        numbers,
+        a,
+        b,
+        c,
+        d,
     }
 }

@@ -8,7 +8,10 @@ use Prim.Native.Nat.{ℕ}
 use lib.Dec.{eqb}
 use Rattle.model.specs.Tables.{Tables}
 use Rattle.model.specs.Calls.{Call, Test, tests, order, breaks, first, refusal}
-use Rattle.refusals.specs.Refusing.{found, late, Refuses, Late, Refused}
+use Rattle.answers.specs.declared.Refusal.{Refusal}
+use Rattle.answers.specs.Telling.{number_of}
+use Rattle.answers.proofs.Numbers.{number_not_0}
+use Rattle.refusals.specs.Refusing.{late, Refuses, Late, Refused}
 
 -- the test of a number that has one test alone
 pub alone : {a b : Bool} → a ≡ b → (a || false) ≡ b
@@ -52,6 +55,11 @@ pub record Breaks (t : Tables) (ds : List Test) (b2 b16 b3 b17 b4 b5 b6 b7 b8 : 
   pub seven : breaks t 7 ds ≡ b7
   pub eight : breaks t 8 ds ≡ b8
 
+-- the first condition of RULES R2 to R8, R16 and R17 that holds, in the order of the rules, 0 where none does
+abbrev found : Bool → Bool → Bool → Bool → Bool → Bool → Bool → Bool → Bool → ℕ
+found absent same used full missing pipe high place turned =
+    cond absent 2 (cond same 16 (cond used 3 (cond full 17 (cond missing 4 (cond pipe 5 (cond high 6 (cond place 7 (cond turned 8 0))))))))
+
 abbrev then : Bool → ℕ → Option ℕ → Option ℕ
 then b n o = elim b as (λ _. Option ℕ) [ true ↦ some n | false ↦ o ]
 
@@ -88,21 +96,9 @@ finds {t} {c} {n} {b2} {b16} {b3} {b17} {b4} {b5} {b6} {b7} {b8} z e = record { 
     go false false false false false false false false true = refl
     go false false false false false false false false false = refl
 
--- ── the late rows ──
-abbrev pub found_late : Bool → Bool → Bool → ℕ
-found_late short busy frozen = cond frozen 15 (cond short 9 (cond busy 10 0))
+-- ── what is said is the refusal ──
+pub refused_by : {t : Tables} {c : Call} (e : Refusal) → Refuses t c (number_of e) → refusal t c ≡ some (number_of e)
+refused_by {t} {c} e z = z.said ∙ ap (λ (b : Bool). cond b (first t (tests c) late) (some (number_of e))) (number_not_0 e)
 
-pub ends : {n : ℕ} {b9 b10 b15 : Bool} → n ≡ found_late b9 b10 b15 → (t : Tables) (c : Call) → Refuses t c 0 → Late t c b9 b10 b15 → Refused t c n
-ends {n} {b9} {b10} {b15} e t c z l = record { is = z.said ∙ each ∙ go b9 b10 b15 ∙ ap by (sym e) }
-  where
-    by : ℕ → Option ℕ
-    by k = cond (eqb k 0) none (some k)
-
-    each : first t (tests c) late ≡ then b15 15 (then b9 9 (then b10 10 none))
-    each = λ i. then (l.fifteen i) 15 (then (l.nine i) 9 (then (l.ten i) 10 none))
-
-    go : (b9 b10 b15 : Bool) → then b15 15 (then b9 9 (then b10 10 none)) ≡ cond (eqb (found_late b9 b10 b15) 0) none (some (found_late b9 b10 b15))
-    go b9 b10 true = refl
-    go true b10 false = refl
-    go false true false = refl
-    go false false false = refl
+pub ended_by : {t : Tables} {c : Call} (e : Refusal) → Refused t c (number_of e) → refusal t c ≡ some (number_of e)
+ended_by e z = z.is ∙ ap (λ (b : Bool). cond b none (some (number_of e))) (number_not_0 e)

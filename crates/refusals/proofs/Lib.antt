@@ -1,3 +1,4 @@
--- What records tell of tests (Testing), and the first test that fails (Finding). Assumes nothing.
+-- What records tell of tests (Testing), the first test that fails (Finding), and of each call by what its refusal is told (Asking). Assumes nothing.
 pub mod Testing
 pub mod Finding
+pub mod Asking

@@ -5,11 +5,6 @@ use Rattle.model.specs.Tables.{Tables, Dir, reading, writing}
 use Rattle.model.specs.Flow.{object}
 use Rattle.model.specs.Calls.{Call, admit, register, create, make_pipe, opens, maps, access, connect, fork, thread, exec, close, mark, exit, retire, freeze, unknown, roomy, broken, tests, breaks, first, refusal}
 
--- the first condition of RULES R2 to R8, R16 and R17 that holds, in the order of the rules, 0 where none does
-abbrev pub found : Bool → Bool → Bool → Bool → Bool → Bool → Bool → Bool → Bool → ℕ
-found absent same used full missing pipe high place turned =
-    cond absent 2 (cond same 16 (cond used 3 (cond full 17 (cond missing 4 (cond pipe 5 (cond high 6 (cond place 7 (cond turned 8 0))))))))
-
 -- the rows that are asked when those have passed, in their order
 abbrev pub late : List ℕ
 late = 15 ∷ 9 ∷ 10 ∷ []

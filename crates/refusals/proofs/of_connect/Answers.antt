@@ -1,31 +1,29 @@
 -- `refusals::of_connect` meets its contract. Assumes nothing.
-use mathlib.Core.Path.{refl, sym, ◌∙◌, subst}
+use mathlib.Core.Path.{◌≡◌}
+use mathlib.Core.Bool.{false, ◌||◌}
 use borrow.Author.Tests.{eq-eqb}
-use lib.Dec.{T, eqb}
-use Rattle.refusals.proofs.Testing.{alive_is, new_object_is, free_is, or-false, vacant_is}
-use Rattle.refusals.proofs.Finding.{alone, both, places, four_places, finds}
+use lib.Dec.{eqb}
+use Rattle.std.proofs.Common.{rules}
+use Rattle.refusals.proofs.Asking.{of_connect}
 use Rattle.refusals.proofs.of_connect.Goals as goal
 
-pub returns : goal.returns
-returns c =
-    λ t w x z y v h k i j room.
+pub returns-then-x-eq0 : goal.returns-then-x-eq0
+returns-then-x-eq0 c = let a = c.args in of_connect a.s a.u a.a a.b a.p a.q a.x a.z a.y a.v a.h a.k a.i a.j (search rules)
+
+pub returns-then-s-u : goal.returns-then-s-u
+returns-then-s-u c =
     let a = c.args in
-    finds (record {
-      one = refl;
-      two = both (alive_is t w a.s a.x x) (alive_is t w a.u a.z z) c.either-absent.ensures;
-      sixteen = alone {a = eqb a.s a.u} refl;
-      three = places (eqb a.a a.b) (new_object_is t a.a a.y y ∙ sym c.object_used-used_a.ensures) (new_object_is t a.b a.v v ∙ sym c.object_used-used_b.ensures)
-          c.either-numbers.ensures c.either-used.ensures;
-      seventeen = λ n.
-          let e = or-false c.either-numbers.result (eqb a.a a.b) (sym c.either-used.ensures ∙ n) in
-          let f = or-false c.object_used-used_a.result c.object_used-used_b.result (sym c.either-numbers.ensures ∙ e.0) in
-          alone (room (free_is t a.a a.y _ y c.object_used-used_a.ensures f.0) (free_is t a.b a.v _ v c.object_used-used_b.ensures f.1)
-          (λ q. absurd (subst T (sym (eq-eqb a.a a.b q) ∙ e.1) tt)) ∙ sym c.either-full.ensures);
-      four = refl;
-      five = refl;
-      six = refl;
-      seven = four_places (eqb a.p a.q) (vacant_is t a.s a.p a.h h) (vacant_is t a.s a.q a.k k) (vacant_is t a.u a.p a.i i)
-          (vacant_is t a.u a.q a.j j) c.ends_used-at_s.ensures c.ends_used-at_u.ensures c.either-taken.ensures c.either-place.ensures;
-      eight = refl;
-    })
-    c.first.ensures
+    let live : (eqb a.x.live 0 || eqb a.z.live 0) ≡ false = search rules in
+    of_connect a.s a.u a.a a.b a.p a.q a.x a.z a.y a.v a.h a.k a.i a.j (rw (live, eq-eqb a.s a.u c.if-s-u.true))
+
+pub returns-then-is_object_used : goal.returns-then-is_object_used
+returns-then-is_object_used c = let a = c.args in of_connect a.s a.u a.a a.b a.p a.q a.x a.z a.y a.v a.h a.k a.i a.j (search rules)
+
+pub returns-then-a-ge-OBJECT_NUMBERS : goal.returns-then-a-ge-OBJECT_NUMBERS
+returns-then-a-ge-OBJECT_NUMBERS c = let a = c.args in of_connect a.s a.u a.a a.b a.p a.q a.x a.z a.y a.v a.h a.k a.i a.j (search rules)
+
+pub returns-then-are_ends_used : goal.returns-then-are_ends_used
+returns-then-are_ends_used c = let a = c.args in of_connect a.s a.u a.a a.b a.p a.q a.x a.z a.y a.v a.h a.k a.i a.j (search rules)
+
+pub returns : goal.returns
+returns c = let a = c.args in of_connect a.s a.u a.a a.b a.p a.q a.x a.z a.y a.v a.h a.k a.i a.j (search rules)

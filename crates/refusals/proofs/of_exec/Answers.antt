@@ -1,24 +1,16 @@
 -- `refusals::of_exec` meets its contract. Assumes nothing.
-use mathlib.Core.Path.{refl}
-use Rattle.refusals.proofs.Testing.{alive_is, present_is, pipe_is}
-use Rattle.refusals.proofs.Finding.{alone, finds}
+use Rattle.std.proofs.Common.{rules}
+use Rattle.refusals.proofs.Asking.{of_exec}
 use Rattle.refusals.proofs.of_exec.Goals as goal
 
+pub returns-then-x-eq0 : goal.returns-then-x-eq0
+returns-then-x-eq0 c = let a = c.args in of_exec a.x a.y (search rules)
+
+pub returns-then-y-eq-FREE : goal.returns-then-y-eq-FREE
+returns-then-y-eq-FREE c = let a = c.args in of_exec a.x a.y (search rules)
+
+pub returns-then-y-ge-PIPE : goal.returns-then-y-ge-PIPE
+returns-then-y-ge-PIPE c = let a = c.args in of_exec a.x a.y (search rules)
+
 pub returns : goal.returns
-returns c =
-    λ t s o w x y.
-    let a = c.args in
-    finds (record {
-      one = refl;
-      two = alone (alive_is t w s a.x x);
-      sixteen = refl;
-      three = refl;
-      seventeen = λ _. refl;
-      four = alone (present_is t w o a.y y);
-      five = alone
-          (pipe_is t o a.y y);
-      six = refl;
-      seven = refl;
-      eight = refl;
-    })
-    c.first.ensures
+returns c = let a = c.args in of_exec a.x a.y (search rules)

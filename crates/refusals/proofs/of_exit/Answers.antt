@@ -1,12 +1,10 @@
 -- `refusals::of_exit` meets its contract. Assumes nothing.
-use mathlib.Core.Path.{refl}
-use Rattle.refusals.proofs.Testing.{alive_is}
-use Rattle.refusals.proofs.Finding.{alone, finds}
+use Rattle.std.proofs.Common.{rules}
+use Rattle.refusals.proofs.Asking.{of_exit}
 use Rattle.refusals.proofs.of_exit.Goals as goal
 
+pub returns-then-x-eq0 : goal.returns-then-x-eq0
+returns-then-x-eq0 c = let a = c.args in of_exit a.x (search rules)
+
 pub returns : goal.returns
-returns c =
-    λ t s w x.
-    let a = c.args in
-    finds (record { one = refl; two = alone (alive_is t w s a.x x); sixteen = refl; three = refl; seventeen = λ _. refl; four = refl; five = refl; six = refl; seven = refl; eight = refl })
-    c.first.ensures
+returns c = let a = c.args in of_exit a.x (search rules)

@@ -1,25 +1,19 @@
 -- `refusals::of_map` meets its contract. Assumes nothing.
-use mathlib.Core.Path.{refl, sym, ◌∙◌}
-use Rattle.refusals.proofs.Testing.{alive_is, present_is, pipe_is, vacant_is}
-use Rattle.refusals.proofs.Finding.{alone, finds}
+use Rattle.std.proofs.Common.{rules}
+use Rattle.refusals.proofs.Asking.{of_map}
 use Rattle.refusals.proofs.of_map.Goals as goal
 
+pub returns-then-x-eq0 : goal.returns-then-x-eq0
+returns-then-x-eq0 c = let a = c.args in of_map a.p a.x a.y a.h (search rules)
+
+pub returns-then-y-eq-FREE : goal.returns-then-y-eq-FREE
+returns-then-y-eq-FREE c = let a = c.args in of_map a.p a.x a.y a.h (search rules)
+
+pub returns-then-y-ge-PIPE : goal.returns-then-y-ge-PIPE
+returns-then-y-ge-PIPE c = let a = c.args in of_map a.p a.x a.y a.h (search rules)
+
+pub returns-then-is_place_used : goal.returns-then-is_place_used
+returns-then-is_place_used c = let a = c.args in of_map a.p a.x a.y a.h (search rules)
+
 pub returns : goal.returns
-returns c =
-    λ t s o w x y h.
-    let a = c.args in
-    finds (record {
-      one = refl;
-      two = alone (alive_is t w s a.x x);
-      sixteen = refl;
-      three = refl;
-      seventeen = λ _. refl;
-      four = alone
-          (present_is t w o a.y y);
-      five = alone (pipe_is t o a.y y);
-      six = refl;
-      seven = alone
-          (vacant_is t s a.p a.h h ∙ sym c.place_used-place.ensures);
-      eight = refl;
-    })
-    c.first.ensures
+returns c = let a = c.args in of_map a.p a.x a.y a.h (search rules)

@@ -1,24 +1,16 @@
 -- `refusals::of_read` meets its contract. Assumes nothing.
-use mathlib.Core.Path.{refl, sym, ◌∙◌}
-use Rattle.refusals.proofs.Testing.{alive_is, taken_is, faces_out}
-use Rattle.refusals.proofs.Finding.{alone, finds}
+use Rattle.std.proofs.Common.{rules}
+use Rattle.refusals.proofs.Asking.{of_read}
 use Rattle.refusals.proofs.of_read.Goals as goal
 
+pub returns-then-x-eq0 : goal.returns-then-x-eq0
+returns-then-x-eq0 c = let a = c.args in of_read a.x a.h (search rules)
+
+pub returns-then-h-eq-EMPTY : goal.returns-then-h-eq-EMPTY
+returns-then-h-eq-EMPTY c = let a = c.args in of_read a.x a.h (search rules)
+
+pub returns-then-is_writing : goal.returns-then-is_writing
+returns-then-is_writing c = let a = c.args in of_read a.x a.h (search rules)
+
 pub returns : goal.returns
-returns c =
-    λ t s p w x h.
-    let a = c.args in
-    finds (record {
-      one = refl;
-      two = alone (alive_is t w s a.x x);
-      sixteen = refl;
-      three = refl;
-      seventeen = λ _. refl;
-      four = refl;
-      five = refl;
-      six = refl;
-      seven = alone
-          (taken_is t s p a.h h w);
-      eight = alone (faces_out t s p a.h h ∙ sym c.is_writing-turned.ensures);
-    })
-    c.first.ensures
+returns c = let a = c.args in of_read a.x a.h (search rules)

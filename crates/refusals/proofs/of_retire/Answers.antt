@@ -1,24 +1,13 @@
 -- `refusals::of_retire` meets its contract. Assumes nothing.
-use mathlib.Core.Path.{refl}
-use Rattle.refusals.proofs.Testing.{present_is, pipe_is}
-use Rattle.refusals.proofs.Finding.{alone, finds}
+use Rattle.std.proofs.Common.{rules}
+use Rattle.refusals.proofs.Asking.{of_retire}
 use Rattle.refusals.proofs.of_retire.Goals as goal
 
+pub returns-then-y-eq-FREE : goal.returns-then-y-eq-FREE
+returns-then-y-eq-FREE c = let a = c.args in of_retire a.y (search rules)
+
+pub returns-then-y-ge-PIPE : goal.returns-then-y-ge-PIPE
+returns-then-y-ge-PIPE c = let a = c.args in of_retire a.y (search rules)
+
 pub returns : goal.returns
-returns c =
-    λ t o w y.
-    let a = c.args in
-    finds (record {
-      one = refl;
-      two = refl;
-      sixteen = refl;
-      three = refl;
-      seventeen = λ _. refl;
-      four = alone (present_is t w o a.y y);
-      five = alone
-          (pipe_is t o a.y y);
-      six = refl;
-      seven = refl;
-      eight = refl;
-    })
-    c.first.ensures
+returns c = let a = c.args in of_retire a.y (search rules)

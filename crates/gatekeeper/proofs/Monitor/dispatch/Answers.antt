@@ -2,6 +2,7 @@
 use mathlib.Core.Path.{sym, subst}
 use Rattle.model.specs.Calls.{Call, unknown, decode}
 use Rattle.model.proofs.Calls.Codes.{decode_unknown, unknown_refused}
+use Rattle.answers.specs.declared.Refusal.TheVariants.{UnknownCode}
 use Rattle.answers.specs.Telling.{told}
 use Rattle.gatekeeper.specs.View.{slots, direct}
 use Rattle.gatekeeper.specs.Acting.{Acts}
@@ -87,5 +88,5 @@ returns-in_default c =
     let z = both (λ w r. subst (λ (k : Call). Acts a.self k (told c.refuse.result.answer) c.refuse.result.monitor)
     (sym (decode_unknown (direct a.code a.a a.b a.c a.d a.e a.f)
     (n.0.0.0.0.0.0.0.0.0.0.0.0.0.0.0.0.0.1, (n.0.0.0.0.0.0.0.0.0.0.0.0.0.0.0.0.1, (n.0.0.0.0.0.0.0.0.0.0.0.0.0.0.0.1, (n.0.0.0.0.0.0.0.0.0.0.0.0.0.0.1, (n.0.0.0.0.0.0.0.0.0.0.0.0.0.1, (n.0.0.0.0.0.0.0.0.0.0.0.0.1, (n.0.0.0.0.0.0.0.0.0.0.0.1, (n.0.0.0.0.0.0.0.0.0.0.1, (n.0.0.0.0.0.0.0.0.0.1, (n.0.0.0.0.0.0.0.0.1, (n.0.0.0.0.0.0.0.1, (n.0.0.0.0.0.0.1, (n.0.0.0.0.0.1, (n.0.0.0.0.1, (n.0.0.0.1, (n.0.0.1, (n.0.1, (n.1, tt))))))))))))))))))))
-    (halts a.self unknown 1 c.refuse.result (unknown_refused (slots a.self)) c.refuse.ensures)) in
+    (halts {c = unknown} {e = UnknownCode} (unknown_refused (slots a.self)) c.refuse.ensures)) in
     record { acts = z.0; keeps = z.1 }

@@ -2,63 +2,39 @@
 use mathlib.Core.Path.{◌∙◌, ap}
 use Prim.Native.Nat.{◌+◌, ◌*◌, ◌%◌}
 use lib.ListN.{set}
-use Rattle.model.specs.Calls.{maps, outcome}
-use Rattle.model.specs.Invariant.{Wf}
-use Rattle.refusals.specs.Refusing.{Refuses}
-use Rattle.gatekeeper.specs.View.{slots}
-use Rattle.gatekeeper.proofs.Acting.{stops, ends, waits, frees, back_keeps}
+use Rattle.model.specs.Calls.{outcome}
+use Rattle.gatekeeper.proofs.Acting.{stops, ends}
 use Rattle.gatekeeper.proofs.Owned.{owned_long}
-use Rattle.gatekeeper.proofs.Storing.{subject_got, object_got, handle_got, map_late, maps_acts, maps_keeps}
+use Rattle.gatekeeper.proofs.Storing.{map_late, maps_acts, maps_keeps}
 use Rattle.gatekeeper.proofs.Monitor.map.Goals as goal
 
-pub returns-then-n-ne0 : goal.returns-then-n-ne0
-returns-then-n-ne0 c =
-    let a = c.args in
-    let g = owned_long a.self c.well_formed.0 in record {
-      acts = λ firm. let w = firm.wf in
-          stops a.self (maps a.s a.o a.p) c.of_map-n.result c.refuse.result
-          (c.of_map-n.ensures (slots a.self) a.s a.o w (subject_got a.self g a.s c.subject_of-x.result c.subject_of-x.ensures)
-          (object_got a.self g a.o c.object_of-y.result c.object_of-y.ensures)
-          (handle_got a.self g a.s a.p c.handle_of-h.result c.handle_of-h.ensures)) c.if-n-ne0.true c.refuse.ensures;
-      keeps = back_keeps a.self (maps a.s a.o a.p) c.of_map-n.result c.refuse.result c.refuse.ensures;
-    }
+pub returns-in-Err-clause-acts : goal.returns-in-Err-clause-acts
+returns-in-Err-clause-acts c = λ firm. stops (c.in-Err.ensures _ _ _ firm.wf c.subject-x.ensures c.object-y.ensures.stands c.handle-h.ensures) c.refuse.ensures
 
-pub returns-then-late-ne0 : goal.returns-then-late-ne0
-returns-then-late-ne0 c =
-    let a = c.args in
-    let g = owned_long a.self c.well_formed.0 in record {
-      acts = λ firm. let w = firm.wf in
-          let x = subject_got a.self g a.s c.subject_of-x.result c.subject_of-x.ensures in
-          let y = object_got a.self g a.o c.object_of-y.result c.object_of-y.ensures in
-          let z = waits (c.of_map-n.ensures (slots a.self) a.s a.o w x y
-          (handle_got a.self g a.s a.p c.handle_of-h.result c.handle_of-h.ensures)) c.if-n-ne0.false in
-          let e = c.last-late.ensures (slots a.self) (maps a.s a.o a.p) z
-          (map_late a.self g a.s a.o a.p c.object_of-y.result c.joining-opened.result c.with_handle-next.result c.opened-w.result.needs c.opened-w.result.short
-          w z y c.joining-opened.ensures c.with_handle-next.ensures c.opened-w.ensures firm.safe) in
-          ends a.self (maps a.s a.o a.p) c.last-late.result c.refuse-then-late-ne0.result e c.if-late-ne0.true c.refuse-then-late-ne0.ensures;
-      keeps = back_keeps a.self (maps a.s a.o a.p) c.last-late.result c.refuse-then-late-ne0.result c.refuse-then-late-ne0.ensures;
-    }
+pub returns-in-Err-last-clause-acts : goal.returns-in-Err-last-clause-acts
+returns-in-Err-last-clause-acts c =
+    λ firm.
+    let z = c.in_default.ensures _ _ _ firm.wf c.subject-x.ensures c.object-y.ensures.stands c.handle-h.ensures in
+    ends (c.in-Err-last.ensures _ _ z (map_late _ (owned_long _ c.well_formed.0) _ _ _ _ _ _ _ _ firm.wf z c.object-y.ensures.stands c.joining-opened.ensures c.with_handle-next.ensures
+    c.opened-w.ensures firm.safe)) c.refuse-in-Err-last.ensures
 
-pub returns : goal.returns
-returns c =
+pub returns-clause-acts : goal.returns-clause-acts
+returns-clause-acts c =
+    λ firm.
     let a = c.args in
-    let g = owned_long a.self c.well_formed.0 in
-    let x = subject_got a.self g a.s c.subject_of-x.result c.subject_of-x.ensures in
-    let y = object_got a.self g a.o c.object_of-y.result c.object_of-y.ensures in
-    let waited : Wf (slots a.self) → Refuses (slots a.self) (maps a.s a.o a.p) 0 = λ w.
-    waits (c.of_map-n.ensures (slots a.self) a.s a.o w x y
-    (handle_got a.self g a.s a.p c.handle_of-h.result c.handle_of-h.ensures)) c.if-n-ne0.false in
-    let all = c.with_handle-all.ensures ∙ ap (set a.self.handles (a.s % 32 * 16 + a.p % 16)) c.joining-mapping.ensures in record {
-      acts = λ firm. let w = firm.wf in
-          let z = waited w in
-          let e = c.last-late.ensures (slots a.self) (maps a.s a.o a.p) z
-          (map_late a.self g a.s a.o a.p c.object_of-y.result c.joining-opened.result c.with_handle-next.result c.opened-w.result.needs
-          c.opened-w.result.short w z y c.joining-opened.ensures c.with_handle-next.ensures c.opened-w.ensures firm.safe) in
-          maps_acts a.self g a.s a.o a.p c.object_of-y.result c.joining-opened.result c.with_handle-next.result c.opened-w.result.needs
-          c.opened-w.result.short w z y c.joining-opened.ensures c.with_handle-next.ensures c.opened-w.ensures
-          c.subject_of-x.result c.fallen-put.result c.taken-t.result.subjects c.with_handle-all.result c.taken-t.result.lower _ x (frees e c.if-late-ne0.false) c.fallen-put.ensures
-          (c.taken-t.ensures.tables, (c.taken-t.ensures.lower, c.taken-t.ensures.live)) all (c.not_refused.ensures ∙ ap (outcome c.taken-t.result.lower c.fallen-put.result.level) c.lost-lost.ensures);
-      keeps = λ w. maps_keeps a.self g a.s a.o a.p c.object_of-y.result c.joining-opened.result c.with_handle-next.result c.opened-w.result.needs
-          c.opened-w.result.short w (waited w) y c.joining-opened.ensures c.with_handle-next.ensures c.opened-w.ensures
-          c.taken-t.result.subjects c.with_handle-all.result c.taken-t.result.lower (c.taken-t.ensures.tables, (c.taken-t.ensures.lower, c.taken-t.ensures.live)) all;
-    }
+    let g = owned_long _ c.well_formed.0 in
+    let z = c.in_default.ensures _ _ _ firm.wf c.subject-x.ensures c.object-y.ensures.stands c.handle-h.ensures in
+    let all = c.with_handle-all.ensures ∙ ap (set a.self.handles (a.s % 32 * 16 + a.p % 16)) c.joining.ensures in
+    maps_acts _ g _ _ _ _ _ _ _ _ firm.wf z c.object-y.ensures.stands c.joining-opened.ensures c.with_handle-next.ensures c.opened-w.ensures _ _ _ _ _ _ c.subject-x.ensures
+    (c.in_default-last.ensures _ _ z (map_late _ g _ _ _ _ _ _ _ _ firm.wf z c.object-y.ensures.stands c.joining-opened.ensures c.with_handle-next.ensures
+    c.opened-w.ensures firm.safe)).is c.fallen-put.ensures (c.taken-fell.ensures.tables, (c.taken-fell.ensures.lower, c.taken-fell.ensures.live)) all
+    (c.not_refused.ensures ∙ ap (outcome c.taken-fell.result.lower c.fallen-put.result.level) c.lost-lost.ensures)
+
+pub returns-clause-keeps : goal.returns-clause-keeps
+returns-clause-keeps c =
+    λ w.
+    let a = c.args in
+    let z = c.in_default.ensures _ _ _ w c.subject-x.ensures c.object-y.ensures.stands c.handle-h.ensures in
+    let all = c.with_handle-all.ensures ∙ ap (set a.self.handles (a.s % 32 * 16 + a.p % 16)) c.joining.ensures in
+    maps_keeps _ (owned_long _ c.well_formed.0) _ _ _ _ _ _ _ _ w z c.object-y.ensures.stands c.joining-opened.ensures c.with_handle-next.ensures c.opened-w.ensures _ _ _
+    (c.taken-fell.ensures.tables, (c.taken-fell.ensures.lower, c.taken-fell.ensures.live)) all

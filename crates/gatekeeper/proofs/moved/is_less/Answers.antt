@@ -4,4 +4,4 @@ use mathlib.Core.Bool.{not}
 use Rattle.gatekeeper.proofs.moved.is_less.Goals as goal
 
 pub returns : goal.returns
-returns c = ap not c.is_at_most-enough.ensures
+returns c = ap not c.is_at_most.ensures

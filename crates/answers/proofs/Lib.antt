@@ -1,0 +1,2 @@
+-- The numbers of refusals (Numbers). Assumes nothing.
+pub mod Numbers
