@@ -61,12 +61,11 @@ pub fn figures(
     ensures { (rest : Tables) → rest.kin ≡ kin_of subjects groups → Wf (tables_of rest subjects objects handles) →
         Needed (tables_of rest subjects objects handles) result }
 {
-    let start = starts(objects);
     let leads = groups::leads(subjects, groups);
-    let e = passes::listed(handles, leads);
-    let w = passes::worked(e, start, false, 0, 0);
-    let led = w.figures;
-    spread(led, leads)
+    let edges = passes::listed(handles, leads);
+    let mut needs = starts(objects);
+    passes::worked(&edges, &mut needs, None);
+    spread(needs, leads)
 }
 
 // What may be in use, and has a label: a subject, or an object.

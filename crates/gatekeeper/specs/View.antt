@@ -14,6 +14,7 @@ use Rattle.tables.specs.Records.{tables_of}
 use Rattle.tables.specs.Slots.{slot_used, Absent, Here, single}
 use Rattle.tables.specs.Needs.{node, figure_of}
 use Rattle.groups.specs.Groups.{kin_of}
+use Rattle.calls.specs.declared.Call.{Call}
 use Rattle.gatekeeper.specs.declared.Monitor.{Monitor}
 pub mod Laws
 
@@ -108,3 +109,7 @@ pub record Assured (m n : Monitor) : Type 0 where
 -- RULES C106: a code and six numbers
 abbrev pub direct : ℕ → ℕ → ℕ → ℕ → ℕ → ℕ → ℕ → Raw
 direct code a b c d e f = record { code = code; numbers = a ∷ b ∷ c ∷ d ∷ e ∷ f ∷ [] }
+
+-- and the struct that has them
+abbrev pub direct_of : Call → Raw
+direct_of k = let n = k.numbers in direct k.code n.a n.b n.c n.d n.e n.f

@@ -6,13 +6,14 @@ ghost use Rattle.model.specs.Calls.{decode};
 ghost use Rattle.model.specs.Invariant.{Wf};
 ghost use Rattle.model.specs.Promise.{Meets};
 ghost use Rattle.answers.specs.Telling.{told};
-ghost use Rattle.gatekeeper.specs.View.{slots, once, Tidy, monitors, direct};
+ghost use Rattle.gatekeeper.specs.View.{slots, once, Tidy, monitors, direct_of};
 ghost use Rattle.gatekeeper.specs.Acting.{Firm, Acts, Keeps};
 ghost use Rattle.tables.specs.Slots.{single};
 ghost use Rattle.refusals.specs.Refusing.{Room};
 
 use crate::{Monitor, Reply, SURE, seats};
 use answers::Refusal;
+use calls::{Call, Numbers};
 use tables::slots;
 
 impl Monitor {
@@ -34,12 +35,13 @@ impl Monitor {
         self
     }
 
-    // A code and six numbers; those that the code does not use are ignored. Nothing dangles in the tables.
-    fn dispatch(self, code: u64, a: u64, b: u64, c: u64, d: u64, e: u64, f: u64) -> Reply
-        ensures acts { Firm self → Room (slots self) (decode (direct code a b c d e f)) → Acts self (decode (direct code a b c d e f)) (told result.answer) result.monitor }
-        ensures keeps { Wf (slots self) → Room (slots self) (decode (direct code a b c d e f)) → Keeps self (decode (direct code a b c d e f)) result.monitor }
+    // The numbers that the code does not use are ignored. Nothing dangles in the tables. Codes stay numbers: records and C programs have them (RULES C106).
+    fn dispatch(self, call: Call) -> Reply
+        ensures acts { Firm self → Room (slots self) (decode (direct_of call)) → Acts self (decode (direct_of call)) (told result.answer) result.monitor }
+        ensures keeps { Wf (slots self) → Room (slots self) (decode (direct_of call)) → Keeps self (decode (direct_of call)) result.monitor }
     {
-        match code {
+        let Numbers { a, b, c, d, e, f } = call.numbers;
+        match call.code {
             1 => self.admit(a, b, c),
             2 => self.register(a, b, c),
             3 => self.create(a, b),
@@ -66,14 +68,14 @@ impl Monitor {
     // any other hands back the rules' next tables, and its free part is any (model, `Promise`). The first is promised of every monitor; the answer and the tables of
     // honest ones, that is, of those that do not say that they are sure, and of those that say so and of which it is so; and that kept needs stay right and `sure`
     // what it is also of any other in which nothing dangles and no two slots have one number.
-    pub fn call(self, code: u64, a: u64, b: u64, c: u64, d: u64, e: u64, f: u64) -> Reply
-        ensures { Meets monitors self (decode (direct code a b c d e f)) (told result.answer) result.monitor }
+    pub fn call(self, call: Call) -> Reply
+        ensures { Meets monitors self (decode (direct_of call)) (told result.answer) result.monitor }
     {
         let mut t = self.readied();
-        let s = seats::located(t.objects, t.numbers, code, a, b, c, d);
+        let s = seats::located(t.objects, t.numbers, call);
         let numbers = s.numbers;
         t.numbers = numbers;
-        let r = t.dispatch(code, s.a, s.b, s.c, s.d, e, f);
+        let r = t.dispatch(s.call);
         self.settle(r)
     }
 }

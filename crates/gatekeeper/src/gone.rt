@@ -7,7 +7,7 @@ ghost use Rattle.gatekeeper.specs.Acting.{Acts};
 
 use crate::{Monitor, Reply};
 use answers::Granted;
-use tables::{EMPTY, FREE, Handle, OBJECT_NUMBERS, Object, Subject, looks};
+use tables::{Handle, OBJECT_NUMBERS, Object, Subject, looks};
 
 impl Monitor {
     // Call 11: the place is empty; a pipe ends with its last handle.
@@ -19,16 +19,7 @@ impl Monitor {
         if let Err(refusal) = refusals::of_held(x, h) {
             return self.refuse(refusal);
         }
-        let handles = looks::with_handle(
-            self.handles,
-            s,
-            p,
-            Handle {
-                way: EMPTY,
-                object: 0,
-                mark: 0,
-            },
-        );
+        let handles = looks::with_handle(self.handles, s, p, Handle::default());
         let number = h.object as u64;
         let y = self.object(number);
         let left = handles::outlived(handles, y, h.object);
@@ -61,15 +52,7 @@ impl Monitor {
         }
         let after = handles::vacated(self.handles, s);
         let left = handles::reaped(self.objects, self.handles, after);
-        let rest = looks::with_subject(
-            self.subjects,
-            s,
-            Subject {
-                live: 0,
-                level: 0,
-                shops: 0,
-            },
-        );
+        let rest = looks::with_subject(self.subjects, s, Subject::default());
         let needs = keeping::vacated(self.needs, rest, self.groups, self.objects, after, s);
         self.subjects = rest;
         self.objects = left;
@@ -93,15 +76,7 @@ impl Monitor {
         if let Err(refusal) = refusals::last(false, busy, false) {
             return self.refuse(refusal);
         }
-        let rest = looks::with_object(
-            self.objects,
-            o,
-            Object {
-                kind: FREE,
-                level: 0,
-                shops: 0,
-            },
-        );
+        let rest = looks::with_object(self.objects, o, Object::default());
         self.objects = rest;
         Reply {
             monitor: self,

@@ -6,9 +6,10 @@ ghost use Rattle.model.specs.Tables.{clean, needs};
 ghost use Rattle.gatekeeper.specs.View.{view, Right, kept_need, KeptAt, Righted, Assured};
 
 use crate::{Monitor, SURE};
+use keeping::Thing;
 use tables::{OBJECT_NUMBERS, slots};
 
-// What a monitor may say of itself, whose needs are right and in which nothing dangles: that it is sure, unless some label is below its need.
+// What a monitor may say of itself, whose needs are right and in which nothing dangles: that it is sure, unless some label is below its need; a byte of the C struct.
 fn earned(short: bool) -> u8
     ensures { result ≡ cond short 0 1 }
 {
@@ -25,7 +26,7 @@ impl Monitor {
         if x.live == 0 {
             return 0;
         }
-        keeping::of_subject(self.needs, s)
+        keeping::need(self.needs, Thing::Subject(s))
     }
 
     pub fn need_of_object(self, o: u64) -> u16
@@ -37,7 +38,7 @@ impl Monitor {
         if OBJECT_NUMBERS <= i {
             return 0;
         }
-        keeping::of_object(self.needs, i)
+        keeping::need(self.needs, Thing::Object(i))
     }
 
     // This monitor with its needs worked out anew, whatever they were. All else stays as it is, the free part too.

@@ -2,7 +2,9 @@
 //
 // Every promise of a public function goes through `view`, which reads the arrays as the tables of the rules (crate `model`), objects by number. Each call is written
 // once, in `made`, `moved`, `gone`, `frozen` and `connected`, for tables in which nothing dangles, and by slot; `seats` finds the slots of the objects that a call
-// names, also for crate `why`, which goes by slot, too; `direct` has the direct call, for every monitor value; `kept` the needs that are kept beside the tables.
+// names, also for crate `why`, which goes by slot, too; `direct` has the direct call, for every monitor value; `kept` the needs that are kept beside the tables. No `?`
+// stands in the calls: each answers with a monitor (a rule of the project), and so hands it back with its refusal. An array goes into its field by a variable: the prover
+// follows no store of a call's result, or of another field, into a field that is an array.
 #![tactic(auto)]
 
 ghost use Rattle.std.specs.Prelude.{◌≡◌, ◌%◌, get_or};
@@ -15,8 +17,7 @@ ghost use Rattle.gatekeeper.specs.Acting.{back, settled, way_by};
 
 use answers::{Answer, Refusal};
 use tables::{
-    EMPTY, FREE, HANDLES, Handle, NO_FREEZE, OBJECTS, Object, READS, SUBJECTS, Subject, THINGS,
-    WRITES, looks,
+    HANDLES, Handle, NO_FREEZE, OBJECTS, Object, READS, SUBJECTS, Subject, THINGS, WRITES, looks,
 };
 
 mod connected;
@@ -71,27 +72,12 @@ impl Monitor {
         ensures honest { Honest result }
         ensures sure { result.sure ≡ 1 }
     {
-        let subjects = [Subject {
-            live: 0,
-            level: 0,
-            shops: 0,
-        }; SUBJECTS];
-        let objects = [Object {
-            kind: FREE,
-            level: 0,
-            shops: 0,
-        }; OBJECTS];
-        let handles = [Handle {
-            way: EMPTY,
-            object: 0,
-            mark: 0,
-        }; HANDLES];
         Monitor {
             numbers: [0; OBJECTS],
             needs: [0; THINGS],
-            subjects,
-            objects,
-            handles,
+            subjects: [Subject::default(); SUBJECTS],
+            objects: [Object::default(); OBJECTS],
+            handles: [Handle::default(); HANDLES],
             freeze: NO_FREEZE,
             groups: [0; SUBJECTS],
             sure: SURE,

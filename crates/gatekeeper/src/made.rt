@@ -9,6 +9,7 @@ ghost use Rattle.refusals.specs.Refusing.{Room, direction};
 
 use crate::{Monitor, Reply, SURE};
 use answers::Granted;
+use keeping::Thing;
 use tables::{FILE, Handle, Object, PIPE, READS, Subject, WRITES, looks};
 
 impl Monitor {
@@ -28,7 +29,7 @@ impl Monitor {
         let after = looks::with_subject(self.subjects, s, new);
         let own = groups::fresh(self.subjects, self.groups);
         let alone = groups::with(self.groups, s, own);
-        let needs = keeping::with_subject(self.needs, s, 0);
+        let needs = keeping::with_need(self.needs, Thing::Subject(s), 0);
         self.subjects = after;
         self.groups = alone;
         self.needs = needs;
@@ -53,7 +54,7 @@ impl Monitor {
             shops: (shops % 256) as u8,
         };
         let after = looks::with_object(self.objects, o, new);
-        let needs = keeping::with_object(self.needs, o, labels::code(new.level, new.shops));
+        let needs = keeping::with_need(self.needs, Thing::Object(o), looks::object_label(new));
         self.objects = after;
         self.needs = needs;
         Reply {
@@ -77,7 +78,7 @@ impl Monitor {
             shops: x.shops,
         };
         let after = looks::with_object(self.objects, o, new);
-        let needs = keeping::with_object(self.needs, o, looks::subject_label(x));
+        let needs = keeping::with_need(self.needs, Thing::Object(o), looks::subject_label(x));
         self.objects = after;
         self.needs = needs;
         Reply {
@@ -104,7 +105,8 @@ impl Monitor {
         };
         let after = looks::with_object(self.objects, o, new);
         let joined = handles::with_ends(self.handles, s, r, w, o, o);
-        let needs = keeping::with_object(self.needs, o, keeping::of_subject(self.needs, s));
+        let need = keeping::need(self.needs, Thing::Subject(s));
+        let needs = keeping::with_need(self.needs, Thing::Object(o), need);
         self.objects = after;
         self.handles = joined;
         self.needs = needs;
@@ -169,7 +171,8 @@ impl Monitor {
         let all = handles::forked(self.handles, s, c);
         let own = groups::fresh(self.subjects, self.groups);
         let alone = groups::with(self.groups, c, own);
-        let needs = keeping::with_subject(self.needs, c, keeping::own(self.needs, self.handles, s));
+        let needed = keeping::own(self.needs, self.handles, s);
+        let needs = keeping::with_need(self.needs, Thing::Subject(c), needed);
         self.subjects = after;
         self.handles = all;
         self.groups = alone;
@@ -196,7 +199,8 @@ impl Monitor {
         };
         let after = looks::with_subject(self.subjects, c, new);
         let joined = groups::with(self.groups, c, groups::of(self.groups, s));
-        let needs = keeping::with_subject(self.needs, c, keeping::of_subject(self.needs, s));
+        let shared = keeping::need(self.needs, Thing::Subject(s));
+        let needs = keeping::with_need(self.needs, Thing::Subject(c), shared);
         self.subjects = after;
         self.groups = joined;
         self.needs = needs;

@@ -10,6 +10,7 @@ ghost use Rattle.gatekeeper.specs.View.{slots};
 ghost use Rattle.gatekeeper.specs.Acting.{Firm, Acts, Keeps};
 
 use crate::{Monitor, Reply, SURE};
+use keeping::Thing;
 use tables::{MAPS, READS, looks};
 
 // Label a is not at least label b.
@@ -30,8 +31,8 @@ impl Monitor {
             return self.refuse(refusal);
         }
         let y = self.object(h.object as u64);
-        let put = looks::fallen(x, y.level, y.shops);
-        let t = mappings::taken(self.subjects, self.groups, s, y.level, y.shops);
+        let put = looks::fallen(x, y.label());
+        let t = mappings::taken(self.subjects, self.groups, s, y.label());
         let after = t.subjects;
         self.subjects = after;
         let lost = labels::lost(x.shops, put.shops);
@@ -53,7 +54,7 @@ impl Monitor {
         let before = self.subjects;
         let number = h.object as u64;
         let y = self.object(number);
-        let put = looks::sunken(y, x.level, x.shops);
+        let put = looks::sunken(y, x.label());
         let readers = mappings::reread(before, self.groups, self.handles, y, h.object);
         let sank = is_less(looks::object_label(put), looks::object_label(y));
         let lost = labels::lost(y.shops, put.shops);
@@ -83,12 +84,12 @@ impl Monitor {
         let own = a.subjects;
         let after = a.handles;
         let needs = flows::figures(own, self.groups, self.objects, after);
-        let need = keeping::of_subject(needs, s);
+        let need = keeping::need(needs, Thing::Subject(s));
         let short = is_less(looks::object_label(y), need);
         if let Err(refusal) = refusals::last(short, false, false) {
             return self.refuse(refusal);
         }
-        let put = looks::fallen(x, y.level, y.shops);
+        let put = looks::fallen(x, y.label());
         let ran = looks::with_subject(own, s, put);
         let left = handles::reaped(self.objects, before, after);
         self.subjects = ran;
@@ -131,8 +132,8 @@ impl Monitor {
             return self.refuse(refusal);
         }
         let needs = w.needs;
-        let put = looks::fallen(x, y.level, y.shops);
-        let fell = mappings::taken(self.subjects, self.groups, s, y.level, y.shops);
+        let put = looks::fallen(x, y.label());
+        let fell = mappings::taken(self.subjects, self.groups, s, y.label());
         let after = fell.subjects;
         let all = looks::with_handle(self.handles, s, p, looks::joining(MAPS, o));
         self.subjects = after;

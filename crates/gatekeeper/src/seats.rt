@@ -1,24 +1,23 @@
 // The slots of the objects that a call names by their numbers.
-ghost use Rattle.std.specs.Prelude.{◌≡◌, ℕ, get_or};
+ghost use Rattle.std.specs.Prelude.{◌≡◌, get_or};
 ghost use Rattle.model.specs.Calls.{decode};
 ghost use Rattle.model.specs.Tables.Numbers.{Distinct};
 ghost use Rattle.tables.specs.Slots.{slot_used, Seated};
-ghost use Rattle.gatekeeper.specs.View.{direct};
+ghost use Rattle.gatekeeper.specs.View.{direct_of};
 ghost use Rattle.gatekeeper.specs.Numbering.{noted, Both, Lift};
 
+use calls::{Call, Numbers};
 use tables::{OBJECT_NUMBERS, OBJECTS, Object, slots};
 
-// The slots in place of the numbers, where numbers are of objects; and the objects' numbers with those of new objects beside their slots.
+// A call with the slots of objects in place of their numbers; and the objects' numbers with those of new objects beside their slots.
 #[derive(Clone, Copy)]
 pub struct Seats {
     pub numbers: [u64; OBJECTS],
-    pub a: u64,
-    pub b: u64,
-    pub c: u64,
-    pub d: u64,
+    pub call: Call,
 }
 
-// The slot of a second new object where none is left for it: that of no other, so that the two differ.
+// The slot of a second new object where none is left for it: that of no other, so that the two differ. (A number and no Option: the call by slot has it in place
+// of the object's, and is refused for it as `Room` says.)
 const NO_SLOT: u64 = OBJECT_NUMBERS + 1;
 
 fn noted(mut numbers: [u64; OBJECTS], i: u64, o: u64) -> [u64; OBJECTS]
@@ -61,32 +60,18 @@ fn makes_both(
     (x, y)
 }
 
-// The slots for the numbers of a call, by its code.
-pub fn located(
-    objects: [Object; OBJECTS],
-    mut numbers: [u64; OBJECTS],
-    code: u64,
-    mut a: u64,
-    mut b: u64,
-    mut c: u64,
-    mut d: u64,
-) -> Seats
-    ensures { (e f : ℕ) → Distinct (slot_used objects) (λ i. get_or numbers i 0) 64 →
-        Lift objects numbers (decode (direct code a b c d e f)) (decode (direct code result.a result.b result.c result.d e f)) result.numbers }
+// The call by slots.
+pub fn located(objects: [Object; OBJECTS], mut numbers: [u64; OBJECTS], mut call: Call) -> Seats
+    ensures { Distinct (slot_used objects) (λ i. get_or numbers i 0) 64 → Lift objects numbers (decode (direct_of call)) (decode (direct_of result.call)) result.numbers }
 {
-    match code {
-        2 => a = makes(objects, &mut numbers, a),
-        3 | 4 => b = makes(objects, &mut numbers, b),
-        5 | 6 | 10 | 14 => b = slots::slot_of(objects, numbers, b),
-        13 => a = slots::slot_of(objects, numbers, a),
-        17 => (c, d) = makes_both(objects, &mut numbers, c, d),
+    let Numbers { a, b, c, d, .. } = call.numbers;
+    match call.code {
+        2 => call.numbers.a = makes(objects, &mut numbers, a),
+        3 | 4 => call.numbers.b = makes(objects, &mut numbers, b),
+        5 | 6 | 10 | 14 => call.numbers.b = slots::slot_of(objects, numbers, b),
+        13 => call.numbers.a = slots::slot_of(objects, numbers, a),
+        17 => (call.numbers.c, call.numbers.d) = makes_both(objects, &mut numbers, c, d),
         _ => {}
     }
-    Seats {
-        numbers,
-        a,
-        b,
-        c,
-        d,
-    }
+    Seats { numbers, call }
 }

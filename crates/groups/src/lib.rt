@@ -14,6 +14,7 @@ ghost use Rattle.handles.specs.Handing.{Handed};
 ghost use Rattle.handles.specs.Working.{Hits};
 ghost use Rattle.groups.specs.Groups.{stands, kin_of, mate_of, Leads, Fresh, taken_by, ousted_by};
 
+use labels::Label;
 use std::array;
 use tables::{HANDLES, Handle, PLACES, SUBJECTS, Subject, looks};
 
@@ -26,17 +27,14 @@ pub const BYTES: usize = 256;
 pub fn of(groups: [u8; SUBJECTS], s: u64) -> u8
     ensures { result ≡ get_or groups (s % 32) 0 }
 {
-    let at = s as usize % SUBJECTS;
-    groups[at]
+    groups[s as usize % SUBJECTS]
 }
 
-pub fn with(groups: [u8; SUBJECTS], s: u64, g: u8) -> [u8; SUBJECTS]
+pub fn with(mut groups: [u8; SUBJECTS], s: u64, g: u8) -> [u8; SUBJECTS]
     ensures { result ≡ set groups (s % 32) g }
 {
-    let at = s as usize % SUBJECTS;
-    let mut r = groups;
-    r[at] = g;
-    r
+    groups[s as usize % SUBJECTS] = g;
+    groups
 }
 
 // ---- who is in a group
@@ -117,14 +115,13 @@ pub fn fresh(subjects: [Subject; SUBJECTS], groups: [u8; SUBJECTS]) -> u8
 pub fn lowered(
     subjects: [Subject; SUBJECTS],
     takes: [bool; SUBJECTS],
-    level: u8,
-    shops: u8,
+    label: Label,
 ) -> [Subject; SUBJECTS]
-    ensures { (a : ℕ) → a < 32 → get_or result a no_subject ≡ taken_by (get_or subjects a no_subject) (get_or takes a false) level shops }
+    ensures { (a : ℕ) → a < 32 → get_or result a no_subject ≡ taken_by (get_or subjects a no_subject) (get_or takes a false) label.level label.shops }
 {
     array::from_fn(|a| {
         if takes[a] {
-            looks::fallen(subjects[a], level, shops)
+            looks::fallen(subjects[a], label)
         } else {
             subjects[a]
         }

@@ -145,13 +145,12 @@ pub fn row_of(handles: [Handle; HANDLES], s: usize) -> [Handle; PLACES]
 }
 
 // The handles with those of subject s made these.
-fn with_row(handles: [Handle; HANDLES], s: usize, places: [Handle; PLACES]) -> [Handle; HANDLES]
+fn with_row(mut handles: [Handle; HANDLES], s: usize, places: [Handle; PLACES]) -> [Handle; HANDLES]
     requires { s < 32 }
     ensures { Handed handles result (row (hands handles) s (along places)) }
 {
-    let mut r = handles;
-    r[s * PLACES..(s + 1) * PLACES].copy_from_slice(&places);
-    r
+    handles[s * PLACES..(s + 1) * PLACES].copy_from_slice(&places);
+    handles
 }
 
 // A handle record, or an empty one where it is marked or a mapping.

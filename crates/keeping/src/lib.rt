@@ -22,6 +22,7 @@ ghost use Rattle.passes.specs.Working.{spare_by, backed_by, upheld_by, beside_of
 ghost use Rattle.keeping.specs.Things.{place_of};
 
 use labels::SETS;
+use passes::Target;
 use tables::{HANDLES, Handle, OBJECTS, Object, PLACES, SUBJECTS, Subject, THINGS, looks};
 
 // A subject, or an object, by its number modulo how many there are.
@@ -200,21 +201,16 @@ fn sunk(
         tables_of rest subjects objects handles ≡ apply (hold s p none) t → Ready t (figure_of n) → need ≡ get_or n (end_of h s) 0 →
         Ready (tables_of rest subjects objects handles) (figure_of result) }
 {
-    let start = flows::starts(objects);
     let leads = groups::leads(subjects, groups);
-    let lead = groups::of(leads, s);
-    let at = source(h, lead as u64);
-    let e = passes::listed(handles, leads);
-    let b = passes::pass_back(e, start);
-    let v = b.figures;
-    let first = v[at];
-    if labels::is_at_most(need, first) {
+    let at = source(h, groups::of(leads, s) as u64);
+    let edges = passes::listed(handles, leads);
+    let mut needs = flows::starts(objects);
+    passes::pass_back(&edges, &mut needs);
+    if labels::is_at_most(need, needs[at]) {
         return n;
     }
-    let w = passes::worked(e, v, true, at, need);
-    if w.still {
-        let led = w.figures;
-        return flows::spread(led, leads);
+    if passes::worked(&edges, &mut needs, Some(Target { at, enough: need })) {
+        return flows::spread(needs, leads);
     }
     n
 }

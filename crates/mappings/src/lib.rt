@@ -15,6 +15,7 @@ ghost use Rattle.handles.specs.Working.{Hits};
 ghost use Rattle.groups.specs.Groups.{stands, kin_of};
 ghost use Rattle.mappings.specs.Working.{maps_on, sank_by};
 
+use labels::Label;
 use std::array;
 use tables::{FILE, HANDLES, Handle, MAPS, Object, PLACES, SUBJECTS, Subject, looks};
 
@@ -56,7 +57,7 @@ pub fn reread(
     }
     let leads = groups::leads(subjects, groups);
     let reads = readers(handles, leads, o);
-    groups::lowered(subjects, led(reads, leads), y.level, y.shops)
+    groups::lowered(subjects, led(reads, leads), y.label())
 }
 
 // A subject that is live before and after, and whose label has become smaller: its level, or a shop mark alone.
@@ -86,21 +87,15 @@ pub struct Taking {
 }
 
 // Subject s, modulo SUBJECTS, takes in something of this label, and its mates with it.
-pub fn taken(
-    subjects: [Subject; SUBJECTS],
-    groups: [u8; SUBJECTS],
-    s: u64,
-    level: u8,
-    shops: u8,
-) -> Taking
-    ensures tables { (rest : Tables) (os : List Object) (hs : List Handle) (d : Entry) → s < 32 → rest.kin ≡ kin_of subjects groups → d.label ≡ label level shops →
+pub fn taken(subjects: [Subject; SUBJECTS], groups: [u8; SUBJECTS], s: u64, by: Label) -> Taking
+    ensures tables { (rest : Tables) (os : List Object) (hs : List Handle) (d : Entry) → s < 32 → rest.kin ≡ kin_of subjects groups → d.label ≡ label by.level by.shops →
         tables_of rest result.subjects os hs ≡ with_at (tables_of rest subjects os hs) (sink (tables_of rest subjects os hs) (subject s) (some d)) }
     ensures lower { (rest : Tables) (os : List Object) (hs : List Handle) →
         lowers (tables_of rest subjects os hs) (tables_of rest result.subjects os hs) ≡ result.lower }
     ensures live { (a : ℕ) → stands result.subjects a ≡ stands subjects a }
 {
     let members = groups::members(subjects, groups, s);
-    let after = groups::lowered(subjects, members, level, shops);
+    let after = groups::lowered(subjects, members, by);
     Taking {
         subjects: after,
         lower: is_lower(subjects, after),

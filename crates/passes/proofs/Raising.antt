@@ -1,12 +1,12 @@
 -- How the figures come to be the least ones. `Passed` edge by edge: `start`, `keep` (nothing to take), `grow` (the start takes its end's
 -- figure). Then pass by pass: `Between` composes, the sum rises until a pass finds nothing to take. Assumes nothing.
 use mathlib.Core.Path.{◌≡◌, refl, sym, subst, subst₂, ◌∙◌}
-use mathlib.Core.Bool.{Bool, true, false}
+use mathlib.Core.Bool.{Bool, true, false, ◌||◌}
 use mathlib.Core.Logic.{◌⊎◌, inl, inr}
 use mathlib.Core.List.{List, [], ◌∷◌}
 use Prim.Native.Nat.{ℕ, zero, suc, ◌+◌, ◌*◌, ◌-◌, ◌/◌, ◌%◌, ◌≤◌, ◌<◌}
 use native.Mathlib.Omega.{arith}
-use native.Mathlib.Decide.{ℕ_discrete, dec_lt}
+use native.Mathlib.Decide.{ℕ_discrete}
 use native.Mathlib.Nat.{le_refl}
 use lib.ListN.{length, get_or, set, length-set}
 use lib.Seq.{get_or-set_same, get_or-set_other}
@@ -18,6 +18,7 @@ use Rattle.model.proofs.Label.Laws.{level_label, shops_label, ⊑-of, ⊑_refl, 
 use Rattle.labels.specs.Codes.{coded}
 use Rattle.labels.specs.Codes.Laws.{coded_le, coded_grows}
 use Rattle.passes.specs.Least.{figure, Before, Behind, Between, Least, sum, Passed}
+use Rattle.passes.specs.Working.{Taken}
 
 sum_set : (l : List ℕ) (i v : ℕ) → i < length l → sum (set l i v) + get_or l i 0 ≡ sum l + v
 sum_set [] i v h = omega arith
@@ -45,6 +46,14 @@ set_cases P l i v x h p q = go (ℕ_discrete x i)
     go (yes e) = subst (λ (y : ℕ). P y (get_or (set l i v) y 0)) (sym e) (subst (λ (w : ℕ). P i w) (sym (get_or-set_same l i v 0 h)) p)
     go (no ne) = subst (λ (w : ℕ). P x w) (sym (get_or-set_other l i x v 0 ne)) q
 
+or_true : (b : Bool) → (b || true) ≡ true
+or_true true = refl
+or_true false = refl
+
+or_false : (b : Bool) → (b || false) ≡ b
+or_false true = refl
+or_false false = refl
+
 -- ── one pass ──
 pub start : (w : ℕ) (from to : ℕ → ℕ) (n : List ℕ) (done : ℕ → Type 0) → ((i : ℕ) → done i → ⊥) → Passed w from to n n done false
 start w from to n done z = record {
@@ -56,7 +65,7 @@ start w from to n done z = record {
 
 -- edge k is done after those before it
 module _ (w : ℕ) (from to : ℕ → ℕ) (n m : List ℕ) (k : ℕ) (done more : ℕ → Type 0) (b : Bool) (p : Passed w from to n m done b) (f : (i : ℕ) → more i → done i ⊎ (i ≡ k)) where
-  pub keep : figure m (to k) ⊑ figure m (from k) → Passed w from to n m more b
+  keep : figure m (to k) ⊑ figure m (from k) → Passed w from to n m more b
   keep h = record {
     between = p.between;
     total = p.total;
@@ -71,7 +80,7 @@ module _ (w : ℕ) (from to : ℕ → ℕ) (n m : List ℕ) (k : ℕ) (done more
   }
 
   -- v takes both figures in
-  pub grow : (v : ℕ) → coded v ≡ join (figure m (from k)) (figure m (to k)) → k < w → from k < length m → (figure m (to k) ⊑ figure m (from k) → ⊥) → Passed w from to n
+  grow : (v : ℕ) → coded v ≡ join (figure m (from k)) (figure m (to k)) → k < w → from k < length m → (figure m (to k) ⊑ figure m (from k) → ⊥) → Passed w from to n
       (set m (from k) v) more true
   grow v e hk ha h = record {
     between = record {
@@ -89,23 +98,14 @@ module _ (w : ℕ) (from to : ℕ → ℕ) (n m : List ℕ) (k : ℕ) (done more
       larger : get_or m (from k) 0 < v
       larger = coded_grows (get_or m (from k) 0) (get_or m (to k) 0) v h e
 
+  -- its start takes its end's figure in
+  taken : (m' : List ℕ) (g : Bool) → Taken (from k) (to k) m m' g → k < w → from k < length m → Passed w from to n m' more (b || g)
+  taken m' true h hk ha = let g = h.grew refl in rw (g.1, or_true b) (grow g.0 g.2 hk ha g.3)
+  taken m' false h hk ha = let s = h.still refl in rw (s.0, or_false b) (keep s.1)
+
   -- by the two things that the code has in hand
-  pub keep_at : (a c : ℕ) → a ≡ from k → c ≡ to k → figure m c ⊑ figure m a → Passed w from to n m more b
-  keep_at a c ea ec h = keep (rw (sym ea, sym ec) h)
-
-  pub grow_at : (a c v : ℕ) → a ≡ from k → c ≡ to k → coded v ≡ join (figure m a) (figure m c) → k < w → a < length m → (figure m c ⊑ figure m a → ⊥)
-      → Passed w from to n (set m a v) more true
-  grow_at a c v ea ec ev hk ha h = rw ea (grow v (rw (sym ea, sym ec) ev) hk (rw (sym ea) ha) (rw (sym ea, sym ec) h))
-
--- edges that lead to a figure that is at most their own are done, too
-pub keep_on : {w : ℕ} {from to : ℕ → ℕ} {n m : List ℕ} {done : ℕ → Type 0} (more : ℕ → Type 0) {b : Bool} → Passed w from to n m done b
-    → ((i : ℕ) → more i → done i ⊎ (figure m (to i) ⊑ figure m (from i))) → Passed w from to n m more b
-keep_on more p f = record {
-  between = p.between;
-  total = p.total;
-  grew = p.grew;
-  still = λ e. ((p.still e).0, λ i d. elim (f i d) [ inl c ↦ (p.still e).1 i c | inr h ↦ h ]);
-}
+  pub taken_at : (a c : ℕ) (m' : List ℕ) (g : Bool) → a ≡ from k → c ≡ to k → Taken a c m m' g → k < w → a < length m → Passed w from to n m' more (b || g)
+  taken_at a c m' g ea ec h hk ha = taken m' g (subst₂ (λ (x y : ℕ). Taken x y m m' g) ea ec h) hk (subst (λ (x : ℕ). x < length m) ea ha)
 
 -- what the code's test says
 pub holds : {b : Bool} {l v : Label} → b ≡ leq l v → b ≡ true → l ⊑ v
@@ -113,10 +113,6 @@ holds q e = record { tested = subst T (sym e ∙ q) tt }
 
 pub fails : {b : Bool} {l v : Label} → b ≡ leq l v → b ≡ false → l ⊑ v → ⊥
 fails q e h = subst T (sym q ∙ e) h.tested
-
--- the code's variables are these
-pub moved : {w : ℕ} {from to : ℕ → ℕ} {n m m' : List ℕ} {done : ℕ → Type 0} {b b' : Bool} → m' ≡ m → b' ≡ b → Passed w from to n m done b → Passed w from to n m' done b'
-moved e f p = rw (e, f) p
 
 -- ── the two orders ──
 pub next_before : (k i : ℕ) → Before (k + 1) i → Before k i ⊎ (i ≡ k)
@@ -126,43 +122,12 @@ next_before k i h = go (ℕ_discrete i k)
     go (yes e) = inr e
     go (no n) = inl (omega arith)
 
--- either before k or from k on
-pub split_before : (P : ℕ → Type 0) (k l i : ℕ) → Before l i → ((j : ℕ) → k ≤ j → j < l → P j) → Before k i ⊎ P i
-split_before P k l i h f = go (dec_lt i k)
+pub next_behind : (w k l i : ℕ) → l ≡ k + 1 → Behind w k i → Behind w l i ⊎ (i ≡ k)
+next_behind w k l i e h = go (ℕ_discrete i k)
   where
-    go : Dec (i < k) → Before k i ⊎ P i
-    go (yes a) = inl a
-    go (no a) = inr (f i (omega arith) h)
-
--- one more that does
-pub settled_more : (P : ℕ → Type 0) (k l : ℕ) → ((j : ℕ) → k ≤ j → j < l → P j) → P l → (j : ℕ) → k ≤ j → j < l + 1 → P j
-settled_more P k l f h j a b = go (ℕ_discrete j l)
-  where
-    go : Dec (j ≡ l) → P j
-    go (yes e) = subst P (sym e) h
-    go (no n) = f j a (omega arith)
-
-pub next_behind : (w k i : ℕ) → 0 < k → Behind w (k - 1) i → Behind w k i ⊎ (i ≡ k - 1)
-next_behind w k i l h = go (ℕ_discrete i (k - 1))
-  where
-    go : Dec (i ≡ k - 1) → Behind w k i ⊎ (i ≡ k - 1)
-    go (yes e) = inr e
+    go : Dec (i ≡ k) → Behind w l i ⊎ (i ≡ k)
+    go (yes q) = inr q
     go (no n) = inl (omega (arith, h.0), h.1)
-
--- the same, of those from k on: from k on, or before it
-pub split_behind : (P : ℕ → Type 0) (w k l i : ℕ) → Behind w l i → ((j : ℕ) → l ≤ j → j < k → P j) → Behind w k i ⊎ P i
-split_behind P w k l i h f = go (dec_lt i k)
-  where
-    go : Dec (i < k) → Behind w k i ⊎ P i
-    go (yes a) = inr (f i h.0 a)
-    go (no a) = inl (omega arith, h.1)
-
-pub settled_less : (P : ℕ → Type 0) (k l : ℕ) → ((j : ℕ) → l ≤ j → j < k → P j) → P (l - 1) → (j : ℕ) → l - 1 ≤ j → j < k → P j
-settled_less P k l f h j a b = go (ℕ_discrete j (l - 1))
-  where
-    go : Dec (j ≡ l - 1) → P j
-    go (yes e) = subst P (sym e) h
-    go (no n) = f j (omega arith) b
 
 -- all edges are done, in whichever order
 pub all_done : {w : ℕ} {from to : ℕ → ℕ} {n m : List ℕ} {done : ℕ → Type 0} {b : Bool} → ((i : ℕ) → i < w → done i) → Passed w from to n m done b
@@ -200,7 +165,7 @@ falls w from to n m m' m'' b c s p q l h e =
     let t : Between w from to n m'' = then w from to n m' m'' c (then w from to n m m' b s p) q in
     omega (arith, p.grew e, q.total, sum_low m'' (low_still w from to n m'' t h), t.long)
 
--- passes that are told to stop for no figure end where nothing grew
-pub never_stopped : (b : Bool) → (b ≡ false → ◌≡◌ {A = Bool} false true) → b ≡ true
+-- passes without a target end where nothing grew
+pub never_stopped : (b : Bool) → (b ≡ false → ⊥) → b ≡ true
 never_stopped true f = refl
-never_stopped false f = f refl
+never_stopped false f = absurd (f refl)

@@ -1,12 +1,12 @@
 -- What the inner functions of this crate work out, on records. No caller needs these. Assumes nothing.
-use Rattle.std.specs.Prelude.{◌≡◌, Bool, true, false, not, ◌&&◌, ◌||◌, cond, List, ℕ, zero, suc, ◌+◌, ◌*◌, ◌/◌, ◌%◌, ◌<◌, length, get_or, leb, ltb, eqb}
+use Rattle.std.specs.Prelude.{◌≡◌, Bool, true, false, not, ◌&&◌, ◌||◌, cond, List, ℕ, zero, suc, ◌+◌, ◌*◌, ◌/◌, ◌%◌, ◌<◌, length, get_or, set, leb, ltb, eqb}
 use Rattle.tables.specs.declared.Subject.{Subject}
 use Rattle.tables.specs.declared.Object.{Object}
 use Rattle.tables.specs.declared.Handle.{Handle}
 use Rattle.tables.specs.Records.{reads_by, no_object, no_handle}
 use Rattle.tables.specs.Working.{writes_by}
 use Rattle.model.specs.Sets.{within}
-use Rattle.model.specs.Label.{Label, label, level, shops, leq, join, bot}
+use Rattle.model.specs.Label.{Label, label, level, shops, leq, ◌⊑◌, join, bot}
 use Rattle.labels.specs.Codes.{coded}
 
 abbrev pub alike : Bool → Bool → Bool
@@ -83,3 +83,8 @@ source_of h s = cond (reads_by h.way) (32 + h.object % 64) (s % 32)
 -- and the one at which it ends
 abbrev pub end_of : Handle → ℕ → ℕ
 end_of h s = cond (reads_by h.way) (s % 32) (32 + h.object % 64)
+
+-- m is v once thing a has taken in the figure of thing c, where it has not got it; b: it grew
+pub record Taken (a c : ℕ) (v m : List ℕ) (b : Bool) : Type 0 where
+  pub grew : b ≡ true → (w : ℕ) × (m ≡ set v a w) × (coded w ≡ join (coded (get_or v a 0)) (coded (get_or v c 0))) × (coded (get_or v c 0) ⊑ coded (get_or v a 0) → ⊥)
+  pub still : b ≡ false → (m ≡ v) × (coded (get_or v c 0) ⊑ coded (get_or v a 0))

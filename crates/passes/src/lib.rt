@@ -2,183 +2,103 @@
 // from any figures, the least ones that do. A thing is a number below 96.
 #![tactic(auto)]
 
-ghost use Rattle.std.specs.Prelude.{◌≡◌, true, false, ◌<◌};
+mod edge;
+
+ghost use Rattle.std.specs.Prelude.{◌≡◌, true, false, ◌<◌, length, IfSome, IsSomeAnd};
 ghost use Rattle.model.specs.Label.{◌⊑◌};
 ghost use Rattle.labels.specs.Codes.{coded};
-ghost use Rattle.passes.specs.Least.{figure, end_at, Settled, Between, Passed, Before};
-ghost use Rattle.passes.specs.Listing.{Bounded, Listed};
+ghost use Rattle.passes.specs.Least.{figure, Settled, Between, Passed, Before};
+ghost use Rattle.passes.specs.Listing.{start_at, end_at, Listed};
+ghost use Rattle.passes.specs.Working.{Taken};
 
+use arrayvec::ArrayVec;
+pub use edge::Edge;
 use tables::{EMPTY, HANDLES, Handle, OBJECTS, PLACES, SUBJECTS, THINGS, looks};
-
-// The first `count` edges are listed: each leads from a thing to a thing.
-#[derive(Clone, Copy)]
-pub struct Edges {
-    pub from: [u8; HANDLES],
-    pub to: [u8; HANDLES],
-    pub count: usize,
-}
-
-// Figures after a pass, and whether one of them grew.
-#[derive(Clone, Copy)]
-pub struct Round {
-    pub figures: [u16; THINGS],
-    pub grew: bool,
-}
-
-// Figures, and whether they fall along every flow.
-#[derive(Clone, Copy)]
-pub struct Raised {
-    pub figures: [u16; THINGS],
-    pub still: bool,
-}
 
 // The flows of the handles, in the order of their places. A subject counts as its lead, modulo SUBJECTS, so that a group is one thing. (Both ends are worked
 // out once here, and not in each pass.)
-pub fn listed(handles: [Handle; HANDLES], leads: [u8; SUBJECTS]) -> Edges
-    ensures { Listed leads handles result.from result.to result.count 512 }
+pub fn listed(handles: [Handle; HANDLES], leads: [u8; SUBJECTS]) -> ArrayVec<Edge, HANDLES>
+    ensures { Listed leads handles result.items 512 }
 {
-    let mut from = [0u8; HANDLES];
-    let mut to = [0u8; HANDLES];
-    let mut count: usize = 0;
-    let mut s: usize = 0;
-    while s < SUBJECTS {
-        let base = s * PLACES;
-        let lead = leads[s] as usize % SUBJECTS;
-        let mut p: usize = 0;
-        while p < PLACES {
-            let at = base + p;
-            let h = handles[at];
-            if h.way != EMPTY {
-                let o = SUBJECTS + h.object as usize % OBJECTS;
-                if looks::is_reading(h.way) {
-                    from[count] = o as u8;
-                    to[count] = lead as u8;
-                } else {
-                    from[count] = lead as u8;
-                    to[count] = o as u8;
-                }
-                count += 1;
-            }
-            p += 1;
+    let mut edges = ArrayVec::new();
+    for (i, h) in handles.iter().enumerate() {
+        if h.way != EMPTY {
+            let lead = leads[i / PLACES] % SUBJECTS as u8;
+            let object = (SUBJECTS + h.object as usize % OBJECTS) as u8;
+            let (from, to) = if looks::is_reading(h.way) {
+                (object, lead)
+            } else {
+                (lead, object)
+            };
+            edges.push(Edge { from, to });
         }
-        s += 1;
     }
-    Edges {
-        from: from,
-        to: to,
-        count: count,
-    }
+    edges
 }
 
-// One pass over the list, from the first edge to the last: the source of each takes its target's figure in, where it has not got it. The inner loop finds
-// the next such edge.
-fn pass(e: Edges, figures: [u16; THINGS]) -> Round
-    requires { Bounded e.from e.to e.count }
-    ensures { Passed e.count (end_at e.from) (end_at e.to) figures result.figures (Before e.count) result.grew }
+// The source of the edge takes its target's figure in, where it has not got it: whether it grew.
+fn taken(e: Edge, figures: &mut [u16; THINGS]) -> bool
+    ensures { Taken e.from e.to figures.old figures.new result }
 {
-    let mut next = figures;
-    let mut grew = false;
-    let mut i: usize = 0;
-    loop {
-        while i < e.count {
-            let a = e.from[i] as usize;
-            let b = e.to[i] as usize;
-            let mine = next[a];
-            let its = next[b];
-            if !labels::is_at_most(its, mine) {
-                break;
-            }
-            i += 1;
-        }
-        if e.count <= i {
-            return Round {
-                figures: next,
-                grew: grew,
-            };
-        }
-        let start = e.from[i] as usize;
-        let end = e.to[i] as usize;
-        let had = next[start];
-        let takes = next[end];
-        next[start] = labels::joined(had, takes);
-        grew = true;
-        i += 1;
+    let had = figures[e.from as usize];
+    let takes = figures[e.to as usize];
+    if labels::is_at_most(takes, had) {
+        return false;
     }
+    figures[e.from as usize] = labels::joined(had, takes);
+    true
+}
+
+// One pass over the list, from the first edge to the last: whether a figure grew.
+fn pass(edges: &[Edge], figures: &mut [u16; THINGS]) -> bool
+    ensures { Passed (length edges.now) (start_at edges.now) (end_at edges.now) figures.old figures.new (Before (length edges.now)) result }
+{
+    let mut grew = false;
+    for e in edges {
+        grew |= taken(*e, figures);
+    }
+    grew
 }
 
 // And one from the last to the first.
-pub fn pass_back(e: Edges, figures: [u16; THINGS]) -> Round
-    requires { Bounded e.from e.to e.count }
-    ensures { Passed e.count (end_at e.from) (end_at e.to) figures result.figures (Before e.count) result.grew }
+pub fn pass_back(edges: &[Edge], figures: &mut [u16; THINGS]) -> bool
+    ensures { Passed (length edges.now) (start_at edges.now) (end_at edges.now) figures.old figures.new (Before (length edges.now)) result }
 {
-    let mut next = figures;
     let mut moved = false;
-    let mut left: usize = e.count;
-    loop {
-        while 0 < left {
-            let i = left - 1;
-            let a = e.from[i] as usize;
-            let b = e.to[i] as usize;
-            let mine = next[a];
-            let its = next[b];
-            if !labels::is_at_most(its, mine) {
-                break;
-            }
-            left = i;
-        }
-        if left == 0 {
-            return Round {
-                figures: next,
-                grew: moved,
-            };
-        }
-        let j = left - 1;
-        let start = e.from[j] as usize;
-        let end = e.to[j] as usize;
-        let had = next[start];
-        let takes = next[end];
-        next[start] = labels::joined(had, takes);
-        moved = true;
-        left = j;
+    let mut left = edges;
+    while let Some((e, before)) = left.split_last() {
+        moved |= taken(*e, figures);
+        left = before;
     }
+    moved
 }
 
-// Passes by turns, until one of them finds nothing to raise: a chain along the order of the places or against it takes one. Where `stops`, they end
-// as soon as the figure of thing `at` is at least `enough`, too.
-pub fn worked(e: Edges, start: [u16; THINGS], stops: bool, at: usize, enough: u16) -> Raised
-    requires bounded { Bounded e.from e.to e.count }
-    requires low { at < 96 }
-    ensures between { Between e.count (end_at e.from) (end_at e.to) start result.figures }
-    ensures still { result.still ≡ true → Settled (end_at e.from) (end_at e.to) (figure result.figures) (Before e.count) }
-    ensures stopped { result.still ≡ false → (stops ≡ true) × (coded enough ⊑ figure result.figures at) }
+// What ends passes: that the figure of thing `at` is at least `enough`.
+#[derive(Clone, Copy)]
+pub struct Target {
+    pub at: usize,
+    pub enough: u16,
+}
+
+// Passes by turns, until one of them finds nothing to raise: a chain along the order of the places or against it takes one. Where there is a target, they end
+// as soon as it is met, too. Whether the figures fall along every flow.
+pub fn worked(edges: &[Edge], figures: &mut [u16; THINGS], target: Option<Target>) -> bool
+    requires { IfSome target (λ t. t.at < 96) }
+    ensures between { Between (length edges.now) (start_at edges.now) (end_at edges.now) figures.old figures.new }
+    ensures still { result ≡ true → Settled (start_at edges.now) (end_at edges.now) (figure figures.new) (Before (length edges.now)) }
+    ensures stopped { result ≡ false → IsSomeAnd target (λ t. coded t.enough ⊑ figure figures.new t.at) }
 {
-    let mut figures = start;
     loop {
-        let p = pass(e, figures);
-        let forth = p.figures;
-        if !p.grew {
-            return Raised {
-                figures: forth,
-                still: true,
-            };
+        if !pass(edges, figures) {
+            return true;
         }
-        if stops {
-            let there = forth[at];
-            if labels::is_at_most(enough, there) {
-                return Raised {
-                    figures: forth,
-                    still: false,
-                };
+        if let Some(t) = &target {
+            if labels::is_at_most(t.enough, figures[t.at]) {
+                return false;
             }
         }
-        let q = pass_back(e, forth);
-        let back = q.figures;
-        if !q.grew {
-            return Raised {
-                figures: back,
-                still: true,
-            };
+        if !pass_back(edges, figures) {
+            return true;
         }
-        figures = back;
     }
 }

@@ -15,10 +15,11 @@ returns-then-y-ne-FILE c =
 
 pub returns : goal.returns
 returns c =
-    let a = c.args in record {
+    let a = c.args in
+    let low = rw c.label.ensures at c.lowered.ensures in record {
       tables = λ rest os k q. file_read rest a.subjects os a.handles a.o a.y q c.lowered.result c.led.result c.if-y-ne-FILE.false
           (search (rules, unmapped, c.well_formed.0)) (search (rules, unmapped))
           (λ s l. c.led.ensures s l ∙ readers_lead rest a.subjects os a.handles a.o a.groups c.leads-leads.result k c.leads-leads.ensures c.readers-reads.result
-          c.readers-reads.ensures s l) c.lowered.ensures;
-      live = taken_live a.subjects c.lowered.result c.led.result a.y.level a.y.shops (search (rules, unmapped, c.well_formed.0)) (search (rules, unmapped)) c.lowered.ensures;
+          c.readers-reads.ensures s l) low;
+      live = taken_live a.subjects c.lowered.result c.led.result a.y.level a.y.shops (search (rules, unmapped, c.well_formed.0)) (search (rules, unmapped)) low;
     }

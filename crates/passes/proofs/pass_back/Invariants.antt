@@ -1,17 +1,18 @@
 -- `passes::pass_back` meets its contract. Assumes nothing.
-use Prim.Native.Nat.{ℕ, ◌≤◌, ◌<◌}
-use Rattle.model.specs.Label.{◌⊑◌}
-use Rattle.passes.specs.Least.{figure, end_at, Passed, Behind}
+use mathlib.Core.Path.{◌≡◌}
+use mathlib.Core.List.{List, ◌++◌}
+use lib.ListN.{length}
+use Rattle.passes.specs.declared.edge.Edge.{Edge}
+use Rattle.passes.specs.Least.{Passed, Behind}
+use Rattle.passes.specs.Listing.{start_at, end_at}
 use Rattle.passes.proofs.pass_back.Given as goal
 
-abbrev pub invariant-loop-left-2 : goal.invariant-loop-left-2
-invariant-loop-left-2 l = (l.left ≤ l.initial.left) × ((j : ℕ) → l.left ≤ j → j < l.initial.left → figure l.next (end_at l.e.to j) ⊑ figure l.next (end_at l.e.from j))
+abbrev pub invariant-loop-e : goal.invariant-loop-e
+invariant-loop-e l = record {
+  done : List Edge;
+  whole : l.fn.edges ≡ l.left ++ done;
+  passed : Passed (length l.fn.edges) (start_at l.fn.edges) (end_at l.fn.edges) l.initial.figures l.figures (Behind (length l.fn.edges) (length l.left)) l.moved;
+}
 
-abbrev pub decreases-loop-left-2 : goal.decreases-loop-left-2
-decreases-loop-left-2 l = l.left
-
-abbrev pub invariant-loop-left : goal.invariant-loop-left
-invariant-loop-left l = (l.left ≤ l.e.count) × Passed l.e.count (end_at l.e.from) (end_at l.e.to) l.initial.next l.next (Behind l.e.count l.left) l.moved
-
-abbrev pub decreases-loop-left : goal.decreases-loop-left
-decreases-loop-left l = l.left
+abbrev pub decreases-loop-e : goal.decreases-loop-e
+decreases-loop-e l = length l.left

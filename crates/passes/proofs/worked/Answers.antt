@@ -1,46 +1,38 @@
 -- `passes::worked` meets its contract. Assumes nothing.
-use mathlib.Core.Path.{sym}
-use Prim.Native.Nat.{ℕ, ◌≤◌}
+use mathlib.Core.Path.{subst, sym}
+use Prim.Native.Nat.{◌<◌}
 use native.Mathlib.Omega.{arith}
-use borrow.Author.Rules.{rules}
-use borrow.Author.Tests.{not-true, not-false}
-use lib.ListN.{get_or}
-use mir.Val.{Fits}
-use mir.Syntax.{w16}
-use Rattle.passes.proofs.Raising.{none_yet, then, stop, falls, holds, true_false}
+use Rattle.std.specs.Prelude.{Option, IfSome, IsSomeAnd}
+use Rattle.model.specs.Label.{◌⊑◌}
+use Rattle.labels.specs.Codes.{coded}
+use Rattle.passes.specs.declared.Target.{Target}
+use Rattle.passes.specs.Least.{figure}
+use Rattle.passes.proofs.Raising.{none_yet, then, falls, holds}
 use Rattle.passes.proofs.worked.Goals as goal
 
-pub loop-e-init : goal.loop-e-init
-loop-e-init c = none_yet _ _ _ _
+pub loop-target-init : goal.loop-target-init
+loop-target-init c = none_yet _ _ _ _
 
-pub returns-then-not-p : goal.returns-then-not-p
-returns-then-not-p c =
-    let p = c.pass-p.ensures in
-    let l = stop _ _ _ _ _ _ _ c.loop-e.invariant p (not-true _ c.if-not-p.true) in
-    record { between = l.between; still = λ e. l.settled; stopped = λ e. true_false e }
+pub offset_bounds-figures-t : goal.offset_bounds-figures-t
+offset_bounds-figures-t c =
+    let l : c.in-Some.t.at < 96 = subst (λ (t : Option Target). IfSome t (λ z. z.at < 96)) c.in-Some.is c.requires in
+    record { fits = omega arith }
 
-pub is_at_most-requires : goal.is_at_most-requires
-is_at_most-requires c = tt
+pub bounds-figures-t : goal.bounds-figures-t
+bounds-figures-t c = subst (λ (t : Option Target). IfSome t (λ z. z.at < 96)) c.in-Some.is c.requires
 
-pub returns-then-is_at_most : goal.returns-then-is_at_most
-returns-then-is_at_most c = record {
-  between = then _ _ _ _ _ _ _ c.loop-e.invariant c.pass-p.ensures;
-  still = λ e. true_false (sym e);
-  stopped = λ e. (c.if-stops.true, holds c.is_at_most.ensures c.if-is_at_most.true);
-}
+pub returns-then-is_at_most-clause-between : goal.returns-then-is_at_most-clause-between
+returns-then-is_at_most-clause-between c = then _ _ _ _ _ _ _ c.loop-target.invariant c.pass.ensures
 
-pub returns-then-not-q : goal.returns-then-not-q
-returns-then-not-q c =
-    let l = stop _ _ _ _ _ _ _ (then _ _ _ _ _ _ _ c.loop-e.invariant c.pass-p.ensures) c.pass_back-q.ensures
-    (not-true _ c.if-not-q.true) in
-    record { between = l.between; still = λ e. l.settled; stopped = λ e. true_false e }
+pub returns-then-is_at_most-clause-stopped : goal.returns-then-is_at_most-clause-stopped
+returns-then-is_at_most-clause-stopped c = λ e. subst (λ (t : Option Target). IsSomeAnd t (λ z. coded z.enough ⊑ figure c.pass.new.figures z.at)) (sym c.in-Some.is)
+    (holds c.is_at_most.ensures c.if-is_at_most.true)
 
-pub loop-e-smaller : goal.loop-e-smaller
-loop-e-smaller c =
-    let low : ((x : ℕ) → get_or c.args.start x 0 ≤ 65535) =
-    (λ x. let f : Fits w16 (get_or c.args.start x 0) = search rules in omega arith) in
-    falls _ _ _ _ _ _ _ _ _ c.loop-e.invariant c.pass-p.ensures c.pass_back-q.ensures (search rules) low
-    (not-false _ c.if-not-p.false)
+pub returns-then-not-pass_back-clause-between : goal.returns-then-not-pass_back-clause-between
+returns-then-not-pass_back-clause-between c = then _ _ _ _ _ _ _ (then _ _ _ _ _ _ _ c.loop-target.invariant c.pass.ensures) c.pass_back.ensures
 
-pub loop-e-preserved : goal.loop-e-preserved
-loop-e-preserved c = then _ _ _ _ _ _ _ (then _ _ _ _ _ _ _ c.loop-e.invariant c.pass-p.ensures) c.pass_back-q.ensures
+pub loop-target-smaller : goal.loop-target-smaller
+loop-target-smaller c = falls _ _ _ _ _ _ _ _ _ c.loop-target.invariant c.pass.ensures c.pass_back.ensures c.told-figures (λ x. omega (arith, c.fits-figures x)) c.if-not-pass.false
+
+pub loop-target-preserved : goal.loop-target-preserved
+loop-target-preserved c = then _ _ _ _ _ _ _ (then _ _ _ _ _ _ _ c.loop-target.invariant c.pass.ensures) c.pass_back.ensures

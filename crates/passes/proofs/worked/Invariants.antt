@@ -1,10 +1,12 @@
 -- `passes::worked` meets its contract. Assumes nothing.
 use Prim.Native.Nat.{◌-◌}
-use Rattle.passes.specs.Least.{end_at, Between, sum}
+use lib.ListN.{length}
+use Rattle.passes.specs.Least.{Between, sum}
+use Rattle.passes.specs.Listing.{start_at, end_at}
 use Rattle.passes.proofs.worked.Given as goal
 
-abbrev pub invariant-loop-e : goal.invariant-loop-e
-invariant-loop-e l = Between l.e.count (end_at l.e.from) (end_at l.e.to) l.initial.figures l.figures
+abbrev pub invariant-loop-target : goal.invariant-loop-target
+invariant-loop-target l = Between (length l.fn.edges) (start_at l.fn.edges) (end_at l.fn.edges) l.initial.figures l.figures
 
-abbrev pub decreases-loop-e : goal.decreases-loop-e
-decreases-loop-e l = 6291360 - sum l.figures
+abbrev pub decreases-loop-target : goal.decreases-loop-target
+decreases-loop-target l = 6291360 - sum l.figures

@@ -9,4 +9,4 @@ returns-in-Err c = λ w. stops (c.in-Err.ensures _ w c.subject-x.ensures) c.refu
 
 pub returns : goal.returns
 returns c = λ w. admits _ (owned_long _ c.well_formed.0) _ _ _ _ _ _ _ w (c.in_default.ensures _ w c.subject-x.ensures).said c.with_subject-after.ensures
-    c.fresh-own.ensures c.with-alone.ensures c.with_subject-needs.ensures
+    c.fresh-own.ensures c.with-alone.ensures c.with_need-needs.ensures

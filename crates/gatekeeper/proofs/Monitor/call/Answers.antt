@@ -7,7 +7,7 @@ use Rattle.model.specs.Calls.{decode}
 use Rattle.model.specs.Tables.Numbers.{Distinct}
 use Rattle.tables.specs.declared.Object.{Object}
 use Rattle.tables.specs.Slots.{slot_used}
-use Rattle.gatekeeper.specs.View.{direct, once}
+use Rattle.gatekeeper.specs.View.{direct_of, once}
 use Rattle.gatekeeper.specs.Numbering.{Lift}
 use Rattle.gatekeeper.proofs.Numbered.{once_long, meets, once_apart}
 use Rattle.gatekeeper.proofs.Owned.{owned_long, reply_long}
@@ -16,23 +16,20 @@ use Rattle.gatekeeper.proofs.Monitor.call.Goals as goal
 
 pub returns : goal.returns
 returns c =
-    let a = c.args in
-    let m = a.self in
+    let m = c.args.self in
     let k = c.readied-t.ensures in
     let s = c.located-s.result in
     let g = owned_long m c.well_formed.0 in
     let d = c.dispatch-r.ensures in
-    meets m _ (decode (direct a.code a.a a.b a.c a.d a.e a.f)) (decode (direct a.code s.a s.b s.c s.d a.e a.f))
-    c.dispatch-r.result g.objects (reply_long c.dispatch-r.result c.dispatch-r.type_inv)
-    (read_wf (once m) (once_long m g))
+    meets m _ (decode (direct_of c.args.call)) (decode (direct_of s.call)) c.dispatch-r.result g.objects
+    (reply_long c.dispatch-r.result c.dispatch-r.type_inv) (read_wf (once m) (once_long m g))
     (λ h. record {
       tables = λ v. k.tables h;
       needs = k.needs;
       sure = k.sure;
       objects = λ v. k.objects h;
-      lift = λ d v. subst₂ (λ (os : List Object) (ns : List ℕ). Lift os ns (decode (direct a.code a.a a.b a.c a.d a.e a.f))
-          (decode (direct a.code s.a s.b s.c s.d a.e a.f)) s.numbers)
-          (k.objects h) k.numbers (c.located-s.ensures a.e a.f
+      lift = λ d v. subst₂ (λ (os : List Object) (ns : List ℕ). Lift os ns (decode (direct_of c.args.call)) (decode (direct_of s.call)) s.numbers)
+          (k.objects h) k.numbers (c.located-s.ensures
           (subst₂ (λ (os : List Object) (ns : List ℕ). Distinct (slot_used os) (λ i. get_or ns i 0) 64) (sym (k.objects h)) (sym k.numbers) (once_apart m)));
       acts = d.acts;
       keeps = d.keeps;

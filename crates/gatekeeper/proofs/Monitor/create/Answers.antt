@@ -9,4 +9,4 @@ returns-in-Err c = λ w room. stops (c.in-Err.ensures _ _ w c.subject-x.ensures 
 
 pub returns : goal.returns
 returns c = λ w room. creates _ (owned_long _ c.well_formed.0) _ _ _ _ _ _ w (c.in_default.ensures _ _ w c.subject-x.ensures c.object-y.ensures.stands room).said room c.subject-x.ensures
-    c.with_object-after.ensures c.subject_label.ensures c.with_object-needs.ensures
+    c.with_object-after.ensures c.subject_label.ensures c.with_need-needs.ensures

@@ -5,7 +5,7 @@ use Rattle.model.specs.Calls.{Call, unknown, decode}
 use Rattle.model.proofs.Calls.Codes.{decode_unknown, unknown_refused}
 use Rattle.answers.specs.declared.Refusal.TheVariants.{UnknownCode}
 use Rattle.answers.specs.Telling.{told}
-use Rattle.gatekeeper.specs.View.{slots, direct}
+use Rattle.gatekeeper.specs.View.{slots, direct_of}
 use Rattle.gatekeeper.specs.Acting.{Acts}
 use Rattle.gatekeeper.proofs.Acting.{halts, both, unroomed, either}
 use Rattle.gatekeeper.proofs.Monitor.dispatch.Goals as goal
@@ -85,7 +85,7 @@ returns-in-18 c = rw c.in-18.is (let z = unroomed c.thread.ensures in record { a
 pub returns-in_default : goal.returns-in_default
 returns-in_default c =
     let a = c.args in
-    let e = decode_unknown (direct a.code a.a a.b a.c a.d a.e a.f) (
+    let e = decode_unknown (direct_of a.call) (
       omega arith,
       (
         omega arith,

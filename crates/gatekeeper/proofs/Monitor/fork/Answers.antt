@@ -9,4 +9,4 @@ returns-in-Err c = λ w. stops (c.in-Err.ensures _ _ w c.subject-x.ensures c.sub
 
 pub returns : goal.returns
 returns c = λ w. forks _ (owned_long _ c.well_formed.0) _ _ _ _ _ _ _ _ _ w (c.in_default.ensures _ _ w c.subject-x.ensures c.subject-z.ensures).0.said c.subject-x.ensures
-    c.with_subject-after.ensures c.fresh-own.ensures c.with-alone.ensures c.forked-all.ensures c.own.ensures c.with_subject-needs.ensures
+    c.with_subject-after.ensures c.fresh-own.ensures c.with-alone.ensures c.forked-all.ensures c.own-needed.ensures c.with_need-needs.ensures

@@ -28,8 +28,8 @@ returns c =
       acts = λ firm. let z = c.in_default.ensures _ _ _ firm.wf c.subject-x.ensures y c.handle-h.ensures in
           maps_acts _ g _ _ _ _ _ _ _ _ firm.wf z y c.joining-opened.ensures c.with_handle-next.ensures c.opened-w.ensures _ _ _ _ _ _ c.subject-x.ensures
           (c.in_default-last.ensures _ _ z (map_late _ g _ _ _ _ _ _ _ _ firm.wf z y c.joining-opened.ensures c.with_handle-next.ensures c.opened-w.ensures
-          firm.safe)).is c.fallen-put.ensures (c.taken-fell.ensures.tables, (c.taken-fell.ensures.lower, c.taken-fell.ensures.live)) all
+          firm.safe)).is (rw c.label.ensures at c.fallen-put.ensures) (rw c.label-2.ensures at c.taken-fell.ensures.tables, (c.taken-fell.ensures.lower, c.taken-fell.ensures.live)) all
           (c.not_refused.ensures ∙ ap (outcome c.taken-fell.result.lower c.fallen-put.result.level) c.lost-lost.ensures);
       keeps = λ w. maps_keeps _ g _ _ _ _ _ _ _ _ w (c.in_default.ensures _ _ _ w c.subject-x.ensures y c.handle-h.ensures) y c.joining-opened.ensures
-          c.with_handle-next.ensures c.opened-w.ensures _ _ _ (c.taken-fell.ensures.tables, (c.taken-fell.ensures.lower, c.taken-fell.ensures.live)) all;
+          c.with_handle-next.ensures c.opened-w.ensures _ _ _ (rw c.label-2.ensures at c.taken-fell.ensures.tables, (c.taken-fell.ensures.lower, c.taken-fell.ensures.live)) all;
     }

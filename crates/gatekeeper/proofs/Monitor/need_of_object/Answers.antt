@@ -27,5 +27,5 @@ returns c =
     let g = owned_long m c.well_formed.0 in
     let f = subst (λ (l : List Object). Found l m.numbers c.args.o c.slot_of-i.result) c.single-single.ensures c.slot_of-i.ensures in
     let z = told_need m g.objects (read_wf (once m) (once_long m g))
-    c.args.o c.slot_of-i.result c.of_object.result f (inl (omega (arith, c.if-i-ge-OBJECT_NUMBERS.false), c.of_object.ensures)) in
+    c.args.o c.slot_of-i.result c.need.result f (inl (omega (arith, c.if-i-ge-OBJECT_NUMBERS.false), c.need.ensures)) in
     record { kept = z.0; right = z.1 }

@@ -29,6 +29,6 @@ returns c =
     let m = c.args.self in
     let g = owned_long m c.well_formed.0 in
     let w = read_wf (once m) (once_long m g) in
-    let z = subject_need m g.objects w c.args.s c.of_subject.result (subject_told (once m) w _ c.subject-x.result (unmoved m c.args.s ∙ c.subject-x.ensures) _
-    c.if-x-eq0.false c.of_subject.ensures) in
+    let z = subject_need m g.objects w c.args.s c.need.result (subject_told (once m) w _ c.subject-x.result (unmoved m c.args.s ∙ c.subject-x.ensures) _
+    c.if-x-eq0.false c.need.ensures) in
     record { kept = z.0; right = z.1 }

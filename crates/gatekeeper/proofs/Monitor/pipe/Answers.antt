@@ -9,4 +9,4 @@ returns-in-Err c = λ w room. stops (c.in-Err.ensures _ _ w c.subject-x.ensures 
 
 pub returns : goal.returns
 returns c = λ w room. pipes _ (owned_long _ c.well_formed.0) _ _ _ _ _ _ _ _ _ w (c.in_default.ensures _ _ w c.subject-x.ensures c.object-y.ensures.stands c.handle-h.ensures c.handle-k.ensures room).said room c.subject-x.ensures
-    c.with_object-after.ensures c.with_ends-joined.ensures c.of_subject.ensures c.with_object-needs.ensures
+    c.with_object-after.ensures c.with_ends-joined.ensures c.need-need.ensures c.with_need-needs.ensures

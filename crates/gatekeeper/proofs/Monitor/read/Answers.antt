@@ -14,5 +14,5 @@ returns c =
     λ w.
     let z = c.in_default.ensures _ _ _ w c.subject-x.ensures c.handle-h.ensures in
     reads _ (owned_long _ c.well_formed.0) _ _ _ _ _ _ _ _ _ w z.said c.subject-x.ensures c.handle-h.ensures c.object-y.ensures.stands
-    c.fallen-put.ensures (c.taken-t.ensures.tables, (c.taken-t.ensures.lower, c.taken-t.ensures.live))
+    (rw c.label.ensures at c.fallen-put.ensures) (rw c.label-2.ensures at c.taken-t.ensures.tables, (c.taken-t.ensures.lower, c.taken-t.ensures.live))
     (c.not_refused.ensures ∙ ap (outcome c.taken-t.result.lower c.fallen-put.result.level) c.lost-lost.ensures)

@@ -9,4 +9,4 @@ returns-in-Err c = λ w room. stops (c.in-Err.ensures _ w c.object-y.ensures.sta
 
 pub returns : goal.returns
 returns c = λ w room. registers _ (owned_long _ c.well_formed.0) _ _ _ _ _ _ w (c.in_default.ensures _ w c.object-y.ensures.stands room).said room c.with_object-after.ensures
-    c.code.ensures c.with_object-needs.ensures
+    c.object_label.ensures c.with_need-needs.ensures

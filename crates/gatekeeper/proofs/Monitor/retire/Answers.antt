@@ -1,4 +1,7 @@
 -- `gatekeeper::Monitor::retire` meets its contract. Assumes nothing.
+use borrow.Author.Rules.{rules}
+use mathlib.Core.Path.{◌≡◌}
+use Rattle.tables.specs.Records.{no_object}
 use Rattle.gatekeeper.proofs.Acting.{stops, ends}
 use Rattle.gatekeeper.proofs.Owned.{owned_long}
 use Rattle.gatekeeper.proofs.Storing.{retire_late, retires}
@@ -18,5 +21,6 @@ returns c =
     λ w.
     let g = owned_long _ c.well_formed.0 in
     let z = c.in_default.ensures _ _ w c.object-y.ensures.stands in
+    let e : c.default.result ≡ no_object = search rules in
     retires _ g _ z _ _ w c.object-y.ensures.stands (c.in_default-last.ensures _ _ z (retire_late _ g _ z _ c.is_open-busy.ensures)).is
-    c.with_object-rest.ensures
+    (rw e at c.with_object-rest.ensures)

@@ -20,5 +20,5 @@ returns c =
     let sank = c.is_less-sank.ensures ∙ ap₂ (λ (i j : Label). not (leq i j)) c.object_label-2.ensures c.object_label.ensures in
     let either : c.if-sank.fell ≡ (c.is_less-sank.result || c.is_lower-lower.result) = search rules in
     writes _ (owned_long _ c.well_formed.0) _ _ _ _ _ _ _ _ _ _ w z.said c.subject-x.ensures c.handle-h.ensures c.object-y.ensures.is
-    c.sunken-put.ensures c.reread-readers.ensures.tables c.reread-readers.ensures.live c.is_lower-lower.ensures c.with_object-rest.ensures
+    (rw c.label.ensures at c.sunken-put.ensures) c.reread-readers.ensures.tables c.reread-readers.ensures.live c.is_lower-lower.ensures c.with_object-rest.ensures
     (c.not_refused.ensures ∙ ap₂ (λ (b : Bool) (k : ℕ). outcome b c.sunken-put.result.level k) (either ∙ ap (λ (b : Bool). b || c.is_lower-lower.result) sank) c.lost-lost.ensures)
