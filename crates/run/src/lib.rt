@@ -18,15 +18,6 @@ pub struct Ran {
     pub made: usize,
 }
 
-fn fewer(a: usize, b: usize) -> usize
-    ensures { result ≡ lesser a b }
-{
-    if a < b {
-        return a;
-    }
-    b
-}
-
 // Makes the calls of the list one after the other, from empty tables, as many as the list has and as there is room to answer. A call
 // is seven numbers, its code first; an answer is three bytes, its letter, then its level or refusal number, then how many marks were lost.
 pub fn run(calls: &[u64], out: &mut [u8]) -> Ran
@@ -37,10 +28,9 @@ pub fn run(calls: &[u64], out: &mut [u8]) -> Ran
     ensures honest { Honest result.monitor }
     ensures sure { result.monitor.sure ≡ 1 }
 {
-    let n = fewer(calls.len() / 7, out.len() / 3);
+    let n = (calls.len() / 7).min(out.len() / 3);
     let mut m = Monitor::empty();
-    let mut i: usize = 0;
-    while i < n {
+    for i in 0..n {
         let at = i * 7;
         let r = m.call(
             calls[at],
@@ -51,13 +41,11 @@ pub fn run(calls: &[u64], out: &mut [u8]) -> Ran
             calls[at + 5],
             calls[at + 6],
         );
-        let answer = r.answer;
         let to = i * 3;
-        out[to] = answers::letter(answer);
-        out[to + 1] = answers::value(answer);
-        out[to + 2] = answers::lost(answer);
+        out[to] = answers::letter(r.answer);
+        out[to + 1] = answers::value(r.answer);
+        out[to + 2] = answers::lost(r.answer);
         m = r.monitor;
-        i += 1;
     }
     Ran {
         monitor: m,

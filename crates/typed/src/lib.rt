@@ -16,7 +16,7 @@ ghost use Rattle.lines.specs.Calls.{uses, unused_call, stage_calls, counted_from
 ghost use Rattle.typed.specs.Typed.{Typed, Handed};
 ghost use Rattle.typed.specs.Working.{counting, raw_of, raws_of, Works, Good, Stands};
 
-use answers::Answer;
+use answers::{Answer, Granted};
 use gatekeeper::Monitor;
 use lines::Stage;
 use tally::Tally;
@@ -115,9 +115,9 @@ impl Outcome {
     {
         let mut out = self;
         match answer {
-            Answer::Allowed(_) => out.allowed = self.allowed.wrapping_add(1),
-            Answer::Lowered(_, _) => out.lowered = self.lowered.wrapping_add(1),
-            Answer::Refused(_) => out.refused = self.refused.wrapping_add(1),
+            Ok(Granted::Allowed(_)) => out.allowed = self.allowed.wrapping_add(1),
+            Ok(Granted::Lowered(_, _)) => out.lowered = self.lowered.wrapping_add(1),
+            Err(_) => out.refused = self.refused.wrapping_add(1),
         }
         out
     }

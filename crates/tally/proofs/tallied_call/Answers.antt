@@ -12,7 +12,7 @@ use Rattle.tally.proofs.tallied_call.Goals as goal
 pub returns-then-is_refused : goal.returns-then-is_refused
 returns-then-is_refused c =
     let a = c.args in
-    let k = c.call-r in (
+    let k = c.call-reply in (
       k.ensures,
       record {
         same = λ n q. refl;
@@ -24,16 +24,14 @@ returns-then-is_refused c =
 pub returns : goal.returns
 returns c =
     let a = c.args in
-    let k = c.call-r in
+    let k = c.call-reply in
     let t = clean (view a.monitor) in (
       k.ensures,
       record {
         same = λ n q. absurd (not_refused (told k.result.answer) n q (sym c.is_refused.ensures ∙ c.if-is_refused.false));
         counts = λ h. tally_moved (told k.result.answer) t (decode (direct a.code a.a a.b a.c a.d a.e a.f)) (counts_of a.tally) _ _
             (k.ensures.answered h) (sym c.is_refused.ensures ∙ c.if-is_refused.false)
-            (c.wrapping_add_u64-made.ensures.value ∙ ap (λ n. wrapped (a.tally.made + n))
-            (c.made_by.ensures h ∙ sym (makes_is t a.code a.a a.b a.c a.d a.e a.f)))
-            (c.wrapping_add_u64-gone.ensures.value ∙ ap (λ n. wrapped (a.tally.gone + n))
-            (c.gone_by.ensures h ∙ sym (removes_is t a.code a.a a.b a.c a.d a.e a.f)));
+            (ap (λ n. wrapped (a.tally.made + n)) (c.made_by.ensures h ∙ sym (makes_is t a.code a.a a.b a.c a.d a.e a.f)))
+            (ap (λ n. wrapped (a.tally.gone + n)) (c.gone_by.ensures h ∙ sym (removes_is t a.code a.a a.b a.c a.d a.e a.f)));
       },
     )
