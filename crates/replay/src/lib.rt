@@ -14,7 +14,7 @@ ghost use Rattle.replay.specs.Replay.{reply, largest_journal, Begun};
 ghost use Rattle.replay.specs.Demand3.{Ended};
 ghost use Rattle.replay.specs.Stage.{whole, refusal, Ends};
 
-use answers::Answer;
+use answers::{Answer, Refusal};
 use gatekeeper::Monitor;
 use journal::{BadBody, Broken, Record};
 use tally::Tally;
@@ -54,13 +54,13 @@ pub fn one(m: Monitor, tally: Tally, body: &[u8]) -> Replied
             monitor: m,
             tally,
             code,
-            answer: Answer::Refused(1),
+            answer: Err(Refusal::UnknownCode),
         },
         Err(BadBody::Malformed(code)) => Replied {
             monitor: m,
             tally,
             code,
-            answer: Answer::Refused(12),
+            answer: Err(Refusal::RecordBroken),
         },
     }
 }
