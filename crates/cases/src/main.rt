@@ -2,7 +2,6 @@
 // replies, one after the other, then each number with its bytes. Over each journal stands the name that the independent program has for it.
 #![tactic(auto)]
 
-use number::{Number, Written};
 use std::io::{Stderr, Stdout};
 
 // Where the program writes: the replies, and what fails. A write that fails is not said.
@@ -19,10 +18,10 @@ const ROOM: usize = 1024;
 fn show(to: Outputs, journal: &[u8]) {
     let mut text = [0u8; ROOM];
     match replay::replay(journal, &mut text) {
-        Written::Bytes(k) => {
+        Some(k) => {
             let _ = to.output.write_all(&text[..k]);
         }
-        Written::NoRoom => {
+        None => {
             let _ = to
                 .error
                 .write_all(b"cases: a reply is longer than the room for it\n");
@@ -333,12 +332,12 @@ fn show_bytes(to: Outputs, bytes: &[u8]) {
 fn written(to: Outputs, n: u64) {
     let mut bytes = [0u8; number::LONGEST];
     match number::write_number(&mut bytes, n) {
-        Written::Bytes(k) => {
+        Some(k) => {
             let _ = print!(to.output; "{n}");
             show_bytes(to, &bytes[..k]);
             let _ = to.output.write_all(b"\n");
         }
-        Written::NoRoom => {
+        None => {
             let _ = to
                 .error
                 .write_all(b"cases: a number is longer than the room for it\n");
@@ -349,12 +348,12 @@ fn written(to: Outputs, n: u64) {
 // Reads a number that is malformed; then, on a line, that, and its bytes.
 fn misread(to: Outputs, bytes: &[u8]) {
     match number::read_number(bytes) {
-        Number::Good { value, used } => {
+        Some(_) => {
             let _ = to
                 .error
                 .write_all(b"cases: a number is read that is malformed\n");
         }
-        Number::Malformed => {
+        None => {
             let _ = to.output.write_all(b"malformed");
             show_bytes(to, bytes);
             let _ = to.output.write_all(b"\n");

@@ -41,7 +41,7 @@ use Rattle.gatekeeper.proofs.Keeping.{read_wf, dead, alive}
 use Rattle.gatekeeper.proofs.Numbered.{single_long, once_long}
 use Rattle.gatekeeper.proofs.Telling.{view_read, told_subject, told_place, told_entry}
 use Rattle.stored.specs.State.{state_bytes, Sized, subject_width, object_width, handle_width, byte_width, need_width, number_width, objects_at, handles_at, made_at, gone_at, freeze_at, needs_at, numbers_at, groups_at}
-use Rattle.stored.specs.State.{records, live_of, sort_of, ways, live_byte, subject_of, object_of, handle_of, byte_of, whole}
+use Rattle.stored.specs.State.{records, live_byte, subject_of, object_of, handle_of, byte_of, whole}
 use Rattle.stored.specs.State.{subjects_of, objects_of, handles_of, made_of, gone_of, freeze_of, needs_of, numbers_of, groups_of, monitor_of, tally_of, need_bytes, Narrow, state_view, state_right, PutRight}
 use Rattle.stored.specs.State.Laws.{length_records, getD_records, numbers_stored, numbers_loaded}
 use Rattle.host.specs.Numbers.{seen_entry, members, seen_group, seen_handle, seen_object, seen_label, SeenNeed}

@@ -1,5 +1,5 @@
 -- Lent bytes as an array of a state's length: the array is those bytes, which then have that length; and what is loaded from them says nothing of itself. Assumes nothing.
-use Rattle.std.proofs.Common.{◌≡◌, ℕ, List, length, cond, Bool, true, sym, ◌∙◌, ap, arith, eq-eqb}
+use Rattle.std.proofs.Common.{◌≡◌, ℕ, List, length, cond, Bool, sym, ◌∙◌, ap, arith, eq-eqb}
 use Rattle.std.specs.Array.{IsWholeChunk}
 use Rattle.gatekeeper.specs.View.{Honest}
 use Rattle.stored.specs.State.{state_bytes, Sized, monitor_of}

@@ -15,7 +15,7 @@ use Rattle.model.specs.Calls.{Raw, answers, after}
 use Rattle.model.specs.Tally.{tally}
 use Rattle.model.proofs.Promise.Laws.{runs_right}
 use Rattle.gatekeeper.specs.declared.Monitor.{Monitor}
-use Rattle.gatekeeper.specs.View.{slots, straight_view, once, view, Honest, Tidy, monitors}
+use Rattle.gatekeeper.specs.View.{slots, straight_view, once, view, Tidy, monitors}
 use Rattle.gatekeeper.specs.View.Laws.{honest_tidy}
 use Rattle.gatekeeper.proofs.Owned.{Long}
 use Rattle.gatekeeper.proofs.Keeping.{read_wf}

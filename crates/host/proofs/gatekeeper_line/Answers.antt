@@ -1,7 +1,7 @@
 -- `host::gatekeeper_line` meets its contract. Assumes nothing.
 use Rattle.std.proofs.Common.{ap, ◌∙◌}
 use Rattle.stored.specs.State.{monitor_of, tally_of}
-use Rattle.host.proofs.Typing.{types_still, types_moved, types_unsized}
+use Rattle.host.proofs.Typing.{types_still, types_moved}
 use Rattle.host.proofs.gatekeeper_line.Goals as goal
 use Rattle.host.proofs.gatekeeper_line.Goals.{then-out, else-out}
 

@@ -2,7 +2,7 @@
 use Rattle.std.proofs.Common.{sym, ◌∙◌, subst₂, List, ℕ}
 use Rattle.tables.specs.declared.Subject.{Subject}
 use Rattle.groups.specs.Groups.{kin_of, Leads}
-use Rattle.stored.specs.State.{state_bytes, subjects_of, groups_of, state_view}
+use Rattle.stored.specs.State.{state_bytes, groups_at, subjects_of, groups_of, state_view}
 use Rattle.stored.proofs.Loading.{in_part}
 use Rattle.host.specs.Numbers.{seen_group}
 use Rattle.host.proofs.Sizing.{array_sized, sized_by}
@@ -21,6 +21,6 @@ returns c =
     let t = c.in-Some.state.now in
     let leads =
     subst₂ (λ (ss : List Subject) (gs : List ℕ). Leads (kin_of ss gs) c.leads-leads.result) (c.load_part-subjects.ensures ∙ in_part _ _ _ 0 state_bytes t (array_sized k))
-    (c.load_part-groups.ensures ∙ in_part _ _ _ 2545 32 t (array_sized k)) c.leads-leads.ensures in
+    (c.load_part-groups.ensures ∙ in_part _ _ _ groups_at 32 t (array_sized k)) c.leads-leads.ensures in
     sized_by (λ u. seen_group (state_view u) c.args.s) 0 k
     (c.packed.ensures ∙ sym (group_lowest t (array_sized k) c.args.s _ c.subject_in.ensures c.leads-leads.result c.if-subject_in-eq0.false leads))

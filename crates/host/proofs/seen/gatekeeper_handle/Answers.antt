@@ -2,7 +2,7 @@
 use Rattle.std.proofs.Common.{◌∙◌, ◌≡◌, Bool, true, false, not, refl, ℕ, cond, eqb}
 use mir.Val.{bool_byte}
 use Rattle.model.specs.Tables.{clean}
-use Rattle.stored.specs.State.{state_view, live_byte}
+use Rattle.stored.specs.State.{state_view}
 use Rattle.host.specs.Numbers.{seen_handle}
 use Rattle.host.proofs.Sizing.{array_sized, sized_by}
 use Rattle.host.proofs.Seeing.{handle_empty, handle_some}

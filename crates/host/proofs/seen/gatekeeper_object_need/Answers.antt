@@ -1,5 +1,5 @@
 -- `host::seen::gatekeeper_object_need` meets its contract. Assumes nothing.
-use Rattle.std.proofs.Common.{◌∙◌, ◌<◌, ◌≡◌, refl, inl, inr, subst₂, List, ℕ, ◌+◌, ◌%◌, arith}
+use Rattle.std.proofs.Common.{◌∙◌, ◌<◌, refl, inl, inr, subst₂, List, ℕ, arith}
 use Rattle.tables.specs.declared.Object.{Object}
 use Rattle.tables.specs.Slots.{Found}
 use Rattle.gatekeeper.proofs.Telling.{told_need}

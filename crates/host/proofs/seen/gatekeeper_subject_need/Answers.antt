@@ -1,9 +1,9 @@
 -- `host::seen::gatekeeper_subject_need` meets its contract. Assumes nothing.
-use Rattle.std.proofs.Common.{ap, ◌∙◌, ◌<◌, subst, List, ℕ, arith}
+use Rattle.std.proofs.Common.{ap, ◌∙◌, ◌<◌, arith}
 use Rattle.gatekeeper.proofs.Keeping.{subject_dead, subject_told}
 use Rattle.gatekeeper.specs.View.{once, kept_need}
 use Rattle.gatekeeper.proofs.Telling.{subject_need}
-use Rattle.stored.specs.State.{monitor_of, needs_of, state_right}
+use Rattle.stored.specs.State.{monitor_of, needs_of}
 use Rattle.host.specs.Numbers.{seen_label}
 use Rattle.host.proofs.Sizing.{array_sized, sized_by}
 use Rattle.host.proofs.Seeing.{need_seen, objects_long, state_wf, subject_slot, subject_right}
