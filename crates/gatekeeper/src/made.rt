@@ -10,7 +10,7 @@ ghost use Rattle.refusals.specs.Refusing.{Room, direction};
 use crate::{Monitor, Reply, SURE};
 use answers::Granted;
 use keeping::Thing;
-use tables::{FILE, Handle, Object, PIPE, READS, Subject, WRITES, looks};
+use tables::{FILE, Handle, Object, PIPE, Subject, looks};
 
 impl Monitor {
     // Call 1: a new subject from outside, in a group of its own, with no handles, and so with no need.

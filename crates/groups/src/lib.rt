@@ -5,7 +5,7 @@
 
 ghost use Rattle.std.specs.Prelude.{◌≡◌, false, not, ◌&&◌, ◌||◌, cond, List, ℕ, ◌%◌, ◌<◌, get_or, set, eqb};
 ghost use Rattle.std.proofs.Math.Option.{none};
-ghost use Rattle.model.specs.Tables.{Tables, with_hand, with_kin};
+ghost use Rattle.model.specs.Tables.{Tables, with_kin};
 ghost use Rattle.model.specs.Steps.{applies};
 ghost use Rattle.model.specs.Calls.{sheds};
 ghost use Rattle.tables.specs.declared.Subject.{Subject};

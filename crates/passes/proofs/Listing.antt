@@ -3,7 +3,7 @@ use mathlib.Core.Path.{◌≡◌, sym, ◌∙◌, ap, subst, subst₂}
 use mathlib.Core.Bool.{Bool, true, false, cond}
 use mathlib.Core.Logic.{◌⊎◌, inl, inr}
 use mathlib.Core.List.{List, [], ◌∷◌, ◌++◌, map}
-use Prim.Native.Nat.{ℕ, ◌+◌, ◌/◌, ◌%◌, ◌<◌}
+use Prim.Native.Nat.{ℕ, ◌+◌, ◌%◌, ◌<◌}
 use native.Mathlib.Omega.{arith}
 use native.Mathlib.Decide.{ℕ_discrete}
 use native.Mathlib.Nat.{le_refl}
@@ -18,7 +18,7 @@ use Rattle.tables.specs.declared.Handle.{Handle}
 use Rattle.passes.specs.declared.edge.Edge.{Edge}
 use Rattle.tables.specs.Records.{reads_by, no_handle}
 use Rattle.passes.specs.Least.{Before, Settled, Between}
-use Rattle.passes.specs.Working.{alike, end_by, lead_of, source, target}
+use Rattle.passes.specs.Working.{alike, end_by, source, target}
 use Rattle.passes.specs.Listing.{start_at, end_at, Flow, Listed}
 
 -- ── one handle ──
