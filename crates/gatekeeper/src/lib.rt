@@ -4,7 +4,8 @@
 // once, in `made`, `moved`, `gone`, `frozen` and `connected`, for tables in which nothing dangles, and by slot; `seats` finds the slots of the objects that a call
 // names, also for crate `why`, which goes by slot, too; `direct` has the direct call, for every monitor value; `kept` the needs that are kept beside the tables. No `?`
 // stands in the calls: each answers with a monitor (a rule of the project), and so hands it back with its refusal. An array goes into its field by a variable: the prover
-// follows no store of a call's result, or of another field, into a field that is an array.
+// follows no store of a call's result, or of another field, into a field that is an array. `Wf` stands in front of what the calls promise, and in no type: of a monitor
+// that says that it is sure and is not, it is false, and calls take that monitor, too.
 #![tactic(auto)]
 
 ghost use Rattle.std.specs.Prelude.{◌≡◌, ◌%◌, get_or};
@@ -33,7 +34,7 @@ pub mod seats;
 // of subject s is handle 16 s + p. A freeze of NO_FREEZE and above says that no file is frozen. Two live subjects are in one group where their bytes of `groups` are equal. `sure` is SURE where this value says of itself that its slots in use
 // have numbers that differ, that nothing dangles in it, that its kept needs are right and that no label is below its need, as it is of what calls from the empty
 // tables make, and of what `assured` does: then calls go by the kept needs, and look for no dangling handle. Any other byte says nothing, and calls work out what
-// they go by.
+// they go by. (Arrays side by side, a byte that says SURE, and no parts of their own: C programs hold this struct; and it is the rules' one struct of arrays.)
 #[repr(C)]
 #[derive(Clone, Copy)]
 pub struct Monitor {

@@ -1,6 +1,6 @@
 // Needs that are kept: one figure for each subject and then one for each object. What stands there, one figure stored, and the figures
 // after a handle came and after handles have gone. Where a quick test tells that no need changes, the figures are those that were; else they are worked
-// out anew.
+// out anew. What holds of the tables stands in front of each promise, and in no type: `Wf` is false of some monitors that calls take (crate `gatekeeper`).
 #![tactic(auto)]
 
 ghost use Rattle.std.specs.Prelude.{◌≡◌, true, not, ◌&&◌, cond, List, ℕ, ◌+◌, ◌%◌, ◌<◌, length, get_or, set, T};

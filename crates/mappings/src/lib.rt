@@ -79,7 +79,7 @@ pub fn is_lower(before: [Subject; SUBJECTS], after: [Subject; SUBJECTS]) -> bool
 
 // ---- what one takes in, its mates do
 
-// The subjects once one of them has taken something in, and whether some label is smaller by that.
+// The subjects once one of them has taken something in, and whether some label is smaller by that. (Two answers, and no Option: the subjects are read either way.)
 #[derive(Clone, Copy)]
 pub struct Taking {
     pub subjects: [Subject; SUBJECTS],

@@ -3,7 +3,8 @@
 // goes before them.
 //
 // The records are those at the numbers that the call names, empty ones where a number is out of range (`looks`); of an object the number is that of its slot. That
-// there is no room for a new object is told by a slot that is none of the OBJECTS, which is what `Room` in specs/Refusing.antt asks of the caller.
+// there is no room for a new object is told by a slot that is none of the OBJECTS, which is what `Room` in specs/Refusing.antt asks of the caller. Which tables the records
+// are of stands in front of each promise, and in no type: the records are the C struct's, and no tables are passed.
 #![tactic(auto)]
 
 ghost use Rattle.std.specs.Prelude.{◌≡◌, not, ◌||◌, ℕ, cond, eqb, leb};

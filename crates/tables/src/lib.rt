@@ -29,7 +29,7 @@ pub const NO_FREEZE: u8 = 16;
 // OBJECTS, for a slot as a number of 64 bits.
 pub const OBJECT_NUMBERS: u64 = 64;
 
-// The kinds of an object; any other byte is a pipe, too.
+// The kinds of an object; any other byte is a pipe, too. (Numbers, and no enums, here and below: C programs hold these records, and every byte in them is a value.)
 pub const FREE: u8 = 0;
 
 pub const FILE: u8 = 1;

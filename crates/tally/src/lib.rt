@@ -88,7 +88,7 @@ fn dropped_by(handles: [Handle; HANDLES], s: u64) -> u64
     count(row) - count(handles::lasting(row))
 }
 
-// How many an exec by subject s removes: those that it drops, and all of its mates.
+// How many an exec by subject s removes: those that it drops, and all of its mates. (`Honest` is no invariant of a type: the call takes any monitor.)
 fn shed_by(monitor: Monitor, s: u64) -> u64
     ensures { Honest monitor → result ≡ drops (clean (view monitor)) s + ousted (clean (view monitor)) s }
 {

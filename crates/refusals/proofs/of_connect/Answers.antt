@@ -20,16 +20,16 @@ pub returns-then-a-ge-OBJECT_NUMBERS : goal.returns-then-a-ge-OBJECT_NUMBERS
 returns-then-a-ge-OBJECT_NUMBERS c =
     let a = c.args in
     of_connect a.s a.u a.a a.b a.p a.q a.x a.z a.y a.v a.h a.k a.i a.j {b2 = false} {b16 = false} {b3 = false} {b17 = true} (search rules) (search rules) (search rules) (search rules)
-        refl
+    refl
 
 pub returns-then-are_ends_used : goal.returns-then-are_ends_used
 returns-then-are_ends_used c =
     let a = c.args in
     of_connect a.s a.u a.a a.b a.p a.q a.x a.z a.y a.v a.h a.k a.i a.j {b2 = false} {b16 = false} {b3 = false} {b17 = false} {b7 = true} (search rules) (search rules) (search rules)
-        (search rules) (search rules)
+    (search rules) (search rules)
 
 pub returns : goal.returns
 returns c =
     let a = c.args in
     of_connect a.s a.u a.a a.b a.p a.q a.x a.z a.y a.v a.h a.k a.i a.j {b2 = false} {b16 = false} {b3 = false} {b17 = false} {b7 = false} (search rules) (search rules) (search rules)
-        (search rules) (search rules)
+    (search rules) (search rules)
