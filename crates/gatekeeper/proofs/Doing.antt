@@ -101,9 +101,6 @@ module _ (t : Tables) (c : Call) (e : refusal t c ≡ none) where
       pub step_is : t.at (subject s) ≡ some (entry running (label x.level x.shops))
       step_is = step_full.0
 
-      pub step_lives : eqb x.live 0 ≡ false
-      step_lives = step_full.1
-
       pub cell_is : t.at (cell t s) ≡ some (entry running (label x.level x.shops))
       cell_is = ap t.at (cell_self t s) ∙ step_is
 

@@ -127,10 +127,6 @@ module _ (rest : Tables) (ss : List Subject) (gs : List ℕ) (os : List Object) 
         there = subst (λ (o : Option Entry). T (is_some o)) (effect_at t c (object k.to))
             (subst T (used_is (effect t c) (object k.to)) (live_of (effect t c) (object k.to) (after_wf.ends s p k q).to).1)
 
-    hand_now : (next : List Handle) (h : ℕ → ℕ → Option Held) → tables_of rest ss os next ≡ with_hand t h → h ≡ hands next
-    unfolding tables_of
-    hand_now next h q = sym (ap (λ (v : Tables). v.hand) q)
-
     -- a call that any thing may be behind
     module _ (new_low : (n : ℕ) → In n (made (steps t c)) → n < 64) (kin : (effect t c).kin ≡ t.kin) (starts : (x : Thing) → Begins c x x)
         (started : (a x : Thing) → Begins c a x → a ≡ x) where
