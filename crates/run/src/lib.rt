@@ -9,6 +9,7 @@ ghost use Rattle.model.specs.Demand3.{Demand3};
 ghost use Rattle.gatekeeper.specs.View.{view, Honest, Right};
 ghost use Rattle.run.specs.Buffers.{lesser, calls_in, bytes, answers_in};
 
+use calls::{Call, Numbers};
 use gatekeeper::Monitor;
 
 // The monitor at the end, and how many calls were made.
@@ -32,15 +33,17 @@ pub fn run(calls: &[u64], out: &mut [u8]) -> Ran
     let mut m = Monitor::empty();
     for i in 0..n {
         let at = i * 7;
-        let r = m.call(
-            calls[at],
-            calls[at + 1],
-            calls[at + 2],
-            calls[at + 3],
-            calls[at + 4],
-            calls[at + 5],
-            calls[at + 6],
-        );
+        let r = m.call(Call {
+            code: calls[at],
+            numbers: Numbers {
+                a: calls[at + 1],
+                b: calls[at + 2],
+                c: calls[at + 3],
+                d: calls[at + 4],
+                e: calls[at + 5],
+                f: calls[at + 6],
+            },
+        });
         let to = i * 3;
         out[to] = answers::letter(r.answer);
         out[to + 1] = answers::value(r.answer);

@@ -9,6 +9,7 @@ ghost use Rattle.tables.specs.Records.{hands, along};
 ghost use Rattle.gatekeeper.specs.View.{slots, once, view, Honest};
 ghost use Rattle.tally.specs.Counting.{Counting, made_by, gone_by};
 
+use calls::Call;
 use gatekeeper::{Monitor, Reply, SURE};
 use tables::{EMPTY, HANDLES, Handle, PLACES, SUBJECTS, slots};
 
@@ -64,11 +65,7 @@ fn row_by(handles: [Handle; HANDLES], s: u64) -> [Handle; PLACES]
     ensures { (p : ℕ) → along result p ≡ hands handles s p }
 {
     if SUBJECTS as u64 <= s {
-        return [Handle {
-            way: EMPTY,
-            object: 0,
-            mark: 0,
-        }; PLACES];
+        return [Handle::default(); PLACES];
     }
     handles::row_of(handles, s as usize)
 }
@@ -150,67 +147,38 @@ fn gone_by(monitor: Monitor, code: u64, s: u64) -> u64
 }
 
 // The work of a counted call, with the tally by value.
-fn tallied_call(
-    monitor: Monitor,
-    tally: Tally,
-    code: u64,
-    a: u64,
-    b: u64,
-    c: u64,
-    d: u64,
-    e: u64,
-    f: u64,
-) -> Counted
-    ensures { Counting monitor tally code a b c d e f result.reply result.tally }
+fn tallied_call(monitor: Monitor, tally: Tally, call: Call) -> Counted
+    ensures { Counting monitor tally call result.reply result.tally }
 {
-    let reply = monitor.call(code, a, b, c, d, e, f);
+    let reply = monitor.call(call);
     if answers::is_refused(reply.answer) {
         return Counted { reply, tally };
     }
+    let s = call.numbers.a;
     Counted {
         reply,
         tally: Tally {
-            made: tally.made.wrapping_add(made_by(monitor, code, a)),
-            gone: tally.gone.wrapping_add(gone_by(monitor, code, a)),
+            made: tally.made.wrapping_add(made_by(monitor, call.code, s)),
+            gone: tally.gone.wrapping_add(gone_by(monitor, call.code, s)),
         },
     }
 }
 
 // A direct call that counts: the tally is lent, and has the history's counts after it. A refused call leaves it as it was. That it stands over the work by value, and
 // that a caller by value lends its own, is the form of RULES Y12.
-pub fn lent_call(
-    monitor: Monitor,
-    tally: &mut Tally,
-    code: u64,
-    a: u64,
-    b: u64,
-    c: u64,
-    d: u64,
-    e: u64,
-    f: u64,
-) -> Reply
-    ensures { Counting monitor tally.old code a b c d e f result tally.new }
+pub fn lent_call(monitor: Monitor, tally: &mut Tally, call: Call) -> Reply
+    ensures { Counting monitor tally.old call result tally.new }
 {
-    let out = tallied_call(monitor, *tally, code, a, b, c, d, e, f);
+    let out = tallied_call(monitor, *tally, call);
     *tally = out.tally;
     out.reply
 }
 
 // The same for a caller that has a tally of its own: it is lent from here, and handed back.
-pub fn counted_call(
-    monitor: Monitor,
-    tally: Tally,
-    code: u64,
-    a: u64,
-    b: u64,
-    c: u64,
-    d: u64,
-    e: u64,
-    f: u64,
-) -> Counted
-    ensures { Counting monitor tally code a b c d e f result.reply result.tally }
+pub fn counted_call(monitor: Monitor, tally: Tally, call: Call) -> Counted
+    ensures { Counting monitor tally call result.reply result.tally }
 {
     let mut mine = tally;
-    let reply = lent_call(monitor, &mut mine, code, a, b, c, d, e, f);
+    let reply = lent_call(monitor, &mut mine, call);
     Counted { reply, tally: mine }
 }

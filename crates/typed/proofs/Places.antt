@@ -5,7 +5,7 @@ use Rattle.lines.specs.Line.{all, Pipeline, Stage}
 use Rattle.lines.specs.Reading.{End, at_bar, at_semicolon, at_end, behind, Staged, staged, Pipelined, closed, parted, joined}
 use Rattle.lines.specs.Calls.{no_stage, open_call}
 use Rattle.model.specs.Calls.{Raw}
-use Rattle.typed.specs.declared.Call.{Call}
+use Rattle.typed.specs.declared.LineCall.{LineCall}
 use Rattle.lines.specs.Told.{optional, staged_of}
 use Rattle.lines.specs.declared.Stage.{Stage as Read}
 use Rattle.lines.specs.declared.End.{End as Ended}
@@ -81,8 +81,8 @@ pub same_many : (bs : List ℕ) (p q : Pipeline) (e f : Option (List ℕ)) → P
 same_many bs p q e f w v = ap (λ (r : Pipeline). length (all r)) (pipelined_one w v).0
 
 -- what stands behind a sign, opened by a call
-pub opens_by : (o : Maybe ℕ) (m : Maybe Call) {P : ℕ → Call → Type 0} → MatchOption o (m ≡ None) (λ x. IsSomeAnd m (P x)) → (code child place : ℕ)
-    → ((x : ℕ) (r : Call) → P x r → raw_of r ≡ record { code = code; numbers = child ∷ x ∷ place ∷ [] }) → raws_of m ≡ open_call code child place (optional o)
+pub opens_by : (o : Maybe ℕ) (m : Maybe LineCall) {P : ℕ → LineCall → Type 0} → MatchOption o (m ≡ None) (λ x. IsSomeAnd m (P x)) → (code child place : ℕ)
+    → ((x : ℕ) (r : LineCall) → P x r → raw_of r ≡ record { code = code; numbers = child ∷ x ∷ place ∷ [] }) → raws_of m ≡ open_call code child place (optional o)
 opens_by None m e code child place h = ap raws_of e
 opens_by (Some x) None e code child place h = absurd e
 opens_by (Some x) (Some r) e code child place h = ap (λ (q : Raw). q ∷ []) (h x r e)

@@ -11,8 +11,8 @@ use Rattle.lines.specs.Reading.{Pipelined, Lined}
 use Rattle.lines.specs.Calls.{calls_of}
 use Rattle.typed.specs.declared.Outcome.{Outcome}
 use Rattle.typed.specs.declared.Hand.{Hand}
-use Rattle.typed.specs.declared.Call.{Call}
-use Rattle.typed.specs.declared.Call.TheVariants.{Pipe, Read, Write, Fork, Exec, Close, Exit}
+use Rattle.typed.specs.declared.LineCall.{LineCall}
+use Rattle.typed.specs.declared.LineCall.TheVariants.{Pipe, Read, Write, Fork, Exec, Close, Exit}
 use Rattle.typed.specs.Typed.{is_allowed, is_lowered, Made, moves}
 pub mod Laws
 
@@ -32,7 +32,7 @@ abbrev pub stirring : Bool → Answer → Bool
 stirring b a = b || not (refuses a)
 
 -- the rules' call
-abbrev pub raw_of : Call → Raw
+abbrev pub raw_of : LineCall → Raw
 raw_of (Pipe shell pipe reads writes) = record { code = 4; numbers = shell ∷ pipe ∷ reads ∷ writes ∷ [] }
 raw_of (Read child object place) = record { code = 5; numbers = child ∷ object ∷ place ∷ [] }
 raw_of (Write child object place) = record { code = 6; numbers = child ∷ object ∷ place ∷ [] }
@@ -41,7 +41,7 @@ raw_of (Exec child program) = record { code = 10; numbers = child ∷ program �
 raw_of (Close holder place) = record { code = 11; numbers = holder ∷ place ∷ [] }
 raw_of (Exit child) = record { code = 12; numbers = child ∷ [] }
 
-abbrev pub raws_of : Maybe Call → List Raw
+abbrev pub raws_of : Maybe LineCall → List Raw
 raws_of None = []
 raws_of (Some call) = raw_of call ∷ []
 

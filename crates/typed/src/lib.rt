@@ -6,7 +6,7 @@ ghost use Rattle.std.specs.Prelude.{◌≡◌, ℕ, ◌-◌, ◌≤◌, ◌<◌,
 ghost use Rattle.std.proofs.Math.Option.{Option};
 ghost use Rattle.model.specs.Lists.{each};
 ghost use Rattle.model.specs.Calls.{Raw, decode};
-ghost use Rattle.gatekeeper.specs.View.{direct};
+ghost use Rattle.gatekeeper.specs.View.{direct_of};
 ghost use Rattle.answers.specs.Telling.{told};
 ghost use Rattle.lines.specs.Line.{Reading, all};
 ghost use Rattle.lines.specs.Line.{Pipeline as Stages};
@@ -17,6 +17,7 @@ ghost use Rattle.typed.specs.Typed.{Typed, Handed};
 ghost use Rattle.typed.specs.Working.{counting, raw_of, raws_of, Works, Good, Stands};
 
 use answers::{Answer, Granted};
+use calls::{Call, Numbers};
 use gatekeeper::Monitor;
 use lines::Stage;
 use tally::Tally;
@@ -74,7 +75,7 @@ impl First {
 
 // The calls of lines, each with its numbers in the rules' order.
 #[derive(Clone, Copy)]
-enum Call {
+enum LineCall {
     // The shell, the pipe, and the places of its reading and its writing end.
     Pipe(u64, u64, u64, u64),
     // The child that opens an object, the object, and the place.
@@ -90,20 +91,30 @@ enum Call {
     Exit(u64),
 }
 
-impl Call {
+impl LineCall {
     // Its code, and its numbers.
     #[tactic(auto, unfolding(model::specs::Calls::decode))]
-    fn coded(self) -> (u64, u64, u64, u64, u64)
-        ensures { decode (direct result.0 result.1 result.2 result.3 result.4 0 0) ≡ decode (raw_of self) }
+    fn coded(self) -> Call
+        ensures { decode (direct_of result) ≡ decode (raw_of self) }
     {
-        match self {
-            Call::Pipe(shell, pipe, reads, writes) => (4, shell, pipe, reads, writes),
-            Call::Read(child, object, place) => (5, child, object, place, 0),
-            Call::Write(child, object, place) => (6, child, object, place, 0),
-            Call::Fork(shell, child) => (9, shell, child, 0, 0),
-            Call::Exec(child, program) => (10, child, program, 0, 0),
-            Call::Close(holder, place) => (11, holder, place, 0, 0),
-            Call::Exit(child) => (12, child, 0, 0, 0),
+        let (code, a, b, c, d) = match self {
+            LineCall::Pipe(shell, pipe, reads, writes) => (4, shell, pipe, reads, writes),
+            LineCall::Read(child, object, place) => (5, child, object, place, 0),
+            LineCall::Write(child, object, place) => (6, child, object, place, 0),
+            LineCall::Fork(shell, child) => (9, shell, child, 0, 0),
+            LineCall::Exec(child, program) => (10, child, program, 0, 0),
+            LineCall::Close(holder, place) => (11, holder, place, 0, 0),
+            LineCall::Exit(child) => (12, child, 0, 0, 0),
+        };
+        Call {
+            code,
+            numbers: Numbers {
+                a,
+                b,
+                c,
+                d,
+                ..Numbers::default()
+            },
         }
     }
 }
@@ -125,11 +136,11 @@ impl Outcome {
 
 impl Hand {
     // A call, made and counted.
-    fn made(self, call: Call) -> Hand
+    fn made(self, call: LineCall) -> Hand
         ensures { Works self (raws_of (Some call)) result }
     {
-        let (code, a, b, c, d) = call.coded();
-        let counted = tally::counted_call(self.monitor, self.tally, code, a, b, c, d, 0, 0);
+        let coded = call.coded();
+        let counted = tally::counted_call(self.monitor, self.tally, coded);
         let answer = counted.reply.answer;
         Hand {
             monitor: counted.reply.monitor,
@@ -140,7 +151,7 @@ impl Hand {
     }
 
     // A call, where there is one.
-    fn perhaps(self, call: Option<Call>) -> Hand
+    fn perhaps(self, call: Option<LineCall>) -> Hand
         ensures { Works self (raws_of call) result }
     {
         match call {
@@ -180,7 +191,7 @@ fn close_unused(hand: Hand, child: u64, i: u64, place: u64) -> Hand
     if is_used(i, place) {
         return hand;
     }
-    hand.made(Call::Close(child, place))
+    hand.made(LineCall::Close(child, place))
 }
 
 // Stage i: its child is made, closes what it does not use, opens what it was given, and runs its program.
@@ -189,11 +200,11 @@ fn stage(hand: Hand, first: First, pipes: u64, i: u64, s: Stage) -> Hand
     ensures { Works hand (stage_calls first.shell pipes i (counted_from first.child i) (stage_of s)) result }
 {
     let child = first.nth_child(i);
-    hand.made(Call::Fork(first.shell, child))
+    hand.made(LineCall::Fork(first.shell, child))
         .each(2 * pipes, |h, place| close_unused(h, child, i, place))
-        .perhaps(s.from.map(|object| Call::Read(child, object, 14)))
-        .perhaps(s.into.map(|object| Call::Write(child, object, 15)))
-        .made(Call::Exec(child, s.program))
+        .perhaps(s.from.map(|object| LineCall::Read(child, object, 14)))
+        .perhaps(s.into.map(|object| LineCall::Write(child, object, 15)))
+        .made(LineCall::Exec(child, s.program))
 }
 
 // ---- a pipeline
@@ -222,11 +233,11 @@ fn pipeline(hand: Hand, line: &[u8], n: u64, first: First) -> Hand
     let pipes = n - 1;
     let ends = 2 * pipes;
     let joined = hand.each(pipes, |h, i| {
-        h.made(Call::Pipe(first.shell, first.nth_pipe(i), 2 * i, 2 * i + 1))
+        h.made(LineCall::Pipe(first.shell, first.nth_pipe(i), 2 * i, 2 * i + 1))
     });
     stages(joined, line, n, first)
-        .each(ends, |h, place| h.made(Call::Close(first.shell, place)))
-        .each(n, |h, i| h.made(Call::Exit(first.nth_child(i))))
+        .each(ends, |h, place| h.made(LineCall::Close(first.shell, place)))
+        .each(n, |h, i| h.made(LineCall::Exit(first.nth_child(i))))
 }
 
 // ---- the line
