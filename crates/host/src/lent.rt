@@ -6,6 +6,7 @@ ghost use Rattle.gatekeeper.specs.View.{direct};
 ghost use Rattle.quick.specs.Parts.{Tried};
 ghost use Rattle.host.specs.Lending.{Lends, LendsLine, Begins, Assures};
 
+use calls::{Call, Numbers};
 use gatekeeper::Monitor;
 use tally::Tally;
 use typed::Outcome;
@@ -45,7 +46,8 @@ pub extern "C" fn gatekeeper_monitor_call(
 ) -> u32
     ensures { Lends state.old (direct code a b c d e f) result state.new }
 {
-    let reply = tally::lent_call(state.monitor, &mut state.tally, code, a, b, c, d, e, f);
+    let numbers = Numbers { a, b, c, d, e, f };
+    let reply = tally::lent_call(state.monitor, &mut state.tally, Call { code, numbers });
     state.monitor = reply.monitor;
     crate::to_number(reply.answer)
 }

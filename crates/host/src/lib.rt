@@ -107,7 +107,8 @@ pub extern "C" fn gatekeeper_call(
     };
     let monitor = stored::load_monitor(state);
     let mut tally = stored::load_tally(state);
-    let reply = tally::lent_call(monitor, &mut tally, code, a, b, c, d, e, f);
+    let numbers = Numbers { a, b, c, d, e, f };
+    let reply = tally::lent_call(monitor, &mut tally, Call { code, numbers });
     if reply.answer.is_ok() {
         stored::store(state, reply.monitor, tally);
     }
