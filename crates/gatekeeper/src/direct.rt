@@ -35,7 +35,7 @@ impl Monitor {
         self
     }
 
-    // The numbers that the code does not use are ignored. Nothing dangles in the tables.
+    // The numbers that the code does not use are ignored. Nothing dangles in the tables. Codes stay numbers: records and C programs have them (RULES C106).
     fn dispatch(self, call: Call) -> Reply
         ensures acts { Firm self → Room (slots self) (decode (direct_of call)) → Acts self (decode (direct_of call)) (told result.answer) result.monitor }
         ensures keeps { Wf (slots self) → Room (slots self) (decode (direct_of call)) → Keeps self (decode (direct_of call)) result.monitor }

@@ -9,7 +9,7 @@ use crate::{Monitor, SURE};
 use keeping::Thing;
 use tables::{OBJECT_NUMBERS, slots};
 
-// What a monitor may say of itself, whose needs are right and in which nothing dangles: that it is sure, unless some label is below its need.
+// What a monitor may say of itself, whose needs are right and in which nothing dangles: that it is sure, unless some label is below its need; a byte of the C struct.
 fn earned(short: bool) -> u8
     ensures { result ≡ cond short 0 1 }
 {

@@ -3,7 +3,8 @@
 // Every promise of a public function goes through `view`, which reads the arrays as the tables of the rules (crate `model`), objects by number. Each call is written
 // once, in `made`, `moved`, `gone`, `frozen` and `connected`, for tables in which nothing dangles, and by slot; `seats` finds the slots of the objects that a call
 // names, also for crate `why`, which goes by slot, too; `direct` has the direct call, for every monitor value; `kept` the needs that are kept beside the tables. No `?`
-// stands in the calls: each answers with a monitor (a rule of the project), and so hands it back with its refusal.
+// stands in the calls: each answers with a monitor (a rule of the project), and so hands it back with its refusal. An array goes into its field by a variable: the prover
+// follows no store of a call's result, or of another field, into a field that is an array.
 #![tactic(auto)]
 
 ghost use Rattle.std.specs.Prelude.{◌≡◌, ◌%◌, get_or};

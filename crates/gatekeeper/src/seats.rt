@@ -16,7 +16,8 @@ pub struct Seats {
     pub call: Call,
 }
 
-// The slot of a second new object where none is left for it: that of no other, so that the two differ.
+// The slot of a second new object where none is left for it: that of no other, so that the two differ. (A number and no Option: the call by slot has it in place
+// of the object's, and is refused for it as `Room` says.)
 const NO_SLOT: u64 = OBJECT_NUMBERS + 1;
 
 fn noted(mut numbers: [u64; OBJECTS], i: u64, o: u64) -> [u64; OBJECTS]

@@ -33,6 +33,18 @@ pub enum End<'a> {
     Nothing,
 }
 
+impl<'a> End<'a> {
+    // The bytes behind it.
+    pub fn behind(self) -> &'a [u8]
+        ensures { result.now ≡ behind (ending self.entry) }
+    {
+        match self {
+            End::Bar(rest) | End::Semicolon(rest) => rest,
+            End::Nothing => &[],
+        }
+    }
+}
+
 // A stage: its program, and the numbers of `<` and `>` where it has them.
 #[derive(Clone, Copy)]
 pub struct Stage {

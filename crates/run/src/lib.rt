@@ -9,6 +9,7 @@ ghost use Rattle.model.specs.Demand3.{Demand3};
 ghost use Rattle.gatekeeper.specs.View.{view, Honest, Right};
 ghost use Rattle.run.specs.Buffers.{lesser, calls_in, bytes, answers_in};
 
+use calls::{Call, Numbers};
 use gatekeeper::Monitor;
 
 // The monitor at the end, and how many calls were made.
@@ -16,15 +17,6 @@ use gatekeeper::Monitor;
 pub struct Ran {
     pub monitor: Monitor,
     pub made: usize,
-}
-
-fn fewer(a: usize, b: usize) -> usize
-    ensures { result ≡ lesser a b }
-{
-    if a < b {
-        return a;
-    }
-    b
 }
 
 // Makes the calls of the list one after the other, from empty tables, as many as the list has and as there is room to answer. A call
@@ -37,27 +29,26 @@ pub fn run(calls: &[u64], out: &mut [u8]) -> Ran
     ensures honest { Honest result.monitor }
     ensures sure { result.monitor.sure ≡ 1 }
 {
-    let n = fewer(calls.len() / 7, out.len() / 3);
+    let n = (calls.len() / 7).min(out.len() / 3);
     let mut m = Monitor::empty();
-    let mut i: usize = 0;
-    while i < n {
+    for i in 0..n {
         let at = i * 7;
-        let r = m.call(
-            calls[at],
-            calls[at + 1],
-            calls[at + 2],
-            calls[at + 3],
-            calls[at + 4],
-            calls[at + 5],
-            calls[at + 6],
-        );
-        let answer = r.answer;
+        let r = m.call(Call {
+            code: calls[at],
+            numbers: Numbers {
+                a: calls[at + 1],
+                b: calls[at + 2],
+                c: calls[at + 3],
+                d: calls[at + 4],
+                e: calls[at + 5],
+                f: calls[at + 6],
+            },
+        });
         let to = i * 3;
-        out[to] = answers::letter(answer);
-        out[to + 1] = answers::value(answer);
-        out[to + 2] = answers::lost(answer);
+        out[to] = answers::letter(r.answer);
+        out[to + 1] = answers::value(r.answer);
+        out[to + 2] = answers::lost(r.answer);
         m = r.monitor;
-        i += 1;
     }
     Ran {
         monitor: m,

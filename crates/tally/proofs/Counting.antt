@@ -1,5 +1,8 @@
 -- The tally: what a call of a code makes and removes, by its code and by how many handles its first subject and the mates of that one hold. Assumes nothing.
-use Rattle.std.proofs.Common.{◌≡◌, ℕ, zero, suc, ◌+◌, ◌-◌, ◌*◌, ◌/◌, ◌<◌, ◌≤◌, Bool, true, false, cond, not, ◌&&◌, T, eqb, List, [], ◌++◌, length, get_or, sym, refl, ap, ◌∙◌, subst, ap₂, add-one, arith, ltb→lt, length-append, lt-ltb, ne_eqb}
+use Rattle.std.proofs.Common.{◌≡◌, ℕ, zero, suc, ◌+◌, ◌-◌, ◌*◌, ◌<◌, ◌≤◌, Bool, true, false, cond, not, ◌&&◌, T, eqb, ltb, List, [], ◌++◌, length, get_or, take, sym, refl, ap, ◌∙◌, subst, ap₂, add-one, arith, ltb→lt, length-append, lt-ltb, ne_eqb}
+use Rattle.std.specs.List.{count_by}
+use Rattle.std.proofs.lemmas.List.{take_all, get_or_past}
+use Rattle.std.proofs.lemmas.List.Sums.{count_by_more_no, count_by_more_yes}
 use mathlib.Core.Path.{fun_ext}
 use mathlib.Core.Option.{Option, none, some}
 use Rattle.tally.proofs.Pick.{past}
@@ -12,7 +15,7 @@ use Rattle.model.specs.Invariant.{Wf}
 use Rattle.model.specs.Calls.{Call, lasting, decode, refusal, Answer, allowed, lowered, refused, answer}
 use Rattle.model.proofs.Calls.Codes.{decode_by}
 use Rattle.model.proofs.Calls.Refusals.{answered_refused}
-use Rattle.model.specs.Tally.{held, drops, ousted, makes, removes, wrapped, tallied}
+use Rattle.model.specs.Tally.{held, dropped, drops, ousted, makes, removes, wrapped, tallied}
 use Rattle.model.proofs.Tally.Laws.{each_parts, each_none}
 use Rattle.model.specs.Tables.{Handle as Held}
 use Rattle.model.specs.Tally.{Tally as Counts}
@@ -20,7 +23,7 @@ use Rattle.tables.specs.declared.Subject.{Subject}
 use Rattle.tables.specs.declared.Object.{Object}
 use Rattle.tables.specs.declared.Handle.{Handle}
 use Rattle.tables.specs.Records.{held as held_at}
-use Rattle.tables.specs.Records.{no_handle, hands, along, tables_of}
+use Rattle.tables.specs.Records.{no_handle, joins, hands, along, tables_of}
 use Rattle.answers.specs.Telling.{refuses}
 use Rattle.gatekeeper.specs.View.{direct}
 use Rattle.tally.specs.Counting.{made_by, gone_by}
@@ -44,24 +47,57 @@ removes_is t code a b c d e f = decode_by (λ (k : Call). removes t k ≡ gone_b
 abbrev pub held_below : (ℕ → Option Held) → ℕ → ℕ
 held_below f p = length (each p (λ q. one (f q)))
 
-pub held_more : (f : ℕ → Option Held) (p n k : ℕ) → n ≡ held_below f p → k ≡ length (one (f p)) → n + k ≡ held_below f (p + 1)
-held_more f p n k e g = omega (arith, length-append (each p (λ q. one (f q))) (one (f p))) ∙ ap (held_below f) (sym (add-one p))
-
 pub one_short : (o : Option Held) → length (one o) ≤ 1
 one_short none = omega arith
 one_short (some k) = omega arith
 
-held_few : (f : ℕ → Option Held) (p : ℕ) → held_below f p ≤ p
+pub held_few : (f : ℕ → Option Held) (p : ℕ) → held_below f p ≤ p
 held_few f zero = omega arith
 held_few f (suc p) = omega (arith, length-append (each p (λ q. one (f q))) (one (f p)), held_few f p, one_short (f p))
 
--- a subject out of range holds none
-pub none_held : (t : Tables) → Wf t → (s : ℕ) → 32 ≤ s → (p : ℕ) → t.hand s p ≡ none
-none_held t w s h p = go (t.hand s p) refl
+-- the handles of one subject more
+pub rows_more : {A : Type 0} (f : ℕ → List A) (n a k : ℕ) → a ≡ length (each n f) → k ≡ length (f n) → a + k ≡ length (each (n + 1) f)
+rows_more f n a k e g = omega (arith, length-append (each n f) (f n)) ∙ ap (λ (m : ℕ). length (each m f)) (sym (add-one n))
+
+-- the places that are taken, counted
+abbrev pub full : Handle → Bool
+full h = not (eqb h.way 0)
+
+one_full : (h : Handle) → length (one (held_at h)) ≡ cond (full h) 1 0
+one_full h = go (eqb h.way 0)
   where
-    go : (o : Option Held) → t.hand s p ≡ o → o ≡ none
-    go none q = refl
-    go (some k) q = absurd (omega (arith, ltb→lt s 32 (live_of t (subject s) (w.ends s p k q).from).0))
+    go : (b : Bool) → length (one (cond b none (some (joins h)))) ≡ cond (not b) 1 0
+    go true = refl
+    go false = refl
+
+taken : (row : List Handle) (p : ℕ) → p ≤ 16 → p ≤ length row → count_by full (take p row) ≡ held_below (along row) p
+taken row zero h l = refl
+taken row (suc p) h l = subst (λ (n : ℕ). count_by full (take n row) ≡ held_below (along row) n) (add-one p)
+    (by (full at) refl ∙ rows_more (λ q. one (along row q)) p _ _ (taken row p (omega arith) (omega arith)) (sym here))
+  where
+    at : Handle
+    at = get_or row p no_handle
+
+    here : length (one (along row p)) ≡ cond (full at) 1 0
+    here = ap (λ (b : Bool). length (one (cond b (held_at at) none))) (lt-ltb p 16 (omega arith)) ∙ one_full at
+
+    by : (b : Bool) → full at ≡ b → count_by full (take (p + 1) row) ≡ count_by full (take p row) + cond (full at) 1 0
+    by true e = count_by_more_yes full row p no_handle (omega arith) e ∙ ap (λ (b : Bool). count_by full (take p row) + cond b 1 0) (sym e)
+    by false e = count_by_more_no full row p no_handle (omega arith) e ∙ none_more ∙ ap (λ (b : Bool). count_by full (take p row) + cond b 1 0) (sym e)
+      where
+        none_more : count_by full (take p row) ≡ count_by full (take p row) + 0
+        none_more = omega arith
+
+pub taken_all : (row : List Handle) → length row ≡ 16 → count_by full row ≡ held_below (along row) 16
+taken_all row h = ap (count_by full) (sym (take_all 16 row (omega arith))) ∙ taken row 16 (omega arith) (omega arith)
+
+-- a subject out of range holds none
+pub none_held : (hs : List Handle) → length hs ≡ 512 → (s : ℕ) → 32 ≤ s → (p : ℕ) → hands hs s p ≡ none
+none_held hs n s h p = go (ltb p 16)
+  where
+    go : (b : Bool) → cond b (held_at (get_or hs (s * 16 + p) no_handle)) none ≡ none
+    go true = let past : length hs ≤ s * 16 + p = omega arith in rw (get_or_past hs (s * 16 + p) no_handle past)
+    go false = refl
 
 -- the places of s, counted, and those that an exec leaves
 module _ (t : Tables) (s : ℕ) (row : List Handle) (e : (p : ℕ) → along row p ≡ t.hand s p) where
@@ -93,45 +129,29 @@ module _ {A : Type 0} where
   each_long zero f g h = refl
   each_long (suc n) f g h = omega (arith, each_long n f g h, h n, length-append (each n f) (f n), length-append (each n g) (g n))
 
-  -- sixteen by sixteen
-  row_long : (f : ℕ → List A) (s p : ℕ) → length (each (s * 16 + p) f) ≡ length (each (s * 16) f) + length (each p (λ q. f (s * 16 + q)))
-  row_long f s zero = let e : s * 16 + 0 ≡ s * 16 = omega arith in rw e (omega arith)
-  row_long f s (suc p) = let e : s * 16 + suc p ≡ suc (s * 16 + p) = omega arith in
-      ap (λ (n : ℕ). length (each n f)) e ∙ omega (
-        arith,
-        row_long f s p,
-        length-append (each (s * 16 + p) f) (f (s * 16 + p)),
-        length-append (each p (λ q. f (s * 16 + q))) (f (s * 16 + p)),
-      )
+-- the handles of subject a, where it goes
+abbrev pub held_of : List Handle → List Bool → ℕ → List Held
+held_of hs gone a = cond (get_or gone a false) (each 16 (λ p. one (hands hs a p))) []
 
-  rows_long : (f : ℕ → List A) (s : ℕ) → length (each (s * 16) f) ≡ length (each s (λ i. each 16 (λ p. f (i * 16 + p))))
-  rows_long f zero = refl
-  rows_long f (suc s) = let e : suc s * 16 ≡ s * 16 + 16 = omega arith in
-      ap (λ (n : ℕ). length (each n f)) e ∙ omega (
-        arith,
-        row_long f s 16,
-        rows_long f s,
-        length-append (each s (λ i. each 16 (λ p. f (i * 16 + p)))) (each 16 (λ p. f (s * 16 + p))),
-      )
+module _ (hs : List Handle) (gone : List Bool) (a : ℕ) where
+  pub row_not : get_or gone a false ≡ false → 0 ≡ length (held_of hs gone a)
+  row_not e = ap (λ (b : Bool). length (cond b (each 16 (λ p. one (hands hs a p))) [])) (sym e)
 
--- the handle at a place of a subject that goes
-abbrev pub going : List Handle → List Bool → ℕ → Option Held
-going hs gone i = cond (get_or gone (i / 16) false) (held_at (get_or hs i no_handle)) none
+  module _ (row : List Handle) (r : (p : ℕ) → along row p ≡ hands hs a p) (n : ℕ) (q : n ≡ length (each 16 (λ p. one (along row p)))) where
+    pub row_held : get_or gone a false ≡ true → n ≡ length (held_of hs gone a)
+    row_held e = q ∙ ap (λ (f : ℕ → Option Held). length (each 16 (λ p. one (f p)))) (fun_ext r)
+        ∙ ap (λ (b : Bool). length (cond b (each 16 (λ p. one (hands hs a p))) [])) (sym e)
 
--- place by place they are those that the subjects hold
-pub rows_are : (hs : List Handle) (gone : List Bool) → held_below (going hs gone) 512
-    ≡ length (each 32 (λ s. cond (get_or gone s false) (each 16 (λ p. one (hands hs s p))) []))
-rows_are hs gone = rows_long (λ i. one (going hs gone i)) 32 ∙ ap length (each_as 32 _ _ (λ s l. row s))
-  where
-    row : (s : ℕ) → each 16 (λ p. one (going hs gone (s * 16 + p))) ≡ cond (get_or gone s false) (each 16 (λ p. one (hands hs s p))) []
-    row s = each_as 16 _ _ (λ p l. here p l) ∙ all (get_or gone s false)
-      where
-        here : (p : ℕ) → p < 16 → one (going hs gone (s * 16 + p)) ≡ one (cond (get_or gone s false) (hands hs s p) none)
-        here p l = let d : (s * 16 + p) / 16 ≡ s = omega arith in rw (d, lt-ltb p 16 l)
+    pub held_within : n ≤ 16
+    held_within = omega (arith, q, held_few (along row) 16)
 
-        all : (b : Bool) → each 16 (λ p. one (cond b (hands hs s p) none)) ≡ cond b (each 16 (λ p. one (hands hs s p))) []
-        all true = refl
-        all false = refl
+-- the handles that a subject holds and drops are those of tables that have them
+module _ (t : Tables) (hs : List Handle) (e : (s p : ℕ) → hands hs s p ≡ t.hand s p) (s : ℕ) where
+  pub held_as : held (with_hand empty (hands hs)) s ≡ held t s
+  held_as = ap length (each_as 16 _ _ (λ p l. ap one (e s p)))
+
+  pub drops_as : drops (with_hand empty (hands hs)) s ≡ drops t s
+  drops_as = ap length (each_as 16 _ _ (λ p l. ap (λ (o : Option Held). one (dropped o)) (e s p)))
 
 -- those of the mates of s
 pub ousted_is : (t : Tables) (s : ℕ) (hs : List Handle) (gone : List Bool) → ((a p : ℕ) → hands hs a p ≡ t.hand a p)
@@ -187,7 +207,3 @@ pub hands_are : (rest : Tables) (ss : List Subject) (os : List Object) (hs kept 
     → (s p : ℕ) → hands kept s p ≡ (clean (tables_of rest ss os hs)).hand s p
 unfolding tables_of
 hands_are rest ss os hs kept e s p = ap (λ (u : Tables). u.hand s p) e
-
--- the places of a row by themselves, as those of subject 0
-abbrev pub lone : List Handle → Tables
-lone row = with_hand empty (λ s p. along row p)

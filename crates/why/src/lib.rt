@@ -6,19 +6,20 @@ ghost use Rattle.std.specs.Prelude.{◌≡◌, ◌≤◌};
 ghost use Rattle.model.specs.Tables.{clean};
 ghost use Rattle.model.specs.Calls.{connect, exec, decode};
 ghost use Rattle.answers.specs.Telling.{told};
-ghost use Rattle.gatekeeper.specs.View.{view, Honest, direct};
+ghost use Rattle.gatekeeper.specs.View.{view, Honest, direct_of};
 ghost use Rattle.why.specs.Why.{Explains, no_chain};
 ghost use Rattle.why.specs.Working.{DueTells, seeking, number_at, told_by, nine_in};
 
 use answers::{Answer, Refusal};
+use calls::{Call, Numbers};
 use gatekeeper::{Monitor, seats};
-use tables::{HANDLES, Handle, MAPS, OBJECTS, Object, READS, SUBJECTS, Subject, WRITES, looks};
+use tables::{MAPS, OBJECTS, READS, SUBJECTS, WRITES, looks};
 use ways::Way;
 
 // How many handles a chain has at most.
 pub const STEPS: usize = 95;
 
-// What `kind` says of the thing at the front: a subject, or an object. In no chain it is 0.
+// What `kind` says of the thing at the front: a subject, or an object. In no chain it is 0. (Numbers, and a count beside the places: C programs read this struct.)
 pub const A_SUBJECT: u8 = 1;
 
 pub const AN_OBJECT: u8 = 2;
@@ -36,41 +37,24 @@ pub struct Chain {
 
 // ---- by slot
 
-// Behind an open, or a map: the handle that it seeks, of this way, is at its place.
-fn behind_open(
-    subjects: [Subject; SUBJECTS],
-    groups: [u8; SUBJECTS],
-    objects: [Object; OBJECTS],
-    handles: [Handle; HANDLES],
-    way: u8,
-    s: u64,
-    o: u64,
-    p: u64,
-) -> Way
-    ensures { (way ≡ 0 → ⊥) → DueTells subjects groups objects handles (seeking way s o p) result }
+// Behind an open, or a map, on tables m: the handle that it seeks, of this way, is at its place.
+fn behind_open(m: Monitor, way: u8, s: u64, o: u64, p: u64) -> Way
+    ensures { (way ≡ 0 → ⊥) → DueTells m.subjects m.groups m.objects m.handles (seeking way s o p) result }
 {
-    let next = looks::with_handle(handles, s, p, looks::joining(way, o));
-    let leads = groups::leads(subjects, groups);
-    ways::nearest(subjects, objects, next, leads)
+    let next = looks::with_handle(m.handles, s, p, looks::joining(way, o));
+    let leads = groups::leads(m.subjects, m.groups);
+    ways::nearest(m.subjects, m.objects, next, leads)
 }
 
 // Behind an exec: what it sheds is gone, and the chain is from the program's label and the subject alone, with the program in front of it.
-fn behind_exec(
-    subjects: [Subject; SUBJECTS],
-    groups: [u8; SUBJECTS],
-    objects: [Object; OBJECTS],
-    handles: [Handle; HANDLES],
-    s: u64,
-    o: u64,
-) -> Way
-    ensures { DueTells subjects groups objects handles (exec s o) result }
+fn behind_exec(m: Monitor, s: u64, o: u64) -> Way
+    ensures { DueTells m.subjects m.groups m.objects m.handles (exec s o) result }
 {
-    let rest = groups::alone(subjects, groups, handles, s);
+    let rest = groups::alone(m.subjects, m.groups, m.handles, s);
     let next = rest.handles;
-    let leads = groups::leads(rest.subjects, groups);
-    let y = looks::object_of(objects, o);
-    let label = looks::object_label(y);
-    let w = ways::nearest_from(objects, next, leads, s as usize, label);
+    let leads = groups::leads(rest.subjects, m.groups);
+    let label = looks::object_label(looks::object_of(m.objects, o));
+    let w = ways::nearest_from(m.objects, next, leads, s as usize, label);
     Way {
         start: SUBJECTS + (o % OBJECTS as u64) as usize,
         ..w
@@ -78,48 +62,26 @@ fn behind_exec(
 }
 
 // Behind a connect: the four ends of its two pipes are at their places. The pipes are new and hold nothing, so no chain starts at one.
-fn behind_connect(
-    subjects: [Subject; SUBJECTS],
-    groups: [u8; SUBJECTS],
-    objects: [Object; OBJECTS],
-    handles: [Handle; HANDLES],
-    s: u64,
-    u: u64,
-    a: u64,
-    b: u64,
-    p: u64,
-    q: u64,
-) -> Way
-    ensures { DueTells subjects groups objects handles (connect s u a b p q) result }
+fn behind_connect(m: Monitor, s: u64, u: u64, a: u64, b: u64, p: u64, q: u64) -> Way
+    ensures { DueTells m.subjects m.groups m.objects m.handles (connect s u a b p q) result }
 {
-    let joined = handles::with_ends(handles, s, p, q, b, a);
+    let joined = handles::with_ends(m.handles, s, p, q, b, a);
     let next = handles::with_ends(joined, u, p, q, a, b);
-    let leads = groups::leads(subjects, groups);
-    ways::nearest(subjects, objects, next, leads)
+    let leads = groups::leads(m.subjects, m.groups);
+    ways::nearest(m.subjects, m.objects, next, leads)
 }
 
-// Behind the call of this code, whose numbers of objects are slots. Only these calls are refused with 9.
-fn behind(
-    subjects: [Subject; SUBJECTS],
-    groups: [u8; SUBJECTS],
-    objects: [Object; OBJECTS],
-    handles: [Handle; HANDLES],
-    code: u64,
-    a: u64,
-    b: u64,
-    c: u64,
-    d: u64,
-    e: u64,
-    f: u64,
-) -> Way
-    ensures { DueTells subjects groups objects handles (decode (direct code a b c d e f)) result }
+// Behind this call, whose numbers of objects are slots. Only these calls are refused with 9.
+fn behind(m: Monitor, call: Call) -> Way
+    ensures { DueTells m.subjects m.groups m.objects m.handles (decode (direct_of call)) result }
 {
-    match code {
-        5 => behind_open(subjects, groups, objects, handles, READS, a, b, c),
-        6 => behind_open(subjects, groups, objects, handles, WRITES, a, b, c),
-        10 => behind_exec(subjects, groups, objects, handles, a, b),
-        14 => behind_open(subjects, groups, objects, handles, MAPS, a, b, c),
-        17 => behind_connect(subjects, groups, objects, handles, a, b, c, d, e, f),
+    let Numbers { a, b, c, d, e, f } = call.numbers;
+    match call.code {
+        5 => behind_open(m, READS, a, b, c),
+        6 => behind_open(m, WRITES, a, b, c),
+        10 => behind_exec(m, a, b),
+        14 => behind_open(m, MAPS, a, b, c),
+        17 => behind_connect(m, a, b, c, d, e, f),
         _ => Way {
             start: 0,
             end: 0,
@@ -189,18 +151,15 @@ fn is_nine(a: Answer) -> bool
 
 // The chain behind this call, which is not made: one with the fewest handles where the call is refused with 9 on this monitor, in which no label is below its need and
 // the members of a group have one; and no chain where it is not refused with 9.
-pub fn why(m: Monitor, code: u64, a: u64, b: u64, c: u64, d: u64, e: u64, f: u64) -> Chain
+pub fn why(m: Monitor, call: Call) -> Chain
     ensures few { result.count ≤ 95 }
-    ensures explains { Honest m → Explains (clean (view m)) (decode (direct code a b c d e f)) result }
+    ensures explains { Honest m → Explains (clean (view m)) (decode (direct_of call)) result }
 {
-    let reply = m.call(code, a, b, c, d, e, f);
+    let reply = m.call(call);
     if !is_nine(reply.answer) {
         return none();
     }
     let t = m.assured();
-    let s = seats::located(t.objects, t.numbers, code, a, b, c, d);
-    let w = behind(
-        t.subjects, t.groups, t.objects, t.handles, code, s.a, s.b, s.c, s.d, e, f,
-    );
-    numbered(t.numbers, w)
+    let s = seats::located(t.objects, t.numbers, call);
+    numbered(t.numbers, behind(t, s.call))
 }

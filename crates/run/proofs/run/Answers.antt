@@ -8,13 +8,13 @@ use Rattle.answers.specs.Telling.{told}
 use Rattle.gatekeeper.specs.View.{view}
 use Rattle.gatekeeper.specs.View.Laws.{honest_tidy}
 use Rattle.run.specs.Buffers.{lesser}
-use Rattle.run.specs.Buffers.Laws.{lesser_left, lesser_right, SoFar, so_far_none, so_far_more, run_demand3}
+use Rattle.run.specs.Buffers.Laws.{min_lesser, lesser_left, lesser_right, SoFar, so_far_none, so_far_more, run_demand3}
 use Rattle.run.proofs.run.Goals as goal
 
 pub loop-i-init : goal.loop-i-init
 loop-i-init c =
     let a = c.args in
-    let fits : c.fewer-n.result ≡ lesser (length a.calls.now / 7) (length a.out.now / 3) = c.fewer-n.ensures in
+    let fits : c.min-n.result ≡ lesser (length a.calls.now / 7) (length a.out.now / 3) = c.min-n.ensures ∙ min_lesser _ _ in
     (omega arith, omega (arith, lesser_left (length a.calls.now / 7) (length a.out.now / 3)), omega (arith, lesser_right (length a.calls.now / 7) (length a.out.now / 3)), refl, so_far_none a.calls.now a.out.now (view c.empty-m.result) c.empty-m.ensures.tables, c.empty-m.ensures.needs, c.empty-m.ensures.honest, c.empty-m.ensures.sure)
 
 pub overflow_add-out : goal.overflow_add-out
@@ -59,12 +59,12 @@ loop-i-preserved c =
 pub returns : goal.returns
 returns c =
     let l = c.loop-i in
-    let all : l.i ≡ c.fewer-n.result = omega (arith, l.invariant.0, c.loop-i-test.false) in
+    let all : l.i ≡ c.min-n.result = omega (arith, l.invariant.0, c.loop-i-test.false) in
     let s = l.invariant.4 in
     let a = c.args in
-    let so : SoFar a.calls.now a.out.now l.out c.fewer-n.result (view l.m) = subst (λ (j : ℕ). SoFar a.calls.now a.out.now l.out j (view l.m)) all s in
+    let so : SoFar a.calls.now a.out.now l.out c.min-n.result (view l.m) = subst (λ (j : ℕ). SoFar a.calls.now a.out.now l.out j (view l.m)) all s in
     record {
-      made = c.fewer-n.ensures;
+      made = c.min-n.ensures ∙ min_lesser _ _;
       written = so.written;
       demand3 = run_demand3 _ _ _ _ _ so;
       right = l.invariant.5;

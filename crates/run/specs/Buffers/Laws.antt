@@ -1,5 +1,5 @@
 -- One more call and its answer in the buffers. Assumes nothing.
-use Rattle.std.specs.Prelude.{◌≡◌, refl, List, [], ◌∷◌, ◌++◌, Bool, true, false, cond, ℕ, zero, suc, ◌+◌, ◌*◌, ◌≤◌, ◌<◌, length, take, drop, set, ltb}
+use Rattle.std.specs.Prelude.{◌≡◌, refl, List, [], ◌∷◌, ◌++◌, Bool, true, false, cond, ℕ, zero, suc, ◌+◌, ◌*◌, ◌≤◌, ◌<◌, length, take, drop, set, ltb, min}
 use Rattle.std.proofs.Common.{sym, ◌∙◌, ap, ap₂, subst, arith, add-one, length-append, length-drop, drop-drop, take_at, ltb-true, ltb-false}
 use Rattle.model.specs.Tables.{Tables, empty}
 use Rattle.model.specs.Calls.{Raw, decode, Answer, allowed, lowered, refused, answer, next, answers, after}
@@ -25,6 +25,13 @@ lesser_right a b = go (ltb a b) refl
     go : (x : Bool) → ltb a b ≡ x → cond x a b ≤ b
     go true q = let h : a < b = ltb-true a b q in omega arith
     go false q = omega arith
+
+pub min_lesser : (a b : ℕ) → min a b ≡ lesser a b
+min_lesser a b = go (ltb a b) refl
+  where
+    go : (x : Bool) → ltb a b ≡ x → min a b ≡ cond x a b
+    go true q = let h : a < b = ltb-true a b q in omega arith
+    go false q = let h : b ≤ a = ltb-false a b q in omega arith
 
 bytes_more : (l : List Answer) (a : Answer) (d : List ℕ) → bytes (l ++ a ∷ []) ++ d ≡ bytes l ++ letter_of a ∷ value_of a ∷ lost_of a ∷ d
 bytes_more [] a d = refl

@@ -1,10 +1,8 @@
 -- `tally::count_of` meets its contract. Assumes nothing.
-use Rattle.std.proofs.Common.{◌≡◌, ◌-◌, ◌≤◌}
-use Rattle.tally.proofs.Counting.{held_below, going}
+use Rattle.std.proofs.Common.{◌≡◌, ◌*◌, ◌≤◌, length}
+use Rattle.model.specs.Lists.{each}
+use Rattle.tally.proofs.Counting.{held_of}
 use Rattle.tally.proofs.count_of.Given as goal
 
-abbrev pub invariant-loop-i : goal.invariant-loop-i
-invariant-loop-i l = (l.i ≤ 512) × (l.all ≡ held_below (going l.handles l.gone) l.i) × (l.all ≤ l.i)
-
-abbrev pub decreases-loop-i : goal.decreases-loop-i
-decreases-loop-i l = 512 - l.i
+abbrev pub invariant-loop-s : goal.invariant-loop-s
+invariant-loop-s l = (l.all ≡ length (each l.s (held_of l.handles l.fn.gone))) × (l.all ≤ 16 * l.s)

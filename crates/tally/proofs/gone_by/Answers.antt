@@ -12,7 +12,7 @@ returns-then-code-eq11 c = λ h. past _ _ _ (ne_eqb _ _ c.if-code-eq10.false) (h
 pub returns-then-code-eq12 : goal.returns-then-code-eq12
 returns-then-code-eq12 c =
     λ h. past _ _ _ (ne_eqb _ _ c.if-code-eq10.false) (past _ _ _ (ne_eqb _ _ c.if-code-eq11.false)
-    (here _ _ _ (eq-eqb _ _ c.if-code-eq12.true) (c.held_by.ensures h)))
+    (here _ _ _ (eq-eqb _ _ c.if-code-eq12.true) (c.held_in.ensures h)))
 
 pub returns : goal.returns
 returns c =

@@ -18,7 +18,7 @@ pub returns-then-code-eq9 : goal.returns-then-code-eq9
 returns-then-code-eq9 c =
     λ h. past _ _ _ (ne_eqb _ _ c.if-code-eq4.false)
     (past _ _ _ (ne_eqb _ _ c.if-code-eq5.false)
-    (past _ _ _ (ne_eqb _ _ c.if-code-eq6.false) (here _ _ _ (eq-eqb _ _ c.if-code-eq9.true) (c.held_by.ensures h))))
+    (past _ _ _ (ne_eqb _ _ c.if-code-eq6.false) (here _ _ _ (eq-eqb _ _ c.if-code-eq9.true) (c.held_in.ensures h))))
 
 pub returns-then-code-eq14 : goal.returns-then-code-eq14
 returns-then-code-eq14 c = λ h. past _ _ _ (ne_eqb _ _ c.if-code-eq4.false) (past _ _ _ (ne_eqb _ _ c.if-code-eq5.false) (past _ _ _ (ne_eqb _ _ c.if-code-eq6.false) (past _ _ _ (ne_eqb _ _ c.if-code-eq9.false) (here _ _ _ (eq-eqb _ _ c.if-code-eq14.true) refl))))

@@ -1,23 +1,20 @@
 -- `typed::counted_line` meets its contract. Assumes nothing.
-use native.Mathlib.Omega.{arith}
+use Rattle.std.proofs.Common.{◌≡◌, rules}
+use Rattle.typed.specs.Typed.{refused_line}
 use Rattle.typed.proofs.Going.{refuses_line, good_line, runs_line}
 use Rattle.typed.proofs.counted_line.Goals as goal
 
-pub returns-then-refusal-ne0 : goal.returns-then-refusal-ne0
-returns-then-refusal-ne0 c =
-    let a = c.args in
-    let v = c.verdict-refusal in
-    refuses_line a.monitor a.tally a.line.now a.shell a.child a.pipe v.result v.ensures (λ e. c.if-refusal-ne0.true (omega (arith, e)))
-
 pub pipelines-requires : goal.pipelines-requires
-pipelines-requires c =
-    let a = c.args in
-    let v = c.verdict-refusal in
-    good_line a.line.now v.result v.ensures (omega (arith, c.if-refusal-ne0.false))
+pipelines-requires c = good_line c.args.line.now (rw c.in-Ok.is at c.verdict.ensures)
 
-pub returns : goal.returns
-returns c =
+pub returns-in-Ok : goal.returns-in-Ok
+returns-in-Ok c =
     let a = c.args in
-    let v = c.verdict-refusal in
-    let p = c.pipelines in
-    runs_line a.monitor a.tally a.line.now a.shell a.child a.pipe v.result v.ensures (omega (arith, c.if-refusal-ne0.false)) p.result p.ensures
+    let none : c.default.result ≡ refused_line 0 = search rules in
+    runs_line a.monitor a.tally a.line.now a.shell a.child a.pipe (rw c.in-Ok.is at c.verdict.ensures) c.pipelines.result (rw none at c.pipelines.ensures)
+
+pub returns-in-Err : goal.returns-in-Err
+returns-in-Err c =
+    let a = c.args in
+    let none : c.default.result ≡ refused_line 0 = search rules in
+    rw none (rw c.number.ensures (refuses_line a.monitor a.tally a.line.now a.shell a.child a.pipe c.in-Err.e (rw c.in-Err.is at c.verdict.ensures)))

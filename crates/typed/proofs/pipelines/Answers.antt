@@ -1,38 +1,21 @@
 -- `typed::pipelines` meets its contract. Assumes nothing.
-use Rattle.std.proofs.Common.{◌<◌, arith}
-use Rattle.typed.proofs.Going.{going_none, stages_fit, going_last, going_on}
+use Rattle.std.proofs.Common.{ap}
+use Rattle.lines.specs.Told.{rest_of}
+use Rattle.typed.proofs.Going.{going_none, going_stands, going_last, going_on}
 use Rattle.typed.proofs.pipelines.Goals as goal
 
-pub loop-p-init : goal.loop-p-init
-loop-p-init c = let a = c.args in going_none a.shell a.child a.pipe a.line.now a.hand c.requires
+pub loop-behind-init : goal.loop-behind-init
+loop-behind-init c = going_none _ _ _ _ _ c.requires
 
 pub pipeline-h-requires : goal.pipeline-h-requires
-pipeline-h-requires c =
-    let a = c.args in
-    let l = c.loop-p in
-    let p = c.pipeline_at-p in
-    stages_fit a.shell a.child a.pipe a.line.now a.hand l.h l.i l.invariant p.result p.ensures.read
+pipeline-h-requires c = let r = rw c.unwrap-n.ensures at c.read_pipeline.ensures.read in going_stands _ _ _ _ _ _ _ c.loop-behind.invariant _ r.0 _ r.1 r.2
 
-pub returns-then-p-ne-SEMICOLON : goal.returns-then-p-ne-SEMICOLON
-returns-then-p-ne-SEMICOLON c =
-    let a = c.args in
-    let l = c.loop-p in
-    let p = c.pipeline_at-p in
-    let m = c.pipeline-h in
-    going_last a.shell a.child a.pipe a.line.now a.hand l.h l.i l.invariant p.result p.ensures.read m.result m.ensures c.if-p-ne-SEMICOLON.true
+pub returns-in_default : goal.returns-in_default
+returns-in_default c =
+    let r = rw c.unwrap-n.ensures at c.read_pipeline.ensures.read in
+    going_last _ _ _ _ _ _ _ c.loop-behind.invariant _ r.0 _ r.1 r.2 _ c.pipeline-h.ensures (ap rest_of c.in_default.is)
 
-pub loop-p-smaller : goal.loop-p-smaller
-loop-p-smaller c =
-    let p = c.pipeline_at-p in
-    let two = c.if-p-ne-SEMICOLON.false in
-    let some : 0 < p.result.end = omega (arith, two) in
-    let on = p.ensures.on some in
-    omega (arith, on.0, on.1)
-
-pub loop-p-preserved : goal.loop-p-preserved
-loop-p-preserved c =
-    let a = c.args in
-    let l = c.loop-p in
-    let p = c.pipeline_at-p in
-    let m = c.pipeline-h in
-    going_on a.shell a.child a.pipe a.line.now a.hand l.h l.i l.invariant p.result p.ensures.read m.result m.ensures (omega (arith, c.if-p-ne-SEMICOLON.false))
+pub loop-behind-preserved : goal.loop-behind-preserved
+loop-behind-preserved c =
+    let r = rw c.unwrap-n.ensures at c.read_pipeline.ensures.read in
+    going_on _ _ _ _ _ _ _ c.loop-behind.invariant _ r.0 _ r.1 r.2 _ c.pipeline-h.ensures _ (ap rest_of c.in-Some.is)

@@ -1,5 +1,5 @@
 -- `typed::stages` meets its contract. Assumes nothing.
-use Rattle.std.proofs.Common.{◌≡◌, ℕ, ◌-◌, ◌≤◌, List, length, get_or, drop}
+use Rattle.std.proofs.Common.{◌-◌, List, ℕ, get_or}
 use mathlib.Core.Option.{Option}
 use Rattle.model.specs.Lists.{each}
 use Rattle.lines.specs.Line.{Pipeline, all}
@@ -8,10 +8,7 @@ use Rattle.lines.specs.Calls.{counted_from, stage_calls, no_stage}
 use Rattle.typed.specs.Working.{Works, Left}
 use Rattle.typed.proofs.stages.Given as goal
 
--- of the pipeline that stands at `at`, whichever it is, i stages were done, and the rest of it stands at `from`
+-- of the pipeline, whichever it is, i stages were done, and the rest of it is left
 abbrev pub invariant-loop-i : goal.invariant-loop-i
-invariant-loop-i l = (l.i ≤ l.n) × ((p : Pipeline) (e : Option (List ℕ)) → Pipelined (drop l.at l.line) p e → l.n ≡ length (all p)
-    → Left p e l.i (drop l.from l.line) × Works l.initial.h (each l.i (λ j. stage_calls l.shell (l.n - 1) j (counted_from l.child j) (get_or (all p) j no_stage))) l.h)
-
-abbrev pub decreases-loop-i : goal.decreases-loop-i
-decreases-loop-i l = l.n - l.i
+invariant-loop-i l = (p : Pipeline) (e : Option (List ℕ)) → Pipelined l.line p e
+    → Left p e l.i l.rest × Works l.initial.h (each l.i (λ j. stage_calls l.first.shell (l.n - 1) j (counted_from l.first.child j) (get_or (all p) j no_stage))) l.h

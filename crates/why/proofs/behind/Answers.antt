@@ -27,4 +27,5 @@ returns-in-17 c = rw c.in-17.is c.behind_connect.ensures
 pub returns-in_default : goal.returns-in_default
 returns-in_default c =
     let a = c.args in
-    λ rest d. absurd (none_other a.code a.a a.b a.c a.d a.e a.f (omega arith) (omega arith) (omega arith) (omega arith) (omega arith) _ d.nine)
+    let n = a.call.numbers in
+    λ rest d. absurd (none_other a.call.code n.a n.b n.c n.d n.e n.f (omega arith) (omega arith) (omega arith) (omega arith) (omega arith) _ d.nine)

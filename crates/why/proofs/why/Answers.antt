@@ -4,7 +4,7 @@ use native.Mathlib.Omega.{arith}
 use Rattle.model.specs.Tables.{clean}
 use Rattle.model.specs.Calls.{decode}
 use Rattle.answers.specs.Telling.{told}
-use Rattle.gatekeeper.specs.View.{view, direct}
+use Rattle.gatekeeper.specs.View.{view, direct_of}
 use Rattle.gatekeeper.proofs.Owned.{owned_long}
 use Rattle.why.specs.Why.{Explains}
 use Rattle.why.proofs.Telling.{told_few}
@@ -16,8 +16,8 @@ returns-then-not-is_nine c =
     let a = c.args in
     let r = c.call-reply.result in record {
       few = rw c.none.ensures (omega arith);
-      explains = λ h. subst (Explains (clean (view a.m)) (decode (direct a.code a.a a.b a.c a.d a.e a.f))) (sym c.none.ensures)
-          (answered_other a.m r.monitor (decode (direct a.code a.a a.b a.c a.d a.e a.f)) (told r.answer) h c.call-reply.ensures
+      explains = λ h. subst (Explains (clean (view a.m)) (decode (direct_of a.call))) (sym c.none.ensures)
+          (answered_other a.m r.monitor (decode (direct_of a.call)) (told r.answer) h c.call-reply.ensures
           (sym c.is_nine.ensures ∙ c.if-not-is_nine.true));
     }
 
@@ -28,13 +28,13 @@ returns c =
     let g = owned_long m c.well_formed.0 in
     let t = c.assured-t.result in
     let s = c.located-s.result in
-    let w = c.behind-w.result in
+    let w = c.behind.result in
     let r = c.call-reply.result in
-    let k = decode (direct a.code a.a a.b a.c a.d a.e a.f) in
-    let j = decode (direct a.code s.a s.b s.c s.d a.e a.f) in
+    let k = decode (direct_of a.call) in
+    let j = decode (direct_of s.call) in
     let d = apart m t g.objects c.assured-t.ensures in record {
       few = rw c.numbered.ensures (told_few t.numbers w);
       explains = λ h. subst (Explains (clean (view m)) k) (sym c.numbered.ensures)
-          (explained m t g.objects c.assured-t.ensures k j s.numbers (c.located-s.ensures a.e a.f d)
-          (answered_nine m r.monitor k (told r.answer) h c.call-reply.ensures (sym c.is_nine.ensures ∙ c.if-not-is_nine.false)) w c.behind-w.ensures);
+          (explained m t g.objects c.assured-t.ensures k j s.numbers (c.located-s.ensures d)
+          (answered_nine m r.monitor k (told r.answer) h c.call-reply.ensures (sym c.is_nine.ensures ∙ c.if-not-is_nine.false)) w c.behind.ensures);
     }
