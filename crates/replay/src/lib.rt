@@ -41,8 +41,7 @@ pub fn one(m: Monitor, tally: Tally, body: &[u8]) -> Replied
 {
     match journal::read_body(body) {
         Ok(call) => {
-            let ns = call.numbers;
-            let c = tally::counted_call(m, tally, call.code, ns.a, ns.b, ns.c, ns.d, ns.e, ns.f);
+            let c = tally::counted_call(m, tally, call);
             Replied {
                 monitor: c.reply.monitor,
                 tally: c.tally,
