@@ -135,14 +135,20 @@ pub record Going (j first out : List ℕ) (t : Tables) (y : Tally) (at position 
   pub short : used ≤ longest_line * at
   pub stage : Stage j first out t y position used (records most j at)
 
--- the run has stopped: no record is left
-pub record Stopped (j first out : List ℕ) (t : Tables) (y : Tally) (used : ℕ) : Type 0 where
-  pub position : ℕ
+-- the run has stopped, when the next record was looked for at `at`: no record is left
+pub record Stopped (j first out : List ℕ) (t : Tables) (y : Tally) (at position used : ℕ) : Type 0 where
+  pub inside : at ≤ length j
+  pub early : position ≤ at + 1
+  pub next : ℕ
   pub short : used ≤ longest_line * length j
-  pub stage : Stage j first out t y position used []
+  pub stage : Stage j first out t y next used []
 
 pub going_begun : (j first : List ℕ) (t : Tables) → t ≡ empty → Going j first first t zeroed 0 1 0
 going_begun j first t e = record { most = length j; enough = omega arith; inside = omega arith; early = omega arith; short = omega arith; stage = begun j first t e }
+
+pub stopped : (j first out : List ℕ) (t : Tables) (y : Tally) (at p q used : ℕ) → at ≤ length j → p ≤ at + 1 → used ≤ longest_line * length j
+    → Stage j first out t y q used [] → Stopped j first out t y at p used
+stopped j first out t y at p q used inside early short g = record { inside = inside; early = early; next = q; short = short; stage = g }
 
 module _ (j first out : List ℕ) (at p used : ℕ) (m : Monitor) (y : Tally) (g : Going j first out (view m) y at p used) where
   -- a record stands at `at`
@@ -204,9 +210,11 @@ module _ (j first out : List ℕ) (at p used : ℕ) (m : Monitor) (y : Tally) (g
 
     pub broken_turn : (ys : List ℕ) (k : ℕ) → Some k ≡ fitted (line p 0 82 11 0) (take (length out - used) (drop used out)) → ys ≡ put (line p 0 82 11 0)
         (take (length out - used) (drop used out))
-        → Stopped j first (put_mid used (length out - used) out ys) (view m) y (used + k)
+        → Stopped j first (put_mid used (length out - used) out ys) (view m) y at p (used + k)
     broken_turn ys k answer wrote = record {
-      position = suc p;
+      inside = g.inside;
+      early = g.early;
+      next = suc p;
       short = omega (arith, g.short, thin, h, (fits (line p 0 82 11 0) (take (length out - used) (drop used out)) k (sym answer)).0);
       stage = more j first out p used m m y y (said 0 (bad 11)) [] 0 (refused 11) eleven_plain (refl, refl, refl, refl) there ys k answer wrote;
     }
@@ -220,9 +228,11 @@ module _ (j first out : List ℕ) (at p used : ℕ) (m : Monitor) (y : Tally) (g
         (λ room. omega (arith, g.short, room, small)) (broken_short answer) ys answer
 
   -- the journal ends at `at`
-  pub end_turn : entry_at j at ≡ reads end → Stopped j first out (view m) y used
+  pub end_turn : entry_at j at ≡ reads end → Stopped j first out (view m) y at p used
   end_turn e = record {
-    position = p;
+    inside = g.inside;
+    early = g.early;
+    next = p;
     short = omega (arith, g.short, g.inside);
     stage = subst (λ (x : List Said). Stage j first out (view m) y p used x) (none_left g.most) g.stage;
   }
@@ -232,13 +242,13 @@ module _ (j first out : List ℕ) (at p used : ℕ) (m : Monitor) (y : Tally) (g
       none_left (suc i) = records_end i j at e
 
 -- the last line has no room
-pub end_short : (j first out : List ℕ) (t : Tables) (y : Tally) (used : ℕ) → Stopped j first out t y used
+pub end_short : (j first out : List ℕ) (t : Tables) (y : Tally) (at p used : ℕ) → Stopped j first out t y at p used
     → length (last_line y) ≤ longest_end → length j ≤ largest_journal
     → (ys : List ℕ) → None ≡ fitted (last_line y) (take (length out - used) (drop used out)) → ys ≡ put (last_line y)
     (take (length out - used) (drop used out))
     → Ends (whole j) first (put_mid used (length out - used) out ys) None
-end_short j first out t y used g thin small ys answer = short_ends j first out g.position used t y [] g.stage (last_line y) longest_end thin
-    (λ room. omega (arith, g.short, room, small)) (not_ended j first out g.position used t y g.stage answer) ys answer
+end_short j first out t y at p used g thin small ys answer = short_ends j first out g.next used t y [] g.stage (last_line y) longest_end thin
+    (λ room. omega (arith, g.short, room, small)) (not_ended j first out g.next used t y g.stage answer) ys answer
 
 -- ── two lines, one after the other ──
 module _ (d e first : List ℕ) (thin : length (d ++ e) ≤ reply_room) where

@@ -49,7 +49,7 @@ line_is c = same_line c.loop-start.position c.one-r.result.code (told c.one-r.re
 
 -- where the run stops, because the journal ends or a line was written for what is no record
 stops : (c : Joined-entry_at)
-    → Stopped c.args.journal.now c.args.out.now c.match-entry_at.out (view c.loop-start.m) (counts_of c.loop-start.tally) c.match-entry_at.used
+    → Stopped c.args.journal.now c.args.out.now c.match-entry_at.out (view c.loop-start.m) (counts_of c.loop-start.tally) c.loop-start.at c.loop-start.position c.match-entry_at.used
 stops c =
     let l = c.loop-start in
     let a = c.args in
@@ -166,7 +166,7 @@ returns-clause-text c =
     let w = c.write_end in
     let is : ending l.tally.made l.tally.gone c.open_now.result ≡ last_line (counts_of l.tally) = ap (λ d. ending l.tally.made l.tally.gone d) c.open_now.ensures in
     let rest = take (length j.out - j.used) (drop j.used j.out) in
-    ended a.journal.now a.out.now j.out g.position j.used (view l.m) (counts_of l.tally) g.stage w.new.out c.in-Some-write_end.n
+    ended a.journal.now a.out.now j.out g.next j.used (view l.m) (counts_of l.tally) g.stage w.new.out c.in-Some-write_end.n
     (c.in-Some-write_end.ensures.answer ∙ ap (λ y. fitted y rest) is) (w.ensures.buffer ∙ ap (λ y. put y rest) is)
 
 pub returns-clause-end : goal.returns-clause-end
@@ -185,5 +185,5 @@ returns-in_default-write_end-clause-text c =
     let is : ending l.tally.made l.tally.gone c.open_now.result ≡ last_line (counts_of l.tally) = ap (λ d. ending l.tally.made l.tally.gone d) c.open_now.ensures in
     let rest = take (length j.out - j.used) (drop j.used j.out) in
     let thin = subst (λ y. length y ≤ longest_end) is w.ensures.short in
-    end_short a.journal.now a.out.now j.out (view l.m) (counts_of l.tally) j.used g thin l.invariant.0.0 w.new.out
+    end_short a.journal.now a.out.now j.out (view l.m) (counts_of l.tally) l.at l.position j.used g thin l.invariant.0.0 w.new.out
     (c.in_default-write_end.ensures.answer ∙ ap (λ y. fitted y rest) is) (w.ensures.buffer ∙ ap (λ y. put y rest) is)

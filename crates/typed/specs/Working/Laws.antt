@@ -9,7 +9,7 @@ use Rattle.model.specs.Promise.{Meets}
 use Rattle.model.specs.Tally.{wrapped}
 use Rattle.answers.specs.Telling.{refuses}
 use Rattle.gatekeeper.specs.declared.Monitor.{Monitor}
-use Rattle.gatekeeper.specs.View.{monitors}
+use Rattle.gatekeeper.specs.View.{monitors, direct}
 use Rattle.tally.specs.declared.Tally.{Tally}
 use Rattle.tally.specs.Counting.{Tallies}
 use Rattle.typed.specs.declared.Outcome.{Outcome}
@@ -57,6 +57,39 @@ made_as {m} {y = y} r s e (then {n = n} {z = z} {a = a} p t q) = then (subst (λ
 
 pub works_as : {h k : Hand} (r s : Raw) → decode r ≡ decode s → Works h (r ∷ []) k → Works h (s ∷ []) k
 works_as r s e w = record { answers = w.answers; made = made_as r s e w.made; tallied = w.tallied; stirred = w.stirred }
+
+-- the calls of a line, spelled with all six numbers and with their own alone
+module _ (a b c d : ℕ) where
+  abbrev short_call : ℕ → List ℕ → Raw
+  short_call code numbers = record { code = code; numbers = numbers }
+
+  pub as_pipe : decode (direct 4 a b c d 0 0) ≡ decode (short_call 4 (a ∷ b ∷ c ∷ d ∷ []))
+  unfolding decode
+  as_pipe = refl
+
+  pub as_reading : decode (direct 5 a b c 0 0 0) ≡ decode (short_call 5 (a ∷ b ∷ c ∷ []))
+  unfolding decode
+  as_reading = refl
+
+  pub as_writing : decode (direct 6 a b c 0 0 0) ≡ decode (short_call 6 (a ∷ b ∷ c ∷ []))
+  unfolding decode
+  as_writing = refl
+
+  pub as_fork : decode (direct 9 a b 0 0 0 0) ≡ decode (short_call 9 (a ∷ b ∷ []))
+  unfolding decode
+  as_fork = refl
+
+  pub as_exec : decode (direct 10 a b 0 0 0 0) ≡ decode (short_call 10 (a ∷ b ∷ []))
+  unfolding decode
+  as_exec = refl
+
+  pub as_close : decode (direct 11 a b 0 0 0 0) ≡ decode (short_call 11 (a ∷ b ∷ []))
+  unfolding decode
+  as_close = refl
+
+  pub as_exit : decode (direct 12 a 0 0 0 0 0) ≡ decode (short_call 12 (a ∷ []))
+  unfolding decode
+  as_exit = refl
 
 -- ── what the answers come to ──
 -- a count, an answer at a time
