@@ -324,7 +324,8 @@ const MALFORMED: [&[u8]; 3] = [
 // Writes some bytes in hex, each after a space.
 fn show_bytes(to: Outputs, bytes: &[u8]) {
     for byte in bytes {
-        let _ = print!(to.output; " {byte:02x}");
+        let _ = to.output.write_all(b" ");
+        let _ = print!(to.output; "{byte:02x}");
     }
 }
 

@@ -4,18 +4,17 @@ use mathlib.Core.Bool.{Bool, true, false, not, ◌||◌, cond}
 use mathlib.Core.Logic.{◌⊎◌, inl, inr}
 use mathlib.Core.Option.{Option, none, some, none-ne-some, some-injective}
 use mathlib.Core.List.{List}
-use Prim.Native.Nat.{ℕ, zero, suc, ◌+◌, ◌≤◌}
+use Prim.Native.Nat.{ℕ, zero, suc, ◌+◌, ◌≤◌, ◌<◌}
 use native.Mathlib.Omega.{arith}
 use native.Mathlib.Numerals.{add-one}
-use lib.ListN.{length, get_or, take, drop, length-drop}
-use lib.Seq.{get_or-drop}
+use lib.ListN.{length, get_or, take}
 use Rattle.std.specs.Prelude.{fold, zip}
-use Rattle.flows.specs.Short.{some_folded}
+use Rattle.flows.specs.Short.{SomeOf}
 use Rattle.std.proofs.lemmas.List.{take_all}
 use Rattle.std.proofs.lemmas.List.Sums.{fold_more}
 use Rattle.std.proofs.lemmas.Slice.Zip.{length-zip, get_or-zip}
 use lib.Dec.{T, T_not, ltb→lt, lt→ltb, eqb}
-use Rattle.model.specs.Bools.{test, both, or_cases, or_left, or_right}
+use Rattle.model.specs.Bools.{test, both, or_cases, or_left, or_right, is_true}
 use Rattle.model.specs.Lists.{In}
 use Rattle.model.specs.Label.{Label, leq, label}
 use Rattle.labels.specs.Codes.{coded}
@@ -58,7 +57,7 @@ object_as : (x : Object) (v : Label) → As (short_object x v) (Low v (object_en
 object_as x v = low_as (eqb x.kind 0) (cond (eqb x.kind 1) file pipe) (label x.level x.shops) v
 
 -- ── a test of each of some things with its figure ──
-folded_below : {X : Type 0} (f : X → ℕ → Bool) (xs : List X) (n : List ℕ) (d : X) (e : ℕ) → length xs ≤ length n
+pub folded_below : {X : Type 0} (f : X → ℕ → Bool) (xs : List X) (n : List ℕ) (d : X) (e : ℕ) → length xs ≤ length n
     → fold (λ (low : Bool) (p : X × ℕ). low || f p.0 p.1) false (zip xs n) ≡ some_below (length xs) (λ i. f (get_or xs i d) (get_or n i e))
 folded_below {X} f xs n d e l = ap (λ (l : List (X × ℕ)). fold step false l) (sym (take_all (length xs) ps (omega (arith, long)))) ∙ go (length xs) (omega arith)
   where
@@ -75,6 +74,27 @@ folded_below {X} f xs n d e l = ap (λ (l : List (X × ℕ)). fold step false l)
     go zero h = refl
     go (suc k) h = ap (λ (z : ℕ). fold step false (take z ps)) (sym (add-one k)) ∙ fold_more step false ps k (d, e) (omega (arith, long))
         ∙ ap₂ ◌||◌ (go k (omega arith)) (ap (λ (p : X × ℕ). f p.0 p.1) (get_or-zip xs n k (d, e) (omega arith) (omega arith)))
+
+-- one of some subjects is one of all
+pub first_found : (ss : List Subject) (n : List ℕ) {xs : List Subject} {m : List ℕ} {b : Bool} → SomeOf short_subject xs m b → length xs ≤ 32 → length xs ≤ length m
+    → ((i : ℕ) → i < length xs → (get_or xs i no_subject ≡ get_or ss i no_subject) × (get_or m i 0 ≡ get_or n i 0))
+    → b ≡ true → some_below 32 (λ i. short_subject (get_or ss i no_subject) (coded (get_or n i 0))) ≡ true
+first_found ss n {xs} {m} s l e h p =
+    let r = some_of_below (length xs) (λ i. short_subject (get_or xs i no_subject) (coded (get_or m i 0))) (subst T (sym p ∙ s.by_index no_subject e) tt) in
+    is_true _ (below_some 32 (λ i. short_subject (get_or ss i no_subject) (coded (get_or n i 0))) r.0 (omega (arith, l, r.1)) (subst T (ap₂ (λ (x : Subject) (v : ℕ). short_subject x (coded v)) (h r.0 r.1).0 (h r.0 r.1).1) r.2))
+
+-- of all subjects, and of all objects: the code hands over parts, with parts of the figures
+pub subjects_as : (ss : List Subject) (n : List ℕ) {xs : List Subject} {m : List ℕ} {b : Bool} → SomeOf short_subject xs m b → length xs ≡ 32 → 32 ≤ length m
+    → ((i : ℕ) → i < 32 → (get_or xs i no_subject ≡ get_or ss i no_subject) × (get_or m i 0 ≡ get_or n i 0))
+    → b ≡ some_below 32 (λ i. short_subject (get_or ss i no_subject) (coded (get_or n i 0)))
+subjects_as ss n {xs} {m} s l e h = s.by_index no_subject (omega (arith, l, e)) ∙ ap (λ (k : ℕ). some_below k (λ i. short_subject (get_or xs i no_subject) (coded (get_or m i 0)))) l
+    ∙ below_same 32 _ _ (λ i g. ap₂ (λ (x : Subject) (v : ℕ). short_subject x (coded v)) (h i g).0 (h i g).1)
+
+pub objects_as : (os : List Object) (n : List ℕ) {xs : List Object} {m : List ℕ} {b : Bool} → SomeOf short_object xs m b → length xs ≡ 64 → 64 ≤ length m
+    → ((i : ℕ) → i < 64 → (get_or xs i no_object ≡ get_or os i no_object) × (get_or m i 0 ≡ get_or n (32 + i) 0))
+    → b ≡ some_below 64 (λ i. short_object (get_or os i no_object) (coded (get_or n (32 + i) 0)))
+objects_as os n {xs} {m} s l e h = s.by_index no_object (omega (arith, l, e)) ∙ ap (λ (k : ℕ). some_below k (λ i. short_object (get_or xs i no_object) (coded (get_or m i 0)))) l
+    ∙ below_same 64 _ _ (λ i g. ap₂ (λ (x : Object) (v : ℕ). short_object x (coded v)) (h i g).0 (h i g).1)
 
 -- ── all things ──
 module _ (rest : Tables) (ss : List Subject) (os : List Object) (hs : List Handle) (n : List ℕ) (w : Wf (tables_of rest ss os hs))
@@ -140,21 +160,11 @@ module _ (rest : Tables) (ss : List Subject) (os : List Object) (hs : List Handl
       (λ h. let r = (not_safe t).0 h in let g = found r.0 r.1 r.2 in to_either r.0 g.0 g.1)
 
   -- the two tests, one after the other
-  module _ (ls : length ss ≡ 32) (ln : length n ≡ 96) where
-    subjects_as : some_folded short_subject ss n ≡ some_below 32 fs
-    unfolding fs
-    subjects_as = folded_below (λ x v. short_subject x (coded v)) ss n no_subject 0 (omega arith)
-        ∙ ap (λ (k : ℕ). some_below k (λ i. short_subject (get_or ss i no_subject) (coded (get_or n i 0)))) ls
+  pub short_first : some_below 32 (λ i. short_subject (get_or ss i no_subject) (coded (get_or n i 0))) ≡ true → true ≡ not (safe (tables_of rest ss os hs))
+  unfolding fs
+  short_first q = ap (λ (b : Bool). b || some_below 64 fo) (sym q) ∙ short_is
 
-    objects_as : some_folded short_object os (take 64 (drop 32 n)) ≡ some_below 64 fo
-    unfolding fo
-    objects_as = ap (some_folded short_object os) (take_all 64 (drop 32 n) (omega (arith, length-drop 32 n)))
-        ∙ folded_below (λ x v. short_object x (coded v)) os (drop 32 n) no_object 0 (omega (arith, length-drop 32 n))
-        ∙ ap (λ (k : ℕ). some_below k (λ i. short_object (get_or os i no_object) (coded (get_or (drop 32 n) i 0)))) lo
-        ∙ below_same 64 _ _ (λ i l. ap (λ (v : ℕ). short_object (get_or os i no_object) (coded v)) (get_or-drop 32 n i 0))
-
-    pub short_first : some_folded short_subject ss n ≡ true → true ≡ not (safe (tables_of rest ss os hs))
-    short_first q = ap (λ (b : Bool). b || some_below 64 fo) (sym q ∙ subjects_as) ∙ short_is
-
-    pub short_second : some_folded short_subject ss n ≡ false → some_folded short_object os (take 64 (drop 32 n)) ≡ not (safe (tables_of rest ss os hs))
-    short_second q = objects_as ∙ ap (λ (b : Bool). b || some_below 64 fo) (sym q ∙ subjects_as) ∙ short_is
+  pub short_second : {b r : Bool} → b ≡ some_below 32 (λ i. short_subject (get_or ss i no_subject) (coded (get_or n i 0)))
+      → r ≡ some_below 64 (λ i. short_object (get_or os i no_object) (coded (get_or n (32 + i) 0))) → b ≡ false → r ≡ not (safe (tables_of rest ss os hs))
+  unfolding fs fo
+  short_second q s p = s ∙ ap (λ (b : Bool). b || some_below 64 fo) (sym p ∙ q) ∙ short_is

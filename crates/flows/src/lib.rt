@@ -14,7 +14,7 @@ ghost use Rattle.tables.specs.Needs.{figure_of, Needed};
 ghost use Rattle.groups.specs.Groups.{kin_of};
 ghost use Rattle.labels.specs.Codes.{coded};
 ghost use Rattle.passes.specs.Working.{demanded_by, Started, Spread, short_subject, short_object};
-ghost use Rattle.flows.specs.Short.{some_folded};
+ghost use Rattle.flows.specs.Short.{SomeOf};
 
 use tables::{FILE, FREE, HANDLES, Handle, OBJECTS, Object, SUBJECTS, Subject, THINGS, looks};
 
@@ -94,7 +94,7 @@ impl Labelled for Object {
 
 // Some of these has a label below its figure. (All are looked at: without a way out the compiler takes many at a time.)
 fn some_short<T: Labelled>(things: &[T], n: &[u16]) -> bool
-    ensures { result ≡ some_folded T.short things.now n.now }
+    ensures { SomeOf T.short things.now n.now result }
 {
     things
         .iter()

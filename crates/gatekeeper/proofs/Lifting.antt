@@ -23,12 +23,24 @@ use Rattle.model.proofs.Calls.Listed.{writes_none}
 use Rattle.model.proofs.Calls.Renaming.{Renumbers, call}
 use Rattle.model.specs.Tables.Numbers.{Distinct}
 use Rattle.model.proofs.Calls.Slots.{to, from, renumbers, placed, reseat, unseat, reseats, reseat_here, reseat_there}
+use Rattle.calls.specs.declared.Call.{Call as Direct}
 use Rattle.tables.specs.declared.Object.{Object}
 use Rattle.tables.specs.Records.{object_entry, no_object}
 use Rattle.refusals.specs.Refusing.{Room}
 use Rattle.tables.specs.Slots.{slot_used, Absent, Here, Found, Free, Seated}
-use Rattle.gatekeeper.specs.View.{used_slots, direct}
+use Rattle.gatekeeper.specs.View.{used_slots, direct, direct_of}
 use Rattle.gatekeeper.specs.Numbering.{noted, Both, Lift}
+
+-- a call by slot whose code and last two numbers are those of the call by number, as the two structs have them
+pub lifted : (os : List Object) (ns ns' : List ℕ) (c k : Direct)
+    → (k.code ≡ c.code) × (k.numbers.e ≡ c.numbers.e) × (k.numbers.f ≡ c.numbers.f)
+    → let n = c.numbers in let i = k.numbers in Lift os ns (decode (direct_of c)) (decode (direct c.code i.a i.b i.c i.d n.e n.f)) ns'
+    → Lift os ns (decode (direct_of c)) (decode (direct_of k)) ns'
+lifted os ns ns' c k r l = rw (r.0, r.1, r.2) l
+
+-- the numbers that a call leaves are those that were noted
+pub lift_noted : {os : List Object} {ns ms ns' : List ℕ} {c k : Call} → ns' ≡ ms → Lift os ns c k ms → Lift os ns c k ns'
+lift_noted e l = rw e l
 
 -- a renumbering that gives each slot in use its number
 pub record Names (os : List Object) (ns : List ℕ) : Type 0 where

@@ -1,9 +1,9 @@
 // The slots of the objects that a call names by their numbers.
-ghost use Rattle.std.specs.Prelude.{◌≡◌, get_or};
+ghost use Rattle.std.specs.Prelude.{◌≡◌, ℕ, get_or};
 ghost use Rattle.model.specs.Calls.{decode};
 ghost use Rattle.model.specs.Tables.Numbers.{Distinct};
 ghost use Rattle.tables.specs.Slots.{slot_used, Seated};
-ghost use Rattle.gatekeeper.specs.View.{direct_of};
+ghost use Rattle.gatekeeper.specs.View.{direct};
 ghost use Rattle.gatekeeper.specs.Numbering.{noted, Both, Lift};
 
 use calls::{Call, Numbers};
@@ -60,9 +60,16 @@ fn makes_both(
     (x, y)
 }
 
-// The call by slots.
+// The call by slots. Its code, and the numbers of it that are of no object, stay.
 pub fn located(objects: [Object; OBJECTS], mut numbers: [u64; OBJECTS], mut call: Call) -> Seats
-    ensures { Distinct (slot_used objects) (λ i. get_or numbers i 0) 64 → Lift objects numbers (decode (direct_of call)) (decode (direct_of result.call)) result.numbers }
+    ensures lift { (e f : ℕ) → Distinct (slot_used objects) (λ i. get_or numbers i 0) 64 →
+        Lift objects numbers (decode (direct call.code call.numbers.a call.numbers.b call.numbers.c call.numbers.d e f))
+        (decode (direct call.code result.call.numbers.a result.call.numbers.b result.call.numbers.c result.call.numbers.d e f)) result.numbers }
+    ensures others { ((call.code ≡ 2 → ⊥) → (call.code ≡ 13 → ⊥) → result.call.numbers.a ≡ call.numbers.a)
+        × ((call.code ≡ 3 → ⊥) → (call.code ≡ 4 → ⊥) → (call.code ≡ 5 → ⊥) → (call.code ≡ 6 → ⊥) → (call.code ≡ 10 → ⊥) → (call.code ≡ 14 → ⊥) → result.call.numbers.b ≡ call.numbers.b)
+        × ((call.code ≡ 17 → ⊥) → (result.call.numbers.c ≡ call.numbers.c) × (result.call.numbers.d ≡ call.numbers.d))
+        × ((call.code ≡ 2 → ⊥) → (call.code ≡ 3 → ⊥) → (call.code ≡ 4 → ⊥) → (call.code ≡ 17 → ⊥) → result.numbers ≡ numbers) }
+    ensures rest { (result.call.code ≡ call.code) × (result.call.numbers.e ≡ call.numbers.e) × (result.call.numbers.f ≡ call.numbers.f) }
 {
     let Numbers { a, b, c, d, .. } = call.numbers;
     match call.code {

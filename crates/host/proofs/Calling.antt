@@ -1,9 +1,10 @@
 -- What a call leaves in the state's bytes, and what it is answered. Assumes nothing.
 use mathlib.Core.Path.{◌≡◌, refl, sym, ap, ap₂, ◌∙◌, subst}
-use mathlib.Core.Bool.{true, false, true≢false}
+use mathlib.Core.Bool.{Bool, true, false, true≢false}
 use mathlib.Core.Option.{some, none-ne-some}
 use mathlib.Core.List.{List}
 use Prim.Native.Nat.{ℕ}
+use native.Mathlib.Omega.{arith}
 use borrow.Author.Tests.{eq-eqb, ne_eqb}
 use lib.ListN.{length}
 use Rattle.model.specs.Tables.{Tables, clean}
@@ -16,7 +17,7 @@ use Rattle.tally.specs.declared.Tally.{Tally}
 use Rattle.std.specs.Prelude.{Ok, Err}
 use Rattle.std.specs.Result.{is_ok}
 use Rattle.answers.specs.declared.Granted.TheVariants.{Allowed, Lowered}
-use Rattle.answers.specs.Telling.{Answered, told, refuses}
+use Rattle.answers.specs.Telling.{Answered, told, letter_of, refuses}
 use Rattle.gatekeeper.specs.View.{view, Honest, monitors}
 use Rattle.gatekeeper.specs.View.Laws.{honest_tidy}
 use Rattle.tally.specs.Counting.{counts_of, Tallies}
@@ -34,6 +35,24 @@ granted (Err r) h = absurd (cc)
 pub denied : (a : Answered) → is_ok a ≡ false → refuses (told a) ≡ true
 denied (Ok g) h = absurd (cc)
 denied (Err r) h = refl
+
+-- the same, by a test's value b
+pub granted_so : (a : Answered) (b : Bool) → b ≡ is_ok a → b ≡ true → refuses (told a) ≡ false
+granted_so a b e h = granted a (sym e ∙ h)
+
+pub denied_so : (a : Answered) (b : Bool) → b ≡ is_ok a → b ≡ false → refuses (told a) ≡ true
+denied_so a b e h = denied a (sym e ∙ h)
+
+-- and by the answer's letter, of which R is a refusal's
+pub granted_by_letter : (a : Answered) (n : ℕ) → n ≡ letter_of (told a) → (n ≡ 82 → ⊥) → refuses (told a) ≡ false
+granted_by_letter (Ok (Allowed l)) n e h = refl
+granted_by_letter (Ok (Lowered l k)) n e h = refl
+granted_by_letter (Err r) n e h = absurd (h e)
+
+pub denied_by_letter : (a : Answered) (n : ℕ) → n ≡ letter_of (told a) → n ≡ 82 → refuses (told a) ≡ true
+denied_by_letter (Ok (Allowed l)) n e h = absurd (omega arith)
+denied_by_letter (Ok (Lowered l k)) n e h = absurd (omega arith)
+denied_by_letter (Err r) n e h = refl
 
 is_refusal : (a : Answer) → refuses a ≡ true → (k : ℕ) × (a ≡ refused k)
 is_refusal (allowed l) h = absurd (cc)

@@ -129,7 +129,7 @@ fn is_on(handles: &[u8; HANDLE_BYTES], i: usize, o: u8) -> bool
     requires { i < 512 }
     ensures { result ≡ on (slice_index_or (handles_in handles.now) i no_handle) o }
 {
-    handles[3 * i] != EMPTY && handles[3 * i + 1] == o
+    handles[3 * i + 1] == o && handles[3 * i] != EMPTY
 }
 
 // A handle other than that at index `at` is on object o. It looks from there on, and then from the front.
@@ -147,7 +147,7 @@ fn is_at(objects: &[u8; OBJECT_BYTES], numbers: &[u64; OBJECTS], i: u64, o: u64)
     ensures { result ≡ (slot_used (objects_in objects.now) (i % 64) && slice_index numbers.now (i % 64) == o) }
 {
     let j = i as usize % OBJECTS;
-    objects[3 * j] != FREE && numbers[j] == o
+    numbers[j] == o && objects[3 * j] != FREE
 }
 
 // The slot of object o, which is looked for at o modulo OBJECTS first; OBJECTS where it is not live.

@@ -59,9 +59,8 @@ pub struct Record {
 #[derive(Clone, Copy, Debug, PartialEq, Eq)]
 pub struct Broken;
 
-// The record at the offset `at` of a journal, which may be any number; none where no record is left. Every caller with a journal and
-// an offset of its own asks this.
-pub fn entry_at(journal: &[u8], at: usize) -> Result<Option<Record>, Broken>
+// The record at the offset `at` of a journal, which may be any number; none where no record is left.
+fn record_at(journal: &[u8], at: usize) -> Result<Option<Record>, Broken>
     ensures { entry_answer result ≡ entry_at journal.now at }
 {
     if journal.len() <= at {
@@ -111,7 +110,7 @@ impl<'a> Reader<'a> {
     pub fn next(self) -> Result<Option<Record>, Broken>
         ensures { entry_answer result ≡ entry_at self.entry.journal.now self.entry.at }
     {
-        entry_at(self.journal, self.at)
+        record_at(self.journal, self.at)
     }
 
     // The reader of the same journal, moved on.
@@ -130,6 +129,13 @@ impl<'a> Reader<'a> {
     {
         body_at(self.journal, start, len)
     }
+}
+
+// What a reader finds at an offset of a journal. Every caller with a journal and an offset of its own asks this.
+pub fn entry_at(journal: &[u8], at: usize) -> Result<Option<Record>, Broken>
+    ensures { entry_answer result ≡ entry_at journal.now at }
+{
+    Reader { journal, at }.next()
 }
 
 // Why a body says no call.

@@ -107,6 +107,13 @@ module _ (w : ℕ) (from to : ℕ → ℕ) (n m : List ℕ) (k : ℕ) (done more
   pub taken_at : (a c : ℕ) (m' : List ℕ) (g : Bool) → a ≡ from k → c ≡ to k → Taken a c m m' g → k < w → a < length m → Passed w from to n m' more (b || g)
   taken_at a c m' g ea ec h hk ha = taken m' g (subst₂ (λ (x y : ℕ). Taken x y m m' g) ea ec h) hk (subst (λ (x : ℕ). x < length m) ea ha)
 
+-- where the code notes in a test that a figure grew
+pub noted : {w : ℕ} {from to : ℕ → ℕ} {n m : List ℕ} {done : ℕ → Type 0} (b : Bool) {c g : Bool} → g ≡ true → c ≡ true → Passed w from to n m done (b || g) → Passed w from to n m done c
+noted b e q p = rw q (rw (e, or_true b) at p)
+
+pub unnoted : {w : ℕ} {from to : ℕ → ℕ} {n m : List ℕ} {done : ℕ → Type 0} (b : Bool) {c g : Bool} → g ≡ false → c ≡ b → Passed w from to n m done (b || g) → Passed w from to n m done c
+unnoted b e q p = rw q (rw (e, or_false b) at p)
+
 -- what the code's test says
 pub holds : {b : Bool} {l v : Label} → b ≡ leq l v → b ≡ true → l ⊑ v
 holds q e = record { tested = subst T (sym e ∙ q) tt }

@@ -71,7 +71,9 @@ fn pass(edges: &[Edge], figures: &mut [u16; THINGS]) -> bool
 {
     let mut grew = false;
     for e in edges {
-        grew |= taken(*e, figures);
+        if taken(*e, figures) {
+            grew = true;
+        }
     }
     grew
 }
@@ -83,7 +85,9 @@ pub fn pass_back(edges: &[Edge], figures: &mut [u16; THINGS]) -> bool
     let mut moved = false;
     let mut left = edges;
     while let Some((e, before)) = left.split_last() {
-        moved |= taken(*e, figures);
+        if taken(*e, figures) {
+            moved = true;
+        }
         left = before;
     }
     moved

@@ -58,9 +58,9 @@ pub trait Kept<const W: usize>: Copy {
 }
 
 // The first byte of a record of an object is one of KINDS that mean something: 1 is a file and 2 a pipe. That of a handle is one of WAYS: 1 reads, 2 writes and 3 is a mapping.
-const KINDS: u8 = 3;
+pub const KINDS: u8 = 3;
 
-const WAYS: u8 = 4;
+pub const WAYS: u8 = 4;
 
 // A byte that means something, which is one below `known`, and `other` in the place of any that does not.
 fn known_or(known: u8, b: u8, other: u8) -> u8

@@ -1,7 +1,8 @@
 -- The pipelines of a good line, made one after the other; and what the line comes to. Assumes nothing.
-use Rattle.std.proofs.Common.{◌≡◌, ℕ, ◌-◌, ◌*◌, ◌≤◌, Bool, true, false, cond, leb, List, [], ◌++◌, length, get_or, sym, refl, ap, ◌∙◌, subst, true≢false, append_assoc, arith, leb-true}
+use Rattle.std.proofs.Common.{◌≡◌, ℕ, ◌-◌, ◌*◌, ◌≤◌, ◌<◌, Bool, true, false, cond, leb, List, [], ◌++◌, length, get_or, sym, refl, ap, ◌∙◌, subst, true≢false, append_assoc, arith, leb-true}
 use mathlib.Core.Bool.{and-eq-true_iff}
 use mathlib.Core.Option.{Option, none, some, none-ne-some, some-injective}
+use Rattle.std.specs.Prelude.{Result}
 use Rattle.model.specs.Lists.{each}
 use Rattle.model.specs.Calls.{Raw}
 use Rattle.gatekeeper.specs.declared.Monitor.{Monitor}
@@ -12,7 +13,7 @@ use Rattle.lines.specs.Line.{Pipeline as Stages}
 use Rattle.lines.specs.Line.{Stage as Stage-read}
 use Rattle.lines.specs.Reading.{Pipelined, Lined, last, then}
 use Rattle.lines.proofs.Reading.Laws.{line_lined, pipelined_one, lined_one}
-use Rattle.lines.specs.Told.{number_of}
+use Rattle.lines.specs.Told.{number_of, said}
 use Rattle.lines.specs.declared.LineError.{LineError}
 use Rattle.lines.specs.declared.LineError.TheVariants.{NotALine, TooLong}
 use Rattle.lines.specs.Calls.{counted_from, pipe_call, close_call, stage_calls, exit_call, no_stage, pipeline_calls, calls_of}
@@ -108,9 +109,16 @@ by_short : (b : Bool) (v : ℕ) → v ≡ cond b 0 19 → (v ≡ 0 → b ≡ tru
 by_short true v e = ((λ _. refl), λ n. absurd (n e))
 by_short false v e = ((λ z. absurd (omega (arith, z, e))), λ n. (refl, e))
 
+pub number_some : (e : LineError) → 0 < number_of e
+number_some NotALine = omega arith
+number_some TooLong = omega arith
+
 pub good_line : (bs : List ℕ) → Judges bs 0 → Good bs
 good_line bs (no_line h e) = absurd (omega (arith, e))
 good_line bs (a_line l w e) = record { reading = l; read = line_lined bs l w; is_short = (by_short (short l) 0 e).0 refl }
+
+pub good_said : (bs : List ℕ) (r : Result Unit LineError) → Judges bs (said r) → said r ≡ 0 → Good bs
+good_said bs r j z = good_line bs (subst (Judges bs) z j)
 
 module _ (m : Monitor) (y : Tally) (bs : List ℕ) (shell child pipe : ℕ) where
   same_short : (l k : Reading) → Line l bs → Line k bs → short l ≡ short k
@@ -156,3 +164,13 @@ module _ (m : Monitor) (y : Tally) (bs : List ℕ) (shell child pipe : ℕ) wher
     where
       ran : (k : Reading) → Line k bs → short k ≡ true → Ran m y (calls_of shell child pipe k) o.outcome o.monitor o.tally
       ran k u s = let r = made k (line_lined bs k u) in record { answers = r.answers; made = r.made; told = r.tallied ∙ counted_from_none r.answers }
+
+  -- ── the same by what `verdict` said, and with the outcome that a hand begins with or is left with ──
+  pub runs_said : (r : Result Unit LineError) → Judges bs (said r) → said r ≡ 0 → (x : Outcome) → x ≡ refused_line 0 → (o : Hand)
+      → ((l : Reading) → Lined bs l → Works (record { monitor = m; tally = y; outcome = x; moved = false }) (calls_of shell child pipe l) o) → Handed m y bs shell child pipe o
+  runs_said r j z x e o made = runs_line (subst (Judges bs) z j) o (λ l w. subst (λ (v : Outcome). Works (record { monitor = m; tally = y; outcome = v; moved = false }) (calls_of shell child pipe l) o) e (made l w))
+
+  pub refuses_said : (r : Result Unit LineError) → Judges bs (said r) → 0 < said r → (x : Outcome) → x ≡ refused_line (said r)
+      → Handed m y bs shell child pipe (record { monitor = m; tally = y; outcome = x; moved = false })
+  refuses_said r j p x e = subst (λ (v : Outcome). Handed m y bs shell child pipe (record { monitor = m; tally = y; outcome = v; moved = false })) (sym e)
+      (refuses_with (said r) j (λ z. omega (arith, p, z)))

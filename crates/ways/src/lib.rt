@@ -65,6 +65,7 @@ fn goals(objects: [Object; OBJECTS], label: u16) -> [u8; THINGS]
 }
 
 // One pass over the arcs: the start of each is one step farther than its end, where that is nearer than it was. Whether a distance fell.
+#[inline(never)]
 fn nearer(arcs: &[Edge; HANDLES], dist: &mut [u8; THINGS]) -> bool
     ensures { Neared (start_at arcs.now) (end_at arcs.now) dist.old dist.new 512 result }
 {
@@ -95,6 +96,9 @@ fn step(arcs: &[Edge; HANDLES], dist: &[u8; THINGS], a: usize) -> Option<usize>
     ensures { MatchOption result (NoneBelow (start_at arcs.now) (end_at arcs.now) (figure dist.now) a 512) (First (start_at arcs.now) (end_at arcs.now) (figure dist.now) a) }
 {
     let far = dist[a];
+    if far == 0 {
+        return None;
+    }
     for (i, e) in arcs.iter().enumerate() {
         if e.from as usize == a && dist[e.to as usize] < far {
             return Some(i);

@@ -1,5 +1,7 @@
 -- `number::read_number` meets its contract: each way through it is a law of `Reader`. Assumes nothing.
-use Rattle.std.proofs.Common.{◌≡◌, ℕ, ◌-◌, List, length, take, drop, sym, ap, ◌∙◌, arith}
+use Rattle.std.proofs.Common.{◌≡◌, ℕ, ◌-◌, List, length, take, drop, sym, ap, ◌∙◌, refl, arith}
+use Rattle.std.specs.Prelude.{Option, Some, None}
+use Rattle.std.specs.Option.{option_or}
 use Rattle.number.specs.Leb.{largest, longest, Reading, number}
 use Rattle.number.proofs.Reader.{number_nil, number_one, number_cut, Begun, number_padded, number_two}
 use Rattle.number.proofs.Reader.{rest, rest_malformed, rest_over, rest_used, rest_good}
@@ -9,6 +11,11 @@ use Rattle.number.proofs.+read_number.Goals.{Else-from-eq1}
 -- where the first byte is not the last, and another stands behind it
 begun : (t : ℕ) (c : Else-from-eq1 t) → Begun c.args.from.now
 begun t c = record { full = omega arith; long = omega arith; byte = omega (arith, c.type_inv.from 0) }
+
+-- (the answers below read off what the call answered as the code has it then: as it is, or with `or` behind it)
+or_none : {T : Type 0} (r : Option T) → option_or r None ≡ r
+or_none None = refl
+or_none (Some x) = refl
 
 -- what the call on the rest answered
 called : (s : List ℕ) (r : Reading) (k : ℕ) → r ≡ number largest (take (k - 1) (drop 1 s)) → k ≡ length (take longest s)
@@ -37,19 +44,19 @@ returns-then-second-lt128 t c =
 pub returns : goal.returns
 returns t c =
     let b = begun t (goal.at.returns t c).Else-from-eq1 in
-    rest_good b _ _ (called _ _ _ c.in_ok-value.ensures c.reach-end.ensures) (omega arith) (omega (arith, c.type_inv.from 1)) (omega arith)
+    rest_good b _ _ (called _ _ _ (grind (arith, or_none)) c.reach-end.ensures) (omega arith) (omega (arith, c.type_inv.from 1)) (omega arith)
 
 pub returns-then-group-value : goal.returns-then-group-value
 returns-then-group-value t c =
     let b = begun t (goal.at.returns-then-group-value t c).Else-from-eq1 in
-    rest_over b _ _ (called _ _ _ c.in_ok-value.ensures c.reach-end.ensures) (omega arith)
+    rest_over b _ _ (called _ (Some (c.in_ok-value.value, c.in_ok-value.used)) c.reach-end.result (grind (arith, or_none)) c.reach-end.ensures) (omega arith)
 
 pub overflow_add-result-3 : goal.overflow_add-result-3
 overflow_add-result-3 t c =
     let b = begun t (goal.at.overflow_add-result-3 t c).Else-from-eq1 in
-    omega (arith, rest_used b _ _ (called _ _ _ c.in_ok-value.ensures c.reach-end.ensures), c.well_formed)
+    omega (arith, rest_used b _ _ (called _ (Some (c.in_ok-value.value, c.in_ok-value.used)) c.reach-end.result (grind (arith, or_none)) c.reach-end.ensures), c.well_formed)
 
 pub returns-in_err-value : goal.returns-in_err-value
 returns-in_err-value t c =
     let b = begun t (goal.at.returns-in_err-value t c).Else-from-eq1 in
-    c.from_residual.ensures ∙ rest_malformed b (called _ _ _ c.in_err-value.ensures c.reach-end.ensures)
+    c.from_residual.ensures ∙ rest_malformed b (called _ _ _ (grind (arith, or_none)) c.reach-end.ensures)

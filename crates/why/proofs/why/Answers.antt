@@ -5,6 +5,7 @@ use Rattle.model.specs.Tables.{clean}
 use Rattle.model.specs.Calls.{decode}
 use Rattle.answers.specs.Telling.{told}
 use Rattle.gatekeeper.specs.View.{view, direct_of}
+use Rattle.gatekeeper.proofs.Lifting.{lifted}
 use Rattle.gatekeeper.proofs.Owned.{owned_long}
 use Rattle.why.specs.Why.{Explains}
 use Rattle.why.proofs.Telling.{told_few}
@@ -28,6 +29,8 @@ returns c =
     let g = owned_long m c.well_formed.0 in
     let t = c.assured-t.result in
     let s = c.located-s.result in
+    let l = c.located-s.ensures in
+    let n = a.call.numbers in
     let w = c.behind.result in
     let r = c.call-reply.result in
     let k = decode (direct_of a.call) in
@@ -35,6 +38,6 @@ returns c =
     let d = apart m t g.objects c.assured-t.ensures in record {
       few = rw c.numbered.ensures (told_few t.numbers w);
       explains = λ h. subst (Explains (clean (view m)) k) (sym c.numbered.ensures)
-          (explained m t g.objects c.assured-t.ensures k j s.numbers (c.located-s.ensures d)
+          (explained m t g.objects c.assured-t.ensures k j s.numbers (lifted _ _ _ a.call s.call l.rest (l.lift n.e n.f d))
           (answered_nine m r.monitor k (told r.answer) h c.call-reply.ensures (sym c.is_nine.ensures ∙ c.if-not-is_nine.false)) w c.behind.ensures);
     }

@@ -1,9 +1,9 @@
--- `journal::entry_at` meets its contract: each way through it is a law of `Entries`. Assumes nothing.
+-- `journal::record_at` meets its contract: each way through it is a law of `Entries`. Assumes nothing.
 use Rattle.std.proofs.Common.{arith}
 use Rattle.number.specs.Leb.{good}
 use Rattle.journal.proofs.Entries.{Read, entry_end, entry_malformed, entry_start, entry_long, entry_whole}
-use Rattle.journal.proofs.entry_at.Goals as goal
-use Rattle.journal.proofs.entry_at.Goals.{In-Some}
+use Rattle.journal.proofs.record_at.Goals as goal
+use Rattle.journal.proofs.record_at.Goals.{In-Some}
 
 -- the length that was read
 read : (c : In-Some) → Read c.args.journal.now c.args.at (good c.in-Some.value c.in-Some.used)
