@@ -1,5 +1,6 @@
 -- `stored::store_part` meets its contract. Assumes nothing.
-use Rattle.std.proofs.Common.{◌≡◌, ◌+◌, ◌-◌, ◌*◌, get_or, length, rules, ap, ◌∙◌, arith}
+use Rattle.std.proofs.Common.{◌≡◌, ◌*◌, get_or, length, rules, ap, arith}
+use Rattle.std.proofs.lemmas.List.{take_all}
 use Rattle.stored.proofs.Storing.{laid_none, laid_over, copied}
 use Rattle.stored.proofs.store_part.Goals as goal
 
@@ -13,6 +14,6 @@ loop-i-preserved g c =
     let w = g.row.W in
     let at = w * c.loop-i.i in
     let part = c.copy_from_slice.new.self in
-    let is : part ≡ g.T.Kept.to (get_or c.args.part c.loop-i.i c.x-item.result) = c.copy_from_slice.ensures.after ∙ c.to_bytes.ensures in
-    let long : at + w - at ≡ length part = omega (arith, ap length is, g.met.T.Kept.wide (get_or c.args.part c.loop-i.i c.x-item.result)) in
-    laid_over c.loop-i.invariant at part c.x-item.result _ (omega (arith, c.loop-i-test.true, c.type_inv.x-items)) (omega arith) is (copied c.loop-i.to at (at + w - at) part long)
+    let is : part ≡ g.T.Kept.to (get_or c.args.part c.loop-i.i c.x-item.result) = search (rules, take_all) in
+    let long : length part ≡ w = omega (arith, ap length is, g.met.T.Kept.wide (get_or c.args.part c.loop-i.i c.x-item.result)) in
+    laid_over c.loop-i.invariant at part c.x-item.result _ (omega (arith, c.loop-i-test.true, c.type_inv.x-items)) (omega arith) is (copied c.loop-i.to at _ part (grind arith))
