@@ -321,7 +321,7 @@ const MALFORMED: [&[u8]; 3] = [
     b"\x80\x80\x80\x80\x80\x80\x80\x80\x80\x80\x01",
 ];
 
-// Writes some bytes in hex, each after a space.
+// Writes some bytes in hex, each after a space, which is a write of its own.
 fn show_bytes(to: Outputs, bytes: &[u8]) {
     for byte in bytes {
         let _ = to.output.write_all(b" ");

@@ -124,7 +124,7 @@ pub fn counts_in(counts: &mut [u64]) -> Option<&mut [u64; 2]>
     counts.as_mut_array()
 }
 
-// The handle at index i is on object o.
+// The handle at index i is on object o. (Its object first: `is_beside` asks up to 511 handles, of which most are on another.)
 fn is_on(handles: &[u8; HANDLE_BYTES], i: usize, o: u8) -> bool
     requires { i < 512 }
     ensures { result ≡ on (slice_index_or (handles_in handles.now) i no_handle) o }

@@ -131,7 +131,8 @@ impl<'a> Reader<'a> {
     }
 }
 
-// What a reader finds at an offset of a journal, which may be any number; none where no record is left. Every caller with a journal and an offset of its own asks this.
+// What a reader finds at an offset of a journal, which may be any number; none where no record is left. Every caller with a journal and
+// an offset of its own asks this.
 pub fn entry_at(journal: &[u8], at: usize) -> Result<Option<Record>, Broken>
     ensures { entry_answer result ≡ entry_at journal.now at }
 {

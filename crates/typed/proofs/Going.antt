@@ -142,10 +142,6 @@ module _ (m : Monitor) (y : Tally) (bs : List ℕ) (shell child pipe : ℕ) wher
         still = λ _. refl;
       }
 
-  pub refuses_line : (r : LineError) → Judges bs (number_of r) → Handed m y bs shell child pipe (record { monitor = m; tally = y; outcome = refused_line (number_of r); moved = false })
-  refuses_line NotALine j = refuses_with 18 j (λ e. omega (arith, e))
-  refuses_line TooLong j = refuses_with 19 j (λ e. omega (arith, e))
-
   -- the hand that a line begins with
   abbrev begun : Hand
   begun = record { monitor = m; tally = y; outcome = refused_line 0; moved = false }

@@ -65,6 +65,7 @@ fn goals(objects: [Object; OBJECTS], label: u16) -> [u8; THINGS]
 }
 
 // One pass over the arcs: the start of each is one step farther than its end, where that is nearer than it was. Whether a distance fell.
+// (Out of line: within `distances` the compiler makes one loop of the passes and their arcs, which takes up to half as long again.)
 #[inline(never)]
 fn nearer(arcs: &[Edge; HANDLES], dist: &mut [u8; THINGS]) -> bool
     ensures { Neared (start_at arcs.now) (end_at arcs.now) dist.old dist.new 512 result }
@@ -90,7 +91,7 @@ fn distances(arcs: &[Edge; HANDLES], goals: [u8; THINGS]) -> [u8; THINGS]
     dist
 }
 
-// The lowest arc that leads nearer from thing a.
+// The lowest arc that leads nearer from thing a. From a goal none does, and none is looked for.
 fn step(arcs: &[Edge; HANDLES], dist: &[u8; THINGS], a: usize) -> Option<usize>
     requires { a < 96 }
     ensures { MatchOption result (NoneBelow (start_at arcs.now) (end_at arcs.now) (figure dist.now) a 512) (First (start_at arcs.now) (end_at arcs.now) (figure dist.now) a) }
